@@ -21,13 +21,13 @@ both-true a b p q = rw (p, q) refl
 
 pub front-is-packet : (row rest : List ℕ) → IsPacketRow row → is_packet_in_front (row ++ rest) ≡ true
 front-is-packet row rest is =
-  both-true _ _
+    both-true _ _
     (le-leb 188 (length (row ++ rest)) (rw (length-append row rest, is.whole) (omega arith)))
     (eq-eqb _ _ (get_or_append_left row rest 0 0 (rw is.whole (omega arith)) ∙ is.sync))
 
 pub packets_within-one : (most : ℕ) (row rest : List ℕ) → IsPacketRow row → packets_within (suc most) (row ++ rest) ≡ row ∷ packets_within most rest
 packets_within-one most row rest is =
-  cond-true _ _ _ (front-is-packet row rest is)
+    cond-true _ _ _ (front-is-packet row rest is)
     ∙ rw (take_at row rest 188 is.whole, drop_at row rest 188 is.whole) refl
 
 pub packets_within-rest : (most : ℕ) (rest : List ℕ) → is_packet_in_front rest ≡ false → packets_within most rest ≡ []
@@ -39,23 +39,23 @@ pub packets_within-all : (most : ℕ) (rows : List (List ℕ)) (rest : List ℕ)
 packets_within-all most [] rest room are none = packets_within-rest most rest none
 packets_within-all zero (row ∷ rows) rest room are none = absurd (omega arith)
 packets_within-all (suc most) (row ∷ rows) rest room are none =
-  ap (packets_within (suc most)) (append_assoc row (concat rows) rest)
+    ap (packets_within (suc most)) (append_assoc row (concat rows) rest)
     ∙ packets_within-one most row (concat rows ++ rest) are.0
     ∙ ap (λ rest. row ∷ rest) (packets_within-all most rows rest (omega arith) are.1 none)
 
 pub length-concat-rows : (rows : List (List ℕ)) → ArePacketRows rows → length (concat rows) ≡ 188 * length rows
 length-concat-rows [] are = refl
 length-concat-rows (row ∷ rows) are =
-  length-append row (concat rows) ∙ rw (are.0.whole, length-concat-rows rows are.1) (omega arith)
+    length-append row (concat rows) ∙ rw (are.0.whole, length-concat-rows rows are.1) (omega arith)
 
 pub packets_of-all : (rows : List (List ℕ)) (rest : List ℕ) → ArePacketRows rows → is_packet_in_front rest ≡ false → packets_of (concat rows ++ rest) ≡ rows
 packets_of-all rows rest are none =
-  packets_within-all (length (concat rows ++ rest)) rows rest
+    packets_within-all (length (concat rows ++ rest)) rows rest
     (rw (length-append (concat rows) rest, length-concat-rows rows are) (omega arith)) are none
 
 -- the input that bytes give which are these packets and a rest with no packet in front
 pub input_of_bytes-all : (rows : List (List ℕ)) (rest : List ℕ) → ArePacketRows rows → is_packet_in_front rest ≡ false → input_of_bytes (concat rows ++ rest) ≡ record { packets = rows; ended = end_behind (length rows) rest }
 input_of_bytes-all rows rest are none =
-  rw (packets_of-all rows rest are none)
+    rw (packets_of-all rows rest are none)
     (ap (λ r. let made : InputList = record { packets = rows; ended = end_behind (length rows) r } in made)
-      (drop_at (concat rows) rest (188 * length rows) (length-concat-rows rows are)))
+    (drop_at (concat rows) rest (188 * length rows) (length-concat-rows rows are)))

@@ -1,3 +1,4 @@
+pub mod Prefix
 pub mod Written
 pub mod PluginRule
 pub mod Apply
