@@ -1,0 +1,27 @@
+//! The outside as three traits: bytes that come in, bytes that go out, files that are opened.
+//! The layer above uses the clauses of `Desk`, `Source` and `Sink`, and nothing else.
+#![tactic(auto)]
+
+mod desks;
+mod faults;
+mod file_bytes;
+mod file_list;
+mod gates;
+mod name_text;
+mod number_list;
+mod reading;
+mod sinks;
+mod sources;
+mod wholes;
+
+pub use desks::Desk;
+pub use faults::{Failed, FileFault, OpenFault};
+pub use file_bytes::FileBytes;
+pub use file_list::FileList;
+pub use gates::{Gate, OpenGate};
+pub use name_text::NameText;
+pub use number_list::NumberList;
+pub use reading::read_to_end;
+pub use sinks::Sink;
+pub use sources::Source;
+pub use wholes::{CutShort, report_whole, write_whole};
