@@ -1,7 +1,11 @@
 -- How steps on told lists and on what is seen of sources, sinks and desks chain.
-use Rattle.std.proofs.Common.{◌≡◌, ℕ, ◌+◌, ◌-◌, ◌<◌, ◌≤◌, List, [], ◌∷◌, ◌++◌, Option, None, Some, refl, ap, sym, ◌∙◌, append_assoc, append-nil, length, take, drop, arith, length-drop}
-use Rattle.std.proofs.Math.Seq.{take-add}
-use Rattle.std.proofs.lemmas.List.{take_all}
+use Rattle.std.proofs.Common.{◌≡◌, ℕ, ◌+◌, ◌-◌, ◌<◌, ◌≤◌, List, [], ◌∷◌, ◌++◌, Option, None, Some, refl, ap, subst, sym, ◌∙◌, append_assoc, append-nil, length, take, drop, arith, length-drop}
+use Rattle.std.proofs.Math.Seq.{take-add, take-append-add}
+use Rattle.std.proofs.lemmas.List.{take_all, take-append-le}
+use Rattle.std.proofs.lemmas.Grind.{common_steps}
+use Rattle.std.proofs.lemmas.Bool.Decides.{nat_tests}
+use borrow.Rule.Slice.PartMut.{put_mid, post_of}
+use Rattle.ts_outside.specs.Count.{HasCause, raised, count_end}
 use Rattle.ts_outside.specs.Told.{before, grown}
 use Rattle.ts_outside.specs.Source.{SourceView, unread, read_failed}
 use Rattle.ts_outside.specs.Sink.{SinkView, took, write_failed}
@@ -57,5 +61,25 @@ take-more i n l =
     let all : length (drop i l) ≤ length l - i = omega (arith, length-drop i l) in
     ap (λ (rest : List ℕ). take i l ++ take n rest) (take_all (length l - i) (drop i l) all) ∙ sym (take-add i n l)
 
+-- the first members of a list after a read into its part behind the first a: those a, and the first of what was read
+pub take-filled : (a k n : ℕ) (l part : List ℕ) → a ≤ length l → n ≤ length part → take (a + n) (put_mid a k l part) ≡ take a l ++ take n part
+take-filled a k n l part fits few =
+    let long : length (take a l) ≡ a = grind (arith, common_steps) in
+    subst (λ (m : ℕ). take (m + n) (put_mid a k l part) ≡ take a l ++ take n part) long
+    (take-append-add (take a l) (part ++ post_of a k l) n
+    ∙ ap (λ (rest : List ℕ). take a l ++ rest) (take-append-le n part (post_of a k l) few))
+
+-- a count never falls by a fault
+pub raised-le : (n : ℕ) → n ≤ raised n
+raised-le n = grind (arith, nat_tests)
+
+-- a count rises by a fault where it is not at its end
+pub raised-lt : (n : ℕ) → n < count_end → n < raised n
+raised-lt n h = grind (arith, nat_tests)
+
+-- one more fault is a cause
+pub HasCause-raised : (n : ℕ) → HasCause n (raised n)
+HasCause-raised n = record { not_fallen = raised-le n; rose = raised-lt n }
+
 -- what the tactics take to chain steps
-pub ruleset views = (grown-nil, grown-grown, before-nil, before-before, took-nil, took-took, unread-nil, unread-unread, reports-nil, reports-reports, take-more)
+pub ruleset views = (grown-nil, grown-grown, before-nil, before-before, took-nil, took-took, unread-nil, unread-unread, reports-nil, reports-reports, take-more, take-filled, raised-le, raised-lt, HasCause-raised)

@@ -25,3 +25,6 @@ pub use reading::read_to_end;
 pub use sinks::Sink;
 pub use sources::Source;
 pub use wholes::{CutShort, report_whole, write_whole};
+
+#[cfg(test)]
+mod tests;
