@@ -4,7 +4,8 @@ ghost use Rattle.ts_outside.specs.Source.{read_failed, unread};
 ghost use Rattle.ts_outside.specs.Sink.{took};
 ghost use Rattle.ts_outside.specs.Count.{HasCause};
 ghost use Rattle.ts_outside.specs.Told.{grown};
-ghost use Rattle.ts_outside.specs.Desk.{ForInput, ForOutput, file_of, stream_name};
+ghost use Rattle.ts_outside.specs.declared.requests.Purpose.TheVariants.{Input, Output};
+ghost use Rattle.ts_outside.specs.Desk.{file_of, stream_name};
 
 use super::*;
 
@@ -65,8 +66,8 @@ fn copy<D: Desk>(desk: &mut D, from: Option<&str>, to: Option<&str>) -> CopyEnd
         Some (outputs ++ (stream_name (option_copied to.entry), file_of files (stream_name (option_copied from.entry))) ∷ []))) }
     ensures reported { result ≡ CopyEnd.Done → (D.seen desk.new).reported ≡ grown (D.seen desk.old).reported (codes "done") }
     ensures asked { result ≡ CopyEnd.Done → (D.seen desk.new).asked ≡ grown (D.seen desk.old).asked
-        (record { purpose = ForInput; name = stream_name (option_copied from.entry); ok = true }
-        ∷ record { purpose = ForOutput; name = stream_name (option_copied to.entry); ok = true } ∷ []) }
+        (record { purpose = Input; name = stream_name (option_copied from.entry); ok = true }
+        ∷ record { purpose = Output; name = stream_name (option_copied to.entry); ok = true } ∷ []) }
     ensures files { (D.seen desk.new).files ≡ (D.seen desk.old).files }
     ensures read_fault { result ≡ CopyEnd.ReadFault → HasCause (D.seen desk.old).read_faults (D.seen desk.new).read_faults }
 {
