@@ -10,6 +10,6 @@ pub struct ClosedInput {
 /// Closed sources, the last one first: each link is made when a source is opened and filled when it is closed.
 #[derive(Debug, Drop)]
 pub(crate) enum ClosedInputs {
-    None,
+    Empty,
     Behind(ClosedInput, Box<ClosedInputs>),
 }

@@ -4,12 +4,15 @@
 
 mod closed_inputs;
 mod closed_outputs;
+mod counts;
 mod desks;
 mod fail_plan;
 mod faults;
 mod file_bytes;
 mod file_list;
 mod gates;
+mod memory_sink;
+mod memory_source;
 mod name_text;
 mod number_list;
 mod reading;
@@ -25,6 +28,8 @@ pub use faults::{Failed, FileFault, OpenFault};
 pub use file_bytes::FileBytes;
 pub use file_list::FileList;
 pub use gates::{Gate, OpenGate};
+pub use memory_sink::MemorySink;
+pub use memory_source::MemorySource;
 pub use name_text::NameText;
 pub use number_list::NumberList;
 pub use reading::read_to_end;
