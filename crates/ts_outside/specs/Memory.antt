@@ -1,5 +1,5 @@
 -- This project's own rule: the outside in memory, and which of its calls fail.
-use Rattle.std.specs.Prelude.{ℕ, ◌==◌, ◌-◌, List, [], ◌∷◌, ◌++◌, Bool, true, false, ◌||◌, length, drop, min, nat_le, Some}
+use Rattle.std.specs.Prelude.{ℕ, ◌==◌, ◌-◌, List, [], ◌∷◌, ◌++◌, Bool, true, false, ◌||◌, length, drop, min, nat_le, nat_lt, if◌then◌else◌, Some}
 use Rattle.std.specs.List.{list_any}
 use Rattle.ts_outside.specs.declared.closed_inputs.ClosedInput.{ClosedInput}
 use Rattle.ts_outside.specs.declared.closed_inputs.ClosedInputs.{ClosedInputs}
@@ -189,3 +189,28 @@ report_fails d = fails_next d.plan.reports d.reports || nat_le d.plan.room (leng
 -- how many bytes the next report takes of so many: at most a piece, and what the room has left
 abbrev pub report_count : MemoryDeskView → ℕ → ℕ
 report_count d bytes = min (min bytes d.plan.write_piece) (d.plan.room - length d.reported)
+
+-- the desk after it took these bytes of a report
+abbrev pub reported_more : MemoryDeskView → List ℕ → MemoryDeskView
+reported_more d bytes = record d { reported = d.reported ++ bytes; reports = raised d.reports }
+
+-- the desk after a report failed
+abbrev pub report_stood : MemoryDeskView → MemoryDeskView
+report_stood d = record d { report_faults = raised d.report_faults; reports = raised d.reports }
+
+-- the desk after a source was closed
+abbrev pub closed_a_source : MemoryDeskView → MemorySourceView → MemoryDeskView
+closed_a_source d s =
+    record d {
+      closed_in = d.closed_in ++ record { left = length s.left; failed = nat_lt 0 s.faults } ∷ [];
+      read_faults = if nat_lt 0 s.faults then raised d.read_faults else d.read_faults;
+    }
+
+-- the desk after a sink was closed
+abbrev pub closed_a_sink : MemoryDeskView → MemorySinkView → MemoryDeskView
+closed_a_sink d s =
+    record d {
+      outputs = d.outputs ++ (s.name, s.taken) ∷ [];
+      write_faults = if nat_lt 0 s.faults || close_fails d then raised d.write_faults else d.write_faults;
+      closes = raised d.closes;
+    }
