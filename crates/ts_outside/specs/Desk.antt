@@ -2,27 +2,14 @@
 use Rattle.std.specs.Prelude.{ℕ, List, [], ◌∷◌, ◌++◌, Option, None, Some, Bool, true, false, ◌||◌, if◌then◌else◌, length, nat_lt, unwrap_or}
 use Rattle.std.specs.Option.{option_and_then, option_map}
 use Rattle.std.specs.Str.{bytes_eq}
+use Rattle.ts_outside.specs.declared.requests.Purpose.{Purpose}
+use Rattle.ts_outside.specs.declared.requests.Purpose.TheVariants.{Output}
+use Rattle.ts_outside.specs.declared.requests.Asked.{Asked}
+use Rattle.ts_outside.specs.declared.closed_inputs.ClosedInput.{ClosedInput}
 use Rattle.ts_outside.specs.Count.{raised}
 use Rattle.ts_outside.specs.Told.{grown}
 use Rattle.ts_outside.specs.Source.{SourceView}
 use Rattle.ts_outside.specs.Sink.{SinkView}
-
--- for what a name was asked
-pub data Purpose : Type 0 where
-  ForInput : Purpose
-  ForOutput : Purpose
-  ForFile : Purpose
-
--- one name that was asked for: for what, the name, and whether the answer was another than a fault
-pub record Asked : Type 0 where
-  pub purpose : Purpose
-  pub name : List ℕ
-  pub ok : Bool
-
--- one input that was closed: how many bytes were still to come, and whether a read of it had failed
-pub record ClosedInput : Type 0 where
-  pub left : ℕ
-  pub failed : Bool
 
 -- what contracts see of a desk: the files by name, the closed outputs with name and bytes, the bytes of the reports,
 -- the names asked for and the closed inputs, each told or not; and three counts of faults
@@ -56,9 +43,9 @@ asked_well d purpose name =
 
 -- the desk after a name was asked for and the answer was a fault: that of the outputs for an output, else that of the inputs
 abbrev pub asked_in_vain : DeskView → Purpose → List ℕ → DeskView
-asked_in_vain d ForOutput name =
+asked_in_vain d Output name =
     record d {
-      asked = grown d.asked (record { purpose = ForOutput; name = name; ok = false } ∷ []);
+      asked = grown d.asked (record { purpose = Output; name = name; ok = false } ∷ []);
       write_faults = raised d.write_faults;
     }
 asked_in_vain d purpose name =

@@ -5,3 +5,5 @@ pub mod Sink
 pub mod OpenFault
 pub mod FileFault
 pub mod Desk
+pub mod Memory
+pub mod Found

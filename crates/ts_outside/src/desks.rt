@@ -2,7 +2,8 @@ ghost use Rattle.std.specs.Prelude.{◌≡◌, ◌<◌, ◌≤◌, [], Some, len
 ghost use Rattle.std.specs.Option.{option_copied, option_map};
 ghost use Rattle.ts_outside.specs.OpenFault.{MatchOpen};
 ghost use Rattle.ts_outside.specs.FileFault.{MatchFile};
-ghost use Rattle.ts_outside.specs.Desk.{DeskView, ForInput, ForOutput, ForFile, stream_name, content, asked_well, asked_in_vain, input_closed, output_closed, reports, report_failed};
+ghost use Rattle.ts_outside.specs.declared.requests.Purpose.TheVariants.{Input, Output, File};
+ghost use Rattle.ts_outside.specs.Desk.{DeskView, stream_name, content, asked_well, asked_in_vain, input_closed, output_closed, reports, report_failed};
 
 use crate::faults::{Failed, FileFault, OpenFault};
 use crate::file_bytes::FileBytes;
@@ -27,8 +28,8 @@ pub trait Desk {
     fn open_in(&mut self, name: Option<&str>) -> Result<Self::In, OpenFault>
         ensures asked { let named = stream_name (option_copied name.entry) in
             MatchOpen result
-            (λ _. seen self.new ≡ asked_well (seen self.old) ForInput named)
-            (seen self.new ≡ asked_in_vain (seen self.old) ForInput named)
+            (λ _. seen self.new ≡ asked_well (seen self.old) Input named)
+            (seen self.new ≡ asked_in_vain (seen self.old) Input named)
             (seen self.new ≡ seen self.old) }
         ensures source { let named = stream_name (option_copied name.entry) in
             IfOk result (λ s. Self.In.seen s ≡ record { left = content (seen self.old) named; faults = 0 }) };
@@ -39,8 +40,8 @@ pub trait Desk {
     fn open_out(&mut self, name: Option<&str>) -> Result<Self::Out, OpenFault>
         ensures asked { let named = stream_name (option_copied name.entry) in
             MatchOpen result
-            (λ _. seen self.new ≡ asked_well (seen self.old) ForOutput named)
-            (seen self.new ≡ asked_in_vain (seen self.old) ForOutput named)
+            (λ _. seen self.new ≡ asked_well (seen self.old) Output named)
+            (seen self.new ≡ asked_in_vain (seen self.old) Output named)
             (seen self.new ≡ seen self.old) }
         ensures sink { let named = stream_name (option_copied name.entry) in
             let told = (seen self.old).outputs in
@@ -63,9 +64,9 @@ pub trait Desk {
     fn read_file(&mut self, name: Option<&str>, most: usize) -> Result<FileBytes, FileFault>
         ensures asked { let named = stream_name (option_copied name.entry) in
             MatchFile result
-            (λ _. seen self.new ≡ asked_well (seen self.old) ForFile named)
-            (seen self.new ≡ asked_well (seen self.old) ForFile named)
-            (seen self.new ≡ asked_in_vain (seen self.old) ForFile named)
+            (λ _. seen self.new ≡ asked_well (seen self.old) File named)
+            (seen self.new ≡ asked_well (seen self.old) File named)
+            (seen self.new ≡ asked_in_vain (seen self.old) File named)
             (seen self.new ≡ seen self.old) }
         ensures file { let file = content (seen self.old) (stream_name (option_copied name.entry)) in
             MatchFile result
