@@ -1,3 +1,4 @@
 pub mod Facts
 pub mod Stepping
 pub mod Soundness
+pub mod ListsKept
