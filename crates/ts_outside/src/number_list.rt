@@ -1,0 +1,48 @@
+ghost use Rattle.std.specs.Prelude.{◌≡◌, ◌↔◌, IsTrue, Contains};
+
+use std::marker::Model;
+
+/// Numbers, seen as the list of them: in a `FailPlan` the calls that fail, counted from 1.
+#[derive(Drop, Debug)]
+pub struct NumberList {
+    numbers: Vec<u64>,
+}
+
+impl Model for NumberList {
+    ghost use Rattle.std.specs.Prelude.{List, ℕ};
+
+    ghost Value = { List ℕ };
+
+    ghost view = { λ l. l.numbers.items };
+}
+
+impl NumberList {
+    /// Keeps numbers as they are, and takes no memory.
+    pub fn of(numbers: Vec<u64>) -> NumberList
+        ensures { result ≡ numbers.items }
+    {
+        NumberList { numbers }
+    }
+
+    /// Lends the numbers.
+    pub fn as_slice(&self) -> &[u64]
+        ensures { result.now ≡ self.now }
+    {
+        self.numbers.as_slice()
+    }
+
+    /// Gives the numbers back, and takes no memory.
+    pub fn into_vec(self) -> Vec<u64>
+        ensures { result.items ≡ self }
+    {
+        let NumberList { numbers } = self;
+        numbers
+    }
+
+    /// Whether a number is in the list.
+    pub fn has(&self, number: u64) -> bool
+        ensures { IsTrue result ↔ Contains self.now number }
+    {
+        self.numbers.as_slice().contains(&number)
+    }
+}
