@@ -1,5 +1,5 @@
 -- A plugin half way through a list: what was made stands in front of what the rule makes of the rest.
-use Rattle.std.proofs.Common.{◌≡◌, ℕ, ◌+◌, ◌<◌, List, [], ◌∷◌, ◌++◌, length, take, drop, get_or, set, ap, sym, subst, ◌∙◌, ◌⊎◌, inl, inr, append_assoc, append-nil, add-zero, drop-drop, arith, Some, None}
+use Rattle.std.proofs.Common.{◌≡◌, ℕ, ◌+◌, ◌<◌, List, [], ◌∷◌, ◌++◌, length, take, drop, get_or, set, ap, sym, subst, ◌∙◌, ◌⊎◌, inl, inr, append_assoc, append-nil, add-zero, drop-drop, arith, Some}
 use Rattle.std.proofs.lemmas.List.{drop_more, take_more, take_more_set, take-set, get_or-drop, drop-set-lt}
 use Rattle.ts_packet.specs.declared.cell.Cell.{Cell}
 use Rattle.plugin_trait.specs.declared.outcome.Outcome.{Outcome}
@@ -33,7 +33,6 @@ apply_after-drop rule history given i cell within is =
 module _ (rule : PluginRule) (history given made : List Cell) (i : ℕ) (cell : Cell) (all : StageList)
     (within : i < length given) (is : get_or given i cell ≡ cell)
     (half : all ≡ behind (take i made) (apply_after rule (history ++ take i given) (drop i given))) where
-
   -- what is known of the whole list where the fate of its next cell is known
   pub half_known : (fate : CellFate) → became rule (history ++ take i given) cell ≡ fate
       → all ≡ behind (take i made) (onto fate (apply_after rule (history ++ take (i + 1) given) (drop (i + 1) given)))
@@ -70,8 +69,8 @@ pub tells_goes_on : (rule : PluginRule) (history : List Cell) (cell left : Cell)
     → (outcome ≡ Pass) ⊎ (outcome ≡ Drop) → StepTells rule history cell outcome left → became rule history cell ≡ goes_on left
 tells_goes_on rule history cell left outcome one told =
     elim one [
-      inl e ↦ (subst (λ (o : Outcome). StepTells rule history cell o left) e told).0
-    | inr e ↦ (subst (λ (o : Outcome). StepTells rule history cell o left) e told).0
+      | inl e ↦ (subst (λ (o : Outcome). StepTells rule history cell o left) e told).0
+      | inr e ↦ (subst (λ (o : Outcome). StepTells rule history cell o left) e told).0
     ]
 
 -- and the cell was met

@@ -1,5 +1,5 @@
 -- Marks: the positions below a mark are written and stay. This project's own rule.
-use Rattle.std.specs.Prelude.{◌≡◌, ℕ, ◌≤◌, List, length, Result, is_ok, if◌then◌else◌}
+use Rattle.std.specs.Prelude.{ℕ, ◌≤◌, List, length, Result, is_ok, if◌then◌else◌}
 use Rattle.ts_packet.specs.declared.cell.Cell.{Cell}
 use Rattle.std.specs.declared.alloc.AllocError.{AllocError}
 

@@ -8,13 +8,13 @@ mod line_text;
 mod list_end;
 mod outcome;
 mod plugin;
+mod reporting;
 
 pub use chain_model::Reason;
-pub use driver::apply_from;
-pub use driver::apply_plugin;
+pub use driver::{apply_from, apply_plugin};
 pub use line::Line;
 pub use line_text::LineText;
-pub use list_end::Applied;
-pub use list_end::ListEnd;
+pub use list_end::{Applied, ListEnd};
 pub use outcome::Outcome;
 pub use plugin::Plugin;
+pub use reporting::{report, silent_report};

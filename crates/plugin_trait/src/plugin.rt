@@ -27,12 +27,13 @@ pub trait Plugin {
 
     /// Takes the cell at a position, and leaves in it what the plugin makes of it.
     ///
-    /// After `Stop`, `Refuse` and `NoMemory` the cell is as it was, and the plugin stands for what it
-    /// stood for.
+    /// The outcome is the rule's, or `NoMemory` on a live cell. After `Stop`, `Refuse` and `NoMemory`
+    /// the cell is as it was, and the plugin stands for what it stood for.
     fn step(&mut self, at: u64, cell: &mut Cell) -> Outcome
         requires met { MeetsCells (stands_for self.old) at }
         requires in_range { at < 2 ^ 60 }
         ensures tells { Tells (rule self.old) (stands_for self.old) at cell.old result cell.new }
+        ensures dropped { cell.old ≡ Cell.Dropped → result ≡ Outcome.Pass }
         ensures meets { Meets (stands_for self.old) (stands_for self.new) at cell.old result }
         ensures same_rule { rule self.new ≡ rule self.old }
         ensures same_steady { steady self.new ≡ steady self.old }
