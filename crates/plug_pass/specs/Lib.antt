@@ -1,0 +1,2 @@
+pub mod LiveCount
+pub mod SkipRule

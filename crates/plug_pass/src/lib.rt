@@ -1,0 +1,7 @@
+//! The plugins that pass, drop or overwrite packets: `filter`, `skip`, `slice`, `pattern`.
+//! The layer above makes each of its settings, and uses it by the clauses of `Plugin` alone.
+#![tactic(auto)]
+
+mod skip;
+
+pub use skip::Skip;
