@@ -46,6 +46,15 @@ field-in_byte row k j (suc n) h =
     let counted = rw half at digits in
     rw here (omega arith)
 
+-- a field of n bits is below 2 ^ n
+pub field-below : (row : List ℕ) (at n : ℕ) → field row at n < 2 ^ n
+unfolding field bit_of
+field-below row at zero = omega arith
+field-below row at (suc n) =
+    let ih = field-below row at n in
+    let bit : slice_index row ((at + n) / 8) / 2 ^ (7 - (at + n) % 8) % 2 < 2 = omega arith in
+    rw pow-suc (omega arith)
+
 -- two rows with the same bits there have the same field there
 pub field-same : (old new : List ℕ) (at n : ℕ) → ((i : ℕ) → at ≤ i → i < at + n → bit_of new i ≡ bit_of old i) → field new at n ≡ field old at n
 unfolding field
@@ -106,4 +115,17 @@ SetsField-in_byte row k j n new value within inside above written below = record
       let p = 7 - i % 8 in
       let m = 8 - (j + n) in
       low_bit new m p (omega arith) ∙ ap (λ x. x / 2 ^ p % 2) below ∙ sym (low_bit old m p (omega arith)));
+}
+
+-- eight bits from a byte's place on are the byte
+pub field-whole_byte : (row : List ℕ) (k : ℕ) → slice_index row k < 256 → field row (8 * k) 8 ≡ slice_index row k
+field-whole_byte row k h = let e = field-in_byte row k 0 8 (omega arith) in rw add-zero at e ∙ omega arith
+
+-- to write a whole byte is to set its eight bits
+pub SetsField-whole_byte : (row : List ℕ) (k value : ℕ) → k < length row → value < 256 → SetsField row (set row k value) (8 * k) 8 value
+SetsField-whole_byte row k value within small = record {
+  same_length = length-set row k value;
+  reads_back = field-whole_byte (set row k value) k (rw get_or-set_same small) ∙ get_or-set_same row k value 0 within;
+  before = λ i h. kept_bit row k value i within (λ e. absurd (omega arith));
+  after = λ i h. kept_bit row k value i within (λ e. absurd (omega arith));
 }
