@@ -1,5 +1,5 @@
 -- The null packet is a packet.
-use Rattle.std.proofs.Common.{◌≡◌, ℕ, zero, suc, ◌<◌, ◌≤◌, List, [], ◌∷◌, replicate, slice_index, get_or, refl, arith}
+use Rattle.std.proofs.Common.{ℕ, zero, suc, ◌<◌, replicate, slice_index, refl, arith}
 use Rattle.ts_packet.specs.Packet.{IsPacket, null_packet}
 
 -- in `n` copies of a byte each number is a byte

@@ -1,5 +1,5 @@
 -- ISO/IEC 13818-1, 2.4.3.4 and 2.4.3.5: the adaptation field's length and the flags behind it.
-use Rattle.std.specs.Prelude.{ℕ, List, Bool, true, false, ◌==◌, ◌&&◌, nat_le, Option, Some, None, if◌then◌else◌}
+use Rattle.std.specs.Prelude.{ℕ, List, Bool, false, ◌==◌, ◌&&◌, nat_le, Option, Some, None, if◌then◌else◌}
 use Rattle.bit_rows.specs.BitRow.{field}
 use Rattle.ts_packet.specs.Header.{adaptation_control_of}
 

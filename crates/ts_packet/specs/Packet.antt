@@ -1,5 +1,5 @@
 -- ISO/IEC 13818-1, 2.4.3.2: the transport stream packet, 188 bytes that begin with the sync byte.
-use Rattle.std.specs.Prelude.{◌≡◌, ℕ, ◌<◌, List, ◌∷◌, ◌++◌, length, slice_index, replicate, EachIndex}
+use Rattle.std.specs.Prelude.{◌≡◌, ℕ, ◌<◌, List, ◌∷◌, length, slice_index, replicate, EachIndex}
 
 -- a row of numbers is a packet: 188 of them, each a byte, and the first is the sync byte
 pub record IsPacket (row : List ℕ) : Type 0 where

@@ -1,7 +1,8 @@
 -- ISO/IEC 13818-1, 2.4.3.5: the program clock reference, in units of the 27 MHz system clock.
-use Rattle.std.specs.Prelude.{◌≡◌, ℕ, ◌+◌, ◌*◌, ◌/◌, ◌%◌, ◌^◌, ◌<◌, ◌≤◌, List, [], ◌∷◌, ◌++◌, length, take, drop, Bool, ◌==◌, ◌&&◌, Option, Some, None, if◌then◌else◌}
+use Rattle.std.specs.Prelude.{◌≡◌, ℕ, ◌+◌, ◌*◌, ◌/◌, ◌%◌, ◌^◌, ◌<◌, ◌≤◌, List, [], ◌∷◌, length, Bool, ◌==◌, ◌&&◌, Option, Some, None, if◌then◌else◌}
 use Rattle.bit_rows.specs.BitRow.{bit_of, field}
 use Rattle.ts_packet.specs.Adaptation.{adaptation_length_of, reaches}
+use Rattle.ts_packet.specs.Payload.{with_piece}
 
 -- program_clock_reference_base times 300, and program_clock_reference_extension
 unfoldable pub clock_of : List ℕ → ℕ
@@ -31,4 +32,4 @@ clock_bytes base extension =
 
 -- the row with this PCR at the PCR's place
 unfoldable pub with_pcr : List ℕ → ℕ → List ℕ
-with_pcr row value = take 6 row ++ (clock_bytes (value / 300) (value % 300) ++ drop 12 row)
+with_pcr row value = with_piece row 6 (clock_bytes (value / 300) (value % 300))

@@ -10,7 +10,6 @@ mod clock;
 mod payload;
 
 use crate::no_sync::NoSync;
-use bits::with_bits;
 use std::marker::Model;
 
 const SYNC_BYTE: u8 = 0x47;
@@ -135,6 +134,7 @@ impl Packet {
 }
 
 /// Writers of the header's fields; each changes its field alone.
+#[tactic(auto, unfolding(crate::specs::Header::with_error_indicator, crate::specs::Header::with_unit_start, crate::specs::Header::with_priority, crate::specs::Header::with_pid, crate::specs::Header::with_scrambling, crate::specs::Header::with_adaptation_control, crate::specs::Header::with_counter))]
 impl Packet {
     /// Sets `transport_error_indicator`.
     pub fn set_error_indicator(&mut self, on: bool)
@@ -142,7 +142,7 @@ impl Packet {
         ensures row { self.new ≡ with_error_indicator self.old on }
         ensures packet { IsPacket self.new }
     {
-        self.row[1] = with_bits(self.row[1], 0, 1, u8::from(on));
+        self.write_bits(1, 0, 1, u8::from(on));
     }
 
     /// Sets `payload_unit_start_indicator`.
@@ -151,7 +151,7 @@ impl Packet {
         ensures row { self.new ≡ with_unit_start self.old on }
         ensures packet { IsPacket self.new }
     {
-        self.row[1] = with_bits(self.row[1], 1, 1, u8::from(on));
+        self.write_bits(1, 1, 1, u8::from(on));
     }
 
     /// Sets `transport_priority`.
@@ -160,7 +160,7 @@ impl Packet {
         ensures row { self.new ≡ with_priority self.old on }
         ensures packet { IsPacket self.new }
     {
-        self.row[1] = with_bits(self.row[1], 2, 1, u8::from(on));
+        self.write_bits(1, 2, 1, u8::from(on));
     }
 
     /// Sets the packet identifier.
@@ -170,8 +170,8 @@ impl Packet {
         ensures row { self.new ≡ with_pid self.old pid }
         ensures packet { IsPacket self.new }
     {
-        self.row[1] = with_bits(self.row[1], 3, 5, (pid >> 8) as u8);
-        self.row[2] = (pid & 0xFF) as u8;
+        self.write_bits(1, 3, 5, (pid >> 8) as u8);
+        self.write_byte(2, (pid & 0xFF) as u8);
     }
 
     /// Sets `transport_scrambling_control`.
@@ -181,7 +181,7 @@ impl Packet {
         ensures row { self.new ≡ with_scrambling self.old control }
         ensures packet { IsPacket self.new }
     {
-        self.row[3] = with_bits(self.row[3], 0, 2, control);
+        self.write_bits(3, 0, 2, control);
     }
 
     /// Sets `adaptation_field_control`.
@@ -191,7 +191,7 @@ impl Packet {
         ensures row { self.new ≡ with_adaptation_control self.old control }
         ensures packet { IsPacket self.new }
     {
-        self.row[3] = with_bits(self.row[3], 2, 2, control);
+        self.write_bits(3, 2, 2, control);
     }
 
     /// Sets `continuity_counter`.
@@ -201,6 +201,6 @@ impl Packet {
         ensures row { self.new ≡ with_counter self.old counter }
         ensures packet { IsPacket self.new }
     {
-        self.row[3] = with_bits(self.row[3], 4, 4, counter);
+        self.write_bits(3, 4, 4, counter);
     }
 }

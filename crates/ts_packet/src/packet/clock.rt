@@ -2,11 +2,12 @@
 ghost use Rattle.std.specs.Prelude.{◌≡◌, ◌+◌, ◌*◌, ◌^◌, ◌<◌, IfSome};
 ghost use Rattle.std.specs.Bool.{OnTrue, OnFalse};
 ghost use Rattle.ts_packet.specs.Packet.{IsPacket};
-ghost use Rattle.ts_packet.specs.Pcr.{has_pcr_of, clock_of, pcr_of, SetsPcr, with_pcr};
+ghost use Rattle.ts_packet.specs.Pcr.{has_pcr_of, clock_of, pcr_of, SetsPcr, clock_bytes, with_pcr};
 
 use super::Packet;
 
 impl Packet {
+    #[tactic(auto, unfolding(crate::specs::Pcr::pcr_of))]
     /// The PCR, base times 300 plus extension, where a lawful adaptation field has one.
     pub fn pcr(&self) -> Option<u64>
         ensures value { result ≡ pcr_of self.now }
@@ -19,6 +20,7 @@ impl Packet {
         }
     }
 
+    #[tactic(auto, unfolding(crate::specs::Pcr::with_pcr))]
     /// Writes the PCR where the packet has one, with its six reserved bits as ones, and says whether it has.
     pub fn set_pcr(&mut self, value: u64) -> bool
         requires { value < 2 ^ 33 * 300 }
@@ -32,24 +34,19 @@ impl Packet {
         if !self.has_pcr() {
             return false;
         }
-        let base = value / 300;
-        let extension = value % 300;
-        self.row[6] = (base >> 25) as u8;
-        self.row[7] = ((base >> 17) & 0xFF) as u8;
-        self.row[8] = ((base >> 9) & 0xFF) as u8;
-        self.row[9] = ((base >> 1) & 0xFF) as u8;
-        self.row[10] = ((base & 1) << 7 | 0x7E | extension >> 8) as u8;
-        self.row[11] = (extension & 0xFF) as u8;
+        self.write_bytes(6, &clock_bytes(value / 300, value % 300));
         true
     }
 
     /// Whether a lawful adaptation field is long enough for a PCR and flags one.
     #[tactic(auto, unfolding(bit_rows::specs::BitRow::field, bit_rows::specs::BitRow::bit_of, crate::specs::Pcr::has_pcr_of))]
     fn has_pcr(&self) -> bool
-        ensures { result ≡ has_pcr_of self.now }
+        ensures value { result ≡ has_pcr_of self.now }
+        ensures packet { IsPacket self.now }
     {
+        let flags = self.row[5];
         match self.adaptation_length() {
-            Some(length) => length >= 7 && (self.row[5] >> 4) & 1 == 1,
+            Some(length) => length >= 7 && (flags >> 4) & 1 == 1,
             None => false,
         }
     }
@@ -65,4 +62,20 @@ impl Packet {
         let extension = u64::from(row[10] & 1) << 8 | u64::from(row[11]);
         base * 300 + extension
     }
+}
+
+/// The six bytes of a PCR field: base 33, six reserved ones, extension 9.
+fn clock_bytes(base: u64, extension: u64) -> [u8; 6]
+    requires base_fits { base < 2 ^ 33 }
+    requires extension_fits { extension < 2 ^ 9 }
+    ensures { result ≡ clock_bytes base extension }
+{
+    [
+        (base >> 25) as u8,
+        ((base >> 17) & 0xFF) as u8,
+        ((base >> 9) & 0xFF) as u8,
+        ((base >> 1) & 0xFF) as u8,
+        ((base & 1) << 7 | 0x7E | extension >> 8) as u8,
+        (extension & 0xFF) as u8,
+    ]
 }

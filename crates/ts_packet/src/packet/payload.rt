@@ -44,7 +44,6 @@ impl Packet {
         ensures bytes { self.new ≡ with_piece self.old at piece.now }
         ensures packet { IsPacket self.new }
     {
-        let at = usize::from(at);
-        self.row[at..at + piece.len()].copy_from_slice(piece);
+        self.write_bytes(usize::from(at), piece);
     }
 }
