@@ -1,2 +1,4 @@
+pub mod FilterRule
+pub mod FilterState
 pub mod LiveCount
 pub mod SkipRule

@@ -2,6 +2,8 @@
 //! The layer above makes each of its settings, and uses it by the clauses of `Plugin` alone.
 #![tactic(auto)]
 
+mod filter;
 mod skip;
 
+pub use filter::Filter;
 pub use skip::Skip;
