@@ -2,3 +2,5 @@ pub mod FilterRule
 pub mod FilterState
 pub mod LiveCount
 pub mod SkipRule
+pub mod SliceRule
+pub mod SliceState

@@ -2,8 +2,11 @@
 //! The layer above makes each of its settings, and uses it by the clauses of `Plugin` alone.
 #![tactic(auto)]
 
+mod deed;
 mod filter;
 mod skip;
+mod slice;
 
 pub use filter::Filter;
 pub use skip::Skip;
+pub use slice::Slice;
