@@ -1,8 +1,4 @@
-<<<<<<< HEAD
 //! Writing bits, a byte or several bytes of a packet; the sync byte cannot be reached.
-=======
-//! Writing a few bits of a byte.
->>>>>>> 14a2a4a91687face867535e22e0cd3c8ac3cf563
 ghost use Rattle.std.specs.Prelude.{◌≡◌, ◌+◌, ◌*◌, ◌^◌, ◌<◌, ◌≤◌, length, slice_set};
 ghost use Rattle.bit_rows.specs.BitRow.{SetsField};
 ghost use Rattle.ts_packet.specs.Header.{byte_with, row_with};
@@ -28,11 +24,7 @@ fn with_bits(byte: u8, first: u32, count: u32, value: u8) -> u8
 impl Packet {
     /// Replaces `count` bits of the byte at `place`, from its bit `first` on.
     #[inline]
-<<<<<<< HEAD
     pub(super) fn write_bits(&mut self, place: usize, first: u32, count: u32, value: u8)
-=======
-    pub fn write_bits(&mut self, place: usize, first: u32, count: u32, value: u8)
->>>>>>> 14a2a4a91687face867535e22e0cd3c8ac3cf563
         requires behind_sync { 0 < place }
         requires place_fits { place < 188 }
         requires inside { first + count ≤ 8 }
@@ -46,11 +38,7 @@ impl Packet {
 
     /// Replaces the byte at `place`.
     #[inline]
-<<<<<<< HEAD
     pub(super) fn write_byte(&mut self, place: usize, value: u8)
-=======
-    pub fn write_byte(&mut self, place: usize, value: u8)
->>>>>>> 14a2a4a91687face867535e22e0cd3c8ac3cf563
         requires behind_sync { 0 < place }
         requires place_fits { place < 188 }
         ensures row { self.new ≡ slice_set self.old place value }
@@ -62,11 +50,7 @@ impl Packet {
 
     /// Lays a piece over the bytes from `at` on.
     #[inline]
-<<<<<<< HEAD
     pub(super) fn write_bytes(&mut self, at: usize, piece: &[u8])
-=======
-    pub fn write_bytes(&mut self, at: usize, piece: &[u8])
->>>>>>> 14a2a4a91687face867535e22e0cd3c8ac3cf563
         requires behind_sync { 0 < at }
         requires fits { at + length piece.now ≤ 188 }
         ensures row { self.new ≡ with_piece self.old at piece.now }

@@ -7,7 +7,6 @@ ghost use Rattle.ts_packet.specs.Pcr.{has_pcr_of, clock_of, pcr_of, SetsPcr, clo
 use super::Packet;
 
 impl Packet {
-    #[tactic(auto, unfolding(crate::specs::Pcr::pcr_of))]
     /// The PCR, base times 300 plus extension, where a lawful adaptation field has one.
     #[tactic(auto, unfolding(crate::specs::Pcr::pcr_of))]
     pub fn pcr(&self) -> Option<u64>
@@ -21,7 +20,6 @@ impl Packet {
         }
     }
 
-    #[tactic(auto, unfolding(crate::specs::Pcr::with_pcr))]
     /// Writes the PCR where the packet has one, with its six reserved bits as ones, and says whether it has.
     #[tactic(auto, unfolding(crate::specs::Pcr::with_pcr))]
     pub fn set_pcr(&mut self, value: u64) -> bool
