@@ -3,3 +3,5 @@ pub mod Stepping
 pub mod Soundness
 pub mod ListsKept
 pub mod Endings
+pub mod Members
+pub mod Closing
