@@ -5,3 +5,4 @@ pub mod ListsKept
 pub mod Endings
 pub mod Members
 pub mod Closing
+pub mod Theorem
