@@ -6,3 +6,4 @@ pub mod Endings
 pub mod Members
 pub mod Closing
 pub mod Theorem
+pub mod SetLaws

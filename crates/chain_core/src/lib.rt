@@ -4,6 +4,8 @@
 
 mod closed;
 mod core_plan;
+mod ending;
+mod limit;
 mod mark;
 mod news;
 mod numbers;
