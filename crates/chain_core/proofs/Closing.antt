@@ -110,8 +110,8 @@ module _ (plan : CorePlan) (rules : List PluginRule) (input : StageList) (state 
   joint-limit c reached joint is le =
       greatest-kept (agreement_at rules input) (λ u. (state.stages u).agreed) (stages_of plan.users) joint
       (all_both (λ u. ((1 ≤ u) × (u ≤ plan.plugins)) × (has_stage plan.users u ≡ true)) (IsKnownWithin (agreement_at rules input) joint) (IsKept (agreement_at rules input) (λ u. (state.stages u).agreed)) (agreed-known c reached joint le) (stages_of plan.users)
-        (all_both (λ u. (1 ≤ u) × (u ≤ plan.plugins)) (λ u. has_stage plan.users u ≡ true) (λ u. ((1 ≤ u) × (u ≤ plan.plugins)) × (has_stage plan.users u ≡ true)) (λ u a b. (a, b)) (stages_of plan.users) users (stages-have plan.users))
-        (greatest-all (agreement_at rules input) (stages_of plan.users) joint is))
+      (all_both (λ u. (1 ≤ u) × (u ≤ plan.plugins)) (λ u. has_stage plan.users u ≡ true) (λ u. ((1 ≤ u) × (u ≤ plan.plugins)) × (has_stage plan.users u ≡ true)) (λ u a b. (a, b)) (stages_of plan.users) users (stages-have plan.users))
+      (greatest-all (agreement_at rules input) (stages_of plan.users) joint is))
       is
 
 -- ---- the endings told, and those of the lists
@@ -135,17 +135,17 @@ pure-rows rules input (suc j) =
 told-cases : (marks : Marks) (c k : ℕ) → (causes_at c (ending_of_mark k (marks k)) ≡ []) ⊎ ((why : Cause) × EndsBy marks k why × ((marks k).given ≡ c))
 told-cases marks c k =
     elim (marks k).ended as (λ o. (marks k).ended ≡ o → (causes_at c (ending_with (marks k).given (option_and_then (cause_of_stage k) o)) ≡ []) ⊎ ((why : Cause) × EndsBy marks k why × ((marks k).given ≡ c))) [
-      None ↦ (λ is. inl refl)
-    | Some end ↦ (λ is. by_cause end is)
+      | None ↦ (λ is. inl refl)
+      | Some end ↦ (λ is. by_cause end is)
     ] refl
   where
     by_cause : (end : StageEnd) → (marks k).ended ≡ Some end → (causes_at c (ending_with (marks k).given (cause_of_stage k end)) ≡ []) ⊎ ((why : Cause) × EndsBy marks k why × ((marks k).given ≡ c))
     by_cause end is =
         elim (cause_of_stage k end) as (λ o. cause_of_stage k end ≡ o → (causes_at c (ending_with (marks k).given o) ≡ []) ⊎ ((why : Cause) × EndsBy marks k why × ((marks k).given ≡ c))) [
-          None ↦ (λ gives. inl refl)
-        | Some why ↦ (λ gives. elim (cases_eq (marks k).given c) [
-            inl same ↦ inr (why, record { end = end; ended = is; gives = gives }, same)
-          | inr apart ↦ inl (causes_at-elsewhere c (marks k).given why apart)
+          | None ↦ (λ gives. inl refl)
+          | Some why ↦ (λ gives. elim (cases_eq (marks k).given c) [
+            | inl same ↦ inr (why, record { end = end; ended = is; gives = gives }, same)
+            | inr apart ↦ inl (causes_at-elsewhere c (marks k).given why apart)
           ])
         ] refl
 
@@ -157,10 +157,10 @@ told-here marks c k why by at =
 list-cases : (c k : ℕ) (list : StageList) → (causes_at c (ending_of k list) ≡ []) ⊎ ((own : OwnEnd) × (list.ended ≡ Some own) × (length list.cells ≡ c))
 list-cases c k list =
     elim list.ended as (λ o. list.ended ≡ o → (causes_at c (elim o [ None ↦ [] | Some how ↦ record { at = length list.cells; cause = cause_of_end k how } ∷ [] ]) ≡ []) ⊎ ((own : OwnEnd) × (list.ended ≡ Some own) × (length list.cells ≡ c))) [
-      None ↦ (λ is. inl refl)
-    | Some own ↦ (λ is. elim (cases_eq (length list.cells) c) [
-        inl same ↦ inr (own, is, same)
-      | inr apart ↦ inl (causes_at-elsewhere c (length list.cells) (cause_of_end k own) apart)
+      | None ↦ (λ is. inl refl)
+      | Some own ↦ (λ is. elim (cases_eq (length list.cells) c) [
+        | inl same ↦ inr (own, is, same)
+        | inr apart ↦ inl (causes_at-elsewhere c (length list.cells) (cause_of_end k own) apart)
       ])
     ] refl
 
@@ -198,16 +198,16 @@ until-passed k (refused reason) h = absurd cc
 told-until : (marks : Marks) (c k : ℕ) (u : Cause) → until_at c (ending_of_mark k (marks k)) ≡ Some u → EndsBy marks k u × ((marks k).ended ≡ Some Last) × ((marks k).given ≡ c) × (u ≡ cause.Until k)
 told-until marks c k u e =
     elim (told-cases marks c k) [
-      inl none ↦ (let n : until_at c (ending_of_mark k (marks k)) ≡ None = ap (find is_until) none in absurd cc)
-    | inr (why, by, at) ↦ (let one = find-one why u (is_until why) refl (sym (ap (find is_until) (told-here marks c k why by at)) ∙ e) in let last = until-last k by.end why by.gives one.0 in (subst (λ w. EndsBy marks k w) one.1 by, by.ended ∙ ap (λ (end : StageEnd). Some end) last.0, at, sym one.1 ∙ last.1))
+      | inl none ↦ (let n : until_at c (ending_of_mark k (marks k)) ≡ None = ap (find is_until) none in absurd cc)
+      | inr (why, by, at) ↦ (let one = find-one why u (is_until why) refl (sym (ap (find is_until) (told-here marks c k why by at)) ∙ e) in let last = until-last k by.end why by.gives one.0 in (subst (λ w. EndsBy marks k w) one.1 by, by.ended ∙ ap (λ (end : StageEnd). Some end) last.0, at, sym one.1 ∙ last.1))
     ]
 
 -- a list that ends after a last packet at the place
 list-until : (c k : ℕ) (list : StageList) (u : Cause) → until_at c (ending_of k list) ≡ Some u → (list.ended ≡ Some last_passed) × (length list.cells ≡ c) × (u ≡ cause.Until k)
 list-until c k list u e =
     elim (list-cases c k list) [
-      inl none ↦ (let n : until_at c (ending_of k list) ≡ None = ap (find is_until) none in absurd cc)
-    | inr (own, is, at) ↦ (let one = find-one (cause_of_end k own) u (is_until (cause_of_end k own)) refl (sym (ap (find is_until) (list-here c k list own is at)) ∙ e) in let last : own ≡ last_passed = until-passed k own one.0 in (is ∙ ap (λ (o : OwnEnd). Some o) last, at, sym one.1 ∙ ap (cause_of_end k) last))
+      | inl none ↦ (let n : until_at c (ending_of k list) ≡ None = ap (find is_until) none in absurd cc)
+      | inr (own, is, at) ↦ (let one = find-one (cause_of_end k own) u (is_until (cause_of_end k own)) refl (sym (ap (find is_until) (list-here c k list own is at)) ∙ e) in let last : own ≡ last_passed = until-passed k own one.0 in (is ∙ ap (λ (o : OwnEnd). Some o) last, at, sym one.1 ∙ ap (cause_of_end k) last))
     ]
 
 told-until_at : (marks : Marks) (c k : ℕ) → (marks k).ended ≡ Some Last → (marks k).given ≡ c → until_at c (ending_of_mark k (marks k)) ≡ Some (cause.Until k)
@@ -257,15 +257,15 @@ last-told marks c zero k why le by at =
 last-told marks c (suc n) k why le by at =
     let row : ℕ → List Ending = λ i. ending_of_mark i (marks i) in
     elim (told-cases marks c (suc n)) [
-      inr (last, by', at') ↦ (suc n, last, omega arith, by', at', last_at-more c row n ∙ ap (λ (causes : List Cause). last_or (last_at c (up_to row n)) causes) (told-here marks c (suc n) last by' at'))
-    | inl none ↦ (let r = last-told marks c n k why (lower none) by at in (r.0, r.1, omega (arith, r.2), r.3, r.4, last_at-more c row n ∙ (ap (λ (causes : List Cause). last_or (last_at c (up_to row n)) causes) none ∙ r.5)))
+      | inr (last, by', at') ↦ (suc n, last, omega arith, by', at', last_at-more c row n ∙ ap (λ (causes : List Cause). last_or (last_at c (up_to row n)) causes) (told-here marks c (suc n) last by' at'))
+      | inl none ↦ (let r = last-told marks c n k why (lower none) by at in (r.0, r.1, omega (arith, r.2), r.3, r.4, last_at-more c row n ∙ (ap (λ (causes : List Cause). last_or (last_at c (up_to row n)) causes) none ∙ r.5)))
     ]
   where
     lower : causes_at c (ending_of_mark (suc n) (marks (suc n))) ≡ [] → k ≤ n
     lower none =
         elim (cases_eq k (suc n)) [
-          inl same ↦ (let h : causes_at c (ending_of_mark (suc n) (marks (suc n))) ≡ why ∷ [] = ap (λ i. causes_at c (ending_of_mark i (marks i))) (sym same) ∙ told-here marks c k why by at in absurd cc)
-        | inr apart ↦ omega arith
+          | inl same ↦ (let h : causes_at c (ending_of_mark (suc n) (marks (suc n))) ≡ why ∷ [] = ap (λ i. causes_at c (ending_of_mark i (marks i))) (sym same) ∙ told-here marks c k why by at in absurd cc)
+          | inr apart ↦ omega arith
         ]
 
 module _ (plan : CorePlan) (rules : List PluginRule) (input : StageList) (state : ChainState) (users : AreUsers plan) (plugins : length rules ≡ plan.plugins) (sound : Sound plan state) (faithful : Faithful plan rules input state) where
@@ -287,8 +287,8 @@ module _ (plan : CorePlan) (rules : List PluginRule) (input : StageList) (state 
     cut-within : IsCutWithin plan (marks_of state) c
     cut-within =
         elim (state.stages (suc plan.plugins)).ended as (λ o. (state.stages (suc plan.plugins)).ended ≡ o → IsCutWithin plan (marks_of state) c) [
-          None ↦ (λ is. (let e : true ≡ is_some (state.stages (suc plan.plugins)).ended = sym (all_ended (suc plan.plugins) (omega arith)) in let n : is_some (state.stages (suc plan.plugins)).ended ≡ false = ap (λ (o : Option StageEnd). is_some o) is in absurd cc))
-        | Some end ↦ (λ is. sound.key (suc plan.plugins) end is)
+          | None ↦ (λ is. (let e : true ≡ is_some (state.stages (suc plan.plugins)).ended = sym (all_ended (suc plan.plugins) (omega arith)) in let n : is_some (state.stages (suc plan.plugins)).ended ≡ false = ap (λ (o : Option StageEnd). is_some o) is in absurd cc))
+          | Some end ↦ (λ is. sound.key (suc plan.plugins) end is)
         ] refl
 
     limit-above : (limit : ℕ) → limit_of plan (marks_of state) ≡ Some limit → c ≤ limit
@@ -325,8 +325,8 @@ module _ (plan : CorePlan) (rules : List PluginRule) (input : StageList) (state 
     joint-above : (joint : ℕ) → joint_position rules input (stages_of plan.users) ≡ Some joint → c ≤ joint
     joint-above joint is =
         elim (cases_lt joint c) [
-          inl less ↦ limit-above joint (joint-limit plan rules input state users faithful c reached-plugins joint is (omega arith))
-        | inr le ↦ le
+          | inl less ↦ limit-above joint (joint-limit plan rules input state users faithful c reached-plugins joint is (omega arith))
+          | inr le ↦ le
         ]
 
     cells-above : c ≤ length (end_list rules input).cells
@@ -336,15 +336,15 @@ module _ (plan : CorePlan) (rules : List PluginRule) (input : StageList) (state 
     cut-above : c ≤ cut_of rules input (stages_of plan.users)
     cut-above =
         elim (joint_position rules input (stages_of plan.users)) as (λ o. joint_position rules input (stages_of plan.users) ≡ o → c ≤ lesser_end (length (end_list rules input).cells) o) [
-          None ↦ (λ is. cells-above)
-        | Some joint ↦ (λ is. (let a = joint-above joint is in let b = cells-above in omega arith))
+          | None ↦ (λ is. cells-above)
+          | Some joint ↦ (λ is. (let a = joint-above joint is in let b = cells-above in omega arith))
         ] refl
 
     cut-below : cut_of rules input (stages_of plan.users) ≤ length (end_list rules input).cells
     cut-below =
         elim (joint_position rules input (stages_of plan.users)) as (λ o. lesser_end (length (end_list rules input).cells) o ≤ length (end_list rules input).cells) [
-          None ↦ omega arith
-        | Some joint ↦ omega arith
+          | None ↦ omega arith
+          | Some joint ↦ omega arith
         ]
 
     -- where a list ends at the cut, the pure cut is there
@@ -376,10 +376,10 @@ module _ (plan : CorePlan) (rules : List PluginRule) (input : StageList) (state 
     one-until : (k : ℕ) → k ≤ plan.plugins → until_at c (row k) ≡ until_at c (pure_row k)
     one-until k le =
         elim (until_at c (row k)) as (λ o. until_at c (row k) ≡ o → o ≡ until_at c (pure_row k)) [
-          Some u ↦ (λ is. from_told u (told-until (marks_of state) c k u is))
-        | None ↦ (λ is. elim (until_at c (pure_row k)) as (λ o. until_at c (pure_row k) ≡ o → None ≡ o) [
-            None ↦ (λ none. refl)
-          | Some u ↦ (λ some. (let t = from_list u (list-until c k (stage_list rules input k) u some) in absurd cc))
+          | Some u ↦ (λ is. from_told u (told-until (marks_of state) c k u is))
+          | None ↦ (λ is. elim (until_at c (pure_row k)) as (λ o. until_at c (pure_row k) ≡ o → None ≡ o) [
+            | None ↦ (λ none. refl)
+            | Some u ↦ (λ some. (let t = from_list u (list-until c k (stage_list rules input k) u some) in absurd cc))
           ] refl)
         ] refl
       where
@@ -402,8 +402,8 @@ module _ (plan : CorePlan) (rules : List PluginRule) (input : StageList) (state 
     output-until : until_at c (row (suc plan.plugins)) ≡ None
     output-until =
         elim (until_at c (row (suc plan.plugins))) as (λ o. until_at c (row (suc plan.plugins)) ≡ o → o ≡ None) [
-          None ↦ (λ is. refl)
-        | Some u ↦ (λ is. (let t = told-until (marks_of state) c (suc plan.plugins) u is in let e = (faithful.ends (suc plan.plugins) Last t.1).ended in let n = output-ended plan rules input plugins in absurd cc))
+          | None ↦ (λ is. refl)
+          | Some u ↦ (λ is. (let t = told-until (marks_of state) c (suc plan.plugins) u is in let e = (faithful.ends (suc plan.plugins) Last t.1).ended in let n = output-ended plan rules input plugins in absurd cc))
         ] refl
 
     same-until : until_at c (up_to row (suc plan.plugins)) ≡ until_at c (up_to pure_row plan.plugins)
@@ -447,8 +447,8 @@ module _ (plan : CorePlan) (rules : List PluginRule) (input : StageList) (state 
     none-behind none k at zero lt le = absurd (omega arith)
     none-behind none k at (suc i) lt le =
         elim (list-cases c (suc i) (stage_list rules input (suc i))) [
-          inl empty ↦ empty
-        | inr (own, is, at') ↦ (let less = apply-before (rule_behind rules i) (stage_list rules input i).cells own (other own is at') is in let fall = list-falls rules input i k (omega arith) in absurd (omega arith))
+          | inl empty ↦ empty
+          | inr (own, is, at') ↦ (let less = apply-before (rule_behind rules i) (stage_list rules input i).cells own (other own is at') is in let fall = list-falls rules input i k (omega arith) in absurd (omega arith))
         ]
       where
         other : (own : OwnEnd) → (stage_list rules input (suc i)).ended ≡ Some own → length (stage_list rules input (suc i)).cells ≡ c → own ≢ last_passed
@@ -469,8 +469,8 @@ module _ (plan : CorePlan) (rules : List PluginRule) (input : StageList) (state 
         plugin : (own : OwnEnd) → IsEndOf (stage_list rules input k) (state.stages k).given own → k ≤ plan.plugins
         plugin own e =
             elim (cases_eq k (suc plan.plugins)) [
-              inl same ↦ (let n : (stage_list rules input k).ended ≡ None = ap (λ i. (stage_list rules input i).ended) same ∙ output-ended plan rules input plugins in let s = e.ended in absurd cc)
-            | inr apart ↦ omega arith
+              | inl same ↦ (let n : (stage_list rules input k).ended ≡ None = ap (λ i. (stage_list rules input i).ended) same ∙ output-ended plan rules input plugins in let s = e.ended in absurd cc)
+              | inr apart ↦ omega arith
             ]
 
         judged : ((own : OwnEnd) × IsEndOf (stage_list rules input k) (state.stages k).given own × (why ≡ cause_of_end k own)) ⊎ IsTrue (is_fault why) → IsPureClose rules input (stages_of plan.users) c why ⊎ IsLawfulFault rules input (stages_of plan.users) c why
@@ -506,15 +506,15 @@ module _ (plan : CorePlan) (rules : List PluginRule) (input : StageList) (state 
     verdict : Verdict (cause_among c (limit_of plan (marks_of state)) (told_endings (marks_of state) (suc plan.plugins)))
     verdict =
         elim (cases_Bool (is_at (limit_of plan (marks_of state)) c)) [
-          inl at ↦ subst (λ (w : Cause). Verdict w) (sym (cond-true (is_at (limit_of plan (marks_of state)) c) cause.Joint (chosen (told_endings (marks_of state) (suc plan.plugins))) at)) (joint-verdict (is_at-some (limit_of plan (marks_of state)) c at))
-        | inr off ↦ subst (λ (w : Cause). Verdict w) (sym (cond-false (is_at (limit_of plan (marks_of state)) c) cause.Joint (chosen (told_endings (marks_of state) (suc plan.plugins))) off ∙ ap (λ (endings : List Ending). chosen endings) (told-rows (marks_of state) (suc plan.plugins)))) (by_until (λ is. (let on : is_at (limit_of plan (marks_of state)) c ≡ true = ap (λ (o : Option ℕ). is_at o c) is ∙ eq-eqb c c refl in absurd cc)))
+          | inl at ↦ subst (λ (w : Cause). Verdict w) (sym (cond-true (is_at (limit_of plan (marks_of state)) c) cause.Joint (chosen (told_endings (marks_of state) (suc plan.plugins))) at)) (joint-verdict (is_at-some (limit_of plan (marks_of state)) c at))
+          | inr off ↦ subst (λ (w : Cause). Verdict w) (sym (cond-false (is_at (limit_of plan (marks_of state)) c) cause.Joint (chosen (told_endings (marks_of state) (suc plan.plugins))) off ∙ ap (λ (endings : List Ending). chosen endings) (told-rows (marks_of state) (suc plan.plugins)))) (by_until (λ is. (let on : is_at (limit_of plan (marks_of state)) c ≡ true = ap (λ (o : Option ℕ). is_at o c) is ∙ eq-eqb c c refl in absurd cc)))
         ]
       where
         by_until : (limit_of plan (marks_of state) ≡ Some c → ⊥) → Verdict (chosen (up_to row (suc plan.plugins)))
         by_until not_ =
             elim (until_at c (up_to pure_row plan.plugins)) as (λ o. until_at c (up_to pure_row plan.plugins) ≡ o → Verdict (chosen (up_to row (suc plan.plugins)))) [
-              Some u ↦ (λ is. until-verdict not_ u is)
-            | None ↦ (λ none. own-verdict not_ none)
+              | Some u ↦ (λ is. until-verdict not_ u is)
+              | None ↦ (λ none. own-verdict not_ none)
             ] refl
 
     -- what holds at the close

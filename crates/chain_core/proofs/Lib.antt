@@ -7,3 +7,6 @@ pub mod Members
 pub mod Closing
 pub mod Theorem
 pub mod SetLaws
+pub mod LimitLaws
+pub mod RowLaws
+pub mod CoreLaws

@@ -89,10 +89,10 @@ agreement-step rule a rest (Some n) told is keeps =
 agreement-step rule a rest None (Some n) is keeps = sym (keeps.truly n refl)
 agreement-step rule a rest None None is keeps =
     elim (agreement_of rule (a ++ rest)) as (λ o. agreement_of rule (a ++ rest) ≡ o → None ≡ o) [
-      None ↦ (λ e. refl)
-    | Some n ↦ (λ e. elim (cases_lt (length a) n) [
-        inl late ↦ keeps.at_once n e late
-      | inr early ↦ is ∙ agreement_of-first rule a rest n e early
+      | None ↦ (λ e. refl)
+      | Some n ↦ (λ e. elim (cases_lt (length a) n) [
+        | inl late ↦ keeps.at_once n e late
+        | inr early ↦ is ∙ agreement_of-first rule a rest n e early
       ])
     ] refl
 
@@ -174,8 +174,8 @@ module _ (plan : CorePlan) (rules : List PluginRule) (input : StageList) (state 
   each : (k : ℕ) → (IsPrefix ((visited plan state visit).stages k).given (stage_list rules input k).cells) × ((end : StageEnd) → ((visited plan state visit).stages k).ended ≡ Some end → EndsAs plan.plugins k (stage_list rules input k) ((visited plan state visit).stages k).given end) × (IsEndOf (stage_list rules input k) ((visited plan state visit).stages k).given last_passed → ((visited plan state visit).stages k).ended ≡ Some Last)
   each k =
       elim (cases_eq k visit.stage) [
-        inl same ↦ subst (λ i. Goal i) (sym same) (here.gives, here.ends, here.last_at_once)
-      | inr apart ↦ subst (λ (stage : StageState). GoalOf k stage) (sym (visited-other plan state visit k apart)) (faithful.lists k, faithful.ends k, faithful.lasts_told k)
+        | inl same ↦ subst (λ i. Goal i) (sym same) (here.gives, here.ends, here.last_at_once)
+        | inr apart ↦ subst (λ (stage : StageState). GoalOf k stage) (sym (visited-other plan state visit k apart)) (faithful.lists k, faithful.ends k, faithful.lasts_told k)
       ]
     where
       GoalOf : ℕ → StageState → Type 0

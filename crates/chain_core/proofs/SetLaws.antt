@@ -41,9 +41,9 @@ pub with-has : (set : StageSet) (stage : ℕ) → stage < 64 → (k : ℕ) → h
 unfolding has_stage
 with-has set stage lt k =
     elim (cases_eq k stage) [
-      inl same ↦ ap (λ i. nat_lt i 64 && bit_at (bit_or set.bits (1 * 2 ^ stage % 2 ^ 64)) i == 1) same
-        ∙ (ap (λ (b : Bool). b && bit_at (bit_or set.bits (1 * 2 ^ stage % 2 ^ 64)) stage == 1) (lt-ltb stage 64 lt)
-        ∙ (ap (λ (n : ℕ). n == 1) (bit_at_set_same w64 set.bits stage lt)
-        ∙ sym (ap (λ (b : Bool). b || (nat_lt k 64 && bit_at set.bits k == 1)) (eq-eqb k stage same))))
-    | inr apart ↦ ap (λ (n : ℕ). nat_lt k 64 && n == 1) (bit_at_set_other w64 set.bits stage lt k apart) ∙ sym (ap (λ (b : Bool). b || (nat_lt k 64 && bit_at set.bits k == 1)) (ne_eqb k stage apart))
+      | inl same ↦ ap (λ i. nat_lt i 64 && bit_at (bit_or set.bits (1 * 2 ^ stage % 2 ^ 64)) i == 1) same
+          ∙ (ap (λ (b : Bool). b && bit_at (bit_or set.bits (1 * 2 ^ stage % 2 ^ 64)) stage == 1) (lt-ltb stage 64 lt)
+          ∙ (ap (λ (n : ℕ). n == 1) (bit_at_set_same w64 set.bits stage lt)
+          ∙ sym (ap (λ (b : Bool). b || (nat_lt k 64 && bit_at set.bits k == 1)) (eq-eqb k stage same))))
+      | inr apart ↦ ap (λ (n : ℕ). nat_lt k 64 && n == 1) (bit_at_set_other w64 set.bits stage lt k apart) ∙ sym (ap (λ (b : Bool). b || (nat_lt k 64 && bit_at set.bits k == 1)) (ne_eqb k stage apart))
     ]

@@ -1,6 +1,5 @@
-use chain_model::Cause;
-
 use crate::{StageEnd, StageWord};
+use chain_model::Cause;
 
 /// What the core knows of a stage.
 #[derive(Debug, Clone, Copy, PartialEq, Eq)]
@@ -16,9 +15,10 @@ pub struct Mark {
 }
 
 impl Mark {
-    ghost use Rattle.std.specs.Prelude.{◌≡◌, ◌+◌, ◌-◌, ◌≤◌, min};
+    ghost use Rattle.std.specs.Prelude.{◌≡◌, ◌+◌, ◌-◌, ◌≤◌, min, option_to_list};
     ghost use Rattle.std.specs.Option.{option_and_then};
-    ghost use Rattle.chain_core.specs.Close.{cause_of_stage};
+    ghost use Rattle.chain_model.specs.Cut.{causes_at};
+    ghost use Rattle.chain_core.specs.Close.{cause_of_stage, ending_of_mark};
     ghost use Rattle.chain_core.specs.CoreNumbers.{fresh_mark, noted_mark, taking_mark};
 
     /// A stage that has given and taken nothing.
@@ -71,6 +71,17 @@ impl Mark {
         match self.ended {
             Some(end) => end.own_cause(stage),
             None => None,
+        }
+    }
+
+    /// That cause, where the stage has given just as many cells as the cut.
+    pub(crate) fn cause_at(self, stage: usize, cut: u64) -> Option<Cause>
+        ensures { option_to_list result ≡ causes_at cut (ending_of_mark stage self) }
+    {
+        if self.given == cut {
+            self.own_cause(stage)
+        } else {
+            None
         }
     }
 }

@@ -1,9 +1,8 @@
-use std::alloc::{AllocError, Global};
-use std::marker::Model;
-
 use crate::ending::{cause_at, least_end};
 use crate::limit::{limit_of, within_limit};
 use crate::{Closed, CorePlan, Mark, News, StageWord};
+use std::alloc::{AllocError, Global};
+use std::marker::Model;
 
 /// Positions are below this number.
 const POSITION_LIMIT: u64 = 1 << 60;
@@ -87,7 +86,9 @@ impl Core {
     {
         let output = self.plan.plugins + 1;
         let reach = if stage == 0 {
-            let ahead = self.marks[output].given.saturating_add(self.plan.buffer as u64);
+            let ahead = self.marks[output]
+                .given
+                .saturating_add(self.plan.buffer as u64);
             ahead.min(POSITION_LIMIT)
         } else {
             self.marks[stage - 1].given
