@@ -43,6 +43,14 @@ rule_behind-past : (rules : List PluginRule) → rule_behind rules (length rules
 rule_behind-past [] = refl
 rule_behind-past (rule ∷ rules) = rule_behind-past rules
 
+-- past the last plugin every cell passes
+pub past-passes : (rules : List PluginRule) (cells : List Cell) → ((apply (rule_behind rules (length rules)) cells).cells ≡ cells) × ((apply (rule_behind rules (length rules)) cells).ended ≡ None)
+past-passes rules cells =
+    let s = apply-passes cells in (
+      ap (λ (rule : PluginRule). (apply rule cells).cells) (rule_behind-past rules) ∙ s.0,
+      ap (λ (rule : PluginRule). (apply rule cells).ended) (rule_behind-past rules) ∙ s.1,
+    )
+
 -- what reaches the output passes it
 module _ (plan : CorePlan) (rules : List PluginRule) (input : StageList) (plugins : length rules ≡ plan.plugins) where
   behind : rule_behind rules plan.plugins ≡ passing_rule

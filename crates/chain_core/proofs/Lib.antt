@@ -10,3 +10,4 @@ pub mod SetLaws
 pub mod LimitLaws
 pub mod RowLaws
 pub mod CoreLaws
+pub mod VisitLaws

@@ -12,12 +12,12 @@ use Rattle.chain_core.specs.declared.core_plan.CorePlan.{CorePlan}
 use Rattle.chain_core.specs.declared.stage_end.StageEnd.{StageEnd}
 use Rattle.chain_core.specs.declared.stage_end.StageEnd.TheVariants.{Input, Last, Stop, Refuse, WriteFault, NoMemory, Followed}
 use Rattle.chain_core.specs.Stages.{has_stage, stages_of}
-use Rattle.chain_core.specs.Numbers.{limit_of, takes_of, reach_of, agreed_with, IsAgreement, MayFollow, MayVisit, is_before_over, is_after_over}
+use Rattle.chain_core.specs.Numbers.{UsersArePlugins, limit_of, takes_of, reach_of, agreed_with, IsAgreement, MayFollow, MayVisit, is_before_over, is_after_over}
 use Rattle.chain_core.specs.Machine.{StageState, ChainState, Visit, start, marks_of, noted, served, visited, Allowed}
 use Rattle.chain_core.specs.ChainRun.{ChainRun, state_after}
 use Rattle.chain_core.specs.Close.{cause_of_stage}
 use Rattle.chain_core.specs.EveryOrder.{EndsBy, IsCutWithin}
-use Rattle.chain_core.proofs.Facts.{falls, all_each, all_map, cond-both}
+use Rattle.chain_core.proofs.Facts.{falls, all_by_recursion, all_each, all_map, cond-both}
 use Rattle.chain_core.proofs.Stepping.{noted_stage, taking, noted-same, noted-other, noted-told, served-same, served-other, served-told_output, served-told_other}
 
 -- how many cells a stage has given
@@ -31,6 +31,10 @@ took_count state k = (state.stages k).taken
 -- only plugins use joint termination
 abbrev pub AreUsers : CorePlan → Type 0
 AreUsers plan = AllByRecursion (λ k. (1 ≤ k) × (k ≤ plan.plugins)) (stages_of plan.users)
+
+pub users_from : (plan : CorePlan) → UsersArePlugins plan → AreUsers plan
+users_from plan users =
+    all_by_recursion (λ k. (1 ≤ k) × (k ≤ plan.plugins)) (stages_of plan.users) users
 
 pub record Sound (plan : CorePlan) (state : ChainState) : Type 0 where
   pub within : (k : ℕ) → gave state k ≤ took_count state k

@@ -14,7 +14,7 @@ use Rattle.chain_core.specs.Keeps.{KeptRun}
 use Rattle.chain_core.specs.Close.{cut_at_close, cause_at_close}
 use Rattle.chain_core.specs.EveryOrder.{SoFar, AtClose}
 use Rattle.chain_core.proofs.Facts.{all_by_recursion}
-use Rattle.chain_core.proofs.Soundness.{gave, AreUsers, Sound, run-sound}
+use Rattle.chain_core.proofs.Soundness.{gave, AreUsers, users_from, Sound, run-sound}
 use Rattle.chain_core.proofs.ListsKept.{Faithful, run-faithful}
 use Rattle.chain_core.proofs.Closing.{limit-joint, output-prefix, closing}
 
@@ -26,8 +26,7 @@ agrees-late (rule ∷ rules) late (suc j) = agrees-late rules late.1 j
 
 module _ (plan : CorePlan) (rules : List PluginRule) (input : StageList) (visits : List Visit) (kept : KeptRun plan rules input visits) where
   users : AreUsers plan
-  users =
-      all_by_recursion (λ k. (1 ≤ k) × (k ≤ plan.plugins)) (stages_of plan.users) kept.users
+  users = users_from plan kept.users
 
   pub sound : Sound plan (state_after plan visits)
   sound = run-sound plan users visits kept.run

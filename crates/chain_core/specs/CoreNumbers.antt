@@ -1,13 +1,12 @@
 -- What the core keeps, and the one relation that ties it to the machine's state. This project's own rule.
 use Rattle.std.specs.Prelude.{◌≡◌, ℕ, zero, suc, ◌+◌, ◌≤◌, max, ◌==◌, if◌then◌else◌, Bool, true, false, List, [], ◌++◌, slice_index_or, slice_set, Option, None, Some}
 use Rattle.std.specs.Option.{option_or}
-use Rattle.std.specs.List.{All}
 use Rattle.chain_core.specs.declared.core_plan.CorePlan.{CorePlan}
 use Rattle.chain_core.specs.declared.mark.Mark.{Mark}
 use Rattle.chain_core.specs.declared.stage_word.StageWord.{StageWord}
 use Rattle.chain_model.specs.Cut.{Ending}
-use Rattle.chain_core.specs.Stages.{has_stage, stages_of}
-use Rattle.chain_core.specs.Numbers.{Marks, limit_of, takes_of}
+use Rattle.chain_core.specs.Stages.{has_stage}
+use Rattle.chain_core.specs.Numbers.{Marks, UsersArePlugins, limit_of, takes_of}
 use Rattle.chain_core.specs.Machine.{ChainState, marks_of}
 use Rattle.chain_core.specs.Close.{ending_of_mark}
 
@@ -17,7 +16,7 @@ pub record IsLawfulPlan (plan : CorePlan) : Type 0 where
   pub some_buffer : 1 ≤ plan.buffer
   pub buffer : plan.buffer ≤ 1000000
   pub most : 1 ≤ plan.most
-  pub users : All (λ k. (1 ≤ k) × (k ≤ plan.plugins)) (stages_of plan.users)
+  pub users : UsersArePlugins plan
 
 -- what a core keeps: its plan, a mark for each stage, and the limit that the output was last told
 pub record CoreNumbers : Type 0 where
