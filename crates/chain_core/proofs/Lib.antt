@@ -11,3 +11,4 @@ pub mod LimitLaws
 pub mod RowLaws
 pub mod CoreLaws
 pub mod VisitLaws
+pub mod Rows
