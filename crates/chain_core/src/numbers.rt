@@ -4,6 +4,9 @@ use crate::{Closed, CorePlan, Mark, News, StageWord};
 use std::alloc::{AllocError, Global};
 use std::marker::Model;
 
+#[cfg(test)]
+mod tests;
+
 /// Positions are below this number.
 const POSITION_LIMIT: u64 = 1 << 60;
 
