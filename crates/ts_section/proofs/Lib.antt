@@ -3,4 +3,6 @@ mod CrcLemmas
 mod HeadBytes
 mod RuleLemmas
 mod WrittenLemmas
+mod RunLemmas
 mod TableLemmas
+mod Rows
