@@ -1,0 +1,16 @@
+pub mod FilterWords
+pub mod Forms
+pub mod General
+pub mod Inputs
+pub mod LawfulPlan
+pub mod Number
+pub mod Options
+pub mod Outputs
+pub mod Pairs
+pub mod PlanOf
+pub mod Plugins
+pub mod Profile
+pub mod Ranges
+pub mod RuleText
+pub mod Rules
+pub mod Segments

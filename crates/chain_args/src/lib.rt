@@ -1,0 +1,19 @@
+//! The command line of `tsp`: words come in, a plan of the chain or the first broken rule goes out.
+//! The layer above uses `plan`, which answers `plan_of` of the words, else `first_word_fault`.
+#![tactic(auto)]
+
+mod general_conf;
+mod input_conf;
+mod output_conf;
+mod plan_type;
+mod plugin_list;
+mod words_fault;
+mod words_rule;
+
+pub use general_conf::GeneralConf;
+pub use input_conf::InputConf;
+pub use output_conf::OutputConf;
+pub use plan_type::Plan;
+pub use plugin_list::PluginList;
+pub use words_fault::WordsFault;
+pub use words_rule::WordsRule;

@@ -1,0 +1,11 @@
+pub mod Prefix
+pub mod Written
+pub mod PluginRule
+pub mod Apply
+pub mod StageLists
+pub mod Joint
+pub mod Cut
+pub mod InputList
+pub mod Stuffed
+pub mod Reports
+pub mod PureRun

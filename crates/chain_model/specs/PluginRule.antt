@@ -1,0 +1,35 @@
+-- A plugin means a rule: functions of the history, with no state. This project's own rule.
+-- The history is the list of all cells that the plugin met before, dropped ones too.
+use Rattle.std.specs.Prelude.{ℕ, List, [], Bool, false}
+use Rattle.ts_packet.specs.declared.cell.Cell.{Cell}
+use Rattle.chain_model.specs.declared.reason.Reason.{Reason}
+
+-- what a plugin does with a live packet
+pub data Fate : Type 0 where
+  -- the list goes on with this packet in the packet's place
+  passes : (packet : List ℕ) → Fate
+  -- the list goes on, and the cell's packet is dropped
+  drops : Fate
+  -- this packet is the last of the list
+  lasts : (packet : List ℕ) → Fate
+  -- the list ends before the packet
+  stops : Fate
+  -- the list ends before the packet, which is refused
+  refuses : (reason : Reason) → Fate
+
+-- what a plugin is: what becomes of a live packet, the lines that it gives at the packet's position,
+-- its summary over a history, and whether it agrees to end behind that history
+pub record PluginRule : Type 0 where
+  pub outcome_of : List Cell → List ℕ → Fate
+  pub lines_of : List Cell → List ℕ → List (List ℕ)
+  pub summary_of : List Cell → List (List ℕ)
+  pub agrees : List Cell → Bool
+
+-- the rule that changes nothing and says nothing: that of the output
+unfoldable pub passing_rule : PluginRule
+passing_rule = record {
+  outcome_of = λ _ packet. passes packet;
+  lines_of = λ _ _. [];
+  summary_of = λ _. [];
+  agrees = λ _. false;
+}

@@ -1,0 +1,74 @@
+-- What a run reports: each plugin's lines and its summary over the cells that count, then the end line.
+-- This project's own rule.
+use Rattle.std.specs.Prelude.{ℕ, zero, suc, List, [], ◌∷◌, ◌++◌, take, codes}
+use Rattle.std.specs.List.{flat_map}
+use Rattle.std.specs.Fmt.{decimal}
+use Rattle.ts_packet.specs.declared.cell.Cell.{Cell}
+use Rattle.ts_packet.specs.declared.cell.Cell.TheVariants.{Live, Dropped}
+use Rattle.chain_model.specs.declared.input_end.InputEnd.{InputEnd}
+use Rattle.chain_model.specs.declared.input_end.InputEnd.TheVariants.{End, Sync, ReadFault, TooLong}
+use Rattle.chain_model.specs.declared.reason.Reason.TheVariants.{Pid}
+use Rattle.chain_model.specs.declared.cause.Cause.{Cause}
+use Rattle.chain_model.specs.declared.cause.Cause.TheVariants.{Input, Joint, Until, Stop, Refuse, WriteFault, NoMemory}
+use Rattle.chain_model.specs.PluginRule.{PluginRule}
+use Rattle.chain_model.specs.Apply.{StageList}
+use Rattle.chain_model.specs.StageLists.{stage_list}
+
+-- the lines that a rule gives on the live cells behind a history, in the order of their positions
+abbrev pub lines_after : PluginRule → List Cell → List Cell → List (List ℕ)
+lines_after rule history [] = []
+lines_after rule history (Live packet ∷ cells) =
+    rule.lines_of history packet ++ lines_after rule (history ++ Live packet ∷ []) cells
+lines_after rule history (Dropped ∷ cells) = lines_after rule (history ++ Dropped ∷ []) cells
+
+-- what a plugin says of the cells that count: its lines, then its summary
+abbrev pub said_of : PluginRule → List Cell → List (List ℕ)
+said_of rule cells = lines_after rule [] cells ++ rule.summary_of cells
+
+-- a line of plugin `j` as it is printed: `[<j>] <name>: <text>`
+abbrev pub plugin_line : ℕ → List ℕ → List ℕ → List ℕ
+plugin_line j name text = codes "[" ++ (decimal j ++ (codes "] " ++ (name ++ (codes ": " ++ (text ++ 10 ∷ [])))))
+
+-- all lines of plugin `j`, joined
+abbrev pub plugin_report : ℕ → List ℕ → List (List ℕ) → List ℕ
+plugin_report j name texts = flat_map (plugin_line j name) texts
+
+-- the reports of plugin `j` and those behind it: each over the first `m` cells of the list that it meets
+abbrev pub reports_from : List PluginRule → StageList → ℕ → ℕ → List PluginRule → List (List ℕ) → List ℕ
+reports_from rules input m j [] names = []
+reports_from rules input m j (rule ∷ rest) [] = []
+reports_from rules input m j (rule ∷ rest) (name ∷ names) =
+    plugin_report (suc j) name (said_of rule (take m (stage_list rules input j).cells))
+    ++ reports_from rules input m (suc j) rest names
+
+-- what is said where bytes are left behind the last whole packet
+abbrev pub left_out : ℕ → List ℕ
+left_out zero = []
+left_out (suc n) = codes ", " ++ (decimal (suc n) ++ codes " bytes left out")
+
+abbrev pub after_packets : ℕ → List ℕ
+after_packets m = codes " after " ++ (decimal m ++ codes " packets")
+
+abbrev pub end_text_of_input : InputEnd → ℕ → List ℕ
+end_text_of_input (End left) m = codes "input" ++ (after_packets m ++ left_out left)
+end_text_of_input (Sync packet) m = codes "lost sync at input packet " ++ (decimal packet ++ after_packets m)
+end_text_of_input ReadFault m = codes "read fault" ++ after_packets m
+end_text_of_input TooLong m = codes "too long" ++ after_packets m
+
+abbrev pub end_text : Cause → ℕ → List ℕ
+end_text (Input how) m = end_text_of_input how m
+end_text Joint m = codes "joint termination" ++ after_packets m
+end_text (Until j) m = codes "until of plugin " ++ (decimal j ++ after_packets m)
+end_text (Stop j) m = codes "plugin " ++ (decimal j ++ (codes " stopped" ++ after_packets m))
+end_text (Refuse j (Pid pid)) m =
+    codes "plugin " ++ (decimal j ++ (codes " refused PID " ++ (decimal pid ++ after_packets m)))
+end_text WriteFault m = codes "write fault" ++ after_packets m
+end_text (NoMemory k) m = codes "no memory" ++ after_packets m
+
+-- the last line of each report; `m` counts positions, dropped ones too
+abbrev pub end_line : Cause → ℕ → List ℕ
+end_line cause m = codes "end: " ++ (end_text cause m ++ 10 ∷ [])
+
+-- what is reported of a run that was cut at `m` for this cause
+abbrev pub reports : List PluginRule → List (List ℕ) → StageList → ℕ → Cause → List ℕ
+reports rules names input m cause = reports_from rules input m 0 rules names ++ end_line cause m

@@ -1,0 +1,6 @@
+pub mod FilterRule
+pub mod FilterState
+pub mod LiveCount
+pub mod SkipRule
+pub mod SliceRule
+pub mod SliceState
