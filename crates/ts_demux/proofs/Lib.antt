@@ -1,0 +1,4 @@
+pub mod Choice
+pub mod Stretching
+pub mod Runs
+pub mod Cutting
