@@ -1,0 +1,6 @@
+pub mod Packet
+pub mod Header
+pub mod Adaptation
+pub mod Pcr
+pub mod Payload
+pub mod Cells

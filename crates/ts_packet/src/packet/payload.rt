@@ -1,0 +1,49 @@
+//! The payload of ISO/IEC 13818-1, 2.4.3.3.
+ghost use Rattle.std.specs.Prelude.{◌≡◌, ◌+◌, ◌≤◌, length, IfSome};
+ghost use Rattle.ts_packet.specs.Packet.{IsPacket};
+ghost use Rattle.ts_packet.specs.Payload.{payload_start_of, payload_of, with_piece};
+
+use super::Packet;
+
+/// The greatest lawful adaptation field with a payload behind it.
+const LENGTH_WITH_PAYLOAD: u8 = 182;
+
+impl Packet {
+    /// The place of the first payload byte, 4 to 187: 4 with no adaptation field, 5 and the field's length
+    /// with a lawful one; else none.
+    #[tactic(auto, unfolding(bit_rows::specs::BitRow::field, bit_rows::specs::BitRow::bit_of, crate::specs::Payload::payload_start_of))]
+    pub fn payload_start(&self) -> Option<u8>
+        ensures place { result ≡ payload_start_of self.now }
+        ensures least { IfSome result (λ place. 4 ≤ place) }
+        ensures most { IfSome result (λ place. place ≤ 187) }
+    {
+        let length = self.row[4];
+        match self.adaptation_control() {
+            1 => Some(4),
+            3 if length <= LENGTH_WITH_PAYLOAD => Some(5 + length),
+            _ => None,
+        }
+    }
+
+    /// The payload bytes: those from `payload_start` on, or none.
+    #[tactic(auto, unfolding(crate::specs::Payload::payload_of))]
+    pub fn payload(&self) -> &[u8]
+        ensures bytes { result.now ≡ payload_of self.now }
+        ensures size { length result.now ≤ 184 }
+    {
+        match self.payload_start() {
+            Some(start) => &self.row[usize::from(start)..],
+            None => &[],
+        }
+    }
+
+    /// Lays a piece over the packet's bytes from `at` on; the header cannot be reached.
+    pub fn put_payload(&mut self, at: u8, piece: &[u8])
+        requires behind_header { 4 ≤ at }
+        requires fits { at + length piece.now ≤ 188 }
+        ensures bytes { self.new ≡ with_piece self.old at piece.now }
+        ensures packet { IsPacket self.new }
+    {
+        self.write_bytes(usize::from(at), piece);
+    }
+}
