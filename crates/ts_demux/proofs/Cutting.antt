@@ -77,8 +77,8 @@ pub IsWhole-to : (b : List ℕ) → IsWhole b → is_whole_in_front b ≡ true
 unfolding is_whole_in_front
 IsWhole-to b w =
     and_true (nat_le 3 (length b)) (not (table_id_of b == 255) && (nat_le (section_length_of b) 4093 && nat_le (size_in_front b) (length b))) (le-leb 3 (length b) w.head)
-        (and_true (not (table_id_of b == 255)) (nat_le (section_length_of b) 4093 && nat_le (size_in_front b) (length b)) (not_false (table_id_of b == 255) w.no_stuffing)
-            (and_true (nat_le (section_length_of b) 4093) (nat_le (size_in_front b) (length b)) (le-leb (section_length_of b) 4093 w.in_range) (le-leb (size_in_front b) (length b) w.there)))
+    (and_true (not (table_id_of b == 255)) (nat_le (section_length_of b) 4093 && nat_le (size_in_front b) (length b)) (not_false (table_id_of b == 255) w.no_stuffing)
+    (and_true (nat_le (section_length_of b) 4093) (nat_le (size_in_front b) (length b)) (le-leb (section_length_of b) 4093 w.in_range) (le-leb (size_in_front b) (length b) w.there)))
 
 -- what is whole in front stays so, whatever comes behind
 pub IsWhole-append : (b x : List ℕ) → IsWhole b → IsWhole (b ++ x)
@@ -96,7 +96,7 @@ IsWhole-append b x w =
 nothing_whole : (b : List ℕ) → length b < 3 → is_whole_in_front b ≡ false
 nothing_whole b h =
     elim (true_or_false (is_whole_in_front b)) as (λ _. is_whole_in_front b ≡ false) [
-      inl e ↦ (let w = IsWhole-from b e in absurd (omega (arith, w.head)))
+      | inl e ↦ (let w = IsWhole-from b e in absurd (omega (arith, w.head)))
       | inr e ↦ e
     ]
 
@@ -121,12 +121,12 @@ cut_at_most-same (suc m) zero b h k =
     let e = nothing_whole b (omega arith) in cut_at_most-stop (suc m) b e ∙ sym (cut_at_most-stop zero b e)
 cut_at_most-same (suc m) (suc n) b h k =
     elim (true_or_false (is_whole_in_front b)) as (λ _. cut_at_most (suc m) b ≡ cut_at_most (suc n) b) [
-      inl e ↦
-        (let rest = drop (size_in_front b) b in
-        let w = IsWhole-from b e in
-        let l : length rest ≤ m = omega (arith, length-drop (size_in_front b) b, w.head) in
-        let r : length rest ≤ n = omega (arith, length-drop (size_in_front b) b, w.head) in
-        cut_at_most-step m b e ∙ ap (λ t. take (size_in_front b) b ∷ t) (cut_at_most-same m n rest l r) ∙ sym (cut_at_most-step n b e))
+      | inl e ↦
+          (let rest = drop (size_in_front b) b in
+          let w = IsWhole-from b e in
+          let l : length rest ≤ m = omega (arith, length-drop (size_in_front b) b, w.head) in
+          let r : length rest ≤ n = omega (arith, length-drop (size_in_front b) b, w.head) in
+          cut_at_most-step m b e ∙ ap (λ t. take (size_in_front b) b ∷ t) (cut_at_most-same m n rest l r) ∙ sym (cut_at_most-step n b e))
       | inr e ↦ cut_at_most-stop (suc m) b e ∙ sym (cut_at_most-stop (suc n) b e)
     ]
 
@@ -143,8 +143,8 @@ cut-step b e =
     let w = IsWhole-from b e in
     let l : length rest ≤ length b = omega (arith, length-drop (size_in_front b) b) in
     cut_at_most-same (length b) (suc (length b)) b (omega arith) (omega arith)
-        ∙ cut_at_most-step (length b) b e
-        ∙ ap (λ t. take (size_in_front b) b ∷ t) (cut_at_most-same (length b) (length rest) rest l (omega arith))
+    ∙ cut_at_most-step (length b) b e
+    ∙ ap (λ t. take (size_in_front b) b ∷ t) (cut_at_most-same (length b) (length rest) rest l (omega arith))
 
 pub sections_in-stop : (b : List ℕ) → is_whole_in_front b ≡ false → sections_in b ≡ []
 unfolding sections_in
@@ -169,11 +169,11 @@ sections_in-step b x e =
 over_stops : (b : List ℕ) → IsOver b → is_whole_in_front b ≡ false
 over_stops b o =
     elim (true_or_false (is_whole_in_front b)) as (λ _. is_whole_in_front b ≡ false) [
-      inl e ↦
-        (let w = IsWhole-from b e in
-        let n = w.no_stuffing in
-        let r = w.in_range in
-        elim o.why as (λ _. is_whole_in_front b ≡ false) [ inl s ↦ cc | inr l ↦ absurd (omega (arith, l.1)) ])
+      | inl e ↦
+          (let w = IsWhole-from b e in
+          let n = w.no_stuffing in
+          let r = w.in_range in
+          elim o.why as (λ _. is_whole_in_front b ≡ false) [ inl s ↦ cc | inr l ↦ absurd (omega (arith, l.1)) ])
       | inr e ↦ e
     ]
 
@@ -183,10 +183,10 @@ over-append b x o =
     record {
       some = omega (arith, length-append b x, o.some);
       why =
-        elim o.why as (λ _. ((table_id_of (b ++ x) == 255) ≡ true) ⊎ ((3 ≤ length (b ++ x)) × (4093 < section_length_of (b ++ x)))) [
-          inl s ↦ inl (rw i s)
-          | inr l ↦ inr (omega (arith, length-append b x, l.0), rw (section_length-append b x l.0) l.1)
-        ];
+          elim o.why as (λ _. ((table_id_of (b ++ x) == 255) ≡ true) ⊎ ((3 ≤ length (b ++ x)) × (4093 < section_length_of (b ++ x)))) [
+            | inl s ↦ inl (rw i s)
+            | inr l ↦ inr (omega (arith, length-append b x, l.0), rw (section_length-append b x l.0) l.1)
+          ];
     }
 
 pub sections_in-over : (b x : List ℕ) → IsOver b → sections_in (b ++ x) ≡ []
@@ -196,11 +196,11 @@ sections_in-over b x o = sections_in-stop (b ++ x) (over_stops (b ++ x) (over-ap
 pub unfinished_is_short : (b : List ℕ) → is_whole_in_front b ≡ false → IsAlive b → length b ≤ 4095
 unfinished_is_short b e a =
     elim (nat_le_cases 3 (length b)) as (λ _. length b ≤ 4095) [
-      inl h ↦
-        elim (nat_le_cases (size_in_front b) (length b)) as (λ _. length b ≤ 4095) [
-          inl t ↦ (let w = IsWhole-to b (record { head = h; no_stuffing = a.no_stuffing (omega arith); in_range = a.in_range h; there = t }) in cc)
-          | inr t ↦ omega (arith, a.in_range h)
-        ]
+      | inl h ↦
+          elim (nat_le_cases (size_in_front b) (length b)) as (λ _. length b ≤ 4095) [
+            | inl t ↦ (let w = IsWhole-to b (record { head = h; no_stuffing = a.no_stuffing (omega arith); in_range = a.in_range h; there = t }) in cc)
+            | inr t ↦ omega (arith, a.in_range h)
+          ]
       | inr h ↦ omega arith
     ]
 
@@ -214,7 +214,7 @@ short_is_not_whole b h = nothing_whole b h
 pub part_is_not_whole : (b : List ℕ) → length b < size_in_front b → is_whole_in_front b ≡ false
 part_is_not_whole b h =
     elim (true_or_false (is_whole_in_front b)) as (λ _. is_whole_in_front b ≡ false) [
-      inl e ↦ (let w = IsWhole-from b e in absurd (omega (arith, w.there)))
+      | inl e ↦ (let w = IsWhole-from b e in absurd (omega (arith, w.there)))
       | inr e ↦ e
     ]
 

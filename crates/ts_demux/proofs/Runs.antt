@@ -104,8 +104,8 @@ pub following-plain :
     following counter (p ∷ ps) ≡ body_of p ++ following p.counter ps
 following-plain counter p ps g l e =
     if_true (goes_on counter (p ∷ ps)) (first_lead (continuous_runs (p ∷ ps))) [] g
-        ∙ ap first_lead (runs-lawful p ps l)
-        ∙ lead_choose_plain (goes_on p.counter ps) p (continuous_runs ps) e
+    ∙ ap first_lead (runs-lawful p ps l)
+    ∙ lead_choose_plain (goes_on p.counter ps) p (continuous_runs ps) e
 
 -- a part with unit start ends what goes on at its pointed place
 pub following-unit :
@@ -114,8 +114,8 @@ pub following-unit :
     following counter (p ∷ ps) ≡ take (pointer_of p) (body_of p)
 following-unit counter p ps g l e h =
     if_true (goes_on counter (p ∷ ps)) (first_lead (continuous_runs (p ∷ ps))) [] g
-        ∙ ap first_lead (runs-lawful p ps l)
-        ∙ lead_choose_unit (goes_on p.counter ps) p (continuous_runs ps) e h
+    ∙ ap first_lead (runs-lawful p ps l)
+    ∙ lead_choose_unit (goes_on p.counter ps) p (continuous_runs ps) e h
 
 -- nothing goes on over a jump or a lawless part
 pub following-stops : (counter : ℕ) (ps : List Part) → goes_on counter ps ≡ false → following counter ps ≡ []

@@ -73,7 +73,7 @@ lead-plain p ps e =
     let body = body_of p in
     let places = pointed_places 0 ps in
     let f : first_or (pointed_places 0 (p ∷ ps)) (length (joined (p ∷ ps))) ≡ length body + first_or places (length (joined ps)) =
-        rw (places-plain p ps e, length-append body (joined ps)) (first_or-map (length body) places (length (joined ps))) in
+    rw (places-plain p ps e, length-append body (joined ps)) (first_or-map (length body) places (length (joined ps))) in
     ap (λ n. take n (joined (p ∷ ps))) f ∙ take-append-add body (joined ps) (first_or places (length (joined ps)))
 
 pub lead-unit :
@@ -98,7 +98,7 @@ stretches-unit p ps e h =
     let places = pointed_places 0 ps in
     let behind = map (λ i. length body + i) places in
     let a : first_or behind (length (body ++ rest)) ≡ length body + first_or places (length rest) =
-        rw (length-append body rest) (first_or-map (length body) places (length rest)) in
+    rw (length-append body rest) (first_or-map (length body) places (length rest)) in
     let b : slice_range (body ++ rest) (pointer_of p) (first_or behind (length (body ++ rest))) ≡ drop (pointer_of p) body ++ lead ps =
-        rw a (slice_range-across body rest (pointer_of p) (first_or places (length rest)) h) in
+    rw a (slice_range-across body rest (pointer_of p) (first_or places (length rest)) h) in
     ap (ranges (joined (p ∷ ps))) (places-unit p ps e) ∙ rw (b, ranges-map body rest places) refl

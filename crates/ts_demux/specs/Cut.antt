@@ -12,7 +12,7 @@ size_in_front b = 3 + section_length_of b
 unfoldable pub is_whole_in_front : List ℕ → Bool
 is_whole_in_front b =
     nat_le 3 (length b)
-        && (not (table_id_of b == 255) && (nat_le (section_length_of b) 4093 && nat_le (size_in_front b) (length b)))
+    && (not (table_id_of b == 255) && (nat_le (section_length_of b) 4093 && nat_le (size_in_front b) (length b)))
 
 -- at most so many pieces
 unfoldable pub cut_at_most : ℕ → List ℕ → List (List ℕ)

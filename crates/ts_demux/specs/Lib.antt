@@ -1,6 +1,11 @@
 pub mod Part
+pub mod CountedPackets
 pub mod ContinuousRuns
 pub mod Stretches
 pub mod Cut
 pub mod SectionsOfParts
+pub mod SectionsOfPid
+pub mod DemuxState
+pub mod Counters
 pub mod Pieces
+pub mod Reader

@@ -2,4 +2,8 @@
 //! The layer above rests on `Demux::feed`: handed out and waiting is the definition's list of all packets fed.
 #![tactic(auto)]
 
+mod demux;
 mod pieces;
+mod reader;
+
+pub use demux::Demux;

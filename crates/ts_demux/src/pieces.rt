@@ -21,9 +21,37 @@ const MOST_LENGTH: usize = 4093;
 /// The byte that stands in the place of a table_id where stuffing begins.
 const STUFFING: u8 = 0xFF;
 
+/// Cuts the whole pieces off the front of unfinished bytes and lets the lawful sections among them wait.
+/// Answers whether nothing more comes of what is left, whatever follows it.
+pub(crate) fn cut_off(
+    unfinished: &mut Vec<u8>,
+    waiting: &mut VecDeque<Section>,
+) -> Result<bool, AllocError>
+    ensures not_whole { OnOk result (is_whole_in_front unfinished.new.items ≡ false) }
+    ensures over { IfOk result (λ over. over ≡ true → IsOver unfinished.new.items) }
+    ensures alive { IfOk result (λ over. over ≡ false → IsAlive unfinished.new.items) }
+    ensures sections { OnOk result ((more : List ℕ) →
+        waiting.old.items ++ sections_in (unfinished.old.items ++ more)
+        ≡ waiting.new.items ++ sections_in (unfinished.new.items ++ more)) }
+    ensures grows { OnOk result (length waiting.old.items ≤ length waiting.new.items) }
+{
+    let alloc = *unfinished.allocator();
+    let at = cut_pieces(alloc, unfinished.as_slice(), waiting)?;
+    drop_front(unfinished, at);
+    Ok(is_over(unfinished.as_slice()))
+}
+
+/// Drops the first bytes.
+fn drop_front(bytes: &mut Vec<u8>, count: usize)
+    requires { count ≤ length bytes.old.items }
+    ensures { bytes.new.items ≡ drop count bytes.old.items }
+{
+    bytes.drain(..count);
+}
+
 /// Cuts off the whole pieces in front and lets the lawful sections among them wait.
 /// Answers how many bytes they had.
-pub(crate) fn cut_pieces(
+fn cut_pieces(
     alloc: Global,
     bytes: &[u8],
     waiting: &mut VecDeque<Section>,
@@ -32,7 +60,7 @@ pub(crate) fn cut_pieces(
     ensures no_more { IfOk result (λ at. is_whole_in_front (drop at bytes.now) ≡ false) }
     ensures sections { IfOk result (λ at. (more : List ℕ) →
         waiting.old.items ++ sections_in (bytes.now ++ more)
-            ≡ waiting.new.items ++ sections_in (drop at bytes.now ++ more)) }
+        ≡ waiting.new.items ++ sections_in (drop at bytes.now ++ more)) }
     ensures grows { OnOk result (length waiting.old.items ≤ length waiting.new.items) }
 {
     let mut at = 0;
@@ -45,7 +73,7 @@ pub(crate) fn cut_pieces(
 
 /// Whether nothing more comes of these bytes, whatever follows them: they begin with stuffing or with
 /// a section_length that is too great.
-pub(crate) fn is_over(bytes: &[u8]) -> bool
+fn is_over(bytes: &[u8]) -> bool
     ensures over { result ≡ true → IsOver bytes.now }
     ensures alive { result ≡ false → IsAlive bytes.now }
 {
@@ -71,7 +99,11 @@ fn whole_in_front(bytes: &[u8]) -> Option<usize>
         return None;
     }
     let size = HEAD + section_length(bytes);
-    if size <= bytes.len() { Some(size) } else { None }
+    if size <= bytes.len() {
+        Some(size)
+    } else {
+        None
+    }
 }
 
 /// Lets a piece wait if it is a lawful section.
