@@ -6,6 +6,10 @@ pub mod Cut
 pub mod SectionsOfParts
 pub mod SectionsOfPid
 pub mod DemuxState
+pub mod Tables
+pub mod Keys
+pub mod Era
+pub mod AssemblyState
 pub mod Counters
 pub mod Pieces
 pub mod Reader

@@ -2,8 +2,12 @@
 //! The layer above rests on `Demux::feed`: handed out and waiting is the definition's list of all packets fed.
 #![tactic(auto)]
 
+mod assembly;
 mod demux;
+mod era;
 mod pieces;
 mod reader;
+mod table_key;
 
+pub use assembly::Assembly;
 pub use demux::Demux;
