@@ -3,8 +3,7 @@
 ghost use Rattle.std.specs.Prelude.{◌≡◌};
 ghost use Rattle.ts_section.specs.Crc as crc;
 
-/// The polynomial without its highest place.
-const POLYNOMIAL: u32 = 0x04C1_1DB7;
+use crate::crc_table::crc_entry;
 
 /// The CRC_32 of `bytes` (ISO/IEC 13818-1, Annex A): start 0xFFFFFFFF, highest bit first, no final
 /// inversion. Over a whole long section it is 0. Takes no memory.
@@ -13,14 +12,8 @@ pub fn crc_of(bytes: &[u8]) -> u32
 {
     let mut register = u32::MAX;
     for byte in bytes {
-        register ^= u32::from(*byte) << 24;
-        for _ in 0..8 {
-            register = if register >> 31 == 1 {
-                (register << 1) ^ POLYNOMIAL
-            } else {
-                register << 1
-            };
-        }
+        let entry = crc_entry((register >> 24) as u8 ^ *byte);
+        register = (register << 8) ^ entry;
     }
     register
 }

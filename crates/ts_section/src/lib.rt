@@ -3,6 +3,7 @@
 #![tactic(auto)]
 
 mod crc;
+mod crc_table;
 mod fault;
 mod long_head;
 mod section;

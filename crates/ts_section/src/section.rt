@@ -1,11 +1,11 @@
 //! One lawful section.
 
-ghost use Rattle.std.specs.Prelude.{◌≡◌, ◌≢◌, ◌<◌, ◌≤◌, ◌+◌, length, IfOk, IfSome, IfNone, IsOk, IsOkUnless};
+ghost use Rattle.std.specs.Prelude.{◌≡◌, ◌≢◌, ◌<◌, ◌≤◌, ◌+◌, length, IfOk, IfSome, IfNone, IsOkUnless};
 ghost use Rattle.ts_section.specs.SectionFields.{table_id_of, head_of, body_of};
 ghost use Rattle.ts_section.specs.SectionFields as fields;
 ghost use Rattle.ts_section.specs.LawfulSection.{IsSection};
-ghost use Rattle.ts_section.specs.FirstBroken.{first_broken};
-ghost use Rattle.ts_section.specs.WrittenSection.{IsLongSectionOf, IsShortSectionOf};
+ghost use Rattle.ts_section.specs.FirstBroken.{first_broken, first_broken_long};
+ghost use Rattle.ts_section.specs.WrittenSection.{AreFirstBytes, AreLongBytes, IsLongSectionOf, IsShortSectionOf};
 
 use crate::crc::crc_of;
 use crate::fault::{SectionFault, SectionRule};
@@ -14,7 +14,7 @@ use std::alloc::{AllocError, Global};
 use std::marker::Model;
 
 /// The most that section_length may be.
-const MOST_LENGTH: usize = 4093;
+const MOST_LENGTH: u16 = 4093;
 
 /// The bytes up to and with section_length.
 const SHORT_HEAD: usize = 3;
@@ -52,7 +52,9 @@ impl Section {
         ensures lawful { IfOk result (λ s. IsSection s) }
         ensures every_section { IsSection from.now → IsOkUnless result SectionFault.NoMemory }
     {
-        check(from)?;
+        if let Some(fault) = first_fault(from) {
+            return Err(fault);
+        }
         let Ok(bytes) = Vec::from_slice(alloc, from) else {
             return Err(SectionFault::NoMemory);
         };
@@ -67,12 +69,10 @@ impl Section {
         requires room { length body.now ≤ 4084 }
         ensures { IfOk result (λ s. IsLongSectionOf head body.now s) }
     {
-        let mut bytes = Vec::with_capacity(alloc, LONG_HEAD + body.len() + CRC_SIZE)?;
-        let after = LONG_HEAD - SHORT_HEAD + body.len() + CRC_SIZE;
-        bytes.extend_from_slice(&first_bytes(head.table_id, true, head.private, after as u16))?;
-        bytes.extend_from_slice(&head.extension.to_be_bytes())?;
-        let current = u8::from(head.current);
-        bytes.extend_from_slice(&[0xC0 | (head.version << 1) | current, head.number, head.last])?;
+        let length = LONG_HEAD - SHORT_HEAD + body.len() + CRC_SIZE;
+        let mut bytes = Vec::with_capacity(alloc, SHORT_HEAD + length)?;
+        bytes.extend_from_slice(&first_bytes(head.table_id, true, head.private, length as u16))?;
+        bytes.extend_from_slice(&long_bytes(head))?;
         bytes.extend_from_slice(body)?;
         let crc = crc_of(&bytes);
         bytes.extend_from_slice(&crc.to_be_bytes())?;
@@ -109,7 +109,8 @@ impl Section {
         ensures id { result ≡ table_id_of self.now }
         ensures lawful { IsSection self.now }
     {
-        self.bytes[0]
+        let b = self.bytes.as_slice();
+        b[0]
     }
 
     /// Whether the section is of the long form.
@@ -125,19 +126,8 @@ impl Section {
         ensures head { result ≡ head_of self.now }
         ensures lawful { IsSection self.now }
     {
-        if !is_long(&self.bytes) {
-            return None;
-        }
         let b = self.bytes.as_slice();
-        Some(LongHead {
-            table_id: b[0],
-            private: (b[1] >> 6) & 1 == 1,
-            extension: u16::from_be_bytes([b[3], b[4]]),
-            version: (b[5] >> 1) & 0x1F,
-            current: b[5] & 1 == 1,
-            number: b[6],
-            last: b[7],
-        })
+        if is_long(b) { Some(long_head(b)) } else { None }
     }
 
     /// The bytes between the head and the CRC, in the short form those behind section_length.
@@ -170,77 +160,114 @@ fn is_long(bytes: &[u8]) -> bool
     bytes[1] >> 7 == 1
 }
 
+/// The head of a section of the long form.
+fn long_head(b: &[u8]) -> LongHead
+    requires { LONG_HEAD ≤ length b.now }
+    ensures { result ≡ fields.head_fields b.now }
+{
+    LongHead {
+        table_id: b[0],
+        private: (b[1] >> 6) & 1 == 1,
+        extension: u16::from_be_bytes([b[3], b[4]]),
+        version: (b[5] >> 1) & 0x1F,
+        current: b[5] & 1 == 1,
+        number: b[6],
+        last: b[7],
+    }
+}
+
 /// The section_length of bytes that begin a section.
 fn section_length(bytes: &[u8]) -> u16
     requires { 3 ≤ length bytes.now }
     ensures { result ≡ fields.section_length_of bytes.now }
 {
-    u16::from(bytes[1] & 0x0F) << 8 | u16::from(bytes[2])
+    u16::from_be_bytes([bytes[1] & 0x0F, bytes[2]])
 }
 
 /// The first broken rule, if one is broken.
-fn check(bytes: &[u8]) -> Result<(), SectionFault>
-    ensures refused { IfSome (first_broken bytes.now) (λ fault. result ≡ Err fault) }
-    ensures accepted { IfNone (first_broken bytes.now) (IsOk result) }
+fn first_fault(bytes: &[u8]) -> Option<SectionFault>
+    ensures { result ≡ first_broken bytes.now }
 {
     let found = bytes.len();
     if found < SHORT_HEAD {
-        return Err(SectionFault::Short {
+        return Some(SectionFault::Short {
             wanted: SHORT_HEAD,
             found,
         });
     }
     if bytes[0] == 0xFF {
-        return Err(SectionFault::Lawless {
+        return Some(SectionFault::Lawless {
             rule: SectionRule::Stuffing,
         });
     }
     let length = section_length(bytes);
-    if usize::from(length) > MOST_LENGTH {
-        return Err(SectionFault::TooLong { length });
+    if length > MOST_LENGTH {
+        return Some(SectionFault::TooLong { length });
     }
     let wanted = SHORT_HEAD + usize::from(length);
     if found < wanted {
-        return Err(SectionFault::Short { wanted, found });
+        return Some(SectionFault::Short { wanted, found });
     }
     if wanted < found {
-        return Err(SectionFault::Lawless {
+        return Some(SectionFault::Lawless {
             rule: SectionRule::Trailing,
         });
     }
     if is_long(bytes) {
-        check_long(bytes)
+        first_fault_long(bytes)
     } else {
-        Ok(())
+        None
     }
 }
 
-/// The first broken rule of the long form's own, for bytes that are as many as section_length says.
-fn check_long(bytes: &[u8]) -> Result<(), SectionFault> {
+/// The first broken rule of the long form's own.
+fn first_fault_long(bytes: &[u8]) -> Option<SectionFault>
+    requires { length bytes.now ≡ 3 + fields.section_length_of bytes.now }
+    ensures { result ≡ first_broken_long bytes.now }
+{
     if bytes.len() < LONG_HEAD + CRC_SIZE {
-        return Err(SectionFault::Lawless {
+        return Some(SectionFault::Lawless {
             rule: SectionRule::ShortLong,
         });
     }
     if bytes[7] < bytes[6] {
-        return Err(SectionFault::Lawless {
+        return Some(SectionFault::Lawless {
             rule: SectionRule::Numbers,
         });
     }
     let (before, last) = bytes.split_at(bytes.len() - CRC_SIZE);
     let wanted = crc_of(before);
     let found = u32::from_be_bytes([last[0], last[1], last[2], last[3]]);
-    if found != wanted {
-        return Err(SectionFault::BadCrc { wanted, found });
+    if wanted == found {
+        return None;
     }
-    Ok(())
+    Some(SectionFault::BadCrc { wanted, found })
 }
 
 /// The first three bytes of a section; `length` is its section_length.
 fn first_bytes(table_id: u8, long: bool, private: bool, length: u16) -> [u8; 3]
     requires { length < 4096 }
+    ensures { AreFirstBytes table_id long «private» length result }
 {
-    let flags = u8::from(long) << 7 | u8::from(private) << 6;
     let [high, low] = length.to_be_bytes();
-    [table_id, flags | 0x30 | high, low]
+    [
+        table_id,
+        (u8::from(long) << 7) | (u8::from(private) << 6) | 0x30 | high,
+        low,
+    ]
+}
+
+/// The bytes of a long head behind section_length.
+fn long_bytes(head: LongHead) -> [u8; 5]
+    requires { head.version < 32 }
+    ensures { AreLongBytes head result }
+{
+    let [high, low] = head.extension.to_be_bytes();
+    [
+        high,
+        low,
+        0xC0 | (head.version << 1) | u8::from(head.current),
+        head.number,
+        head.last,
+    ]
 }

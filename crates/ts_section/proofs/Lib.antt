@@ -1,0 +1,6 @@
+mod Division
+mod CrcLemmas
+mod HeadBytes
+mod RuleLemmas
+mod WrittenLemmas
+mod TableLemmas
