@@ -8,6 +8,7 @@ pub mod SectionsOfPid
 pub mod DemuxState
 pub mod Tables
 pub mod Keys
+pub mod Firsts
 pub mod Era
 pub mod AssemblyState
 pub mod Counters

@@ -1,6 +1,13 @@
 //! Sections in, tables out.
 
-ghost use Rattle.std.specs.Prelude.{◌≡◌, ℕ, ◌++◌, ◌∷◌, [], List, true, IfOk, OnOk, OnErr, IsErr};
+ghost use Rattle.std.specs.Prelude.{◌≡◌, ℕ, ◌++◌, ◌∷◌, [], List, true, false, IfOk, OnOk, OnErr, IsErr};
+
+ghost use Rattle.indexmap.specs.IndexMap.{get};
+ghost use Rattle.ts_section.specs.SectionFields.{number_of, version_of, last_number_of};
+ghost use Rattle.ts_demux.specs.Keys.{key_eq};
+ghost use Rattle.ts_demux.specs.declared.table_key.TableKey.{TableKey};
+ghost use Rattle.ts_demux.specs.Era.{HasEra, EntryStands, EraStands, AllBelong};
+ghost use Rattle.ts_demux.specs.Tables.{completed};
 
 use crate::era::Era;
 use crate::table_key::TableKey;
@@ -8,13 +15,16 @@ use indexmap::IndexMap;
 use std::alloc::{AllocError, Global};
 use ts_section::{LongHead, Section, TableRun};
 
+/// The eras of the keys, in the order in which the keys were first seen.
+type Eras = IndexMap<TableKey, Era>;
+
 /// Puts sections together to tables. A short section and an EIT section are each a table at once; the other
 /// sections of a table_id, an extension and a current flag fall into eras, and a new era begins where the version
 /// or the last number changes. An era's table is given once, at the first section after which each number from
 /// 0 to the last was seen, and has the first section of each number.
 #[derive(Drop)]
 pub struct Assembly {
-    eras: IndexMap<TableKey, Era>,
+    eras: Eras,
     failed: bool,
 }
 
@@ -55,14 +65,45 @@ impl Assembly {
             return Ok(TableRun::of(vec![in alloc; section]?).ok());
         };
         let key = TableKey::of(&head);
-        if !goes_on(self.eras.get(&key), &head) {
-            let era = Era::new(alloc, head.version, head.last)?;
-            self.eras.insert(key, era)?;
-        }
-        match self.eras.get_mut(&key) {
-            Some(era) => era.add(alloc, head.number, section),
-            None => Ok(None),
-        }
+        begin_era(&mut self.eras, key, &head)?;
+        add_to_era(&mut self.eras, key, head.number, section)
+    }
+}
+
+/// Sees that the entry of the key is the era that a section with this head goes on with.
+fn begin_era(eras: &mut Eras, key: TableKey, head: &LongHead) -> Result<(), AllocError>
+    ensures has_era { OnOk result (HasEra (get key_eq eras.new key) head.now.version head.now.last) }
+    ensures stands { OnOk result ((sections : List (List ℕ)) →
+        EntryStands (get key_eq eras.old key) head.now.version head.now.last sections → EraStands (get key_eq eras.new key) sections) }
+    ensures others { OnOk result ((other : TableKey) → key_eq key other ≡ false → get key_eq eras.new other ≡ get key_eq eras.old other) }
+{
+    if !goes_on(eras.get(&key), head) {
+        let era = Era::new(*eras.allocator(), head.version, head.last)?;
+        eras.insert(key, era)?;
+    }
+    Ok(())
+}
+
+/// Takes the next section of the era of a key.
+fn add_to_era(
+    eras: &mut Eras,
+    key: TableKey,
+    number: u8,
+    section: Section,
+) -> Result<Option<TableRun>, AllocError>
+    requires number { number ≡ number_of section }
+    requires has_era { HasEra (get key_eq eras.old key) (version_of section) (last_number_of section) }
+    ensures has_era { OnOk result (HasEra (get key_eq eras.new key) (version_of section) (last_number_of section)) }
+    ensures stands { OnOk result ((sections : List (List ℕ)) →
+        EraStands (get key_eq eras.old key) sections → EraStands (get key_eq eras.new key) (sections ++ section ∷ [])) }
+    ensures table { IfOk result (λ table. (sections : List (List ℕ)) →
+        EraStands (get key_eq eras.old key) sections → AllBelong section sections → table ≡ completed sections section) }
+    ensures others { OnOk result ((other : TableKey) → key_eq key other ≡ false → get key_eq eras.new other ≡ get key_eq eras.old other) }
+{
+    let alloc = *eras.allocator();
+    match eras.get_mut(&key) {
+        Some(era) => era.add(alloc, number, section),
+        None => Ok(None),
     }
 }
 

@@ -1,7 +1,9 @@
 //! The sections of one key since its last change of version or last number.
 
-ghost use Rattle.std.specs.Prelude.{◌≡◌, ℕ, ◌+◌, ◌==◌, ◌&&◌, ◌++◌, ◌∷◌, [], List, true, false, None, length, replicate, is_some, IfOk, OnOk};
+ghost use Rattle.std.specs.Prelude.{◌≡◌, ℕ, ◌+◌, ◌==◌, ◌&&◌, ◌++◌, ◌∷◌, [], List, None, replicate, is_some, IfOk, OnOk};
 ghost use Rattle.std.specs.List.{list_all, filter_map};
+ghost use Rattle.ts_section.specs.SectionFields.{number_of, last_number_of};
+ghost use Rattle.ts_demux.specs.Firsts.{with_first};
 
 use std::alloc::{AllocError, Global};
 use std::mem;
@@ -17,7 +19,7 @@ pub(crate) struct Era {
 }
 
 impl Era {
-    ghost use Rattle.ts_demux.specs.Era.{IsEra};
+    ghost use Rattle.ts_demux.specs.Era.{IsEra, AllBelong};
     ghost use Rattle.ts_demux.specs.Tables.{completed};
 
     /// An era that has no section yet.
@@ -26,10 +28,7 @@ impl Era {
         ensures last { IfOk result (λ era. era.last ≡ last) }
         ensures fresh { IfOk result (λ era. IsEra era []) }
     {
-        let mut firsts = Vec::new(alloc);
-        for _ in 0..=last {
-            firsts.push(None)?;
-        }
+        let firsts = none_of(alloc, usize::from(last) + 1)?;
         Ok(Era {
             version,
             last,
@@ -51,33 +50,60 @@ impl Era {
         alloc: Global,
         number: u8,
         section: Section,
-    ) -> Result<Option<TableRun>, AllocError> {
+    ) -> Result<Option<TableRun>, AllocError>
+        requires number { number ≡ number_of section }
+        requires last { self.old.last ≡ last_number_of section }
+        ensures version { OnOk result (self.new.version ≡ self.old.version) }
+        ensures last { OnOk result (self.new.last ≡ self.old.last) }
+        ensures era { OnOk result ((sections : List (List ℕ)) →
+            IsEra self.old sections → IsEra self.new (sections ++ section ∷ [])) }
+        ensures table { IfOk result (λ table. (sections : List (List ℕ)) →
+            IsEra self.old sections → AllBelong section sections → table ≡ completed sections section) }
+    {
         if self.given {
             return Ok(None);
         }
-        if let Some(first) = self.firsts.get_mut(usize::from(number)) {
-            if first.is_none() {
-                *first = Some(section);
-            }
-        }
-        if !self.firsts.iter().all(|first| first.is_some()) {
+        keep_first(&mut self.firsts, usize::from(number), section);
+        if !are_all_there(&self.firsts) {
             return Ok(None);
         }
         self.given = true;
         let firsts = mem::replace(&mut self.firsts, Vec::new(alloc));
-        Ok(TableRun::of(all_of(alloc, firsts)?).ok())
+        let sections = all_of(alloc, firsts)?;
+        Ok(TableRun::of(sections).ok())
     }
 }
 
-/// The values that are there.
+/// Places without section.
+fn none_of(alloc: Global, count: usize) -> Result<Vec<Option<Section>>, AllocError>
+    ensures { IfOk result (λ firsts. firsts.items ≡ replicate count None) }
+{
+    let mut firsts = Vec::new(alloc);
+    for _ in 0..count {
+        firsts.push(None)?;
+    }
+    Ok(firsts)
+}
+
+/// Keeps a section at its place, if none is there before it.
+fn keep_first(firsts: &mut Vec<Option<Section>>, place: usize, section: Section)
+    ensures { firsts.new.items ≡ with_first place section firsts.old.items }
+{
+    if place < firsts.len() && firsts[place].is_none() {
+        firsts[place] = Some(section);
+    }
+}
+
+/// Whether each place has its section.
+fn are_all_there(firsts: &[Option<Section>]) -> bool
+    ensures { result ≡ list_all is_some firsts.now }
+{
+    firsts.iter().all(|first| first.is_some())
+}
+
+/// The sections that are there.
 fn all_of(alloc: Global, firsts: Vec<Option<Section>>) -> Result<Vec<Section>, AllocError>
     ensures { IfOk result (λ all. all.items ≡ filter_map (λ first. first) firsts.items) }
 {
-    let mut all = Vec::new(alloc);
-    for first in firsts {
-        if let Some(section) = first {
-            all.push(section)?;
-        }
-    }
-    Ok(all)
+    firsts.into_iter().filter_map(|first| first).collect(alloc)
 }
