@@ -6,3 +6,6 @@ pub mod Remembering
 pub mod Little
 pub mod Taking
 pub mod Feeding
+pub mod FirstsLemmas
+pub mod WholeEra
+pub mod EraEntries

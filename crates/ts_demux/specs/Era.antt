@@ -1,6 +1,6 @@
 -- What the era of a key keeps, and which sections it stands for.
 -- This project's own rule.
-use Rattle.std.specs.Prelude.{◌≡◌, ℕ, ◌==◌, ◌&&◌, false, List, [], ◌∷◌, ◌++◌, All, Option, Some, None}
+use Rattle.std.specs.Prelude.{◌≡◌, ℕ, ◌==◌, ◌&&◌, Bool, false, List, [], ◌∷◌, ◌++◌, All, Option, Some, None}
 use Rattle.ts_section.specs.SectionFields.{table_id_of, extension_of, version_of, current_of, last_number_of}
 use Rattle.ts_section.specs.SectionRun.{stands_alone}
 use Rattle.ts_demux.specs.Tables.{firsts, is_complete}
@@ -32,6 +32,11 @@ EntryStands None version last sections = sections ≡ []
 EntryStands (Some era) version last sections =
     (era.version ≡ version → era.last ≡ last → IsEra era sections)
         × (((era.version == version) && (era.last == last)) ≡ false → sections ≡ [])
+
+-- whether the entry of a key is an era of this version and last number
+abbrev pub entry_goes_on : Option Era → ℕ → ℕ → Bool
+entry_goes_on None version last = false
+entry_goes_on (Some era) version last = (era.version == version) && (era.last == last)
 
 -- the entry of a key is an era of this version and last number
 abbrev pub HasEra : Option Era → ℕ → ℕ → Type 0

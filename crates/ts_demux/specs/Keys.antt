@@ -1,6 +1,7 @@
 -- The keys of sections.
 -- This project's own rule: sections of one table_id, extension and current_next_indicator are kept together.
-use Rattle.std.specs.Prelude.{ℕ, ◌==◌, Bool, true, false, not, ◌&&◌, List}
+use Rattle.std.specs.Prelude.{ℕ, ◌==◌, Bool, ◌&&◌, List}
+use Rattle.std.specs.Bool.{beq}
 use Rattle.ts_section.specs.SectionFields.{head_fields}
 use Rattle.ts_section.specs.declared.long_head.LongHead.{LongHead}
 use Rattle.ts_demux.specs.declared.table_key.TableKey.{TableKey}
@@ -13,11 +14,6 @@ key_of_head head = record { table_id = head.table_id; extension = head.extension
 abbrev pub key_of : List ℕ → TableKey
 key_of s = key_of_head (head_fields s)
 
--- whether two flags are equal
-abbrev pub same_flag : Bool → Bool → Bool
-same_flag true b = b
-same_flag false b = not b
-
 -- whether two keys are equal
 abbrev pub key_eq : TableKey → TableKey → Bool
-key_eq a b = (a.table_id == b.table_id) && ((a.extension == b.extension) && same_flag a.current b.current)
+key_eq a b = (a.table_id == b.table_id) && ((a.extension == b.extension) && beq a.current b.current)

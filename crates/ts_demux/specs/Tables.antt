@@ -4,15 +4,15 @@
 use Rattle.std.specs.Prelude.{ℕ, ◌+◌, ◌==◌, Bool, not, ◌&&◌, List, [], ◌∷◌, ◌++◌, map, reverse, filter, find, take_while, Option, Some, None, is_some, if◌then◌else◌}
 use Rattle.std.specs.List.{filter_map, list_all, range_with_len}
 use Rattle.std.specs.Option.{option_to_list}
-use Rattle.bit_rows.specs.BitRow.{bit_of}
-use Rattle.ts_section.specs.SectionFields.{table_id_of, extension_of, version_of, number_of, last_number_of}
+use Rattle.std.specs.Bool.{beq}
+use Rattle.ts_section.specs.SectionFields.{table_id_of, extension_of, version_of, current_of, number_of, last_number_of}
 use Rattle.ts_section.specs.SectionRun.{stands_alone}
 
 -- whether a section is of the key of `s`: the same table_id, extension and current_next_indicator, and no table by itself
 abbrev pub same_key : List ℕ → List ℕ → Bool
 same_key s x =
     not (stands_alone x)
-    && ((table_id_of x == table_id_of s) && ((extension_of x == extension_of s) && (bit_of x 47 == bit_of s 47)))
+    && ((table_id_of x == table_id_of s) && ((extension_of x == extension_of s) && beq (current_of x) (current_of s)))
 
 -- whether a section has the version and the last number of `s`
 abbrev pub same_era : List ℕ → List ℕ → Bool

@@ -6,7 +6,8 @@ ghost use Rattle.indexmap.specs.IndexMap.{get};
 ghost use Rattle.ts_section.specs.SectionFields.{number_of, version_of, last_number_of};
 ghost use Rattle.ts_demux.specs.Keys.{key_eq};
 ghost use Rattle.ts_demux.specs.declared.table_key.TableKey.{TableKey};
-ghost use Rattle.ts_demux.specs.Era.{HasEra, EntryStands, EraStands, AllBelong};
+ghost use Rattle.ts_demux.specs.Era.{HasEra, EntryStands, EraStands, AllBelong, entry_goes_on};
+ghost use Rattle.std.specs.Option.{option_copied};
 ghost use Rattle.ts_demux.specs.Tables.{completed};
 
 use crate::era::Era;
@@ -115,7 +116,9 @@ fn head_of_many(section: &Section) -> Option<LongHead> {
 }
 
 /// Whether a section with this head goes on with the era of its key.
-fn goes_on(era: Option<&Era>, head: &LongHead) -> bool {
+fn goes_on(era: Option<&Era>, head: &LongHead) -> bool
+    ensures { result ≡ entry_goes_on (option_copied era.entry) head.now.version head.now.last }
+{
     match era {
         Some(era) => era.has(head),
         None => false,
