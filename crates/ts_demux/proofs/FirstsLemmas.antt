@@ -38,7 +38,7 @@ module _ {X : Type 0} where
   find-push test [] x e = if_true (test x) (Some x) None e
   find-push test (y ∷ xs) x e =
       elim (true_or_false (test y)) as (λ _. find test ((y ∷ xs) ++ x ∷ []) ≡ or_this (find test (y ∷ xs)) x) [
-        inl t ↦ if_true (test y) (Some y) (find test (xs ++ x ∷ [])) t ∙ ap (λ o. or_this o x) (sym (if_true (test y) (Some y) (find test xs) t))
+        | inl t ↦ if_true (test y) (Some y) (find test (xs ++ x ∷ [])) t ∙ ap (λ o. or_this o x) (sym (if_true (test y) (Some y) (find test xs) t))
         | inr f ↦ if_false (test y) (Some y) (find test (xs ++ x ∷ [])) f ∙ find-push test xs x e ∙ ap (λ o. or_this o x) (sym (if_false (test y) (Some y) (find test xs) f))
       ]
 
@@ -80,8 +80,8 @@ pub firsts-push : (last : ℕ) (era : List (List ℕ)) (s : List ℕ) → firsts
 unfolding firsts
 firsts-push last era s =
     map-with_first (first_numbered (era ++ s ∷ [])) (first_numbered era) s 0 (last + 1) (number_of s) (number_of s) (omega arith)
-      (find-push (λ x. number_of x == number_of s) era s (number_same s))
-      (λ i other. find-push_other (λ x. number_of x == i) era s (number_test s i other))
+    (find-push (λ x. number_of x == number_of s) era s (number_same s))
+    (λ i other. find-push_other (λ x. number_of x == i) era s (number_test s i other))
 
 map-none : (a n : ℕ) → map (first_numbered []) (range_with_len a n) ≡ replicate n None
 map-none a zero = refl

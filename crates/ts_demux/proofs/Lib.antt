@@ -9,3 +9,5 @@ pub mod Feeding
 pub mod FirstsLemmas
 pub mod WholeEra
 pub mod EraEntries
+pub mod ErasLemmas
+pub mod Assembling

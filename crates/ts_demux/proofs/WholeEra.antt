@@ -35,7 +35,7 @@ module _ {X : Type 0} where
   find_passes test [] y e = cc
   find_passes test (x ∷ xs) y e =
       elim (true_or_false (test x)) as (λ _. test y ≡ true) [
-        inl t ↦ (let f : Some x ≡ Some y = sym (if_true (test x) (Some x) (find test xs) t) ∙ e in let g : x ≡ y = cc in ap test (sym g) ∙ t)
+        | inl t ↦ (let f : Some x ≡ Some y = sym (if_true (test x) (Some x) (find test xs) t) ∙ e in let g : x ≡ y = cc in ap test (sym g) ∙ t)
         | inr t ↦ find_passes test xs y (sym (if_false (test x) (Some x) (find test xs) t) ∙ e)
       ]
 
@@ -46,7 +46,7 @@ module _ {X : Type 0} where
       nothing_found f = cc
   find_holds P test (x ∷ xs) y all e =
       elim (true_or_false (test x)) as (λ _. P y) [
-        inl t ↦ (let f : Some x ≡ Some y = sym (if_true (test x) (Some x) (find test xs) t) ∙ e in let g : x ≡ y = cc in subst P g (All-head P x xs all))
+        | inl t ↦ (let f : Some x ≡ Some y = sym (if_true (test x) (Some x) (find test xs) t) ∙ e in let g : x ≡ y = cc in subst P g (All-head P x xs all))
         | inr t ↦ find_holds P test xs y (All-tail P x xs all) (sym (if_false (test x) (Some x) (find test xs) t) ∙ e)
       ]
 
@@ -74,17 +74,20 @@ is_run :
 is_run s last [] e l members = absurd (omega arith)
 is_run s last (x ∷ rest) e l members =
     let first = (members 0 (omega arith)).1 in
-    inr ((λ k h. (let m = members k (omega arith) in let own = m.1 in
-      record {
-        together = own.together;
-        same_id = own.same_id ∙ sym first.same_id;
-        same_extension = own.same_extension ∙ sym first.same_extension;
-        same_version = own.same_version ∙ sym first.same_version;
-        same_current = own.same_current ∙ sym first.same_current;
-        same_last = own.same_last ∙ sym first.same_last;
-        numbered = m.0;
-        counted = omega (arith, first.same_last);
-      })), omega (arith, first.same_last))
+    inr (
+      (λ k h. (let m = members k (omega arith) in let own = m.1 in
+          record {
+            together = own.together;
+            same_id = own.same_id ∙ sym first.same_id;
+            same_extension = own.same_extension ∙ sym first.same_extension;
+            same_version = own.same_version ∙ sym first.same_version;
+            same_current = own.same_current ∙ sym first.same_current;
+            same_last = own.same_last ∙ sym first.same_last;
+            numbered = m.0;
+            counted = omega (arith, first.same_last);
+          })),
+      omega (arith, first.same_last),
+    )
 
 pub table_is_run :
     (s : List ℕ) (era : List (List ℕ)) (last : ℕ) → last ≡ last_number_of s → All (λ x. Belongs s x) era → is_complete last era ≡ true →
@@ -116,12 +119,12 @@ pub completed-yes :
     completed era s ≡ Some (table_of (last_number_of s) (era ++ s ∷ []))
 completed-yes era s now before =
     if_true (is_complete (last_number_of s) (era ++ s ∷ []) && not (is_complete (last_number_of s) era)) (Some (table_of (last_number_of s) (era ++ s ∷ []))) None
-      (and_true (is_complete (last_number_of s) (era ++ s ∷ [])) (not (is_complete (last_number_of s) era)) now (not_of_false (is_complete (last_number_of s) era) before))
+    (and_true (is_complete (last_number_of s) (era ++ s ∷ [])) (not (is_complete (last_number_of s) era)) now (not_of_false (is_complete (last_number_of s) era) before))
 
 pub completed-not_yet : (era : List (List ℕ)) (s : List ℕ) → is_complete (last_number_of s) (era ++ s ∷ []) ≡ false → completed era s ≡ None
 completed-not_yet era s now =
     if_false (is_complete (last_number_of s) (era ++ s ∷ []) && not (is_complete (last_number_of s) era)) (Some (table_of (last_number_of s) (era ++ s ∷ []))) None
-      (and_false_first (is_complete (last_number_of s) (era ++ s ∷ [])) (not (is_complete (last_number_of s) era)) now)
+    (and_false_first (is_complete (last_number_of s) (era ++ s ∷ [])) (not (is_complete (last_number_of s) era)) now)
 
 -- what an era keeps with one section more
 slots_are :

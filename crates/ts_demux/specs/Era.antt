@@ -31,7 +31,7 @@ abbrev pub EntryStands : Option Era → ℕ → ℕ → List (List ℕ) → Type
 EntryStands None version last sections = sections ≡ []
 EntryStands (Some era) version last sections =
     (era.version ≡ version → era.last ≡ last → IsEra era sections)
-        × (((era.version == version) && (era.last == last)) ≡ false → sections ≡ [])
+    × (((era.version == version) && (era.last == last)) ≡ false → sections ≡ [])
 
 -- whether the entry of a key is an era of this version and last number
 abbrev pub entry_goes_on : Option Era → ℕ → ℕ → Bool

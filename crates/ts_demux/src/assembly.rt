@@ -1,9 +1,9 @@
 //! Sections in, tables out.
 
-ghost use Rattle.std.specs.Prelude.{◌≡◌, ℕ, ◌++◌, ◌∷◌, [], List, true, false, IfOk, OnOk, OnErr, IsErr};
-
+ghost use Rattle.std.specs.Prelude.{◌≡◌, ℕ, ◌++◌, ◌∷◌, [], List, Some, true, false, IfOk, IfSome, IfNone, OnOk, OnErr, IsErr};
 ghost use Rattle.indexmap.specs.IndexMap.{get};
-ghost use Rattle.ts_section.specs.SectionFields.{number_of, version_of, last_number_of};
+ghost use Rattle.ts_section.specs.SectionFields.{number_of, version_of, last_number_of, head_fields};
+ghost use Rattle.ts_section.specs.SectionRun.{stands_alone};
 ghost use Rattle.ts_demux.specs.Keys.{key_eq};
 ghost use Rattle.ts_demux.specs.declared.table_key.TableKey.{TableKey};
 ghost use Rattle.ts_demux.specs.Era.{HasEra, EntryStands, EraStands, AllBelong, entry_goes_on};
@@ -60,14 +60,20 @@ impl Assembly {
     }
 
     /// Takes the next section as long as memory was there.
-    fn take(&mut self, section: Section) -> Result<Option<TableRun>, AllocError> {
+    fn take(&mut self, section: Section) -> Result<Option<TableRun>, AllocError>
+        ensures completes { IfOk result (λ table. (before : List (List ℕ)) → StandsFor self.old before → table ≡ table_at before section) }
+        ensures stands { OnOk result ((before : List (List ℕ)) → StandsFor self.old before → StandsFor self.new (before ++ section ∷ [])) }
+        ensures same { self.new.failed ≡ self.old.failed }
+    {
         let alloc = *self.eras.allocator();
         let Some(head) = head_of_many(&section) else {
-            return Ok(TableRun::of(vec![in alloc; section]?).ok());
+            let table = table_alone(alloc, section)?;
+            return Ok(table);
         };
         let key = TableKey::of(&head);
         begin_era(&mut self.eras, key, &head)?;
-        add_to_era(&mut self.eras, key, head.number, section)
+        let table = add_to_era(&mut self.eras, key, head.number, section)?;
+        Ok(table)
     }
 }
 
@@ -108,8 +114,22 @@ fn add_to_era(
     }
 }
 
+/// The table of a section that is one by itself.
+fn table_alone(alloc: Global, section: Section) -> Result<Option<TableRun>, AllocError>
+    requires { stands_alone section ≡ true }
+    ensures { IfOk result (λ table. table ≡ Some (section ∷ [])) }
+{
+    let mut sections = Vec::with_capacity(alloc, 1)?;
+    sections.push(section)?;
+    Ok(TableRun::of(sections).ok())
+}
+
 /// The head of a section that is no table by itself.
-fn head_of_many(section: &Section) -> Option<LongHead> {
+fn head_of_many(section: &Section) -> Option<LongHead>
+    ensures alone { IfNone result (stands_alone section.now ≡ true) }
+    ensures together { IfSome result (λ head. stands_alone section.now ≡ false) }
+    ensures head { IfSome result (λ head. head ≡ head_fields section.now) }
+{
     section
         .head()
         .filter(|head| head.table_id < 0x4E || 0x6F < head.table_id)
