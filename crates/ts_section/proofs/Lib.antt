@@ -1,6 +1,8 @@
 mod Division
 mod CrcLemmas
-mod HeadBytes
-mod RuleLemmas
+pub mod HeadBytes
+pub mod RuleLemmas
 mod WrittenLemmas
+mod RunLemmas
 mod TableLemmas
+mod Rows

@@ -3,6 +3,7 @@
 -- That a short section and an EIT section (ETSI EN 300 468, 5.2.4) are each a table by themselves is this project's own rule.
 use Rattle.std.specs.Prelude.{◌≡◌, ◌≢◌, ℕ, ◌+◌, ◌<◌, ◌≤◌, Bool, true, false, nat_le, not, ◌||◌, ◌&&◌, List, [], ◌∷◌, length, take, EachIndex, slice_index_or, ◌⊎◌}
 use Rattle.ts_section.specs.SectionFields.{table_id_of, is_long, extension_of, version_of, current_of, number_of, last_number_of}
+use Rattle.ts_section.specs.declared.long_head.LongHead.{LongHead}
 
 -- whether a section is a table by itself: it is short, or of an EIT (table_id 0x4E to 0x6F)
 abbrev pub stands_alone : List ℕ → Bool
@@ -19,6 +20,16 @@ pub record IsMember (first : List ℕ) (place : ℕ) (s : List ℕ) : Type 0 whe
   pub same_last : last_number_of s ≡ last_number_of first
   pub numbered : number_of s ≡ place
   pub counted : place ≤ last_number_of first
+
+-- the same by the first section's head alone, for any place
+pub record SharesHead (first : LongHead) (place : ℕ) (s : List ℕ) : Type 0 where
+  pub together : stands_alone s ≡ false
+  pub same_id : table_id_of s ≡ first.table_id
+  pub same_extension : extension_of s ≡ first.extension
+  pub same_version : version_of s ≡ first.version
+  pub same_current : current_of s ≡ first.current
+  pub same_last : last_number_of s ≡ first.last
+  pub numbered : number_of s ≡ place
 
 -- each section is a member of the run that `first` begins, at its place
 abbrev pub AllMembers : List ℕ → List (List ℕ) → Type 0

@@ -14,3 +14,6 @@ pub use fault::{RunFault, SectionFault, SectionRule};
 pub use long_head::LongHead;
 pub use section::Section;
 pub use table_run::TableRun;
+
+#[cfg(test)]
+mod tests;

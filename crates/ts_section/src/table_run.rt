@@ -1,8 +1,9 @@
 //! The sections of one whole table.
 
-ghost use Rattle.std.specs.Prelude.{◌≡◌, All, IfOk, IfErr};
+ghost use Rattle.std.specs.Prelude.{◌≡◌, ◌↔◌, true, false, All, IfOk, IfErr, IfNone, IfSome, OnSome, IsTrue};
+ghost use Rattle.ts_section.specs.SectionFields.{head_fields};
 ghost use Rattle.ts_section.specs.LawfulSection.{IsSection};
-ghost use Rattle.ts_section.specs.SectionRun.{IsTableRun, IsRunFault};
+ghost use Rattle.ts_section.specs.SectionRun.{stands_alone, SharesHead, IsTableRun, IsRunFault};
 
 use crate::fault::RunFault;
 use crate::long_head::LongHead;
@@ -54,16 +55,20 @@ impl TableRun {
 }
 
 /// Where the sections stop to be a run, if they are none.
-fn fault_place(sections: &[Section]) -> Option<usize> {
+fn fault_place(sections: &[Section]) -> Option<usize>
+    ensures whole { IfNone result (IsTableRun sections.now) }
+    ensures lawful { IfNone result (All (λ s. IsSection s) sections.now) }
+    ensures fault { IfSome result (IsRunFault sections.now) }
+{
     let Some(first) = sections.first() else {
         return Some(0);
     };
-    let Some(head) = head_of_many(first) else {
+    let Some(head) = shared_head(first) else {
         return if sections.len() == 1 { None } else { Some(1) };
     };
     let wanted = usize::from(head.last) + 1;
     for (place, section) in sections.iter().enumerate() {
-        if place == wanted || !is_member(&head, place, section) {
+        if !is_member(&head, place, section) {
             return Some(place);
         }
     }
@@ -75,20 +80,32 @@ fn fault_place(sections: &[Section]) -> Option<usize> {
 }
 
 /// The head of a section that is not a table by itself.
-fn head_of_many(section: &Section) -> Option<LongHead> {
-    section
-        .head()
-        .filter(|head| head.table_id < 0x4E || 0x6F < head.table_id)
+fn shared_head(section: &Section) -> Option<LongHead>
+    ensures alone { IfNone result (stands_alone section.now ≡ true) }
+    ensures together { OnSome result (stands_alone section.now ≡ false) }
+    ensures head { IfSome result (λ head. head ≡ head_fields section.now) }
+    ensures lawful { IsSection section.now }
+{
+    let head = section.head()?;
+    if 0x4E <= head.table_id && head.table_id <= 0x6F {
+        None
+    } else {
+        Some(head)
+    }
 }
 
-/// Whether a section stands at `place` of the run that a section with `first` as its head begins.
-fn is_member(first: &LongHead, place: usize, section: &Section) -> bool {
-    head_of_many(section).is_some_and(|head| {
-        head.table_id == first.table_id
-            && head.extension == first.extension
-            && head.version == first.version
-            && head.current == first.current
-            && head.last == first.last
-            && usize::from(head.number) == place
-    })
+/// Whether a section stands at `place` of the run that a section with the head `first` begins.
+fn is_member(first: &LongHead, place: usize, section: &Section) -> bool
+    ensures member { IsTrue result ↔ SharesHead first.now place section.now }
+    ensures lawful { IsSection section.now }
+{
+    let Some(head) = shared_head(section) else {
+        return false;
+    };
+    head.table_id == first.table_id
+        && head.extension == first.extension
+        && head.version == first.version
+        && head.current == first.current
+        && head.last == first.last
+        && usize::from(head.number) == place
 }
