@@ -1,15 +1,15 @@
 -- A section added: the table that it completes, and the eras that sections to come go on with.
-use Rattle.std.proofs.Common.{◌≡◌, ℕ, Bool, true, false, ◌&&◌, ◌==◌, List, [], ◌∷◌, ◌++◌, Option, Some, None, refl, sym, ◌∙◌, ap, subst, inl, inr, arith}
+use Rattle.std.proofs.Common.{◌≡◌, ℕ, true, false, ◌&&◌, ◌==◌, List, [], ◌∷◌, ◌++◌, Option, Some, None, refl, sym, ◌∙◌, ap, subst, inl, inr, arith}
 use Rattle.std.proofs.lemmas.Bool.Decides.{nat_tests}
 use Rattle.indexmap.specs.IndexMap.{get}
 use Rattle.ts_section.specs.SectionFields.{version_of, last_number_of, head_fields}
 use Rattle.ts_section.specs.declared.long_head.LongHead.{LongHead}
 use Rattle.ts_section.specs.SectionRun.{stands_alone}
 use Rattle.ts_demux.proofs.Choice.{if_true, if_false, true_or_false}
-use Rattle.ts_demux.proofs.ErasLemmas.{era_belongs, era_of-other, era_of-on, era_of-new, era_of-same, belongs_of_tests, other_key, equal_keys, alone_has_no_key}
+use Rattle.ts_demux.proofs.ErasLemmas.{era_of-other, era_of-on, era_of-new, era_of-same, belongs_of_tests, other_key, equal_keys, alone_has_no_key}
 use Rattle.ts_demux.specs.Tables.{same_key, same_era, era_of, completed, table_at}
 use Rattle.ts_demux.specs.Keys.{key_of, key_eq}
-use Rattle.ts_demux.specs.Era.{IsEra, EntryStands, HasEra, EraStands, AllBelong}
+use Rattle.ts_demux.specs.Era.{IsEra, EntryStands, HasEra, EraStands}
 use Rattle.ts_demux.specs.AssemblyState.{StandsFor}
 use Rattle.ts_demux.specs.declared.era.Era.{Era}
 use Rattle.ts_demux.specs.declared.table_key.TableKey.{TableKey}
@@ -92,3 +92,14 @@ stands-together_at old new before x key k alone same has stands others h =
     (subst (λ t. EraStands (get key_eq new.eras t) (era_of before x ++ x ∷ [])) k stands)
     (subst (λ t. (other : TableKey) → key_eq t other ≡ false → get key_eq new.eras other ≡ get key_eq old.eras other) k others)
     h
+
+nothing_before : (s : List ℕ) → era_of [] s ≡ []
+unfolding era_of
+nothing_before s = refl
+
+pub stands-fresh : (a : Assembly) → a.failed ≡ false → ((key : TableKey) → get key_eq a.eras key ≡ None) → StandsFor a []
+stands-fresh a f empty =
+    record {
+      working = f;
+      entries = λ s t. subst (λ o. EntryStands o (version_of s) (last_number_of s) (era_of [] s)) (sym (empty (key_of s))) (nothing_before s);
+    }

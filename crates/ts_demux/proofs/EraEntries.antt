@@ -1,7 +1,6 @@
 -- Entries of keys.
-use Rattle.std.proofs.Common.{◌≡◌, ℕ, Bool, true, false, not, ◌&&◌, ◌==◌, List, [], ◌∷◌, ◌++◌, Option, Some, None, refl, sym, ◌∙◌, ap, Result, Ok, Err, IfOk, subst, true≢false}
+use Rattle.std.proofs.Common.{◌≡◌, ℕ, Bool, true, false, ◌&&◌, ◌==◌, List, [], Option, Some, None, refl, sym, ◌∙◌, ap, Result, Ok, Err, IfOk, subst, true≢false}
 use Rattle.std.specs.declared.alloc.AllocError.{AllocError}
-use Rattle.ts_demux.proofs.Choice.{true_or_false}
 use Rattle.ts_demux.specs.Tables.{completed}
 use Rattle.std.proofs.lemmas.Bool.{eqb-true}
 use Rattle.ts_demux.specs.Era.{IsEra, EntryStands, HasEra, EraStands, AllBelong, entry_goes_on}

@@ -1,12 +1,12 @@
 -- The era of a section, as sections come.
-use Rattle.std.proofs.Common.{◌≡◌, ℕ, Bool, true, false, not, ◌&&◌, ◌||◌, ◌==◌, nat_le, List, [], ◌∷◌, ◌++◌, reverse, filter, take_while, All, cond, Option, Some, None, refl, sym, ◌∙◌, ap, subst, inl, inr, ◌⊎◌, true≢false, append-nil, arith}
+use Rattle.std.proofs.Common.{◌≡◌, ℕ, Bool, true, false, not, ◌&&◌, ◌==◌, List, [], ◌∷◌, ◌++◌, reverse, filter, take_while, All, refl, sym, ◌∙◌, ap, subst, inl, inr, append-nil, arith}
 use Rattle.std.specs.Bool.{beq}
 use Rattle.std.proofs.lemmas.Bool.{eqb-true}
 use Rattle.std.proofs.lemmas.Bool.Decides.{nat_tests}
 use Rattle.std.proofs.lemmas.List.{reverse-append}
 use Rattle.std.proofs.lemmas.List.Sums.{take_while-cons}
 use Rattle.std.proofs.lemmas.List.Elements.{All-nil, All-cons, All-head, All-tail, All-append, filter-append}
-use Rattle.ts_section.specs.SectionFields.{table_id_of, extension_of, version_of, current_of, last_number_of, head_fields}
+use Rattle.ts_section.specs.SectionFields.{table_id_of, extension_of, version_of, current_of, last_number_of}
 use Rattle.ts_section.specs.SectionRun.{stands_alone}
 use Rattle.ts_demux.proofs.Choice.{if_true, if_false, true_or_false}
 use Rattle.ts_demux.specs.Tables.{same_key, same_era, last_while, era_of}

@@ -1,6 +1,6 @@
 -- The first sections by number, as sections come.
-use Rattle.std.proofs.Common.{◌≡◌, ℕ, ◌+◌, ◌<◌, ◌≤◌, Bool, true, false, ◌&&◌, ◌==◌, List, [], ◌∷◌, ◌++◌, length, get_or, set, map, replicate, zero, suc, Option, Some, None, is_some, find, refl, sym, ◌∙◌, ap, arith, cond, inl, inr, ◌⊎◌, add-zero, add-suc, add-one}
-use Rattle.std.specs.List.{list_all, filter_map, range_with_len}
+use Rattle.std.proofs.Common.{◌≡◌, ℕ, ◌+◌, ◌<◌, ◌≤◌, Bool, true, false, ◌==◌, List, [], ◌∷◌, ◌++◌, length, get_or, set, map, replicate, zero, suc, Option, Some, None, is_some, find, refl, sym, ◌∙◌, ap, arith, cond, inl, inr}
+use Rattle.std.specs.List.{list_all, range_with_len}
 use Rattle.std.proofs.lemmas.Bool.Decides.{nat_tests}
 use Rattle.ts_section.specs.SectionFields.{number_of}
 use Rattle.ts_demux.proofs.Choice.{if_true, if_false, true_or_false}

@@ -1,5 +1,5 @@
 -- Readers that hold little.
-use Rattle.std.proofs.Common.{◌≡◌, ℕ, ◌≤◌, Bool, true, false, List, [], length, Option, Some, None, ap, ◌∙◌, arith, refl, sym, ◌<◌, ◌++◌, append_assoc, append-nil}
+use Rattle.std.proofs.Common.{◌≡◌, ℕ, Bool, true, false, List, [], length, Some, None, ap, ◌∙◌, arith, refl, sym, ◌++◌, append_assoc, append-nil}
 use Rattle.ts_demux.proofs.Choice.{if_true, if_false}
 use Rattle.ts_demux.proofs.Cutting.{short_is_not_whole, unfinished_is_short, sections_in-over, sections_in-stop}
 use Rattle.ts_demux.specs.Cut.{is_whole_in_front}

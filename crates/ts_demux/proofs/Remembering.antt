@@ -1,15 +1,11 @@
 -- The sections to come behind a remembered part.
-use Rattle.std.proofs.Common.{◌≡◌, ℕ, ◌+◌, ◌%◌, ◌≤◌, ◌<◌, Bool, true, false, not, ◌&&◌, ◌==◌, nat_le, List, suc, [], ◌∷◌, ◌++◌, length, take, drop, Option, Some, None, refl, sym, ◌∙◌, ap, arith, append_assoc, append-nil, length-drop, inl, inr, zero-add}
-use Rattle.std.specs.Prelude.{if◌then◌else◌}
+use Rattle.std.proofs.Common.{◌≡◌, ℕ, Bool, true, false, ◌==◌, nat_le, List, suc, ◌∷◌, ◌++◌, length, Some, refl, ap, arith, inl, inr}
 use Rattle.std.specs.List.{flat_map}
-use Rattle.std.specs.Option.{option_map, option_to_list}
 use Rattle.std.proofs.lemmas.Bool.Decides.{leb_tells}
-use Rattle.ts_demux.proofs.Choice.{if_true, if_false, true_or_false}
-use Rattle.ts_demux.proofs.Runs.{all_stretches, following, all_stretches-lawless, all_stretches-plain, all_stretches-unit, following-plain, following-unit, following-stops}
-use Rattle.ts_demux.specs.Part.{Part, body_of, pointer_of, is_lawless, repeats, without_repeats}
-use Rattle.ts_demux.specs.ContinuousRuns.{goes_on}
+use Rattle.ts_demux.proofs.Choice.{if_true, if_false}
+use Rattle.ts_demux.proofs.Runs.{all_stretches, following, all_stretches-plain, all_stretches-unit}
+use Rattle.ts_demux.specs.Part.{Part, is_lawless, without_repeats}
 use Rattle.ts_demux.specs.SectionsOfParts.{sections_in, sections_of_parts}
-use Rattle.ts_demux.specs.Counters.{goes_on_behind}
 use Rattle.ts_demux.specs.Reader.{part_of, sections_behind}
 
 -- the sections of a list of parts without repeats

@@ -1,8 +1,8 @@
 -- Runs and their stretches, taken from the front of a list of parts.
-use Rattle.std.proofs.Common.{◌≡◌, ℕ, ◌+◌, ◌-◌, ◌%◌, ◌≤◌, ◌<◌, Bool, true, false, not, ◌&&◌, ◌==◌, nat_le, List, [], ◌∷◌, ◌++◌, length, take, drop, refl, sym, ◌∙◌, ap, arith, append_assoc, append-nil, length-drop, inl, inr}
+use Rattle.std.proofs.Common.{◌≡◌, ℕ, ◌≤◌, Bool, true, false, List, [], ◌∷◌, ◌++◌, length, take, drop, refl, ◌∙◌, ap}
 use Rattle.std.specs.Prelude.{if◌then◌else◌}
 use Rattle.std.specs.List.{flat_map}
-use Rattle.ts_demux.proofs.Choice.{if_true, if_false, true_or_false}
+use Rattle.ts_demux.proofs.Choice.{if_true, if_false}
 use Rattle.ts_demux.proofs.Stretching.{lead, lead-plain, lead-unit, stretches-plain, stretches-unit}
 use Rattle.ts_demux.specs.Part.{Part, body_of, pointer_of, is_lawless}
 use Rattle.ts_demux.specs.ContinuousRuns.{goes_on, with_first, continuous_runs}

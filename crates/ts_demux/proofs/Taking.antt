@@ -1,5 +1,5 @@
 -- One part taken: what waits then, and what is to come behind the part that is remembered then.
-use Rattle.std.proofs.Common.{◌≡◌, ℕ, ◌+◌, ◌%◌, ◌≤◌, ◌<◌, Bool, true, false, not, ◌&&◌, ◌==◌, nat_le, List, suc, [], ◌∷◌, ◌++◌, length, take, drop, Option, Some, None, refl, sym, ◌∙◌, ap, arith, append_assoc, append-nil, inl, inr, length-drop}
+use Rattle.std.proofs.Common.{◌≡◌, ℕ, ◌+◌, ◌%◌, ◌≤◌, ◌<◌, Bool, true, false, not, ◌&&◌, ◌==◌, nat_le, List, [], ◌∷◌, ◌++◌, length, take, drop, Option, Some, None, refl, sym, ◌∙◌, ap, arith, append_assoc, append-nil, inl, inr, length-drop}
 use Rattle.std.specs.List.{flat_map}
 use Rattle.std.proofs.lemmas.Bool.Decides.{leb_tells, nat_tests}
 use Rattle.std.specs.Option.{option_map, option_to_list}
@@ -8,11 +8,10 @@ use Rattle.ts_demux.proofs.Runs.{following, all_stretches-lawless, all_stretches
 use Rattle.ts_demux.proofs.Remembering.{sections_left, others_behind, sections-remembered, sections-first, others-repeat, others-next}
 use Rattle.ts_demux.proofs.Little.{sections_behind-nothing}
 use Rattle.ts_demux.specs.Part.{Part, body_of, pointer_of, is_lawless, repeats}
-use Rattle.ts_demux.specs.ContinuousRuns.{goes_on}
 use Rattle.ts_demux.specs.Cut.{is_whole_in_front}
 use Rattle.ts_demux.specs.Counters.{goes_on_behind}
 use Rattle.ts_demux.specs.SectionsOfParts.{sections_in, sections_of_parts}
-use Rattle.ts_demux.specs.Reader.{part_of, sections_behind, Takes, EndsAtJump, HoldsLittle, IsAtRest, remembered_by}
+use Rattle.ts_demux.specs.Reader.{part_of, sections_behind, Takes, EndsAtJump, HoldsLittle, IsAtRest}
 use Rattle.ts_demux.specs.declared.reader.StretchReader.{StretchReader}
 
 equal_numbers : (a b : ℕ) → (a == b) ≡ true → a ≡ b

@@ -1,13 +1,12 @@
 -- The sections of a complete era are a whole run.
-use Rattle.std.proofs.Common.{◌≡◌, ℕ, ◌+◌, ◌<◌, ◌≤◌, Bool, true, false, ◌&&◌, ◌==◌, List, [], ◌∷◌, ◌++◌, length, get_or, map, zero, suc, Option, Some, None, is_some, find, refl, sym, ◌∙◌, ap, arith, cond, inl, inr, ◌⊎◌, Result, Ok, Err, IfOk, IfErr, not, All, subst, replicate}
-use Rattle.std.specs.List.{list_all, filter_map, range_with_len}
+use Rattle.std.proofs.Common.{◌≡◌, ℕ, ◌+◌, ◌<◌, Bool, true, false, ◌&&◌, ◌==◌, List, [], ◌∷◌, ◌++◌, length, get_or, zero, suc, Option, Some, None, is_some, find, refl, sym, ◌∙◌, ap, arith, inl, inr, Result, Ok, Err, IfOk, IfErr, not, All, subst, replicate}
+use Rattle.std.specs.List.{list_all, filter_map}
 use Rattle.std.specs.Result.{result_ok}
-use Rattle.std.specs.Prelude.{if◌then◌else◌}
 use Rattle.std.proofs.lemmas.Bool.{eqb-true}
 use Rattle.std.proofs.lemmas.List.FromFn.{get_or-map-range_with_len, length-map-range_with_len}
 use Rattle.std.proofs.lemmas.List.Elements.{All-head, All-tail}
-use Rattle.ts_section.specs.SectionFields.{table_id_of, extension_of, version_of, current_of, number_of, last_number_of}
-use Rattle.ts_section.specs.SectionRun.{stands_alone, IsMember, AllMembers, IsTableRun, IsRunFault}
+use Rattle.ts_section.specs.SectionFields.{number_of, last_number_of}
+use Rattle.ts_section.specs.SectionRun.{IsTableRun, IsRunFault}
 use Rattle.ts_section.specs.declared.fault.RunFault.{RunFault}
 use Rattle.ts_demux.proofs.Choice.{if_true, if_false, true_or_false}
 use Rattle.ts_demux.proofs.FirstsLemmas.{firsts-push, is_complete-push, firsts-nil, is_complete-nil}

@@ -1,6 +1,6 @@
 -- The runs of parts in which nothing is missing.
 -- ISO/IEC 13818-1, 2.4.3.3: continuity_counter goes up by one with each packet of its PID, modulo 16.
-use Rattle.std.specs.Prelude.{ℕ, ◌+◌, ◌%◌, ◌==◌, Bool, true, false, not, ◌&&◌, List, [], ◌∷◌, if◌then◌else◌}
+use Rattle.std.specs.Prelude.{ℕ, ◌+◌, ◌%◌, ◌==◌, Bool, false, not, ◌&&◌, List, [], ◌∷◌, if◌then◌else◌}
 use Rattle.ts_demux.specs.Part.{Part, is_lawless}
 
 -- the first part of a list is lawful and has the counter that follows

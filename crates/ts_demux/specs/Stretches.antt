@@ -1,6 +1,6 @@
 -- The stretches of bytes of one run.
 -- ISO/IEC 13818-1, 2.4.4.1 and 2.4.4.2: sections go on from payload to payload, and a pointer_field says where one begins.
-use Rattle.std.specs.Prelude.{ℕ, ◌+◌, List, [], ◌∷◌, ◌++◌, length, if◌then◌else◌}
+use Rattle.std.specs.Prelude.{ℕ, ◌+◌, List, [], ◌∷◌, length, if◌then◌else◌}
 use Rattle.std.specs.List.{flat_map, slice_range}
 use Rattle.ts_demux.specs.Part.{Part, body_of, pointer_of}
 

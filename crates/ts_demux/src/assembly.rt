@@ -54,9 +54,13 @@ impl Assembly {
         if self.failed {
             return Err(AllocError);
         }
-        let table = self.take(section);
-        self.failed = table.is_err();
-        table
+        match self.take(section) {
+            Ok(table) => Ok(table),
+            Err(error) => {
+                self.failed = true;
+                Err(error)
+            }
+        }
     }
 
     /// Takes the next section as long as memory was there.

@@ -1,5 +1,5 @@
-use Rattle.std.proofs.Common.{◌≡◌, ap, sym, ◌∙◌, refl, Some}
-use Rattle.ts_demux.proofs.EraEntries.{last_of_entry, stands_of_entry, table_of_entry}
+use Rattle.std.proofs.Common.{sym}
+use Rattle.ts_demux.proofs.EraEntries.{last_of_entry, table_of_entry}
 use Rattle.ts_demux.proofs.assembly.add_to_era.Goals as goal
 
 pub add-requires-clause-last : goal.add-requires-clause-last

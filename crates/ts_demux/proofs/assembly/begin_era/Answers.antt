@@ -1,8 +1,7 @@
-use Rattle.std.proofs.Common.{◌≡◌, ap, sym, ◌∙◌, refl, true, false, Some, Option}
+use Rattle.std.proofs.Common.{◌≡◌, ap, sym, ◌∙◌, false}
 use Rattle.indexmap.specs.IndexMap.{get}
 use Rattle.ts_demux.specs.Keys.{key_eq}
 use Rattle.ts_demux.specs.Era.{entry_goes_on}
-use Rattle.ts_demux.specs.declared.era.Era.{Era}
 use Rattle.ts_demux.proofs.EraEntries.{has_of_test, stands_of_test, none_of_test, stands_of_fresh}
 use Rattle.ts_demux.proofs.assembly.begin_era.Goals as goal
 

@@ -1,4 +1,4 @@
-use Rattle.std.proofs.Common.{◌≡◌, ap, sym, ◌∙◌, is_some, not, true, false, arith}
+use Rattle.std.proofs.Common.{ap, sym, ◌∙◌, is_some, not, arith}
 use Rattle.ts_demux.proofs.FirstsLemmas.{with_first-set, with_first-kept, with_first-past}
 use Rattle.ts_demux.proofs.era.keep_first.Goals as goal
 use Rattle.ts_demux.proofs.era.keep_first.Goals.{else-place-len-via-then-place-len+else-is_none, else-place-len-via-else-place-len}

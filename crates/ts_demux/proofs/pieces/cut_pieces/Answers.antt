@@ -1,4 +1,4 @@
-use Rattle.std.proofs.Common.{◌≡◌, ℕ, ◌+◌, ◌-◌, ◌≤◌, ◌++◌, [], ◌∷◌, List, true, length, take, drop, refl, arith, length-append, length-drop, filter, ap, ◌∙◌, IsTrue}
+use Rattle.std.proofs.Common.{◌≡◌, ℕ, ◌+◌, ◌-◌, ◌++◌, [], ◌∷◌, List, true, length, take, drop, refl, arith, length-append, length-drop, filter, ap}
 use Rattle.std.proofs.lemmas.List.{take_rest}
 use Rattle.ts_section.specs.FirstBroken.{is_section}
 use Rattle.ts_demux.specs.Cut.{is_whole_in_front, size_in_front}

@@ -1,5 +1,5 @@
-use Rattle.std.proofs.Common.{◌≡◌, ◌≤◌, ◌<◌, true, length, refl, arith}
-use Rattle.ts_demux.specs.Cut.{is_whole_in_front, size_in_front}
+use Rattle.std.proofs.Common.{◌≤◌, length, refl, arith}
+use Rattle.ts_demux.specs.Cut.{size_in_front}
 use Rattle.ts_demux.proofs.Cutting.{never_whole, short_is_not_whole, part_is_not_whole, over_is_not_whole, IsWhole-to}
 use Rattle.ts_demux.proofs.pieces.whole_in_front.Goals as goal
 use Rattle.ts_demux.proofs.pieces.whole_in_front.Goals.{then-bytes-lt-HEAD-via-then-bytes-lt-HEAD, then-bytes-lt-HEAD-via-else-bytes-lt-HEAD+then-is_over}

@@ -1,4 +1,4 @@
-use Rattle.std.proofs.Common.{◌≡◌, ◌+◌, ◌-◌, length, refl, sym, ◌∙◌, ap, arith, subst}
+use Rattle.std.proofs.Common.{◌≡◌, ◌+◌, ◌-◌, length, sym, ◌∙◌, ap, arith, subst}
 use Rattle.ts_demux.proofs.Feeding.{takes_in-uncounted, takes_in-counted, takes-packet, seen}
 use Rattle.ts_demux.specs.DemuxState.{TakesIn}
 use Rattle.ts_demux.specs.CountedPackets.{counts, part_of_packet}

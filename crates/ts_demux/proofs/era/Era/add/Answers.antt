@@ -1,4 +1,4 @@
-use Rattle.std.proofs.Common.{◌≡◌, ap, sym, ◌∙◌, refl, true, false, is_some}
+use Rattle.std.proofs.Common.{ap, sym, ◌∙◌, refl, is_some}
 use Rattle.std.specs.List.{list_all, filter_map}
 use Rattle.ts_demux.proofs.WholeEra.{era-given, era-open, era-full, table-open, table-full}
 use Rattle.ts_demux.proofs.era.Era.add.Goals as goal

@@ -1,4 +1,4 @@
-use Rattle.std.proofs.Common.{◌≡◌, refl, sym, ◌∙◌, ap, false, replicate, None, ◌+◌, Option, List, ℕ}
+use Rattle.std.proofs.Common.{◌≡◌, refl, ◌∙◌, ap, false, replicate, None, ◌+◌}
 use Rattle.ts_demux.specs.declared.era.Era.{Era}
 use Rattle.ts_demux.proofs.WholeEra.{era-fresh}
 use Rattle.ts_demux.proofs.era.Era.new.Goals as goal

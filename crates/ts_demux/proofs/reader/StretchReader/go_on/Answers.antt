@@ -1,4 +1,3 @@
-use Rattle.std.proofs.Common.{◌≡◌, true, refl, ◌++◌, ap, ◌∙◌, sym}
 use Rattle.ts_demux.proofs.Little.{little-empty, little-open, sections_behind-over}
 use Rattle.ts_demux.proofs.reader.StretchReader.go_on.Goals as goal
 

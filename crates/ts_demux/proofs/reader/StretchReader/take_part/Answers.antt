@@ -1,4 +1,4 @@
-use Rattle.std.proofs.Common.{◌≡◌, List, ℕ, ◌++◌, take, drop, refl, sym, ◌∙◌, ap, arith}
+use Rattle.std.proofs.Common.{◌≡◌, List, ℕ, ◌++◌, take, drop, sym, ◌∙◌, ap, arith}
 use Rattle.ts_demux.proofs.Little.{little-empty}
 use Rattle.ts_demux.proofs.Taking.{takes-repeat, takes-plain, takes-unit, takes-lawless, rest-after}
 use Rattle.ts_demux.specs.Part.{Part, pointer_of}
