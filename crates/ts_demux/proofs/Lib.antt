@@ -1,3 +1,4 @@
+pub mod Rows
 pub mod Choice
 pub mod Stretching
 pub mod Runs

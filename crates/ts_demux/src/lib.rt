@@ -11,3 +11,6 @@ mod table_key;
 
 pub use assembly::Assembly;
 pub use demux::Demux;
+
+#[cfg(test)]
+mod tests;

@@ -77,16 +77,10 @@ fn is_over(bytes: &[u8]) -> bool
     ensures over { result ≡ true → IsOver bytes.now }
     ensures alive { result ≡ false → IsAlive bytes.now }
 {
-    if bytes.is_empty() {
-        return false;
-    }
-    if table_id(bytes) == STUFFING {
+    if !bytes.is_empty() && table_id(bytes) == STUFFING {
         return true;
     }
-    if bytes.len() < HEAD {
-        return false;
-    }
-    MOST_LENGTH < section_length(bytes)
+    HEAD <= bytes.len() && MOST_LENGTH < section_length(bytes)
 }
 
 /// The size of the piece in front, where it is there whole.
