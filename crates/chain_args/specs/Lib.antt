@@ -12,5 +12,6 @@ pub mod Plugins
 pub mod Profile
 pub mod Ranges
 pub mod RuleText
+pub mod Refusal
 pub mod Rules
 pub mod Segments

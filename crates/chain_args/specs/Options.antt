@@ -26,12 +26,24 @@ pub record OptionRow : Type 0 where
 
 -- ---- the command
 
--- the argument that `clap` is given for a row
-abbrev pub rule_of_row : List ℕ → OptionKind → Rule
-rule_of_row name flag = record (new_rule name) { long = Some name; action = Some SetTrue }
-rule_of_row name (value form) = record (new_rule name) { long = Some name; action = Some Set }
-rule_of_row name (operand form) = record (new_rule name) { action = Some Set }
-rule_of_row name (operands form) = record (new_rule name) { action = Some Append }
+-- the arguments that `clap` is given for each kind
+abbrev pub flag_rule : List ℕ → Rule
+flag_rule name = record (new_rule name) { long = Some name; action = Some SetTrue }
+
+abbrev pub value_rule : List ℕ → Rule
+value_rule name = record (new_rule name) { long = Some name; action = Some Set }
+
+abbrev pub operand_rule : List ℕ → Rule
+operand_rule name = record (new_rule name) { action = Some Set }
+
+abbrev pub operands_rule : List ℕ → Rule
+operands_rule name = record (new_rule name) { action = Some Append }
+
+abbrev pub rule_of_kind : List ℕ → OptionKind → Rule
+rule_of_kind name flag = flag_rule name
+rule_of_kind name (value form) = value_rule name
+rule_of_kind name (operand form) = operand_rule name
+rule_of_kind name (operands form) = operands_rule name
 
 -- a command with no name before the words, no help and no version
 abbrev pub bare_command : App
@@ -40,7 +52,7 @@ bare_command =
 
 -- the simple command of a table
 abbrev pub command_of : List OptionRow → App
-command_of rows = fold (λ a row. with_rule a (rule_of_row row.name row.kind)) bare_command rows
+command_of rows = fold (λ a row. with_rule a (rule_of_kind row.name row.kind)) bare_command rows
 
 -- the command has a reading of the words
 unfoldable pub is_taken : App → List (List ℕ) → Bool

@@ -4,9 +4,14 @@
 
 mod general_conf;
 mod input_conf;
+mod number;
 mod output_conf;
 mod plan_type;
 mod plugin_list;
+mod pairs;
+mod ranges;
+mod refusal;
+mod signs;
 mod words_fault;
 mod words_rule;
 
