@@ -86,11 +86,15 @@ has_value name found = is_some (value_of name found)
 unfoldable pub values_of : List ℕ → List Row → List (List ℕ)
 values_of name found = unwrap_or (all_of name found) []
 
--- what is given for the row has the row's form
+-- the value, where it is given, has the form
+abbrev pub is_formed : Form → List ℕ → List Row → Bool
+is_formed form name found = option_map_or (has_form form) (value_of name found) true
+
+-- what is given for a row of the table has the row's form
 abbrev pub is_well_formed : List ℕ → OptionKind → List Row → Bool
 is_well_formed name flag found = true
-is_well_formed name (value form) found = option_map_or (has_form form) (value_of name found) true
-is_well_formed name (operand form) found = option_map_or (has_form form) (value_of name found) true
+is_well_formed name (value form) found = is_formed form name found
+is_well_formed name (operand form) found = is_formed form name found
 is_well_formed name (operands form) found = list_all (has_form form) (values_of name found)
 
 -- each value that is given has its form

@@ -2,6 +2,9 @@
 //! The layer above uses `plan`, which answers `plan_of` of the words, else `first_word_fault`.
 #![tactic(auto)]
 
+mod commands;
+mod filter_words;
+mod findings;
 mod general_conf;
 mod input_conf;
 mod number;
