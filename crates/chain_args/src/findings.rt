@@ -96,6 +96,26 @@ impl<'a> Findings<'a> {
         }
     }
 
+    /// The same, with the number that holds where none is given.
+    pub(crate) fn number_or(
+        &self,
+        name: &str,
+        least: u64,
+        most: u64,
+        default: u64,
+    ) -> Result<u64, Refusal>
+        requires low { least ≤ default }
+        requires high { default ≤ most }
+        ensures reads { MatchResult result
+            (λ n. (is_formed (number least most) name.now self.now ≡ true)
+            × (n ≡ unwrap_or (read_value (number_within least most) name.now self.now) default))
+            (IsRefusedBy Value (is_formed (number least most) name.now self.now ≡ false)) }
+        ensures range { IfOk result (λ n. (least ≤ n) × (n ≤ most)) }
+    {
+        let number = self.number(name, least, most)?;
+        Ok(number.unwrap_or(default))
+    }
+
     /// The two numbers of an option, joined by a sign, where it is given.
     pub(crate) fn pair(
         &self,
