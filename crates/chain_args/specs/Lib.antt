@@ -7,6 +7,7 @@ pub mod Number
 pub mod Options
 pub mod Outputs
 pub mod Pairs
+pub mod Parts
 pub mod PlanOf
 pub mod Plugins
 pub mod Profile
@@ -15,3 +16,4 @@ pub mod RuleText
 pub mod Refusal
 pub mod Rules
 pub mod Segments
+pub mod WordsFault
