@@ -1,5 +1,5 @@
 -- How a reader of findings answers, where a table has many rows.
-use Rattle.std.proofs.Common.{◌≡◌, ◌∙◌, ◌&&◌, Bool, true, false, not, cond, List, Option, Some, None, Result, Ok, Err, refl, ap, ap₂, sym, subst, ℕ, zero, suc, [], ◌∷◌}
+use Rattle.std.proofs.Common.{◌≡◌, ◌∙◌, ◌&&◌, Bool, true, false, not, cond, List, Some, None, Result, Ok, Err, refl, ap, ap₂, sym, subst, ℕ, zero, suc, [], ◌∷◌}
 use Rattle.std.specs.Prelude.{slice_get}
 use Rattle.std.specs.Result.{IsErrAnd}
 use Rattle.clap.specs.Walk.{Row}
@@ -8,7 +8,6 @@ use Rattle.chain_args.specs.Profile.{Profile, first_broken, tests_of_findings}
 use Rattle.chain_args.specs.Refusal.{IsRefusedBy, ReadsFindings}
 use Rattle.chain_args.specs.declared.refusal.Refusal.{Refusal}
 use Rattle.chain_args.specs.declared.refusal.Refusal.TheVariants.{Broken, NoMemory}
-use Rattle.chain_args.specs.declared.words_rule.WordsRule.{WordsRule}
 use Rattle.chain_args.specs.declared.words_rule.WordsRule.TheVariants.{Conflict, Missing, Value}
 
 -- one row of the table is malformed

@@ -1,7 +1,7 @@
 -- Texts that are cut at a sign.
-use Rattle.std.proofs.Common.{◌≡◌, ◌++◌, ◌+◌, ◌<◌, ◌≤◌, ◌||◌, ◌∙◌, ℕ, Bool, true, false, not, cond, List, [], ◌∷◌, length, drop, Option, Some, None, refl, ap, ap₂, sym, arith, append_assoc, get_or}
+use Rattle.std.proofs.Common.{◌≡◌, ◌++◌, ◌+◌, ◌<◌, ◌≤◌, ◌||◌, ◌∙◌, ℕ, Bool, true, false, not, cond, List, [], ◌∷◌, length, Option, Some, None, refl, ap, ap₂, sym, arith, append_assoc}
 use Rattle.std.specs.Prelude.{◌==◌, option_map}
-use Rattle.std.specs.List.{All, after_first, before_first, list_any, position_or_len, slice_split}
+use Rattle.std.specs.List.{after_first, before_first, list_any, position_or_len, slice_split}
 use Rattle.std.proofs.lemmas.Bool.Decides.{nat_tests}
 use Rattle.std.proofs.lemmas.List.Splits.{slice_split_first, slice_split_none}
 use Rattle.std.proofs.lemmas.List.Sums.{fails_before_first}

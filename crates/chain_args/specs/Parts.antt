@@ -1,6 +1,6 @@
 -- What the segments read so far make, while a command line is read.
 -- This project's own rule.
-use Rattle.std.specs.Prelude.{◌≡◌, ◌≤◌, ℕ, List, [], None, Option, Some, IfSome, count_by, is_some, length, slice_get, unwrap_or}
+use Rattle.std.specs.Prelude.{◌≡◌, ◌≤◌, ℕ, List, [], Option, Some, IfSome, count_by, is_some, length, slice_get, unwrap_or}
 use Rattle.std.specs.List.{All, list_any}
 use Rattle.plug_conf.specs.Lawful.{IsLawful}
 use Rattle.chain_args.specs.LawfulPlan.{IsLawfulInput}

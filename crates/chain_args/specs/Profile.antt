@@ -33,6 +33,6 @@ tests_of_findings p found = (Missing, not (p.has_needed found))
 -- the first rule that the words break
 abbrev pub broken_option : {C : Type 0} → Profile C → List (List ℕ) → Option WordsRule
 broken_option p words = first_broken (
-  (Shape, not (is_taken (command_of p.rows) words))
-  ∷ tests_of_findings p (findings (command_of p.rows) words)
-)
+    (Shape, not (is_taken (command_of p.rows) words))
+    ∷ tests_of_findings p (findings (command_of p.rows) words)
+    )

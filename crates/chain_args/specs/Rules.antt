@@ -1,13 +1,13 @@
 -- Which rule of the command line is broken first.
 -- This project's own rule.
-use Rattle.std.specs.Prelude.{ℕ, ◌+◌, ◌==◌, ◌&&◌, ◌||◌, Bool, List, [], ◌∷◌, ◌++◌, None, Option, Some, count_by, is_some, length, nat_le, not, option_and_then}
+use Rattle.std.specs.Prelude.{ℕ, ◌+◌, ◌&&◌, ◌||◌, Bool, List, [], ◌∷◌, ◌++◌, None, Option, Some, count_by, is_some, length, nat_le, not, option_and_then}
 use Rattle.std.specs.List.{list_any}
 use Rattle.chain_args.specs.General.{general}
 use Rattle.chain_args.specs.Inputs.{profile_of_input}
 use Rattle.chain_args.specs.Outputs.{profile_of_output}
 use Rattle.chain_args.specs.Plugins.{profile_of_plugin}
 use Rattle.chain_args.specs.Profile.{broken_option, first_broken}
-use Rattle.chain_args.specs.Segments.{Segment, general_words, input_of, is_input, is_output, is_plugin, output_of, own_words, plugin_of, segments, word_count}
+use Rattle.chain_args.specs.Segments.{Segment, general_words, input_of, is_input, is_output, is_plugin, name_of, output_of, own_words, plugin_of, segments, word_count}
 use Rattle.chain_args.specs.declared.words_rule.WordsRule.{WordsRule}
 use Rattle.chain_args.specs.declared.words_rule.WordsRule.TheVariants.{NoName, TooMany, Twice, UnknownPlugin}
 
@@ -22,7 +22,7 @@ comes_twice before s =
 
 -- nothing, or a segment word, follows
 abbrev pub has_no_name : Segment → Bool
-has_no_name s = length s.others == 0
+has_no_name s = not (is_some (name_of s))
 
 -- the name is none of an input, a plugin or an output
 abbrev pub is_unknown : Segment → Bool

@@ -142,12 +142,7 @@ impl<'a> Findings<'a> {
     }
 
     /// The numbers and ranges of an option, none above a most; none at all where it is not given.
-    pub(crate) fn ranges(
-        &self,
-        alloc: Global,
-        name: &str,
-        most: u64,
-    ) -> Result<NumberSet, Refusal>
+    pub(crate) fn ranges(&self, alloc: Global, name: &str, most: u64) -> Result<NumberSet, Refusal>
         ensures reads { MatchResult result
             (λ set. (is_formed (ranges most) name.now self.now ≡ true)
             × (set ≡ unwrap_or (read_value (ranges_of most) name.now self.now) []))

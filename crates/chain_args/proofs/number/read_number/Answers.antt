@@ -1,4 +1,3 @@
-use Rattle.std.proofs.Common.{◌≡◌}
 use Rattle.chain_args.proofs.NumberLemmas.{after_sign, without_sign}
 use Rattle.chain_args.proofs.number.read_number.Goals as goal
 

@@ -1,4 +1,4 @@
-use Rattle.std.proofs.Common.{◌≡◌, ◌∙◌, sym, arith}
+use Rattle.std.proofs.Common.{◌∙◌, sym, arith}
 use Rattle.chain_args.proofs.NumberLemmas.{if_above, if_below, if_inside, within_none, within_some}
 use Rattle.chain_args.proofs.number.read_number_within.Goals as goal
 use Rattle.chain_args.proofs.number.read_number_within.Goals.{else-least-number-via-then-least-number+else-number-most, else-least-number-via-else-least-number}

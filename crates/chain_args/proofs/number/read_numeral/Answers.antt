@@ -1,7 +1,5 @@
-use Rattle.std.proofs.Common.{◌≡◌, ◌≢◌, ◌∙◌, sym, subst, true, false, true≢false, arith, get_or, Option, IfSome, IfNone, ℕ, ◌≤◌, ◌^◌}
-use Rattle.std.specs.Result.{result_ok}
+use Rattle.std.proofs.Common.{◌≢◌, ◌∙◌, sym, true≢false, arith, get_or}
 use Rattle.std.proofs.lemmas.Str.Pattern.{starts_char}
-use Rattle.chain_args.specs.Number.{numeral}
 use Rattle.chain_args.proofs.NumberLemmas.{no_plus, parsed_none, parsed_some}
 use Rattle.chain_args.proofs.number.read_numeral.Goals as goal
 

@@ -1,4 +1,4 @@
-use Rattle.std.proofs.Common.{◌≡◌, ◌∙◌, sym, refl, None, Some}
+use Rattle.std.proofs.Common.{◌∙◌, sym, refl, None, Some}
 use Rattle.chain_args.specs.Number.{number_within}
 use Rattle.chain_args.proofs.SignLemmas.{pair_of_two, pair_wants_sign}
 use Rattle.chain_args.proofs.pairs.read_pair.Goals as goal

@@ -1,4 +1,4 @@
-use Rattle.std.proofs.Common.{◌≡◌, ◌∙◌, sym, refl, None, Some, arith}
+use Rattle.std.proofs.Common.{◌∙◌, sym, refl, None, Some, arith}
 use Rattle.chain_args.specs.Number.{number_within}
 use Rattle.chain_args.proofs.SignLemmas.{in_order, out_of_order, range_alone, range_of_two}
 use Rattle.chain_args.proofs.ranges.read_range.Goals as goal

@@ -1,4 +1,4 @@
-use Rattle.std.proofs.Common.{◌≡◌, ◌++◌, ◌∙◌, ◌<◌, ◌+◌, ◌∷◌, [], ap, rules, sym, refl, None, Some, arith}
+use Rattle.std.proofs.Common.{◌∙◌, ◌<◌, ◌+◌, ap, rules, sym, Some, arith}
 use Rattle.std.specs.List.{slice_split}
 use Rattle.std.proofs.lemmas.List.Elements.{All-push}
 use Rattle.plug_conf.specs.NumberSet.{IsOrderedPair}

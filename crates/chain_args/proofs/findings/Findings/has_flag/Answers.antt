@@ -1,4 +1,4 @@
-use Rattle.std.proofs.Common.{◌≡◌, ◌∙◌, ap, sym}
+use Rattle.std.proofs.Common.{◌∙◌, ap, sym}
 use Rattle.clap.specs.Matches.{found_of}
 use Rattle.chain_args.specs.Options.{has_flag, is_by_words}
 use Rattle.chain_args.proofs.FindingsLemmas.{flag_from}

@@ -1,4 +1,4 @@
-use Rattle.std.proofs.Common.{◌≡◌, ◌∙◌, refl, sym}
+use Rattle.std.proofs.Common.{◌∙◌, refl}
 use Rattle.clap.proofs.WalkLemmas.{both}
 use Rattle.chain_args.proofs.FindingsLemmas.{found_from, kinds_from, refused_from, taken_from}
 use Rattle.chain_args.proofs.findings.Findings.of.Goals as goal

@@ -1,4 +1,4 @@
-use Rattle.std.proofs.Common.{◌≡◌, ◌∙◌, ap}
+use Rattle.std.proofs.Common.{◌∙◌, ap}
 use Rattle.clap.specs.Matches.{found_of}
 use Rattle.chain_args.specs.Options.{value_of}
 use Rattle.chain_args.proofs.FindingsLemmas.{value_from}
