@@ -33,3 +33,6 @@ pub use plan_type::Plan;
 pub use plugin_list::PluginList;
 pub use words_fault::WordsFault;
 pub use words_rule::WordsRule;
+
+#[cfg(test)]
+mod tests;
