@@ -1,6 +1,8 @@
 pub mod FilterRule
 pub mod FilterState
 pub mod LiveCount
+pub mod PatternRule
+pub mod PatternState
 pub mod SkipRule
 pub mod SliceRule
 pub mod SliceState
