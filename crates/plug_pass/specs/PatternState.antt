@@ -8,8 +8,11 @@ use Rattle.plug_pass.specs.declared.pattern.Pattern.{Pattern}
 -- the settings of the plugin
 abbrev pub conf_of : Pattern → PatternConf
 conf_of s = record {
-  operand = s.pattern; pid = s.pids; negate = s.negate;
-  offset_pusi = s.offset_pusi; offset_non_pusi = s.offset_non_pusi;
+  operand = s.pattern;
+  pid = s.pids;
+  negate = s.negate;
+  offset_pusi = s.offset_pusi;
+  offset_non_pusi = s.offset_non_pusi;
 }
 
 -- the row of bytes is the pattern over and over, and the offsets lie in a payload

@@ -12,3 +12,6 @@ pub use filter::Filter;
 pub use pattern::Pattern;
 pub use skip::Skip;
 pub use slice::Slice;
+
+#[cfg(test)]
+mod tests;

@@ -59,7 +59,11 @@ impl Pattern {
         ensures offset { result ≡ offset_for (conf_of self.now) packet.now }
         ensures range { result < 184 }
     {
-        let offset = if packet.unit_start() { self.offset_pusi } else { self.offset_non_pusi };
+        let offset = if packet.unit_start() {
+            self.offset_pusi
+        } else {
+            self.offset_non_pusi
+        };
         offset.unwrap_or(0)
     }
 
@@ -72,7 +76,11 @@ impl Pattern {
             return;
         }
         if let Some(start) = packet.payload_start() {
-            write_from(packet, u64::from(start) + self.offset_for(packet), &self.filled);
+            write_from(
+                packet,
+                u64::from(start) + self.offset_for(packet),
+                &self.filled,
+            );
         }
     }
 }

@@ -74,7 +74,10 @@ fn turn_come(from: Option<u64>, deed: Deed, index: u64, last: Option<Turn>) -> O
 {
     match (from, last) {
         (Some(from), None) if from <= index => Some(Turn { from, deed }),
-        (Some(from), Some(other)) if from <= index && other.from < from => Some(Turn { from, deed }),
+        (Some(from), Some(other)) if from <= index && other.from < from => Some(Turn {
+            from,
+            deed,
+        }),
         (_, last) => last,
     }
 }
