@@ -1,6 +1,5 @@
-use Rattle.std.proofs.Common.{◌≡◌, ℕ, ◌-◌, List, take, ap, sym, ◌∙◌, arith}
+use Rattle.std.proofs.Common.{◌-◌, take, ap, sym, ◌∙◌, arith}
 use Rattle.ts_packet.specs.Payload.{with_piece}
-use Rattle.plug_pass.specs.PatternRule.{repeated}
 use Rattle.plug_pass.proofs.Repeating.{take-repeated, patterned-in}
 use Rattle.plug_pass.proofs.pattern.write_from.Goals as goal
 
