@@ -1,6 +1,5 @@
 -- What the packets of an input are, once it is known how its bytes are cut into packets.
-use Rattle.std.proofs.Common.{◌≡◌, ℕ, zero, suc, ◌+◌, ◌*◌, ◌≤◌, ◌<◌, Bool, true, false, List, [], ◌∷◌, ◌++◌, length, take, drop, get_or, cond, refl, ap, sym, ◌∙◌, arith, append_assoc, length-append, take_at, drop_at, eq-eqb, ◌&&◌, if◌then◌else◌}
-use Rattle.std.proofs.lemmas.Grind.{common_steps}
+use Rattle.std.proofs.Common.{◌≡◌, ℕ, zero, suc, ◌+◌, ◌*◌, ◌≤◌, Bool, true, false, List, [], ◌∷◌, ◌++◌, length, get_or, refl, ap, ◌∙◌, arith, append_assoc, length-append, take_at, drop_at, eq-eqb, ◌&&◌, zero-add, ◌-◌}
 use Rattle.std.proofs.lemmas.Bool.{cond-true, cond-false, le-leb}
 use Rattle.std.proofs.lemmas.List.{get_or_append_left}
 use Rattle.std.specs.List.{concat}
@@ -59,3 +58,30 @@ input_of_bytes-all rows rest are none =
     rw (packets_of-all rows rest are none)
     (ap (λ r. let made : InputList = record { packets = rows; ended = end_behind (length rows) r } in made)
     (drop_at (concat rows) rest (188 * length rows) (length-concat-rows rows are)))
+
+suc-add : (a b : ℕ) → suc a + b ≡ suc (a + b)
+suc-add a b = omega arith
+
+-- the rows come first, whatever follows them
+pub packets_within-front : (most : ℕ) (rows : List (List ℕ)) (rest : List ℕ) → ArePacketRows rows → packets_within (length rows + most) (concat rows ++ rest) ≡ rows ++ packets_within most rest
+packets_within-front most [] rest are = ap (λ n. packets_within n rest) (zero-add most)
+packets_within-front most (row ∷ rows) rest are =
+    ap (λ n. packets_within n ((row ++ concat rows) ++ rest)) (suc-add (length rows) most)
+    ∙ ap (packets_within (suc (length rows + most))) (append_assoc row (concat rows) rest)
+    ∙ packets_within-one (length rows + most) row (concat rows ++ rest) are.0
+    ∙ ap (λ rest. row ∷ rest) (packets_within-front most rows rest are.1)
+
+-- with one more packet behind the rows
+pub packets_of-more : (rows : List (List ℕ)) (row more : List ℕ) → ArePacketRows rows → IsPacketRow row
+    → (rest : List (List ℕ)) × (packets_of (concat rows ++ (row ++ more)) ≡ rows ++ (row ∷ rest))
+packets_of-more rows row more are is =
+    let bytes : List ℕ = concat rows ++ (row ++ more) in
+    let most : ℕ = length bytes - length rows - 1 in
+    let whole : length bytes ≡ 188 * length rows + (188 + length more) =
+    length-append (concat rows) (row ++ more) ∙ rw (length-concat-rows rows are, length-append row more, is.whole) refl in
+    let fuel : length bytes ≡ length rows + suc most = omega arith in (
+      packets_within most more,
+      ap (λ n. packets_within n bytes) fuel
+          ∙ packets_within-front (suc most) rows (row ++ more) are
+          ∙ ap (λ rest. rows ++ rest) (packets_within-one most row more is),
+    )

@@ -1,4 +1,5 @@
 ghost use Rattle.std.specs.Prelude.{◌≡◌};
+ghost use Rattle.ts_outside.specs.Desk.{file_of};
 
 use crate::file_bytes::FileBytes;
 use crate::name_text::NameText;
@@ -41,5 +42,17 @@ impl FileList {
     {
         let FileList { files } = self;
         files
+    }
+
+    /// Lends the bytes of a name: those of its first pair, and none where there is no such pair.
+    pub fn bytes_of(&self, name: &str) -> &[u8]
+        ensures { result.now ≡ file_of self.now name.now }
+    {
+        for file in self.files.as_slice() {
+            if file.0.as_str() == name {
+                return file.1.as_slice();
+            }
+        }
+        &[]
     }
 }

@@ -1,5 +1,7 @@
-ghost use Rattle.std.specs.Prelude.{◌≡◌, ◌↔◌, IsTrue, Contains};
+ghost use Rattle.std.specs.Prelude.{◌≡◌, ◌==◌, ◌↔◌, IsTrue, Contains, IfOk};
+ghost use Rattle.std.specs.List.{list_any};
 
+use std::alloc::AllocError;
 use std::marker::Model;
 
 /// Numbers, seen as the list of them: in a `FailPlan` the calls that fail, counted from 1.
@@ -39,9 +41,18 @@ impl NumberList {
         numbers
     }
 
+    /// A second list, equal to this one. `AllocError` leaves nothing behind.
+    pub fn copy(&self) -> Result<NumberList, AllocError>
+        ensures { IfOk result (λ l. l ≡ self.now) }
+    {
+        let numbers = Vec::from_slice(*self.numbers.allocator(), self.numbers.as_slice())?;
+        Ok(NumberList { numbers })
+    }
+
     /// Whether a number is in the list.
     pub fn has(&self, number: u64) -> bool
-        ensures { IsTrue result ↔ Contains self.now number }
+        ensures member { IsTrue result ↔ Contains self.now number }
+        ensures value { result ≡ list_any (λ n. n == number) self.now }
     {
         self.numbers.as_slice().contains(&number)
     }
