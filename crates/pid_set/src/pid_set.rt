@@ -1,5 +1,6 @@
 ghost use Rattle.std.specs.Prelude.{◌≡◌, ◌==◌, ◌<◌, IfOk, length};
 ghost use Rattle.pid_set.specs.PidTable.{IsTableOf};
+ghost use Rattle.pid_set.specs.Selection.{is_selected};
 ghost use Rattle.plug_conf.specs.Limits.{pid_bound};
 ghost use Rattle.plug_conf.specs.NumberSet.{has_number};
 
@@ -45,6 +46,16 @@ impl PidSet {
         ensures { result ≡ has_number self.now pid }
     {
         self.table[usize::from(pid)]
+    }
+
+    /// Whether the PID is selected: any where the set is empty, else one that is in the set, or with
+    /// `negate` one that is not.
+    #[inline]
+    pub fn selects(&self, negate: bool, pid: u16) -> bool
+        requires { pid < pid_bound }
+        ensures { result ≡ is_selected self.now negate pid }
+    {
+        self.is_empty() || self.has(pid) != negate
     }
 
     /// Whether there is no PID in the set.

@@ -5,6 +5,10 @@ use Rattle.plug_pass.specs.declared.filter.Filter.{Filter}
 -- the settings of the plugin
 abbrev pub conf_of : Filter → FilterConf
 conf_of s = record {
-  pid = s.pids; pcr = s.pcr; unit_start = s.unit_start;
-  scrambled = s.scrambled; negate = s.negate; stuffing = s.stuffing;
+  pid = s.pids;
+  pcr = s.pcr;
+  unit_start = s.unit_start;
+  scrambled = s.scrambled;
+  negate = s.negate;
+  stuffing = s.stuffing;
 }

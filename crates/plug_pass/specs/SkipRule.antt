@@ -1,7 +1,7 @@
 -- The rule of `skip`. This project's own rule.
 use Rattle.std.specs.Prelude.{ℕ, [], nat_lt, if◌then◌else◌, false}
 use Rattle.chain_model.specs.PluginRule.{PluginRule, passes, drops}
-use Rattle.plug_pass.specs.LiveCount.{live_count}
+use Rattle.plugin_trait.specs.LiveCount.{live_count}
 
 -- the first `count` packets are dropped
 abbrev pub skip_rule : ℕ → PluginRule

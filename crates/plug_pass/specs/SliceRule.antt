@@ -3,7 +3,7 @@ use Rattle.std.specs.Prelude.{ℕ, List, [], ◌∷◌, Option, None, Some, fals
 use Rattle.ts_packet.specs.Packet.{null_packet}
 use Rattle.chain_model.specs.PluginRule.{PluginRule, Fate, passes, drops, stops}
 use Rattle.plug_conf.specs.declared.slice_conf.SliceConf.{SliceConf}
-use Rattle.plug_pass.specs.LiveCount.{live_count}
+use Rattle.plugin_trait.specs.LiveCount.{live_count}
 use Rattle.plug_pass.specs.declared.deed.Deed.{Deed}
 use Rattle.plug_pass.specs.declared.deed.Deed.TheVariants.{Drop, Null, Pass, Stop}
 use Rattle.plug_pass.specs.declared.deed.Turn.{Turn}

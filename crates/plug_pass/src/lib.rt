@@ -4,9 +4,14 @@
 
 mod deed;
 mod filter;
+mod pattern;
 mod skip;
 mod slice;
 
 pub use filter::Filter;
+pub use pattern::Pattern;
 pub use skip::Skip;
 pub use slice::Slice;
+
+#[cfg(test)]
+mod tests;

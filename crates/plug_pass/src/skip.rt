@@ -40,7 +40,7 @@ impl Skip {
 impl Plugin for Skip {
     ghost use Rattle.std.specs.Prelude.{◌≡◌, ◌≤◌, ◌-◌, length, Some, refl};
     ghost use Rattle.plug_pass.specs.SkipRule.{skip_rule};
-    ghost use Rattle.plug_pass.specs.LiveCount.{live_count};
+    ghost use Rattle.plugin_trait.specs.LiveCount.{live_count};
 
     ghost rule = { λ s. skip_rule s.count };
 

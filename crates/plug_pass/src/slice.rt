@@ -74,14 +74,17 @@ fn turn_come(from: Option<u64>, deed: Deed, index: u64, last: Option<Turn>) -> O
 {
     match (from, last) {
         (Some(from), None) if from <= index => Some(Turn { from, deed }),
-        (Some(from), Some(other)) if from <= index && other.from < from => Some(Turn { from, deed }),
+        (Some(from), Some(other)) if from <= index && other.from < from => Some(Turn {
+            from,
+            deed,
+        }),
         (_, last) => last,
     }
 }
 
 impl Plugin for Slice {
     ghost use Rattle.std.specs.Prelude.{◌≡◌, ◌≤◌, length, Some, refl};
-    ghost use Rattle.plug_pass.specs.LiveCount.{live_count};
+    ghost use Rattle.plugin_trait.specs.LiveCount.{live_count};
     ghost use Rattle.plug_pass.specs.SliceRule.{slice_rule};
     ghost use Rattle.plug_pass.specs.SliceState.{conf_of};
 

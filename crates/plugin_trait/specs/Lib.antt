@@ -2,3 +2,4 @@ pub mod Steps
 pub mod Marks
 pub mod PlacedLines
 pub mod Driving
+pub mod LiveCount
