@@ -1,15 +1,14 @@
 -- The close of a run whose stages do as their lists say: the cut and the cause are the pure ones, or those of
 -- a lawful fault.
-use Rattle.std.proofs.Common.{◌≡◌, ◌≢◌, ◌⊎◌, inl, inr, ℕ, zero, suc, min, ◌+◌, ◌<◌, ◌≤◌, List, [], ◌∷◌, ◌++◌, length, take, drop, map, Bool, true, false, cond, Option, Some, None, refl, ap, sym, ◌∙◌, subst, arith}
-use Rattle.std.specs.Prelude.{is_some, ◌==◌, unwrap_or, find, IsTrue}
+use Rattle.std.proofs.Common.{◌≡◌, ◌≢◌, ◌⊎◌, inl, inr, ℕ, zero, suc, ◌<◌, ◌≤◌, List, [], ◌∷◌, ◌++◌, length, take, drop, Bool, true, false, cond, Option, Some, None, refl, ap, sym, ◌∙◌, subst, arith}
+use Rattle.std.specs.Prelude.{is_some, unwrap_or, find, IsTrue}
 use Rattle.std.specs.Option.{option_or, option_and_then}
 use Rattle.std.specs.List.{AllByRecursion, last_or}
-use Rattle.std.proofs.lemmas.Bool.{cases_eq, cases_Bool, cases_lt, cond-true, cond-false, eqb-true, eqb-false, eq-eqb, ne_eqb}
+use Rattle.std.proofs.lemmas.Bool.{cases_eq, cases_Bool, cases_lt, cond-true, cond-false, eqb-true, eq-eqb, ne_eqb}
 use Rattle.std.proofs.lemmas.List.{take-append-drop, length-take-le}
 use Rattle.ts_packet.specs.declared.cell.Cell.{Cell}
 use Rattle.chain_model.specs.declared.cause.Cause.{Cause}
 use Rattle.chain_model.specs.declared.cause.Cause.TheVariants as cause
-use Rattle.chain_model.specs.declared.input_end.InputEnd.{InputEnd}
 use Rattle.chain_model.specs.declared.input_end.InputEnd.TheVariants.{End, Sync, ReadFault, TooLong}
 use Rattle.chain_model.specs.Prefix.{IsPrefix}
 use Rattle.chain_model.specs.PluginRule.{PluginRule, passing_rule}
@@ -21,7 +20,6 @@ use Rattle.chain_model.proofs.ApplyLaws.{apply-length, apply-before, apply-passe
 use Rattle.chain_model.proofs.AgreementLaws.{agreement_of-more, agreement_of-first}
 use Rattle.chain_model.proofs.GreatestLaws.{IsKnownWithin, IsKept, greatest-all, greatest-kept}
 use Rattle.chain_core.specs.declared.core_plan.CorePlan.{CorePlan}
-use Rattle.chain_core.specs.declared.mark.Mark.{Mark}
 use Rattle.chain_core.specs.declared.stage_end.StageEnd.{StageEnd}
 use Rattle.chain_core.specs.declared.stage_end.StageEnd.TheVariants.{Input, Last, Stop, Refuse, WriteFault, NoMemory, Followed}
 use Rattle.chain_core.specs.Stages.{has_stage, stages_of}
@@ -30,10 +28,10 @@ use Rattle.chain_core.specs.Machine.{ChainState, marks_of}
 use Rattle.chain_core.specs.ChainRun.{AllEnded}
 use Rattle.chain_core.specs.Keeps.{IsEndOf, EndsAs}
 use Rattle.chain_core.specs.Close.{cause_of_stage, ending_with, ending_of_mark, told_endings, least_among, cut_at_close, cause_at_close}
-use Rattle.chain_core.specs.EveryOrder.{EndsBy, IsCutWithin, SoFar, IsPureClose, IsToldCause, AtClose}
+use Rattle.chain_core.specs.EveryOrder.{EndsBy, IsCutWithin, IsPureClose, IsToldCause, AtClose}
 use Rattle.chain_core.proofs.Facts.{falls, all_both, prefix-length, prefix-whole, prefix-take, prefix-is_take}
 use Rattle.chain_core.proofs.Members.{stages-have}
-use Rattle.chain_core.proofs.Soundness.{gave, took_count, AreUsers, Sound, gave-falls}
+use Rattle.chain_core.proofs.Soundness.{gave, AreUsers, Sound, gave-falls}
 use Rattle.chain_core.proofs.ListsKept.{Faithful}
 use Rattle.chain_core.proofs.Endings.{up_to, SomeWithin, least-is, up_to-all, up_to-some, until_at, last_at, until_at-more, last_at-more, until_at-same, until_at-some, until_at-none, last_at-is, causes_at-here, causes_at-elsewhere}
 

@@ -1,6 +1,6 @@
 -- The core's steps are the machine's steps.
-use Rattle.std.proofs.Common.{◌≡◌, ◌≢◌, ℕ, suc, ◌+◌, ◌<◌, ◌≤◌, List, ◌++◌, length, map, Bool, Option, Some, None, refl, ap, sym, ◌∙◌, subst, arith, inl, inr, length-append, get_or-set_same, get_or-set_other}
-use Rattle.std.specs.Prelude.{slice_set, slice_index_or, ◌==◌, if◌then◌else◌}
+use Rattle.std.proofs.Common.{◌≡◌, ◌≢◌, ℕ, suc, ◌+◌, ◌<◌, ◌≤◌, List, length, map, Option, ap, sym, ◌∙◌, subst, arith, inl, inr, length-append, get_or-set_same, get_or-set_other}
+use Rattle.std.specs.Prelude.{slice_set, ◌==◌, if◌then◌else◌}
 use Rattle.std.proofs.lemmas.Bool.{cases_eq}
 use Rattle.std.proofs.lemmas.List.{length-set}
 use Rattle.ts_packet.specs.declared.cell.Cell.{Cell}
@@ -11,9 +11,9 @@ use Rattle.chain_core.specs.declared.stage_word.StageWord.{StageWord}
 use Rattle.chain_core.specs.Stages.{has_stage, stages_of}
 use Rattle.chain_core.specs.Close.{closed_of}
 use Rattle.chain_core.specs.Numbers.{Marks, limit_of, takes_of, news_of, MayVisit}
-use Rattle.chain_core.specs.Machine.{StageState, ChainState, Visit, mark_of, marks_of, noted, served, visited, Allowed}
+use Rattle.chain_core.specs.Machine.{ChainState, Visit, mark_of, marks_of, noted, served, visited}
 use Rattle.chain_core.specs.CoreNumbers.{CoreNumbers, fresh_mark, mark_in, marks_in, StandsFor, noted_mark, taking_mark, noted_numbers, served_numbers}
-use Rattle.chain_core.proofs.Stepping.{noted_stage, taking, noted-same, noted-other, noted-told, served-same, served-other}
+use Rattle.chain_core.proofs.Stepping.{noted_stage, noted-same, noted-other, noted-told, served-same, served-other}
 
 -- the marks as one function
 pub stands-marks : (core : CoreNumbers) (state : ChainState) → StandsFor core state → marks_in core ≡ marks_of state

@@ -1,8 +1,8 @@
 -- Small facts on numbers, lists and first parts of lists.
-use Rattle.std.proofs.Common.{◌≡◌, ◌≢◌, ◌⊎◌, inl, inr, ℕ, zero, suc, ◌+◌, ◌<◌, ◌≤◌, List, [], ◌∷◌, ◌++◌, length, take, Bool, true, false, cond, Option, Some, None, refl, ap, sym, ◌∙◌, subst, arith, append-nil, length-append, append_assoc}
+use Rattle.std.proofs.Common.{◌≡◌, inl, inr, ℕ, zero, suc, ◌≤◌, List, [], ◌∷◌, ◌++◌, length, take, Bool, true, false, cond, refl, ap, sym, ◌∙◌, subst, arith, append-nil, length-append}
 use Rattle.std.proofs.lemmas.Bool.{cases_eq}
-use Rattle.std.proofs.lemmas.List.{take_at, take-append-le, take_all}
-use Rattle.std.specs.List.{All, AllByRecursion, slice_index_or}
+use Rattle.std.proofs.lemmas.List.{take_at, take-append-le}
+use Rattle.std.specs.List.{All, AllByRecursion}
 use Rattle.chain_model.specs.Prefix.{IsPrefix}
 
 -- a row of numbers that does not rise is nowhere above an earlier place

@@ -1,31 +1,29 @@
 -- In a run whose stages do as their lists say, each stage gives a first part of its pure list, ends as that
 -- list does, and tells its agreement where it is due.
-use Rattle.std.proofs.Common.{◌≡◌, ◌≢◌, ◌⊎◌, inl, inr, ℕ, zero, suc, ◌+◌, ◌<◌, ◌≤◌, List, [], ◌∷◌, ◌++◌, length, take, Bool, true, false, Option, Some, None, refl, ap, sym, ◌∙◌, subst, arith, length-append}
-use Rattle.std.specs.List.{AllByRecursion}
+use Rattle.std.proofs.Common.{◌≡◌, ◌≢◌, inl, inr, ℕ, zero, suc, ◌+◌, ◌≤◌, List, [], ◌∷◌, ◌++◌, length, take, true, false, Option, Some, None, refl, ap, sym, ◌∙◌, subst, arith, length-append}
 use Rattle.std.specs.Option.{option_or}
 use Rattle.std.proofs.lemmas.Bool.{cases_eq, cases_lt, cond-true}
 use Rattle.std.proofs.lemmas.List.{length-take-le, take-take}
 use Rattle.ts_packet.specs.declared.cell.Cell.{Cell}
-use Rattle.chain_model.specs.declared.input_end.InputEnd.{InputEnd}
 use Rattle.chain_model.specs.declared.input_end.InputEnd.TheVariants.{End, Sync, ReadFault, TooLong}
 use Rattle.chain_model.specs.Prefix.{IsPrefix}
-use Rattle.chain_model.specs.PluginRule.{PluginRule, passing_rule}
+use Rattle.chain_model.specs.PluginRule.{PluginRule}
 use Rattle.chain_model.specs.Apply.{OwnEnd, last_passed, input_over, StageList, apply}
 use Rattle.chain_model.specs.StageLists.{rule_behind, stage_list}
 use Rattle.chain_model.specs.Joint.{agreement_of}
 use Rattle.chain_model.proofs.PrefixLemmas.{IsPrefix-trans, IsPrefix-take, IsPrefix-apply}
 use Rattle.chain_model.proofs.ApplyLaws.{apply-ended, apply-last, apply-last_some}
-use Rattle.chain_model.proofs.AgreementLaws.{agreement_of-more, agreement_of-first, agreement_of-within, agreement_of-nothing}
+use Rattle.chain_model.proofs.AgreementLaws.{agreement_of-more, agreement_of-first, agreement_of-nothing}
 use Rattle.chain_core.specs.declared.core_plan.CorePlan.{CorePlan}
 use Rattle.chain_core.specs.declared.stage_end.StageEnd.{StageEnd}
 use Rattle.chain_core.specs.declared.stage_end.StageEnd.TheVariants.{Input, Last, Stop, Refuse, WriteFault, NoMemory, Followed}
-use Rattle.chain_core.specs.Stages.{has_stage, stages_of}
-use Rattle.chain_core.specs.Numbers.{agreed_with, takes_of}
-use Rattle.chain_core.specs.Machine.{StageState, ChainState, Visit, start, marks_of, noted, visited, Allowed}
+use Rattle.chain_core.specs.Stages.{has_stage}
+use Rattle.chain_core.specs.Numbers.{agreed_with}
+use Rattle.chain_core.specs.Machine.{StageState, ChainState, Visit, start, visited, Allowed}
 use Rattle.chain_core.specs.ChainRun.{ChainRun, state_after, took}
-use Rattle.chain_core.specs.Keeps.{IsEndOf, EndsAs, KeepsList, KeepsAgreement, Agrees, list_made, StageKeeps, Keeps, AllKeep}
+use Rattle.chain_core.specs.Keeps.{IsEndOf, EndsAs, KeepsList, KeepsAgreement, Agrees, list_made, Keeps, AllKeep}
 use Rattle.chain_core.proofs.Facts.{prefix-length, prefix-whole, prefix-take, take-prefix}
-use Rattle.chain_core.proofs.Stepping.{noted_stage, taking, visited-other, visited-same}
+use Rattle.chain_core.proofs.Stepping.{visited-other, visited-same}
 use Rattle.chain_core.proofs.Soundness.{gave, took_count, AreUsers, Sound, run-sound}
 
 -- an end that holds of one list holds of another that ends so where the first does

@@ -1,5 +1,5 @@
 -- The stages of a set are those that it has.
-use Rattle.std.proofs.Common.{◌≡◌, ℕ, zero, suc, List, [], ◌∷◌, ◌++◌, Bool, true, false, cond, refl, sym, ◌∙◌}
+use Rattle.std.proofs.Common.{◌≡◌, ℕ, zero, suc, [], ◌∷◌, Bool, true, false, cond, refl}
 use Rattle.std.specs.List.{AllByRecursion}
 use Rattle.chain_core.specs.declared.stage_set.StageSet.{StageSet}
 use Rattle.chain_core.specs.Stages.{has_stage, stages_below, stages_of}

@@ -1,15 +1,11 @@
 -- Worked rows of the machine, computed on the definitions: two plugins between the input and the output.
-use Rattle.std.proofs.Common.{◌≡◌, ℕ, List, [], ◌∷◌, ◌++◌, Bool, true, false, Option, Some, None, replicate, refl}
+use Rattle.std.proofs.Common.{◌≡◌, ℕ, List, [], ◌∷◌, ◌++◌, false, Some, None, replicate, refl}
 use Rattle.std.specs.Prelude.{reverse}
-use Rattle.ts_packet.specs.declared.cell.Cell.{Cell}
-use Rattle.ts_packet.specs.declared.cell.Cell.TheVariants.{Live, Dropped}
+use Rattle.ts_packet.specs.declared.cell.Cell.TheVariants.{Dropped}
 use Rattle.chain_model.specs.declared.cause.Cause.TheVariants as cause
-use Rattle.chain_model.specs.declared.input_end.InputEnd.TheVariants.{End}
-use Rattle.chain_core.specs.declared.closed.Closed.{Closed}
 use Rattle.chain_core.specs.declared.core_plan.CorePlan.{CorePlan}
-use Rattle.chain_core.specs.declared.news.News.{News}
 use Rattle.chain_core.specs.declared.stage_end.StageEnd.{StageEnd}
-use Rattle.chain_core.specs.declared.stage_end.StageEnd.TheVariants.{Input, Last, Stop, WriteFault, NoMemory, Followed}
+use Rattle.chain_core.specs.declared.stage_end.StageEnd.TheVariants.{Stop, WriteFault, NoMemory, Followed}
 use Rattle.chain_core.specs.Stages.{has_stage, stages_below, stages_of}
 use Rattle.chain_core.specs.Numbers.{limit_of, news_of}
 use Rattle.chain_core.specs.Machine.{Visit, marks_of, with_stage, noted, served, visited}

@@ -1,24 +1,22 @@
 -- What holds of every state that the machine comes to, whatever the stages' cells are.
-use Rattle.std.proofs.Common.{◌≡◌, ◌≢◌, ◌⊎◌, inl, inr, ℕ, zero, suc, min, ◌+◌, ◌-◌, ◌<◌, ◌≤◌, List, [], ◌∷◌, ◌++◌, length, map, Bool, true, false, cond, Option, Some, None, refl, ap, sym, ◌∙◌, subst, arith, length-append}
-use Rattle.std.specs.Prelude.{is_some, ◌==◌, ◌&&◌, nat_le, IsTrue}
-use Rattle.std.specs.Option.{option_or}
+use Rattle.std.proofs.Common.{◌≡◌, ◌≢◌, ◌⊎◌, inl, inr, ℕ, zero, suc, min, ◌+◌, ◌-◌, ◌≤◌, List, [], ◌∷◌, length, map, Bool, true, false, cond, Option, Some, None, refl, ap, sym, ◌∙◌, subst, arith, length-append}
+use Rattle.std.specs.Prelude.{is_some, ◌==◌, nat_le}
 use Rattle.std.specs.List.{AllByRecursion}
-use Rattle.std.proofs.lemmas.Bool.{cases_eq, cases_Bool, cases_lt, and_parts, eqb-true, leb-true}
+use Rattle.std.proofs.lemmas.Bool.{cases_eq, cases_lt, and_parts, eqb-true}
 use Rattle.chain_model.specs.Joint.{greatest_if_all}
 use Rattle.chain_model.specs.Stuffed.{position_limit}
-use Rattle.chain_model.specs.declared.cause.Cause.{Cause}
 use Rattle.chain_model.proofs.GreatestLaws.{IsKept, IsNewFrom, greatest-kept, greatest-new}
 use Rattle.chain_core.specs.declared.core_plan.CorePlan.{CorePlan}
 use Rattle.chain_core.specs.declared.stage_end.StageEnd.{StageEnd}
 use Rattle.chain_core.specs.declared.stage_end.StageEnd.TheVariants.{Input, Last, Stop, Refuse, WriteFault, NoMemory, Followed}
 use Rattle.chain_core.specs.Stages.{has_stage, stages_of}
-use Rattle.chain_core.specs.Numbers.{UsersArePlugins, limit_of, takes_of, reach_of, agreed_with, IsAgreement, MayFollow, MayVisit, is_before_over, is_after_over}
+use Rattle.chain_core.specs.Numbers.{UsersArePlugins, limit_of, takes_of, agreed_with, IsAgreement, MayFollow, is_before_over}
 use Rattle.chain_core.specs.Machine.{StageState, ChainState, Visit, start, marks_of, noted, served, visited, Allowed}
 use Rattle.chain_core.specs.ChainRun.{ChainRun, state_after}
 use Rattle.chain_core.specs.Close.{cause_of_stage}
-use Rattle.chain_core.specs.EveryOrder.{EndsBy, IsCutWithin}
+use Rattle.chain_core.specs.EveryOrder.{IsCutWithin}
 use Rattle.chain_core.proofs.Facts.{falls, all_by_recursion, all_each, all_map, cond-both}
-use Rattle.chain_core.proofs.Stepping.{noted_stage, taking, noted-same, noted-other, noted-told, served-same, served-other, served-told_output, served-told_other}
+use Rattle.chain_core.proofs.Stepping.{noted-same, noted-other, noted-told, served-same, served-other, served-told_output, served-told_other}
 
 -- how many cells a stage has given
 abbrev pub gave : ChainState → ℕ → ℕ

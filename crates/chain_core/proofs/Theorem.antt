@@ -1,20 +1,18 @@
 -- The chain theorem, put together.
-use Rattle.std.proofs.Common.{◌≡◌, ◌≢◌, ℕ, zero, suc, ◌+◌, ◌≤◌, List, [], ◌∷◌, length, Bool, true, false, Option, Some, None, refl, ap, sym, ◌∙◌, arith}
+use Rattle.std.proofs.Common.{◌≡◌, ◌≢◌, ℕ, zero, suc, List, [], ◌∷◌, false, Some, refl, arith}
 use Rattle.std.specs.List.{AllByRecursion}
-use Rattle.ts_packet.specs.declared.cell.Cell.{Cell}
 use Rattle.chain_model.specs.PluginRule.{PluginRule, passing_rule}
-use Rattle.chain_model.specs.Apply.{StageList, input_over, last_passed}
+use Rattle.chain_model.specs.Apply.{StageList, last_passed}
 use Rattle.chain_model.specs.StageLists.{rule_behind}
 use Rattle.chain_core.specs.declared.core_plan.CorePlan.{CorePlan}
 use Rattle.chain_core.specs.declared.stage_end.StageEnd.TheVariants.{Followed}
-use Rattle.chain_core.specs.Stages.{stages_of}
-use Rattle.chain_core.specs.Machine.{ChainState, Visit, marks_of}
+use Rattle.chain_core.specs.Machine.{Visit, marks_of}
 use Rattle.chain_core.specs.ChainRun.{state_after, AllEnded}
 use Rattle.chain_core.specs.Keeps.{KeptRun}
 use Rattle.chain_core.specs.Close.{cut_at_close, cause_at_close}
 use Rattle.chain_core.specs.EveryOrder.{SoFar, AtClose}
 use Rattle.chain_core.proofs.Facts.{all_by_recursion}
-use Rattle.chain_core.proofs.Soundness.{gave, AreUsers, users_from, Sound, run-sound}
+use Rattle.chain_core.proofs.Soundness.{AreUsers, users_from, Sound, run-sound}
 use Rattle.chain_core.proofs.ListsKept.{Faithful, run-faithful}
 use Rattle.chain_core.proofs.Closing.{limit-joint, output-prefix, closing}
 

@@ -1,25 +1,22 @@
 -- The laws of visits: what one changes and leaves, what news promise, and that a quiet chain has ended.
-use Rattle.std.proofs.Common.{◌≡◌, ◌≢◌, ◌⊎◌, inl, inr, ℕ, zero, suc, min, ◌+◌, ◌-◌, ◌<◌, ◌≤◌, List, [], ◌∷◌, ◌++◌, length, take, Bool, true, false, Option, Some, None, refl, ap, sym, ◌∙◌, subst, arith}
-use Rattle.std.specs.Prelude.{is_some, IsSome, ◌==◌, ◌&&◌, nat_le, IsTrue}
-use Rattle.std.proofs.lemmas.Bool.{cases_eq, cases_lt, and_parts, and_from, eq-eqb, le-leb}
+use Rattle.std.proofs.Common.{◌≡◌, ◌≢◌, ◌⊎◌, inl, inr, ℕ, zero, suc, min, ◌+◌, ◌<◌, ◌≤◌, List, ◌++◌, length, take, true, false, Option, Some, None, refl, ap, sym, ◌∙◌, subst, arith}
+use Rattle.std.specs.Prelude.{is_some, IsSome, ◌==◌, ◌&&◌, nat_le}
+use Rattle.std.proofs.lemmas.Bool.{cases_eq, and_parts, and_from, eq-eqb, le-leb}
 use Rattle.std.proofs.lemmas.List.{take-append-le}
 use Rattle.ts_packet.specs.declared.cell.Cell.{Cell}
-use Rattle.chain_model.specs.PluginRule.{PluginRule}
-use Rattle.chain_model.specs.Apply.{StageList}
 use Rattle.chain_model.specs.Cut.{lesser_end}
 use Rattle.chain_model.specs.Stuffed.{position_limit}
 use Rattle.chain_core.specs.declared.core_plan.CorePlan.{CorePlan}
 use Rattle.chain_core.specs.declared.mark.Mark.{Mark}
 use Rattle.chain_core.specs.declared.stage_end.StageEnd.{StageEnd}
-use Rattle.chain_core.specs.declared.stage_word.StageWord.{StageWord}
-use Rattle.chain_core.specs.Numbers.{limit_of, written_of, reach_of, takes_of, news_of, is_before_over, is_after_over, MayFollow, MayVisit, IsAgreement}
-use Rattle.chain_core.specs.Machine.{StageState, ChainState, Visit, mark_of, marks_of, noted, served, visited, Allowed}
+use Rattle.chain_core.specs.Numbers.{limit_of, written_of, is_before_over, is_after_over, MayFollow, IsAgreement}
+use Rattle.chain_core.specs.Machine.{StageState, ChainState, Visit, mark_of, marks_of, noted, visited, Allowed}
 use Rattle.chain_core.specs.ChainRun.{took, AllEnded}
-use Rattle.chain_core.specs.Keeps.{StageKeeps, Keeps}
+use Rattle.chain_core.specs.Keeps.{StageKeeps}
 use Rattle.chain_core.specs.Laws.{ChangesOneStage, LeavesOthers, NewsHold, NewsGrow, IsQuiet}
 use Rattle.chain_core.proofs.Facts.{falls}
-use Rattle.chain_core.proofs.Stepping.{noted_stage, taking, visited-other, visited-same, noted-told, served-told_output, served-told_other}
-use Rattle.chain_core.proofs.Soundness.{gave, took_count, AreUsers, Sound, gave-falls, noted-limit_kept, noted-gave_grows, served-limit, served-gave, visited-sound}
+use Rattle.chain_core.proofs.Stepping.{visited-other, visited-same, noted-told, served-told_output, served-told_other}
+use Rattle.chain_core.proofs.Soundness.{gave, took_count, Sound, gave-falls, noted-limit_kept, noted-gave_grows, served-limit, served-gave}
 
 pub visited-limit : (plan : CorePlan) (state : ChainState) (visit : Visit) → limit_of plan (marks_of (visited plan state visit)) ≡ limit_of plan (marks_of (noted plan state visit))
 unfolding visited

@@ -1,6 +1,6 @@
 -- The chain theorem: what every run of the machine comes to, whatever the order of the visits.
 -- This project's own rule.
-use Rattle.std.specs.Prelude.{◌≡◌, ◌⊎◌, ℕ, suc, ◌+◌, ◌≤◌, List, length, take, Option, Some}
+use Rattle.std.specs.Prelude.{◌≡◌, ◌⊎◌, ℕ, suc, ◌+◌, ◌≤◌, List, length, take, Some}
 use Rattle.chain_model.specs.Prefix.{IsPrefix}
 use Rattle.chain_model.specs.PluginRule.{PluginRule}
 use Rattle.chain_model.specs.Apply.{StageList}
@@ -16,7 +16,7 @@ use Rattle.chain_core.specs.Stages.{stages_of}
 use Rattle.chain_core.specs.Numbers.{Marks, limit_of}
 use Rattle.chain_core.specs.Machine.{ChainState, marks_of}
 use Rattle.chain_core.specs.Keeps.{EndsAs}
-use Rattle.chain_core.specs.Close.{cause_of_stage, cut_at_close, cause_at_close}
+use Rattle.chain_core.specs.Close.{cause_of_stage}
 
 -- a stage ended by itself so, and the cause that this gives is `why`
 pub record EndsBy (marks : Marks) (k : ℕ) (why : Cause) : Type 0 where

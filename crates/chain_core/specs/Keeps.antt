@@ -1,6 +1,6 @@
 -- What a stage does: it gives its list, ends where its list ends, and tells its agreement. It is said of what
 -- the stage took, gave and tells, and of nothing else. This project's own rule.
-use Rattle.std.specs.Prelude.{◌≡◌, ℕ, zero, suc, ◌+◌, ◌≤◌, ◌<◌, List, [], ◌∷◌, ◌++◌, length, take, Option, None, Some, IfSome, Bool, false}
+use Rattle.std.specs.Prelude.{◌≡◌, ℕ, zero, suc, ◌+◌, ◌<◌, List, [], ◌∷◌, ◌++◌, length, take, Option, Some, false}
 use Rattle.std.specs.List.{All}
 use Rattle.ts_packet.specs.declared.cell.Cell.{Cell}
 use Rattle.chain_model.specs.declared.input_end.InputEnd.{InputEnd}

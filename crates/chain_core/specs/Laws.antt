@@ -1,12 +1,11 @@
 -- What the layers above need of the machine, visit by visit. This project's own rule.
-use Rattle.std.specs.Prelude.{◌≡◌, ◌≢◌, ℕ, suc, ◌+◌, ◌≤◌, ◌<◌, List, [], ◌∷◌, ◌++◌, length, Option, None, Some}
-use Rattle.ts_packet.specs.declared.cell.Cell.{Cell}
+use Rattle.std.specs.Prelude.{◌≡◌, ◌≢◌, ℕ, suc, ◌+◌, ◌≤◌, ◌<◌, List, ◌++◌, length, None, Some}
 use Rattle.chain_model.specs.PluginRule.{PluginRule}
 use Rattle.chain_model.specs.Apply.{StageList}
 use Rattle.chain_model.specs.Stuffed.{position_limit}
 use Rattle.chain_core.specs.declared.core_plan.CorePlan.{CorePlan}
 use Rattle.chain_core.specs.Numbers.{limit_of, written_of, reach_of, news_of, MayFollow}
-use Rattle.chain_core.specs.Machine.{StageState, ChainState, Visit, marks_of, visited, Allowed, news_after}
+use Rattle.chain_core.specs.Machine.{ChainState, Visit, marks_of, Allowed}
 use Rattle.chain_core.specs.ChainRun.{took}
 use Rattle.chain_core.specs.Keeps.{Keeps}
 

@@ -1,6 +1,6 @@
 -- The numbers of a chain that runs: what each stage has given and taken, agreed to and ended by,
 -- and what follows from them. This project's own rule.
-use Rattle.std.specs.Prelude.{◌≡◌, ◌⊎◌, ℕ, zero, suc, ◌+◌, ◌-◌, ◌≤◌, ◌<◌, min, ◌==◌, nat_le, ◌&&◌, Bool, false, IsTrue, if◌then◌else◌, List, map, Option, None, Some, is_some, IfSome}
+use Rattle.std.specs.Prelude.{◌≡◌, ◌⊎◌, ℕ, zero, suc, ◌+◌, ◌-◌, ◌≤◌, ◌<◌, min, ◌==◌, nat_le, ◌&&◌, Bool, false, IsTrue, if◌then◌else◌, map, Option, None, Some, is_some}
 use Rattle.std.specs.Option.{option_or}
 use Rattle.std.specs.List.{All}
 use Rattle.chain_model.specs.Joint.{greatest_if_all}
@@ -9,7 +9,6 @@ use Rattle.chain_model.specs.Stuffed.{position_limit}
 use Rattle.chain_core.specs.declared.core_plan.CorePlan.{CorePlan}
 use Rattle.chain_core.specs.declared.mark.Mark.{Mark}
 use Rattle.chain_core.specs.declared.news.News.{News}
-use Rattle.chain_core.specs.declared.stage_end.StageEnd.{StageEnd}
 use Rattle.chain_core.specs.declared.stage_end.StageEnd.TheVariants.{Followed}
 use Rattle.chain_core.specs.declared.stage_word.StageWord.{StageWord}
 use Rattle.chain_core.specs.Stages.{has_stage, stages_of}

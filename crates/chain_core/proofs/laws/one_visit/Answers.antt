@@ -1,5 +1,3 @@
-use Rattle.std.proofs.Common.{◌≤◌}
-use Rattle.chain_core.specs.Stages.{stages_of}
 use Rattle.chain_core.specs.ChainRun.{state_after}
 use Rattle.chain_core.proofs.Soundness.{users_from, run-sound}
 use Rattle.chain_core.proofs.VisitLaws.{changes, leaves}

@@ -1,8 +1,7 @@
-use Rattle.std.proofs.Common.{◌≡◌, ◌+◌, length, map, ap, sym, ◌∙◌, subst, List, Option}
+use Rattle.std.proofs.Common.{length, map, ap, ◌∙◌, Option}
 use Rattle.std.specs.Prelude.{unwrap_or}
 use Rattle.chain_model.specs.Cut.{cause_among}
 use Rattle.chain_model.specs.Joint.{greatest_if_all}
-use Rattle.chain_core.specs.declared.mark.Mark.{Mark}
 use Rattle.chain_core.specs.Stages.{stages_of}
 use Rattle.chain_core.specs.Close.{least_among, closed_of}
 use Rattle.chain_core.specs.CoreNumbers.{CoreNumbers, mark_in, marks_in, endings_before}

@@ -1,4 +1,4 @@
-use Rattle.std.proofs.Common.{◌≡◌, refl, sym, ◌∙◌, arith}
+use Rattle.std.proofs.Common.{sym, ◌∙◌}
 use Rattle.std.proofs.lemmas.Bool.{le-ltb}
 use Rattle.chain_core.proofs.SetLaws.{has-bits, has-beyond}
 use Rattle.chain_core.proofs.stage_set.StageSet.has.Goals as goal

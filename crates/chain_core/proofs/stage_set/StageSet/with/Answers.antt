@@ -1,4 +1,4 @@
-use Rattle.std.proofs.Common.{ℕ, ◌<◌}
+use Rattle.std.proofs.Common.{◌<◌}
 use Rattle.chain_core.specs.Stages.{stages_of}
 use Rattle.chain_core.proofs.Facts.{all_by_recursion}
 use Rattle.chain_core.proofs.SetLaws.{with-has, stages-each, one-above}
