@@ -27,6 +27,10 @@ pub record Visit : Type 0 where
   pub cells : List Cell
   pub word : StageWord
 
+-- the visit of a stage that gives these cells and tells this word
+abbrev pub visit_of : ℕ → List Cell → StageWord → Visit
+visit_of stage cells word = record { stage = stage; cells = cells; word = word }
+
 -- the numbers of a stage
 abbrev pub mark_of : StageState → Mark
 mark_of stage = record { given = length stage.given; taken = stage.taken; agreed = stage.agreed; ended = stage.ended }

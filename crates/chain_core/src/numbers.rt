@@ -35,7 +35,7 @@ impl Core {
     ghost use Rattle.ts_packet.specs.declared.cell.Cell.{Cell};
     ghost use Rattle.chain_core.specs.Stages.{has_stage};
     ghost use Rattle.chain_core.specs.Numbers.{MayVisit, news_of, limit_of as limit_of_marks};
-    ghost use Rattle.chain_core.specs.Machine.{ChainState, Visit, start, visited, marks_of, Allowed, news_after};
+    ghost use Rattle.chain_core.specs.Machine.{ChainState, visit_of, start, visited, marks_of, Allowed, news_after};
     ghost use Rattle.chain_core.specs.ChainRun.{AllEnded};
     ghost use Rattle.chain_core.specs.Close.{closed_of};
     ghost use Rattle.chain_core.specs.CoreNumbers.{CoreNumbers, IsLawfulPlan, StandsFor, marks_in, noted_numbers, served_numbers};
@@ -60,9 +60,15 @@ impl Core {
     pub fn visit(&mut self, stage: usize, done: usize, word: StageWord) -> News
         requires { MayVisit self.old.plan (marks_in self.old) self.old.told stage done word }
         ensures plan { self.new.plan ≡ self.old.plan }
-        ensures allowed { (state : ChainState) (cells : List Cell) → length cells ≡ done → StandsFor self.old state → Allowed self.old.plan state (record { stage = stage; cells = cells; word = word }) }
-        ensures visited { (state : ChainState) (cells : List Cell) → length cells ≡ done → StandsFor self.old state → StandsFor self.new (visited self.old.plan state (record { stage = stage; cells = cells; word = word })) }
-        ensures news { (state : ChainState) (cells : List Cell) → length cells ≡ done → StandsFor self.old state → result ≡ news_after self.old.plan state (record { stage = stage; cells = cells; word = word }) }
+        ensures allowed { (state : ChainState) (cells : List Cell)
+            → length cells ≡ done → StandsFor self.old state
+            → Allowed self.old.plan state (visit_of stage cells word) }
+        ensures visited { (state : ChainState) (cells : List Cell)
+            → length cells ≡ done → StandsFor self.old state
+            → StandsFor self.new (visited self.old.plan state (visit_of stage cells word)) }
+        ensures news { (state : ChainState) (cells : List Cell)
+            → length cells ≡ done → StandsFor self.old state
+            → result ≡ news_after self.old.plan state (visit_of stage cells word) }
         ensures numbers { result ≡ news_of self.old.plan (marks_in self.new) stage }
     {
         self.note(stage, done, word);

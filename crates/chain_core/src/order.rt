@@ -12,6 +12,13 @@ ghost use Rattle.chain_core.specs.EveryOrder.{SoFar, AtClose};
 /// when all stages have ended, the cut, its cause and what the output gave are those of the run
 /// without faults, or a fault ended the chain where it may.
 pub fn every_order()
-    ensures so_far { (plan : CorePlan) (rules : List PluginRule) (input : StageList) (visits : List Visit) → KeptRun plan rules input visits → SoFar plan rules input (state_after plan visits) }
-    ensures at_close { (plan : CorePlan) (rules : List PluginRule) (input : StageList) (visits : List Visit) → KeptRun plan rules input visits → AllEnded plan (marks_of (state_after plan visits)) → AtClose plan rules input (state_after plan visits) (cut_at_close plan (marks_of (state_after plan visits))) (cause_at_close plan (marks_of (state_after plan visits))) }
+    ensures so_far { (plan : CorePlan) (rules : List PluginRule) (input : StageList) (visits : List Visit)
+        → KeptRun plan rules input visits
+        → SoFar plan rules input (state_after plan visits) }
+    ensures at_close { (plan : CorePlan) (rules : List PluginRule) (input : StageList) (visits : List Visit)
+        → KeptRun plan rules input visits
+        → AllEnded plan (marks_of (state_after plan visits))
+        → AtClose plan rules input (state_after plan visits)
+        (cut_at_close plan (marks_of (state_after plan visits)))
+        (cause_at_close plan (marks_of (state_after plan visits))) }
 {}

@@ -20,7 +20,8 @@ impl StageSet {
     pub fn with(self, stage: usize) -> StageSet
         requires { stage < 64 }
         ensures has { (k : ℕ) → has_stage result k ≡ (k == stage || has_stage self k) }
-        ensures above { All (λ k. k < stage) (stages_of self) → stages_of result ≡ stages_of self ++ stage ∷ [] }
+        ensures above { All (λ k. k < stage) (stages_of self)
+            → stages_of result ≡ stages_of self ++ stage ∷ [] }
     {
         StageSet {
             bits: self.bits | (1 << stage),

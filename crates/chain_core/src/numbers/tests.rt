@@ -92,7 +92,9 @@ fn is_below(is_output: bool, told: Option<u64>, done: usize, now: u64) -> bool
 }
 
 fn may_follow(ended: Option<StageEnd>, news: &News, now: u64) -> bool
-    ensures { IsTrue result → ended ≡ Some Followed → IsTrue news.now.before_over ⊎ (IsTrue news.now.after_over ⊎ ((limit : ℕ) × (news.now.limit ≡ Some limit) × (limit ≤ now))) }
+    ensures { IsTrue result → ended ≡ Some Followed
+        → IsTrue news.now.before_over
+        ⊎ (IsTrue news.now.after_over ⊎ ((limit : ℕ) × (news.now.limit ≡ Some limit) × (limit ≤ now))) }
 {
     match ended {
         Some(StageEnd::Followed) => {
