@@ -1,3 +1,4 @@
 pub mod Files
 pub mod Moves
+pub mod Rows
 pub mod Views

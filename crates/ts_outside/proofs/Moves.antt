@@ -1,5 +1,5 @@
 -- What a read from memory moves.
-use Rattle.std.proofs.Common.{◌≡◌, ℕ, ◌+◌, ◌-◌, ◌≤◌, List, ◌++◌, sym, ◌∙◌, ap, subst, length, take, drop, arith, length-drop}
+use Rattle.std.proofs.Common.{◌≡◌, ℕ, ◌+◌, ◌-◌, ◌≤◌, List, ◌++◌, sym, ◌∙◌, ap, length, take, drop, arith, length-drop}
 use Rattle.std.proofs.lemmas.List.{take_all, take_at, drop-drop, take-append-drop}
 
 -- the bytes behind `at` are those that were copied to the front of a buffer, and those behind them

@@ -1,5 +1,5 @@
 -- How steps on told lists and on what is seen of sources, sinks and desks chain.
-use Rattle.std.proofs.Common.{◌≡◌, ℕ, ◌+◌, ◌-◌, ◌<◌, ◌≤◌, List, [], ◌∷◌, ◌++◌, Option, None, Some, refl, ap, subst, sym, le_refl, le_trans, ◌∙◌, append_assoc, append-nil, length, take, drop, arith, length-drop}
+use Rattle.std.proofs.Common.{◌≡◌, ℕ, ◌+◌, ◌-◌, ◌<◌, ◌≤◌, List, [], ◌++◌, Option, None, Some, refl, ap, subst, sym, le_refl, le_trans, ◌∙◌, append_assoc, append-nil, length, take, drop, arith, length-drop}
 use Rattle.std.proofs.Math.Seq.{take-add, take-append-add}
 use Rattle.std.proofs.lemmas.List.{take_all, take-append-le}
 use Rattle.std.proofs.lemmas.Grind.{common_steps}
@@ -9,7 +9,7 @@ use Rattle.ts_outside.specs.Count.{HasCause, raised, count_end}
 use Rattle.ts_outside.specs.Told.{before, grown}
 use Rattle.ts_outside.specs.Source.{SourceView, HasGiven, unread, read_failed}
 use Rattle.ts_outside.specs.Sink.{SinkView, HasTaken, took, write_failed}
-use Rattle.ts_outside.specs.Desk.{DeskView, reports, report_failed}
+use Rattle.ts_outside.specs.Desk.{DeskView, reports}
 
 -- a list that nothing was added to
 pub grown-nil : {T : Type 0} (o : Option (List T)) → grown o [] ≡ o

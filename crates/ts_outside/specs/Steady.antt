@@ -1,5 +1,5 @@
 -- This project's own rule: the outside in memory that never fails, and keeps of what goes out the number of bytes alone.
-use Rattle.std.specs.Prelude.{ℕ, ◌+◌, ◌-◌, ◌^◌, List, Option, None, Some, min}
+use Rattle.std.specs.Prelude.{ℕ, ◌+◌, ◌-◌, ◌^◌, List, None, Some, min}
 use Rattle.ts_outside.specs.Source.{SourceView}
 use Rattle.ts_outside.specs.Sink.{SinkView}
 use Rattle.ts_outside.specs.Desk.{DeskView}

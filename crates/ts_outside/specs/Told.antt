@@ -1,6 +1,6 @@
 -- This project's own rule: lists that are told or not. `None` is a list that is not told; what happens to a list
 -- that is told is an equation, and a list that is not told stays so.
-use Rattle.std.specs.Prelude.{ℕ, List, [], ◌∷◌, ◌++◌, Option, None, Some}
+use Rattle.std.specs.Prelude.{List, ◌++◌, Option, None, Some}
 
 -- the list, with some members before it
 abbrev pub before : {T : Type 0} → List T → Option (List T) → Option (List T)

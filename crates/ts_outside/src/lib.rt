@@ -48,4 +48,6 @@ pub use steady_source::SteadySource;
 pub use wholes::{CutShort, report_whole, write_whole};
 
 #[cfg(test)]
+mod callers;
+#[cfg(test)]
 mod tests;

@@ -1,4 +1,5 @@
-ghost use Rattle.std.specs.Prelude.{◌≡◌, ◌<◌, ◌≤◌, ◌^◌, ◌-◌, [], Some, true, false, length, min, take, slice_get, is_err, vec_len, IfOk, OnErr, IfSome, MatchOption};
+ghost use Rattle.std.specs.Prelude.{◌≡◌, ◌<◌, ◌≤◌, ◌^◌, ◌-◌, [], ◌∷◌, ◌++◌, Some, true, false, length, min, take, slice_get, is_err, IfOk, OnOk, OnErr, IfSome, MatchOption};
+ghost use Rattle.ts_outside.specs.Count.{raised};
 ghost use Rattle.std.specs.Option.{option_copied, option_map};
 ghost use Rattle.ts_outside.specs.declared.requests.Purpose.TheVariants.{Input, Output, File};
 ghost use Rattle.ts_outside.specs.OpenFault.{MatchOpen};
@@ -130,6 +131,23 @@ impl MemoryDesk {
     {
         self.asked.len()
     }
+
+    /// Whether the next opening fails by the plan.
+    fn next_open_fails(&self) -> bool
+        ensures { result ≡ open_fails self.now }
+    {
+        self.plan.opens.has(one_more(self.opens))
+    }
+
+    /// Notes what was asked, and counts the call. `AllocError` changes nothing.
+    fn note(&mut self, asked: Asked) -> Result<(), AllocError>
+        ensures noted { OnOk result (self.new ≡ record self.old { asked = self.old.asked ++ asked ∷ []; opens = raised self.old.opens }) }
+        ensures same { OnErr result (self.new ≡ self.old) }
+    {
+        self.asked.push(asked)?;
+        self.opens = one_more(self.opens);
+        Ok(())
+    }
 }
 
 /// An entry of what was asked.
@@ -164,19 +182,17 @@ impl Desk for MemoryDesk {
             (self.new ≡ self.old) }
     {
         let named = stream(name);
-        let fails = self.plan.opens.has(one_more(self.opens));
+        let fails = self.next_open_fails();
         let asked = request(self.alloc, Purpose::Input, named, !fails)?;
         if fails {
-            self.asked.push(asked)?;
-            self.opens = one_more(self.opens);
+            self.note(asked)?;
             self.read_faults = one_more(self.read_faults);
             return Err(OpenFault::Failed);
         }
         let bytes = Vec::from_slice(self.alloc, self.files.bytes_of(named))?;
         let failing = self.plan.reads.copy()?;
         let link = Box::new(self.alloc, ClosedInputs::Empty)?;
-        self.asked.push(asked)?;
-        self.opens = one_more(self.opens);
+        self.note(asked)?;
         Ok(MemorySource {
             bytes,
             at: 0,
@@ -207,11 +223,10 @@ impl Desk for MemoryDesk {
             (self.new ≡ self.old) }
     {
         let named = stream(name);
-        let fails = self.plan.opens.has(one_more(self.opens));
+        let fails = self.next_open_fails();
         let asked = request(self.alloc, Purpose::Output, named, !fails)?;
         if fails {
-            self.asked.push(asked)?;
-            self.opens = one_more(self.opens);
+            self.note(asked)?;
             self.write_faults = one_more(self.write_faults);
             return Err(OpenFault::Failed);
         }
@@ -219,8 +234,7 @@ impl Desk for MemoryDesk {
         let name = NameText::of(String::from_str(self.alloc, named)?);
         let failing = self.plan.writes.copy()?;
         let link = Box::new(self.alloc, ClosedOutputs::Empty)?;
-        self.asked.push(asked)?;
-        self.opens = one_more(self.opens);
+        self.note(asked)?;
         Ok(MemorySink {
             bytes,
             name,
@@ -307,23 +321,20 @@ impl Desk for MemoryDesk {
             (self.new ≡ self.old) }
     {
         let named = stream(name);
-        let fails = self.plan.opens.has(one_more(self.opens));
+        let fails = self.next_open_fails();
         let asked = request(self.alloc, Purpose::File, named, !fails)?;
         if fails {
-            self.asked.push(asked)?;
-            self.opens = one_more(self.opens);
+            self.note(asked)?;
             self.read_faults = one_more(self.read_faults);
             return Err(FileFault::Failed);
         }
         let file = self.files.bytes_of(named);
         if file.len() > most {
-            self.asked.push(asked)?;
-            self.opens = one_more(self.opens);
+            self.note(asked)?;
             return Err(FileFault::TooMany);
         }
         let bytes = Vec::from_slice(self.alloc, file)?;
-        self.asked.push(asked)?;
-        self.opens = one_more(self.opens);
+        self.note(asked)?;
         Ok(FileBytes::of(bytes))
     }
 

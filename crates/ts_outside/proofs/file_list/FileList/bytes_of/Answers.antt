@@ -1,4 +1,4 @@
-use Rattle.std.proofs.Common.{◌≡◌, ◌∙◌, sym}
+use Rattle.std.proofs.Common.{◌∙◌, sym}
 use Rattle.ts_outside.proofs.Files.{file_of-here, file_of-past}
 use Rattle.ts_outside.proofs.file_list.FileList.bytes_of.Goals as goal
 
