@@ -1,0 +1,6 @@
+pub mod Counting
+pub mod FoldingSteps
+pub mod Noting
+pub mod Summing
+pub mod Tallying
+pub mod Watching
