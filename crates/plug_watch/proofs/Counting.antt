@@ -101,3 +101,10 @@ module _ (conf : CountConf) (history : List Cell) (from to : ℕ) (taken rest : 
       ∙ (sym (map-append pid_of (counted conf (take from history)) (counted conf (take (to - from) (drop from history))))
       ∙ (ap (map pid_of) (sym (counted-append conf (take from history) (take (to - from) (drop from history))))
       ∙ ap (λ (cells : List Cell). map pid_of (counted conf cells)) (take-to from to history le)))
+
+-- no more packets are counted than there are cells
+pub few_counted : (conf : CountConf) (cells : List Cell) → length (map pid_of (counted conf cells)) ≤ length cells
+few_counted conf cells =
+    subst (λ (n : ℕ). n ≤ length cells)
+      (sym (length-map (notes_after (note_on conf) [] cells) (λ (n : Note). n.pid)) ∙ ap length (pids_of-notes conf [] cells))
+      (length-notes_after (note_on conf) (λ (n : Note). n.at) (one_note conf) [] cells)

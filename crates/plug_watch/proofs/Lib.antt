@@ -1,4 +1,5 @@
 pub mod Counting
+pub mod CountStates
 pub mod FoldingSteps
 pub mod Noting
 pub mod Summing

@@ -1,5 +1,5 @@
 -- Notes that are taken off the front of a row and counted. This project's own rule.
-use Rattle.std.specs.Prelude.{◌≡◌, ◌<◌, ◌≤◌, ◌+◌, ◌^◌, ℕ, List, [], ◌∷◌, ◌++◌, length, map, nat_lt, true}
+use Rattle.std.specs.Prelude.{◌≡◌, ◌<◌, ◌≤◌, ◌+◌, ◌^◌, ℕ, List, [], ◌∷◌, ◌++◌, length, map, nat_lt, Bool, true, if◌then◌else◌}
 use Rattle.std.specs.List.{All, list_all}
 use Rattle.plugin_trait.specs.declared.line.Line.{Line}
 use Rattle.plug_conf.specs.Limits.{pid_bound}
@@ -39,3 +39,8 @@ line_of_note note = record { at = note.at; text = text_on note }
 pub record FoldsWith (mark : ℕ) (old new : List Note) (counts : List ℕ) (total : ℕ) (counts_new : List ℕ) (total_new : ℕ) (lines lines_new : List Line) : Type 0 where
   pub folds : Folds mark old new counts total counts_new total_new
   pub lines_are : lines_new ≡ lines ++ map line_of_note folds.taken
+
+-- the same, with the lines of the notes that were taken off alone, or with none
+pub record FoldsFor (has_lines : Bool) (mark : ℕ) (old new : List Note) (counts : List ℕ) (total : ℕ) (counts_new : List ℕ) (total_new : ℕ) (lines : List Line) : Type 0 where
+  pub folds : Folds mark old new counts total counts_new total_new
+  pub lines_are : lines ≡ (if has_lines then map line_of_note folds.taken else [])

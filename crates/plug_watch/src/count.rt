@@ -1,7 +1,7 @@
 ghost use Rattle.std.specs.Prelude.{◌≡◌, IfOk, [], None, Some, if◌then◌else◌};
 ghost use Rattle.plug_watch.specs.CountRule.{count_rule};
 
-use crate::folding::{fold_below, take_lines};
+use crate::folding::{fold_below, fold_for};
 use crate::note::Note;
 use crate::summary::push_summary;
 use crate::tally::Tally;
@@ -93,12 +93,7 @@ impl Plugin for Count {
     }
 
     fn finish(&mut self, cut: u64) -> Result<Vec<Line>, AllocError> {
-        let mut lines = Vec::new(self.alloc);
-        if self.all {
-            take_lines(&mut self.notes, &mut self.tally, cut, &mut lines)?;
-        } else {
-            fold_below(&mut self.notes, &mut self.tally, cut);
-        }
+        let mut lines = fold_for(self.alloc, &mut self.notes, &mut self.tally, cut, self.all)?;
         push_summary(&mut lines, cut, &self.tally, self.total)?;
         Ok(lines)
     }

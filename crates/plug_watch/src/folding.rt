@@ -1,12 +1,12 @@
 //! Notes that are taken off the front and counted.
-ghost use Rattle.std.specs.Prelude.{◌≡◌, ◌<◌, ◌∷◌, ◌++◌, IfSome, IfNone, OnOk, ℕ, List, map};
+ghost use Rattle.std.specs.Prelude.{◌≡◌, ◌<◌, ◌∷◌, ◌++◌, IfSome, IfNone, IfOk, OnOk, ℕ, List, map};
 ghost use Rattle.std.specs.VecDeque.{deque_capacity};
-ghost use Rattle.plug_watch.specs.Folding.{StartsFrom, Folds, FoldsWith, CanFold};
+ghost use Rattle.plug_watch.specs.Folding.{StartsFrom, Folds, FoldsWith, FoldsFor, CanFold};
 
 use crate::note::Note;
 use crate::tally::Tally;
 use plugin_trait::Line;
-use std::alloc::AllocError;
+use std::alloc::{AllocError, Global};
 use std::collections::VecDeque;
 
 /// Takes the first note off, where it is below a position.
@@ -49,4 +49,25 @@ pub fn take_lines(
         lines.push(note.line(alloc)?)?;
     }
     Ok(())
+}
+
+/// Counts the notes below a position and takes them off; the answer has their lines, where these are wanted.
+pub fn fold_for(
+    alloc: Global,
+    notes: &mut VecDeque<Note>,
+    tally: &mut Tally,
+    mark: u64,
+    has_lines: bool,
+) -> Result<Vec<Line>, AllocError>
+    requires { CanFold notes.old.items tally.old.counts.items tally.old.total }
+    ensures { IfOk result (λ lines. FoldsFor has_lines mark notes.old.items notes.new.items tally.old.counts.items tally.old.total
+        tally.new.counts.items tally.new.total lines.items) }
+{
+    let mut lines = Vec::new(alloc);
+    if has_lines {
+        take_lines(notes, tally, mark, &mut lines)?;
+        return Ok(lines);
+    }
+    fold_below(notes, tally, mark);
+    Ok(lines)
 }

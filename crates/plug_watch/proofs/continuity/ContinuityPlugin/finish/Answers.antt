@@ -8,7 +8,7 @@ use Rattle.plug_watch.proofs.Watching.{report_is}
 use Rattle.plug_watch.proofs.continuity.ContinuityPlugin.finish.Goals as goal
 
 pub returns : goal.returns
-returns c = λ history mark w within.
+returns c = λ history mark w le within.
     let lines = c.in_ok-lines.lines in
     let count : c.len.result ≡ length lines.items = c.len.ensures ∙ lines.ok.0 in
     c.in_ok-push_line.ensures
