@@ -5,8 +5,7 @@
 mod move_table;
 mod remap;
 
-pub use move_table::Move;
-pub use move_table::MoveTable;
+pub use move_table::{Move, MoveTable};
 pub use remap::Remap;
 
 #[cfg(test)]
