@@ -6,6 +6,8 @@ use Rattle.chain_args.specs.Forms.{number, text}
 use Rattle.chain_args.specs.Number.{number_within}
 use Rattle.chain_args.specs.Options.{has_value, operand, read_value, value_of}
 use Rattle.chain_args.specs.Profile.{Profile}
+use Rattle.chain_args.specs.declared.input_words.InputKind.{InputKind}
+use Rattle.chain_args.specs.declared.input_words.InputKind.TheVariants as kind
 use Rattle.chain_args.specs.declared.input_conf.InputConf.{InputConf}
 use Rattle.chain_args.specs.declared.input_conf.InputConf.TheVariants.{File, Null}
 
@@ -29,6 +31,11 @@ null_input = record {
 }
 
 -- the inputs by their names
-abbrev pub input_named : List ℕ → Option (Profile InputConf)
-input_named name = if bytes_eq name (codes "file") then Some file_input
-    else (if bytes_eq name (codes "null") then Some null_input else None)
+abbrev pub input_kind_named : List ℕ → Option InputKind
+input_kind_named name = if bytes_eq name (codes "file") then Some kind.File
+    else (if bytes_eq name (codes "null") then Some kind.Null else None)
+
+-- what each takes
+abbrev pub profile_of_input : InputKind → Profile InputConf
+profile_of_input kind.File = file_input
+profile_of_input kind.Null = null_input

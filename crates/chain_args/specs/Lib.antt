@@ -7,10 +7,13 @@ pub mod Number
 pub mod Options
 pub mod Outputs
 pub mod Pairs
+pub mod Parts
 pub mod PlanOf
 pub mod Plugins
 pub mod Profile
 pub mod Ranges
 pub mod RuleText
+pub mod Refusal
 pub mod Rules
 pub mod Segments
+pub mod WordsFault

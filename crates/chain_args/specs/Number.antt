@@ -1,9 +1,8 @@
 -- Numbers as words write them.
 -- This project's own rule.
-use Rattle.std.specs.Prelude.{ℕ, ◌&&◌, Bool, List, None, Option, Some, codes, drop, if◌then◌else◌, length, nat_le, nat_lt, option_and_then, take}
+use Rattle.std.specs.Prelude.{ℕ, ◌&&◌, Bool, List, None, Option, Some, codes, drop, if◌then◌else◌, length, nat_eq, nat_le, nat_lt, option_and_then}
 use Rattle.std.specs.Char.{digit_value}
-use Rattle.std.specs.List.{list_all}
-use Rattle.std.specs.Str.{bytes_eq}
+use Rattle.std.specs.List.{list_all, starts_with}
 use Rattle.std.specs.Str.Parse.{digits_value}
 
 -- one digit of the radix or more, and nothing else
@@ -18,7 +17,7 @@ numeral radix digits = if is_numeral radix digits then Some (digits_value radix 
 -- the number of a text: decimal digits, or `0x` and hexadecimal digits of either case
 unfoldable pub number_of : List ℕ → Option ℕ
 number_of text =
-    if bytes_eq (take 2 text) (codes "0x") then numeral 16 (drop 2 text) else numeral 10 text
+    if starts_with nat_eq text (codes "0x") then numeral 16 (drop 2 text) else numeral 10 text
 
 -- the number, where it lies between a least and a most
 abbrev pub if_within : ℕ → ℕ → ℕ → Option ℕ

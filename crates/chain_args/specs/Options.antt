@@ -26,12 +26,24 @@ pub record OptionRow : Type 0 where
 
 -- ---- the command
 
--- the argument that `clap` is given for a row
-abbrev pub rule_of_row : List ℕ → OptionKind → Rule
-rule_of_row name flag = record (new_rule name) { long = Some name; action = Some SetTrue }
-rule_of_row name (value form) = record (new_rule name) { long = Some name; action = Some Set }
-rule_of_row name (operand form) = record (new_rule name) { action = Some Set }
-rule_of_row name (operands form) = record (new_rule name) { action = Some Append }
+-- the arguments that `clap` is given for each kind
+abbrev pub flag_rule : List ℕ → Rule
+flag_rule name = record (new_rule name) { long = Some name; action = Some SetTrue }
+
+abbrev pub value_rule : List ℕ → Rule
+value_rule name = record (new_rule name) { long = Some name; action = Some Set }
+
+abbrev pub operand_rule : List ℕ → Rule
+operand_rule name = record (new_rule name) { action = Some Set }
+
+abbrev pub operands_rule : List ℕ → Rule
+operands_rule name = record (new_rule name) { action = Some Append }
+
+abbrev pub rule_of_kind : List ℕ → OptionKind → Rule
+rule_of_kind name flag = flag_rule name
+rule_of_kind name (value form) = value_rule name
+rule_of_kind name (operand form) = operand_rule name
+rule_of_kind name (operands form) = operands_rule name
 
 -- a command with no name before the words, no help and no version
 abbrev pub bare_command : App
@@ -40,7 +52,7 @@ bare_command =
 
 -- the simple command of a table
 abbrev pub command_of : List OptionRow → App
-command_of rows = fold (λ a row. with_rule a (rule_of_row row.name row.kind)) bare_command rows
+command_of rows = fold (λ a row. with_rule a (rule_of_kind row.name row.kind)) bare_command rows
 
 -- the command has a reading of the words
 unfoldable pub is_taken : App → List (List ℕ) → Bool
@@ -74,11 +86,15 @@ has_value name found = is_some (value_of name found)
 unfoldable pub values_of : List ℕ → List Row → List (List ℕ)
 values_of name found = unwrap_or (all_of name found) []
 
--- what is given for the row has the row's form
+-- the value, where it is given, has the form
+abbrev pub is_formed : Form → List ℕ → List Row → Bool
+is_formed form name found = option_map_or (has_form form) (value_of name found) true
+
+-- what is given for a row of the table has the row's form
 abbrev pub is_well_formed : List ℕ → OptionKind → List Row → Bool
 is_well_formed name flag found = true
-is_well_formed name (value form) found = option_map_or (has_form form) (value_of name found) true
-is_well_formed name (operand form) found = option_map_or (has_form form) (value_of name found) true
+is_well_formed name (value form) found = is_formed form name found
+is_well_formed name (operand form) found = is_formed form name found
 is_well_formed name (operands form) found = list_all (has_form form) (values_of name found)
 
 -- each value that is given has its form

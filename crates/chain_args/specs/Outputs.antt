@@ -5,6 +5,8 @@ use Rattle.std.specs.Str.{bytes_eq}
 use Rattle.chain_args.specs.Forms.{text}
 use Rattle.chain_args.specs.Options.{operand, value_of}
 use Rattle.chain_args.specs.Profile.{Profile}
+use Rattle.chain_args.specs.declared.output_words.OutputKind.{OutputKind}
+use Rattle.chain_args.specs.declared.output_words.OutputKind.TheVariants as kind
 use Rattle.chain_args.specs.declared.output_conf.OutputConf.{OutputConf}
 use Rattle.chain_args.specs.declared.output_conf.OutputConf.TheVariants.{Drop, File}
 
@@ -27,6 +29,11 @@ drop_output = record {
 }
 
 -- the outputs by their names
-abbrev pub output_named : List ℕ → Option (Profile OutputConf)
-output_named name = if bytes_eq name (codes "file") then Some file_output
-    else (if bytes_eq name (codes "drop") then Some drop_output else None)
+abbrev pub output_kind_named : List ℕ → Option OutputKind
+output_kind_named name = if bytes_eq name (codes "file") then Some kind.File
+    else (if bytes_eq name (codes "drop") then Some kind.Drop else None)
+
+-- what each takes
+abbrev pub profile_of_output : OutputKind → Profile OutputConf
+profile_of_output kind.File = file_output
+profile_of_output kind.Drop = drop_output

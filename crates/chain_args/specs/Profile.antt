@@ -23,13 +23,16 @@ first_broken (test ∷ tests) = if test.1 then Some test.0 else first_broken tes
 abbrev pub settings_of : {C : Type 0} → Profile C → List (List ℕ) → C
 settings_of p words = p.settings (findings (command_of p.rows) words)
 
--- the first rule that the words break
-abbrev pub broken_option : {C : Type 0} → Profile C → List (List ℕ) → Option WordsRule
-broken_option p words =
-    let found = findings (command_of p.rows) words in first_broken (
-    (Shape, not (is_taken (command_of p.rows) words))
-    ∷ (Missing, not (p.has_needed found))
+-- the rules that findings may break, in the order of `WordsRule`
+abbrev pub tests_of_findings : {C : Type 0} → Profile C → List Row → List (WordsRule × Bool)
+tests_of_findings p found = (Missing, not (p.has_needed found))
     ∷ (Value, not (are_well_formed p.rows found))
     ∷ (Conflict, not (p.go_together (p.settings found)))
     ∷ []
+
+-- the first rule that the words break
+abbrev pub broken_option : {C : Type 0} → Profile C → List (List ℕ) → Option WordsRule
+broken_option p words = first_broken (
+    (Shape, not (is_taken (command_of p.rows) words))
+    ∷ tests_of_findings p (findings (command_of p.rows) words)
     )

@@ -1,10 +1,13 @@
 -- Which rule of the command line is broken first.
 -- This project's own rule.
-use Rattle.std.specs.Prelude.{ℕ, ◌+◌, ◌==◌, ◌&&◌, ◌||◌, Bool, List, [], ◌∷◌, ◌++◌, None, Option, Some, count_by, is_some, length, nat_le, not, option_and_then}
+use Rattle.std.specs.Prelude.{ℕ, ◌+◌, ◌&&◌, ◌||◌, Bool, List, [], ◌∷◌, ◌++◌, None, Option, Some, count_by, is_some, length, nat_le, not, option_and_then}
 use Rattle.std.specs.List.{list_any}
 use Rattle.chain_args.specs.General.{general}
-use Rattle.chain_args.specs.Profile.{Profile, broken_option, first_broken}
-use Rattle.chain_args.specs.Segments.{Segment, general_words, input_of, is_input, is_output, is_plugin, output_of, own_words, plugin_of, segments, word_count}
+use Rattle.chain_args.specs.Inputs.{profile_of_input}
+use Rattle.chain_args.specs.Outputs.{profile_of_output}
+use Rattle.chain_args.specs.Plugins.{profile_of_plugin}
+use Rattle.chain_args.specs.Profile.{broken_option, first_broken}
+use Rattle.chain_args.specs.Segments.{Segment, general_words, input_of, is_input, is_output, is_plugin, name_of, output_of, own_words, plugin_of, segments, word_count}
 use Rattle.chain_args.specs.declared.words_rule.WordsRule.{WordsRule}
 use Rattle.chain_args.specs.declared.words_rule.WordsRule.TheVariants.{NoName, TooMany, Twice, UnknownPlugin}
 
@@ -19,7 +22,7 @@ comes_twice before s =
 
 -- nothing, or a segment word, follows
 abbrev pub has_no_name : Segment → Bool
-has_no_name s = length s.others == 0
+has_no_name s = not (is_some (name_of s))
 
 -- the name is none of an input, a plugin or an output
 abbrev pub is_unknown : Segment → Bool
@@ -31,8 +34,14 @@ abbrev pub is_one_too_many : List Segment → Segment → Bool
 is_one_too_many before s = is_plugin s && nat_le most_plugins (count_by is_plugin before)
 
 -- what the options of a named segment break
-abbrev pub broken_by : {C : Type 0} → Option (Profile C) → Segment → Option WordsRule
-broken_by profile s = option_and_then (λ p. broken_option p (own_words s)) profile
+abbrev pub broken_input : Segment → Option WordsRule
+broken_input s = option_and_then (λ k. broken_option (profile_of_input k) (own_words s)) (input_of s)
+
+abbrev pub broken_plugin : Segment → Option WordsRule
+broken_plugin s = option_and_then (λ k. broken_option (profile_of_plugin k) (own_words s)) (plugin_of s)
+
+abbrev pub broken_output : Segment → Option WordsRule
+broken_output s = option_and_then (λ k. broken_option (profile_of_output k) (own_words s)) (output_of s)
 
 -- the first of two that there is
 abbrev pub or_else : Option WordsRule → Option WordsRule → Option WordsRule
@@ -47,7 +56,7 @@ broken_rule before s = or_else (first_broken (
     ∷ (UnknownPlugin, is_unknown s)
     ∷ (TooMany, is_one_too_many before s)
     ∷ []
-    )) (or_else (broken_by (input_of s) s) (or_else (broken_by (plugin_of s) s) (broken_by (output_of s) s)))
+    )) (or_else (broken_input s) (or_else (broken_plugin s) (broken_output s)))
 
 -- the rule, with the number of the word at which it is broken
 abbrev pub fault_at : ℕ → Option WordsRule → Option (ℕ × WordsRule) → Option (ℕ × WordsRule)

@@ -2,13 +2,12 @@
 -- This project's own rule.
 use Rattle.std.specs.Prelude.{ℕ, ◌+◌, ◌||◌, Bool, List, [], ◌∷◌, None, Option, codes, drop, if◌then◌else◌, length, option_and_then, slice_get}
 use Rattle.std.specs.Str.{bytes_eq}
-use Rattle.plug_conf.specs.declared.plugin_conf.PluginConf.{PluginConf}
-use Rattle.chain_args.specs.Inputs.{input_named}
-use Rattle.chain_args.specs.Outputs.{output_named}
-use Rattle.chain_args.specs.Plugins.{plugin_named}
-use Rattle.chain_args.specs.Profile.{Profile}
-use Rattle.chain_args.specs.declared.input_conf.InputConf.{InputConf}
-use Rattle.chain_args.specs.declared.output_conf.OutputConf.{OutputConf}
+use Rattle.chain_args.specs.Inputs.{input_kind_named}
+use Rattle.chain_args.specs.Outputs.{output_kind_named}
+use Rattle.chain_args.specs.Plugins.{plugin_kind_named}
+use Rattle.chain_args.specs.declared.input_words.InputKind.{InputKind}
+use Rattle.chain_args.specs.declared.output_words.OutputKind.{OutputKind}
+use Rattle.chain_args.specs.declared.plugin_words.PluginKind.{PluginKind}
 
 -- a segment: its first word, and the words up to the next segment
 pub record Segment : Type 0 where
@@ -68,13 +67,13 @@ abbrev pub name_of : Segment → Option (List ℕ)
 name_of s = slice_get s.others 0
 
 -- the input of a segment, where it names one
-abbrev pub input_of : Segment → Option (Profile InputConf)
-input_of s = if is_input s then option_and_then input_named (name_of s) else None
+abbrev pub input_of : Segment → Option InputKind
+input_of s = if is_input s then option_and_then input_kind_named (name_of s) else None
 
 -- the plugin of a segment, where it names one
-abbrev pub plugin_of : Segment → Option (Profile PluginConf)
-plugin_of s = if is_plugin s then option_and_then plugin_named (name_of s) else None
+abbrev pub plugin_of : Segment → Option PluginKind
+plugin_of s = if is_plugin s then option_and_then plugin_kind_named (name_of s) else None
 
 -- the output of a segment, where it names one
-abbrev pub output_of : Segment → Option (Profile OutputConf)
-output_of s = if is_output s then option_and_then output_named (name_of s) else None
+abbrev pub output_of : Segment → Option OutputKind
+output_of s = if is_output s then option_and_then output_kind_named (name_of s) else None

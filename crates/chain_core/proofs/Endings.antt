@@ -69,8 +69,8 @@ up_to-some m endings zero k le some =
     let e : k ≡ 0 = omega arith in subst (λ i. SomeWithin m (endings i)) e some
 up_to-some m endings (suc j) k le some =
     elim (cases_eq k (suc j)) [
-      inl same ↦ some-right m (up_to endings j) (endings (suc j)) (subst (λ i. SomeWithin m (endings i)) same some)
-    | inr apart ↦ some-left m (up_to endings j) (endings (suc j)) (up_to-some m endings j k (omega arith) some)
+      | inl same ↦ some-right m (up_to endings j) (endings (suc j)) (subst (λ i. SomeWithin m (endings i)) same some)
+      | inr apart ↦ some-left m (up_to endings j) (endings (suc j)) (up_to-some m endings j k (omega arith) some)
     ]
 
 cons-cond : (b : Bool) (x : Ending) (xs : List Ending) (more : List Cause) (rest : List Ending) → map (λ (e : Ending). e.cause) rest ≡ map (λ (e : Ending). e.cause) xs ++ more → map (λ (e : Ending). e.cause) (cond b (x ∷ rest) rest) ≡ map (λ (e : Ending). e.cause) (cond b (x ∷ xs) xs) ++ more
@@ -132,8 +132,8 @@ pub until_at-some : (c : ℕ) (f : ℕ → List Ending) (n : ℕ) (x : Cause) �
 until_at-some c f zero x e = (0, omega arith, e)
 until_at-some c f (suc j) x e =
     elim (or-some (until_at c (up_to f j)) (until_at c (f (suc j))) x (sym (until_at-more c f j) ∙ e)) [
-      inl before ↦ (let s = until_at-some c f j x before in (s.0, omega (arith, s.1), s.2))
-    | inr here ↦ (suc j, omega arith, here)
+      | inl before ↦ (let s = until_at-some c f j x before in (s.0, omega (arith, s.1), s.2))
+      | inr here ↦ (suc j, omega arith, here)
     ]
 
 -- where a row has none, no stage has one
@@ -143,8 +143,8 @@ until_at-none c f zero e k le =
 until_at-none c f (suc j) e k le =
     let both = or-none (until_at c (up_to f j)) (until_at c (f (suc j))) (sym (until_at-more c f j) ∙ e) in
     elim (cases_eq k (suc j)) [
-      inl same ↦ ap (λ i. until_at c (f i)) same ∙ both.1
-    | inr apart ↦ until_at-none c f j both.0 k (omega arith)
+      | inl same ↦ ap (λ i. until_at c (f i)) same ∙ both.1
+      | inr apart ↦ until_at-none c f j both.0 k (omega arith)
     ]
 
 -- a cause that stands at a stage, with none behind it, is the last one of the row
@@ -154,8 +154,8 @@ last_at-is c f k x here zero le none =
     ap (λ (causes : List Cause). last_or None causes) (ap (λ i. causes_at c (f i)) (sym z) ∙ here)
 last_at-is c f k x here (suc j) le none =
     last_at-more c f j ∙ elim (cases_eq k (suc j)) [
-      inl same ↦ ap (λ (causes : List Cause). last_or (last_at c (up_to f j)) causes) (ap (λ i. causes_at c (f i)) (sym same) ∙ here)
-    | inr apart ↦ ap (λ (causes : List Cause). last_or (last_at c (up_to f j)) causes) (none (suc j) (omega arith) (omega arith)) ∙ last_at-is c f k x here j (omega arith) (λ i lt le'. none i lt (omega arith))
+      | inl same ↦ ap (λ (causes : List Cause). last_or (last_at c (up_to f j)) causes) (ap (λ i. causes_at c (f i)) (sym same) ∙ here)
+      | inr apart ↦ ap (λ (causes : List Cause). last_or (last_at c (up_to f j)) causes) (none (suc j) (omega arith) (omega arith)) ∙ last_at-is c f k x here j (omega arith) (λ i lt le'. none i lt (omega arith))
     ]
 
 -- an ending alone, at the place or elsewhere

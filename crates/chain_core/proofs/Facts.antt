@@ -11,8 +11,8 @@ falls f step zero j le =
     let e : j ≡ 0 = omega arith in subst (λ i. f 0 ≤ f i) (sym e) (omega arith)
 falls f step (suc k) j le =
     elim (cases_eq j (suc k)) [
-      inl same ↦ subst (λ i. f (suc k) ≤ f i) (sym same) (omega arith)
-    | inr apart ↦ (let a = falls f step k j (omega arith) in let b = step k in omega arith)
+      | inl same ↦ subst (λ i. f (suc k) ≤ f i) (sym same) (omega arith)
+      | inr apart ↦ (let a = falls f step k j (omega arith) in let b = step k in omega arith)
     ]
 
 pub all_each : {X : Type 0} (P : X → Type 0) → ((x : X) → P x) → (xs : List X) → AllByRecursion P xs

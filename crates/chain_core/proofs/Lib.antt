@@ -3,3 +3,12 @@ pub mod Stepping
 pub mod Soundness
 pub mod ListsKept
 pub mod Endings
+pub mod Members
+pub mod Closing
+pub mod Theorem
+pub mod SetLaws
+pub mod LimitLaws
+pub mod RowLaws
+pub mod CoreLaws
+pub mod VisitLaws
+pub mod Rows

@@ -61,6 +61,14 @@ IsEndOf-last rule met whole given p g e =
     let more : length (f met) ≤ length (f (met ++ p.0)) = prefix-length (f met) (f (met ++ p.0)) (IsPrefix-apply rule met (met ++ p.0) (p.0, refl)) in
     record { ended = last; whole = prefix-whole given (f met) g (omega arith) }
 
+-- what a stage has done by a first part of its cells it has done by all of them
+pub KeepsList-more : (rule : PluginRule) (met whole given : List Cell) (plugins k : ℕ) (ended : Option StageEnd) → IsPrefix met whole → KeepsList plugins k (apply rule met) given ended → KeepsList plugins k (apply rule whole) given ended
+KeepsList-more rule met whole given plugins k ended p keeps = record {
+  gives = IsPrefix-trans given (apply rule met).cells (apply rule whole).cells keeps.gives (IsPrefix-apply rule met whole p);
+  ends = (λ end is. ends-moved plugins k (apply rule met) (apply rule whole) given (IsEndOf-more rule met whole given p) end (keeps.ends end is));
+  last_at_once = (λ e. keeps.last_at_once (IsEndOf-last rule met whole given p keeps.gives e));
+}
+
 -- what holds of a state by the rules of the plugins
 pub record Faithful (plan : CorePlan) (rules : List PluginRule) (input : StageList) (state : ChainState) : Type 0 where
   pub lists : (k : ℕ) → IsPrefix (state.stages k).given (stage_list rules input k).cells
@@ -89,10 +97,10 @@ agreement-step rule a rest (Some n) told is keeps =
 agreement-step rule a rest None (Some n) is keeps = sym (keeps.truly n refl)
 agreement-step rule a rest None None is keeps =
     elim (agreement_of rule (a ++ rest)) as (λ o. agreement_of rule (a ++ rest) ≡ o → None ≡ o) [
-      None ↦ (λ e. refl)
-    | Some n ↦ (λ e. elim (cases_lt (length a) n) [
-        inl late ↦ keeps.at_once n e late
-      | inr early ↦ is ∙ agreement_of-first rule a rest n e early
+      | None ↦ (λ e. refl)
+      | Some n ↦ (λ e. elim (cases_lt (length a) n) [
+        | inl late ↦ keeps.at_once n e late
+        | inr early ↦ is ∙ agreement_of-first rule a rest n e early
       ])
     ] refl
 
@@ -107,15 +115,7 @@ module _ (plan : CorePlan) (rules : List PluginRule) (input : StageList) (state 
   kept-list : (k : ℕ) (given : List Cell) (ended : Option StageEnd) → KeepsList plan.plugins k (list_made rules input k (took state k)) given ended → KeepsList plan.plugins k (stage_list rules input k) given ended
   kept-list zero given ended keeps = keeps
   kept-list (suc j) given ended keeps =
-      let rule = rule_behind rules j in
-      let met = took state (suc j) in
-      let whole = (stage_list rules input j).cells in
-      let p : IsPrefix met whole = took-prefix j in
-      record {
-        gives = IsPrefix-trans given (apply rule met).cells (apply rule whole).cells keeps.gives (IsPrefix-apply rule met whole p);
-        ends = (λ end is. ends-moved plan.plugins (suc j) (apply rule met) (apply rule whole) given (IsEndOf-more rule met whole given p) end (keeps.ends end is));
-        last_at_once = (λ e. keeps.last_at_once (IsEndOf-last rule met whole given p keeps.gives e));
-      }
+      KeepsList-more (rule_behind rules j) (took state (suc j)) (stage_list rules input j).cells given plan.plugins (suc j) ended (took-prefix j) keeps
 
   -- the cells that a plugin met are those of the list before it
   met-cells : (j n : ℕ) → n ≤ took_count state (suc j) → take n (took state (suc j)) ≡ take n (stage_list rules input j).cells
@@ -174,8 +174,8 @@ module _ (plan : CorePlan) (rules : List PluginRule) (input : StageList) (state 
   each : (k : ℕ) → (IsPrefix ((visited plan state visit).stages k).given (stage_list rules input k).cells) × ((end : StageEnd) → ((visited plan state visit).stages k).ended ≡ Some end → EndsAs plan.plugins k (stage_list rules input k) ((visited plan state visit).stages k).given end) × (IsEndOf (stage_list rules input k) ((visited plan state visit).stages k).given last_passed → ((visited plan state visit).stages k).ended ≡ Some Last)
   each k =
       elim (cases_eq k visit.stage) [
-        inl same ↦ subst (λ i. Goal i) (sym same) (here.gives, here.ends, here.last_at_once)
-      | inr apart ↦ subst (λ (stage : StageState). GoalOf k stage) (sym (visited-other plan state visit k apart)) (faithful.lists k, faithful.ends k, faithful.lasts_told k)
+        | inl same ↦ subst (λ i. Goal i) (sym same) (here.gives, here.ends, here.last_at_once)
+        | inr apart ↦ subst (λ (stage : StageState). GoalOf k stage) (sym (visited-other plan state visit k apart)) (faithful.lists k, faithful.ends k, faithful.lasts_told k)
       ]
     where
       GoalOf : ℕ → StageState → Type 0

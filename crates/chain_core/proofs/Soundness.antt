@@ -12,12 +12,12 @@ use Rattle.chain_core.specs.declared.core_plan.CorePlan.{CorePlan}
 use Rattle.chain_core.specs.declared.stage_end.StageEnd.{StageEnd}
 use Rattle.chain_core.specs.declared.stage_end.StageEnd.TheVariants.{Input, Last, Stop, Refuse, WriteFault, NoMemory, Followed}
 use Rattle.chain_core.specs.Stages.{has_stage, stages_of}
-use Rattle.chain_core.specs.Numbers.{limit_of, takes_of, reach_of, agreed_with, IsAgreement, MayFollow, MayVisit, is_before_over, is_after_over}
+use Rattle.chain_core.specs.Numbers.{UsersArePlugins, limit_of, takes_of, reach_of, agreed_with, IsAgreement, MayFollow, MayVisit, is_before_over, is_after_over}
 use Rattle.chain_core.specs.Machine.{StageState, ChainState, Visit, start, marks_of, noted, served, visited, Allowed}
 use Rattle.chain_core.specs.ChainRun.{ChainRun, state_after}
 use Rattle.chain_core.specs.Close.{cause_of_stage}
 use Rattle.chain_core.specs.EveryOrder.{EndsBy, IsCutWithin}
-use Rattle.chain_core.proofs.Facts.{falls, all_each, all_map, cond-both}
+use Rattle.chain_core.proofs.Facts.{falls, all_by_recursion, all_each, all_map, cond-both}
 use Rattle.chain_core.proofs.Stepping.{noted_stage, taking, noted-same, noted-other, noted-told, served-same, served-other, served-told_output, served-told_other}
 
 -- how many cells a stage has given
@@ -31,6 +31,10 @@ took_count state k = (state.stages k).taken
 -- only plugins use joint termination
 abbrev pub AreUsers : CorePlan → Type 0
 AreUsers plan = AllByRecursion (λ k. (1 ≤ k) × (k ≤ plan.plugins)) (stages_of plan.users)
+
+pub users_from : (plan : CorePlan) → UsersArePlugins plan → AreUsers plan
+users_from plan users =
+    all_by_recursion (λ k. (1 ≤ k) × (k ≤ plan.plugins)) (stages_of plan.users) users
 
 pub record Sound (plan : CorePlan) (state : ChainState) : Type 0 where
   pub within : (k : ℕ) → gave state k ≤ took_count state k
@@ -72,29 +76,29 @@ module _ (plan : CorePlan) (state : ChainState) (visit : Visit) where
   pub noted-gave_grows : (j : ℕ) → gave state j ≤ gave (noted plan state visit) j
   noted-gave_grows j =
       elim (cases_eq j visit.stage) [
-        inl same ↦ subst (λ i. gave state i ≤ gave (noted plan state visit) i) (sym same) (let e = noted-gave_same in omega arith)
-      | inr apart ↦ (let e = noted-gave_other j apart in omega arith)
+        | inl same ↦ subst (λ i. gave state i ≤ gave (noted plan state visit) i) (sym same) (let e = noted-gave_same in omega arith)
+        | inr apart ↦ (let e = noted-gave_other j apart in omega arith)
       ]
 
   pub noted-took : (j : ℕ) → took_count (noted plan state visit) j ≡ took_count state j
   noted-took j =
       elim (cases_eq j visit.stage) [
-        inl same ↦ subst (λ i. took_count (noted plan state visit) i ≡ took_count state i) (sym same) (ap (λ (stage : StageState). stage.taken) (noted-same plan state visit))
-      | inr apart ↦ ap (λ (stage : StageState). stage.taken) (noted-other plan state visit j apart)
+        | inl same ↦ subst (λ i. took_count (noted plan state visit) i ≡ took_count state i) (sym same) (ap (λ (stage : StageState). stage.taken) (noted-same plan state visit))
+        | inr apart ↦ ap (λ (stage : StageState). stage.taken) (noted-other plan state visit j apart)
       ]
 
   pub noted-agreed_kept : (j n : ℕ) → (state.stages j).agreed ≡ Some n → ((noted plan state visit).stages j).agreed ≡ Some n
   noted-agreed_kept j n is =
       elim (cases_eq j visit.stage) [
-        inl same ↦ ap (λ i. ((noted plan state visit).stages i).agreed) same ∙ (ap (λ (stage : StageState). stage.agreed) (noted-same plan state visit) ∙ agreed_with-kept plan visit.stage n (state.stages visit.stage).agreed visit.word.agreed (ap (λ i. (state.stages i).agreed) (sym same) ∙ is))
-      | inr apart ↦ ap (λ (stage : StageState). stage.agreed) (noted-other plan state visit j apart) ∙ is
+        | inl same ↦ ap (λ i. ((noted plan state visit).stages i).agreed) same ∙ (ap (λ (stage : StageState). stage.agreed) (noted-same plan state visit) ∙ agreed_with-kept plan visit.stage n (state.stages visit.stage).agreed visit.word.agreed (ap (λ i. (state.stages i).agreed) (sym same) ∙ is))
+        | inr apart ↦ ap (λ (stage : StageState). stage.agreed) (noted-other plan state visit j apart) ∙ is
       ]
 
   pub noted-agreed_new : (j n : ℕ) → (state.stages j).agreed ≡ None → ((noted plan state visit).stages j).agreed ≡ Some n → (j ≡ visit.stage) × (visit.word.agreed ≡ Some n)
   noted-agreed_new j n none is =
       elim (cases_eq j visit.stage) [
-        inl same ↦ (same, (agreed_with-new plan visit.stage n (state.stages visit.stage).agreed visit.word.agreed (ap (λ i. (state.stages i).agreed) (sym same) ∙ none) (sym (ap (λ (stage : StageState). stage.agreed) (noted-same plan state visit)) ∙ (ap (λ i. ((noted plan state visit).stages i).agreed) (sym same) ∙ is))).1)
-      | inr apart ↦ (let e = ap (λ (stage : StageState). stage.agreed) (noted-other plan state visit j apart) in absurd cc)
+        | inl same ↦ (same, (agreed_with-new plan visit.stage n (state.stages visit.stage).agreed visit.word.agreed (ap (λ i. (state.stages i).agreed) (sym same) ∙ none) (sym (ap (λ (stage : StageState). stage.agreed) (noted-same plan state visit)) ∙ (ap (λ i. ((noted plan state visit).stages i).agreed) (sym same) ∙ is))).1)
+        | inr apart ↦ (let e = ap (λ (stage : StageState). stage.agreed) (noted-other plan state visit j apart) in absurd cc)
       ]
 
   pub noted-ended_same : ((noted plan state visit).stages visit.stage).ended ≡ visit.word.ended
@@ -113,8 +117,8 @@ module _ (plan : CorePlan) (users : AreUsers plan) (state : ChainState) (visit :
   noted-within : (k : ℕ) → gave (noted plan state visit) k ≤ took_count (noted plan state visit) k
   noted-within k =
       elim (cases_eq k visit.stage) [
-        inl same ↦ subst (λ i. gave (noted plan state visit) i ≤ took_count (noted plan state visit) i) (sym same) (let e = noted-gave_same plan state visit in let t = noted-took plan state visit visit.stage in let h = ok.held in omega arith)
-      | inr apart ↦ (let e = noted-gave_other plan state visit k apart in let t = noted-took plan state visit k in let h = sound.within k in omega arith)
+        | inl same ↦ subst (λ i. gave (noted plan state visit) i ≤ took_count (noted plan state visit) i) (sym same) (let e = noted-gave_same plan state visit in let t = noted-took plan state visit visit.stage in let h = ok.held in omega arith)
+        | inr apart ↦ (let e = noted-gave_other plan state visit k apart in let t = noted-took plan state visit k in let h = sound.within k in omega arith)
       ]
 
   noted-handed : (k : ℕ) → took_count (noted plan state visit) (suc k) ≤ gave (noted plan state visit) k
@@ -144,8 +148,8 @@ module _ (plan : CorePlan) (users : AreUsers plan) (state : ChainState) (visit :
   noted-output_within : (limit : ℕ) → limit_of plan (marks_of state) ≡ Some limit → gave (noted plan state visit) (suc plan.plugins) ≤ limit
   noted-output_within limit is =
       elim (cases_eq (suc plan.plugins) visit.stage) [
-        inl same ↦ subst (λ i. gave (noted plan state visit) i ≤ limit) (sym same) (at_output same (sound.limited limit is).1)
-      | inr apart ↦ (let e = noted-gave_other plan state visit (suc plan.plugins) apart in let h = (sound.limited limit is).0 in omega arith)
+        | inl same ↦ subst (λ i. gave (noted plan state visit) i ≤ limit) (sym same) (at_output same (sound.limited limit is).1)
+        | inr apart ↦ (let e = noted-gave_other plan state visit (suc plan.plugins) apart in let h = (sound.limited limit is).0 in omega arith)
       ]
     where
       at_output : suc plan.plugins ≡ visit.stage → (state.told ≡ Some limit) ⊎ (took_count state (suc plan.plugins) ≤ limit) → gave (noted plan state visit) visit.stage ≤ limit
@@ -154,8 +158,8 @@ module _ (plan : CorePlan) (users : AreUsers plan) (state : ChainState) (visit :
           let h : gave state (suc plan.plugins) ≤ limit = (sound.limited limit is).0 in
           let h' : gave state visit.stage ≤ limit = subst (λ i. gave state i ≤ limit) same h in
           elim (cases_lt 0 (length visit.cells)) [
-            inl some ↦ (let b = ok.below_limit (sym same) limit told some in omega arith)
-          | inr none ↦ omega arith
+            | inl some ↦ (let b = ok.below_limit (sym same) limit told some in omega arith)
+            | inr none ↦ omega arith
           ]
       at_output same (inr took) =
           let e = noted-gave_same plan state visit in
@@ -165,8 +169,8 @@ module _ (plan : CorePlan) (users : AreUsers plan) (state : ChainState) (visit :
   noted-limited : (limit : ℕ) → limit_of plan (marks_of (noted plan state visit)) ≡ Some limit → (gave (noted plan state visit) (suc plan.plugins) ≤ limit) × (((noted plan state visit).told ≡ Some limit) ⊎ (took_count (noted plan state visit) (suc plan.plugins) ≤ limit))
   noted-limited limit is =
       elim (limit_of plan (marks_of state)) as (λ o. limit_of plan (marks_of state) ≡ o → (gave (noted plan state visit) (suc plan.plugins) ≤ limit) × (((noted plan state visit).told ≡ Some limit) ⊎ (took_count (noted plan state visit) (suc plan.plugins) ≤ limit))) [
-        None ↦ (λ none. let a = noted-limit_new limit none is in let t = noted-took plan state visit (suc plan.plugins) in let w = noted-within (suc plan.plugins) in (omega arith, inr (omega arith)))
-      | Some known ↦ (λ was. same_limit (was ∙ (sym (noted-limit_kept plan state visit known was) ∙ is)))
+        | None ↦ (λ none. let a = noted-limit_new limit none is in let t = noted-took plan state visit (suc plan.plugins) in let w = noted-within (suc plan.plugins) in (omega arith, inr (omega arith)))
+        | Some known ↦ (λ was. same_limit (was ∙ (sym (noted-limit_kept plan state visit known was) ∙ is)))
       ] refl
     where
       moved : (state.told ≡ Some limit) ⊎ (took_count state (suc plan.plugins) ≤ limit) → ((noted plan state visit).told ≡ Some limit) ⊎ (took_count (noted plan state visit) (suc plan.plugins) ≤ limit)
@@ -195,8 +199,8 @@ module _ (plan : CorePlan) (users : AreUsers plan) (state : ChainState) (visit :
   new-end : (end : StageEnd) → visit.word.ended ≡ Some end → IsCutWithin plan (marks_of (noted plan state visit)) (gave (noted plan state visit) visit.stage)
   new-end end is =
       elim (cause_of_stage visit.stage end) as (λ o. cause_of_stage visit.stage end ≡ o → IsCutWithin plan (marks_of (noted plan state visit)) (gave (noted plan state visit) visit.stage)) [
-        Some why ↦ (λ gives. inl (visit.stage, why, record { end = end; ended = noted-ended_same plan state visit ∙ is; gives = gives }, ok.is_stage, omega arith))
-      | None ↦ (λ gives. follow (ok.follows (is ∙ ap (λ (e : StageEnd). Some e) (follows end gives))))
+        | Some why ↦ (λ gives. inl (visit.stage, why, record { end = end; ended = noted-ended_same plan state visit ∙ is; gives = gives }, ok.is_stage, omega arith))
+        | None ↦ (λ gives. follow (ok.follows (is ∙ ap (λ (e : StageEnd). Some e) (follows end gives))))
       ] refl
     where
       follows : (end : StageEnd) → cause_of_stage visit.stage end ≡ None → end ≡ Followed
@@ -242,15 +246,15 @@ module _ (plan : CorePlan) (users : AreUsers plan) (state : ChainState) (visit :
   noted-key : (k : ℕ) (end : StageEnd) → ((noted plan state visit).stages k).ended ≡ Some end → IsCutWithin plan (marks_of (noted plan state visit)) (gave (noted plan state visit) k)
   noted-key k end is =
       elim (cases_eq k visit.stage) [
-        inl same ↦ subst (λ i. IsCutWithin plan (marks_of (noted plan state visit)) (gave (noted plan state visit) i)) (sym same) (new-end end (sym (noted-ended_same plan state visit) ∙ (ap (λ i. ((noted plan state visit).stages i).ended) (sym same) ∙ is)))
-      | inr apart ↦ noted-cut (gave state k) (gave (noted plan state visit) k) (noted-gave_grows plan state visit k) (sound.key k end (sym (noted-ended_other plan state visit k apart) ∙ is))
+        | inl same ↦ subst (λ i. IsCutWithin plan (marks_of (noted plan state visit)) (gave (noted plan state visit) i)) (sym same) (new-end end (sym (noted-ended_same plan state visit) ∙ (ap (λ i. ((noted plan state visit).stages i).ended) (sym same) ∙ is)))
+        | inr apart ↦ noted-cut (gave state k) (gave (noted plan state visit) k) (noted-gave_grows plan state visit k) (sound.key k end (sym (noted-ended_other plan state visit k apart) ∙ is))
       ]
 
   noted-ended_in : (k : ℕ) (end : StageEnd) → ((noted plan state visit).stages k).ended ≡ Some end → k ≤ suc plan.plugins
   noted-ended_in k end is =
       elim (cases_eq k visit.stage) [
-        inl same ↦ (let h = ok.is_stage in omega arith)
-      | inr apart ↦ sound.ended_in k end (sym (noted-ended_other plan state visit k apart) ∙ is)
+        | inl same ↦ (let h = ok.is_stage in omega arith)
+        | inr apart ↦ sound.ended_in k end (sym (noted-ended_other plan state visit k apart) ∙ is)
       ]
 
   pub noted-sound : Sound plan (noted plan state visit)
@@ -270,22 +274,22 @@ module _ (plan : CorePlan) (state : ChainState) (k : ℕ) where
   pub served-gave : (j : ℕ) → gave (served plan state k) j ≡ gave state j
   served-gave j =
       elim (cases_eq j k) [
-        inl same ↦ subst (λ i. gave (served plan state k) i ≡ gave state i) (sym same) (ap (λ (stage : StageState). length stage.given) (served-same plan state k))
-      | inr apart ↦ ap (λ (stage : StageState). length stage.given) (served-other plan state k j apart)
+        | inl same ↦ subst (λ i. gave (served plan state k) i ≡ gave state i) (sym same) (ap (λ (stage : StageState). length stage.given) (served-same plan state k))
+        | inr apart ↦ ap (λ (stage : StageState). length stage.given) (served-other plan state k j apart)
       ]
 
   pub served-agreed : (j : ℕ) → ((served plan state k).stages j).agreed ≡ (state.stages j).agreed
   served-agreed j =
       elim (cases_eq j k) [
-        inl same ↦ subst (λ i. ((served plan state k).stages i).agreed ≡ (state.stages i).agreed) (sym same) (ap (λ (stage : StageState). stage.agreed) (served-same plan state k))
-      | inr apart ↦ ap (λ (stage : StageState). stage.agreed) (served-other plan state k j apart)
+        | inl same ↦ subst (λ i. ((served plan state k).stages i).agreed ≡ (state.stages i).agreed) (sym same) (ap (λ (stage : StageState). stage.agreed) (served-same plan state k))
+        | inr apart ↦ ap (λ (stage : StageState). stage.agreed) (served-other plan state k j apart)
       ]
 
   pub served-ended : (j : ℕ) → ((served plan state k).stages j).ended ≡ (state.stages j).ended
   served-ended j =
       elim (cases_eq j k) [
-        inl same ↦ subst (λ i. ((served plan state k).stages i).ended ≡ (state.stages i).ended) (sym same) (ap (λ (stage : StageState). stage.ended) (served-same plan state k))
-      | inr apart ↦ ap (λ (stage : StageState). stage.ended) (served-other plan state k j apart)
+        | inl same ↦ subst (λ i. ((served plan state k).stages i).ended ≡ (state.stages i).ended) (sym same) (ap (λ (stage : StageState). stage.ended) (served-same plan state k))
+        | inr apart ↦ ap (λ (stage : StageState). stage.ended) (served-other plan state k j apart)
       ]
 
   pub served-took_same : took_count (served plan state k) k ≡ took_count state k + takes_of plan (marks_of state) k
@@ -306,8 +310,8 @@ module _ (plan : CorePlan) (state : ChainState) (k : ℕ) where
         let g = served-gave j in
         let h = sound.within j in
         elim (cases_eq j k) [
-          inl same ↦ (let t = subst (λ i. took_count (served plan state k) i ≡ took_count state i + takes_of plan (marks_of state) i) (sym same) served-took_same in omega arith)
-        | inr apart ↦ (let t = served-took_other j apart in omega arith)
+          | inl same ↦ (let t = subst (λ i. took_count (served plan state k) i ≡ took_count state i + takes_of plan (marks_of state) i) (sym same) served-took_same in omega arith)
+          | inr apart ↦ (let t = served-took_other j apart in omega arith)
         ]
 
     served-handed : (j : ℕ) → took_count (served plan state k) (suc j) ≤ gave (served plan state k) j
@@ -315,8 +319,8 @@ module _ (plan : CorePlan) (state : ChainState) (k : ℕ) where
         let g = served-gave j in
         let h = sound.handed j in
         elim (cases_eq (suc j) k) [
-          inl same ↦ (let t = subst (λ i. took_count (served plan state k) i ≡ took_count state i + takes_of plan (marks_of state) i) (sym same) served-took_same in omega arith)
-        | inr apart ↦ (let t = served-took_other (suc j) apart in omega arith)
+          | inl same ↦ (let t = subst (λ i. took_count (served plan state k) i ≡ took_count state i + takes_of plan (marks_of state) i) (sym same) served-took_same in omega arith)
+          | inr apart ↦ (let t = served-took_other (suc j) apart in omega arith)
         ]
 
     served-input : (took_count (served plan state k) 0 ≤ gave (served plan state k) (suc plan.plugins) + plan.buffer) × (took_count (served plan state k) 0 ≤ position_limit)
@@ -325,8 +329,8 @@ module _ (plan : CorePlan) (state : ChainState) (k : ℕ) where
         let h = sound.bound in
         let h' = sound.places in
         elim (cases_eq 0 k) [
-          inl same ↦ (let t = subst (λ i. took_count (served plan state k) i ≡ took_count state i + takes_of plan (marks_of state) i) (sym same) served-took_same in input_taken _ _ _ _ _ _ _ h h' t g)
-        | inr apart ↦ (let t = served-took_other 0 apart in (omega arith, rw t h'))
+          | inl same ↦ (let t = subst (λ i. took_count (served plan state k) i ≡ took_count state i + takes_of plan (marks_of state) i) (sym same) served-took_same in input_taken _ _ _ _ _ _ _ h h' t g)
+          | inr apart ↦ (let t = served-took_other 0 apart in (omega arith, rw t h'))
         ]
       where
         input_taken : (taken taken' given given' buffer most limit : ℕ) → taken ≤ given + buffer → taken ≤ limit → taken' ≡ taken + min most (min (given + buffer) limit - taken) → given' ≡ given → (taken' ≤ given' + buffer) × (taken' ≤ limit)
@@ -339,8 +343,8 @@ module _ (plan : CorePlan) (state : ChainState) (k : ℕ) where
         let h : gave state (suc plan.plugins) ≤ limit = (sound.limited limit was).0 in (
           omega arith,
           elim (cases_eq k (suc plan.plugins)) [
-            inl same ↦ inl (served-told_output plan state k same ∙ was)
-          | inr apart ↦ moved apart (sound.limited limit was).1
+            | inl same ↦ inl (served-told_output plan state k same ∙ was)
+            | inr apart ↦ moved apart (sound.limited limit was).1
           ],
         )
       where
@@ -352,8 +356,8 @@ module _ (plan : CorePlan) (state : ChainState) (k : ℕ) where
     served-told_is : (limit : ℕ) → (served plan state k).told ≡ Some limit → limit_of plan (marks_of (served plan state k)) ≡ Some limit
     served-told_is limit is =
         elim (cases_eq k (suc plan.plugins)) [
-          inl same ↦ served-limit ∙ (sym (served-told_output plan state k same) ∙ is)
-        | inr apart ↦ served-limit ∙ sound.told_is limit (sym (served-told_other plan state k apart) ∙ is)
+          | inl same ↦ served-limit ∙ (sym (served-told_output plan state k same) ∙ is)
+          | inr apart ↦ served-limit ∙ sound.told_is limit (sym (served-told_other plan state k apart) ∙ is)
         ]
 
     served-cut : (m n : ℕ) → m ≤ n → IsCutWithin plan (marks_of state) m → IsCutWithin plan (marks_of (served plan state k)) n

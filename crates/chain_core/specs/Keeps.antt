@@ -14,7 +14,7 @@ use Rattle.chain_core.specs.declared.core_plan.CorePlan.{CorePlan}
 use Rattle.chain_core.specs.declared.stage_end.StageEnd.{StageEnd}
 use Rattle.chain_core.specs.declared.stage_end.StageEnd.TheVariants.{Input, Last, Stop, Refuse, WriteFault, NoMemory, Followed}
 use Rattle.chain_core.specs.declared.stage_word.StageWord.{StageWord}
-use Rattle.chain_core.specs.Stages.{stages_of}
+use Rattle.chain_core.specs.Numbers.{UsersArePlugins}
 use Rattle.chain_core.specs.Machine.{ChainState, Visit}
 use Rattle.chain_core.specs.ChainRun.{ChainRun, state_after, took}
 
@@ -80,7 +80,7 @@ AllKeep plan rules input (visit ∷ earlier) =
 -- visit is allowed by the machine and made as the stage's list says
 pub record KeptRun (plan : CorePlan) (rules : List PluginRule) (input : StageList) (visits : List Visit) : Type 0 where
   pub plugins : length rules ≡ plan.plugins
-  pub users : All (λ k. (1 ≤ k) × (k ≤ plan.plugins)) (stages_of plan.users)
+  pub users : UsersArePlugins plan
   pub agree_late : All (λ rule. rule.agrees [] ≡ false) rules
   pub input_ends : (how : InputEnd) × (input.ended ≡ Some (input_over how))
   pub run : ChainRun plan visits

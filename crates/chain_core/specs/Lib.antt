@@ -6,3 +6,4 @@ pub mod Keeps
 pub mod Close
 pub mod EveryOrder
 pub mod CoreNumbers
+pub mod Laws

@@ -2,6 +2,7 @@
 -- and what follows from them. This project's own rule.
 use Rattle.std.specs.Prelude.{◌≡◌, ◌⊎◌, ℕ, zero, suc, ◌+◌, ◌-◌, ◌≤◌, ◌<◌, min, ◌==◌, nat_le, ◌&&◌, Bool, false, IsTrue, if◌then◌else◌, List, map, Option, None, Some, is_some, IfSome}
 use Rattle.std.specs.Option.{option_or}
+use Rattle.std.specs.List.{All}
 use Rattle.chain_model.specs.Joint.{greatest_if_all}
 use Rattle.chain_model.specs.Cut.{lesser_end}
 use Rattle.chain_model.specs.Stuffed.{position_limit}
@@ -16,6 +17,10 @@ use Rattle.chain_core.specs.Stages.{has_stage, stages_of}
 -- the numbers of all stages, by the stage's number
 abbrev pub Marks : Type 0
 Marks = ℕ → Mark
+
+-- only plugins use joint termination
+abbrev pub UsersArePlugins : CorePlan → Type 0
+UsersArePlugins plan = All (λ k. (1 ≤ k) × (k ≤ plan.plugins)) (stages_of plan.users)
 
 -- the joint position, once every plugin that uses joint termination has told its agreement
 abbrev pub limit_of : CorePlan → Marks → Option ℕ

@@ -4,6 +4,9 @@
 
 mod closed;
 mod core_plan;
+mod ending;
+mod laws;
+mod limit;
 mod mark;
 mod news;
 mod numbers;
@@ -15,6 +18,7 @@ mod stage_word;
 pub use chain_model::{Cause, InputEnd, Reason};
 pub use closed::Closed;
 pub use core_plan::CorePlan;
+pub use laws::{more_cells, news_promises, one_visit, quiet_is_over};
 pub use mark::Mark;
 pub use news::News;
 pub use numbers::Core;

@@ -1,4 +1,4 @@
-use chain_model::{InputEnd, Reason};
+use chain_model::{Cause, InputEnd, Reason};
 
 /// How a stage ends. `Followed` alone is not an end of the stage's own.
 #[derive(Debug, Clone, Copy, PartialEq, Eq)]
@@ -17,4 +17,24 @@ pub enum StageEnd {
     NoMemory,
     /// The stage ends since a neighbour has ended, or since it gave all cells below the limit.
     Followed,
+}
+
+impl StageEnd {
+    ghost use Rattle.std.specs.Prelude.{◌≡◌};
+    ghost use Rattle.chain_core.specs.Close.{cause_of_stage};
+
+    /// The cause that the stage of this number gives by ending so; none where it only followed.
+    pub(crate) fn own_cause(self, stage: usize) -> Option<Cause>
+        ensures { result ≡ cause_of_stage stage self }
+    {
+        match self {
+            StageEnd::Input(how) => Some(Cause::Input(how)),
+            StageEnd::Last => Some(Cause::Until(stage)),
+            StageEnd::Stop => Some(Cause::Stop(stage)),
+            StageEnd::Refuse(reason) => Some(Cause::Refuse(stage, reason)),
+            StageEnd::WriteFault => Some(Cause::WriteFault),
+            StageEnd::NoMemory => Some(Cause::NoMemory(stage)),
+            StageEnd::Followed => None,
+        }
+    }
 }

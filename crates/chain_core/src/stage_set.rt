@@ -1,4 +1,4 @@
-ghost use Rattle.std.specs.Prelude.{◌≡◌, ℕ, ◌<◌, [], ◌==◌, ◌||◌};
+ghost use Rattle.std.specs.Prelude.{◌≡◌, ℕ, ◌<◌, [], ◌∷◌, ◌++◌, ◌==◌, ◌||◌, All};
 
 /// A set of stage numbers below 64.
 #[derive(Clone, Copy)]
@@ -16,10 +16,11 @@ impl StageSet {
         StageSet { bits: 0 }
     }
 
-    /// The set with this stage too.
+    /// The set with this stage too. A stage above all others comes last.
     pub fn with(self, stage: usize) -> StageSet
         requires { stage < 64 }
-        ensures { (k : ℕ) → has_stage result k ≡ (k == stage || has_stage self k) }
+        ensures has { (k : ℕ) → has_stage result k ≡ (k == stage || has_stage self k) }
+        ensures above { All (λ k. k < stage) (stages_of self) → stages_of result ≡ stages_of self ++ stage ∷ [] }
     {
         StageSet {
             bits: self.bits | (1 << stage),

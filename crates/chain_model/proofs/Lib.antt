@@ -4,3 +4,4 @@ pub mod LiveLemmas
 pub mod ApplyLaws
 pub mod AgreementLaws
 pub mod GreatestLaws
+pub mod Rows

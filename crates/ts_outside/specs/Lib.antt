@@ -7,3 +7,4 @@ pub mod FileFault
 pub mod Desk
 pub mod Memory
 pub mod Found
+pub mod Steady

@@ -20,6 +20,10 @@ mod reading;
 mod requests;
 mod sinks;
 mod sources;
+mod steady_desk;
+mod steady_sink;
+mod steady_source;
+mod stream_names;
 mod wholes;
 
 pub use closed_inputs::ClosedInput;
@@ -38,6 +42,9 @@ pub use reading::read_to_end;
 pub use requests::{Asked, Purpose};
 pub use sinks::Sink;
 pub use sources::Source;
+pub use steady_desk::SteadyDesk;
+pub use steady_sink::SteadySink;
+pub use steady_source::SteadySource;
 pub use wholes::{CutShort, report_whole, write_whole};
 
 #[cfg(test)]

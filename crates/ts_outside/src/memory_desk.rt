@@ -18,6 +18,7 @@ use crate::memory_sink::MemorySink;
 use crate::memory_source::MemorySource;
 use crate::name_text::NameText;
 use crate::requests::{Asked, Purpose};
+use crate::stream_names::stream;
 use std::alloc::{AllocError, Global};
 use std::marker::Model;
 use std::mem;
@@ -129,13 +130,6 @@ impl MemoryDesk {
     {
         self.asked.len()
     }
-}
-
-/// The name of a stream: the empty one where none was given.
-fn stream<'a>(name: Option<&'a str>) -> &'a str
-    ensures { result.now ≡ stream_name (option_copied name.entry) }
-{
-    name.unwrap_or("")
 }
 
 /// An entry of what was asked.

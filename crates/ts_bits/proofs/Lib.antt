@@ -1,0 +1,5 @@
+pub mod Fields
+mod Writes
+mod Digits
+mod Loops
+mod Rows

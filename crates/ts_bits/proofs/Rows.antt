@@ -1,0 +1,19 @@
+-- Worked rows: the definitions computed.
+use Rattle.std.proofs.Common.{◌≡◌, ◌∷◌, [], refl}
+use Rattle.bit_rows.specs.BitRow.{bit_of, field}
+use Rattle.ts_bits.specs.Decimal.{decimal, packed}
+use Rattle.ts_bits.specs.TaggedBody.{loop_bytes}
+
+-- the duration 01 45 30 is one hour, 45 minutes and 30 seconds
+duration : decimal (0x01 ∷ 0x45 ∷ 0x30 ∷ []) 0 6 ≡ 14530
+unfolding decimal field bit_of
+duration = refl
+
+-- and 14530 is written as those half-bytes
+half-bytes : packed 6 14530 ≡ 0x014530
+unfolding packed
+half-bytes = refl
+
+-- a CA descriptor and an empty one
+two-descriptors : loop_bytes (record { tag = 9; body = 0x0B ∷ 0x00 ∷ 0xE1 ∷ 0x00 ∷ [] } ∷ record { tag = 10; body = [] } ∷ []) ≡ 0x09 ∷ 0x04 ∷ 0x0B ∷ 0x00 ∷ 0xE1 ∷ 0x00 ∷ 0x0A ∷ 0x00 ∷ []
+two-descriptors = refl

@@ -1,0 +1,103 @@
+//! Loops of descriptors.
+
+ghost use Rattle.std.specs.Prelude.{◌≡◌, ◌+◌, ◌<◌, ◌≤◌, length, slice_index, IfOk, IfErr, IfNone, IfSome};
+ghost use Rattle.ts_bits.specs.declared.descriptor_loop.LoopFault.TheVariants.{NoMemory};
+ghost use Rattle.ts_bits.specs.DescriptorLoop.{IsFirstBody, IsLoopFault};
+ghost use Rattle.ts_bits.specs.TaggedBody.{loop_bytes};
+
+use crate::descriptor::Descriptor;
+use std::alloc::{AllocError, AllocFailed, Global};
+use std::marker::Model;
+
+/// Why bytes are no loop of descriptors.
+#[derive(Debug, Clone, Copy, PartialEq, Eq)]
+pub enum LoopFault {
+    /// The descriptor that begins at `offset` passes the end.
+    Cut { offset: usize },
+    /// There is no memory for the descriptors.
+    NoMemory,
+}
+
+impl From<AllocError> for LoopFault {
+    ghost from_gives = { λ _ fault. fault ≡ NoMemory };
+
+    fn from(_error: AllocError) -> LoopFault {
+        LoopFault::NoMemory
+    }
+}
+
+impl<T: Drop> From<AllocFailed<T>> for LoopFault {
+    ghost from_gives = { λ _ fault. fault ≡ NoMemory };
+
+    fn from(_error: AllocFailed<T>) -> LoopFault {
+        LoopFault::NoMemory
+    }
+}
+
+/// Descriptors in their order.
+#[derive(Debug, Drop)]
+pub struct DescriptorList {
+    descriptors: Vec<Descriptor>,
+}
+
+// Clauses see the list of the descriptors.
+impl Model for DescriptorList {
+    ghost use Rattle.std.specs.Prelude.{List};
+    ghost use Rattle.ts_bits.specs.TaggedBody.{TaggedBody};
+
+    ghost Value = { List TaggedBody };
+
+    ghost view = { λ l. l.descriptors.items };
+}
+
+impl DescriptorList {
+    /// The descriptors of a `Vec`, which the list keeps.
+    pub fn of(descriptors: Vec<Descriptor>) -> DescriptorList
+        ensures { result ≡ descriptors.items }
+    {
+        DescriptorList { descriptors }
+    }
+
+    /// The descriptors.
+    pub fn as_slice(&self) -> &[Descriptor]
+        ensures { result.now ≡ self.now }
+    {
+        &self.descriptors
+    }
+
+    /// The `Vec` of the descriptors.
+    pub fn into_vec(self) -> Vec<Descriptor>
+        ensures { result.items ≡ self }
+    {
+        self.descriptors
+    }
+}
+
+/// Reads descriptors one after another, up to the end of `from` (ISO/IEC 13818-1, 2.6).
+pub fn read_loop(alloc: Global, from: &[u8]) -> Result<DescriptorList, LoopFault>
+    ensures read { IfOk result (λ list. loop_bytes list ≡ from.now) }
+    ensures refused { IfErr result (IsLoopFault from.now) }
+{
+    let mut descriptors = Vec::new(alloc);
+    let mut offset = 0;
+    while offset < from.len() {
+        let rest = &from[offset..];
+        let Some(body) = first_body(rest) else {
+            return Err(LoopFault::Cut { offset });
+        };
+        let descriptor = Descriptor::new(alloc, rest[0], body)?;
+        descriptors.push(descriptor)?;
+        offset += 2 + body.len();
+    }
+    Ok(DescriptorList { descriptors })
+}
+
+/// The body of the descriptor that begins `rest`; none where the descriptor passes the end.
+fn first_body(rest: &[u8]) -> Option<&[u8]>
+    ensures passes { IfNone result (length rest.now < 2 + slice_index rest.now 1) }
+    ensures within { IfSome result (λ body. 2 + length body.now ≤ length rest.now) }
+    ensures begins { IfSome result (λ body. IsFirstBody rest.now body.now) }
+{
+    let size = usize::from(*rest.get(1)?);
+    rest.get(2..2 + size)
+}

@@ -1,0 +1,16 @@
+//! Rows of bytes come in; numbers of some bits, decimal digits and descriptors go out, and are written back.
+//! The layer above rests on `bits` and `put_bits`, which read and set the fields of `bit_rows`.
+#![tactic(auto)]
+
+mod decimal;
+mod descriptor;
+mod descriptor_loop;
+mod row;
+
+pub use decimal::{BcdFault, bcd, put_bcd};
+pub use descriptor::Descriptor;
+pub use descriptor_loop::{DescriptorList, LoopFault, read_loop};
+pub use row::{ShortInput, bits, put_bits};
+
+#[cfg(test)]
+mod tests;

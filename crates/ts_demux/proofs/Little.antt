@@ -1,0 +1,52 @@
+-- Readers that hold little.
+use Rattle.std.proofs.Common.{◌≡◌, ℕ, Bool, true, false, List, [], length, Some, None, ap, ◌∙◌, arith, refl, sym, ◌++◌, append_assoc, append-nil}
+use Rattle.ts_demux.proofs.Choice.{if_true, if_false}
+use Rattle.ts_demux.proofs.Cutting.{short_is_not_whole, unfinished_is_short, sections_in-over, sections_in-stop}
+use Rattle.ts_demux.specs.Cut.{is_whole_in_front}
+use Rattle.ts_demux.specs.Pieces.{IsAlive, IsOver}
+use Rattle.ts_demux.specs.SectionsOfParts.{sections_in}
+use Rattle.ts_demux.specs.Reader.{HoldsLittle, IsAtRest, sections_behind}
+use Rattle.ts_demux.specs.declared.reader.StretchReader.{StretchReader}
+
+pub little-empty : (r : StretchReader) → r.unfinished.items ≡ [] → HoldsLittle r
+little-empty r e =
+    record {
+      closed = λ _. e;
+      not_whole = ap is_whole_in_front e ∙ short_is_not_whole [] (omega arith);
+      less_than_one = omega (arith, ap length e);
+    }
+
+pub little-open : (r : StretchReader) → r.is_open ≡ true → is_whole_in_front r.unfinished.items ≡ false → IsAlive r.unfinished.items → HoldsLittle r
+little-open r o w a =
+    record {
+      closed = λ (f : r.is_open ≡ false). cc;
+      not_whole = w;
+      less_than_one = unfinished_is_short r.unfinished.items w a;
+    }
+
+pub rest-fresh : (r : StretchReader) → r.last ≡ None → r.is_open ≡ false → r.unfinished.items ≡ [] → IsAtRest r
+rest-fresh r n o e =
+    record {
+      little = little-empty r e;
+      counter = λ counter f. (let e : None ≡ Some counter = sym n ∙ f in cc);
+      begun = λ _. o;
+    }
+
+-- a stretch of which nothing more comes may be closed
+pub sections_behind-over :
+    (before after : List (List ℕ)) (was_open is_open : Bool) (old bytes grown left empty more : List ℕ) →
+    was_open ≡ true → is_open ≡ false → grown ≡ old ++ bytes → IsOver left →
+    before ++ sections_in (grown ++ more) ≡ after ++ sections_in (left ++ more) →
+    before ++ sections_behind was_open old (bytes ++ more) ≡ after ++ sections_behind is_open empty more
+sections_behind-over before after was_open is_open old bytes grown left empty more o c g over h =
+    let a : sections_behind was_open old (bytes ++ more) ≡ sections_in (old ++ (bytes ++ more)) = if_true was_open (sections_in (old ++ (bytes ++ more))) [] o in
+    let b : sections_in (grown ++ more) ≡ sections_in (old ++ (bytes ++ more)) = ap sections_in (ap (λ t. t ++ more) g ∙ append_assoc old bytes more) in
+    let d : sections_behind is_open empty more ≡ [] = if_false is_open (sections_in (empty ++ more)) [] c in
+    let e = sections_in-over left more over in
+    ap (λ t. before ++ t) (a ∙ sym b) ∙ h ∙ ap (λ t. after ++ t) (e ∙ sym d)
+
+-- with no more bytes nothing comes of what is not whole
+pub sections_behind-nothing :
+    (is_open : Bool) (bytes : List ℕ) → is_whole_in_front bytes ≡ false → sections_behind is_open bytes [] ≡ []
+sections_behind-nothing true bytes w = ap sections_in (append-nil bytes) ∙ sections_in-stop bytes w
+sections_behind-nothing false bytes w = refl

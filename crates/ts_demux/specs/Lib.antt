@@ -1,0 +1,16 @@
+pub mod Part
+pub mod CountedPackets
+pub mod ContinuousRuns
+pub mod Stretches
+pub mod Cut
+pub mod SectionsOfParts
+pub mod SectionsOfPid
+pub mod DemuxState
+pub mod Tables
+pub mod Keys
+pub mod Firsts
+pub mod Era
+pub mod AssemblyState
+pub mod Counters
+pub mod Pieces
+pub mod Reader

@@ -1,0 +1,60 @@
+-- What the reader of stretches keeps, and what it means.
+-- This project's own rule.
+use Rattle.std.specs.Prelude.{◌≡◌, ℕ, ◌≤◌, ◌<◌, Bool, true, false, List, [], ◌∷◌, ◌++◌, length, Option, Some, None, if◌then◌else◌}
+use Rattle.std.specs.Option.{ForSome, option_map, option_to_list}
+use Rattle.ts_demux.specs.Part.{Part}
+use Rattle.ts_demux.specs.Counters.{goes_on_behind}
+use Rattle.ts_demux.specs.Cut.{is_whole_in_front}
+use Rattle.ts_demux.specs.SectionsOfParts.{sections_in, sections_of_parts}
+use Rattle.ts_demux.specs.declared.reader.StretchReader.{StretchReader}
+
+-- a part with this counter that begins a stretch with these bytes, or one that has no bytes at all
+abbrev pub part_of : Bool → List ℕ → ℕ → Part
+part_of is_open bytes counter =
+    record { counter = counter; unit_start = is_open; payload = if is_open then 0 ∷ bytes else [] }
+
+-- The one part that a reader remembers in place of all that it was given: behind it a stream has the
+-- same sections to come.
+abbrev pub remembered_by : StretchReader → Option Part
+remembered_by r = option_map (part_of r.is_open r.unfinished.items) r.last
+
+-- the sections of an open stretch with these bytes, which goes on with more; of a closed one none
+abbrev pub sections_behind : Bool → List ℕ → List ℕ → List (List ℕ)
+sections_behind is_open bytes more = if is_open then sections_in (bytes ++ more) else []
+
+-- the same of a reader's stretch
+abbrev pub sections_with : StretchReader → List ℕ → List (List ℕ)
+sections_with r more = sections_behind r.is_open r.unfinished.items more
+
+-- a reader keeps less than one section, and nothing of a closed stretch
+pub record HoldsLittle (r : StretchReader) : Type 0 where
+  pub closed : r.is_open ≡ false → r.unfinished.items ≡ []
+  pub not_whole : is_whole_in_front r.unfinished.items ≡ false
+  pub less_than_one : length r.unfinished.items ≤ 4095
+
+-- and between two packets no stretch is open before the first
+pub record IsAtRest (r : StretchReader) : Type 0 where
+  pub little : HoldsLittle r
+  pub counter : ForSome r.last (λ counter. counter < 16)
+  pub begun : r.last ≡ None → r.is_open ≡ false
+
+-- before a part with this counter a reader gives up its stretch where the counter does not go on
+pub record EndsAtJump (old new : StretchReader) (counter : ℕ) : Type 0 where
+  pub last : new.last ≡ Some counter
+  pub closed : new.is_open ≡ false → new.unfinished.items ≡ []
+  pub same_open : goes_on_behind old.last counter ≡ true → new.is_open ≡ old.is_open
+  pub same_bytes : goes_on_behind old.last counter ≡ true → new.unfinished.items ≡ old.unfinished.items
+  pub ends : goes_on_behind old.last counter ≡ false → new.is_open ≡ false
+
+-- what a reader gives for a part: however the stream goes on, its sections are those that wait now,
+-- followed by those that the new reader has to come
+pub record Takes (old new : StretchReader) (part : Part) (before after : List (List ℕ)) : Type 0 where
+  pub sections : (rest : List Part) →
+      before ++ sections_of_parts (option_to_list (remembered_by old) ++ (part ∷ rest))
+      ≡ after ++ sections_of_parts (option_to_list (remembered_by new) ++ rest)
+  pub grows : length before ≤ length after
+
+-- a demultiplexer's parts: its reader at rest, and nothing waits once memory was wanting
+pub record IsSound (reader : StretchReader) (waiting : List (List ℕ)) (failed : Bool) : Type 0 where
+  pub rest : IsAtRest reader
+  pub spent : failed ≡ true → waiting ≡ []

@@ -1,0 +1,150 @@
+//! Sections in, tables out.
+
+ghost use Rattle.std.specs.Prelude.{◌≡◌, ℕ, ◌++◌, ◌∷◌, [], List, Some, true, false, IfOk, IfSome, IfNone, OnOk, OnErr, IsErr};
+ghost use Rattle.indexmap.specs.IndexMap.{get};
+ghost use Rattle.ts_section.specs.SectionFields.{number_of, version_of, last_number_of, head_fields};
+ghost use Rattle.ts_section.specs.SectionRun.{stands_alone};
+ghost use Rattle.ts_demux.specs.Keys.{key_eq};
+ghost use Rattle.ts_demux.specs.declared.table_key.TableKey.{TableKey};
+ghost use Rattle.ts_demux.specs.Era.{HasEra, EntryStands, EraStands, AllBelong, entry_goes_on};
+ghost use Rattle.std.specs.Option.{option_copied};
+ghost use Rattle.ts_demux.specs.Tables.{completed};
+
+use crate::era::Era;
+use crate::table_key::TableKey;
+use indexmap::IndexMap;
+use std::alloc::{AllocError, Global};
+use ts_section::{LongHead, Section, TableRun};
+
+/// The eras of the keys, in the order in which the keys were first seen.
+type Eras = IndexMap<TableKey, Era>;
+
+/// Puts sections together to tables. A short section and an EIT section are each a table at once; the other
+/// sections of a table_id, an extension and a current flag fall into eras, and a new era begins where the version
+/// or the last number changes. An era's table is given once, at the first section after which each number from
+/// 0 to the last was seen, and has the first section of each number.
+#[derive(Drop)]
+pub struct Assembly {
+    eras: Eras,
+    failed: bool,
+}
+
+impl Assembly {
+    ghost use Rattle.ts_demux.specs.Tables.{table_at};
+    ghost use Rattle.ts_demux.specs.AssemblyState.{StandsFor, has_failed};
+
+    /// An assembly that was given nothing.
+    pub fn new(alloc: Global) -> Result<Assembly, AllocError>
+        ensures { IfOk result (λ assembly. StandsFor assembly []) }
+    {
+        Ok(Assembly {
+            eras: IndexMap::new(alloc),
+            failed: false,
+        })
+    }
+
+    /// Takes the next section, and gives the table that it completes, if it completes one.
+    /// After `AllocError` every later call answers `AllocError`.
+    pub fn add(&mut self, section: Section) -> Result<Option<TableRun>, AllocError>
+        ensures completes { IfOk result (λ table. (before : List (List ℕ)) → StandsFor self.old before → table ≡ table_at before section) }
+        ensures stands { OnOk result ((before : List (List ℕ)) → StandsFor self.old before → StandsFor self.new (before ++ section ∷ [])) }
+        ensures spent { OnErr result (has_failed self.new ≡ true) }
+        ensures stays_spent { has_failed self.old ≡ true → IsErr result }
+    {
+        if self.failed {
+            return Err(AllocError);
+        }
+        match self.take(section) {
+            Ok(table) => Ok(table),
+            Err(error) => {
+                self.failed = true;
+                Err(error)
+            }
+        }
+    }
+
+    /// Takes the next section as long as memory was there.
+    fn take(&mut self, section: Section) -> Result<Option<TableRun>, AllocError>
+        ensures completes { IfOk result (λ table. (before : List (List ℕ)) → StandsFor self.old before → table ≡ table_at before section) }
+        ensures stands { OnOk result ((before : List (List ℕ)) → StandsFor self.old before → StandsFor self.new (before ++ section ∷ [])) }
+        ensures same { self.new.failed ≡ self.old.failed }
+    {
+        let alloc = *self.eras.allocator();
+        let Some(head) = head_of_many(&section) else {
+            let table = table_alone(alloc, section)?;
+            return Ok(table);
+        };
+        let key = TableKey::of(&head);
+        begin_era(&mut self.eras, key, &head)?;
+        let table = add_to_era(&mut self.eras, key, head.number, section)?;
+        Ok(table)
+    }
+}
+
+/// Sees that the entry of the key is the era that a section with this head goes on with.
+fn begin_era(eras: &mut Eras, key: TableKey, head: &LongHead) -> Result<(), AllocError>
+    ensures has_era { OnOk result (HasEra (get key_eq eras.new key) head.now.version head.now.last) }
+    ensures stands { OnOk result ((sections : List (List ℕ)) →
+        EntryStands (get key_eq eras.old key) head.now.version head.now.last sections → EraStands (get key_eq eras.new key) sections) }
+    ensures others { OnOk result ((other : TableKey) → key_eq key other ≡ false → get key_eq eras.new other ≡ get key_eq eras.old other) }
+{
+    if !goes_on(eras.get(&key), head) {
+        let era = Era::new(*eras.allocator(), head.version, head.last)?;
+        eras.insert(key, era)?;
+    }
+    Ok(())
+}
+
+/// Takes the next section of the era of a key.
+fn add_to_era(
+    eras: &mut Eras,
+    key: TableKey,
+    number: u8,
+    section: Section,
+) -> Result<Option<TableRun>, AllocError>
+    requires number { number ≡ number_of section }
+    requires has_era { HasEra (get key_eq eras.old key) (version_of section) (last_number_of section) }
+    ensures has_era { OnOk result (HasEra (get key_eq eras.new key) (version_of section) (last_number_of section)) }
+    ensures stands { OnOk result ((sections : List (List ℕ)) →
+        EraStands (get key_eq eras.old key) sections → EraStands (get key_eq eras.new key) (sections ++ section ∷ [])) }
+    ensures table { IfOk result (λ table. (sections : List (List ℕ)) →
+        EraStands (get key_eq eras.old key) sections → AllBelong section sections → table ≡ completed sections section) }
+    ensures others { OnOk result ((other : TableKey) → key_eq key other ≡ false → get key_eq eras.new other ≡ get key_eq eras.old other) }
+{
+    let alloc = *eras.allocator();
+    match eras.get_mut(&key) {
+        Some(era) => era.add(alloc, number, section),
+        None => Ok(None),
+    }
+}
+
+/// The table of a section that is one by itself.
+fn table_alone(alloc: Global, section: Section) -> Result<Option<TableRun>, AllocError>
+    requires { stands_alone section ≡ true }
+    ensures { IfOk result (λ table. table ≡ Some (section ∷ [])) }
+{
+    let mut sections = Vec::with_capacity(alloc, 1)?;
+    sections.push(section)?;
+    Ok(TableRun::of(sections).ok())
+}
+
+/// The head of a section that is no table by itself.
+fn head_of_many(section: &Section) -> Option<LongHead>
+    ensures alone { IfNone result (stands_alone section.now ≡ true) }
+    ensures together { IfSome result (λ head. stands_alone section.now ≡ false) }
+    ensures head { IfSome result (λ head. head ≡ head_fields section.now) }
+{
+    section
+        .head()
+        .filter(|head| head.table_id < 0x4E || 0x6F < head.table_id)
+}
+
+/// Whether a section with this head goes on with the era of its key.
+fn goes_on(era: Option<&Era>, head: &LongHead) -> bool
+    ensures { result ≡ entry_goes_on (option_copied era.entry) head.now.version head.now.last }
+{
+    match era {
+        Some(era) => era.has(head),
+        None => false,
+    }
+}

@@ -1,0 +1,102 @@
+//! The demultiplexer of one PID.
+
+ghost use Rattle.std.specs.Prelude.{◌≡◌, ℕ, ◌<◌, ◌≤◌, List, [], true, false, length, IfSome, IfNone, IfOk, OnErr, IsErr};
+ghost use Rattle.ts_section.specs.LawfulSection.{IsSection};
+ghost use Rattle.ts_demux.specs.CountedPackets as counted;
+ghost use Rattle.ts_demux.specs.DemuxState.{StandsFor, TakesIn, GivesFirst};
+
+use crate::reader::StretchReader;
+use std::alloc::{AllocError, Global};
+use std::collections::VecDeque;
+use std::marker::Model;
+use ts_packet::Packet;
+use ts_section::Section;
+
+/// Collects the sections of one PID (ISO/IEC 13818-1, 2.4.3.3 and 2.4.4), fed packet by packet.
+///
+/// Clauses see its PID, the sections that wait, whether memory was wanting, and one part that stands in
+/// for all packets fed. It holds no more than one unfinished section and what waits.
+#[derive(Drop)]
+pub struct Demux {
+    pid: u16,
+    reader: StretchReader,
+    waiting: VecDeque<Section>,
+    failed: bool,
+}
+
+impl Model for Demux {
+    ghost use Rattle.ts_demux.specs.DemuxState.{DemuxState};
+    ghost use Rattle.ts_demux.specs.Reader.{remembered_by, IsSound};
+
+    ghost Value = { DemuxState };
+
+    ghost view = { λ d. record { pid = d.pid; remembered = remembered_by d.reader; waiting = d.waiting.items; failed = d.failed } };
+
+    ghost invariant = { λ d. IsSound d.reader d.waiting.items d.failed };
+}
+
+impl Demux {
+    /// A demultiplexer that was fed nothing.
+    pub fn new(alloc: Global, pid: u16) -> Result<Demux, AllocError>
+        requires { pid < 8192 }
+        ensures { IfOk result (λ demux. StandsFor demux pid [] []) }
+    {
+        Ok(Demux {
+            pid,
+            reader: StretchReader::new(alloc),
+            waiting: VecDeque::new(alloc),
+            failed: false,
+        })
+    }
+
+    /// Takes the next packet, of any PID, and answers how many sections it completed; they wait in order.
+    /// After `AllocError` nothing waits, and every later call answers `AllocError`.
+    pub fn feed(&mut self, packet: &Packet) -> Result<usize, AllocError>
+        ensures taken { IfOk result (λ completed. TakesIn self.old self.new packet.now completed) }
+        ensures bounded { IfSome self.new.remembered (λ part. length part.payload ≤ 4096) }
+        ensures spent { OnErr result ((self.new.failed ≡ true) × (self.new.waiting ≡ [])) }
+        ensures stays_spent { self.old.failed ≡ true → IsErr result }
+    {
+        if self.failed {
+            return Err(AllocError);
+        }
+        if !counts(self.pid, packet) {
+            return Ok(0);
+        }
+        let before = self.waiting.len();
+        let taken = self.reader.take_part(
+            packet.counter(),
+            packet.unit_start(),
+            packet.payload(),
+            &mut self.waiting,
+        );
+        match taken {
+            Ok(()) => Ok(self.waiting.len() - before),
+            Err(error) => {
+                self.reader.reset();
+                self.waiting.clear();
+                self.failed = true;
+                Err(error)
+            }
+        }
+    }
+
+    /// The first section that waits; none exactly where nothing waits.
+    pub fn next_section(&mut self) -> Option<Section>
+        ensures first { IfSome result (λ section. GivesFirst self.old self.new section) }
+        ensures none { IfNone result ((self.old.waiting ≡ []) × (self.new ≡ self.old)) }
+        ensures same { (self.new.pid ≡ self.old.pid) × (self.new.failed ≡ self.old.failed) }
+    {
+        self.waiting.pop_front()
+    }
+}
+
+/// Whether a packet counts for the sections of the PID.
+fn counts(pid: u16, packet: &Packet) -> bool
+    ensures { result ≡ counted.counts pid packet.now }
+{
+    packet.pid() == pid
+        && packet.scrambling() == 0
+        && !packet.error_indicator()
+        && packet.payload_start().is_some()
+}

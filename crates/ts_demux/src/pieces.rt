@@ -1,0 +1,136 @@
+//! The pieces of a stretch, cut from its front by section_length.
+
+ghost use Rattle.std.specs.Prelude.{◌≡◌, ℕ, ◌+◌, ◌<◌, ◌≤◌, ◌↔◌, ◌++◌, ◌∷◌, [], List, true, false, length, drop, filter, IsTrue, IsSome, IfSome, IfOk, OnOk};
+ghost use Rattle.ts_section.specs.SectionFields as fields;
+ghost use Rattle.ts_section.specs.FirstBroken.{is_section};
+ghost use Rattle.ts_demux.specs.Cut.{is_whole_in_front};
+ghost use Rattle.ts_demux.specs.Cut as cutting;
+ghost use Rattle.ts_demux.specs.Pieces.{IsOver, IsAlive};
+ghost use Rattle.ts_demux.specs.SectionsOfParts.{sections_in};
+
+use std::alloc::{AllocError, Global};
+use std::collections::VecDeque;
+use ts_section::{Section, SectionFault};
+
+/// The bytes up to and with section_length.
+const HEAD: usize = 3;
+
+/// The most that section_length may be.
+const MOST_LENGTH: usize = 4093;
+
+/// The byte that stands in the place of a table_id where stuffing begins.
+const STUFFING: u8 = 0xFF;
+
+/// Cuts the whole pieces off the front of unfinished bytes and lets the lawful sections among them wait.
+/// Answers whether nothing more comes of what is left, whatever follows it.
+pub(crate) fn cut_off(
+    unfinished: &mut Vec<u8>,
+    waiting: &mut VecDeque<Section>,
+) -> Result<bool, AllocError>
+    ensures not_whole { OnOk result (is_whole_in_front unfinished.new.items ≡ false) }
+    ensures over { IfOk result (λ over. over ≡ true → IsOver unfinished.new.items) }
+    ensures alive { IfOk result (λ over. over ≡ false → IsAlive unfinished.new.items) }
+    ensures sections { OnOk result ((more : List ℕ) →
+        waiting.old.items ++ sections_in (unfinished.old.items ++ more)
+        ≡ waiting.new.items ++ sections_in (unfinished.new.items ++ more)) }
+    ensures grows { OnOk result (length waiting.old.items ≤ length waiting.new.items) }
+{
+    let alloc = *unfinished.allocator();
+    let at = cut_pieces(alloc, unfinished.as_slice(), waiting)?;
+    drop_front(unfinished, at);
+    Ok(is_over(unfinished.as_slice()))
+}
+
+/// Drops the first bytes.
+fn drop_front(bytes: &mut Vec<u8>, count: usize)
+    requires { count ≤ length bytes.old.items }
+    ensures { bytes.new.items ≡ drop count bytes.old.items }
+{
+    bytes.drain(..count);
+}
+
+/// Cuts off the whole pieces in front and lets the lawful sections among them wait.
+/// Answers how many bytes they had.
+fn cut_pieces(
+    alloc: Global,
+    bytes: &[u8],
+    waiting: &mut VecDeque<Section>,
+) -> Result<usize, AllocError>
+    ensures within { IfOk result (λ at. at ≤ length bytes.now) }
+    ensures no_more { IfOk result (λ at. is_whole_in_front (drop at bytes.now) ≡ false) }
+    ensures sections { IfOk result (λ at. (more : List ℕ) →
+        waiting.old.items ++ sections_in (bytes.now ++ more)
+        ≡ waiting.new.items ++ sections_in (drop at bytes.now ++ more)) }
+    ensures grows { OnOk result (length waiting.old.items ≤ length waiting.new.items) }
+{
+    let mut at = 0;
+    while let Some(size) = whole_in_front(&bytes[at..]) {
+        take_piece(alloc, &bytes[at..at + size], waiting)?;
+        at += size;
+    }
+    Ok(at)
+}
+
+/// Whether nothing more comes of these bytes, whatever follows them: they begin with stuffing or with
+/// a section_length that is too great.
+fn is_over(bytes: &[u8]) -> bool
+    ensures over { result ≡ true → IsOver bytes.now }
+    ensures alive { result ≡ false → IsAlive bytes.now }
+{
+    if !bytes.is_empty() && table_id(bytes) == STUFFING {
+        return true;
+    }
+    HEAD <= bytes.len() && MOST_LENGTH < section_length(bytes)
+}
+
+/// The size of the piece in front, where it is there whole.
+fn whole_in_front(bytes: &[u8]) -> Option<usize>
+    ensures whole { IsSome result ↔ (is_whole_in_front bytes.now ≡ true) }
+    ensures size { IfSome result (λ size. size ≡ cutting.size_in_front bytes.now) }
+    ensures within { IfSome result (λ size. (size ≤ length bytes.now) × (3 ≤ size)) }
+{
+    if bytes.len() < HEAD || is_over(bytes) {
+        return None;
+    }
+    let size = HEAD + section_length(bytes);
+    if size <= bytes.len() {
+        Some(size)
+    } else {
+        None
+    }
+}
+
+/// Lets a piece wait if it is a lawful section.
+fn take_piece(
+    alloc: Global,
+    piece: &[u8],
+    waiting: &mut VecDeque<Section>,
+) -> Result<(), AllocError>
+    ensures { OnOk result (waiting.new.items ≡ waiting.old.items ++ filter is_section (piece.now ∷ [])) }
+{
+    match Section::parse(alloc, piece) {
+        Ok(section) => waiting.push_back(section)?,
+        Err(SectionFault::NoMemory) => return Err(AllocError),
+        Err(_) => {}
+    }
+    Ok(())
+}
+
+/// The table_id of bytes that begin a section.
+#[tactic(auto, unfolding(bit_rows::specs::BitRow::field, bit_rows::specs::BitRow::bit_of))]
+fn table_id(bytes: &[u8]) -> u8
+    requires { 1 ≤ length bytes.now }
+    ensures { result ≡ fields.table_id_of bytes.now }
+{
+    bytes[0]
+}
+
+/// The section_length of bytes that begin a section.
+#[tactic(auto, unfolding(bit_rows::specs::BitRow::field, bit_rows::specs::BitRow::bit_of))]
+fn section_length(bytes: &[u8]) -> usize
+    requires { 3 ≤ length bytes.now }
+    ensures length { result ≡ fields.section_length_of bytes.now }
+    ensures range { result < 4096 }
+{
+    usize::from(bytes[1] & 0x0F) << 8 | usize::from(bytes[2])
+}

@@ -1,0 +1,168 @@
+//! Parts of one PID in, the sections of their stretches out.
+
+ghost use Rattle.std.specs.Prelude.{◌≡◌, ℕ, ◌<◌, ◌≤◌, ◌++◌, ◌∷◌, List, [], true, false, length, take, drop, Option, Some, None, OnOk, IfSome, IfNone, slice_index};
+ghost use Rattle.std.specs.Option.{ForSome};
+ghost use Rattle.ts_demux.specs.Counters as counters;
+ghost use Rattle.ts_demux.specs.Part as parts;
+
+use crate::pieces::cut_off;
+use std::alloc::{AllocError, Global};
+use std::collections::VecDeque;
+use ts_section::Section;
+
+/// What is kept of the parts so far: the last counter, and the unfinished bytes of a stretch that is
+/// still open. An open stretch may have no byte yet.
+#[derive(Drop)]
+pub(crate) struct StretchReader {
+    last: Option<u8>,
+    is_open: bool,
+    unfinished: Vec<u8>,
+}
+
+impl StretchReader {
+    ghost use Rattle.ts_demux.specs.Part.{Part};
+    ghost use Rattle.ts_demux.specs.SectionsOfParts.{sections_in};
+    ghost use Rattle.ts_demux.specs.Reader.{HoldsLittle, IsAtRest, EndsAtJump, Takes, sections_with, remembered_by};
+
+    /// A reader that has met nothing.
+    pub(crate) fn new(alloc: Global) -> StretchReader
+        ensures rest { IsAtRest result }
+        ensures fresh { remembered_by result ≡ None }
+    {
+        StretchReader {
+            last: None,
+            is_open: false,
+            unfinished: Vec::new(alloc),
+        }
+    }
+
+    /// Forgets all.
+    pub(crate) fn reset(&mut self)
+        ensures rest { IsAtRest self.new }
+    {
+        self.last = None;
+        self.close();
+    }
+
+    /// Takes the next part; the sections that it completes wait then.
+    pub(crate) fn take_part(
+        &mut self,
+        counter: u8,
+        unit_start: bool,
+        payload: &[u8],
+        waiting: &mut VecDeque<Section>,
+    ) -> Result<(), AllocError>
+        requires counter { counter < 16 }
+        requires rest { IsAtRest self.old }
+        ensures rest { OnOk result (IsAtRest self.new) }
+        ensures sections { OnOk result (Takes self.old self.new
+            (record { counter = counter; unit_start = unit_start; payload = payload.now })
+            waiting.old.items waiting.new.items) }
+    {
+        if repeats(self.last, counter) {
+            return Ok(());
+        }
+        self.end_at_jump(counter);
+        if !unit_start {
+            self.go_on(payload, waiting)?;
+            return Ok(());
+        }
+        let Some((before, after)) = around_pointed_place(payload) else {
+            self.close();
+            return Ok(());
+        };
+        self.go_on(before, waiting)?;
+        self.begin(after, waiting)?;
+        Ok(())
+    }
+
+    /// Notes the counter, and gives up the stretch where it is not the one after the last.
+    fn end_at_jump(&mut self, counter: u8)
+        requires rest { IsAtRest self.old }
+        ensures { EndsAtJump self.old self.new counter }
+    {
+        if !goes_on_behind(self.last, counter) {
+            self.close();
+        }
+        self.last = Some(counter);
+    }
+
+    /// Gives up what is unfinished.
+    fn close(&mut self)
+        ensures last { self.new.last ≡ self.old.last }
+        ensures closed { self.new.is_open ≡ false }
+        ensures empty { self.new.unfinished.items ≡ [] }
+    {
+        self.is_open = false;
+        self.unfinished.clear();
+    }
+
+    /// A new stretch with these first bytes; its whole sections wait then.
+    fn begin(&mut self, bytes: &[u8], waiting: &mut VecDeque<Section>) -> Result<(), AllocError>
+        ensures last { OnOk result (self.new.last ≡ self.old.last) }
+        ensures little { OnOk result (HoldsLittle self.new) }
+        ensures sections { OnOk result ((more : List ℕ) →
+            waiting.old.items ++ sections_in (bytes.now ++ more) ≡ waiting.new.items ++ sections_with self.new more) }
+        ensures grows { OnOk result (length waiting.old.items ≤ length waiting.new.items) }
+    {
+        self.unfinished.clear();
+        self.is_open = true;
+        self.go_on(bytes, waiting)
+    }
+
+    /// More bytes of the stretch, if one is open; its whole sections wait then.
+    fn go_on(&mut self, bytes: &[u8], waiting: &mut VecDeque<Section>) -> Result<(), AllocError>
+        requires closed { self.old.is_open ≡ false → self.old.unfinished.items ≡ [] }
+        ensures last { OnOk result (self.new.last ≡ self.old.last) }
+        ensures little { OnOk result (HoldsLittle self.new) }
+        ensures sections { OnOk result ((more : List ℕ) →
+            waiting.old.items ++ sections_with self.old (bytes.now ++ more) ≡ waiting.new.items ++ sections_with self.new more) }
+        ensures grows { OnOk result (length waiting.old.items ≤ length waiting.new.items) }
+    {
+        if !self.is_open {
+            return Ok(());
+        }
+        self.unfinished.extend_from_slice(bytes)?;
+        if cut_off(&mut self.unfinished, waiting)? {
+            self.close();
+        }
+        Ok(())
+    }
+}
+
+/// Whether the counter is that of the part before, if there is one before.
+fn repeats(last: Option<u8>, counter: u8) -> bool
+    ensures { result ≡ parts.repeats last counter }
+{
+    match last {
+        Some(last) => last == counter,
+        None => false,
+    }
+}
+
+/// Whether the counter is the one after the last, if there is a last.
+fn goes_on_behind(last: Option<u8>, counter: u8) -> bool
+    requires { ForSome last (λ last. last < 16) }
+    ensures { result ≡ counters.goes_on_behind last counter }
+{
+    match last {
+        Some(last) => counter == (last + 1) % 16,
+        None => false,
+    }
+}
+
+/// The bytes of a payload with unit start before and behind its pointed place; none for a lawless pointer.
+fn around_pointed_place(payload: &[u8]) -> Option<(&[u8], &[u8])>
+    ensures lawless { IfNone result (length payload.now ≤ slice_index payload.now 0) }
+    ensures lawful { IfSome result (λ _. slice_index payload.now 0 < length payload.now) }
+    ensures before { IfSome result (λ around. around.0.now ≡ take (slice_index payload.now 0) (drop 1 payload.now)) }
+    ensures after { IfSome result (λ around. around.1.now ≡ drop (slice_index payload.now 0) (drop 1 payload.now)) }
+{
+    let (pointer, body) = payload.split_first()?;
+    let pointer = usize::from(*pointer);
+    if pointer <= body.len() {
+        Some(body.split_at(pointer))
+    } else {
+        None
+    }
+}

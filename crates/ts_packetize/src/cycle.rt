@@ -1,0 +1,79 @@
+//! Packets given in cycles.
+
+ghost use Rattle.std.specs.Prelude.{◌≡◌, ◌<◌, [], IfOk, IfNone, OnOk, OnErr};
+ghost use Rattle.ts_packetize.specs.Packets.{packets_of};
+ghost use Rattle.ts_packetize.specs.Cycle.{due, GivesNext};
+
+use crate::packet_list::PacketList;
+use crate::packing::packets;
+use std::alloc::{AllocError, Global};
+use std::marker::Model;
+use ts_packet::Packet;
+use ts_section::Section;
+
+/// The packets of contents, given one by one and over again. New contents come with the next cycle.
+///
+/// Clauses see the PID, the packets that are left of the cycle that runs, and the packets of the next.
+#[derive(Drop)]
+pub struct Cycle {
+    pid: u16,
+    current: PacketList,
+    place: usize,
+    renewed: Option<PacketList>,
+}
+
+impl Model for Cycle {
+    ghost use Rattle.std.specs.Prelude.{◌<◌, ◌≤◌, length, drop, unwrap_or};
+    ghost use Rattle.ts_packetize.specs.Cycle.{CycleState};
+
+    ghost Value = { CycleState };
+
+    ghost view = { λ c. record { pid = c.pid; left = drop c.place c.current; contents = unwrap_or c.renewed c.current } };
+
+    ghost invariant = { λ c. c.pid < 8191 };
+}
+
+impl Cycle {
+    /// A cycle of the PID, below 8191, with no contents.
+    pub fn new(alloc: Global, pid: u16) -> Result<Cycle, AllocError>
+        requires { pid < 8191 }
+        ensures { IfOk result (λ cycle. cycle ≡ record { pid = pid; left = []; contents = [] }) }
+    {
+        Ok(Cycle {
+            pid,
+            current: PacketList::of(Vec::new(alloc)),
+            place: 0,
+            renewed: None,
+        })
+    }
+
+    /// Sets the contents from the next cycle on. After `AllocError` they are as before.
+    pub fn renew(&mut self, sections: Vec<Section>) -> Result<(), AllocError>
+        ensures renewed { OnOk result (self.new ≡ record self.old { contents = packets_of self.old.pid sections.items }) }
+        ensures err { OnErr result (self.new ≡ self.old) }
+    {
+        let alloc = *sections.allocator();
+        let list = packets(alloc, self.pid, sections.as_slice())?;
+        self.renewed = Some(list);
+        Ok(())
+    }
+
+    /// The next packet, with this counter, below 16; none exactly where a new cycle would begin and the contents
+    /// have no packet. Takes no memory.
+    pub fn next(&mut self, counter: u8) -> Option<Packet>
+        requires { counter < 16 }
+        ensures next { GivesNext self.old self.new counter result }
+        ensures none { IfNone result (due self.old.left self.old.contents ≡ []) }
+    {
+        if self.place >= self.current.as_slice().len() {
+            if let Some(list) = self.renewed.take() {
+                self.current = list;
+            }
+            self.place = 0;
+        }
+        let mut packet = *self.current.as_slice().get(self.place)?;
+        self.place += 1;
+        packet.set_counter(counter);
+        Some(packet)
+    }
+}

@@ -1,0 +1,6 @@
+pub mod Crc
+pub mod SectionFields
+pub mod LawfulSection
+pub mod FirstBroken
+pub mod WrittenSection
+pub mod SectionRun

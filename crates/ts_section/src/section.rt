@@ -1,0 +1,273 @@
+//! One lawful section.
+
+ghost use Rattle.std.specs.Prelude.{◌≡◌, ◌≢◌, ◌<◌, ◌≤◌, ◌+◌, length, IfOk, IfSome, IfNone, IsOkUnless};
+ghost use Rattle.ts_section.specs.SectionFields.{table_id_of, head_of, body_of};
+ghost use Rattle.ts_section.specs.SectionFields as fields;
+ghost use Rattle.ts_section.specs.LawfulSection.{IsSection};
+ghost use Rattle.ts_section.specs.FirstBroken.{first_broken, first_broken_long};
+ghost use Rattle.ts_section.specs.WrittenSection.{AreFirstBytes, AreLongBytes, IsLongSectionOf, IsShortSectionOf};
+
+use crate::crc::crc_of;
+use crate::fault::{SectionFault, SectionRule};
+use crate::long_head::LongHead;
+use std::alloc::{AllocError, Global};
+use std::marker::Model;
+
+/// The most that section_length may be.
+const MOST_LENGTH: u16 = 4093;
+
+/// The bytes up to and with section_length.
+const SHORT_HEAD: usize = 3;
+
+/// The bytes of the long form's head.
+const LONG_HEAD: usize = 8;
+
+/// The bytes of the CRC.
+const CRC_SIZE: usize = 4;
+
+/// One lawful section of the short or the long form (ISO/IEC 13818-1, 2.4.4.11), at most 4096 bytes.
+#[derive(Debug, Drop)]
+pub struct Section {
+    bytes: Vec<u8>,
+}
+
+// Clauses see a section as the list of its bytes.
+impl Model for Section {
+    ghost use Rattle.std.specs.Prelude.{List, ℕ};
+    ghost use Rattle.ts_section.specs.LawfulSection.{IsSection};
+
+    ghost Value = { List ℕ };
+
+    ghost view = { λ s. s.bytes.items };
+
+    ghost invariant = { λ s. IsSection s.bytes.items };
+}
+
+impl Section {
+    /// Takes one whole section, and answers the first broken rule where `from` is none.
+    pub fn parse(alloc: Global, from: &[u8]) -> Result<Section, SectionFault>
+        ensures refused { IfSome (first_broken from.now) (λ fault. result ≡ Err fault) }
+        ensures accepted { IfNone (first_broken from.now) (IsOkUnless result SectionFault.NoMemory) }
+        ensures same { IfOk result (λ s. s ≡ from.now) }
+        ensures lawful { IfOk result (λ s. IsSection s) }
+        ensures every_section { IsSection from.now → IsOkUnless result SectionFault.NoMemory }
+    {
+        if let Some(fault) = first_fault(from) {
+            return Err(fault);
+        }
+        let Ok(bytes) = Vec::from_slice(alloc, from) else {
+            return Err(SectionFault::NoMemory);
+        };
+        Ok(Section { bytes })
+    }
+
+    /// The section of the long form with this head and body, reserved bits as ones, with its CRC.
+    pub fn long(alloc: Global, head: LongHead, body: &[u8]) -> Result<Section, AllocError>
+        requires lawful_id { head.table_id < 255 }
+        requires version { head.version < 32 }
+        requires numbers { head.number ≤ head.last }
+        requires room { length body.now ≤ 4084 }
+        ensures { IfOk result (λ s. IsLongSectionOf head body.now s) }
+    {
+        let length = LONG_HEAD - SHORT_HEAD + body.len() + CRC_SIZE;
+        let mut bytes = Vec::with_capacity(alloc, SHORT_HEAD + length)?;
+        bytes.extend_from_slice(&first_bytes(head.table_id, true, head.private, length as u16))?;
+        bytes.extend_from_slice(&long_bytes(head))?;
+        bytes.extend_from_slice(body)?;
+        let crc = crc_of(&bytes);
+        bytes.extend_from_slice(&crc.to_be_bytes())?;
+        Ok(Section { bytes })
+    }
+
+    /// The section of the short form with this body, reserved bits as ones.
+    pub fn short(
+        alloc: Global,
+        table_id: u8,
+        private: bool,
+        body: &[u8],
+    ) -> Result<Section, AllocError>
+        requires lawful_id { table_id < 255 }
+        requires room { length body.now ≤ 4093 }
+        ensures { IfOk result (λ s. IsShortSectionOf table_id «private» body.now s) }
+    {
+        let mut bytes = Vec::with_capacity(alloc, SHORT_HEAD + body.len())?;
+        bytes.extend_from_slice(&first_bytes(table_id, false, private, body.len() as u16))?;
+        bytes.extend_from_slice(body)?;
+        Ok(Section { bytes })
+    }
+
+    /// All bytes of the section.
+    pub fn bytes(&self) -> &[u8]
+        ensures same { result.now ≡ self.now }
+        ensures lawful { IsSection self.now }
+    {
+        &self.bytes
+    }
+
+    /// The table_id, 0 to 254.
+    pub fn table_id(&self) -> u8
+        ensures id { result ≡ table_id_of self.now }
+        ensures lawful { IsSection self.now }
+    {
+        let b = self.bytes.as_slice();
+        b[0]
+    }
+
+    /// Whether the section is of the long form.
+    pub fn is_long(&self) -> bool
+        ensures long { result ≡ fields.is_long self.now }
+        ensures lawful { IsSection self.now }
+    {
+        is_long(&self.bytes)
+    }
+
+    /// The head of the long form; none exactly for the short form.
+    pub fn head(&self) -> Option<LongHead>
+        ensures head { result ≡ head_of self.now }
+        ensures lawful { IsSection self.now }
+    {
+        let b = self.bytes.as_slice();
+        if is_long(b) { Some(long_head(b)) } else { None }
+    }
+
+    /// The bytes between the head and the CRC, in the short form those behind section_length.
+    pub fn body(&self) -> &[u8]
+        ensures body { result.now ≡ body_of self.now }
+        ensures lawful { IsSection self.now }
+    {
+        let b = self.bytes.as_slice();
+        if is_long(b) {
+            &b[LONG_HEAD..b.len() - CRC_SIZE]
+        } else {
+            &b[SHORT_HEAD..]
+        }
+    }
+
+    /// An equal section.
+    pub fn copy(&self) -> Result<Section, AllocError>
+        ensures { IfOk result (λ s. s ≡ self.now) }
+    {
+        let bytes = Vec::from_slice(*self.bytes.allocator(), &self.bytes)?;
+        Ok(Section { bytes })
+    }
+}
+
+/// Whether bytes begin a section of the long form.
+fn is_long(bytes: &[u8]) -> bool
+    requires { 2 ≤ length bytes.now }
+    ensures { result ≡ fields.is_long bytes.now }
+{
+    bytes[1] >> 7 == 1
+}
+
+/// The head of a section of the long form.
+fn long_head(b: &[u8]) -> LongHead
+    requires { LONG_HEAD ≤ length b.now }
+    ensures { result ≡ fields.head_fields b.now }
+{
+    LongHead {
+        table_id: b[0],
+        private: (b[1] >> 6) & 1 == 1,
+        extension: u16::from_be_bytes([b[3], b[4]]),
+        version: (b[5] >> 1) & 0x1F,
+        current: b[5] & 1 == 1,
+        number: b[6],
+        last: b[7],
+    }
+}
+
+/// The section_length of bytes that begin a section.
+fn section_length(bytes: &[u8]) -> u16
+    requires { 3 ≤ length bytes.now }
+    ensures { result ≡ fields.section_length_of bytes.now }
+{
+    u16::from_be_bytes([bytes[1] & 0x0F, bytes[2]])
+}
+
+/// The first broken rule, if one is broken.
+fn first_fault(bytes: &[u8]) -> Option<SectionFault>
+    ensures { result ≡ first_broken bytes.now }
+{
+    let found = bytes.len();
+    if found < SHORT_HEAD {
+        return Some(SectionFault::Short {
+            wanted: SHORT_HEAD,
+            found,
+        });
+    }
+    if bytes[0] == 0xFF {
+        return Some(SectionFault::Lawless {
+            rule: SectionRule::Stuffing,
+        });
+    }
+    let length = section_length(bytes);
+    if length > MOST_LENGTH {
+        return Some(SectionFault::TooLong { length });
+    }
+    let wanted = SHORT_HEAD + usize::from(length);
+    if found < wanted {
+        return Some(SectionFault::Short { wanted, found });
+    }
+    if wanted < found {
+        return Some(SectionFault::Lawless {
+            rule: SectionRule::Trailing,
+        });
+    }
+    if is_long(bytes) {
+        first_fault_long(bytes)
+    } else {
+        None
+    }
+}
+
+/// The first broken rule of the long form's own.
+fn first_fault_long(bytes: &[u8]) -> Option<SectionFault>
+    requires { length bytes.now ≡ 3 + fields.section_length_of bytes.now }
+    ensures { result ≡ first_broken_long bytes.now }
+{
+    if bytes.len() < LONG_HEAD + CRC_SIZE {
+        return Some(SectionFault::Lawless {
+            rule: SectionRule::ShortLong,
+        });
+    }
+    if bytes[7] < bytes[6] {
+        return Some(SectionFault::Lawless {
+            rule: SectionRule::Numbers,
+        });
+    }
+    let (before, last) = bytes.split_at(bytes.len() - CRC_SIZE);
+    let wanted = crc_of(before);
+    let found = u32::from_be_bytes([last[0], last[1], last[2], last[3]]);
+    if wanted == found {
+        return None;
+    }
+    Some(SectionFault::BadCrc { wanted, found })
+}
+
+/// The first three bytes of a section; `length` is its section_length.
+fn first_bytes(table_id: u8, long: bool, private: bool, length: u16) -> [u8; 3]
+    requires { length < 4096 }
+    ensures { AreFirstBytes table_id long «private» length result }
+{
+    let [high, low] = length.to_be_bytes();
+    [
+        table_id,
+        (u8::from(long) << 7) | (u8::from(private) << 6) | 0x30 | high,
+        low,
+    ]
+}
+
+/// The bytes of a long head behind section_length.
+fn long_bytes(head: LongHead) -> [u8; 5]
+    requires { head.version < 32 }
+    ensures { AreLongBytes head result }
+{
+    let [high, low] = head.extension.to_be_bytes();
+    [
+        high,
+        low,
+        0xC0 | (head.version << 1) | u8::from(head.current),
+        head.number,
+        head.last,
+    ]
+}
