@@ -17,3 +17,6 @@ pub use count::Count;
 pub use fault::Fault;
 pub use note::Note;
 pub use seen::Seen;
+
+#[cfg(test)]
+mod tests;
