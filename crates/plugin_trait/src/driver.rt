@@ -50,6 +50,7 @@ pub fn apply_plugin<P: Plugin>(plugin: &mut P, cells: &mut Vec<Cell>) -> ListEnd
     ensures makes { Makes (apply (P.rule plugin.old) cells.old.items) cells.new.items result }
     ensures met { (mark : ℕ) → P.stands_for plugin.old [] mark
         → P.stands_for plugin.new (take (vec_len cells.new) cells.old.items) mark }
+    ensures fewer { vec_len cells.new ≤ vec_len cells.old }
     ensures same_rule { P.rule plugin.new ≡ P.rule plugin.old }
     ensures same_steady { P.steady plugin.new ≡ P.steady plugin.old }
 {

@@ -1,0 +1,2 @@
+pub mod RemapRule
+pub mod RemapState

@@ -1,0 +1,7 @@
+pub mod Counting
+pub mod CountStates
+pub mod FoldingSteps
+pub mod Noting
+pub mod Summing
+pub mod Tallying
+pub mod Watching

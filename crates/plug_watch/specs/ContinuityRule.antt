@@ -1,0 +1,107 @@
+-- The rule of `continuity`. This project's own rule, over the continuity_counter of ISO/IEC 13818-1, 2.4.3.3.
+use Rattle.std.specs.Prelude.{ℕ, ◌+◌, ◌%◌, List, [], ◌∷◌, ◌++◌, length, map, filter, Bool, true, false, not, ◌==◌, ◌&&◌, Option, None, Some, codes, if◌then◌else◌}
+use Rattle.std.specs.Fmt.{decimal}
+use Rattle.ts_packet.specs.declared.cell.Cell.{Cell}
+use Rattle.ts_packet.specs.Cells.{live_packets}
+use Rattle.ts_packet.specs.Header.{pid_of, counter_of, has_payload_of, with_counter}
+use Rattle.ts_packet.specs.Adaptation.{discontinuity_of}
+use Rattle.plugin_trait.specs.declared.line.Line.{Line}
+use Rattle.chain_model.specs.PluginRule.{PluginRule, passes}
+use Rattle.plug_conf.specs.Limits.{null_pid}
+use Rattle.plug_conf.specs.declared.continuity_conf.ContinuityConf.{ContinuityConf}
+use Rattle.pid_set.specs.Selection.{is_selected}
+use Rattle.plug_watch.specs.Notes.{notes_after}
+use Rattle.plug_watch.specs.declared.fault.Fault.{Fault}
+
+-- the packets of the PID are looked at; those of 8191 never are
+abbrev pub is_watched : ContinuityConf → ℕ → Bool
+is_watched conf pid = is_selected conf.pid false pid && not (pid == null_pid)
+
+-- the packets on a PID, of a list of cells
+abbrev pub packets_of : ℕ → List Cell → List (List ℕ)
+packets_of pid cells = filter (λ packet. pid_of packet == pid) (live_packets cells)
+
+-- a packet repeats the one before it on its PID: both have payload and the same counter
+abbrev pub is_duplicate : List ℕ → List ℕ → Bool
+is_duplicate before packet = has_payload_of before && (has_payload_of packet
+    && (counter_of packet == counter_of before && not (discontinuity_of packet)))
+
+-- the counter that is to follow: one more for a packet with payload
+abbrev pub wanted_behind : List ℕ → List ℕ → ℕ
+wanted_behind before packet = if has_payload_of packet then (counter_of before + 1) % 16 else counter_of before
+
+-- a counter that is not the wanted one, without a flag that it may be so and without being repeated
+abbrev pub is_fault : List ℕ → List ℕ → Bool
+is_fault before packet = not (counter_of packet == wanted_behind before packet)
+    && (not (is_duplicate before packet) && not (discontinuity_of packet))
+
+-- the fault of a packet at a position, behind the packet before it on its PID
+abbrev pub fault_behind : ℕ → Option (List ℕ) → List ℕ → List Fault
+fault_behind at None packet = []
+fault_behind at (Some before) packet =
+    if is_fault before packet
+    then record { at = at; pid = pid_of packet; counter = counter_of packet; wanted = wanted_behind before packet } ∷ []
+    else []
+
+-- the last of a packet and those that follow it
+abbrev pub last_behind : List ℕ → List (List ℕ) → List ℕ
+last_behind first [] = first
+last_behind first (packet ∷ packets) = last_behind packet packets
+
+-- the last packet, where there is one
+abbrev pub last_in : List (List ℕ) → Option (List ℕ)
+last_in [] = None
+last_in (first ∷ rest) = Some (last_behind first rest)
+
+-- the last packet on a PID
+abbrev pub last_of : ℕ → List Cell → Option (List ℕ)
+last_of pid history = last_in (packets_of pid history)
+
+-- the fault of a packet behind a history, where its PID is looked at
+abbrev pub fault_on : ContinuityConf → List Cell → List ℕ → List Fault
+fault_on conf history packet =
+    if is_watched conf (pid_of packet) then fault_behind (length history) (last_of (pid_of packet) history) packet else []
+
+-- the faults in a list of cells
+abbrev pub faults_in : ContinuityConf → List Cell → List Fault
+faults_in conf cells = notes_after (fault_on conf) [] cells
+
+-- 1 for a packet whose counter goes on: one with payload that repeats none
+abbrev pub step_behind : List ℕ → List ℕ → ℕ
+step_behind before packet = if has_payload_of packet && not (is_duplicate before packet) then 1 else 0
+
+-- how many packets go on, of those that follow a packet on its PID
+abbrev pub steps_behind : List ℕ → List (List ℕ) → ℕ
+steps_behind before [] = 0
+steps_behind before (packet ∷ packets) = step_behind before packet + steps_behind packet packets
+
+-- the counter that the last of the packets on a PID is to have: the first one's, gone on
+abbrev pub right_counter : List (List ℕ) → ℕ
+right_counter [] = 0
+right_counter (first ∷ rest) = (counter_of first + steps_behind first rest) % 16
+
+-- the packet with its counter put right
+abbrev pub fixed : List Cell → List ℕ → List ℕ
+fixed history packet = with_counter packet (right_counter (packets_of (pid_of packet) history ++ packet ∷ []))
+
+-- `packet <position> pid <pid> counter <c> wanted <w>`
+abbrev pub fault_text : Fault → List ℕ
+fault_text fault = codes "packet " ++ (decimal fault.at ++ (codes " pid " ++ (decimal fault.pid
+    ++ (codes " counter " ++ (decimal fault.counter ++ (codes " wanted " ++ decimal fault.wanted))))))
+
+-- the line of a fault
+abbrev pub line_of_fault : Fault → Line
+line_of_fault fault = record { at = fault.at; text = fault_text fault }
+
+-- `faults <n>`
+abbrev pub faults_text : ℕ → List ℕ
+faults_text n = codes "faults " ++ decimal n
+
+-- each fault has a line, and the summary has their number; with `fix` the counters are put right
+abbrev pub continuity_rule : ContinuityConf → PluginRule
+continuity_rule conf = record {
+  outcome_of = λ history packet. passes (if conf.fix && is_watched conf (pid_of packet) then fixed history packet else packet);
+  lines_of = λ history packet. map fault_text (fault_on conf history packet);
+  summary_of = λ history. faults_text (length (faults_in conf history)) ∷ [];
+  agrees = λ _. false;
+}

@@ -1,0 +1,76 @@
+-- What `continuity` keeps of the packets on a PID. This project's own rule.
+use Rattle.std.specs.Prelude.{◌≡◌, ◌<◌, ◌≤◌, ℕ, ◌+◌, ◌%◌, List, [], ◌∷◌, length, Bool, true, not, ◌==◌, ◌&&◌, Option, None, Some, if◌then◌else◌}
+use Rattle.std.specs.List.{slice_index_or}
+use Rattle.ts_packet.specs.declared.cell.Cell.{Cell}
+use Rattle.ts_packet.specs.Header.{pid_of, counter_of, has_payload_of}
+use Rattle.ts_packet.specs.Adaptation.{discontinuity_of}
+use Rattle.plug_conf.specs.Limits.{pid_bound}
+use Rattle.plug_conf.specs.declared.continuity_conf.ContinuityConf.{ContinuityConf}
+use Rattle.plug_watch.specs.ContinuityRule.{is_watched, packets_of, last_behind, right_counter, faults_in}
+use Rattle.plug_watch.specs.declared.fault.Fault.{Fault}
+use Rattle.plug_watch.specs.declared.seen.Seen.{Seen}
+
+-- of the packets on a PID the last one's counter and payload, and the counter that it was to have
+abbrev pub seen_in : List (List ℕ) → Option Seen
+seen_in [] = None
+seen_in (first ∷ rest) = Some (record {
+  counter = counter_of (last_behind first rest);
+  has_payload = has_payload_of (last_behind first rest);
+  right = right_counter (first ∷ rest);
+})
+
+-- a packet repeats the one that was seen
+abbrev pub repeats : Seen → List ℕ → Bool
+repeats seen packet = seen.has_payload && (has_payload_of packet
+    && (counter_of packet == seen.counter && not (discontinuity_of packet)))
+
+-- the counter that is to follow
+abbrev pub wanted_after : Seen → List ℕ → ℕ
+wanted_after seen packet = if has_payload_of packet then (seen.counter + 1) % 16 else seen.counter
+
+-- the packet's counter is a fault
+abbrev pub is_wrong : Seen → List ℕ → Bool
+is_wrong seen packet = not (counter_of packet == wanted_after seen packet)
+    && (not (repeats seen packet) && not (discontinuity_of packet))
+
+-- the fault of a packet at a position
+abbrev pub fault_after : ℕ → Option Seen → List ℕ → List Fault
+fault_after at None packet = []
+fault_after at (Some seen) packet =
+    if is_wrong seen packet
+    then record { at = at; pid = pid_of packet; counter = counter_of packet; wanted = wanted_after seen packet } ∷ []
+    else []
+
+-- the counter that the packet is to have
+abbrev pub right_after : Option Seen → List ℕ → ℕ
+right_after None packet = counter_of packet
+right_after (Some seen) packet =
+    if has_payload_of packet && not (repeats seen packet) then (seen.right + 1) % 16 else seen.right
+
+-- what is kept with one packet more
+abbrev pub seen_with : Option Seen → List ℕ → Seen
+seen_with seen packet = record {
+  counter = counter_of packet;
+  has_payload = has_payload_of packet;
+  right = right_after seen packet;
+}
+
+-- counters are below 16
+abbrev pub HasCounters : Option Seen → Type 0
+HasCounters None = Unit {0}
+HasCounters (Some seen) = (seen.counter < 16) × (seen.right < 16)
+
+-- what is kept is that of a history
+pub record Watches (conf : ContinuityConf) (seen : List (Option Seen)) (faults : List Fault) (history : List Cell) (mark : ℕ) : Type 0 where
+  pub whole : length seen ≡ pid_bound
+  pub each : (pid : ℕ) → pid < pid_bound → is_watched conf pid ≡ true → slice_index_or seen pid None ≡ seen_in (packets_of pid history)
+  pub small : (pid : ℕ) → HasCounters (slice_index_or seen pid None)
+  pub all : faults ≡ faults_in conf history
+  pub marked : mark ≤ length history
+
+-- what is kept is that of some history of so many cells
+pub record WatchesSome (conf : ContinuityConf) (seen : List (Option Seen)) (faults : List Fault) (at : ℕ) : Type 0 where
+  pub history : List Cell
+  pub mark : ℕ
+  pub watches : Watches conf seen faults history mark
+  pub count : length history ≡ at

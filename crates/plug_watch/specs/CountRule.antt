@@ -1,0 +1,69 @@
+-- The rule of `count`. This project's own rule, over the PID of ISO/IEC 13818-1, 2.4.3.2.
+use Rattle.std.specs.Prelude.{ℕ, zero, suc, List, [], ◌∷◌, ◌++◌, length, map, filter, count_by, Bool, false, ◌==◌, codes, if◌then◌else◌}
+use Rattle.std.specs.List.{flat_map}
+use Rattle.std.specs.Fmt.{decimal}
+use Rattle.ts_packet.specs.declared.cell.Cell.{Cell}
+use Rattle.ts_packet.specs.Cells.{live_packets}
+use Rattle.ts_packet.specs.Header.{pid_of}
+use Rattle.chain_model.specs.PluginRule.{PluginRule, passes}
+use Rattle.plug_conf.specs.Limits.{pid_bound}
+use Rattle.plug_conf.specs.declared.count_conf.CountConf.{CountConf}
+use Rattle.pid_set.specs.Selection.{is_selected}
+use Rattle.plug_watch.specs.Notes.{notes_after}
+use Rattle.plug_watch.specs.declared.note.Note.{Note}
+
+-- the packet is one of those that are counted
+abbrev pub is_counted : CountConf → List ℕ → Bool
+is_counted conf packet = is_selected conf.pid conf.negate (pid_of packet)
+
+-- the packets that are counted, of a list of cells
+abbrev pub counted : CountConf → List Cell → List (List ℕ)
+counted conf cells = filter (is_counted conf) (live_packets cells)
+
+-- how many of the packets are on the PID
+abbrev pub packets_on : ℕ → List (List ℕ) → ℕ
+packets_on pid packets = count_by (λ packet. pid_of packet == pid) packets
+
+-- the line on a packet: `packet <position> pid <pid>`
+abbrev pub packet_text : ℕ → ℕ → List ℕ
+packet_text at pid = codes "packet " ++ (decimal at ++ (codes " pid " ++ decimal pid))
+
+-- the line on a PID with so many packets: `pid <pid> packets <n>`
+abbrev pub pid_text : ℕ → ℕ → List ℕ
+pid_text pid n = codes "pid " ++ (decimal pid ++ (codes " packets " ++ decimal n))
+
+-- the line on all that were counted: `total <n>`
+abbrev pub total_text : ℕ → List ℕ
+total_text n = codes "total " ++ decimal n
+
+-- a PID that has packets has its line
+abbrev pub pid_lines : List (List ℕ) → ℕ → List (List ℕ)
+pid_lines packets pid = if packets_on pid packets == 0 then [] else pid_text pid (packets_on pid packets) ∷ []
+
+-- the numbers below a bound, ascending
+unfoldable pub numbers_below : ℕ → List ℕ
+numbers_below zero = []
+numbers_below (suc n) = numbers_below n ++ n ∷ []
+
+-- the PIDs with their packets, ascending, and then the total; with `total` that alone
+abbrev pub summary_on : Bool → List (List ℕ) → List (List ℕ)
+summary_on total packets =
+    (if total then [] else flat_map (pid_lines packets) (numbers_below pid_bound)) ++ total_text (length packets) ∷ []
+
+-- a packet that is counted is noted with its position and its PID
+abbrev pub note_on : CountConf → List Cell → List ℕ → List Note
+note_on conf history packet =
+    if is_counted conf packet then record { at = length history; pid = pid_of packet } ∷ [] else []
+
+-- the line of a note
+abbrev pub text_on : Note → List ℕ
+text_on note = packet_text note.at note.pid
+
+-- every packet passes; with `all` each one that is counted has a line; the summary counts them
+abbrev pub count_rule : CountConf → PluginRule
+count_rule conf = record {
+  outcome_of = λ _ packet. passes packet;
+  lines_of = λ history packet. if conf.all then map text_on (note_on conf history packet) else [];
+  summary_of = λ history. summary_on conf.total (counted conf history);
+  agrees = λ _. false;
+}

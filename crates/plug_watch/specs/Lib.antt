@@ -1,0 +1,9 @@
+pub mod Notes
+pub mod CountRule
+pub mod CountState
+pub mod CountConfOf
+pub mod Folding
+pub mod Tallies
+pub mod ContinuityRule
+pub mod ContinuitySeen
+pub mod ContinuityConfOf

@@ -1,0 +1,53 @@
+//! The summary of what was counted.
+ghost use Rattle.std.specs.Prelude.{◌≡◌, ◌==◌, ◌++◌, ◌∷◌, [], ℕ, List, OnOk, length, map, if◌then◌else◌};
+ghost use Rattle.std.specs.List.{flat_map};
+ghost use Rattle.ts_packet.specs.Header.{pid_of};
+ghost use Rattle.plugin_trait.specs.PlacedLines.{placed_at};
+ghost use Rattle.plug_conf.specs.Limits.{pid_bound};
+ghost use Rattle.plug_watch.specs.Tallies.{IsTally};
+ghost use Rattle.plug_watch.specs.CountRule.{numbers_below, pid_lines, pid_text, summary_on};
+
+use crate::lines::push_line;
+use crate::tally::Tally;
+use plugin_trait::Line;
+use std::alloc::AllocError;
+
+/// PIDs are below this number.
+const PID_BOUND: u16 = 8192;
+
+/// Puts the summary behind other lines: a line for each PID that has packets, unless the total alone is
+/// wanted, and then the total.
+pub fn push_summary(lines: &mut Vec<Line>, cut: u64, tally: &Tally, total: bool) -> Result<(), AllocError>
+    requires { length tally.now.counts.items ≡ pid_bound }
+    ensures { OnOk result ((packets : List (List ℕ)) → IsTally tally.now.counts.items tally.now.total (map pid_of packets)
+        → lines.new.items ≡ lines.old.items ++ placed_at cut (summary_on total packets)) }
+{
+    if !total {
+        push_pid_lines(lines, cut, tally)?;
+    }
+    let text = format!(in *lines.allocator(); "total {}", tally.total())?;
+    push_line(lines, cut, text)
+}
+
+// Puts a line for each PID that has packets behind other lines.
+fn push_pid_lines(lines: &mut Vec<Line>, cut: u64, tally: &Tally) -> Result<(), AllocError>
+    requires { length tally.now.counts.items ≡ pid_bound }
+    ensures { OnOk result ((packets : List (List ℕ)) → IsTally tally.now.counts.items tally.now.total (map pid_of packets)
+        → lines.new.items ≡ lines.old.items ++ placed_at cut (flat_map (pid_lines packets) (numbers_below pid_bound))) }
+{
+    for pid in 0..PID_BOUND {
+        push_pid_line(lines, cut, pid, tally.count_on(pid))?;
+    }
+    Ok(())
+}
+
+// Puts the line of a PID behind other lines, if it has packets.
+fn push_pid_line(lines: &mut Vec<Line>, cut: u64, pid: u16, count: u64) -> Result<(), AllocError>
+    ensures { OnOk result (lines.new.items ≡ lines.old.items ++ placed_at cut (if count == 0 then [] else pid_text pid count ∷ [])) }
+{
+    if count == 0 {
+        return Ok(());
+    }
+    let text = format!(in *lines.allocator(); "pid {pid} packets {count}")?;
+    push_line(lines, cut, text)
+}

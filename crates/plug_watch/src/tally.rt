@@ -1,0 +1,55 @@
+ghost use Rattle.std.specs.Prelude.{◌≡◌, ◌<◌, ◌^◌, ◌++◌, ◌∷◌, [], ℕ, List, IfOk, length, slice_index};
+ghost use Rattle.plug_conf.specs.Limits.{pid_bound};
+ghost use Rattle.plug_watch.specs.Tallies.{IsTally, HasRoomFor};
+
+use std::alloc::{AllocError, Global};
+
+/// PIDs are below this number.
+const PID_BOUND: usize = 8192;
+
+/// How many packets were counted on each PID, and in all.
+#[derive(Drop, Debug)]
+pub struct Tally {
+    counts: Vec<u64>,
+    total: u64,
+}
+
+impl Tally {
+    /// Nothing counted yet. It takes 64 KiB.
+    pub fn new(alloc: Global) -> Result<Tally, AllocError>
+        ensures { IfOk result (λ tally. IsTally tally.counts.items tally.total []) }
+    {
+        let mut counts = Vec::with_capacity(alloc, PID_BOUND)?;
+        for _ in 0..PID_BOUND {
+            counts.push(0)?;
+        }
+        Ok(Tally { counts, total: 0 })
+    }
+
+    /// Counts one packet more on a PID.
+    pub fn add(&mut self, pid: u16)
+        requires on_pid { pid < pid_bound }
+        requires room { HasRoomFor self.old.counts.items self.old.total }
+        ensures { (pids : List ℕ) → IsTally self.old.counts.items self.old.total pids
+            → IsTally self.new.counts.items self.new.total (pids ++ pid ∷ []) }
+    {
+        self.counts[usize::from(pid)] += 1;
+        self.total += 1;
+    }
+
+    /// How many packets were counted on a PID.
+    pub fn count_on(&self, pid: u16) -> u64
+        requires on_pid { pid < pid_bound }
+        requires whole { length self.now.counts.items ≡ pid_bound }
+        ensures { result ≡ slice_index self.now.counts.items pid }
+    {
+        self.counts[usize::from(pid)]
+    }
+
+    /// How many packets were counted in all.
+    pub fn total(&self) -> u64
+        ensures { result ≡ self.now.total }
+    {
+        self.total
+    }
+}
