@@ -1,5 +1,5 @@
 -- This project's own rule: the answers of the reading of a whole file.
-use Rattle.std.specs.Prelude.{Result, Ok, Err}
+use Rattle.std.specs.Prelude.{ℕ, List, codes, Result, Ok, Err}
 use Rattle.ts_outside.specs.declared.faults.FileFault.{FileFault}
 use Rattle.ts_outside.specs.declared.faults.FileFault.TheVariants.{Failed, TooMany, NoMemory}
 
@@ -9,3 +9,9 @@ MatchFile (Ok x) P Q R S = P x
 MatchFile (Err TooMany) P Q R S = Q
 MatchFile (Err Failed) P Q R S = R
 MatchFile (Err NoMemory) P Q R S = S
+
+-- what is printed of a fault of the reading of a whole file
+abbrev pub file_fault_text : FileFault → List ℕ
+file_fault_text Failed = codes "cannot read"
+file_fault_text TooMany = codes "too many bytes"
+file_fault_text NoMemory = codes "out of memory"

@@ -1,5 +1,5 @@
 -- This project's own rule: the answers of an opening.
-use Rattle.std.specs.Prelude.{Result, Ok, Err}
+use Rattle.std.specs.Prelude.{ℕ, List, codes, Result, Ok, Err}
 use Rattle.ts_outside.specs.declared.faults.OpenFault.{OpenFault}
 use Rattle.ts_outside.specs.declared.faults.OpenFault.TheVariants.{Failed, NoMemory}
 
@@ -8,3 +8,8 @@ abbrev pub MatchOpen : {T : Type 0} → Result T OpenFault → (T → Type 0) �
 MatchOpen (Ok x) P Q R = P x
 MatchOpen (Err Failed) P Q R = Q
 MatchOpen (Err NoMemory) P Q R = R
+
+-- what is printed of a fault of an opening
+abbrev pub open_fault_text : OpenFault → List ℕ
+open_fault_text Failed = codes "cannot open"
+open_fault_text NoMemory = codes "out of memory"

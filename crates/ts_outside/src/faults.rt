@@ -1,4 +1,6 @@
-ghost use Rattle.std.specs.Prelude.{◌≡◌};
+ghost use Rattle.std.specs.Prelude.{◌≡◌, Some, codes};
+ghost use Rattle.ts_outside.specs.OpenFault.{open_fault_text};
+ghost use Rattle.ts_outside.specs.FileFault.{file_fault_text};
 ghost use Rattle.ts_outside.specs.declared.faults.OpenFault.TheVariants.{NoMemory};
 ghost use Rattle.ts_outside.specs.declared.faults.FileFault.TheVariants.{NoMemory as NoMemoryForFile};
 
@@ -11,6 +13,8 @@ use std::fmt;
 pub struct Failed;
 
 impl fmt::Display for Failed {
+    ghost output = { λ _. Some (codes "the outside failed") };
+
     fn fmt<W: fmt::Write>(&self, f: &mut fmt::Formatter<W>) -> fmt::Result {
         write!(f, "the outside failed")
     }
@@ -28,6 +32,8 @@ pub enum OpenFault {
 }
 
 impl fmt::Display for OpenFault {
+    ghost output = { λ fault. Some (open_fault_text fault) };
+
     fn fmt<W: fmt::Write>(&self, f: &mut fmt::Formatter<W>) -> fmt::Result {
         match self {
             OpenFault::Failed => write!(f, "cannot open"),
@@ -66,6 +72,8 @@ pub enum FileFault {
 }
 
 impl fmt::Display for FileFault {
+    ghost output = { λ fault. Some (file_fault_text fault) };
+
     fn fmt<W: fmt::Write>(&self, f: &mut fmt::Formatter<W>) -> fmt::Result {
         match self {
             FileFault::Failed => write!(f, "cannot read"),
