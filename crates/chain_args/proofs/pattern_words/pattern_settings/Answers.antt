@@ -16,8 +16,8 @@ returns-in_err-offset_non_pusi-clause-reads c =
 pub returns-clause-reads : goal.returns-clause-reads
 returns-clause-reads c = (
   nothing_broken pattern c.args.found.now (sym c.has_value.ensures ∙ c.if-not-has_value.false)
-  (all_true _ _ c.in_ok-operand.ensures.reads.0 (all_true _ _ c.in_ok-pid.ensures.reads.0 (all_true _ _ c.in_ok-offset_pusi.ensures.reads.0
-  (all_true _ _ c.in_ok-offset_non_pusi.ensures.reads.0 refl))))
-  refl,
+      (all_true _ _ c.in_ok-operand.ensures.reads.0 (all_true _ _ c.in_ok-pid.ensures.reads.0 (all_true _ _ c.in_ok-offset_pusi.ensures.reads.0
+      (all_true _ _ c.in_ok-offset_non_pusi.ensures.reads.0 refl))))
+      refl,
   cc (c.in_ok-operand.ensures.reads.1, c.in_ok-pid.ensures.reads.1, c.in_ok-offset_pusi.ensures.reads.1, c.in_ok-offset_non_pusi.ensures.reads.1, c.has_flag.ensures),
 )
