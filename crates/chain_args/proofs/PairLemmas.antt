@@ -1,5 +1,5 @@
 -- Operands that are read as pairs, one after another.
-use Rattle.std.proofs.Common.{◌≡◌, ◌∙◌, ◌+◌, ◌<◌, ◌&&◌, ◌++◌, ℕ, Bool, true, false, List, [], ◌∷◌, length, drop, get_or, map, Option, Some, None, is_some, refl, ap, ap₂, sym, arith, add-one, append_assoc, drop-cons}
+use Rattle.std.proofs.Common.{◌≡◌, ◌∙◌, ◌+◌, ◌<◌, ◌&&◌, ℕ, List, ◌∷◌, length, drop, get_or, map, Option, is_some, ap, sym, add-one, drop-cons}
 use Rattle.std.specs.Prelude.{filter_map}
 use Rattle.std.specs.Borrow.{Bor}
 use Rattle.std.specs.List.{cons_option, list_all}

@@ -1,11 +1,10 @@
 -- The words of `continuity`.
 -- This project's own rule.
-use Rattle.std.specs.Prelude.{ℕ, List, [], ◌∷◌, codes, true, unwrap_or}
-use Rattle.clap.specs.Walk.{Row}
+use Rattle.std.specs.Prelude.{List, [], ◌∷◌, codes, true, unwrap_or}
 use Rattle.plug_conf.specs.Lawful.{go_together}
 use Rattle.plug_conf.specs.declared.plugin_conf.PluginConf.{PluginConf}
 use Rattle.plug_conf.specs.declared.plugin_conf.PluginConf.TheVariants.{Continuity}
-use Rattle.chain_args.specs.Forms.{Form, ranges}
+use Rattle.chain_args.specs.Forms.{ranges}
 use Rattle.chain_args.specs.Options.{OptionRow, flag, has_flag, read_value, value}
 use Rattle.chain_args.specs.Profile.{Profile}
 use Rattle.chain_args.specs.Ranges.{ranges_of}

@@ -1,11 +1,10 @@
 -- The words of `pattern`.
 -- This project's own rule.
-use Rattle.std.specs.Prelude.{ℕ, List, [], ◌∷◌, codes, unwrap_or}
-use Rattle.clap.specs.Walk.{Row}
+use Rattle.std.specs.Prelude.{List, [], ◌∷◌, codes, unwrap_or}
 use Rattle.plug_conf.specs.Lawful.{go_together}
 use Rattle.plug_conf.specs.declared.plugin_conf.PluginConf.{PluginConf}
 use Rattle.plug_conf.specs.declared.plugin_conf.PluginConf.TheVariants.{Pattern}
-use Rattle.chain_args.specs.Forms.{Form, bytes, number, ranges}
+use Rattle.chain_args.specs.Forms.{bytes, number, ranges}
 use Rattle.chain_args.specs.Options.{OptionRow, flag, has_flag, has_value, operand, read_value, value}
 use Rattle.chain_args.specs.Profile.{Profile}
 use Rattle.chain_args.specs.HexText.{bytes_of}

@@ -1,11 +1,10 @@
 -- The words of `remap`.
 -- This project's own rule.
 use Rattle.std.specs.Prelude.{ℕ, ◌==◌, ◌&&◌, List, [], ◌∷◌, Option, codes, filter_map, length, not}
-use Rattle.clap.specs.Walk.{Row}
 use Rattle.plug_conf.specs.Lawful.{go_together}
 use Rattle.plug_conf.specs.declared.plugin_conf.PluginConf.{PluginConf}
 use Rattle.plug_conf.specs.declared.plugin_conf.PluginConf.TheVariants.{Remap}
-use Rattle.chain_args.specs.Forms.{Form, pair}
+use Rattle.chain_args.specs.Forms.{pair}
 use Rattle.chain_args.specs.Options.{OptionRow, flag, has_flag, operands, values_of}
 use Rattle.chain_args.specs.Profile.{Profile}
 use Rattle.chain_args.specs.Pairs.{pair_of}

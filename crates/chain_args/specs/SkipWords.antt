@@ -1,11 +1,10 @@
 -- The words of `skip`.
 -- This project's own rule.
-use Rattle.std.specs.Prelude.{ℕ, List, [], ◌∷◌, codes, unwrap_or}
-use Rattle.clap.specs.Walk.{Row}
+use Rattle.std.specs.Prelude.{List, [], ◌∷◌, codes, unwrap_or}
 use Rattle.plug_conf.specs.Lawful.{go_together}
 use Rattle.plug_conf.specs.declared.plugin_conf.PluginConf.{PluginConf}
 use Rattle.plug_conf.specs.declared.plugin_conf.PluginConf.TheVariants.{Skip}
-use Rattle.chain_args.specs.Forms.{Form, number}
+use Rattle.chain_args.specs.Forms.{number}
 use Rattle.chain_args.specs.Options.{OptionRow, has_value, operand, read_value}
 use Rattle.chain_args.specs.Profile.{Profile}
 use Rattle.chain_args.specs.Number.{number_within}

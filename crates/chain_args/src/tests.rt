@@ -133,7 +133,8 @@ fn the_63rd_plugin(rt: HostRuntime) -> Result<(), Fail> {
         rule: WordsRule::TooMany,
     };
     assert!(rt; plan(rt.alloc(), words.as_slice()).err() == Some(fault));
-    assert!(rt; plan(rt.alloc(), &words[..186]).is_ok());
+    words.truncate(186);
+    assert!(rt; plan(rt.alloc(), words.as_slice()).is_ok());
     Ok(())
 }
 

@@ -1,4 +1,4 @@
-use Rattle.std.proofs.Common.{◌≡◌, ◌∙◌, ◌≤◌, ◌+◌, ◌++◌, ◌∷◌, [], None, Some, ap, append_assoc, arith, drop, map, refl, rules, sym}
+use Rattle.std.proofs.Common.{◌∙◌, ◌≤◌, ◌+◌, ◌++◌, ◌∷◌, [], None, Some, ap, append_assoc, drop, map, refl, rules, sym}
 use Rattle.std.specs.Prelude.{filter_map}
 use Rattle.std.proofs.lemmas.List.Elements.{All-push}
 use Rattle.chain_args.specs.Pairs.{pair_of}

@@ -1,4 +1,4 @@
-use Rattle.std.proofs.Common.{◌≡◌, ◌∙◌, ap, refl, sym}
+use Rattle.std.proofs.Common.{◌∙◌, refl, sym}
 use Rattle.chain_args.specs.PatternWords.{pattern, pattern_rows}
 use Rattle.chain_args.proofs.RefusalLemmas.{all_true, malformed, nothing_broken, value_refused}
 use Rattle.chain_args.proofs.pattern_words.pattern_settings.Goals as goal

@@ -1,7 +1,6 @@
-use Rattle.std.proofs.Common.{◌≡◌, ◌∙◌, [], ap}
+use Rattle.std.proofs.Common.{◌∙◌, [], ap}
 use Rattle.std.specs.Prelude.{unwrap_or}
 use Rattle.clap.specs.Matches.{found_of}
-use Rattle.clap.specs.Walk.{all_of}
 use Rattle.chain_args.proofs.FindingsLemmas.{values_from}
 use Rattle.chain_args.specs.Options.{values_of}
 use Rattle.chain_args.proofs.findings.Findings.values.Goals as goal
