@@ -1,6 +1,6 @@
 -- From what `clap` gives to findings.
 use Rattle.std.proofs.Common.{◌≡◌, ◌∙◌, ◌==◌, ℕ, true, false, List, [], ◌∷◌, length, Option, Some, None, refl, ap, subst, inl, inr, arith, ne_eqb}
-use Rattle.std.specs.Prelude.{find, option_and_then, option_map}
+use Rattle.std.specs.Prelude.{find, option_and_then, option_map, unwrap_or}
 use Rattle.std.specs.Option.{option_map_or}
 use Rattle.std.specs.Str.{bytes_eq}
 use Rattle.clap.specs.Facts.{Entry}
@@ -9,12 +9,12 @@ use Rattle.clap.specs.Kinds.{HasKind, IsAmong, Kinds}
 use Rattle.clap.specs.Values.{kind_of}
 use Rattle.clap.specs.declared.error.Error.{Error}
 use Rattle.clap.specs.declared.error.kind.ErrorKind.TheVariants.{OutOfMemory}
-use Rattle.clap.specs.Matches.{first_value, matched_of}
+use Rattle.clap.specs.Matches.{first_value, matched_of, raw_values}
 use Rattle.clap.specs.Simple.{App, matches_of}
 use Rattle.clap.specs.Walk.{row_of, rows_of}
 use Rattle.clap.specs.declared.parser.matches.Found.{Found}
-use Rattle.clap.proofs.WalkLemmas.{find_row, first_value-rows}
-use Rattle.chain_args.specs.Options.{findings, has_flag, is_by_words, is_taken, value_of}
+use Rattle.clap.proofs.WalkLemmas.{find_row, first_value-rows, raw_values-rows}
+use Rattle.chain_args.specs.Options.{findings, has_flag, is_by_words, is_taken, value_of, values_of}
 
 -- the source of an entry is the source of its row
 pub flag_from : (f : Found) (name : List ℕ) → has_flag name (rows_of f) ≡ is_by_words (option_and_then (λ a. a.source) (matched_of f name))
@@ -49,3 +49,7 @@ found_from app words = refl
 pub kinds_from : (kinds : Kinds) (e : Error) → HasKind kinds e → (kind_of e ≡ OutOfMemory → ⊥) → kinds ≡ [] → ⊥
 kinds_from kinds e (inl memory) never none = never memory
 kinds_from kinds e (inr among) never none = subst (IsAmong (kind_of e)) none among
+
+pub values_from : (f : Found) (name : List ℕ) → unwrap_or (option_map raw_values (matched_of f name)) [] ≡ values_of name (rows_of f)
+unfolding values_of
+values_from f name = ap (λ o. unwrap_or o []) (raw_values-rows f name)

@@ -1,6 +1,7 @@
 -- The forms that a value of an option or an operand may have.
 -- This project's own rule.
 use Rattle.std.specs.Prelude.{ℕ, Bool, List, is_some, true}
+use Rattle.chain_args.specs.HexText.{bytes_of}
 use Rattle.chain_args.specs.Number.{number_within}
 use Rattle.chain_args.specs.Pairs.{pair_of}
 use Rattle.chain_args.specs.Ranges.{ranges_of}
@@ -12,6 +13,8 @@ pub data Form : Type 0 where
   ranges : ℕ → Form
   -- two numbers joined by a sign, each with its least and its most
   pair : ℕ → ℕ × ℕ → ℕ × ℕ → Form
+  -- bytes as hexadecimal digits, from a least number of bytes to a most
+  bytes : ℕ → ℕ → Form
   -- any text
   text : Form
 
@@ -20,4 +23,5 @@ abbrev pub has_form : Form → List ℕ → Bool
 has_form (number least most) word = is_some (number_within least most word)
 has_form (ranges most) word = is_some (ranges_of most word)
 has_form (pair sign first second) word = is_some (pair_of sign first second word)
+has_form (bytes least most) word = is_some (bytes_of least most word)
 has_form text word = true

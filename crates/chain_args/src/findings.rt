@@ -1,28 +1,31 @@
-ghost use Rattle.std.specs.Prelude.{◌≡◌, ◌≤◌, ◌+◌, ◌==◌, ◌<◌, [], IfOk, IfSome, MatchResult, false, length, map, not, option_map, true, unwrap_or};
+ghost use Rattle.std.specs.Prelude.{◌≡◌, ◌≤◌, ◌+◌, ◌==◌, ◌<◌, [], IfOk, IfSome, MatchResult, false, is_some, length, map, not, option_map, true, unwrap_or};
 ghost use Rattle.std.specs.String.{string_bytes};
 ghost use Rattle.clap.specs.Simple.{app_of};
 ghost use Rattle.clap.specs.Faults.{is_simple_and_free};
 ghost use Rattle.plug_conf.specs.NumberSet.{AllBelow};
-ghost use Rattle.chain_args.specs.Forms.{number, pair, ranges};
+ghost use Rattle.chain_args.specs.Forms.{bytes, has_form, number, pair, ranges};
+ghost use Rattle.std.specs.List.{All, filter_map, list_all};
+ghost use Rattle.chain_args.specs.HexText.{bytes_of};
 ghost use Rattle.chain_args.specs.Number.{number_within};
-ghost use Rattle.chain_args.specs.Options.{findings, has_flag, has_value, is_by_words, is_formed, is_taken, read_value, value_of};
+ghost use Rattle.chain_args.specs.Options.{findings, has_flag, has_value, is_by_words, is_formed, is_taken, read_value, value_of, values_of};
 ghost use Rattle.chain_args.specs.Pairs.{pair_of};
 ghost use Rattle.chain_args.specs.Ranges.{ranges_of};
 ghost use Rattle.chain_args.specs.Refusal.{IsRefusedBy};
 ghost use Rattle.chain_args.specs.declared.words_rule.WordsRule.TheVariants.{Shape, Value};
 
+use crate::hex_text::read_bytes;
 use crate::number::read_number_within;
-use crate::pairs::read_pair;
+use crate::pairs::{read_pair, read_pairs};
 use crate::ranges::read_ranges;
 use crate::refusal::Refusal;
 use crate::words_rule::WordsRule;
 use clap::error::ErrorKind;
 use clap::parser::ValueSource;
 use clap::{ArgMatches, Command};
-use plug_conf::NumberSet;
+use plug_conf::{NumberSet, PairList};
 use std::alloc::{AllocError, Global};
 use std::marker::Model;
-use ts_outside::NameText;
+use ts_outside::{FileBytes, NameText};
 
 /// What `clap` finds in the words of a segment, seen as one row for each option.
 #[derive(Drop)]
@@ -86,6 +89,7 @@ impl<'a> Findings<'a> {
             × (n ≡ read_value (number_within least most) name.now self.now))
             (IsRefusedBy Value (is_formed (number least most) name.now self.now ≡ false)) }
         ensures range { IfOk result (λ n. IfSome n (λ k. (least ≤ k) × (k ≤ most))) }
+        ensures given { IfOk result (λ n. is_some n ≡ has_value name.now self.now) }
     {
         let Some(text) = self.value(name) else {
             return Ok(None);
@@ -156,6 +160,70 @@ impl<'a> Findings<'a> {
         match read_ranges(alloc, text, most)? {
             Some(set) => Ok(set),
             None => Err(Refusal::Broken(WordsRule::Value)),
+        }
+    }
+
+    /// The bytes of an operand, from a least number of them to a most; none where it is not given.
+    pub(crate) fn bytes(
+        &self,
+        alloc: Global,
+        name: &str,
+        least: usize,
+        most: usize,
+    ) -> Result<FileBytes, Refusal>
+        ensures reads { MatchResult result
+            (λ row. (is_formed (bytes least most) name.now self.now ≡ true)
+            × (row ≡ unwrap_or (read_value (bytes_of least most) name.now self.now) []))
+            (IsRefusedBy Value (is_formed (bytes least most) name.now self.now ≡ false)) }
+        ensures range { has_value name.now self.now ≡ true
+            → IfOk result (λ row. (least ≤ length row) × (length row ≤ most)) }
+    {
+        let Some(text) = self.value(name) else {
+            return Ok(FileBytes::of(Vec::new(alloc)));
+        };
+        match read_bytes(alloc, text, least, most)? {
+            Some(bytes) => Ok(bytes),
+            None => Err(Refusal::Broken(WordsRule::Value)),
+        }
+    }
+
+    /// The operands, of which there may be any number; `None` is none too.
+    fn values(&self, name: &str) -> Option<&[&'a str]>
+        ensures { unwrap_or (option_map (λ texts. map (λ text. text.now) texts.now) result) [] ≡ values_of name.now self.now }
+    {
+        self.matches.get_strs(name)
+    }
+
+    /// Whether an operand is given.
+    pub(crate) fn has_values(&self, name: &str) -> bool
+        ensures { result ≡ not (length (values_of name.now self.now) == 0) }
+    {
+        match self.values(name) {
+            Some(texts) => !texts.is_empty(),
+            None => false,
+        }
+    }
+
+    /// The pairs that the operands are, each of two numbers joined by a sign.
+    pub(crate) fn pairs(
+        &self,
+        alloc: Global,
+        name: &str,
+        sign: char,
+        first: (u64, u64),
+        second: (u64, u64),
+    ) -> Result<PairList, Refusal>
+        requires { sign < 128 }
+        ensures reads { MatchResult result
+            (λ list. (list_all (has_form (pair sign first second)) (values_of name.now self.now) ≡ true)
+            × (list ≡ filter_map (pair_of sign first second) (values_of name.now self.now)))
+            (IsRefusedBy Value (list_all (has_form (pair sign first second)) (values_of name.now self.now) ≡ false)) }
+        ensures many { IfOk result (λ list. length list ≡ length (values_of name.now self.now)) }
+        ensures range { IfOk result (All (λ p. (p.0 ≤ first.1) × (p.1 ≤ second.1))) }
+    {
+        match self.values(name) {
+            Some(texts) => read_pairs(alloc, texts, sign, first, second),
+            None => Ok(PairList::of(Vec::new(alloc))),
         }
     }
 

@@ -3,10 +3,13 @@
 #![tactic(auto)]
 
 mod commands;
+mod continuity_words;
+mod count_words;
 mod filter_words;
 mod findings;
 mod general_conf;
 mod general_words;
+mod hex_text;
 mod input_conf;
 mod input_words;
 mod number;
@@ -14,14 +17,19 @@ mod output_conf;
 mod output_words;
 mod pairs;
 mod parts;
+mod pattern_words;
 mod plan_of_words;
 mod plan_type;
 mod plugin_list;
 mod plugin_words;
 mod ranges;
 mod refusal;
+mod remap_words;
 mod segments;
 mod signs;
+mod skip_words;
+mod slice_words;
+mod until_words;
 mod words_fault;
 mod words_rule;
 

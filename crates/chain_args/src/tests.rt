@@ -88,7 +88,8 @@ fn forms_of_values(rt: HostRuntime) -> Result<(), Fail> {
 
 #[test]
 fn a_whole_plan(rt: HostRuntime) -> Result<(), Fail> {
-    let line = "--add-input-stuffing 1/2 --buffer-packets=7 --ignore-joint-termination -I null 4 -P filter --pid 0x1FFF,5-7 --negate -O drop";
+    let line =
+        "--add-input-stuffing 1/2 --buffer-packets=7 --ignore-joint-termination -I null 4 -P filter --pid 0x1FFF,5-7 --negate -O drop";
     let Ok(plan) = plan_of_line(rt.alloc(), line)? else {
         return Err(Fail::from("a plan"));
     };
@@ -132,6 +133,93 @@ fn the_63rd_plugin(rt: HostRuntime) -> Result<(), Fail> {
         rule: WordsRule::TooMany,
     };
     assert!(rt; plan(rt.alloc(), words.as_slice()).err() == Some(fault));
-    assert!(rt; plan(rt.alloc(), &words[..186]).is_ok());
+    words.truncate(186);
+    assert!(rt; plan(rt.alloc(), words.as_slice()).is_ok());
+    Ok(())
+}
+
+#[test]
+fn words_of_plugins(rt: HostRuntime) -> Result<(), Fail> {
+    let rows = [
+        ("-P skip", Some(WordsRule::Missing)),
+        ("-P skip 1 2", Some(WordsRule::Shape)),
+        ("-P skip 1099511627777", Some(WordsRule::Value)),
+        ("-P skip 0x10000000000", None),
+        ("-P slice", Some(WordsRule::Missing)),
+        ("-P slice --drop 1 --pass x", Some(WordsRule::Value)),
+        ("-P slice --drop 1 --pass 0x1", Some(WordsRule::Conflict)),
+        ("-P slice --drop 1 --pass 3 --stop 4", None),
+        ("-P pattern", Some(WordsRule::Missing)),
+        ("-P pattern --pid x", Some(WordsRule::Missing)),
+        ("-P pattern ", Some(WordsRule::Value)),
+        ("-P pattern ABC", Some(WordsRule::Value)),
+        ("-P pattern 0xAB", Some(WordsRule::Value)),
+        ("-P pattern abCD --offset-pusi 184", Some(WordsRule::Value)),
+        ("-P pattern abCD --offset-non-pusi 182", None),
+        ("-P until", Some(WordsRule::Missing)),
+        ("-P until --packets 0", Some(WordsRule::Value)),
+        ("-P until --packets 1 --bytes 1", Some(WordsRule::Conflict)),
+        (
+            "-P until --packets 1 --joint-termination",
+            Some(WordsRule::Shape),
+        ),
+        ("-P until --unit-start-count 2 --exclude-last", None),
+        ("-P count x", Some(WordsRule::Shape)),
+        ("-P count --all --total --negate", None),
+        ("-P continuity --fix --pid 0-8192", Some(WordsRule::Value)),
+        ("-P continuity --fix", None),
+        ("-P remap --no-psi", Some(WordsRule::Missing)),
+        ("-P remap 1=2", Some(WordsRule::Missing)),
+        ("-P remap 1/2 --no-psi", Some(WordsRule::Value)),
+        ("-P remap 1=8192 --no-psi", Some(WordsRule::Value)),
+        ("-P remap 1=2 1=3 --no-psi", Some(WordsRule::Conflict)),
+        ("-P remap 8191=1 --no-psi", Some(WordsRule::Conflict)),
+        ("-P remap 1=3 2=3 --no-psi", Some(WordsRule::Conflict)),
+        ("-P remap 1=3 2=3 --no-psi --unchecked", None),
+        ("-P remap 1=2 --no-psi 3=8191", None),
+    ];
+    for (line, rule) in rows {
+        let fault = plan_of_line(rt.alloc(), line)?.err();
+        let wanted = rule.map(|rule| WordsFault::At { word: 0, rule });
+        assert!(rt; fault == wanted, "{line}");
+    }
+    Ok(())
+}
+
+#[test]
+fn settings_of_plugins(rt: HostRuntime) -> Result<(), Fail> {
+    let line =
+        "-P pattern abCD --offset-non-pusi 182 -P slice --drop 1 --stop 4 -P remap 1=2 --no-psi 3=4";
+    let Ok(plan) = plan_of_line(rt.alloc(), line)? else {
+        return Err(Fail::from("a plan"));
+    };
+    let [
+        PluginConf::Pattern(pattern),
+        PluginConf::Slice(slice),
+        PluginConf::Remap(remap),
+    ] = plan.plugins.as_slice()
+    else {
+        return Err(Fail::from("three plugins"));
+    };
+    assert!(rt; pattern.operand.as_slice() == [0xAB, 0xCD].as_slice());
+    assert!(rt; pattern.offset_pusi == None && pattern.offset_non_pusi == Some(182));
+    assert!(rt; slice.drop == Some(1) && slice.null == None && slice.stop == Some(4));
+    assert!(rt; remap.operand.as_slice() == [(1, 2), (3, 4)].as_slice());
+    Ok(())
+}
+
+#[test]
+fn many_pairs(rt: HostRuntime) -> Result<(), Fail> {
+    let mut words = words_of(rt.alloc(), "-P remap --no-psi --unchecked")?;
+    for source in 0..1001 {
+        words.push(format!(in rt.alloc(); "{source}=8191")?)?;
+    }
+    let fault = WordsFault::At {
+        word: 0,
+        rule: WordsRule::Conflict,
+    };
+    assert!(rt; plan(rt.alloc(), words.as_slice()).err() == Some(fault));
+    words.pop();
+    assert!(rt; plan(rt.alloc(), words.as_slice()).is_ok());
     Ok(())
 }

@@ -25,3 +25,6 @@ pub use remap_conf::RemapConf;
 pub use skip_conf::SkipConf;
 pub use slice_conf::SliceConf;
 pub use until_conf::UntilConf;
+
+#[cfg(test)]
+mod tests;

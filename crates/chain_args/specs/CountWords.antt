@@ -1,0 +1,31 @@
+-- The words of `count`.
+-- This project's own rule.
+use Rattle.std.specs.Prelude.{List, [], ◌∷◌, codes, true, unwrap_or}
+use Rattle.plug_conf.specs.Lawful.{go_together}
+use Rattle.plug_conf.specs.declared.plugin_conf.PluginConf.{PluginConf}
+use Rattle.plug_conf.specs.declared.plugin_conf.PluginConf.TheVariants.{Count}
+use Rattle.chain_args.specs.Forms.{ranges}
+use Rattle.chain_args.specs.Options.{OptionRow, flag, has_flag, read_value, value}
+use Rattle.chain_args.specs.Profile.{Profile}
+use Rattle.chain_args.specs.Ranges.{ranges_of}
+
+abbrev pub count_rows : List OptionRow
+count_rows = record { name = codes "pid"; kind = value (ranges 8191) }
+    ∷ record { name = codes "negate"; kind = flag }
+    ∷ record { name = codes "all"; kind = flag }
+    ∷ record { name = codes "total"; kind = flag }
+    ∷ []
+
+-- nothing has to be given
+abbrev pub count : Profile PluginConf
+count = record {
+  rows = count_rows;
+  has_needed = λ found. true;
+  settings = λ found. Count (record {
+    pid = unwrap_or (read_value (ranges_of 8191) (codes "pid") found) [];
+    negate = has_flag (codes "negate") found;
+    all = has_flag (codes "all") found;
+    total = has_flag (codes "total") found;
+  });
+  go_together = go_together;
+}

@@ -1,0 +1,24 @@
+-- The words of `skip`.
+-- This project's own rule.
+use Rattle.std.specs.Prelude.{List, [], ◌∷◌, codes, unwrap_or}
+use Rattle.plug_conf.specs.Lawful.{go_together}
+use Rattle.plug_conf.specs.declared.plugin_conf.PluginConf.{PluginConf}
+use Rattle.plug_conf.specs.declared.plugin_conf.PluginConf.TheVariants.{Skip}
+use Rattle.chain_args.specs.Forms.{number}
+use Rattle.chain_args.specs.Options.{OptionRow, has_value, operand, read_value}
+use Rattle.chain_args.specs.Profile.{Profile}
+use Rattle.chain_args.specs.Number.{number_within}
+
+abbrev pub skip_rows : List OptionRow
+skip_rows = record { name = codes "operand"; kind = operand (number 0 1099511627776) } ∷ []
+
+-- the number of packets, 0 to 2^40, has to be given
+abbrev pub skip : Profile PluginConf
+skip = record {
+  rows = skip_rows;
+  has_needed = has_value (codes "operand");
+  settings = λ found. Skip (record {
+    operand = unwrap_or (read_value (number_within 0 1099511627776) (codes "operand") found) 0;
+  });
+  go_together = go_together;
+}

@@ -1,0 +1,40 @@
+-- The words of `until`.
+-- This project's own rule.
+use Rattle.std.specs.Prelude.{ℕ, ◌||◌, List, [], ◌∷◌, Option, codes}
+use Rattle.clap.specs.Walk.{Row}
+use Rattle.plug_conf.specs.Lawful.{go_together}
+use Rattle.plug_conf.specs.declared.plugin_conf.PluginConf.{PluginConf}
+use Rattle.plug_conf.specs.declared.plugin_conf.PluginConf.TheVariants.{Until}
+use Rattle.chain_args.specs.Forms.{Form, number}
+use Rattle.chain_args.specs.Options.{OptionRow, flag, has_flag, has_value, read_value, value}
+use Rattle.chain_args.specs.Profile.{Profile}
+use Rattle.chain_args.specs.Number.{number_within}
+
+-- a count, 1 to 2^60
+abbrev pub until_form : Form
+until_form = number 1 1152921504606846976
+
+abbrev pub until_rows : List OptionRow
+until_rows = record { name = codes "packets"; kind = value until_form }
+    ∷ record { name = codes "bytes"; kind = value until_form }
+    ∷ record { name = codes "unit-start-count"; kind = value until_form }
+    ∷ record { name = codes "exclude-last"; kind = flag }
+    ∷ []
+
+abbrev pub until_number : List ℕ → List Row → Option ℕ
+until_number = read_value (number_within 1 1152921504606846976)
+
+-- one of the three counts has to be given
+abbrev pub until : Profile PluginConf
+until = record {
+  rows = until_rows;
+  has_needed = λ found. has_value (codes "packets") found
+      || (has_value (codes "bytes") found || has_value (codes "unit-start-count") found);
+  settings = λ found. Until (record {
+    packets = until_number (codes "packets") found;
+    bytes = until_number (codes "bytes") found;
+    unit_start_count = until_number (codes "unit-start-count") found;
+    exclude_last = has_flag (codes "exclude-last") found;
+  });
+  go_together = go_together;
+}

@@ -1,0 +1,43 @@
+ghost use Rattle.std.specs.Prelude.{◌≡◌, IfOk, map};
+ghost use Rattle.std.specs.String.{string_bytes};
+ghost use Rattle.clap.specs.Simple.{app_of};
+ghost use Rattle.plug_conf.specs.Lawful.{IsLawful};
+ghost use Rattle.chain_args.specs.ContinuityWords.{continuity, continuity_rows};
+ghost use Rattle.chain_args.specs.Options.{command_of};
+ghost use Rattle.chain_args.specs.Refusal.{Reads, ReadsFindings};
+
+use crate::commands::{new_command, with_flag, with_value};
+use crate::findings::Findings;
+use crate::refusal::Refusal;
+use clap::Command;
+use plug_conf::{ContinuityConf, PluginConf};
+use std::alloc::{AllocError, Global};
+
+/// The greatest PID.
+const LAST_PID: u64 = 8191;
+
+fn continuity_command<'a>(alloc: Global) -> Result<Command<'a>, AllocError>
+    ensures { IfOk result (λ c. app_of c ≡ command_of continuity_rows) }
+{
+    let command = with_value(alloc, new_command(alloc), "pid")?;
+    with_flag(alloc, command, "fix")
+}
+
+fn continuity_settings(alloc: Global, found: &Findings) -> Result<PluginConf, Refusal>
+    ensures reads { ReadsFindings continuity found.now result }
+    ensures lawful { IfOk result IsLawful }
+{
+    Ok(PluginConf::Continuity(ContinuityConf {
+        pid: found.ranges(alloc, "pid", LAST_PID)?,
+        fix: found.has_flag("fix"),
+    }))
+}
+
+/// Reads the words after the name `continuity`.
+pub(crate) fn read_continuity(alloc: Global, words: &[String]) -> Result<PluginConf, Refusal>
+    ensures reads { Reads continuity (map string_bytes words.now) result }
+    ensures lawful { IfOk result IsLawful }
+{
+    let found = Findings::of(continuity_command(alloc)?, words)?;
+    continuity_settings(alloc, &found)
+}

@@ -1,0 +1,63 @@
+ghost use Rattle.std.specs.Prelude.{◌≡◌, IfOk, map};
+ghost use Rattle.std.specs.String.{string_bytes};
+ghost use Rattle.clap.specs.Simple.{app_of};
+ghost use Rattle.plug_conf.specs.Lawful.{IsLawful};
+ghost use Rattle.chain_args.specs.PatternWords.{pattern, pattern_rows};
+ghost use Rattle.chain_args.specs.Options.{command_of};
+ghost use Rattle.chain_args.specs.Refusal.{Reads, ReadsFindings};
+
+use crate::commands::{new_command, with_flag, with_operand, with_value};
+use crate::findings::Findings;
+use crate::refusal::Refusal;
+use crate::words_rule::WordsRule;
+use clap::Command;
+use plug_conf::{PatternConf, PluginConf};
+use std::alloc::{AllocError, Global};
+
+/// The greatest PID.
+const LAST_PID: u64 = 8191;
+
+/// The most bytes of a payload.
+const MOST_BYTES: usize = 184;
+
+/// The greatest offset in a payload.
+const LAST_OFFSET: u64 = 183;
+
+fn pattern_command<'a>(alloc: Global) -> Result<Command<'a>, AllocError>
+    ensures { IfOk result (λ c. app_of c ≡ command_of pattern_rows) }
+{
+    let command = with_operand(alloc, new_command(alloc), "operand")?;
+    let command = with_value(alloc, command, "pid")?;
+    let command = with_value(alloc, command, "offset-pusi")?;
+    let command = with_value(alloc, command, "offset-non-pusi")?;
+    with_flag(alloc, command, "negate")
+}
+
+fn pattern_settings(alloc: Global, found: &Findings) -> Result<PluginConf, Refusal>
+    ensures reads { ReadsFindings pattern found.now result }
+    ensures lawful { IfOk result IsLawful }
+{
+    if !found.has_value("operand") {
+        return Err(Refusal::Broken(WordsRule::Missing));
+    }
+    let operand = found.bytes(alloc, "operand", 1, MOST_BYTES)?;
+    let pid = found.ranges(alloc, "pid", LAST_PID)?;
+    let offset_pusi = found.number("offset-pusi", 0, LAST_OFFSET)?;
+    let offset_non_pusi = found.number("offset-non-pusi", 0, LAST_OFFSET)?;
+    Ok(PluginConf::Pattern(PatternConf {
+        operand,
+        pid,
+        negate: found.has_flag("negate"),
+        offset_pusi,
+        offset_non_pusi,
+    }))
+}
+
+/// Reads the words after the name `pattern`.
+pub(crate) fn read_pattern(alloc: Global, words: &[String]) -> Result<PluginConf, Refusal>
+    ensures reads { Reads pattern (map string_bytes words.now) result }
+    ensures lawful { IfOk result IsLawful }
+{
+    let found = Findings::of(pattern_command(alloc)?, words)?;
+    pattern_settings(alloc, &found)
+}

@@ -1,0 +1,53 @@
+ghost use Rattle.std.specs.Prelude.{◌≡◌, IfOk, map};
+ghost use Rattle.std.specs.String.{string_bytes};
+ghost use Rattle.clap.specs.Simple.{app_of};
+ghost use Rattle.plug_conf.specs.Lawful.{IsLawful};
+ghost use Rattle.chain_args.specs.RemapWords.{remap, remap_rows};
+ghost use Rattle.chain_args.specs.Options.{command_of};
+ghost use Rattle.chain_args.specs.Refusal.{Reads, ReadsFindings};
+
+use crate::commands::{new_command, with_flag, with_operands};
+use crate::findings::Findings;
+use crate::refusal::Refusal;
+use crate::words_rule::WordsRule;
+use clap::Command;
+use plug_conf::{PluginConf, RemapConf};
+use std::alloc::{AllocError, Global};
+
+/// The greatest PID.
+const LAST_PID: u64 = 8191;
+
+fn remap_command<'a>(alloc: Global) -> Result<Command<'a>, AllocError>
+    ensures { IfOk result (λ c. app_of c ≡ command_of remap_rows) }
+{
+    let command = with_operands(alloc, new_command(alloc), "operand")?;
+    let command = with_flag(alloc, command, "no-psi")?;
+    with_flag(alloc, command, "unchecked")
+}
+
+fn remap_settings(alloc: Global, found: &Findings) -> Result<PluginConf, Refusal>
+    ensures reads { ReadsFindings remap found.now result }
+    ensures lawful { IfOk result IsLawful }
+{
+    if !found.has_values("operand") || !found.has_flag("no-psi") {
+        return Err(Refusal::Broken(WordsRule::Missing));
+    }
+    let conf = RemapConf {
+        operand: found.pairs(alloc, "operand", '=', (0, LAST_PID), (0, LAST_PID))?,
+        no_psi: found.has_flag("no-psi"),
+        unchecked: found.has_flag("unchecked"),
+    };
+    if !conf.has_agreeing_pairs() {
+        return Err(Refusal::Broken(WordsRule::Conflict));
+    }
+    Ok(PluginConf::Remap(conf))
+}
+
+/// Reads the words after the name `remap`.
+pub(crate) fn read_remap(alloc: Global, words: &[String]) -> Result<PluginConf, Refusal>
+    ensures reads { Reads remap (map string_bytes words.now) result }
+    ensures lawful { IfOk result IsLawful }
+{
+    let found = Findings::of(remap_command(alloc)?, words)?;
+    remap_settings(alloc, &found)
+}

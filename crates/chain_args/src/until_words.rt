@@ -1,0 +1,58 @@
+ghost use Rattle.std.specs.Prelude.{◌≡◌, IfOk, map};
+ghost use Rattle.std.specs.String.{string_bytes};
+ghost use Rattle.clap.specs.Simple.{app_of};
+ghost use Rattle.plug_conf.specs.Lawful.{IsLawful};
+ghost use Rattle.chain_args.specs.UntilWords.{until, until_rows};
+ghost use Rattle.chain_args.specs.Options.{command_of};
+ghost use Rattle.chain_args.specs.Refusal.{Reads, ReadsFindings};
+
+use crate::commands::{new_command, with_flag, with_value};
+use crate::findings::Findings;
+use crate::refusal::Refusal;
+use crate::words_rule::WordsRule;
+use clap::Command;
+use plug_conf::{PluginConf, UntilConf};
+use std::alloc::{AllocError, Global};
+
+/// The greatest count, 2^60.
+const MOST_COUNT: u64 = 1 << 60;
+
+fn until_command<'a>(alloc: Global) -> Result<Command<'a>, AllocError>
+    ensures { IfOk result (λ c. app_of c ≡ command_of until_rows) }
+{
+    let command = with_value(alloc, new_command(alloc), "packets")?;
+    let command = with_value(alloc, command, "bytes")?;
+    let command = with_value(alloc, command, "unit-start-count")?;
+    with_flag(alloc, command, "exclude-last")
+}
+
+fn until_settings(found: &Findings) -> Result<PluginConf, Refusal>
+    ensures reads { ReadsFindings until found.now result }
+    ensures lawful { IfOk result IsLawful }
+{
+    let is_given = found.has_value("packets")
+        || found.has_value("bytes")
+        || found.has_value("unit-start-count");
+    if !is_given {
+        return Err(Refusal::Broken(WordsRule::Missing));
+    }
+    let conf = UntilConf {
+        packets: found.number("packets", 1, MOST_COUNT)?,
+        bytes: found.number("bytes", 1, MOST_COUNT)?,
+        unit_start_count: found.number("unit-start-count", 1, MOST_COUNT)?,
+        exclude_last: found.has_flag("exclude-last"),
+    };
+    if !conf.has_one_count() {
+        return Err(Refusal::Broken(WordsRule::Conflict));
+    }
+    Ok(PluginConf::Until(conf))
+}
+
+/// Reads the words after the name `until`.
+pub(crate) fn read_until(alloc: Global, words: &[String]) -> Result<PluginConf, Refusal>
+    ensures reads { Reads until (map string_bytes words.now) result }
+    ensures lawful { IfOk result IsLawful }
+{
+    let found = Findings::of(until_command(alloc)?, words)?;
+    until_settings(&found)
+}
