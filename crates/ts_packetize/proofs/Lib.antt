@@ -1,0 +1,5 @@
+pub mod Filling
+pub mod Counting
+pub mod HeaderFields
+pub mod Again
+pub mod Cycling
