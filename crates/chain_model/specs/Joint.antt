@@ -1,7 +1,7 @@
 -- Joint termination: the greatest position to which every plugin that uses it has agreed.
 -- This project's own rule.
 use Rattle.std.specs.Prelude.{ℕ, zero, suc, max, List, [], ◌∷◌, ◌++◌, length, map, if◌then◌else◌, Option, None, Some}
-use Rattle.ts_packet.specs.declared.Cell.{Cell}
+use Rattle.ts_packet.specs.declared.cell.Cell.{Cell}
 use Rattle.chain_model.specs.PluginRule.{PluginRule}
 use Rattle.chain_model.specs.Apply.{StageList}
 use Rattle.chain_model.specs.StageLists.{rule_behind, stage_list}

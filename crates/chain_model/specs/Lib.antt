@@ -1,3 +1,4 @@
+pub mod Prefix
 pub mod Written
 pub mod PluginRule
 pub mod Apply
@@ -6,5 +7,6 @@ pub mod Joint
 pub mod Cut
 pub mod InputList
 pub mod Stuffed
+pub mod Reasons
 pub mod Reports
 pub mod PureRun

@@ -1,7 +1,7 @@
 -- A plugin means a rule: functions of the history, with no state. This project's own rule.
 -- The history is the list of all cells that the plugin met before, dropped ones too.
 use Rattle.std.specs.Prelude.{ℕ, List, [], Bool, false}
-use Rattle.ts_packet.specs.declared.Cell.{Cell}
+use Rattle.ts_packet.specs.declared.cell.Cell.{Cell}
 use Rattle.chain_model.specs.declared.reason.Reason.{Reason}
 
 -- what a plugin does with a live packet

@@ -1,13 +1,13 @@
 -- What a run reports: each plugin's lines and its summary over the cells that count, then the end line.
 -- This project's own rule.
-use Rattle.std.specs.Prelude.{ℕ, zero, suc, List, [], ◌∷◌, ◌++◌, take, codes}
+use Rattle.std.specs.Prelude.{ℕ, zero, suc, List, [], ◌∷◌, ◌++◌, take, codes, ◌==◌, if◌then◌else◌}
 use Rattle.std.specs.List.{flat_map}
 use Rattle.std.specs.Fmt.{decimal}
-use Rattle.ts_packet.specs.declared.Cell.{Cell}
-use Rattle.ts_packet.specs.declared.Cell.TheVariants.{Live, Dropped}
+use Rattle.ts_packet.specs.declared.cell.Cell.{Cell}
+use Rattle.ts_packet.specs.declared.cell.Cell.TheVariants.{Live, Dropped}
 use Rattle.chain_model.specs.declared.input_end.InputEnd.{InputEnd}
 use Rattle.chain_model.specs.declared.input_end.InputEnd.TheVariants.{End, Sync, ReadFault, TooLong}
-use Rattle.chain_model.specs.declared.reason.Reason.TheVariants.{Pid}
+use Rattle.chain_model.specs.Reasons.{refused_pid}
 use Rattle.chain_model.specs.declared.cause.Cause.{Cause}
 use Rattle.chain_model.specs.declared.cause.Cause.TheVariants.{Input, Joint, Until, Stop, Refuse, WriteFault, NoMemory}
 use Rattle.chain_model.specs.PluginRule.{PluginRule}
@@ -41,33 +41,34 @@ reports_from rules input m j (rule ∷ rest) (name ∷ names) =
     plugin_report (suc j) name (said_of rule (take m (stage_list rules input j).cells))
     ++ reports_from rules input m (suc j) rest names
 
--- what is said where bytes are left behind the last whole packet
-abbrev pub left_out : ℕ → List ℕ
-left_out zero = []
-left_out (suc n) = codes ", " ++ (decimal (suc n) ++ codes " bytes left out")
+-- why the input ended, and then the rest of the line
+abbrev pub input_reason : InputEnd → List ℕ → List ℕ
+input_reason (End left) rest = codes "input" ++ rest
+input_reason (Sync packet) rest = codes "lost sync at input packet " ++ (decimal packet ++ rest)
+input_reason ReadFault rest = codes "read fault" ++ rest
+input_reason TooLong rest = codes "too long" ++ rest
 
-abbrev pub after_packets : ℕ → List ℕ
-after_packets m = codes " after " ++ (decimal m ++ codes " packets")
+-- the cause, and then the rest of the line
+abbrev pub reason_text : Cause → List ℕ → List ℕ
+reason_text (Input how) rest = input_reason how rest
+reason_text Joint rest = codes "joint termination" ++ rest
+reason_text (Until j) rest = codes "until of plugin " ++ (decimal j ++ rest)
+reason_text (Stop j) rest = codes "plugin " ++ (decimal j ++ (codes " stopped" ++ rest))
+reason_text (Refuse j reason) rest =
+    codes "plugin " ++ (decimal j ++ (codes " refused PID " ++ (decimal (refused_pid reason) ++ rest)))
+reason_text WriteFault rest = codes "write fault" ++ rest
+reason_text (NoMemory k) rest = codes "no memory" ++ rest
 
-abbrev pub end_text_of_input : InputEnd → ℕ → List ℕ
-end_text_of_input (End left) m = codes "input" ++ (after_packets m ++ left_out left)
-end_text_of_input (Sync packet) m = codes "lost sync at input packet " ++ (decimal packet ++ after_packets m)
-end_text_of_input ReadFault m = codes "read fault" ++ after_packets m
-end_text_of_input TooLong m = codes "too long" ++ after_packets m
-
-abbrev pub end_text : Cause → ℕ → List ℕ
-end_text (Input how) m = end_text_of_input how m
-end_text Joint m = codes "joint termination" ++ after_packets m
-end_text (Until j) m = codes "until of plugin " ++ (decimal j ++ after_packets m)
-end_text (Stop j) m = codes "plugin " ++ (decimal j ++ (codes " stopped" ++ after_packets m))
-end_text (Refuse j (Pid pid)) m =
-    codes "plugin " ++ (decimal j ++ (codes " refused PID " ++ (decimal pid ++ after_packets m)))
-end_text WriteFault m = codes "write fault" ++ after_packets m
-end_text (NoMemory k) m = codes "no memory" ++ after_packets m
+-- the bytes that are left out behind the last whole packet, if there are any, and then the rest of the line
+abbrev pub left_out : Cause → List ℕ → List ℕ
+left_out (Input (End left)) rest =
+    if left == 0 then rest else codes ", " ++ (decimal left ++ (codes " bytes left out" ++ rest))
+left_out _ rest = rest
 
 -- the last line of each report; `m` counts positions, dropped ones too
 abbrev pub end_line : Cause → ℕ → List ℕ
-end_line cause m = codes "end: " ++ (end_text cause m ++ 10 ∷ [])
+end_line cause m =
+    codes "end: " ++ reason_text cause (codes " after " ++ (decimal m ++ (codes " packets" ++ left_out cause (10 ∷ []))))
 
 -- what is reported of a run that was cut at `m` for this cause
 abbrev pub reports : List PluginRule → List (List ℕ) → StageList → ℕ → Cause → List ℕ

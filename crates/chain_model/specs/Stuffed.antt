@@ -1,7 +1,7 @@
 -- The list that the input hands to the chain: its packets with null packets put in. This project's own rule.
 use Rattle.std.specs.Prelude.{ℕ, ◌+◌, ◌%◌, ◌^◌, ◌==◌, nat_le, List, [], ◌∷◌, ◌++◌, length, take, replicate, if◌then◌else◌, Some}
-use Rattle.ts_packet.specs.declared.Cell.{Cell}
-use Rattle.ts_packet.specs.declared.Cell.TheVariants.{Live}
+use Rattle.ts_packet.specs.declared.cell.Cell.{Cell}
+use Rattle.ts_packet.specs.declared.cell.Cell.TheVariants.{Live}
 use Rattle.ts_packet.specs.Packet.{null_packet}
 use Rattle.chain_model.specs.declared.input_end.InputEnd.{InputEnd}
 use Rattle.chain_model.specs.declared.input_end.InputEnd.TheVariants.{End, TooLong}

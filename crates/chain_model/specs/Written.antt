@@ -1,8 +1,8 @@
 -- What a list of cells writes. This project's own rule.
 use Rattle.std.specs.Prelude.{ℕ, List, [], ◌∷◌}
 use Rattle.std.specs.List.{flat_map}
-use Rattle.ts_packet.specs.declared.Cell.{Cell}
-use Rattle.ts_packet.specs.declared.Cell.TheVariants.{Live, Dropped}
+use Rattle.ts_packet.specs.declared.cell.Cell.{Cell}
+use Rattle.ts_packet.specs.declared.cell.Cell.TheVariants.{Live, Dropped}
 
 -- the bytes that a cell writes: its packet's, or none where the packet was dropped
 abbrev pub cell_bytes : Cell → List ℕ

@@ -1,5 +1,5 @@
 -- Worked rows: the definitions computed.
-use Rattle.std.proofs.Common.{◌≡◌, ℕ, ◌∷◌, [], refl}
+use Rattle.std.proofs.Common.{◌≡◌, ◌∷◌, [], refl}
 use Rattle.bit_rows.specs.BitRow.{bit_of, field}
 use Rattle.ts_bits.specs.Decimal.{decimal, packed}
 use Rattle.ts_bits.specs.TaggedBody.{loop_bytes}

@@ -1,6 +1,6 @@
 -- One descriptor as a value.
 -- ISO/IEC 13818-1, 2.6: descriptor_tag 8, descriptor_length 8, then that many bytes.
-use Rattle.std.specs.Prelude.{ℕ, List, [], ◌∷◌, ◌++◌, length}
+use Rattle.std.specs.Prelude.{ℕ, List, ◌∷◌, length}
 use Rattle.std.specs.List.{flat_map}
 
 -- a tag and the bytes behind the length

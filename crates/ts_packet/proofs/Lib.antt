@@ -1,3 +1,4 @@
 pub mod Packets
 pub mod Bytes
 pub mod Clocks
+mod Rows

@@ -1,16 +1,14 @@
 -- ISO/IEC 13818-1, 2.4.3.3: the payload is what follows the header and the adaptation field.
-use Rattle.std.specs.Prelude.{ℕ, ◌+◌, List, [], ◌++◌, length, take, drop, ◌==◌, nat_le, Option, Some, None, if◌then◌else◌}
-use Rattle.bit_rows.specs.BitRow.{field}
+use Rattle.std.specs.Prelude.{ℕ, ◌+◌, List, [], ◌++◌, length, take, drop, ◌==◌, Option, Some, None, if◌then◌else◌}
+use Rattle.std.specs.Option.{option_map}
 use Rattle.ts_packet.specs.Header.{adaptation_control_of}
+use Rattle.ts_packet.specs.Adaptation.{adaptation_length_of}
 
--- the place of the first payload byte: 4 with a payload alone, behind a lawful adaptation field with both
-abbrev pub payload_place : ℕ → ℕ → Option ℕ
-payload_place control len =
-    if control == 1 then Some 4 else (if control == 3 then (if nat_le len 182 then Some (5 + len) else None) else None)
-
--- the place of the packet's first payload byte, if it has a payload
+-- the place of the packet's first payload byte, if it has a payload: 4 with a payload alone,
+-- behind a lawful adaptation field where it has both
 unfoldable pub payload_start_of : List ℕ → Option ℕ
-payload_start_of row = payload_place (adaptation_control_of row) (field row 32 8)
+payload_start_of row =
+    if adaptation_control_of row == 1 then Some 4 else (if adaptation_control_of row == 3 then option_map (λ len. 5 + len) (adaptation_length_of row) else None)
 
 -- the bytes from a place on, or none
 abbrev pub from_place : Option ℕ → List ℕ → List ℕ

@@ -1,10 +1,12 @@
-//! Transport packets: 188 bytes come in, header fields, adaptation field, payload and PCR come out and are set.
-//! The layer above rests on `Packet`, which contracts see as its row of bytes, and on `Cell`.
+//! Transport packets: 188 bytes come in; header fields, adaptation field, payload and PCR are read and set.
+//! The layer above rests on `Packet`, which contracts see as its bytes: each reader is its field of `specs/`.
 #![tactic(auto)]
 
 mod cell;
 mod no_sync;
 mod packet;
+#[cfg(test)]
+mod tests;
 
 pub use cell::Cell;
 pub use no_sync::NoSync;

@@ -1,9 +1,9 @@
 -- Long division modulo 2, step by step: it is linear, and can be cut in two.
-use Rattle.std.proofs.Common.{◌≡◌, ℕ, ◌+◌, ◌-◌, ◌*◌, ◌/◌, ◌%◌, ◌^◌, ◌<◌, ◌≤◌, refl, sym, ap, ◌∙◌, subst, arith, suc, zero, add-zero, zero-add, zero-mul, suc-add, pow-suc, mul_assoc}
+use Rattle.std.proofs.Common.{◌≡◌, ℕ, ◌+◌, ◌*◌, ◌/◌, ◌%◌, ◌^◌, ◌<◌, refl, sym, ap, ◌∙◌, arith, suc, zero, add-zero, zero-add, zero-mul, suc-add, pow-suc, mul_assoc}
 use Rattle.std.specs.Prelude.{bit_xor}
 use Rattle.std.specs.Int.{bit_at}
 use Rattle.std.specs.Int.Bits.{xor_assoc, xor_self, xor_zero_l, xor_zero_r}
-use Rattle.std.proofs.lemmas.Nat.{pow_pos, pow-add, shl-shr, shr-shr, xor_comm, xor_lt, xor_mod, xor_shr, xor_block, shr_split, mod_below, div_below}
+use Rattle.std.proofs.lemmas.Nat.{pow_pos, pow-add, shl-shr, shr-shr, xor_comm, xor_shr, xor_block, shr_split, mod_below, div_below}
 use Rattle.std.proofs.lemmas.Nat.Bits.{bit_at_xor, bit_at_above, bit_at-lt}
 use Rattle.ts_section.specs.Crc.{polynomial, remainder}
 

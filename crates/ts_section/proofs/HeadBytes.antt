@@ -1,5 +1,5 @@
 -- The fields of a section by its bytes.
-use Rattle.std.proofs.Common.{◌≡◌, ℕ, ◌+◌, ◌-◌, ◌*◌, ◌/◌, ◌%◌, ◌^◌, ◌<◌, ◌≤◌, List, length, get_or, take, drop, Bool, eqb, refl, sym, ap, ◌∙◌, arith, suc, zero}
+use Rattle.std.proofs.Common.{◌≡◌, ℕ, ◌+◌, ◌-◌, ◌*◌, ◌/◌, ◌%◌, ◌^◌, ◌<◌, ◌≤◌, List, length, get_or, take, drop, Bool, eqb, refl, sym, ap, ◌∙◌, arith}
 use Rattle.std.proofs.Common.{inl, inr, Some, true}
 use Rattle.std.proofs.lemmas.Nat.{and_mask}
 use Rattle.std.specs.Prelude.{bit_and}
@@ -7,7 +7,7 @@ use Rattle.std.proofs.lemmas.Bool.{cases_lt}
 use Rattle.std.proofs.lemmas.List.{get_or-drop, get_or_past, drop-take}
 use Rattle.std.proofs.lemmas.List.Elements.{All-get_or}
 use Rattle.bit_rows.specs.BitRow.{bit_of, field}
-use Rattle.ts_bits.proofs.Fields.{bit_of-byte, field-byte, field-byte_part, field-cat, field-drop, field-more_byte, field-zero}
+use Rattle.ts_bits.proofs.Fields.{bit_of-byte, field-byte, field-byte_part, field-cat}
 use Rattle.ts_section.specs.SectionFields.{is_long, head_fields, head_of, body_of}
 use Rattle.ts_section.specs.declared.long_head.LongHead.{LongHead}
 use Rattle.ts_section.specs.LawfulSection.{IsSection}

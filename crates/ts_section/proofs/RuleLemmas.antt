@@ -1,13 +1,13 @@
 -- The first broken rule, case by case, and that none is broken exactly in lawful sections.
-use Rattle.std.proofs.Common.{◌≡◌, ◌≢◌, ℕ, ◌+◌, ◌-◌, ◌<◌, ◌≤◌, List, ◌++◌, length, get_or, take, drop, Bool, true, false, eqb, ltb, Option, Some, None, refl, sym, ap, ◌∙◌, inl, inr, arith}
-use Rattle.std.specs.Prelude.{All, IsTrue}
+use Rattle.std.proofs.Common.{◌≡◌, ◌≢◌, ℕ, ◌+◌, ◌-◌, ◌<◌, ◌≤◌, List, length, take, drop, true, false, eqb, Option, Some, None, refl, sym, ap, ◌∙◌, inl, inr, arith}
+use Rattle.std.specs.Prelude.{All}
 use Rattle.std.proofs.lemmas.Bool.{lt-ltb, le-ltb, eq-eqb, cases_lt, cases_eq, cases_Bool}
 use Rattle.std.proofs.lemmas.Bool.Decides.{eqb_tells}
 use Rattle.std.proofs.lemmas.List.{take-append-drop, length-drop}
 use Rattle.ts_section.specs.Crc.{crc_of}
 use Rattle.ts_section.specs.SectionFields.{table_id_of, is_long, section_length_of, number_of, last_number_of, crc_field_of}
 use Rattle.ts_section.specs.FirstBroken.{first_broken, first_broken_long}
-use Rattle.ts_section.specs.LawfulSection.{IsSection, IsLongForm}
+use Rattle.ts_section.specs.LawfulSection.{IsSection}
 use Rattle.ts_section.specs.declared.fault.SectionFault.{SectionFault}
 use Rattle.ts_section.specs.declared.fault.SectionFault.TheVariants.{Short, Lawless, TooLong, BadCrc}
 use Rattle.ts_section.specs.declared.fault.SectionRule.TheVariants.{Stuffing, Trailing, ShortLong, Numbers}

@@ -1,7 +1,7 @@
 -- When sections are a whole run, and where they stop to be one.
-use Rattle.std.proofs.Common.{◌≡◌, ◌≢◌, ℕ, ◌+◌, ◌-◌, ◌<◌, ◌≤◌, List, [], ◌∷◌, length, get_or, take, Bool, true, false, refl, sym, ap, ◌∙◌, subst, inl, inr, arith, suc, zero, add-one}
+use Rattle.std.proofs.Common.{◌≡◌, ℕ, ◌+◌, ◌<◌, List, [], ◌∷◌, length, get_or, take, true, false, refl, sym, ◌∙◌, subst, inl, inr, arith, suc, zero, add-one}
 use Rattle.std.proofs.lemmas.Bool.{cases_Bool, false≢true}
-use Rattle.std.proofs.lemmas.List.{get_or-take, length-take, take_all}
+use Rattle.std.proofs.lemmas.List.{get_or-take, length-take}
 use Rattle.ts_section.specs.SectionFields.{is_long, head_fields, last_number_of}
 use Rattle.ts_section.specs.LawfulSection.{IsSection}
 use Rattle.ts_section.specs.SectionRun.{stands_alone, IsMember, SharesHead, AllMembers, BeginsRun, IsTableRun, IsRunFault}

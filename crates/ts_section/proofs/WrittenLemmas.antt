@@ -1,7 +1,7 @@
 -- Sections put together from their parts.
-use Rattle.std.proofs.Common.{◌≡◌, ◌≢◌, ℕ, ◌+◌, ◌-◌, ◌*◌, ◌/◌, ◌%◌, ◌^◌, ◌<◌, ◌≤◌, List, [], ◌∷◌, ◌++◌, length, get_or, take, drop, Bool, true, false, eqb, refl, sym, ap, ◌∙◌, subst, arith, suc, zero, length-append, append_assoc, add-zero}
+use Rattle.std.proofs.Common.{◌≡◌, ℕ, ◌+◌, ◌-◌, ◌*◌, ◌/◌, ◌%◌, ◌^◌, ◌<◌, ◌≤◌, List, [], ◌∷◌, ◌++◌, length, take, drop, Bool, true, false, eqb, refl, sym, ap, ◌∙◌, subst, arith, suc, zero, length-append, append_assoc}
 use mir.Val.{bool_byte}
-use Rattle.std.specs.Prelude.{All, IsTrue, bit_or}
+use Rattle.std.specs.Prelude.{All, bit_or}
 use Rattle.std.proofs.Math.Seq.{take-append_seam, drop-append_seam}
 use Rattle.std.proofs.lemmas.Bool.{false≢true}
 use Rattle.std.proofs.lemmas.Nat.{or_shifted}
@@ -9,8 +9,7 @@ use Rattle.std.proofs.lemmas.List.Elements.{All-from_get_or, All-append}
 use Rattle.bit_rows.specs.BitRow.{bit_of, field}
 use Rattle.ts_bits.proofs.Fields.{bit_of-append_left, bit_of-append_right, field-append_left, field-append_right}
 use Rattle.ts_section.specs.Crc.{crc_of}
-use Rattle.ts_section.specs.SectionFields.{table_id_of, is_long, private_of, section_length_of, extension_of, version_of, current_of, number_of, last_number_of, head_fields, body_of}
-use Rattle.ts_section.specs.LawfulSection.{IsSection, IsLongForm}
+use Rattle.ts_section.specs.SectionFields.{table_id_of, is_long, section_length_of, number_of, last_number_of, head_fields, body_of}
 use Rattle.ts_section.specs.WrittenSection.{AreFirstBytes, AreLongBytes, IsLongSectionOf, IsShortSectionOf}
 use Rattle.ts_section.specs.declared.long_head.LongHead.{LongHead}
 use Rattle.ts_section.proofs.CrcLemmas.{crc_of-own}

@@ -1,7 +1,7 @@
 -- The sections of one whole table.
 -- ISO/IEC 13818-1, 2.4.4.11: section_number counts from 0 to last_section_number under one head.
 -- That a short section and an EIT section (ETSI EN 300 468, 5.2.4) are each a table by themselves is this project's own rule.
-use Rattle.std.specs.Prelude.{◌≡◌, ◌≢◌, ℕ, ◌+◌, ◌<◌, ◌≤◌, Bool, true, false, nat_le, not, ◌||◌, ◌&&◌, List, [], ◌∷◌, length, take, EachIndex, slice_index_or, ◌⊎◌}
+use Rattle.std.specs.Prelude.{◌≡◌, ℕ, ◌+◌, ◌<◌, ◌≤◌, Bool, true, false, nat_le, not, ◌||◌, ◌&&◌, List, [], ◌∷◌, length, take, EachIndex, slice_index_or, ◌⊎◌}
 use Rattle.ts_section.specs.SectionFields.{table_id_of, is_long, extension_of, version_of, current_of, number_of, last_number_of}
 use Rattle.ts_section.specs.declared.long_head.LongHead.{LongHead}
 

@@ -1,4 +1,4 @@
-//! Writing a few bits of a byte.
+//! Writing bits, a byte or several bytes of a packet; the sync byte cannot be reached.
 ghost use Rattle.std.specs.Prelude.{◌≡◌, ◌+◌, ◌*◌, ◌^◌, ◌<◌, ◌≤◌, length, slice_set};
 ghost use Rattle.bit_rows.specs.BitRow.{SetsField};
 ghost use Rattle.ts_packet.specs.Header.{byte_with, row_with};
@@ -9,7 +9,7 @@ use super::Packet;
 
 /// The byte with its `count` bits from place `first` on, highest first, replaced by `value`.
 #[inline]
-pub fn with_bits(byte: u8, first: u32, count: u32, value: u8) -> u8
+fn with_bits(byte: u8, first: u32, count: u32, value: u8) -> u8
     requires inside { first + count ≤ 8 }
     requires fits { value < 2 ^ count }
     ensures exact { result ≡ byte_with byte first count value }
@@ -24,7 +24,7 @@ pub fn with_bits(byte: u8, first: u32, count: u32, value: u8) -> u8
 impl Packet {
     /// Replaces `count` bits of the byte at `place`, from its bit `first` on.
     #[inline]
-    pub fn write_bits(&mut self, place: usize, first: u32, count: u32, value: u8)
+    pub(super) fn write_bits(&mut self, place: usize, first: u32, count: u32, value: u8)
         requires behind_sync { 0 < place }
         requires place_fits { place < 188 }
         requires inside { first + count ≤ 8 }
@@ -38,7 +38,7 @@ impl Packet {
 
     /// Replaces the byte at `place`.
     #[inline]
-    pub fn write_byte(&mut self, place: usize, value: u8)
+    pub(super) fn write_byte(&mut self, place: usize, value: u8)
         requires behind_sync { 0 < place }
         requires place_fits { place < 188 }
         ensures row { self.new ≡ slice_set self.old place value }
@@ -50,7 +50,7 @@ impl Packet {
 
     /// Lays a piece over the bytes from `at` on.
     #[inline]
-    pub fn write_bytes(&mut self, at: usize, piece: &[u8])
+    pub(super) fn write_bytes(&mut self, at: usize, piece: &[u8])
         requires behind_sync { 0 < at }
         requires fits { at + length piece.now ≤ 188 }
         ensures row { self.new ≡ with_piece self.old at piece.now }

@@ -7,8 +7,8 @@ ghost use Rattle.ts_packet.specs.Pcr.{has_pcr_of, clock_of, pcr_of, SetsPcr, clo
 use super::Packet;
 
 impl Packet {
-    #[tactic(auto, unfolding(crate::specs::Pcr::pcr_of))]
     /// The PCR, base times 300 plus extension, where a lawful adaptation field has one.
+    #[tactic(auto, unfolding(crate::specs::Pcr::pcr_of))]
     pub fn pcr(&self) -> Option<u64>
         ensures value { result ≡ pcr_of self.now }
         ensures range { IfSome result (λ value. value < 2 ^ 33 * 300 + 212) }
@@ -20,8 +20,8 @@ impl Packet {
         }
     }
 
-    #[tactic(auto, unfolding(crate::specs::Pcr::with_pcr))]
     /// Writes the PCR where the packet has one, with its six reserved bits as ones, and says whether it has.
+    #[tactic(auto, unfolding(crate::specs::Pcr::with_pcr))]
     pub fn set_pcr(&mut self, value: u64) -> bool
         requires { value < 2 ^ 33 * 300 }
         ensures outcome { result ≡ has_pcr_of self.old }

@@ -5,22 +5,18 @@ ghost use Rattle.ts_packet.specs.Payload.{payload_start_of, payload_of, with_pie
 
 use super::Packet;
 
-/// The greatest lawful adaptation field with a payload behind it.
-const LENGTH_WITH_PAYLOAD: u8 = 182;
-
 impl Packet {
     /// The place of the first payload byte, 4 to 187: 4 with no adaptation field, 5 and the field's length
     /// with a lawful one; else none.
-    #[tactic(auto, unfolding(bit_rows::specs::BitRow::field, bit_rows::specs::BitRow::bit_of, crate::specs::Payload::payload_start_of))]
+    #[tactic(auto, unfolding(crate::specs::Adaptation::adaptation_length_of, crate::specs::Payload::payload_start_of))]
     pub fn payload_start(&self) -> Option<u8>
         ensures place { result ≡ payload_start_of self.now }
         ensures least { IfSome result (λ place. 4 ≤ place) }
         ensures most { IfSome result (λ place. place ≤ 187) }
     {
-        let length = self.row[4];
         match self.adaptation_control() {
             1 => Some(4),
-            3 if length <= LENGTH_WITH_PAYLOAD => Some(5 + length),
+            3 => self.adaptation_length().map(|length| 5 + length),
             _ => None,
         }
     }

@@ -1,4 +1,4 @@
-use Rattle.std.proofs.Common.{◌≡◌, ℕ, ◌+◌, ◌-◌, ◌*◌, ◌/◌, ◌%◌, ◌^◌, ◌<◌, sym, ap, ◌∙◌, arith, suc}
+use Rattle.std.proofs.Common.{◌≡◌, ℕ, ◌+◌, ◌-◌, ◌*◌, ◌/◌, ◌%◌, ◌<◌, sym, ap, ◌∙◌, arith, suc}
 use Rattle.ts_bits.specs.Decimal.{packed}
 use Rattle.ts_bits.proofs.Digits.{packed-zero, packed-suc, packed-lt}
 use Rattle.ts_bits.proofs.decimal.+packed_digits.Goals as goal

@@ -1,6 +1,6 @@
-use Rattle.std.proofs.Common.{◌≡◌, ℕ, ◌+◌, ◌-◌, ◌*◌, ◌/◌, ◌^◌, ◌<◌, ◌≤◌, refl, sym, ap, ◌∙◌, arith, below_more, add-one}
+use Rattle.std.proofs.Common.{◌≡◌, ◌-◌, ◌*◌, ◌/◌, ◌^◌, ◌≤◌, refl, sym, arith, below_more, add-one}
 use Rattle.std.specs.Prelude.{bit_and}
-use Rattle.ts_bits.specs.Decimal.{decimal, half_byte}
+use Rattle.ts_bits.specs.Decimal.{half_byte}
 use Rattle.ts_bits.proofs.Digits.{decimal-zero, decimal-suc, decimal-lt_eight, masked_half_byte}
 use Rattle.ts_bits.proofs.decimal.bcd.Goals as goal
 

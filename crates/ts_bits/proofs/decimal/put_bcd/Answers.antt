@@ -1,4 +1,3 @@
-use Rattle.std.proofs.Common.{◌≡◌, ◌*◌, arith}
 use Rattle.ts_bits.proofs.Digits.{sets_decimal}
 use Rattle.ts_bits.proofs.decimal.put_bcd.Goals as goal
 

@@ -1,4 +1,4 @@
-use Rattle.std.proofs.Common.{◌≡◌, ◌+◌, ◌*◌, ◌%◌, ◌/◌, ◌<◌, get_or, eqb, sym, ap, subst, ◌∙◌, arith}
+use Rattle.std.proofs.Common.{◌≡◌, ◌%◌, ◌/◌, ◌<◌, get_or, eqb, sym, ap, subst, ◌∙◌, arith}
 use Rattle.ts_section.proofs.WrittenLemmas.{second_byte, first_bytes-are, bool_byte-lt, bool_byte-is}
 use Rattle.ts_section.proofs.section.first_bytes.Goals as goal
 

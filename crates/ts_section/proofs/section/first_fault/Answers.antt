@@ -1,4 +1,4 @@
-use Rattle.std.proofs.Common.{◌≡◌, ◌≢◌, ℕ, ◌+◌, List, length, get_or, Some, sym, ap, ◌∙◌, arith}
+use Rattle.std.proofs.Common.{◌≢◌, ℕ, ◌+◌, List, length, get_or, Some, sym, ap, ◌∙◌, arith}
 use Rattle.ts_section.specs.SectionFields.{table_id_of}
 use Rattle.ts_section.specs.declared.fault.SectionFault.TheVariants.{Short, TooLong}
 use Rattle.ts_section.proofs.HeadBytes.{IsBytes, table_id-byte}

@@ -1,4 +1,4 @@
-use Rattle.std.proofs.Common.{◌≡◌, sym}
+use Rattle.std.proofs.Common.{sym}
 use Rattle.ts_section.proofs.HeadBytes.{head-bytes}
 use Rattle.ts_section.proofs.section.long_head.Goals as goal
 

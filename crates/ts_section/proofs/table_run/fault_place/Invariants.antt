@@ -1,4 +1,4 @@
-use Rattle.std.proofs.Common.{ℕ, ◌+◌, ◌<◌, ◌≤◌, [], get_or}
+use Rattle.std.proofs.Common.{ℕ, ◌<◌, ◌≤◌, [], get_or}
 use Rattle.ts_section.specs.LawfulSection.{IsSection}
 use Rattle.ts_section.proofs.RunLemmas.{MembersBelow}
 use Rattle.ts_section.proofs.table_run.fault_place.Given as goal

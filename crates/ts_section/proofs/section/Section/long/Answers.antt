@@ -1,4 +1,4 @@
-use Rattle.std.proofs.Common.{ℕ, List, arith}
+use Rattle.std.proofs.Common.{arith}
 use Rattle.ts_section.proofs.WrittenLemmas.{long_made}
 use Rattle.ts_section.proofs.section.Section.long.Goals as goal
 

@@ -1,4 +1,3 @@
-use Rattle.std.proofs.Common.{ℕ}
 use Rattle.ts_section.proofs.WrittenLemmas.{short_made}
 use Rattle.ts_section.proofs.section.Section.short.Goals as goal
 

@@ -1,4 +1,4 @@
-use Rattle.std.proofs.Common.{◌≡◌, get_or, sym, ap, ◌∙◌}
+use Rattle.std.proofs.Common.{get_or, sym, ap, ◌∙◌}
 use Rattle.ts_section.specs.SectionFields.{table_id_of}
 use Rattle.ts_section.proofs.HeadBytes.{IsBytes-section, table_id-byte}
 use Rattle.ts_section.proofs.section.Section.table_id.Goals as goal

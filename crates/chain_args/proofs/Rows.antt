@@ -1,0 +1,50 @@
+-- Worked rows of words, on the definitions alone.
+use Rattle.std.proofs.Common.{◌≡◌, [], ◌∷◌, Some, codes, false, refl}
+use Rattle.clap.proofs.OnLiterals.{clap_on_literals}
+use Rattle.plug_conf.specs.declared.plugin_conf.PluginConf.TheVariants.{Filter}
+use Rattle.chain_args.specs.Number.{number_of, number_within}
+use Rattle.chain_args.specs.Options.{findings, has_flag, is_taken, value_of, values_of}
+use Rattle.chain_args.specs.Pairs.{pair_of}
+use Rattle.chain_args.specs.PlanOf.{plan_of}
+use Rattle.chain_args.specs.Ranges.{range_of, ranges_of}
+use Rattle.chain_args.specs.Rules.{first_fault, first_word_fault}
+use Rattle.chain_args.specs.Segments.{cut}
+use Rattle.chain_args.specs.declared.input_conf.InputConf.TheVariants.{Null}
+use Rattle.chain_args.specs.declared.output_conf.OutputConf.TheVariants.{Drop}
+use Rattle.chain_args.specs.declared.words_rule.WordsRule.TheVariants.{Missing, Shape}
+
+-- `filter` with no condition
+no-condition : first_word_fault (codes "-I" ∷ codes "null" ∷ codes "2" ∷ codes "-P" ∷ codes "filter" ∷ codes "-O" ∷ codes "drop" ∷ []) ≡ Some (3, Missing)
+unfolding clap_on_literals cut findings first_fault first_word_fault has_flag is_taken number_of number_within pair_of plan_of range_of ranges_of value_of values_of
+no-condition = refl
+
+-- an option that stands twice
+twice-the-pid : first_word_fault (codes "-I" ∷ codes "null" ∷ codes "2" ∷ codes "-P" ∷ codes "filter" ∷ codes "--pid" ∷ codes "1" ∷ codes "--pid" ∷ codes "2" ∷ []) ≡ Some (3, Shape)
+unfolding clap_on_literals cut findings first_fault first_word_fault has_flag is_taken number_of number_within pair_of plan_of range_of ranges_of value_of values_of
+twice-the-pid = refl
+
+-- a number in hexadecimal digits
+hexadecimal-pid : plan_of (codes "-I" ∷ codes "null" ∷ codes "4" ∷ codes "-P" ∷ codes "filter" ∷ codes "--pid=0x1FFF" ∷ codes "-O" ∷ codes "drop" ∷ [])
+    ≡ Some (record {
+      general = record {
+        add_start_stuffing = 0;
+        add_stop_stuffing = 0;
+        add_input_stuffing = (0, 1);
+        buffer_packets = 89240;
+        max_flushed_packets = 10000;
+        max_input_packets = 10000;
+        ignore_joint_termination = false;
+      };
+      input = Null 4;
+      plugins = Filter (record {
+        pid = (8191, 8191) ∷ [];
+        pcr = false;
+        unit_start = false;
+        scrambled = false;
+        negate = false;
+        stuffing = false;
+      }) ∷ [];
+      output = Drop;
+    })
+unfolding clap_on_literals cut findings first_fault first_word_fault has_flag is_taken number_of number_within pair_of plan_of range_of ranges_of value_of values_of
+hexadecimal-pid = refl

@@ -1,0 +1,51 @@
+-- The general options.
+-- This project's own rule.
+use Rattle.std.specs.Prelude.{ℕ, List, [], ◌∷◌, codes, true, unwrap_or}
+use Rattle.clap.specs.Walk.{Row}
+use Rattle.chain_args.specs.Forms.{number, pair}
+use Rattle.chain_args.specs.Number.{number_within}
+use Rattle.chain_args.specs.Options.{OptionRow, flag, has_flag, read_value, value}
+use Rattle.chain_args.specs.Pairs.{pair_of}
+use Rattle.chain_args.specs.Profile.{Profile}
+use Rattle.chain_args.specs.declared.general_conf.GeneralConf.{GeneralConf}
+
+-- the byte `/`
+abbrev pub slash : ℕ
+slash = 47
+
+abbrev pub general_rows : List OptionRow
+general_rows = record { name = codes "add-start-stuffing"; kind = value (number 0 1000000) }
+    ∷ record { name = codes "add-stop-stuffing"; kind = value (number 0 1000000) }
+    ∷ record { name = codes "add-input-stuffing"; kind = value (pair slash (0, 1000) (1, 1000000)) }
+    ∷ record { name = codes "buffer-packets"; kind = value (number 1 1000000) }
+    ∷ record { name = codes "max-flushed-packets"; kind = value (number 1 1000000) }
+    ∷ record { name = codes "max-input-packets"; kind = value (number 1 1000000) }
+    ∷ record { name = codes "ignore-joint-termination"; kind = flag }
+    ∷ []
+
+-- each general option, or what holds where it is not given
+abbrev pub general_settings : List Row → GeneralConf
+general_settings found = record {
+  add_start_stuffing =
+      unwrap_or (read_value (number_within 0 1000000) (codes "add-start-stuffing") found) 0;
+  add_stop_stuffing =
+      unwrap_or (read_value (number_within 0 1000000) (codes "add-stop-stuffing") found) 0;
+  add_input_stuffing = unwrap_or
+      (read_value (pair_of slash (0, 1000) (1, 1000000)) (codes "add-input-stuffing") found) (0, 1);
+  buffer_packets =
+      unwrap_or (read_value (number_within 1 1000000) (codes "buffer-packets") found) 89240;
+  max_flushed_packets =
+      unwrap_or (read_value (number_within 1 1000000) (codes "max-flushed-packets") found) 10000;
+  max_input_packets =
+      unwrap_or (read_value (number_within 1 1000000) (codes "max-input-packets") found) 10000;
+  ignore_joint_termination = has_flag (codes "ignore-joint-termination") found;
+}
+
+-- none has to be given, and any go together
+abbrev pub general : Profile GeneralConf
+general = record {
+  rows = general_rows;
+  has_needed = λ found. true;
+  settings = general_settings;
+  go_together = λ conf. true;
+}

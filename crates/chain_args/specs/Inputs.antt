@@ -1,0 +1,41 @@
+-- The inputs: `file [NAME]` and `null N`.
+-- This project's own rule.
+use Rattle.std.specs.Prelude.{ℕ, List, [], ◌∷◌, None, Option, Some, codes, if◌then◌else◌, true, unwrap_or}
+use Rattle.std.specs.Str.{bytes_eq}
+use Rattle.chain_args.specs.Forms.{number, text}
+use Rattle.chain_args.specs.Number.{number_within}
+use Rattle.chain_args.specs.Options.{has_value, operand, read_value, value_of}
+use Rattle.chain_args.specs.Profile.{Profile}
+use Rattle.chain_args.specs.declared.input_words.InputKind.{InputKind}
+use Rattle.chain_args.specs.declared.input_words.InputKind.TheVariants as kind
+use Rattle.chain_args.specs.declared.input_conf.InputConf.{InputConf}
+use Rattle.chain_args.specs.declared.input_conf.InputConf.TheVariants.{File, Null}
+
+-- `file`: a name; without one, or where it is empty, standard input
+abbrev pub file_input : Profile InputConf
+file_input = record {
+  rows = record { name = codes "name"; kind = operand text } ∷ [];
+  has_needed = λ found. true;
+  settings = λ found. File (unwrap_or (value_of (codes "name") found) []);
+  go_together = λ conf. true;
+}
+
+-- `null`: so many packets, 0 to 2^40
+abbrev pub null_input : Profile InputConf
+null_input = record {
+  rows = record { name = codes "count"; kind = operand (number 0 1099511627776) } ∷ [];
+  has_needed = has_value (codes "count");
+  settings = λ found.
+      Null (unwrap_or (read_value (number_within 0 1099511627776) (codes "count") found) 0);
+  go_together = λ conf. true;
+}
+
+-- the inputs by their names
+abbrev pub input_kind_named : List ℕ → Option InputKind
+input_kind_named name = if bytes_eq name (codes "file") then Some kind.File
+    else (if bytes_eq name (codes "null") then Some kind.Null else None)
+
+-- what each takes
+abbrev pub profile_of_input : InputKind → Profile InputConf
+profile_of_input kind.File = file_input
+profile_of_input kind.Null = null_input

@@ -1,0 +1,69 @@
+ghost use Rattle.std.specs.Prelude.{◌≡◌, IfOk, map};
+ghost use Rattle.std.specs.String.{string_bytes};
+ghost use Rattle.clap.specs.Simple.{app_of};
+ghost use Rattle.chain_args.specs.General.{general, general_rows};
+ghost use Rattle.chain_args.specs.LawfulPlan.{IsLawfulGeneral};
+ghost use Rattle.chain_args.specs.Options.{command_of};
+ghost use Rattle.chain_args.specs.Refusal.{Reads, ReadsFindings};
+
+use crate::commands::{new_command, with_flag, with_value};
+use crate::findings::Findings;
+use crate::general_conf::GeneralConf;
+use crate::refusal::Refusal;
+use clap::Command;
+use std::alloc::{AllocError, Global};
+
+/// The most packets of one stuffing, of the buffer, and of one turn of a stage.
+const MOST_PACKETS: u64 = 1_000_000;
+
+/// The most null packets that are put between packets of the input.
+const MOST_BETWEEN: u64 = 1_000;
+
+/// How many packets the buffer holds where nothing is said: about 17 megabytes.
+const DEFAULT_BUFFER: u64 = 89_240;
+
+/// How many packets a stage takes at a time where nothing is said.
+const DEFAULT_TURN: u64 = 10_000;
+
+fn general_command<'a>(alloc: Global) -> Result<Command<'a>, AllocError>
+    ensures { IfOk result (λ c. app_of c ≡ command_of general_rows) }
+{
+    let command = with_value(alloc, new_command(alloc), "add-start-stuffing")?;
+    let command = with_value(alloc, command, "add-stop-stuffing")?;
+    let command = with_value(alloc, command, "add-input-stuffing")?;
+    let command = with_value(alloc, command, "buffer-packets")?;
+    let command = with_value(alloc, command, "max-flushed-packets")?;
+    let command = with_value(alloc, command, "max-input-packets")?;
+    with_flag(alloc, command, "ignore-joint-termination")
+}
+
+fn general_settings(found: &Findings) -> Result<GeneralConf, Refusal>
+    ensures reads { ReadsFindings general found.now result }
+    ensures lawful { IfOk result IsLawfulGeneral }
+{
+    let most = MOST_PACKETS;
+    let add_start_stuffing = found.number_or("add-start-stuffing", 0, most, 0)?;
+    let add_stop_stuffing = found.number_or("add-stop-stuffing", 0, most, 0)?;
+    let between = found.pair("add-input-stuffing", '/', (0, MOST_BETWEEN), (1, most))?;
+    let buffer_packets = found.number_or("buffer-packets", 1, most, DEFAULT_BUFFER)?;
+    let max_flushed_packets = found.number_or("max-flushed-packets", 1, most, DEFAULT_TURN)?;
+    let max_input_packets = found.number_or("max-input-packets", 1, most, DEFAULT_TURN)?;
+    Ok(GeneralConf {
+        add_start_stuffing,
+        add_stop_stuffing,
+        add_input_stuffing: between.unwrap_or((0, 1)),
+        buffer_packets,
+        max_flushed_packets,
+        max_input_packets,
+        ignore_joint_termination: found.has_flag("ignore-joint-termination"),
+    })
+}
+
+/// Reads the words before the first segment.
+pub(crate) fn read_general(alloc: Global, words: &[String]) -> Result<GeneralConf, Refusal>
+    ensures reads { Reads general (map string_bytes words.now) result }
+    ensures lawful { IfOk result IsLawfulGeneral }
+{
+    let found = Findings::of(general_command(alloc)?, words)?;
+    general_settings(&found)
+}

@@ -1,0 +1,78 @@
+ghost use Rattle.std.specs.Prelude.{◌≡◌, IfOk, map, option_map};
+ghost use Rattle.std.specs.String.{string_bytes};
+ghost use Rattle.clap.specs.Simple.{app_of};
+ghost use Rattle.chain_args.specs.Inputs.{file_input, input_kind_named, null_input, profile_of_input};
+ghost use Rattle.chain_args.specs.LawfulPlan.{IsLawfulInput};
+ghost use Rattle.chain_args.specs.Options.{command_of};
+ghost use Rattle.chain_args.specs.Profile.{Profile};
+ghost use Rattle.chain_args.specs.Refusal.{Reads, ReadsFindings};
+
+use crate::commands::{new_command, with_operand};
+use crate::findings::Findings;
+use crate::input_conf::InputConf;
+use crate::refusal::Refusal;
+use crate::words_rule::WordsRule;
+use std::alloc::Global;
+
+/// The most packets of `null`, 2^40.
+const MOST_NULLS: u64 = 1 << 40;
+
+/// The inputs by name.
+#[derive(Clone, Copy)]
+pub(crate) enum InputKind {
+    File,
+    Null,
+}
+
+impl InputKind {
+    /// The input of this name.
+    pub(crate) fn of(name: &str) -> Option<InputKind>
+        ensures { result ≡ input_kind_named name.now }
+    {
+        match name {
+            "file" => Some(InputKind::File),
+            "null" => Some(InputKind::Null),
+            _ => None,
+        }
+    }
+
+    /// Reads the words after the name.
+    pub(crate) fn read(self, alloc: Global, words: &[String]) -> Result<InputConf, Refusal>
+        ensures reads { Reads (profile_of_input self) (map string_bytes words.now) result }
+        ensures lawful { IfOk result IsLawfulInput }
+    {
+        match self {
+            InputKind::File => read_file(alloc, words),
+            InputKind::Null => read_null(alloc, words),
+        }
+    }
+}
+
+fn read_file(alloc: Global, words: &[String]) -> Result<InputConf, Refusal>
+    ensures reads { Reads file_input (map string_bytes words.now) result }
+    ensures lawful { IfOk result IsLawfulInput }
+{
+    let command = with_operand(alloc, new_command(alloc), "name")?;
+    let found = Findings::of(command, words)?;
+    Ok(InputConf::File(found.text(alloc, "name")?))
+}
+
+fn read_null(alloc: Global, words: &[String]) -> Result<InputConf, Refusal>
+    ensures reads { Reads null_input (map string_bytes words.now) result }
+    ensures lawful { IfOk result IsLawfulInput }
+{
+    let command = with_operand(alloc, new_command(alloc), "count")?;
+    let found = Findings::of(command, words)?;
+    null_settings(&found)
+}
+
+fn null_settings(found: &Findings) -> Result<InputConf, Refusal>
+    ensures reads { ReadsFindings null_input found.now result }
+    ensures lawful { IfOk result IsLawfulInput }
+{
+    if !found.has_value("count") {
+        return Err(Refusal::Broken(WordsRule::Missing));
+    }
+    let count = found.number("count", 0, MOST_NULLS)?;
+    Ok(InputConf::Null(count.unwrap_or(0)))
+}

@@ -1,0 +1,38 @@
+//! The command line of `tsp`: words come in, a plan of the chain or the first broken rule goes out.
+//! The layer above uses `plan`, which answers `plan_of` of the words, else `first_word_fault`.
+#![tactic(auto)]
+
+mod commands;
+mod filter_words;
+mod findings;
+mod general_conf;
+mod general_words;
+mod input_conf;
+mod input_words;
+mod number;
+mod output_conf;
+mod output_words;
+mod pairs;
+mod parts;
+mod plan_of_words;
+mod plan_type;
+mod plugin_list;
+mod plugin_words;
+mod ranges;
+mod refusal;
+mod segments;
+mod signs;
+mod words_fault;
+mod words_rule;
+
+pub use general_conf::GeneralConf;
+pub use input_conf::InputConf;
+pub use output_conf::OutputConf;
+pub use plan_of_words::plan;
+pub use plan_type::Plan;
+pub use plugin_list::PluginList;
+pub use words_fault::WordsFault;
+pub use words_rule::WordsRule;
+
+#[cfg(test)]
+mod tests;

@@ -1,0 +1,10 @@
+use ts_outside::NameText;
+
+/// Where the packets go.
+#[derive(Drop, Debug)]
+pub enum OutputConf {
+    /// A file; the empty name is standard output.
+    File(NameText),
+    /// Nowhere.
+    Drop,
+}

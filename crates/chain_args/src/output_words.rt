@@ -1,0 +1,56 @@
+ghost use Rattle.std.specs.Prelude.{◌≡◌, map};
+ghost use Rattle.std.specs.String.{string_bytes};
+ghost use Rattle.chain_args.specs.Outputs.{drop_output, file_output, output_kind_named, profile_of_output};
+ghost use Rattle.chain_args.specs.Profile.{Profile};
+ghost use Rattle.chain_args.specs.Refusal.{Reads};
+
+use crate::commands::{new_command, with_operand};
+use crate::findings::Findings;
+use crate::output_conf::OutputConf;
+use crate::refusal::Refusal;
+use std::alloc::Global;
+
+/// The outputs by name.
+#[derive(Clone, Copy)]
+pub(crate) enum OutputKind {
+    File,
+    Drop,
+}
+
+impl OutputKind {
+    /// The output of this name.
+    pub(crate) fn of(name: &str) -> Option<OutputKind>
+        ensures { result ≡ output_kind_named name.now }
+    {
+        match name {
+            "file" => Some(OutputKind::File),
+            "drop" => Some(OutputKind::Drop),
+            _ => None,
+        }
+    }
+
+    /// Reads the words after the name.
+    pub(crate) fn read(self, alloc: Global, words: &[String]) -> Result<OutputConf, Refusal>
+        ensures { Reads (profile_of_output self) (map string_bytes words.now) result }
+    {
+        match self {
+            OutputKind::File => read_file(alloc, words),
+            OutputKind::Drop => read_drop(alloc, words),
+        }
+    }
+}
+
+fn read_file(alloc: Global, words: &[String]) -> Result<OutputConf, Refusal>
+    ensures { Reads file_output (map string_bytes words.now) result }
+{
+    let command = with_operand(alloc, new_command(alloc), "name")?;
+    let found = Findings::of(command, words)?;
+    Ok(OutputConf::File(found.text(alloc, "name")?))
+}
+
+fn read_drop(alloc: Global, words: &[String]) -> Result<OutputConf, Refusal>
+    ensures { Reads drop_output (map string_bytes words.now) result }
+{
+    let _found = Findings::of(new_command(alloc), words)?;
+    Ok(OutputConf::Drop)
+}

@@ -1,0 +1,59 @@
+ghost use Rattle.std.specs.Prelude.{◌≡◌, ◌+◌, ◌<◌, ◌^◌, [], IfErr, IfOk, MatchResult, None, Some, length, map};
+ghost use Rattle.std.specs.String.{string_bytes};
+ghost use Rattle.chain_args.specs.LawfulPlan.{IsLawfulPlan};
+ghost use Rattle.chain_args.specs.Parts.{RefusesBy, StandsFor};
+ghost use Rattle.chain_args.specs.PlanOf.{plan_of};
+ghost use Rattle.chain_args.specs.Rules.{first_fault};
+ghost use Rattle.chain_args.specs.Segments.{general_words, segments};
+ghost use Rattle.chain_args.specs.WordsFault.{FaultsBy, IsFirstFault};
+
+use crate::general_words::read_general;
+use crate::parts::Parts;
+use crate::plan_type::Plan;
+use crate::segments::cut_at_segment;
+use crate::words_fault::WordsFault;
+use std::alloc::Global;
+
+/// The plan of a command line, whose words are given without the program's name.
+///
+/// The general options come first. After them each `-I`, `-P` and `-O` begins a segment, with a
+/// name, options and operands. Where a rule is broken the answer is the first one that the first
+/// faulty segment breaks, in the order of `WordsRule`, with the number of the segment's first word.
+/// `NoMemory` comes where memory ran out before that was known.
+pub fn plan(alloc: Global, words: &[String]) -> Result<Plan, WordsFault>
+    ensures plan { IfOk result (λ p. plan_of (map string_bytes words.now) ≡ Some p) }
+    ensures fault { IfErr result (IsFirstFault (map string_bytes words.now)) }
+    ensures lawful { IfOk result IsLawfulPlan }
+{
+    let (own, rest) = cut_at_segment(words);
+    let general = match read_general(alloc, own) {
+        Ok(general) => general,
+        Err(refusal) => return Err(refusal.at(0)),
+    };
+    let parts = read_segments(alloc, own.len(), rest)?;
+    Ok(parts.into_plan(alloc, general))
+}
+
+/// Reads the segments of words that begin with one, the first of them as word number `at`.
+fn read_segments(alloc: Global, at: usize, words: &[String]) -> Result<Parts, WordsFault>
+    requires begins { general_words (map string_bytes words.now) ≡ [] }
+    requires fits { at + length words.now < 2 ^ 64 }
+    ensures { MatchResult result
+        (λ parts. (first_fault [] at (segments (map string_bytes words.now)) ≡ None)
+        × StandsFor parts (segments (map string_bytes words.now)))
+        (FaultsBy (first_fault [] at (segments (map string_bytes words.now)))) }
+{
+    let mut parts = Parts::new(alloc);
+    let mut at = at;
+    let mut rest = words;
+    while let Some((first, after)) = rest.split_first() {
+        let (others, next) = cut_at_segment(after);
+        match parts.add(alloc, first.as_str(), others) {
+            Ok(()) => {}
+            Err(refusal) => return Err(refusal.at(at)),
+        }
+        at += 1 + others.len();
+        rest = next;
+    }
+    Ok(parts)
+}

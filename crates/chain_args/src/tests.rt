@@ -1,0 +1,137 @@
+use crate::{InputConf, OutputConf, Plan, WordsFault, WordsRule, plan};
+use plug_conf::PluginConf;
+use std::alloc::Global;
+use std::test::Fail;
+
+// The words of a line, cut at each blank. No line at all is no word.
+fn words_of(alloc: Global, line: &str) -> Result<Vec<String>, Fail> {
+    let mut words = Vec::new(alloc);
+    if !line.is_empty() {
+        for word in line.split(' ') {
+            words.push(String::from_str(alloc, word)?)?;
+        }
+    }
+    Ok(words)
+}
+
+fn plan_of_line(alloc: Global, line: &str) -> Result<Result<Plan, WordsFault>, Fail> {
+    let words = words_of(alloc, line)?;
+    Ok(plan(alloc, words.as_slice()))
+}
+
+#[test]
+fn first_broken_rules(rt: HostRuntime) -> Result<(), Fail> {
+    let rows = [
+        ("-I null 2 -P filter -O drop", 3, WordsRule::Missing),
+        ("-I null 2 -I null 3", 3, WordsRule::Twice),
+        ("-I null 2 -P", 3, WordsRule::NoName),
+        ("-I null 2 -P filter --pid 8192", 3, WordsRule::Value),
+        ("-I null 2 -P filter --pid 1 --pid 2", 3, WordsRule::Shape),
+        ("-I file A -P nosuch -O drop", 3, WordsRule::UnknownPlugin),
+        ("--buffer-packets 0", 0, WordsRule::Value),
+        ("-I null 1 -I", 3, WordsRule::Twice),
+        ("-P filter --pcr -I -O drop", 3, WordsRule::NoName),
+        ("-P -x", 0, WordsRule::UnknownPlugin),
+        ("-P ", 0, WordsRule::UnknownPlugin),
+        ("-P nosuch -I null", 0, WordsRule::UnknownPlugin),
+        ("-I null -P nosuch", 0, WordsRule::Missing),
+        ("-I testgen 1 1000", 0, WordsRule::UnknownPlugin),
+        ("filter", 0, WordsRule::Shape),
+        ("--help", 0, WordsRule::Shape),
+        ("-O drop x", 0, WordsRule::Shape),
+        ("-I null 2 3", 0, WordsRule::Shape),
+    ];
+    for (line, word, rule) in rows {
+        let fault = plan_of_line(rt.alloc(), line)?.err();
+        assert!(rt; fault == Some(WordsFault::At { word, rule }), "{line}");
+    }
+    Ok(())
+}
+
+#[test]
+fn forms_of_values(rt: HostRuntime) -> Result<(), Fail> {
+    let rows = [
+        ("-P filter --pid -x", Some(WordsRule::Shape)),
+        ("-P filter --pid --", Some(WordsRule::Shape)),
+        ("-P filter --pc", Some(WordsRule::Shape)),
+        ("-P filter --pcr=", Some(WordsRule::Shape)),
+        ("-P filter -- --pcr", Some(WordsRule::Shape)),
+        ("-P filter --pid=-1", Some(WordsRule::Value)),
+        ("-P filter --pid -", Some(WordsRule::Value)),
+        ("-P filter --pid=", Some(WordsRule::Value)),
+        ("-P filter --pid ", Some(WordsRule::Value)),
+        ("-P filter --pid +1", Some(WordsRule::Value)),
+        ("-P filter --pid 0X10", Some(WordsRule::Value)),
+        ("-P filter --pid 0x", Some(WordsRule::Value)),
+        ("-P filter --pid 5-3", Some(WordsRule::Value)),
+        ("-P filter --pid 1,,2", Some(WordsRule::Value)),
+        ("-P filter --pid 1-2-3", Some(WordsRule::Value)),
+        ("-I null 1099511627777", Some(WordsRule::Value)),
+        ("-I null 99999999999999999999", Some(WordsRule::Value)),
+        ("--add-input-stuffing 1=2", Some(WordsRule::Value)),
+        ("--add-input-stuffing 1/0", Some(WordsRule::Value)),
+        ("--", None),
+        ("", None),
+        ("-P filter --pcr --", None),
+        ("-P filter --pid 0x1fFf,0-3,0007", None),
+        ("-I null 0x10000000000", None),
+        ("-I file ", None),
+        ("-I file -", None),
+    ];
+    for (line, rule) in rows {
+        let fault = plan_of_line(rt.alloc(), line)?.err();
+        let wanted = rule.map(|rule| WordsFault::At { word: 0, rule });
+        assert!(rt; fault == wanted, "{line}");
+    }
+    Ok(())
+}
+
+#[test]
+fn a_whole_plan(rt: HostRuntime) -> Result<(), Fail> {
+    let line = "--add-input-stuffing 1/2 --buffer-packets=7 --ignore-joint-termination -I null 4 -P filter --pid 0x1FFF,5-7 --negate -O drop";
+    let Ok(plan) = plan_of_line(rt.alloc(), line)? else {
+        return Err(Fail::from("a plan"));
+    };
+    assert!(rt; plan.general.add_input_stuffing == (1, 2));
+    assert!(rt; plan.general.buffer_packets == 7 && plan.general.ignore_joint_termination);
+    assert!(rt; matches!(plan.input, InputConf::Null(4)));
+    assert!(rt; matches!(plan.output, OutputConf::Drop));
+    let [PluginConf::Filter(filter)] = plan.plugins.as_slice() else {
+        return Err(Fail::from("one filter"));
+    };
+    assert!(rt; filter.pid.as_slice() == [(8191, 8191), (5, 7)].as_slice());
+    assert!(rt; filter.negate && !filter.pcr && !filter.stuffing);
+    Ok(())
+}
+
+#[test]
+fn what_holds_without_words(rt: HostRuntime) -> Result<(), Fail> {
+    let Ok(plan) = plan_of_line(rt.alloc(), "")? else {
+        return Err(Fail::from("a plan"));
+    };
+    assert!(rt; plan.general.buffer_packets == 89_240);
+    assert!(rt; plan.general.max_flushed_packets == 10_000);
+    assert!(rt; plan.general.max_input_packets == 10_000);
+    assert!(rt; plan.general.add_input_stuffing == (0, 1));
+    assert!(rt; matches!(&plan.input, InputConf::File(name) if name.as_str().is_empty()));
+    assert!(rt; matches!(&plan.output, OutputConf::File(name) if name.as_str().is_empty()));
+    assert!(rt; plan.plugins.as_slice().is_empty());
+    Ok(())
+}
+
+#[test]
+fn the_63rd_plugin(rt: HostRuntime) -> Result<(), Fail> {
+    let mut words = Vec::new(rt.alloc());
+    for _ in 0..63 {
+        for word in ["-P", "filter", "--pcr"] {
+            words.push(String::from_str(rt.alloc(), word)?)?;
+        }
+    }
+    let fault = WordsFault::At {
+        word: 186,
+        rule: WordsRule::TooMany,
+    };
+    assert!(rt; plan(rt.alloc(), words.as_slice()).err() == Some(fault));
+    assert!(rt; plan(rt.alloc(), &words[..186]).is_ok());
+    Ok(())
+}

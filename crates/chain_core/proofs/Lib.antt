@@ -1,0 +1,14 @@
+pub mod Facts
+pub mod Stepping
+pub mod Soundness
+pub mod ListsKept
+pub mod Endings
+pub mod Members
+pub mod Closing
+pub mod Theorem
+pub mod SetLaws
+pub mod LimitLaws
+pub mod RowLaws
+pub mod CoreLaws
+pub mod VisitLaws
+pub mod Rows

@@ -1,0 +1,68 @@
+//! The limit: where joint termination cuts the chain.
+
+ghost use Rattle.std.specs.Prelude.{◌≡◌, Option, map, IsTrue, min, max, ◌≤◌};
+ghost use Rattle.chain_model.specs.Cut.{lesser_end};
+ghost use Rattle.chain_model.specs.Joint.{greatest_if_all};
+ghost use Rattle.chain_core.specs.Stages.{stages_of};
+ghost use Rattle.chain_core.specs.Close.{lesser_if};
+ghost use Rattle.chain_core.specs.CoreNumbers.{mark_in, greatest_more};
+
+use crate::{Mark, StageSet};
+
+/// The greatest agreement of the users, once each of them has one.
+pub(crate) fn limit_of(users: StageSet, marks: &[Mark]) -> Option<u64>
+    ensures { result ≡ greatest_if_all (map (λ k. (mark_in marks.now k).agreed) (stages_of users)) }
+{
+    let mut asked = false;
+    let mut limit = None;
+    for stage in 0..64 {
+        if users.has(stage) {
+            limit = joined(asked, limit, agreed_at(marks, stage));
+            asked = true;
+        }
+    }
+    limit
+}
+
+// The agreement that is known of a stage.
+fn agreed_at(marks: &[Mark], stage: usize) -> Option<u64>
+    ensures { result ≡ (mark_in marks.now stage).agreed }
+{
+    match marks.get(stage) {
+        Some(mark) => mark.agreed,
+        None => None,
+    }
+}
+
+// The greatest of those so far and one more, if none of them is wanting.
+fn joined(asked: bool, so_far: Option<u64>, agreed: Option<u64>) -> Option<u64>
+    ensures { result ≡ greatest_more asked so_far agreed }
+{
+    if !asked {
+        return agreed;
+    }
+    match (so_far, agreed) {
+        (Some(m), Some(n)) => Some(m.max(n)),
+        _ => None,
+    }
+}
+
+/// The lesser of a number and the limit, where there is one.
+pub(crate) fn within_limit(n: u64, limit: Option<u64>) -> u64
+    ensures { result ≡ lesser_end n limit }
+{
+    match limit {
+        Some(limit) => n.min(limit),
+        None => n,
+    }
+}
+
+/// The lesser of a number that may be wanting and a number.
+pub(crate) fn lesser(least: Option<u64>, n: u64) -> u64
+    ensures { result ≡ lesser_if least n }
+{
+    match least {
+        Some(m) => m.min(n),
+        None => n,
+    }
+}

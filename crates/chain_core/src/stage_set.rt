@@ -1,0 +1,36 @@
+ghost use Rattle.std.specs.Prelude.{◌≡◌, ℕ, ◌<◌, [], ◌∷◌, ◌++◌, ◌==◌, ◌||◌, All};
+
+/// A set of stage numbers below 64.
+#[derive(Clone, Copy)]
+pub struct StageSet {
+    bits: u64,
+}
+
+impl StageSet {
+    ghost use Rattle.chain_core.specs.Stages.{has_stage, stages_of};
+
+    /// No stage at all.
+    pub fn none() -> StageSet
+        ensures { stages_of result ≡ [] }
+    {
+        StageSet { bits: 0 }
+    }
+
+    /// The set with this stage too. A stage above all others comes last.
+    pub fn with(self, stage: usize) -> StageSet
+        requires { stage < 64 }
+        ensures has { (k : ℕ) → has_stage result k ≡ (k == stage || has_stage self k) }
+        ensures above { All (λ k. k < stage) (stages_of self) → stages_of result ≡ stages_of self ++ stage ∷ [] }
+    {
+        StageSet {
+            bits: self.bits | (1 << stage),
+        }
+    }
+
+    /// Whether this stage is in the set.
+    pub fn has(&self, stage: usize) -> bool
+        ensures { result ≡ has_stage self.now stage }
+    {
+        stage < 64 && (self.bits >> stage) & 1 == 1
+    }
+}

@@ -1,0 +1,7 @@
+pub mod InputLemmas
+pub mod PrefixLemmas
+pub mod LiveLemmas
+pub mod ApplyLaws
+pub mod AgreementLaws
+pub mod GreatestLaws
+pub mod Rows

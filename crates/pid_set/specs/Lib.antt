@@ -1,0 +1,2 @@
+pub mod PidTable
+pub mod Selection

@@ -1,0 +1,11 @@
+pub mod Continuity
+pub mod Count
+pub mod Filter
+pub mod Lawful
+pub mod Limits
+pub mod NumberSet
+pub mod Pattern
+pub mod Remap
+pub mod Skip
+pub mod Slice
+pub mod Until

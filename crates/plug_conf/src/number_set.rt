@@ -1,0 +1,60 @@
+ghost use Rattle.std.specs.Prelude.{◌≡◌, ◌==◌, length};
+ghost use Rattle.std.specs.List.{All};
+ghost use Rattle.plug_conf.specs.NumberSet.{IsOrderedPair, has_number};
+
+use std::marker::Model;
+
+/// A set of numbers, kept as ranges and seen as the list of their pairs of a least and a most.
+///
+/// An option that is not given leaves an empty set.
+#[derive(Drop, Debug)]
+pub struct NumberSet {
+    pairs: Vec<(u64, u64)>,
+}
+
+impl Model for NumberSet {
+    ghost use Rattle.std.specs.Prelude.{List, ℕ};
+    ghost use Rattle.std.specs.List.{All};
+    ghost use Rattle.plug_conf.specs.NumberSet.{IsOrderedPair};
+
+    ghost Value = { List (ℕ × ℕ) };
+
+    ghost view = { λ s. s.pairs.items };
+
+    ghost invariant = { λ s. All IsOrderedPair s.pairs.items };
+}
+
+impl NumberSet {
+    /// Keeps ranges as they are, and takes no memory. In each the first number is at most the
+    /// second.
+    pub fn of(pairs: Vec<(u64, u64)>) -> NumberSet
+        requires { All IsOrderedPair pairs.items }
+        ensures { result ≡ pairs.items }
+    {
+        NumberSet { pairs }
+    }
+
+    /// Lends the ranges.
+    pub fn as_slice(&self) -> &[(u64, u64)]
+        ensures value { result.now ≡ self.now }
+        ensures ordered { All IsOrderedPair result.now }
+    {
+        self.pairs.as_slice()
+    }
+
+    /// Whether there is no number in the set.
+    pub fn is_empty(&self) -> bool
+        ensures { result ≡ (length self.now == 0) }
+    {
+        self.pairs.is_empty()
+    }
+
+    /// Whether the number is in one of the ranges. It looks at each of them.
+    pub fn has(&self, number: u64) -> bool
+        ensures { result ≡ has_number self.now number }
+    {
+        self.pairs
+            .iter()
+            .any(|pair| pair.0 <= number && number <= pair.1)
+    }
+}

@@ -1,0 +1,6 @@
+/// Settings of `skip`, which drops the first packets.
+#[derive(Drop, Debug)]
+pub struct SkipConf {
+    /// How many packets are dropped, 0 to 2^40.
+    pub operand: u64,
+}

@@ -1,0 +1,2 @@
+pub mod UntilRule
+pub mod UntilState

@@ -1,0 +1,36 @@
+-- The rule of `until`. This project's own rule, over the header of ISO/IEC 13818-1, 2.4.3.2.
+use Rattle.std.specs.Prelude.{ℕ, ◌*◌, List, [], ◌∷◌, ◌++◌, Bool, false, Option, None, Some, ◌||◌, nat_le, count_by, if◌then◌else◌}
+use Rattle.ts_packet.specs.declared.cell.Cell.{Cell}
+use Rattle.ts_packet.specs.declared.cell.Cell.TheVariants.{Live}
+use Rattle.ts_packet.specs.Cells.{live_packets}
+use Rattle.ts_packet.specs.Header.{unit_start_of}
+use Rattle.chain_model.specs.PluginRule.{PluginRule, Fate, passes, lasts, stops}
+use Rattle.plugin_trait.specs.LiveCount.{live_count}
+use Rattle.plug_conf.specs.declared.until_conf.UntilConf.{UntilConf}
+
+-- how many of the packets have their unit start indicator
+abbrev pub unit_starts : List Cell → ℕ
+unit_starts cells = count_by unit_start_of (live_packets cells)
+
+-- a number that is given is reached
+abbrev pub reaches : ℕ → Option ℕ → Bool
+reaches count None = false
+reaches count (Some least) = nat_le least count
+
+-- the packets, their bytes or their unit starts are as many as is given
+abbrev pub is_reached : UntilConf → List Cell → Bool
+is_reached conf cells = reaches (live_count cells) conf.packets
+    || (reaches (188 * live_count cells) conf.bytes || reaches (unit_starts cells) conf.unit_start_count)
+
+-- what becomes of the packet with which the number is reached: it is the last, or is left out
+abbrev pub fate_at_end : UntilConf → List ℕ → Fate
+fate_at_end conf packet = if conf.exclude_last then stops else lasts packet
+
+-- packets pass until the number is reached with one
+abbrev pub until_rule : UntilConf → PluginRule
+until_rule conf = record {
+  outcome_of = λ history packet. if is_reached conf (history ++ Live packet ∷ []) then fate_at_end conf packet else passes packet;
+  lines_of = λ _ _. [];
+  summary_of = λ _. [];
+  agrees = λ _. false;
+}

@@ -1,0 +1,115 @@
+ghost use Rattle.std.specs.Prelude.{◌≡◌, IfOk, [], Some};
+ghost use Rattle.plug_end.specs.UntilRule.{until_rule, reaches};
+
+use plug_conf::UntilConf;
+use plugin_trait::{Line, Outcome, Plugin, silent_report};
+use std::alloc::{AllocError, Global};
+use ts_packet::Cell;
+
+/// The bytes of a packet.
+const PACKET_SIZE: u128 = 188;
+
+/// Passes packets until a number of packets, of their bytes or of unit starts is reached. The packet
+/// with which it is reached is the last one, or is left out.
+#[derive(Drop, Debug)]
+pub struct Until {
+    packets: Option<u64>,
+    bytes: Option<u64>,
+    unit_start_count: Option<u64>,
+    exclude_last: bool,
+    /// How many packets were met.
+    met: u64,
+    /// How many unit starts were met.
+    starts: u64,
+    buffer: usize,
+    alloc: Global,
+}
+
+impl Until {
+    ghost use Rattle.std.specs.Prelude.{◌≡◌, ◌*◌, [], Some, IfOk, ◌||◌};
+    ghost use Rattle.plug_conf.specs.Until.{IsLawfulUntil};
+    ghost use Rattle.plug_end.specs.UntilRule.{until_rule, reaches};
+
+    /// A plugin that met no cell yet. It takes no memory, here and in its steps.
+    pub fn new(alloc: Global, conf: &UntilConf, buffer: usize) -> Result<Until, AllocError>
+        requires { IsLawfulUntil conf.now }
+        ensures rule { IfOk result (λ plugin. ⟦<Until as Plugin>⟧.rule plugin ≡ until_rule conf.now) }
+        ensures fresh { IfOk result (λ plugin. ⟦<Until as Plugin>⟧.stands_for plugin [] 0) }
+        ensures steady { IfOk result (λ plugin. ⟦<Until as Plugin>⟧.steady plugin ≡ Some buffer) }
+    {
+        Ok(Until {
+            packets: conf.packets,
+            bytes: conf.bytes,
+            unit_start_count: conf.unit_start_count,
+            exclude_last: conf.exclude_last,
+            met: 0,
+            starts: 0,
+            buffer,
+            alloc,
+        })
+    }
+
+    // Whether the number is reached by so many packets with so many unit starts.
+    fn is_reached(&self, met: u64, starts: u64) -> bool
+        ensures { result ≡ (reaches met self.now.packets
+            || (reaches (188 * met) self.now.bytes || reaches starts self.now.unit_start_count)) }
+    {
+        reaches(u128::from(met), self.packets)
+            || reaches(PACKET_SIZE * u128::from(met), self.bytes)
+            || reaches(u128::from(starts), self.unit_start_count)
+    }
+}
+
+// Whether a number that is given is reached.
+fn reaches(count: u128, least: Option<u64>) -> bool
+    ensures { result ≡ reaches count least }
+{
+    match least {
+        Some(least) => u128::from(least) <= count,
+        None => false,
+    }
+}
+
+impl Plugin for Until {
+    ghost use Rattle.std.specs.Prelude.{Some, refl};
+    ghost use Rattle.plug_end.specs.UntilRule.{until_rule};
+    ghost use Rattle.plug_end.specs.UntilState.{conf_of, Counts};
+
+    ghost rule = { λ s. until_rule (conf_of s) };
+
+    ghost stands_for = { λ s history mark. Counts s.met s.starts history mark };
+
+    ghost steady = { λ s. Some s.buffer };
+
+    fn step(&mut self, _at: u64, cell: &mut Cell) -> Outcome {
+        let Cell::Live(packet) = cell else {
+            return Outcome::Pass;
+        };
+        let met = self.met + 1;
+        let starts = self.starts + u64::from(packet.unit_start());
+        let is_reached = self.is_reached(met, starts);
+        if is_reached && self.exclude_last {
+            return Outcome::Stop;
+        }
+        self.met = met;
+        self.starts = starts;
+        if is_reached {
+            return Outcome::Last;
+        }
+        Outcome::Pass
+    }
+
+    fn note(&mut self, _written: u64) -> Result<(), AllocError> {
+        Ok(())
+    }
+
+    fn agreed(&self) -> bool {
+        false
+    }
+
+    fn finish(&mut self, _cut: u64) -> Result<Vec<Line>, AllocError> {
+        Ok(silent_report(self.alloc))
+    }
+
+    ghost starts_open = { λ plugin history mark stands. refl };
+}

@@ -1,0 +1,14 @@
+-- The settings that a value of `filter` has. This project's own rule.
+use Rattle.plug_conf.specs.declared.filter_conf.FilterConf.{FilterConf}
+use Rattle.plug_pass.specs.declared.filter.Filter.{Filter}
+
+-- the settings of the plugin
+abbrev pub conf_of : Filter → FilterConf
+conf_of s = record {
+  pid = s.pids;
+  pcr = s.pcr;
+  unit_start = s.unit_start;
+  scrambled = s.scrambled;
+  negate = s.negate;
+  stuffing = s.stuffing;
+}

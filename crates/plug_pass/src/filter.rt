@@ -1,0 +1,97 @@
+ghost use Rattle.std.specs.Prelude.{◌≡◌, IfOk, [], Some};
+ghost use Rattle.plug_pass.specs.FilterRule.{filter_rule};
+
+use pid_set::PidSet;
+use plug_conf::FilterConf;
+use plugin_trait::{Line, Outcome, Plugin, silent_report};
+use std::alloc::{AllocError, Global};
+use ts_packet::{Cell, Packet};
+
+/// Passes the packets that meet one of its conditions, or with `negate` those that meet none.
+#[derive(Drop, Debug)]
+pub struct Filter {
+    pids: PidSet,
+    pcr: bool,
+    unit_start: bool,
+    scrambled: bool,
+    negate: bool,
+    stuffing: bool,
+    buffer: usize,
+    alloc: Global,
+}
+
+impl Filter {
+    ghost use Rattle.plug_conf.specs.Filter.{IsLawfulFilter};
+    ghost use Rattle.plug_pass.specs.FilterRule.{meets_condition};
+    ghost use Rattle.plug_pass.specs.FilterState.{conf_of};
+
+    /// A plugin that met no cell yet. It takes room for its table of PIDs, and its steps take none.
+    pub fn new(alloc: Global, conf: &FilterConf, buffer: usize) -> Result<Filter, AllocError>
+        requires { IsLawfulFilter conf.now }
+        ensures rule { IfOk result (λ plugin. ⟦<Filter as Plugin>⟧.rule plugin ≡ filter_rule conf.now) }
+        ensures fresh { IfOk result (λ plugin. ⟦<Filter as Plugin>⟧.stands_for plugin [] 0) }
+        ensures steady { IfOk result (λ plugin. ⟦<Filter as Plugin>⟧.steady plugin ≡ Some buffer) }
+    {
+        Ok(Filter {
+            pids: PidSet::of(alloc, &conf.pid)?,
+            pcr: conf.pcr,
+            unit_start: conf.unit_start,
+            scrambled: conf.scrambled,
+            negate: conf.negate,
+            stuffing: conf.stuffing,
+            buffer,
+            alloc,
+        })
+    }
+
+    // Whether one of the conditions that are given holds of the packet.
+    fn meets_condition(&self, packet: &Packet) -> bool
+        ensures { result ≡ meets_condition (conf_of self.now) packet.now }
+    {
+        self.pids.has(packet.pid())
+            || self.pcr && packet.pcr().is_some()
+            || self.unit_start && packet.unit_start()
+            || self.scrambled && packet.scrambling() != 0
+    }
+}
+
+impl Plugin for Filter {
+    ghost use Rattle.std.specs.Prelude.{◌≤◌, length, Some, refl};
+    ghost use Rattle.plug_pass.specs.FilterRule.{filter_rule};
+    ghost use Rattle.plug_pass.specs.FilterState.{conf_of};
+
+    ghost rule = { λ s. filter_rule (conf_of s) };
+
+    ghost stands_for = { λ s history mark. mark ≤ length history };
+
+    ghost steady = { λ s. Some s.buffer };
+
+    fn step(&mut self, _at: u64, cell: &mut Cell) -> Outcome {
+        let Cell::Live(packet) = cell else {
+            return Outcome::Pass;
+        };
+        if self.meets_condition(packet) != self.negate {
+            return Outcome::Pass;
+        }
+        if self.stuffing {
+            *packet = Packet::null();
+            return Outcome::Pass;
+        }
+        *cell = Cell::Dropped;
+        Outcome::Drop
+    }
+
+    fn note(&mut self, _written: u64) -> Result<(), AllocError> {
+        Ok(())
+    }
+
+    fn agreed(&self) -> bool {
+        false
+    }
+
+    fn finish(&mut self, _cut: u64) -> Result<Vec<Line>, AllocError> {
+        Ok(silent_report(self.alloc))
+    }
+
+    ghost starts_open = { λ plugin history mark stands. refl };
+}

@@ -1,0 +1,142 @@
+ghost use Rattle.std.specs.Prelude.{◌≡◌, ◌≤◌, ◌<◌, IfOk, ℕ, List, [], Some, length};
+ghost use Rattle.plug_pass.specs.PatternRule.{pattern_rule, repeated, patterned_from};
+
+use pid_set::PidSet;
+use plug_conf::PatternConf;
+use plugin_trait::{Line, Outcome, Plugin, silent_report};
+use std::alloc::{AllocError, Global};
+use ts_outside::FileBytes;
+use ts_packet::{Cell, Packet};
+
+/// The bytes of the longest payload.
+const MOST_PAYLOAD: usize = 184;
+/// The bytes of a packet.
+const PACKET_SIZE: usize = 188;
+
+/// Writes a pattern over the payloads of packets on selected PIDs.
+#[derive(Drop, Debug)]
+pub struct Pattern {
+    pattern: FileBytes,
+    pids: PidSet,
+    negate: bool,
+    offset_pusi: Option<u64>,
+    offset_non_pusi: Option<u64>,
+    /// The pattern over and over, as long as the longest payload.
+    filled: [u8; MOST_PAYLOAD],
+    buffer: usize,
+    alloc: Global,
+}
+
+impl Pattern {
+    ghost use Rattle.std.specs.Prelude.{◌≡◌, [], Some, IfOk, unwrap_or};
+    ghost use Rattle.plug_conf.specs.Pattern.{IsLawfulPattern};
+    ghost use Rattle.plug_pass.specs.PatternRule.{pattern_rule, offset_for, edited};
+    ghost use Rattle.plug_pass.specs.PatternState.{conf_of, IsMade};
+
+    /// A plugin that met no cell yet. It takes room for its pattern and its table of PIDs, and its steps
+    /// take none.
+    pub fn new(alloc: Global, conf: &PatternConf, buffer: usize) -> Result<Pattern, AllocError>
+        requires { IsLawfulPattern conf.now }
+        ensures rule { IfOk result (λ plugin. ⟦<Pattern as Plugin>⟧.rule plugin ≡ pattern_rule conf.now) }
+        ensures fresh { IfOk result (λ plugin. ⟦<Pattern as Plugin>⟧.stands_for plugin [] 0) }
+        ensures steady { IfOk result (λ plugin. ⟦<Pattern as Plugin>⟧.steady plugin ≡ Some buffer) }
+    {
+        Ok(Pattern {
+            pattern: conf.operand.copy()?,
+            pids: PidSet::of(alloc, &conf.pid)?,
+            negate: conf.negate,
+            offset_pusi: conf.offset_pusi,
+            offset_non_pusi: conf.offset_non_pusi,
+            filled: filled_with(conf.operand.as_slice()),
+            buffer,
+            alloc,
+        })
+    }
+
+    // Where in the payload the pattern begins.
+    fn offset_for(&self, packet: &Packet) -> u64
+        requires { IsMade self.now.filled self.now.pattern self.now.offset_pusi self.now.offset_non_pusi }
+        ensures offset { result ≡ offset_for (conf_of self.now) packet.now }
+        ensures range { result < 184 }
+    {
+        let offset = if packet.unit_start() {
+            self.offset_pusi
+        } else {
+            self.offset_non_pusi
+        };
+        offset.unwrap_or(0)
+    }
+
+    // Writes the pattern, where it is to be in the packet.
+    fn edit(&self, packet: &mut Packet)
+        requires { IsMade self.now.filled self.now.pattern self.now.offset_pusi self.now.offset_non_pusi }
+        ensures { packet.new ≡ edited (conf_of self.now) packet.old }
+    {
+        if !self.pids.selects(self.negate, packet.pid()) {
+            return;
+        }
+        if let Some(start) = packet.payload_start() {
+            write_from(
+                packet,
+                u64::from(start) + self.offset_for(packet),
+                &self.filled,
+            );
+        }
+    }
+}
+
+// The pattern over and over.
+fn filled_with(pattern: &[u8]) -> [u8; MOST_PAYLOAD]
+    requires { 1 ≤ length pattern.now }
+    ensures { result ≡ repeated pattern.now 184 }
+{
+    let mut filled = [0; MOST_PAYLOAD];
+    for (k, byte) in filled.iter_mut().enumerate() {
+        *byte = pattern[k % pattern.len()];
+    }
+    filled
+}
+
+impl Plugin for Pattern {
+    ghost use Rattle.std.specs.Prelude.{◌≡◌, ◌≤◌, length, Some, refl};
+    ghost use Rattle.plug_pass.specs.PatternRule.{pattern_rule, repeated};
+    ghost use Rattle.plug_pass.specs.PatternState.{conf_of, IsMade};
+
+    ghost rule = { λ s. pattern_rule (conf_of s) };
+
+    ghost stands_for = { λ s history mark. IsMade s.filled s.pattern s.offset_pusi s.offset_non_pusi × (mark ≤ length history) };
+
+    ghost steady = { λ s. Some s.buffer };
+
+    fn step(&mut self, _at: u64, cell: &mut Cell) -> Outcome {
+        let Cell::Live(packet) = cell else {
+            return Outcome::Pass;
+        };
+        self.edit(packet);
+        Outcome::Pass
+    }
+
+    fn note(&mut self, _written: u64) -> Result<(), AllocError> {
+        Ok(())
+    }
+
+    fn agreed(&self) -> bool {
+        false
+    }
+
+    fn finish(&mut self, _cut: u64) -> Result<Vec<Line>, AllocError> {
+        Ok(silent_report(self.alloc))
+    }
+
+    ghost starts_open = { λ plugin history mark stands. refl };
+}
+
+// Writes a pattern from a place to the packet's end, where the place is in the packet.
+fn write_from(packet: &mut Packet, at: u64, filled: &[u8; MOST_PAYLOAD])
+    requires behind_header { 4 ≤ at }
+    ensures { (pattern : List ℕ) → filled.now ≡ repeated pattern 184 → packet.new ≡ patterned_from pattern at packet.old }
+{
+    if at < PACKET_SIZE as u64 {
+        packet.put_payload(at as u8, &filled[..PACKET_SIZE - at as usize]);
+    }
+}

@@ -1,0 +1,132 @@
+ghost use Rattle.std.specs.Prelude.{◌≡◌, IfOk, List, [], Option, Some};
+ghost use Rattle.plug_pass.specs.declared.deed.Turn.{Turn as GivenTurn};
+ghost use Rattle.plug_pass.specs.SliceRule.{slice_rule, with_turn, last_turn, turns_come};
+
+use crate::deed::{Deed, Turn};
+use plug_conf::SliceConf;
+use plugin_trait::{Line, Outcome, Plugin, silent_report};
+use std::alloc::{AllocError, Global};
+use ts_packet::{Cell, Packet};
+
+/// Drops, passes or overwrites packets by turns, or stops: of its options the one with the greatest
+/// number that is not above the number of packets met before decides.
+#[derive(Drop, Debug)]
+pub struct Slice {
+    drop: Option<u64>,
+    null: Option<u64>,
+    pass: Option<u64>,
+    stop: Option<u64>,
+    /// How many packets were met.
+    met: u64,
+    buffer: usize,
+    alloc: Global,
+}
+
+impl Slice {
+    ghost use Rattle.std.specs.Prelude.{◌≡◌, [], Some, IfOk, ℕ};
+    ghost use Rattle.plug_conf.specs.Slice.{IsLawfulSlice};
+    ghost use Rattle.plug_pass.specs.SliceRule.{slice_rule, deed_of, last_turn, turns_come, turns_of};
+    ghost use Rattle.plug_pass.specs.SliceState.{conf_of};
+
+    /// A plugin that met no cell yet. It takes no memory, here and in its steps.
+    pub fn new(alloc: Global, conf: &SliceConf, buffer: usize) -> Result<Slice, AllocError>
+        requires { IsLawfulSlice conf.now }
+        ensures rule { IfOk result (λ plugin. ⟦<Slice as Plugin>⟧.rule plugin ≡ slice_rule conf.now) }
+        ensures fresh { IfOk result (λ plugin. ⟦<Slice as Plugin>⟧.stands_for plugin [] 0) }
+        ensures steady { IfOk result (λ plugin. ⟦<Slice as Plugin>⟧.steady plugin ≡ Some buffer) }
+    {
+        Ok(Slice {
+            drop: conf.drop,
+            null: conf.null,
+            pass: conf.pass,
+            stop: conf.stop,
+            met: 0,
+            buffer,
+            alloc,
+        })
+    }
+
+    // What is done with the next packet.
+    fn deed(&self) -> Deed
+        ensures { result ≡ deed_of (last_turn (turns_come self.now.met (turns_of (conf_of self.now)))) }
+    {
+        match self.last_turn() {
+            Some(turn) => turn.deed,
+            None => Deed::Pass,
+        }
+    }
+
+    // The turn that decides about the next packet.
+    fn last_turn(&self) -> Option<Turn>
+        ensures { result ≡ last_turn (turns_come self.now.met (turns_of (conf_of self.now))) }
+    {
+        let stop = turn_come(self.stop, Deed::Stop, self.met, None);
+        let pass = turn_come(self.pass, Deed::Pass, self.met, stop);
+        let null = turn_come(self.null, Deed::Null, self.met, pass);
+        turn_come(self.drop, Deed::Drop, self.met, null)
+    }
+}
+
+// The last turn that has come, where an option stands before those whose last turn is `last`.
+fn turn_come(from: Option<u64>, deed: Deed, index: u64, last: Option<Turn>) -> Option<Turn>
+    ensures { (turns : List GivenTurn) → last_turn (turns_come index turns) ≡ last
+        → last_turn (turns_come index (with_turn from deed turns)) ≡ result }
+{
+    match (from, last) {
+        (Some(from), None) if from <= index => Some(Turn { from, deed }),
+        (Some(from), Some(other)) if from <= index && other.from < from => Some(Turn {
+            from,
+            deed,
+        }),
+        (_, last) => last,
+    }
+}
+
+impl Plugin for Slice {
+    ghost use Rattle.std.specs.Prelude.{◌≡◌, ◌≤◌, length, Some, refl};
+    ghost use Rattle.plugin_trait.specs.LiveCount.{live_count};
+    ghost use Rattle.plug_pass.specs.SliceRule.{slice_rule};
+    ghost use Rattle.plug_pass.specs.SliceState.{conf_of};
+
+    ghost rule = { λ s. slice_rule (conf_of s) };
+
+    ghost stands_for = { λ s history mark. (s.met ≡ live_count history) × (s.met ≤ length history) × (mark ≤ length history) };
+
+    ghost steady = { λ s. Some s.buffer };
+
+    fn step(&mut self, _at: u64, cell: &mut Cell) -> Outcome {
+        let Cell::Live(packet) = cell else {
+            return Outcome::Pass;
+        };
+        let deed = self.deed();
+        if deed == Deed::Stop {
+            return Outcome::Stop;
+        }
+        self.met += 1;
+        match deed {
+            Deed::Drop => {
+                *cell = Cell::Dropped;
+                Outcome::Drop
+            }
+            Deed::Null => {
+                *packet = Packet::null();
+                Outcome::Pass
+            }
+            _ => Outcome::Pass,
+        }
+    }
+
+    fn note(&mut self, _written: u64) -> Result<(), AllocError> {
+        Ok(())
+    }
+
+    fn agreed(&self) -> bool {
+        false
+    }
+
+    fn finish(&mut self, _cut: u64) -> Result<Vec<Line>, AllocError> {
+        Ok(silent_report(self.alloc))
+    }
+
+    ghost starts_open = { λ plugin history mark stands. refl };
+}

@@ -1,0 +1,94 @@
+-- A plugin half way through a list: what was made stands in front of what the rule makes of the rest.
+use Rattle.std.proofs.Common.{◌≡◌, ℕ, ◌+◌, ◌<◌, List, [], ◌∷◌, ◌++◌, length, take, drop, get_or, set, ap, sym, subst, ◌∙◌, ◌⊎◌, inl, inr, append_assoc, append-nil, add-zero, drop-drop, arith, Some}
+use Rattle.std.proofs.lemmas.List.{drop_more, take_more, take_more_set, take-set, get_or-drop, drop-set-lt}
+use Rattle.ts_packet.specs.declared.cell.Cell.{Cell}
+use Rattle.plugin_trait.specs.declared.outcome.Outcome.{Outcome}
+use Rattle.plugin_trait.specs.declared.outcome.Outcome.TheVariants.{Pass, Drop}
+use Rattle.plugin_trait.specs.Steps.{StepTells, met_after}
+use Rattle.chain_model.specs.PluginRule.{PluginRule}
+use Rattle.chain_model.specs.Apply.{StageList, OwnEnd, CellFate, goes_on, ends_after, ends_before, last_passed, became, onto, apply_after}
+
+-- the list that begins with what was made already
+abbrev pub behind : List Cell → StageList → StageList
+behind made rest = record { cells = made ++ rest.cells; ended = rest.ended }
+
+-- a cell with which the list goes on may be counted to what was made
+pub behind-goes : (made : List Cell) (left : Cell) (rest : StageList) → behind made (onto (goes_on left) rest) ≡ behind (made ++ left ∷ []) rest
+behind-goes made left rest =
+    ap (λ (cells : List Cell). let s : StageList = record { cells = cells; ended = rest.ended } in s) (sym (append_assoc made (left ∷ []) rest.cells))
+
+-- the history with one more cell of the list
+pub met-more : (history given : List Cell) (i : ℕ) (cell : Cell) → i < length given → get_or given i cell ≡ cell
+    → history ++ take (i + 1) given ≡ (history ++ take i given) ++ cell ∷ []
+met-more history given i cell within is =
+    ap (λ (cells : List Cell). history ++ cells) (take_more given i cell within ∙ ap (λ (x : Cell). take i given ++ x ∷ []) is)
+    ∙ sym (append_assoc history (take i given) (cell ∷ []))
+
+-- the rule goes through the rest of the list by its first cell
+pub apply_after-drop : (rule : PluginRule) (history given : List Cell) (i : ℕ) (cell : Cell) → i < length given → get_or given i cell ≡ cell
+    → apply_after rule history (drop i given) ≡ onto (became rule history cell) (apply_after rule (history ++ cell ∷ []) (drop (i + 1) given))
+apply_after-drop rule history given i cell within is =
+    ap (apply_after rule history) (drop_more given i cell within ∙ ap (λ (x : Cell). x ∷ drop (i + 1) given) is)
+
+module _ (rule : PluginRule) (history given made : List Cell) (i : ℕ) (cell : Cell) (all : StageList)
+    (within : i < length given) (is : get_or given i cell ≡ cell)
+    (half : all ≡ behind (take i made) (apply_after rule (history ++ take i given) (drop i given))) where
+  -- what is known of the whole list where the fate of its next cell is known
+  pub half_known : (fate : CellFate) → became rule (history ++ take i given) cell ≡ fate
+      → all ≡ behind (take i made) (onto fate (apply_after rule (history ++ take (i + 1) given) (drop (i + 1) given)))
+  half_known fate e =
+      half
+      ∙ ap (behind (take i made)) (apply_after-drop rule (history ++ take i given) given i cell within is)
+      ∙ ap (λ (f : CellFate). behind (take i made) (onto f (apply_after rule ((history ++ take i given) ++ cell ∷ []) (drop (i + 1) given)))) e
+      ∙ ap (λ (h : List Cell). behind (take i made) (onto fate (apply_after rule h (drop (i + 1) given)))) (sym (met-more history given i cell within is))
+
+  -- the list goes on
+  pub half_goes_on : (left : Cell) → i < length made → became rule (history ++ take i given) cell ≡ goes_on left
+      → all ≡ behind (take (i + 1) (set made i left)) (apply_after rule (history ++ take (i + 1) given) (drop (i + 1) given))
+  half_goes_on left room e =
+      half_known (goes_on left) e
+      ∙ behind-goes (take i made) left (apply_after rule (history ++ take (i + 1) given) (drop (i + 1) given))
+      ∙ ap (λ (m : List Cell). behind m (apply_after rule (history ++ take (i + 1) given) (drop (i + 1) given))) (sym (take_more_set made i left room))
+
+  -- the list ends after the cell
+  pub half_ends_after : (left : Cell) → i < length made → became rule (history ++ take i given) cell ≡ ends_after left
+      → (take (i + 1) (set made i left) ≡ all.cells) × (all.ended ≡ Some last_passed)
+  half_ends_after left room e =
+      let known = half_known (ends_after left) e in
+      (take_more_set made i left room ∙ sym (ap (λ (s : StageList). s.cells) known), ap (λ (s : StageList). s.ended) known)
+
+  -- the list ends before the cell
+  pub half_ends_before : (how : OwnEnd) (left : Cell) → became rule (history ++ take i given) cell ≡ ends_before how
+      → (take i (set made i left) ≡ all.cells) × (all.ended ≡ Some how)
+  half_ends_before how left e =
+      let known = half_known (ends_before how) e in
+      (take-set made i left ∙ (sym (append-nil (take i made)) ∙ sym (ap (λ (s : StageList). s.cells) known)), ap (λ (s : StageList). s.ended) known)
+
+-- an outcome with which the list goes on tells of the cell that goes on
+pub tells_goes_on : (rule : PluginRule) (history : List Cell) (cell left : Cell) (outcome : Outcome)
+    → (outcome ≡ Pass) ⊎ (outcome ≡ Drop) → StepTells rule history cell outcome left → became rule history cell ≡ goes_on left
+tells_goes_on rule history cell left outcome one told =
+    elim one [
+      | inl e ↦ (subst (λ (o : Outcome). StepTells rule history cell o left) e told).0
+      | inr e ↦ (subst (λ (o : Outcome). StepTells rule history cell o left) e told).0
+    ]
+
+-- and the cell was met
+pub met_goes_on : (history : List Cell) (cell : Cell) (outcome : Outcome)
+    → (outcome ≡ Pass) ⊎ (outcome ≡ Drop) → met_after outcome history cell ≡ history ++ cell ∷ []
+met_goes_on history cell outcome one =
+    elim one [ inl e ↦ ap (λ (o : Outcome). met_after o history cell) e | inr e ↦ ap (λ (o : Outcome). met_after o history cell) e ]
+
+-- the same element stands at a place of two lists that agree from there on
+pub same_at : (xs ys : List Cell) (i : ℕ) (d : Cell) → drop i xs ≡ drop i ys → get_or xs i d ≡ get_or ys i d
+same_at xs ys i d same =
+    ap (λ (n : ℕ). get_or xs n d) (sym (add-zero i)) ∙ (sym (get_or-drop i xs 0 d) ∙ (ap (λ (zs : List Cell). get_or zs 0 d) same ∙ (get_or-drop i ys 0 d ∙ ap (λ (n : ℕ). get_or ys n d) (add-zero i))))
+
+-- and behind that place, whatever is written there
+pub same_behind : (xs ys : List Cell) (i : ℕ) (left : Cell) → drop i xs ≡ drop i ys → drop (i + 1) (set xs i left) ≡ drop (i + 1) ys
+same_behind xs ys i left same =
+    drop-set-lt (i + 1) xs i left (omega arith) ∙ (sym (drop-drop 1 i xs) ∙ (ap (drop 1) same ∙ drop-drop 1 i ys))
+
+-- the cell at a place, read in the one list, is that of the other
+pub read_at : (xs ys : List Cell) (i : ℕ) (d : Cell) → d ≡ get_or xs i d → drop i xs ≡ drop i ys → get_or ys i (get_or xs i d) ≡ get_or xs i d
+read_at xs ys i d is same = ap (λ (e : Cell). get_or ys i e) (sym is) ∙ sym (same_at xs ys i d same)

@@ -1,0 +1,52 @@
+-- Lines with their positions and lines without them.
+use Rattle.std.proofs.Common.{◌≡◌, ℕ, List, [], ◌∷◌, ◌++◌, length, map, ap, sym, ◌∙◌, refl}
+use Rattle.ts_packet.specs.declared.cell.Cell.{Cell}
+use Rattle.ts_packet.specs.declared.cell.Cell.TheVariants.{Live, Dropped}
+use Rattle.chain_model.specs.PluginRule.{PluginRule}
+use Rattle.chain_model.specs.Reports.{lines_after, said_of}
+use Rattle.plugin_trait.specs.declared.line.Line.{Line}
+use Rattle.plugin_trait.specs.PlacedLines.{placed_at, placed_after, placed_of, IsSilent}
+
+-- the text of a line
+abbrev pub text_of : Line → List ℕ
+text_of line = line.text
+
+-- the texts of lines at one position
+pub texts-placed_at : (position : ℕ) (texts : List (List ℕ)) → map text_of (placed_at position texts) ≡ texts
+texts-placed_at position [] = refl
+texts-placed_at position (text ∷ texts) = ap (λ (rest : List (List ℕ)). text ∷ rest) (texts-placed_at position texts)
+
+-- the texts of two lists of lines
+pub texts-append : (xs ys : List Line) → map text_of (xs ++ ys) ≡ map text_of xs ++ map text_of ys
+texts-append [] ys = refl
+texts-append (x ∷ xs) ys = ap (λ (rest : List (List ℕ)). text_of x ∷ rest) (texts-append xs ys)
+
+-- the texts of the lines on the cells behind a history
+pub texts-placed_after : (rule : PluginRule) (history cells : List Cell) → map text_of (placed_after rule history cells) ≡ lines_after rule history cells
+texts-placed_after rule history [] = refl
+texts-placed_after rule history (Live packet ∷ cells) =
+    texts-append (placed_at (length history) (rule.lines_of history packet)) (placed_after rule (history ++ Live packet ∷ []) cells)
+    ∙ (ap (λ (texts : List (List ℕ)). texts ++ map text_of (placed_after rule (history ++ Live packet ∷ []) cells)) (texts-placed_at (length history) (rule.lines_of history packet))
+    ∙ ap (λ (texts : List (List ℕ)). rule.lines_of history packet ++ texts) (texts-placed_after rule (history ++ Live packet ∷ []) cells))
+texts-placed_after rule history (Dropped ∷ cells) = texts-placed_after rule (history ++ Dropped ∷ []) cells
+
+-- the texts of all that a plugin says
+pub texts-placed_of : (rule : PluginRule) (cells : List Cell) → map text_of (placed_of rule cells) ≡ said_of rule cells
+texts-placed_of rule cells =
+    texts-append (placed_after rule [] cells) (placed_at (length cells) (rule.summary_of cells))
+    ∙ (ap (λ (texts : List (List ℕ)). texts ++ map text_of (placed_at (length cells) (rule.summary_of cells))) (texts-placed_after rule [] cells)
+    ∙ ap (λ (texts : List (List ℕ)). lines_after rule [] cells ++ texts) (texts-placed_at (length cells) (rule.summary_of cells)))
+
+-- a silent rule has no line on any cell
+pub silent-placed_after : (rule : PluginRule) (history cells : List Cell) → IsSilent rule → placed_after rule history cells ≡ []
+silent-placed_after rule history [] silent = refl
+silent-placed_after rule history (Live packet ∷ cells) silent =
+    ap (λ (texts : List (List ℕ)). placed_at (length history) texts ++ placed_after rule (history ++ Live packet ∷ []) cells) (silent.no_lines history packet)
+    ∙ silent-placed_after rule (history ++ Live packet ∷ []) cells silent
+silent-placed_after rule history (Dropped ∷ cells) silent = silent-placed_after rule (history ++ Dropped ∷ []) cells silent
+
+-- a silent rule says nothing
+pub silent-placed_of : (rule : PluginRule) (cells : List Cell) → IsSilent rule → [] ≡ placed_of rule cells
+silent-placed_of rule cells silent =
+    sym (ap (λ (lines : List Line). lines ++ placed_at (length cells) (rule.summary_of cells)) (silent-placed_after rule [] cells silent)
+    ∙ ap (λ (texts : List (List ℕ)). placed_at (length cells) texts) (silent.no_summary cells))

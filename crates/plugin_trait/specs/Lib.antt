@@ -1,0 +1,5 @@
+pub mod Steps
+pub mod Marks
+pub mod PlacedLines
+pub mod Driving
+pub mod LiveCount

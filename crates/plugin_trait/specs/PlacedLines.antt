@@ -1,0 +1,26 @@
+-- The lines that a plugin reports, each with its position. This project's own rule.
+use Rattle.std.specs.Prelude.{◌≡◌, ℕ, List, [], ◌∷◌, ◌++◌, map, length}
+use Rattle.ts_packet.specs.declared.cell.Cell.{Cell}
+use Rattle.ts_packet.specs.declared.cell.Cell.TheVariants.{Live, Dropped}
+use Rattle.chain_model.specs.PluginRule.{PluginRule}
+use Rattle.plugin_trait.specs.declared.line.Line.{Line}
+
+-- texts as lines at one position
+abbrev pub placed_at : ℕ → List (List ℕ) → List Line
+placed_at position texts = map (λ text. record { at = position; text = text }) texts
+
+-- the lines of a rule on the live cells behind a history, each at its cell's position
+abbrev pub placed_after : PluginRule → List Cell → List Cell → List Line
+placed_after rule history [] = []
+placed_after rule history (Live packet ∷ cells) =
+    placed_at (length history) (rule.lines_of history packet) ++ placed_after rule (history ++ Live packet ∷ []) cells
+placed_after rule history (Dropped ∷ cells) = placed_after rule (history ++ Dropped ∷ []) cells
+
+-- all that a plugin says of the cells that count: its lines, then its summary at their end
+abbrev pub placed_of : PluginRule → List Cell → List Line
+placed_of rule cells = placed_after rule [] cells ++ placed_at (length cells) (rule.summary_of cells)
+
+-- a rule that has neither lines nor a summary
+pub record IsSilent (rule : PluginRule) : Type 0 where
+  pub no_lines : (history : List Cell) (packet : List ℕ) → rule.lines_of history packet ≡ []
+  pub no_summary : (history : List Cell) → rule.summary_of history ≡ []

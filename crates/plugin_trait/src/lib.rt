@@ -1,0 +1,20 @@
+//! What a plugin is to the chain: a cell comes in with its position, the cell and an outcome go out.
+//! The layer above uses the clauses of `Plugin`, which hold its rule to a list of cells, and nothing else.
+#![tactic(auto)]
+
+mod driver;
+mod line;
+mod line_text;
+mod list_end;
+mod outcome;
+mod plugin;
+mod reporting;
+
+pub use chain_model::Reason;
+pub use driver::{apply_from, apply_plugin};
+pub use line::Line;
+pub use line_text::LineText;
+pub use list_end::{Applied, ListEnd};
+pub use outcome::Outcome;
+pub use plugin::Plugin;
+pub use reporting::{report, silent_report};

@@ -1,0 +1,10 @@
+use crate::LineText;
+
+/// A line that a plugin has to report.
+#[derive(Drop, Debug)]
+pub struct Line {
+    /// The position of the packet that the line is about. For a line of the summary it is the cut.
+    pub at: u64,
+    /// The line, without the plugin's number and name and without an end of line.
+    pub text: LineText,
+}

@@ -1,0 +1,25 @@
+use chain_model::Reason;
+
+/// How a plugin left a list of cells.
+#[derive(Debug, Clone, Copy, PartialEq, Eq)]
+pub enum ListEnd {
+    /// It went through the whole list.
+    Through,
+    /// It passed its last packet.
+    Last,
+    /// It stopped before a packet.
+    Stop,
+    /// It refused a packet.
+    Refuse(Reason),
+    /// It wanted memory for a packet.
+    NoMemory,
+}
+
+/// What a plugin made of a piece of a list.
+#[derive(Debug, Clone, Copy, PartialEq, Eq)]
+pub struct Applied {
+    /// So many cells at the front of the piece belong to the plugin's own list.
+    pub count: usize,
+    /// How the plugin left the piece.
+    pub end: ListEnd,
+}

@@ -1,0 +1,18 @@
+use chain_model::Reason;
+
+/// What a plugin does with a cell.
+#[derive(Debug, Clone, Copy, PartialEq, Eq)]
+pub enum Outcome {
+    /// The list goes on with the cell, which may have been edited.
+    Pass,
+    /// The list goes on, and the cell's packet is dropped.
+    Drop,
+    /// The packet passes and is the last of the list.
+    Last,
+    /// The list ends before the packet.
+    Stop,
+    /// The list ends before the packet, which is refused.
+    Refuse(Reason),
+    /// Memory was wanted. The plugin and the cell are as they were.
+    NoMemory,
+}

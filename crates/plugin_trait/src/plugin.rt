@@ -1,0 +1,64 @@
+use crate::{Line, Outcome};
+use std::alloc::AllocError;
+use ts_packet::Cell;
+
+/// A plugin of the chain. It means a rule, a function of the whole history of the cells that it met.
+///
+/// A value of a plugin stands for the list of the cells that it met, and for the greatest mark that
+/// it was told. It is a relation, since the value keeps less than the list: a call asks for one list
+/// and mark that the value stands for, and what it promises holds for each.
+pub trait Plugin {
+    ghost use Rattle.std.specs.Prelude.{◌≡◌, ◌≢◌, ◌<◌, ◌+◌, ◌^◌, ◌≤◌, ℕ, List, [], Bool, true, false, Option, Some, IsOk, IfOk, IsSome, take, length};
+    ghost use Rattle.ts_packet.specs.declared.cell.Cell.{Cell};
+    ghost use Rattle.chain_model.specs.PluginRule.{PluginRule};
+    ghost use Rattle.plugin_trait.specs.Steps.{MeetsCells, MeetsSome, Tells, Meets, HasRoom};
+    ghost use Rattle.plugin_trait.specs.Marks.{AllowsMark, Notes};
+    ghost use Rattle.plugin_trait.specs.PlacedLines.{placed_of};
+
+    /// The rule that the plugin means. No call changes it.
+    ghost rule: { Self → PluginRule };
+
+    /// The value stands for these cells that it met, and for this greatest mark.
+    ghost stands_for: { Self → List Cell → ℕ → Type 0 };
+
+    /// Where it is a number, memory was taken before the run for notes on so many positions behind
+    /// the greatest mark. No call changes it.
+    ghost steady: { Self → Option ℕ };
+
+    /// Takes the cell at a position, and leaves in it what the plugin makes of it.
+    ///
+    /// The outcome is the rule's, or `NoMemory` on a live cell. After `Stop`, `Refuse` and `NoMemory`
+    /// the cell is as it was, and the plugin stands for what it stood for.
+    fn step(&mut self, at: u64, cell: &mut Cell) -> Outcome
+        requires met { MeetsCells (stands_for self.old) at }
+        requires in_range { at < 2 ^ 60 }
+        ensures tells { Tells (rule self.old) (stands_for self.old) at cell.old result cell.new }
+        ensures dropped { cell.old ≡ Cell.Dropped → result ≡ Outcome.Pass }
+        ensures meets { Meets (stands_for self.old) (stands_for self.new) at cell.old result }
+        ensures same_rule { rule self.new ≡ rule self.old }
+        ensures same_steady { steady self.new ≡ steady self.old }
+        ensures room { HasRoom (steady self.old) (stands_for self.old) at → result ≢ Outcome.NoMemory };
+
+    /// Is told that the positions below a mark are written, so that notes on them may be folded.
+    /// A mark is not below the marks before it, and not above the number of cells that were met.
+    fn note(&mut self, written: u64) -> Result<(), AllocError>
+        requires { AllowsMark (stands_for self.old) written }
+        ensures notes { Notes (stands_for self.old) (stands_for self.new) written result }
+        ensures same_rule { rule self.new ≡ rule self.old }
+        ensures same_steady { steady self.new ≡ steady self.old }
+        ensures room { IsSome (steady self.old) → IsOk result };
+
+    /// Whether the plugin uses joint termination and agrees to end behind the cells that it met.
+    fn agreed(&self) -> bool
+        requires { MeetsSome (stands_for self.now) }
+        ensures { (history : List Cell) (mark : ℕ) → stands_for self.now history mark → result ≡ (rule self.now).agrees history };
+
+    /// Gives the lines on the first `cut` cells that were met, and the summary over them, whose lines
+    /// stand at `cut`. It is called once, with a cut that is not below the greatest mark.
+    fn finish(&mut self, cut: u64) -> Result<Vec<Line>, AllocError>
+        requires { AllowsMark (stands_for self.old) cut }
+        ensures { (history : List Cell) (mark : ℕ) → stands_for self.old history mark → cut ≤ length history → IfOk result (λ lines. lines.items ≡ placed_of (rule self.old) (take cut history)) };
+
+    /// No plugin agrees before it met a cell.
+    ghost starts_open: { (plugin : Self) (history : List Cell) (mark : ℕ) → stands_for plugin history mark → (rule plugin).agrees [] ≡ false };
+}

@@ -1,0 +1,27 @@
+//! What a plugin reports once the chain has ended.
+ghost use Rattle.std.specs.Prelude.{◌≡◌, ◌≤◌, ℕ, List, map, take, length, IfOk};
+ghost use Rattle.ts_packet.specs.declared.cell.Cell.{Cell};
+ghost use Rattle.chain_model.specs.PluginRule.{PluginRule};
+ghost use Rattle.chain_model.specs.Reports.{said_of};
+ghost use Rattle.plugin_trait.specs.Marks.{AllowsMark};
+ghost use Rattle.plugin_trait.specs.PlacedLines.{placed_of, IsSilent};
+
+use crate::{Line, Plugin};
+use std::alloc::{AllocError, Global};
+
+/// Takes from a plugin all that it has to say of the first `cut` cells: its lines, then its summary.
+/// It is called once, with a cut that is not below the greatest mark.
+pub fn report<P: Plugin>(plugin: &mut P, cut: u64) -> Result<Vec<Line>, AllocError>
+    requires { AllowsMark (P.stands_for plugin.old) cut }
+    ensures { (history : List Cell) (mark : ℕ) → P.stands_for plugin.old history mark → cut ≤ length history
+        → IfOk result (λ lines. map (λ line. line.text) lines.items ≡ said_of (P.rule plugin.old) (take cut history)) }
+{
+    plugin.finish(cut)
+}
+
+/// The report of a plugin whose rule says nothing. It takes no memory.
+pub fn silent_report(alloc: Global) -> Vec<Line>
+    ensures { (rule : PluginRule) (cells : List Cell) → IsSilent rule → result.items ≡ placed_of rule cells }
+{
+    Vec::new(alloc)
+}

@@ -1,0 +1,16 @@
+//! Real files and standard streams as a desk: names come in; bytes are read, written and reported at the system.
+//! The programs use the clauses of `Desk`, `Source` and `Sink`; which bytes the system moves is trusted.
+#![tactic(auto)]
+
+mod calls;
+mod counts;
+mod os_desk;
+mod os_sink;
+mod os_source;
+
+pub use os_desk::OsDesk;
+pub use os_sink::OsSink;
+pub use os_source::OsSource;
+
+#[cfg(test)]
+mod tests;

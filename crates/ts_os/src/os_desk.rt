@@ -1,0 +1,215 @@
+ghost use Rattle.std.specs.Prelude.{◌≡◌, ◌<◌, ◌≤◌, ◌||◌, [], false, length, take, is_err, IfOk, IsOk, OnErr, IfSome};
+ghost use Rattle.std.specs.Option.{option_copied, option_map};
+ghost use Rattle.std.specs.Str.{bytes_eq};
+ghost use Rattle.ts_outside.specs.declared.requests.Purpose.TheVariants.{Input, Output, File as Whole};
+ghost use Rattle.ts_outside.specs.OpenFault.{MatchOpen};
+ghost use Rattle.ts_outside.specs.FileFault.{MatchFile};
+ghost use Rattle.ts_outside.specs.Desk.{stream_name, content, asked_well, asked_in_vain, input_closed, output_closed, report_failed, reports};
+ghost use Rattle.ts_os.specs.Untold.{untold_desk, untold_sink, untold_source};
+
+use crate::calls::write_some;
+use crate::counts::one_more;
+use crate::os_sink::{Made, OsSink};
+use crate::os_source::{Opened, OsSource};
+use std::alloc::Global;
+use std::fs::File;
+use std::marker::Model;
+use ts_outside::{Desk, Failed, FileBytes, FileFault, OpenFault, read_to_end};
+
+/// The files and standard streams of the system. It tells no content, and contracts see it as its counts of faults and
+/// as where reports go.
+///
+/// Reports go to standard error once `open_out` was asked for the standard stream, and to standard output otherwise.
+/// An output file is made where it is absent and emptied where it is there.
+#[derive(Drop)]
+pub struct OsDesk {
+    rt: HostRuntime,
+    alloc: Global,
+    read_faults: u64,
+    write_faults: u64,
+    report_faults: u64,
+    aside: bool,
+}
+
+impl Model for OsDesk {
+    ghost use Rattle.ts_os.specs.Untold.{OsDeskView};
+
+    ghost Value = { OsDeskView };
+
+    ghost view = { λ d. record {
+      read_faults = d.read_faults;
+      write_faults = d.write_faults;
+      report_faults = d.report_faults;
+      aside = d.aside;
+    } };
+}
+
+impl OsDesk {
+    /// The desk of this process, at which nothing failed yet.
+    pub fn new(rt: HostRuntime) -> OsDesk
+        ensures { result ≡ record { read_faults = 0; write_faults = 0; report_faults = 0; aside = false } }
+    {
+        OsDesk {
+            rt,
+            alloc: rt.alloc(),
+            read_faults: 0,
+            write_faults: 0,
+            report_faults: 0,
+            aside: false,
+        }
+    }
+
+    /// A source of a name that opened.
+    fn source(&self, named: &str) -> Option<OsSource>
+        ensures { IfSome result (λ s. s ≡ 0) }
+    {
+        let from = if named.is_empty() {
+            Opened::Stream(self.rt.stdin())
+        } else {
+            Opened::File(File::open(&self.rt, named).ok()?)
+        };
+        Some(OsSource { from, faults: 0 })
+    }
+
+    /// A sink of a name that opened.
+    fn sink(&self, named: &str) -> Option<OsSink>
+        ensures { IfSome result (λ s. s ≡ 0) }
+    {
+        let to = if named.is_empty() {
+            Made::Stream(self.rt.stdout())
+        } else {
+            Made::File(File::create(&self.rt, named).ok()?)
+        };
+        Some(OsSink { to, faults: 0 })
+    }
+}
+
+impl Desk for OsDesk {
+    type In = OsSource;
+
+    type Out = OsSink;
+
+    ghost seen = { untold_desk };
+
+    fn open_in(&mut self, name: Option<&str>) -> Result<OsSource, OpenFault>
+        ensures asked { let named = stream_name (option_copied name.entry) in
+            MatchOpen result
+            (λ _. untold_desk self.new ≡ asked_well (untold_desk self.old) Input named)
+            (untold_desk self.new ≡ asked_in_vain (untold_desk self.old) Input named)
+            (untold_desk self.new ≡ untold_desk self.old) }
+        ensures source { let named = stream_name (option_copied name.entry) in
+            IfOk result (λ s. untold_source s ≡ record { left = content (untold_desk self.old) named; faults = 0 }) }
+        ensures aside { self.new.aside ≡ self.old.aside }
+    {
+        match self.source(name.unwrap_or("")) {
+            Some(source) => Ok(source),
+            None => {
+                self.read_faults = one_more(self.read_faults);
+                Err(OpenFault::Failed)
+            }
+        }
+    }
+
+    fn open_out(&mut self, name: Option<&str>) -> Result<OsSink, OpenFault>
+        ensures asked { let named = stream_name (option_copied name.entry) in
+            MatchOpen result
+            (λ _. untold_desk self.new ≡ asked_well (untold_desk self.old) Output named)
+            (untold_desk self.new ≡ asked_in_vain (untold_desk self.old) Output named)
+            (untold_desk self.new ≡ untold_desk self.old) }
+        ensures sink { let named = stream_name (option_copied name.entry) in
+            let told = (untold_desk self.old).outputs in
+            IfOk result (λ s. untold_sink s ≡
+            record { taken = option_map (λ _. []) told; name = option_map (λ _. named) told; faults = 0 }) }
+
+        // From the first opening of the standard stream on, reports keep out of it.
+        ensures aside { let named = stream_name (option_copied name.entry) in
+            self.new.aside ≡ (self.old.aside || bytes_eq named []) }
+    {
+        let named = name.unwrap_or("");
+        if named.is_empty() {
+            self.aside = true;
+        }
+        match self.sink(named) {
+            Some(sink) => Ok(sink),
+            None => {
+                self.write_faults = one_more(self.write_faults);
+                Err(OpenFault::Failed)
+            }
+        }
+    }
+
+    fn close_in(&mut self, input: OsSource)
+        ensures closed { untold_desk self.new ≡ input_closed (untold_desk self.old) (untold_source input) }
+        ensures aside { self.new.aside ≡ self.old.aside }
+    {
+        let OsSource { from: _, faults } = input;
+        if faults > 0 {
+            self.read_faults = one_more(self.read_faults);
+        }
+    }
+
+    fn close_out(&mut self, output: OsSink) -> Result<(), Failed>
+        ensures closed { untold_desk self.new ≡ output_closed (untold_desk self.old) (untold_sink output) (is_err result) }
+        ensures aside { self.new.aside ≡ self.old.aside }
+
+        // Nothing is kept back that a closing could still have to write.
+        ensures ok { IsOk result }
+    {
+        let OsSink { to: _, faults } = output;
+        if faults > 0 {
+            self.write_faults = one_more(self.write_faults);
+        }
+        Ok(())
+    }
+
+    fn read_file(&mut self, name: Option<&str>, most: usize) -> Result<FileBytes, FileFault>
+        ensures asked { let named = stream_name (option_copied name.entry) in
+            MatchFile result
+            (λ _. untold_desk self.new ≡ asked_well (untold_desk self.old) Whole named)
+            (untold_desk self.new ≡ asked_well (untold_desk self.old) Whole named)
+            (untold_desk self.new ≡ asked_in_vain (untold_desk self.old) Whole named)
+            (untold_desk self.new ≡ untold_desk self.old) }
+        ensures file { let file = content (untold_desk self.old) (stream_name (option_copied name.entry)) in
+            MatchFile result
+            (λ bytes. (length bytes ≤ most) × IfSome file (λ b. bytes ≡ b))
+            (IfSome file (λ b. most < length b))
+            (Unit {0})
+            (Unit {0}) }
+        ensures aside { self.new.aside ≡ self.old.aside }
+    {
+        let read = match self.source(name.unwrap_or("")) {
+            Some(mut source) => {
+                let read = read_to_end(self.alloc, &mut source, most);
+                let OsSource { from: _, faults: _ } = source;
+                read
+            }
+            None => Err(FileFault::Failed),
+        };
+        if let Err(FileFault::Failed) = read {
+            self.read_faults = one_more(self.read_faults);
+        }
+        read
+    }
+
+    fn report(&mut self, piece: &[u8]) -> Result<usize, Failed>
+        requires { 0 < length piece.now }
+        ensures some { IfOk result (λ n. 0 < n) }
+        ensures within { IfOk result (λ n. n ≤ length piece.now) }
+        ensures taken { IfOk result (λ n. untold_desk self.new ≡ reports (untold_desk self.old) (take n piece.now)) }
+        ensures failed { OnErr result (untold_desk self.new ≡ report_failed (untold_desk self.old)) }
+        ensures aside { self.new.aside ≡ self.old.aside }
+    {
+        let moved = if self.aside {
+            write_some(&mut self.rt.stderr(), piece)
+        } else {
+            write_some(&mut self.rt.stdout(), piece)
+        };
+        match moved {
+            Some(count) => Ok(count),
+            None => {
+                self.report_faults = one_more(self.report_faults);
+                Err(Failed)
+            }
+        }
+    }
+}

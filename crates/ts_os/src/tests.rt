@@ -1,0 +1,118 @@
+use super::*;
+use std::test::Fail;
+use std::{env, fs, process};
+use ts_outside::{Desk, Failed, FileFault, OpenFault, Sink, Source, write_whole};
+
+// Why a name does not open as an input; `None` where it does.
+fn input_fault(desk: &mut OsDesk, name: &str) -> Option<OpenFault> {
+    match desk.open_in(Some(name)) {
+        Ok(source) => {
+            desk.close_in(source);
+            None
+        }
+        Err(fault) => Some(fault),
+    }
+}
+
+// Why a name does not open as an output; `None` where it does.
+fn output_fault(desk: &mut OsDesk, name: &str) -> Option<OpenFault> {
+    match desk.open_out(Some(name)) {
+        Ok(sink) => match desk.close_out(sink) {
+            Ok(()) => None,
+            Err(Failed) => Some(OpenFault::Failed),
+        },
+        Err(fault) => Some(fault),
+    }
+}
+
+// What one read of an input gives, and then a second one.
+fn read_twice(desk: &mut OsDesk, name: &str, into: &mut [u8; 4]) -> Result<[usize; 2], Failed> {
+    let Ok(mut source) = desk.open_in(Some(name)) else {
+        return Err(Failed);
+    };
+    let first = source.read(into);
+    let second = source.read(into);
+    desk.close_in(source);
+    Ok([first?, second?])
+}
+
+// Writes an output.
+fn write(desk: &mut OsDesk, name: &str, bytes: &[u8]) -> Result<(), Failed> {
+    let Ok(mut sink) = desk.open_out(Some(name)) else {
+        return Err(Failed);
+    };
+    let written = write_whole(&mut sink, bytes);
+    desk.close_out(sink)?;
+    match written {
+        Ok(()) => Ok(()),
+        Err(_) => Err(Failed),
+    }
+}
+
+// An opening that fails, of an input, an output and a whole file.
+#[test]
+fn desk_fails(rt: HostRuntime) {
+    let mut desk = OsDesk::new(rt);
+    assert_eq!(rt;
+        input_fault(&mut desk, "no/such/file"),
+        Some(OpenFault::Failed)
+    );
+    assert_eq!(rt;
+        output_fault(&mut desk, "no/such/file"),
+        Some(OpenFault::Failed)
+    );
+    let whole = desk.read_file(Some("no/such/file"), 9).err();
+    assert_eq!(rt; whole, Some(FileFault::Failed));
+    let directory = desk.read_file(Some("/"), 9).err();
+    assert_eq!(rt; directory, Some(FileFault::Failed));
+}
+
+// A directory opens, and its first read fails.
+#[test]
+fn source_fails(rt: HostRuntime) {
+    let mut desk = OsDesk::new(rt);
+    assert_eq!(rt; input_fault(&mut desk, "/"), None);
+    let mut into = [0; 4];
+    assert_eq!(rt; read_twice(&mut desk, "/", &mut into), Err(Failed));
+}
+
+// A full device opens, and its first write fails.
+#[test]
+fn sink_fails(rt: HostRuntime) {
+    let mut desk = OsDesk::new(rt);
+    assert_eq!(rt; output_fault(&mut desk, "/dev/full"), None);
+    assert_eq!(rt; write(&mut desk, "/dev/full", b"abc"), Err(Failed));
+}
+
+// What was written is read again, in pieces and whole, and a second writing leaves nothing of the first.
+#[test]
+fn round_trip(rt: HostRuntime) -> Result<(), Fail> {
+    let folder = env::temp_dir(&rt)?.into_string();
+    let process = process::id(rt.process());
+    let name = format!(in rt.alloc(); "{folder}/ts_os-{process}")?;
+    let mut desk = OsDesk::new(rt);
+
+    write(&mut desk, name.as_str(), b"abcdefgh")?;
+    write(&mut desk, name.as_str(), b"abcdef")?;
+
+    let mut into = [0; 4];
+    assert_eq!(rt; read_twice(&mut desk, name.as_str(), &mut into)?, [4, 2]);
+    assert_eq!(rt; &into[..2], b"ef".as_slice());
+
+    let whole = desk.read_file(Some(name.as_str()), 6).ok().ok_or("read")?;
+    assert_eq!(rt; whole.as_slice(), b"abcdef".as_slice());
+    let short = desk.read_file(Some(name.as_str()), 5).err();
+    assert_eq!(rt; short, Some(FileFault::TooMany));
+    fs::remove_file(&rt, name.as_str())?;
+    Ok(())
+}
+
+// The empty name is a standard stream, and a report is taken whole.
+#[test]
+fn standard_streams(rt: HostRuntime) {
+    let mut desk = OsDesk::new(rt);
+    assert_eq!(rt; input_fault(&mut desk, ""), None);
+    assert_eq!(rt; desk.report(b"out\n"), Ok(4));
+    assert_eq!(rt; output_fault(&mut desk, ""), None);
+    assert_eq!(rt; desk.report(b"err\n"), Ok(4));
+}

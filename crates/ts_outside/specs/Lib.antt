@@ -1,0 +1,10 @@
+pub mod Count
+pub mod Told
+pub mod Source
+pub mod Sink
+pub mod OpenFault
+pub mod FileFault
+pub mod Desk
+pub mod Memory
+pub mod Found
+pub mod Steady

@@ -1,0 +1,26 @@
+-- This project's own rule: where bytes go.
+use Rattle.std.specs.Prelude.{ℕ, ◌≡◌, ◌≤◌, List, Option}
+use Rattle.ts_outside.specs.Count.{raised}
+use Rattle.ts_outside.specs.Told.{grown}
+
+-- what contracts see of a sink: the bytes that it took and the name for which it was opened, each told or not,
+-- and the count of its faults
+pub record SinkView : Type 0 where
+  pub taken : Option (List ℕ)
+  pub name : Option (List ℕ)
+  pub faults : ℕ
+
+-- the sink after it took these bytes
+abbrev pub took : SinkView → List ℕ → SinkView
+took s bytes = record s { taken = grown s.taken bytes }
+
+-- the sink after a call that failed
+abbrev pub write_failed : SinkView → SinkView
+write_failed s = record s { faults = raised s.faults }
+
+-- what every loop over a sink keeps: these bytes were taken since, the name is the same, what was told stays told, and
+-- the count has not fallen
+pub record HasTaken (old new : SinkView) (bytes : List ℕ) : Type 0 where
+  pub taken : new.taken ≡ grown old.taken bytes
+  pub name : new.name ≡ old.name
+  pub not_fallen : old.faults ≤ new.faults

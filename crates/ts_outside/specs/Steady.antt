@@ -1,0 +1,37 @@
+-- This project's own rule: the outside in memory that never fails, and keeps of what goes out the number of bytes alone.
+use Rattle.std.specs.Prelude.{ℕ, ◌+◌, ◌-◌, ◌^◌, List, Option, None, Some, min}
+use Rattle.ts_outside.specs.Source.{SourceView}
+use Rattle.ts_outside.specs.Sink.{SinkView}
+use Rattle.ts_outside.specs.Desk.{DeskView}
+
+-- a source is its bytes still to come, and tells them
+abbrev pub steady_source : List ℕ → SourceView
+steady_source left = record { left = Some left; faults = 0 }
+
+-- a sink is the number of bytes that it took, and tells neither bytes nor name
+abbrev pub steady_sink : ℕ → SinkView
+steady_sink taken = record { taken = None; name = None; faults = 0 }
+
+-- what contracts see of a steady desk: its files, and how many bytes were written by closed sinks and reported
+pub record SteadyDeskView : Type 0 where
+  pub files : List (List ℕ × List ℕ)
+  pub written : ℕ
+  pub reported : ℕ
+
+-- a desk tells its files alone, and nothing of it ever failed
+abbrev pub steady_desk : SteadyDeskView → DeskView
+steady_desk d =
+    record {
+      files = Some d.files;
+      outputs = None;
+      reported = None;
+      asked = None;
+      closed_in = None;
+      read_faults = 0;
+      write_faults = 0;
+      report_faults = 0;
+    }
+
+-- a number of bytes and some more; it stands still at its type's end
+abbrev pub counted : ℕ → ℕ → ℕ
+counted n more = min (n + more) (2 ^ 64 - 1)

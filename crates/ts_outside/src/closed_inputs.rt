@@ -1,0 +1,15 @@
+/// One source that a desk closed.
+#[derive(Clone, Copy, Debug, PartialEq, Eq)]
+pub struct ClosedInput {
+    /// How many bytes it had still to come.
+    pub left: usize,
+    /// Whether one of its reads had failed.
+    pub failed: bool,
+}
+
+/// Closed sources, the last one first: each link is made when a source is opened and filled when it is closed.
+#[derive(Debug, Drop)]
+pub(crate) enum ClosedInputs {
+    Empty,
+    Behind(ClosedInput, Box<ClosedInputs>),
+}

@@ -1,0 +1,94 @@
+ghost use Rattle.std.specs.Prelude.{◌≡◌};
+ghost use Rattle.ts_outside.specs.declared.faults.OpenFault.TheVariants.{NoMemory};
+ghost use Rattle.ts_outside.specs.declared.faults.FileFault.TheVariants.{NoMemory as NoMemoryForFile};
+
+use std::alloc::{AllocError, AllocFailed};
+use std::error::Error;
+use std::fmt;
+
+/// A call on the outside failed: a read, a write, a report or the closing of an output.
+#[derive(Clone, Copy, Debug, PartialEq, Eq)]
+pub struct Failed;
+
+impl fmt::Display for Failed {
+    fn fmt<W: fmt::Write>(&self, f: &mut fmt::Formatter<W>) -> fmt::Result {
+        write!(f, "the outside failed")
+    }
+}
+
+impl Error for Failed {}
+
+/// Why a source or a sink was not opened.
+#[derive(Clone, Copy, Debug, PartialEq, Eq)]
+pub enum OpenFault {
+    /// The outside refused.
+    Failed,
+    /// Memory was wanting.
+    NoMemory,
+}
+
+impl fmt::Display for OpenFault {
+    fn fmt<W: fmt::Write>(&self, f: &mut fmt::Formatter<W>) -> fmt::Result {
+        match self {
+            OpenFault::Failed => write!(f, "cannot open"),
+            OpenFault::NoMemory => write!(f, "out of memory"),
+        }
+    }
+}
+
+impl Error for OpenFault {}
+
+impl From<AllocError> for OpenFault {
+    ghost from_gives = { λ _ e. e ≡ NoMemory };
+
+    fn from(_e: AllocError) -> OpenFault {
+        OpenFault::NoMemory
+    }
+}
+
+impl<T: Drop> From<AllocFailed<T>> for OpenFault {
+    ghost from_gives = { λ _ e. e ≡ NoMemory };
+
+    fn from(_e: AllocFailed<T>) -> OpenFault {
+        OpenFault::NoMemory
+    }
+}
+
+/// Why a whole file was not read.
+#[derive(Clone, Copy, Debug, PartialEq, Eq)]
+pub enum FileFault {
+    /// The outside refused, at the opening or in the middle.
+    Failed,
+    /// The file has more bytes than were allowed.
+    TooMany,
+    /// Memory was wanting.
+    NoMemory,
+}
+
+impl fmt::Display for FileFault {
+    fn fmt<W: fmt::Write>(&self, f: &mut fmt::Formatter<W>) -> fmt::Result {
+        match self {
+            FileFault::Failed => write!(f, "cannot read"),
+            FileFault::TooMany => write!(f, "too many bytes"),
+            FileFault::NoMemory => write!(f, "out of memory"),
+        }
+    }
+}
+
+impl Error for FileFault {}
+
+impl From<AllocError> for FileFault {
+    ghost from_gives = { λ _ e. e ≡ NoMemoryForFile };
+
+    fn from(_e: AllocError) -> FileFault {
+        FileFault::NoMemory
+    }
+}
+
+impl<T: Drop> From<AllocFailed<T>> for FileFault {
+    ghost from_gives = { λ _ e. e ≡ NoMemoryForFile };
+
+    fn from(_e: AllocFailed<T>) -> FileFault {
+        FileFault::NoMemory
+    }
+}

@@ -1,0 +1,20 @@
+/// Where a plugin's stage tells that it goes into a window and comes out of it.
+///
+/// A gate may hold a stage there: a test's gate makes two stages meet.
+pub trait Gate: Sync {
+    /// Before stage `stage` edits a window that is not empty: the position of its first cell, and how many cells it has.
+    fn enter(&self, stage: usize, start: u64, len: usize);
+
+    /// After stage `stage` has edited the window.
+    fn leave(&self, stage: usize);
+}
+
+/// The gate that does nothing.
+#[derive(Clone, Copy, Debug)]
+pub struct OpenGate;
+
+impl Gate for OpenGate {
+    fn enter(&self, _stage: usize, _start: u64, _len: usize) {}
+
+    fn leave(&self, _stage: usize) {}
+}

@@ -1,0 +1,51 @@
+//! The outside as three traits: bytes that come in, bytes that go out, files that are opened.
+//! The layer above uses the clauses of `Desk`, `Source` and `Sink`, and nothing else.
+#![tactic(auto)]
+
+mod closed_inputs;
+mod closed_outputs;
+mod counts;
+mod desks;
+mod fail_plan;
+mod faults;
+mod file_bytes;
+mod file_list;
+mod gates;
+mod memory_desk;
+mod memory_sink;
+mod memory_source;
+mod name_text;
+mod number_list;
+mod reading;
+mod requests;
+mod sinks;
+mod sources;
+mod steady_desk;
+mod steady_sink;
+mod steady_source;
+mod stream_names;
+mod wholes;
+
+pub use closed_inputs::ClosedInput;
+pub use desks::Desk;
+pub use fail_plan::FailPlan;
+pub use faults::{Failed, FileFault, OpenFault};
+pub use file_bytes::FileBytes;
+pub use file_list::FileList;
+pub use gates::{Gate, OpenGate};
+pub use memory_desk::MemoryDesk;
+pub use memory_sink::MemorySink;
+pub use memory_source::MemorySource;
+pub use name_text::NameText;
+pub use number_list::NumberList;
+pub use reading::read_to_end;
+pub use requests::{Asked, Purpose};
+pub use sinks::Sink;
+pub use sources::Source;
+pub use steady_desk::SteadyDesk;
+pub use steady_sink::SteadySink;
+pub use steady_source::SteadySource;
+pub use wholes::{CutShort, report_whole, write_whole};
+
+#[cfg(test)]
+mod tests;

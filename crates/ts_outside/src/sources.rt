@@ -1,0 +1,23 @@
+ghost use Rattle.std.specs.Prelude.{◌≡◌, ◌<◌, ◌≤◌, [], length, take, IfOk, OnErr, IfSome};
+ghost use Rattle.ts_outside.specs.Source.{SourceView, read_failed, unread};
+
+use crate::faults::Failed;
+
+/// Where bytes come from: an opened file, a standard stream, or a list in memory.
+///
+/// A source is no `Drop`: it has to be handed to `Desk::close_in`.
+pub trait Source {
+    // What contracts see: the bytes still to come, told or not, and the count of faults.
+    ghost seen: { Self → SourceView };
+
+    /// Moves the next bytes into the front of `into` and answers how many they are. What stands behind them there may
+    /// have changed.
+    ///
+    /// `Ok(0)` means the end. `Failed` raises the count of faults, and no byte is lost by it.
+    fn read(&mut self, into: &mut [u8]) -> Result<usize, Failed>
+        requires { 0 < length into.old }
+        ensures within { IfOk result (λ n. n ≤ length into.new) }
+        ensures moved { IfOk result (λ n. seen self.old ≡ unread (take n into.new) (seen self.new)) }
+        ensures end { IfOk result (λ n. n ≡ 0 → IfSome (seen self.old).left (λ l. l ≡ [])) }
+        ensures failed { OnErr result (seen self.new ≡ read_failed (seen self.old)) };
+}

@@ -1,0 +1,46 @@
+ghost use Rattle.std.specs.Prelude.{◌≡◌, ◌<◌, ◌≤◌, [], drop, length, min, take, IfOk, IsOk, OnErr, IfSome};
+ghost use Rattle.ts_outside.specs.Source.{read_failed, unread};
+ghost use Rattle.ts_outside.specs.Steady.{steady_source};
+
+use crate::faults::Failed;
+use crate::sources::Source;
+use std::marker::Model;
+
+/// A source over bytes in memory, seen as those still to come. It never fails.
+pub struct SteadySource {
+    pub(crate) bytes: Vec<u8>,
+    pub(crate) at: usize,
+}
+
+impl Model for SteadySource {
+    ghost use Rattle.std.specs.Prelude.{ℕ, List, ◌≤◌, drop, vec_len};
+
+    ghost Value = { List ℕ };
+
+    ghost view = { λ s. drop s.at s.bytes.items };
+
+    ghost invariant = { λ s. s.at ≤ vec_len s.bytes };
+}
+
+impl Source for SteadySource {
+    ghost seen = { steady_source };
+
+    fn read(&mut self, into: &mut [u8]) -> Result<usize, Failed>
+        requires { 0 < length into.old }
+        ensures within { IfOk result (λ n. n ≤ length into.new) }
+        ensures moved { IfOk result (λ n. steady_source self.old ≡ unread (take n into.new) (steady_source self.new)) }
+        ensures end { IfOk result (λ n. n ≡ 0 → IfSome (steady_source self.old).left (λ l. l ≡ [])) }
+        ensures failed { OnErr result (steady_source self.new ≡ read_failed (steady_source self.old)) }
+
+        // It never fails, and moves as much as there is and has a place.
+        ensures steady { IsOk result }
+        ensures count { IfOk result (λ n. n ≡ min (length into.new) (length self.old)) }
+        ensures rest { IfOk result (λ n. self.new ≡ drop n self.old) }
+    {
+        let rest = &self.bytes[self.at..];
+        let count = into.len().min(rest.len());
+        into[..count].copy_from_slice(&rest[..count]);
+        self.at += count;
+        Ok(count)
+    }
+}
