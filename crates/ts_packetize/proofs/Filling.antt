@@ -38,8 +38,8 @@ pub laid_plain :
 laid_plain u a b c d bytes blank one e h is laid =
     let front = a ∷ b ∷ c ∷ d ∷ [] in
     let body : with_piece (a ∷ b ∷ c ∷ d ∷ replicate 184 0xFF) 4 bytes ≡ front ++ filled bytes =
-      ap (λ t. front ++ (bytes ++ t)) (drop_four (length bytes) a b c d (replicate 184 0xFF) ∙ drop-replicate (length bytes) 184 0xFF)
-        ∙ ap (λ t. front ++ t) (sym (filled_few bytes h)) in
+    ap (λ t. front ++ (bytes ++ t)) (drop_four (length bytes) a b c d (replicate 184 0xFF) ∙ drop-replicate (length bytes) 184 0xFF)
+    ∙ ap (λ t. front ++ t) (sym (filled_few bytes h)) in
     laid ∙ ap (λ t. with_piece t 4 bytes) is ∙ body ∙ ap (λ t. front ++ filled t) (sym (if_false u (0 ∷ bytes) bytes e))
 
 -- and with a pointer 0 before the piece
@@ -51,20 +51,20 @@ laid_unit u a b c d bytes blank one two e h is first second =
     let front = a ∷ b ∷ c ∷ d ∷ 0 ∷ [] in
     let pointed : one ≡ a ∷ b ∷ c ∷ d ∷ 0 ∷ replicate 183 0xFF = first ∙ ap (λ t. with_piece t 4 (0 ∷ [])) is in
     let few : filled (0 ∷ bytes) ≡ 0 ∷ (bytes ++ replicate (183 - length bytes) 0xFF) =
-      filled_few (0 ∷ bytes) (omega arith) ∙ ap (λ k. 0 ∷ (bytes ++ replicate k 0xFF)) (let f : 184 - suc (length bytes) ≡ 183 - length bytes = omega arith in f) in
+    filled_few (0 ∷ bytes) (omega arith) ∙ ap (λ k. 0 ∷ (bytes ++ replicate k 0xFF)) (let f : 184 - suc (length bytes) ≡ 183 - length bytes = omega arith in f) in
     let body : with_piece (a ∷ b ∷ c ∷ d ∷ 0 ∷ replicate 183 0xFF) 5 bytes ≡ a ∷ b ∷ c ∷ d ∷ filled (0 ∷ bytes) =
-      ap (λ t. front ++ (bytes ++ t)) (drop_five (length bytes) a b c d 0 (replicate 183 0xFF) ∙ drop-replicate (length bytes) 183 0xFF)
-        ∙ ap (λ t. a ∷ b ∷ c ∷ d ∷ t) (sym few) in
+    ap (λ t. front ++ (bytes ++ t)) (drop_five (length bytes) a b c d 0 (replicate 183 0xFF) ∙ drop-replicate (length bytes) 183 0xFF)
+    ∙ ap (λ t. a ∷ b ∷ c ∷ d ∷ t) (sym few) in
     second ∙ ap (λ t. with_piece t 5 bytes) pointed ∙ body ∙ ap (λ t. a ∷ b ∷ c ∷ d ∷ filled t) (sym (if_true u (0 ∷ bytes) bytes e))
 
 -- the first part of some bytes fills a payload as they do
 pub filled-first : (m : ℕ) (bytes : List ℕ) → m ≤ length bytes → m ≤ 184 → (m < 184 → m ≡ length bytes) → filled (take m bytes) ≡ filled bytes
 filled-first m bytes h k all =
     elim (le_or_lt 184 m) as (λ _. filled (take m bytes) ≡ filled bytes) [
-      inl l ↦
-        (let e : m ≡ 184 = omega arith in
-        let t : length (take 184 bytes) ≡ 184 = omega (arith, length-take 184 bytes) in
-        ap (λ n. filled (take n bytes)) e
+      | inl l ↦
+          (let e : m ≡ 184 = omega arith in
+          let t : length (take 184 bytes) ≡ 184 = omega (arith, length-take 184 bytes) in
+          ap (λ n. filled (take n bytes)) e
           ∙ filled_many (take 184 bytes) (omega arith)
           ∙ take-take 184 184 bytes (omega arith)
           ∙ sym (filled_many bytes (omega arith)))
@@ -75,10 +75,10 @@ filled-first m bytes h k all =
 pub left_behind : (m most : ℕ) (bytes : List ℕ) → m ≤ most → (m < most → m ≡ length bytes) → drop m bytes ≡ drop most bytes
 left_behind m most bytes h all =
     elim (le_or_lt most m) as (λ _. drop m bytes ≡ drop most bytes) [
-      inl l ↦ (let e : m ≡ most = omega arith in ap (λ n. drop n bytes) e)
+      | inl l ↦ (let e : m ≡ most = omega arith in ap (λ n. drop n bytes) e)
       | inr l ↦
-        (let e = all l in
-        drop_of_length-le bytes {i = m} (omega arith) ∙ sym (drop_of_length-le bytes {i = most} (omega arith)))
+          (let e = all l in
+          drop_of_length-le bytes {i = m} (omega arith) ∙ sym (drop_of_length-le bytes {i = most} (omega arith)))
     ]
 
 pub loads_behind-nil : (n : ℕ) → loads_behind n [] ≡ []
@@ -101,7 +101,7 @@ loads_behind-same (suc m) (suc n) (b ∷ bytes) h k =
 pub loads_behind-next :
     (m : ℕ) (bytes : List ℕ) → 0 < length bytes → m ≤ length bytes → m ≤ 184 → (m < 184 → m ≡ length bytes) →
     loads_behind (length bytes) bytes
-      ≡ (let first : Load = record { unit_start = false; payload = filled (take m bytes) } in first) ∷ loads_behind (length (drop m bytes)) (drop m bytes)
+    ≡ (let first : Load = record { unit_start = false; payload = filled (take m bytes) } in first) ∷ loads_behind (length (drop m bytes)) (drop m bytes)
 unfolding loads_behind
 loads_behind-next m [] p h k all = absurd (omega arith)
 loads_behind-next m (b ∷ bytes) p h k all =
@@ -110,14 +110,14 @@ loads_behind-next m (b ∷ bytes) p h k all =
     let d : drop 184 (b ∷ bytes) ≡ rest = sym (left_behind m 184 (b ∷ bytes) k all) in
     let l : length rest ≤ length bytes = omega (arith, ap length d, length-drop 184 (b ∷ bytes)) in
     ap (λ t. load t ∷ loads_behind (length bytes) (drop 184 (b ∷ bytes))) (sym (filled-first m (b ∷ bytes) h k all))
-      ∙ ap (λ t. load (filled (take m (b ∷ bytes))) ∷ loads_behind (length bytes) t) d
-      ∙ ap (λ t. load (filled (take m (b ∷ bytes))) ∷ t) (loads_behind-same (length bytes) (length rest) rest l (omega arith))
+    ∙ ap (λ t. load (filled (take m (b ∷ bytes))) ∷ loads_behind (length bytes) t) d
+    ∙ ap (λ t. load (filled (take m (b ∷ bytes))) ∷ t) (loads_behind-same (length bytes) (length rest) rest l (omega arith))
 
 -- the first load of a section and those behind it
 pub loads_of-first :
     (m : ℕ) (section : List ℕ) → m ≤ length section → m ≤ 183 → (m < 183 → m ≡ length section) →
     loads_of section
-      ≡ (let first : Load = record { unit_start = true; payload = filled (0 ∷ take m section) } in first) ∷ loads_behind (length (drop m section)) (drop m section)
+    ≡ (let first : Load = record { unit_start = true; payload = filled (0 ∷ take m section) } in first) ∷ loads_behind (length (drop m section)) (drop m section)
 unfolding loads_of
 loads_of-first m section h k all =
     let rest = drop m section in
@@ -126,5 +126,13 @@ loads_of-first m section h k all =
     let l : length rest ≤ length section = omega (arith, length-drop m section) in
     let f : filled (0 ∷ take m section) ≡ filled (0 ∷ section) = filled-first (suc m) (0 ∷ section) (omega arith) (omega arith) (λ s. ap suc (all (omega arith))) in
     ap (λ t. load t ∷ loads_behind (length section) (drop 183 section)) (sym f)
-      ∙ ap (λ t. load (filled (0 ∷ take m section)) ∷ loads_behind (length section) t) d
-      ∙ ap (λ t. load (filled (0 ∷ take m section)) ∷ t) (loads_behind-same (length section) (length rest) rest l (omega arith))
+    ∙ ap (λ t. load (filled (0 ∷ take m section)) ∷ loads_behind (length section) t) d
+    ∙ ap (λ t. load (filled (0 ∷ take m section)) ∷ t) (loads_behind-same (length section) (length rest) rest l (omega arith))
+
+pub room_unit : (u : Bool) (n : ℕ) → u ≡ true → n + (if u then 1 else 0) ≤ 184 → n ≤ 183
+room_unit true n e h = omega arith
+room_unit false n e h = cc
+
+pub room_plain : (u : Bool) (n : ℕ) → u ≡ false → n + (if u then 1 else 0) ≤ 184 → n ≤ 184
+room_plain true n e h = cc
+room_plain false n e h = omega arith

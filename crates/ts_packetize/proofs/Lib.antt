@@ -3,3 +3,4 @@ pub mod Counting
 pub mod HeaderFields
 pub mod Again
 pub mod Cycling
+pub mod Packeting
