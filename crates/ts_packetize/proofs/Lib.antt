@@ -1,3 +1,4 @@
+pub mod Rows
 pub mod Filling
 pub mod Counting
 pub mod HeaderFields
