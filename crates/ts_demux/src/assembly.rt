@@ -7,7 +7,7 @@ ghost use Rattle.ts_section.specs.SectionRun.{stands_alone};
 ghost use Rattle.ts_demux.specs.Keys.{key_eq};
 ghost use Rattle.ts_demux.specs.declared.table_key.TableKey.{TableKey};
 ghost use Rattle.ts_demux.specs.Era.{HasEra, EntryStands, EraStands, AllBelong, entry_goes_on};
-ghost use Rattle.std.specs.Option.{option_copied};
+ghost use Rattle.std.specs.Option.{option_copied, option_to_list};
 ghost use Rattle.ts_demux.specs.Tables.{completed};
 
 use crate::era::Era;
@@ -30,7 +30,7 @@ pub struct Assembly {
 }
 
 impl Assembly {
-    ghost use Rattle.ts_demux.specs.Tables.{table_at};
+    ghost use Rattle.ts_demux.specs.Tables.{table_at, tables_of};
     ghost use Rattle.ts_demux.specs.AssemblyState.{StandsFor, has_failed};
 
     /// An assembly that was given nothing.
@@ -47,6 +47,8 @@ impl Assembly {
     /// After `AllocError` every later call answers `AllocError`.
     pub fn add(&mut self, section: Section) -> Result<Option<TableRun>, AllocError>
         ensures completes { IfOk result (λ table. (before : List (List ℕ)) → StandsFor self.old before → table ≡ table_at before section) }
+        ensures tables { IfOk result (λ table. (before : List (List ℕ)) → StandsFor self.old before →
+            tables_of (before ++ section ∷ []) ≡ tables_of before ++ option_to_list table) }
         ensures stands { OnOk result ((before : List (List ℕ)) → StandsFor self.old before → StandsFor self.new (before ++ section ∷ [])) }
         ensures spent { OnErr result (has_failed self.new ≡ true) }
         ensures stays_spent { has_failed self.old ≡ true → IsErr result }

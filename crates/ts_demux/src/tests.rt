@@ -47,16 +47,27 @@ fn halves(alloc: Global) -> Result<Option<(Vec<u8>, Vec<u8>)>, AllocError> {
         number: 0,
         last: 0,
     };
-    let section = Section::long(alloc, head, &[0x55; 188])?;
-    let bytes = section.bytes();
-    if bytes.len() != 200 {
+    let mut body = Vec::new(alloc);
+    for _ in 0..188 {
+        body.push(0x55)?;
+    }
+    if body.len() > 4084 {
         return Ok(None);
     }
+    let section = Section::long(alloc, head, body.as_slice())?;
+    split(alloc, section.bytes())
+}
+
+/// The bytes up to 183 behind a pointer 0, and those from there on.
+fn split(alloc: Global, bytes: &[u8]) -> Result<Option<(Vec<u8>, Vec<u8>)>, AllocError> {
+    if bytes.len() < 183 {
+        return Ok(None);
+    }
+    let (front, back) = bytes.split_at(183);
     let mut first = Vec::new(alloc);
     first.push(0)?;
-    first.extend_from_slice(&bytes[..183])?;
-    let second = Vec::from_slice(alloc, &bytes[183..])?;
-    Ok(Some((first, second)))
+    first.extend_from_slice(front)?;
+    Ok(Some((first, Vec::from_slice(alloc, back)?)))
 }
 
 #[test]
@@ -88,20 +99,19 @@ fn pointers_at_the_end(rt: HostRuntime) -> Result<(), Fail> {
     let (first, second) = halves(rt.alloc())?.ok_or("size")?;
     let mut fields = Vec::new(rt.alloc());
     fields.push(183)?;
-    fields.extend_from_slice(&second)?;
+    fields.extend_from_slice(second.as_slice())?;
+    let mut past = Vec::new(rt.alloc());
+    past.push(184)?;
+    past.extend_from_slice(second.as_slice())?;
     let start = packet(3, true, &first).ok_or("packet")?;
     // Pointer 183 of 184 bytes: the bytes before the pointed place finish what was begun.
     let mut lawful = Demux::new(rt.alloc(), PID)?;
     assert_eq!(rt; lawful.feed(&start)?, 0);
     assert_eq!(rt; lawful.feed(&packet(4, true, &fields).ok_or("packet")?)?, 1);
     // Pointer 184 points past the payload and gives it up.
-    fields[0] = 184;
     let mut lawless = Demux::new(rt.alloc(), PID)?;
     assert_eq!(rt; lawless.feed(&start)?, 0);
-    assert_eq!(rt;
-        lawless.feed(&packet(4, true, &fields).ok_or("packet")?)?,
-        0
-    );
+    assert_eq!(rt; lawless.feed(&packet(4, true, &past).ok_or("packet")?)?, 0);
     assert_eq!(rt;
         lawless.feed(&packet(5, false, &second).ok_or("packet")?)?,
         0

@@ -3,6 +3,7 @@
 ghost use Rattle.std.specs.Prelude.{◌≡◌, ◌<◌, [], IfOk, IfNone, OnOk, OnErr};
 ghost use Rattle.ts_packetize.specs.Packets.{packets_of};
 ghost use Rattle.ts_packetize.specs.Cycle.{due, GivesNext};
+ghost use Rattle.ts_packetize.specs.Cycle as cycling;
 
 use crate::packet_list::PacketList;
 use crate::packing::packets;
@@ -65,15 +66,41 @@ impl Cycle {
         ensures next { GivesNext self.old self.new counter result }
         ensures none { IfNone result (due self.old.left self.old.contents ≡ []) }
     {
-        if self.place >= self.current.as_slice().len() {
-            if let Some(list) = self.renewed.take() {
-                self.current = list;
-            }
-            self.place = 0;
+        self.begin_where_over();
+        let packets = self.current.as_slice();
+        if self.place >= packets.len() {
+            return None;
         }
-        let mut packet = *self.current.as_slice().get(self.place)?;
+        let packet = with_counter(&packets[self.place], counter);
         self.place += 1;
-        packet.set_counter(counter);
         Some(packet)
+    }
+
+    /// Begins the next cycle where nothing is left of the one that runs.
+    fn begin_where_over(&mut self)
+        ensures left { self.new.left ≡ due self.old.left self.old.contents }
+        ensures contents { self.new.contents ≡ self.old.contents }
+        ensures pid { self.new.pid ≡ self.old.pid }
+    {
+        if self.place < self.current.as_slice().len() {
+            return;
+        }
+        if let Some(list) = self.renewed.take() {
+            self.current = list;
+        }
+        self.place = 0;
+    }
+}
+
+/// The packet with another counter.
+fn with_counter(packet: &Packet, counter: u8) -> Packet
+    requires { counter < 16 }
+    ensures { result ≡ cycling.with_counter counter packet.now }
+{
+    let mut row = *packet.bytes();
+    row[3] = row[3] / 16 * 16 + counter;
+    match Packet::of(&row) {
+        Ok(packet) => packet,
+        Err(_) => unreachable!(),
     }
 }
