@@ -54,36 +54,36 @@ impl Plugin for AnyPlugin {
     ghost use Rattle.plug_set.specs.declared.any_plugin.AnyPlugin.TheVariants.{Filter as MadeFilter, Skip as MadeSkip, Slice as MadeSlice, Pattern as MadePattern, Until as MadeUntil, Count as MadeCount, Continuity as MadeContinuity, Remap as MadeRemap};
 
     ghost rule = { elim [
-          MadeFilter p ↦ ⟦<Filter as Plugin>⟧.rule p
-        | MadeSkip p ↦ ⟦<Skip as Plugin>⟧.rule p
-        | MadeSlice p ↦ ⟦<Slice as Plugin>⟧.rule p
-        | MadePattern p ↦ ⟦<Pattern as Plugin>⟧.rule p
-        | MadeUntil p ↦ ⟦<Until as Plugin>⟧.rule p
-        | MadeCount p ↦ ⟦<Count as Plugin>⟧.rule p
-        | MadeContinuity p ↦ ⟦<Continuity as Plugin>⟧.rule p
-        | MadeRemap p ↦ ⟦<Remap as Plugin>⟧.rule p
+      | MadeFilter p ↦ ⟦<Filter as Plugin>⟧.rule p
+      | MadeSkip p ↦ ⟦<Skip as Plugin>⟧.rule p
+      | MadeSlice p ↦ ⟦<Slice as Plugin>⟧.rule p
+      | MadePattern p ↦ ⟦<Pattern as Plugin>⟧.rule p
+      | MadeUntil p ↦ ⟦<Until as Plugin>⟧.rule p
+      | MadeCount p ↦ ⟦<Count as Plugin>⟧.rule p
+      | MadeContinuity p ↦ ⟦<Continuity as Plugin>⟧.rule p
+      | MadeRemap p ↦ ⟦<Remap as Plugin>⟧.rule p
     ] };
 
     ghost stands_for = { elim [
-          MadeFilter p ↦ ⟦<Filter as Plugin>⟧.stands_for p
-        | MadeSkip p ↦ ⟦<Skip as Plugin>⟧.stands_for p
-        | MadeSlice p ↦ ⟦<Slice as Plugin>⟧.stands_for p
-        | MadePattern p ↦ ⟦<Pattern as Plugin>⟧.stands_for p
-        | MadeUntil p ↦ ⟦<Until as Plugin>⟧.stands_for p
-        | MadeCount p ↦ ⟦<Count as Plugin>⟧.stands_for p
-        | MadeContinuity p ↦ ⟦<Continuity as Plugin>⟧.stands_for p
-        | MadeRemap p ↦ ⟦<Remap as Plugin>⟧.stands_for p
+      | MadeFilter p ↦ ⟦<Filter as Plugin>⟧.stands_for p
+      | MadeSkip p ↦ ⟦<Skip as Plugin>⟧.stands_for p
+      | MadeSlice p ↦ ⟦<Slice as Plugin>⟧.stands_for p
+      | MadePattern p ↦ ⟦<Pattern as Plugin>⟧.stands_for p
+      | MadeUntil p ↦ ⟦<Until as Plugin>⟧.stands_for p
+      | MadeCount p ↦ ⟦<Count as Plugin>⟧.stands_for p
+      | MadeContinuity p ↦ ⟦<Continuity as Plugin>⟧.stands_for p
+      | MadeRemap p ↦ ⟦<Remap as Plugin>⟧.stands_for p
     ] };
 
     ghost steady = { elim [
-          MadeFilter p ↦ ⟦<Filter as Plugin>⟧.steady p
-        | MadeSkip p ↦ ⟦<Skip as Plugin>⟧.steady p
-        | MadeSlice p ↦ ⟦<Slice as Plugin>⟧.steady p
-        | MadePattern p ↦ ⟦<Pattern as Plugin>⟧.steady p
-        | MadeUntil p ↦ ⟦<Until as Plugin>⟧.steady p
-        | MadeCount p ↦ ⟦<Count as Plugin>⟧.steady p
-        | MadeContinuity p ↦ ⟦<Continuity as Plugin>⟧.steady p
-        | MadeRemap p ↦ ⟦<Remap as Plugin>⟧.steady p
+      | MadeFilter p ↦ ⟦<Filter as Plugin>⟧.steady p
+      | MadeSkip p ↦ ⟦<Skip as Plugin>⟧.steady p
+      | MadeSlice p ↦ ⟦<Slice as Plugin>⟧.steady p
+      | MadePattern p ↦ ⟦<Pattern as Plugin>⟧.steady p
+      | MadeUntil p ↦ ⟦<Until as Plugin>⟧.steady p
+      | MadeCount p ↦ ⟦<Count as Plugin>⟧.steady p
+      | MadeContinuity p ↦ ⟦<Continuity as Plugin>⟧.steady p
+      | MadeRemap p ↦ ⟦<Remap as Plugin>⟧.steady p
     ] };
 
     fn step(&mut self, at: u64, cell: &mut Cell) -> Outcome {
@@ -139,13 +139,13 @@ impl Plugin for AnyPlugin {
     }
 
     ghost starts_open = { elim [
-          MadeFilter p ↦ λ history mark stands. refl
-        | MadeSkip p ↦ λ history mark stands. refl
-        | MadeSlice p ↦ λ history mark stands. refl
-        | MadePattern p ↦ λ history mark stands. refl
-        | MadeUntil p ↦ λ history mark stands. refl
-        | MadeCount p ↦ λ history mark stands. refl
-        | MadeContinuity p ↦ λ history mark stands. refl
-        | MadeRemap p ↦ λ history mark stands. refl
+      | MadeFilter p ↦ λ history mark stands. refl
+      | MadeSkip p ↦ λ history mark stands. refl
+      | MadeSlice p ↦ λ history mark stands. refl
+      | MadePattern p ↦ λ history mark stands. refl
+      | MadeUntil p ↦ λ history mark stands. refl
+      | MadeCount p ↦ λ history mark stands. refl
+      | MadeContinuity p ↦ λ history mark stands. refl
+      | MadeRemap p ↦ λ history mark stands. refl
     ] };
 }

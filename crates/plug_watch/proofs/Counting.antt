@@ -1,5 +1,5 @@
 -- Notes on packets that are counted, and the numbers that they come to.
-use Rattle.std.proofs.Common.{◌≡◌, ℕ, ◌+◌, ◌-◌, ◌<◌, ◌≤◌, ◌^◌, List, [], ◌∷◌, ◌++◌, length, take, drop, map, filter, ap, sym, subst, ◌∙◌, ◌⊎◌, inl, inr, refl, Bool, true, false, not, nat_lt, ◌==◌, if◌then◌else◌, append-nil, append_assoc, arith, length-append, length-take, drop-drop}
+use Rattle.std.proofs.Common.{◌≡◌, ℕ, ◌+◌, ◌-◌, ◌≤◌, List, [], ◌∷◌, ◌++◌, length, take, drop, map, filter, ap, sym, subst, ◌∙◌, inl, inr, refl, true, false, not, nat_lt, ◌==◌, if◌then◌else◌, arith, length-take, drop-drop}
 use Rattle.std.specs.List.{count_by, fold, take_while, list_all}
 use Rattle.std.proofs.Math.Seq.{take-add}
 use Rattle.std.proofs.lemmas.Grind.{flat_map-append}
@@ -13,7 +13,6 @@ use Rattle.plug_conf.specs.declared.count_conf.CountConf.{CountConf}
 use Rattle.plug_watch.specs.declared.note.Note.{Note}
 use Rattle.plug_watch.specs.Notes.{notes_after}
 use Rattle.plug_watch.specs.CountRule.{is_counted, counted, packets_on, note_on}
-use Rattle.plug_watch.specs.Tallies.{IsTally}
 use Rattle.plug_watch.specs.Folding.{StartsFrom, pids_of}
 use Rattle.plug_watch.proofs.Noting.{IsNoteAt, fails_first, not_below, take_while-split, notes_after-append, length-notes_after, take_while-notes_after}
 
@@ -22,8 +21,8 @@ pub one_note : (conf : CountConf) (history : List Cell) (packet : List ℕ) → 
 one_note conf history packet =
     let note : Note = record { at = length history; pid = pid_of packet } in
     elim (is_counted conf packet) as (λ b. IsNoteAt (λ (n : Note). n.at) (length history) (if b then note ∷ [] else [])) [
-      true ↦ record { one = inr (note, refl, refl) }
-    | false ↦ record { one = inl refl }
+      | true ↦ record { one = inr (note, refl, refl) }
+      | false ↦ record { one = inl refl }
     ]
 
 -- the packets that are counted in two lists, one behind the other
@@ -39,10 +38,10 @@ pids_of-notes conf history (Live packet ∷ cells) =
     let rest = notes_after (note_on conf) (history ++ Live packet ∷ []) cells in
     let ih = pids_of-notes conf (history ++ Live packet ∷ []) cells in
     elim (is_counted conf packet) as (λ b.
-        pids_of ((if b then note ∷ [] else []) ++ rest)
-        ≡ map pid_of (if b then packet ∷ filter (is_counted conf) (live_packets cells) else filter (is_counted conf) (live_packets cells))) [
-      true ↦ ap (λ (pids : List ℕ). pid_of packet ∷ pids) ih
-    | false ↦ ih
+    pids_of ((if b then note ∷ [] else []) ++ rest)
+    ≡ map pid_of (if b then packet ∷ filter (is_counted conf) (live_packets cells) else filter (is_counted conf) (live_packets cells))) [
+      | true ↦ ap (λ (pids : List ℕ). pid_of packet ∷ pids) ih
+      | false ↦ ih
     ]
 pids_of-notes conf history (Dropped ∷ cells) = pids_of-notes conf (history ++ Dropped ∷ []) cells
 
@@ -74,7 +73,6 @@ module _ (conf : CountConf) (history : List Cell) (from to : ℕ) (taken rest : 
     (le : from ≤ to) (within : to ≤ length history)
     (split : notes_after (note_on conf) (take from history) (drop from history) ≡ taken ++ rest)
     (below : list_all (λ (n : Note). nat_lt n.at to) taken ≡ true) (starts : StartsFrom to rest) where
-
   -- the notes that were taken are those on the cells between
   pub taken_is : taken ≡ notes_after (note_on conf) (take from history) (take (to - from) (drop from history))
   taken_is =
@@ -82,7 +80,7 @@ module _ (conf : CountConf) (history : List Cell) (from to : ℕ) (taken rest : 
       ∙ (ap (take_while (λ (n : Note). nat_lt n.at to)) (sym split)
       ∙ (take_while-notes_after (note_on conf) (λ (n : Note). n.at) (one_note conf) to (take from history) (drop from history)
       ∙ ap (λ (k : ℕ). notes_after (note_on conf) (take from history) (take (to - k) (drop from history)))
-          (let all : length (take from history) ≡ from = omega (arith, length-take from history) in all)))
+      (let all : length (take from history) ≡ from = omega (arith, length-take from history) in all)))
 
   -- those that are left are those on the cells behind
   pub rest_is : rest ≡ notes_after (note_on conf) (take to history) (drop to history)
@@ -106,5 +104,5 @@ module _ (conf : CountConf) (history : List Cell) (from to : ℕ) (taken rest : 
 pub few_counted : (conf : CountConf) (cells : List Cell) → length (map pid_of (counted conf cells)) ≤ length cells
 few_counted conf cells =
     subst (λ (n : ℕ). n ≤ length cells)
-      (sym (length-map (notes_after (note_on conf) [] cells) (λ (n : Note). n.pid)) ∙ ap length (pids_of-notes conf [] cells))
-      (length-notes_after (note_on conf) (λ (n : Note). n.at) (one_note conf) [] cells)
+    (sym (length-map (notes_after (note_on conf) [] cells) (λ (n : Note). n.pid)) ∙ ap length (pids_of-notes conf [] cells))
+    (length-notes_after (note_on conf) (λ (n : Note). n.at) (one_note conf) [] cells)

@@ -1,5 +1,5 @@
 -- Notes that are taken off the front one after another.
-use Rattle.std.proofs.Common.{◌≡◌, ℕ, ◌+◌, ◌<◌, ◌≤◌, ◌^◌, List, [], ◌∷◌, ◌++◌, length, map, drop, Bool, ap, sym, subst, ◌∙◌, refl, true, ◌&&◌, nat_lt, append_assoc, append-nil, arith, length-append}
+use Rattle.std.proofs.Common.{◌≡◌, ℕ, ◌<◌, List, [], ◌∷◌, ◌++◌, length, map, drop, Bool, ap, sym, subst, ◌∙◌, refl, true, ◌&&◌, nat_lt, append_assoc, append-nil, arith, length-append}
 use Rattle.std.specs.List.{All, list_all}
 use Rattle.std.proofs.lemmas.List.{map-append, length-map}
 use Rattle.std.proofs.lemmas.List.Folds.{list_all-append}
@@ -9,7 +9,7 @@ use Rattle.plugin_trait.specs.declared.line.Line.{Line}
 use Rattle.plug_conf.specs.Limits.{pid_bound}
 use Rattle.plug_watch.specs.declared.note.Note.{Note}
 use Rattle.plug_watch.specs.Tallies.{IsTally, HasRoomFor}
-use Rattle.plug_watch.specs.Folding.{pids_of, line_of_note, CanFold, Folds, FoldsWith, StartsFrom}
+use Rattle.plug_watch.specs.Folding.{pids_of, line_of_note, CanFold, FoldsWith, StartsFrom}
 use Rattle.plug_watch.proofs.Noting.{is_below}
 
 -- some notes were taken off the front, and counted; others may follow
@@ -26,26 +26,31 @@ pub record IsFoldingWith (mark : ℕ) (old new : List Note) (counts : List ℕ) 
 
 module _ (mark : ℕ) (old new : List Note) (counts : List ℕ) (total : ℕ) (counts_new : List ℕ) (total_new : ℕ)
     (so_far : IsFolding mark old new counts total counts_new total_new) where
-
   -- one more can be counted
   pub has_room : (note : Note) (rest : List Note) → CanFold old counts total → new ≡ note ∷ rest → HasRoomFor counts_new total_new
   has_room note rest can is = record {
     pids = can.pids ++ pids_of so_far.taken;
     tally = so_far.counted can.pids can.tally;
-    few = omega (arith, can.few, length-append can.pids (pids_of so_far.taken), length-map so_far.taken (λ (n : Note). n.pid),
-        ap length so_far.split, length-append so_far.taken new, ap length is);
+    few = omega (
+      arith,
+      can.few,
+      length-append can.pids (pids_of so_far.taken),
+      length-map so_far.taken (λ (n : Note). n.pid),
+      ap length so_far.split,
+      length-append so_far.taken new,
+      ap length is,
+    );
   }
 
   -- it is on a PID
   pub on_pid : (note : Note) (rest : List Note) → CanFold old counts total → new ≡ note ∷ rest → note.pid < pid_bound
   on_pid note rest can is =
       All-head (λ (n : Note). n.pid < pid_bound) note rest
-        (subst (All (λ (n : Note). n.pid < pid_bound)) (ap (λ (ns : List Note). drop (length so_far.taken) ns) so_far.split ∙ (drop-append_seam so_far.taken new ∙ is))
-          (All-drop (λ (n : Note). n.pid < pid_bound) (length so_far.taken) old can.on_pids))
+      (subst (All (λ (n : Note). n.pid < pid_bound)) (ap (λ (ns : List Note). drop (length so_far.taken) ns) so_far.split ∙ (drop-append_seam so_far.taken new ∙ is))
+      (All-drop (λ (n : Note). n.pid < pid_bound) (length so_far.taken) old can.on_pids))
 
   module _ (note : Note) (rest : List Note) (counts_next : List ℕ) (total_next : ℕ) (is : new ≡ note ∷ rest) (below : note.at < mark)
       (adds : (pids : List ℕ) → IsTally counts_new total_new pids → IsTally counts_next total_next (pids ++ note.pid ∷ [])) where
-
     -- one more is taken
     abbrev pub one_taken : IsFolding mark old rest counts total counts_next total_next
     one_taken = record {
@@ -55,8 +60,8 @@ module _ (mark : ℕ) (old new : List Note) (counts : List ℕ) (total : ℕ) (c
           ∙ (ap (λ (b : Bool). b && (nat_lt note.at mark && true)) so_far.below ∙ ap (λ (b : Bool). b && true) (is_below note.at mark below));
       counted = λ pids tally.
           subst (λ (ps : List ℕ). IsTally counts_next total_next ps)
-            (append_assoc pids (pids_of so_far.taken) (note.pid ∷ []) ∙ ap (λ (ps : List ℕ). pids ++ ps) (sym (map-append (λ (n : Note). n.pid) so_far.taken (note ∷ []))))
-            (adds (pids ++ pids_of so_far.taken) (so_far.counted pids tally));
+          (append_assoc pids (pids_of so_far.taken) (note.pid ∷ []) ∙ ap (λ (ps : List ℕ). pids ++ ps) (sym (map-append (λ (n : Note). n.pid) so_far.taken (note ∷ []))))
+          (adds (pids ++ pids_of so_far.taken) (so_far.counted pids tally));
     }
 
     -- with its line

@@ -1,5 +1,5 @@
 -- Notes on a list of cells, cut at a position, and the lines that they stand for.
-use Rattle.std.proofs.Common.{◌≡◌, ℕ, zero, suc, ◌+◌, ◌-◌, ◌<◌, ◌≤◌, List, [], ◌∷◌, ◌++◌, length, take, drop, map, ap, sym, subst, ◌∙◌, ◌⊎◌, inl, inr, refl, Bool, true, false, nat_lt, not, ◌&&◌, if◌then◌else◌, append_assoc, append-nil, arith, length-append}
+use Rattle.std.proofs.Common.{◌≡◌, ℕ, suc, ◌-◌, ◌<◌, ◌≤◌, List, [], ◌∷◌, ◌++◌, length, take, map, ap, sym, subst, ◌∙◌, ◌⊎◌, inl, inr, refl, Bool, true, false, nat_lt, not, ◌&&◌, if◌then◌else◌, append_assoc, append-nil, arith, length-append}
 use Rattle.std.specs.List.{take_while, list_all}
 use Rattle.std.proofs.lemmas.Bool.{not-true, false≢true}
 use Rattle.std.proofs.lemmas.Bool.Decides.{nat_tests}
@@ -52,13 +52,12 @@ pub placed_at-notes : {N : Type 0} (at : N → ℕ) (text : N → List ℕ) (pos
 placed_at-notes {N} at text position notes one =
     let Same : List N → Type 0 = λ ns. placed_at position (map text ns) ≡ map (λ (n : N). let line : Line = record { at = at n; text = text n } in line) ns in
     elim one.one [
-      inl e ↦ subst Same (sym e) refl
-    | inr e ↦ subst Same (sym e.1) (ap (λ (p : ℕ). let lines : List Line = record { at = p; text = text e.0 } ∷ [] in lines) (sym e.2))
+      | inl e ↦ subst Same (sym e) refl
+      | inr e ↦ subst Same (sym e.1) (ap (λ (p : ℕ). let lines : List Line = record { at = p; text = text e.0 } ∷ [] in lines) (sym e.2))
     ]
 
 module _ {N : Type 0} (note : List Cell → List ℕ → List N) (at : N → ℕ)
     (one : (history : List Cell) (packet : List ℕ) → IsNoteAt at (length history) (note history packet)) where
-
   -- the notes on two lists, one behind the other
   pub notes_after-append : (history xs ys : List Cell) → notes_after note history (xs ++ ys) ≡ notes_after note history xs ++ notes_after note (history ++ xs) ys
   notes_after-append history [] ys = ap (λ (h : List Cell). notes_after note h ys) (sym (append-nil history))
@@ -87,9 +86,9 @@ module _ {N : Type 0} (note : List Cell → List ℕ → List N) (at : N → ℕ
       let next : cut ≤ length (history ++ Live packet ∷ []) = omega (arith, length-append history (Live packet ∷ [])) in
       let rest = fails_first-late cut (history ++ Live packet ∷ []) cells next in
       elim (one history packet).one [
-        inl e ↦ subst (λ (ns : List N). fails_first (λ n. nat_lt (at n) cut) (ns ++ notes_after note (history ++ Live packet ∷ []) cells) ≡ true) (sym e) rest
-      | inr e ↦ subst (λ (ns : List N). fails_first (λ n. nat_lt (at n) cut) (ns ++ notes_after note (history ++ Live packet ∷ []) cells) ≡ true) (sym e.1)
-          (ap not (not_below (at e.0) cut (omega (arith, e.2))))
+        | inl e ↦ subst (λ (ns : List N). fails_first (λ n. nat_lt (at n) cut) (ns ++ notes_after note (history ++ Live packet ∷ []) cells) ≡ true) (sym e) rest
+        | inr e ↦ subst (λ (ns : List N). fails_first (λ n. nat_lt (at n) cut) (ns ++ notes_after note (history ++ Live packet ∷ []) cells) ≡ true) (sym e.1)
+            (ap not (not_below (at e.0) cut (omega (arith, e.2))))
       ]
   fails_first-late cut history (Dropped ∷ cells) late =
       fails_first-late cut (history ++ Dropped ∷ []) cells (omega (arith, length-append history (Dropped ∷ [])))
@@ -99,10 +98,10 @@ module _ {N : Type 0} (note : List Cell → List ℕ → List N) (at : N → ℕ
       → take_while (λ n. nat_lt (at n) cut) (note history packet ++ rest) ≡ note history packet ++ take_while (λ n. nat_lt (at n) cut) rest
   one_in_front cut history packet rest below =
       elim (one history packet).one [
-        inl e ↦ subst (λ (ns : List N). take_while (λ n. nat_lt (at n) cut) (ns ++ rest) ≡ ns ++ take_while (λ n. nat_lt (at n) cut) rest) (sym e) refl
-      | inr e ↦ subst (λ (ns : List N). take_while (λ n. nat_lt (at n) cut) (ns ++ rest) ≡ ns ++ take_while (λ n. nat_lt (at n) cut) rest) (sym e.1)
-          (take_while-cons (λ n. nat_lt (at n) cut) e.0 rest
-          ∙ ap (λ (b : Bool). if b then e.0 ∷ take_while (λ n. nat_lt (at n) cut) rest else []) (is_below (at e.0) cut (omega (arith, e.2))))
+        | inl e ↦ subst (λ (ns : List N). take_while (λ n. nat_lt (at n) cut) (ns ++ rest) ≡ ns ++ take_while (λ n. nat_lt (at n) cut) rest) (sym e) refl
+        | inr e ↦ subst (λ (ns : List N). take_while (λ n. nat_lt (at n) cut) (ns ++ rest) ≡ ns ++ take_while (λ n. nat_lt (at n) cut) rest) (sym e.1)
+            (take_while-cons (λ n. nat_lt (at n) cut) e.0 rest
+            ∙ ap (λ (b : Bool). if b then e.0 ∷ take_while (λ n. nat_lt (at n) cut) rest else []) (is_below (at e.0) cut (omega (arith, e.2))))
       ]
 
   -- where the history is long enough no cell counts
@@ -118,22 +117,22 @@ module _ {N : Type 0} (note : List Cell → List ℕ → List N) (at : N → ℕ
   take_while-notes_after cut history [] = ap (notes_after note history) (sym (take-nil (cut - length history)))
   take_while-notes_after cut history (Live packet ∷ cells) =
       elim (cases_lt (length history) cut) [
-        inl below ↦
-          let next = history ++ Live packet ∷ [] in
-          let more : cut - length history ≡ suc (cut - length next) = omega (arith, length-append history (Live packet ∷ [])) in
-          one_in_front cut history packet (notes_after note next cells) below
-          ∙ (ap (λ (ns : List N). note history packet ++ ns) (take_while-notes_after cut next cells)
-          ∙ ap (λ (k : ℕ). notes_after note history (take k (Live packet ∷ cells))) (sym more))
-      | inr late ↦ late_take cut history (Live packet ∷ cells) late
+        | inl below ↦
+            let next = history ++ Live packet ∷ [] in
+            let more : cut - length history ≡ suc (cut - length next) = omega (arith, length-append history (Live packet ∷ [])) in
+            one_in_front cut history packet (notes_after note next cells) below
+            ∙ (ap (λ (ns : List N). note history packet ++ ns) (take_while-notes_after cut next cells)
+            ∙ ap (λ (k : ℕ). notes_after note history (take k (Live packet ∷ cells))) (sym more))
+        | inr late ↦ late_take cut history (Live packet ∷ cells) late
       ]
   take_while-notes_after cut history (Dropped ∷ cells) =
       elim (cases_lt (length history) cut) [
-        inl below ↦
-          let next = history ++ Dropped ∷ [] in
-          let more : cut - length history ≡ suc (cut - length next) = omega (arith, length-append history (Dropped ∷ [])) in
-          take_while-notes_after cut next cells
-          ∙ ap (λ (k : ℕ). notes_after note history (take k (Dropped ∷ cells))) (sym more)
-      | inr late ↦ late_take cut history (Dropped ∷ cells) late
+        | inl below ↦
+            let next = history ++ Dropped ∷ [] in
+            let more : cut - length history ≡ suc (cut - length next) = omega (arith, length-append history (Dropped ∷ [])) in
+            take_while-notes_after cut next cells
+            ∙ ap (λ (k : ℕ). notes_after note history (take k (Dropped ∷ cells))) (sym more)
+        | inr late ↦ late_take cut history (Dropped ∷ cells) late
       ]
 
   -- the lines of a rule whose lines are those of the notes

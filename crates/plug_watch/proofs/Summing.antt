@@ -1,5 +1,5 @@
 -- The lines of a summary, one PID after another.
-use Rattle.std.proofs.Common.{◌≡◌, ℕ, ◌+◌, ◌<◌, List, [], ◌∷◌, ◌++◌, map, ap, sym, subst, ◌∙◌, Bool, ◌==◌, if◌then◌else◌, add-one, append_assoc, append-nil, get_or}
+use Rattle.std.proofs.Common.{◌≡◌, ℕ, ◌+◌, ◌<◌, List, [], ◌∷◌, ◌++◌, map, ap, sym, ◌∙◌, ◌==◌, if◌then◌else◌, add-one, append_assoc, append-nil, get_or}
 use Rattle.std.specs.List.{flat_map}
 use Rattle.std.proofs.lemmas.Grind.{flat_map-append}
 use Rattle.std.proofs.lemmas.List.{map-append}
@@ -33,8 +33,8 @@ pid_lines_more packets counts total cut pid count before lines lines_new tally b
     ∙ (ap (λ (k : ℕ). (before ++ placed_at cut (flat_map (pid_lines packets) (numbers_below pid))) ++ placed_at cut (if k == 0 then [] else pid_text pid k ∷ [])) n
     ∙ (append_assoc before (placed_at cut (flat_map (pid_lines packets) (numbers_below pid))) (placed_at cut (pid_lines packets pid))
     ∙ ap (λ (ls : List Line). before ++ ls)
-        (sym (placed_at-append cut (flat_map (pid_lines packets) (numbers_below pid)) (pid_lines packets pid))
-        ∙ ap (placed_at cut)
-          (ap (λ (ts : List (List ℕ)). flat_map (pid_lines packets) (numbers_below pid) ++ ts) (sym (append-nil (pid_lines packets pid)))
-          ∙ (sym (flat_map-append (pid_lines packets) (numbers_below pid) (pid ∷ []))
-          ∙ ap (flat_map (pid_lines packets)) (sym (numbers_below_more pid))))))))
+    (sym (placed_at-append cut (flat_map (pid_lines packets) (numbers_below pid)) (pid_lines packets pid))
+    ∙ ap (placed_at cut)
+    (ap (λ (ts : List (List ℕ)). flat_map (pid_lines packets) (numbers_below pid) ++ ts) (sym (append-nil (pid_lines packets pid)))
+    ∙ (sym (flat_map-append (pid_lines packets) (numbers_below pid) (pid ∷ []))
+    ∙ ap (flat_map (pid_lines packets)) (sym (numbers_below_more pid))))))))

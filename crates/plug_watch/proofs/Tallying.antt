@@ -1,5 +1,5 @@
 -- Counting one packet more.
-use Rattle.std.proofs.Common.{◌≡◌, ℕ, ◌+◌, ◌<◌, ◌≤◌, List, [], ◌∷◌, ◌++◌, length, get_or, set, ap, sym, subst, ◌∙◌, inl, inr, Bool, true, false, ◌==◌, if◌then◌else◌, arith, length-append, length-set, get_or-set_same, get_or-set_other, eq-eqb, add-zero, refl}
+use Rattle.std.proofs.Common.{◌≡◌, ℕ, ◌+◌, ◌<◌, ◌≤◌, List, [], ◌∷◌, ◌++◌, length, get_or, set, ap, sym, subst, ◌∙◌, inl, inr, Bool, ◌==◌, if◌then◌else◌, arith, length-append, length-set, get_or-set_same, get_or-set_other, eq-eqb, add-zero, refl}
 use Rattle.std.specs.List.{count_by}
 use Rattle.std.proofs.lemmas.Bool.{cases_eq, ne_eqb}
 use Rattle.std.proofs.lemmas.List.Sums.{count_by-le-length, fold-append}
@@ -20,7 +20,7 @@ pub adds : (counts pids : List ℕ) (total pid : ℕ) → IsTally counts total p
 adds counts pids total pid tally below = record {
   whole = length-set counts pid (get_or counts pid 0 + 1) ∙ tally.whole;
   each = λ other other_below. elim (cases_eq other pid) [
-      inl same ↦ subst (λ (q : ℕ). get_or (set counts pid (get_or counts pid 0 + 1)) q 0 ≡ count_by (λ r. r == q) (pids ++ pid ∷ [])) (sym same)
+    | inl same ↦ subst (λ (q : ℕ). get_or (set counts pid (get_or counts pid 0 + 1)) q 0 ≡ count_by (λ r. r == q) (pids ++ pid ∷ [])) (sym same)
         (get_or-set_same counts pid (get_or counts pid 0 + 1) 0 (omega (arith, tally.whole))
         ∙ (ap (λ (n : ℕ). n + 1) (tally.each pid below)
         ∙ sym (count_by-last (λ r. r == pid) pids pid ∙ ap (λ (b : Bool). count_by (λ r. r == pid) pids + (if b then 1 else 0)) (eq-eqb pid pid refl))))
@@ -28,8 +28,8 @@ adds counts pids total pid tally below = record {
         get_or-set_other counts pid other (get_or counts pid 0 + 1) 0 differ
         ∙ (tally.each other other_below
         ∙ sym (count_by-last (λ r. r == other) pids pid
-          ∙ (ap (λ (b : Bool). count_by (λ r. r == other) pids + (if b then 1 else 0)) (ne_eqb pid other (λ same. differ (sym same)))
-          ∙ add-zero (count_by (λ r. r == other) pids))))
-    ];
+        ∙ (ap (λ (b : Bool). count_by (λ r. r == other) pids + (if b then 1 else 0)) (ne_eqb pid other (λ same. differ (sym same)))
+        ∙ add-zero (count_by (λ r. r == other) pids))))
+  ];
   all = omega (arith, tally.all, length-append pids (pid ∷ []));
 }

@@ -1,6 +1,6 @@
 -- What is kept of the packets on a PID, one packet after another.
-use Rattle.std.proofs.Common.{◌≡◌, ℕ, ◌+◌, ◌%◌, ◌<◌, ◌≤◌, List, [], ◌∷◌, ◌++◌, length, map, filter, get_or, set, ap, sym, subst, ◌∙◌, ◌⊎◌, inl, inr, refl, Bool, true, false, not, ◌&&◌, if◌then◌else◌, ◌==◌, append-nil, Option, None, Some, add_assoc, arith, length-append, length-set, get_or-set_same, get_or-set_other, eq-eqb, take, nat_lt, ◌-◌}
-use Rattle.std.specs.List.{flat_map, take_while}
+use Rattle.std.proofs.Common.{◌≡◌, ℕ, ◌+◌, ◌%◌, ◌<◌, ◌≤◌, List, [], ◌∷◌, ◌++◌, length, map, filter, get_or, set, ap, sym, subst, ◌∙◌, inl, inr, refl, Bool, true, false, not, ◌&&◌, if◌then◌else◌, ◌==◌, append-nil, Option, None, Some, add_assoc, arith, length-append, length-set, get_or-set_same, get_or-set_other, eq-eqb, take, nat_lt, ◌-◌}
+use Rattle.std.specs.List.{take_while}
 use Rattle.std.proofs.lemmas.List.{length-take-le, length-map}
 use Rattle.plugin_trait.specs.declared.line.Line.{Line}
 use Rattle.plugin_trait.specs.PlacedLines.{placed_at, placed_after, placed_of}
@@ -45,19 +45,19 @@ right_counter-append (first ∷ rest) packet small =
     ap (λ (n : ℕ). (counter_of first + n) % 16) (steps_behind-append first rest packet)
     ∙ (ap (λ (n : ℕ). n % 16) (sym (add_assoc (counter_of first) (steps_behind first rest) (step_behind (last_behind first rest) packet)))
     ∙ step_more (counter_of first + steps_behind first rest)
-        (has_payload_of packet && not (is_duplicate (last_behind first rest) packet)))
+    (has_payload_of packet && not (is_duplicate (last_behind first rest) packet)))
 
 -- what is kept with one packet more
 pub seen_in-append : (packets : List (List ℕ)) (packet : List ℕ) → counter_of packet < 16
     → seen_in (packets ++ packet ∷ []) ≡ Some (seen_with (seen_in packets) packet)
 seen_in-append [] packet small =
     ap (λ (n : ℕ). let s : Option Seen = Some (record { counter = counter_of packet; has_payload = has_payload_of packet; right = n }) in s)
-        (right_counter-append [] packet small)
+    (right_counter-append [] packet small)
 seen_in-append (first ∷ rest) packet small =
     ap (λ (last : List ℕ). let s : Option Seen = Some (record { counter = counter_of last; has_payload = has_payload_of last; right = right_counter (first ∷ (rest ++ packet ∷ [])) }) in s)
-        (last_behind-append first rest packet)
+    (last_behind-append first rest packet)
     ∙ ap (λ (n : ℕ). let s : Option Seen = Some (record { counter = counter_of packet; has_payload = has_payload_of packet; right = n }) in s)
-        (right_counter-append (first ∷ rest) packet small)
+    (right_counter-append (first ∷ rest) packet small)
 
 -- a fault is known from what is kept
 pub fault_after-seen : (at : ℕ) (packets : List (List ℕ)) (packet : List ℕ) → fault_after at (seen_in packets) packet ≡ fault_behind at (last_in packets) packet
@@ -81,15 +81,15 @@ one_fault_behind at None packet = record { one = inl refl }
 one_fault_behind at (Some before) packet =
     let fault : Fault = record { at = at; pid = pid_of packet; counter = counter_of packet; wanted = wanted_behind before packet } in
     elim (is_fault before packet) as (λ b. IsNoteAt (λ (f : Fault). f.at) at (if b then fault ∷ [] else [])) [
-      true ↦ record { one = inr (fault, refl, refl) }
-    | false ↦ record { one = inl refl }
+      | true ↦ record { one = inr (fault, refl, refl) }
+      | false ↦ record { one = inl refl }
     ]
 
 pub one_fault : (conf : ContinuityConf) (history : List Cell) (packet : List ℕ) → IsNoteAt (λ (f : Fault). f.at) (length history) (fault_on conf history packet)
 one_fault conf history packet =
     elim (is_watched conf (pid_of packet)) as (λ b. IsNoteAt (λ (f : Fault). f.at) (length history) (if b then fault_behind (length history) (last_of (pid_of packet) history) packet else [])) [
-      true ↦ one_fault_behind (length history) (last_of (pid_of packet) history) packet
-    | false ↦ record { one = inl refl }
+      | true ↦ one_fault_behind (length history) (last_of (pid_of packet) history) packet
+      | false ↦ record { one = inl refl }
     ]
 
 -- the faults with one packet more
@@ -108,7 +108,6 @@ longer history cell mark le = omega (arith, length-append history (cell ∷ []))
 
 module _ (conf : ContinuityConf) (seen : List (Option Seen)) (faults : List Fault) (history : List Cell) (mark : ℕ)
     (w : Watches conf seen faults history mark) where
-
   -- a dropped cell changes nothing of what is kept
   pub watches_dropped : Watches conf seen faults (history ++ Dropped ∷ []) mark
   watches_dropped = record {
@@ -124,22 +123,21 @@ module _ (conf : ContinuityConf) (seen : List (Option Seen)) (faults : List Faul
   watches_other packet unwatched = record {
     whole = w.whole;
     each = λ pid below watched.
-      let other : pid_of packet ≡ pid → ⊥ = λ same. false≢true (sym unwatched ∙ (ap (is_watched conf) same ∙ watched)) in
-      w.each pid below watched ∙ ap seen_in (sym (
+        let other : pid_of packet ≡ pid → ⊥ = λ same. false≢true (sym unwatched ∙ (ap (is_watched conf) same ∙ watched)) in
+        w.each pid below watched ∙ ap seen_in (sym (
         packets_of-live pid history packet
         ∙ (ap (λ (b : Bool). packets_of pid history ++ (if b then packet ∷ [] else [])) (ne_eqb (pid_of packet) pid other)
         ∙ append-nil (packets_of pid history))));
     small = w.small;
     all = w.all ∙ sym (
-      faults_in-live conf history packet
-      ∙ (ap (λ (b : Bool). faults_in conf history ++ (if b then fault_behind (length history) (last_of (pid_of packet) history) packet else [])) unwatched
-      ∙ append-nil (faults_in conf history)));
+        faults_in-live conf history packet
+        ∙ (ap (λ (b : Bool). faults_in conf history ++ (if b then fault_behind (length history) (last_of (pid_of packet) history) packet else [])) unwatched
+        ∙ append-nil (faults_in conf history)));
     marked = longer history (Live packet) mark w.marked;
   }
 
   module _ (packet : List ℕ) (before : Option Seen) (below : pid_of packet < pid_bound) (watched : is_watched conf (pid_of packet) ≡ true)
       (is : before ≡ get_or seen (pid_of packet) None) where
-
     -- what was kept is that of the packets on the PID
     pub before_is : before ≡ seen_in (packets_of (pid_of packet) history)
     before_is = is ∙ w.each (pid_of packet) below watched
@@ -161,7 +159,7 @@ module _ (conf : ContinuityConf) (seen : List (Option Seen)) (faults : List Faul
     watches_live few right_few = record {
       whole = length-set seen (pid_of packet) (Some (seen_with before packet)) ∙ w.whole;
       each = λ pid pid_below pid_watched. elim (cases_eq pid (pid_of packet)) [
-          inl same ↦ subst (λ (q : ℕ). get_or (set seen (pid_of packet) (Some (seen_with before packet))) q None ≡ seen_in (packets_of q (history ++ Live packet ∷ []))) (sym same)
+        | inl same ↦ subst (λ (q : ℕ). get_or (set seen (pid_of packet) (Some (seen_with before packet))) q None ≡ seen_in (packets_of q (history ++ Live packet ∷ []))) (sym same)
             (get_or-set_same seen (pid_of packet) (Some (seen_with before packet)) None (omega (arith, w.whole))
             ∙ (ap (λ (s : Option Seen). let t : Option Seen = Some (seen_with s packet) in t) before_is
             ∙ (sym (seen_in-append (packets_of (pid_of packet) history) packet few)
@@ -170,22 +168,22 @@ module _ (conf : ContinuityConf) (seen : List (Option Seen)) (faults : List Faul
             get_or-set_other seen (pid_of packet) pid (Some (seen_with before packet)) None other
             ∙ (w.each pid pid_below pid_watched
             ∙ ap seen_in (sym (
-              packets_of-live pid history packet
-              ∙ (ap (λ (b : Bool). packets_of pid history ++ (if b then packet ∷ [] else [])) (ne_eqb (pid_of packet) pid (λ same. other (sym same)))
-              ∙ append-nil (packets_of pid history)))))
-        ];
+            packets_of-live pid history packet
+            ∙ (ap (λ (b : Bool). packets_of pid history ++ (if b then packet ∷ [] else [])) (ne_eqb (pid_of packet) pid (λ same. other (sym same)))
+            ∙ append-nil (packets_of pid history)))))
+      ];
       small = λ pid. elim (cases_eq pid (pid_of packet)) [
-          inl same ↦ subst HasCounters (sym (ap (λ (q : ℕ). get_or (set seen (pid_of packet) (Some (seen_with before packet))) q None) same
-              ∙ get_or-set_same seen (pid_of packet) (Some (seen_with before packet)) None (omega (arith, w.whole)))) (few, right_few)
+        | inl same ↦ subst HasCounters (sym (ap (λ (q : ℕ). get_or (set seen (pid_of packet) (Some (seen_with before packet))) q None) same
+            ∙ get_or-set_same seen (pid_of packet) (Some (seen_with before packet)) None (omega (arith, w.whole)))) (few, right_few)
         | inr other ↦ subst HasCounters (sym (get_or-set_other seen (pid_of packet) pid (Some (seen_with before packet)) None other)) (w.small pid)
-        ];
+      ];
       all =
-        ap (λ (fs : List Fault). fs ++ fault_after (length history) before packet) w.all
-        ∙ (ap (λ (fs : List Fault). faults_in conf history ++ fs)
-            (ap (λ (s : Option Seen). fault_after (length history) s packet) before_is
-            ∙ (fault_after-seen (length history) (packets_of (pid_of packet) history) packet
-            ∙ sym (ap (λ (b : Bool). if b then fault_behind (length history) (last_of (pid_of packet) history) packet else []) watched)))
-        ∙ sym (faults_in-live conf history packet));
+          ap (λ (fs : List Fault). fs ++ fault_after (length history) before packet) w.all
+          ∙ (ap (λ (fs : List Fault). faults_in conf history ++ fs)
+          (ap (λ (s : Option Seen). fault_after (length history) s packet) before_is
+          ∙ (fault_after-seen (length history) (packets_of (pid_of packet) history) packet
+          ∙ sym (ap (λ (b : Bool). if b then fault_behind (length history) (last_of (pid_of packet) history) packet else []) watched)))
+          ∙ sym (faults_in-live conf history packet));
       marked = longer history (Live packet) mark w.marked;
     }
 
@@ -203,17 +201,17 @@ module _ (conf : ContinuityConf) (seen : List (Option Seen)) (faults : List Faul
 -- the report over the cells before a position
 pub report_is : (conf : ContinuityConf) (history : List Cell) (cut : ℕ) → cut ≤ length history
     → let lines : List Line = map line_of_fault (take_while (λ (f : Fault). nat_lt f.at cut) (faults_in conf history)) in
-      lines ++ record { at = cut; text = faults_text (length lines) } ∷ [] ≡ placed_of (continuity_rule conf) (take cut history)
+    lines ++ record { at = cut; text = faults_text (length lines) } ∷ [] ≡ placed_of (continuity_rule conf) (take cut history)
 report_is conf history cut within =
     let cells = take cut history in
     let all : cut - 0 ≡ cut = omega arith in
     let front : take_while (λ (f : Fault). nat_lt f.at cut) (faults_in conf history) ≡ faults_in conf cells =
-        take_while-notes_after (fault_on conf) (λ (f : Fault). f.at) (one_fault conf) cut [] history
-        ∙ ap (λ (k : ℕ). faults_in conf (take k history)) all in
+    take_while-notes_after (fault_on conf) (λ (f : Fault). f.at) (one_fault conf) cut [] history
+    ∙ ap (λ (k : ℕ). faults_in conf (take k history)) all in
     let count : length (map line_of_fault (faults_in conf cells)) ≡ length (faults_in conf cells) = length-map (faults_in conf cells) line_of_fault in
     let lines : placed_after (continuity_rule conf) [] cells ≡ map line_of_fault (faults_in conf cells) =
-        placed_after-notes (fault_on conf) (λ (f : Fault). f.at) (one_fault conf) (continuity_rule conf) line_of_fault
-            (λ h packet. placed_at-notes (λ (f : Fault). f.at) fault_text (length h) (fault_on conf h packet) (one_fault conf h packet)) [] cells in
+    placed_after-notes (fault_on conf) (λ (f : Fault). f.at) (one_fault conf) (continuity_rule conf) line_of_fault
+    (λ h packet. placed_at-notes (λ (f : Fault). f.at) fault_text (length h) (fault_on conf h packet) (one_fault conf h packet)) [] cells in
     ap (λ (fs : List Fault). map line_of_fault fs ++ (let l : Line = record { at = cut; text = faults_text (length (map line_of_fault fs)) } in l) ∷ []) front
     ∙ (ap (λ (n : ℕ). map line_of_fault (faults_in conf cells) ++ (let l : Line = record { at = cut; text = faults_text n } in l) ∷ []) count
     ∙ (ap (λ (n : ℕ). map line_of_fault (faults_in conf cells) ++ (let l : Line = record { at = n; text = faults_text (length (faults_in conf cells)) } in l) ∷ []) (sym (length-take-le cut history within))

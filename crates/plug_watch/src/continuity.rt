@@ -42,7 +42,11 @@ impl Continuity {
     ghost use Rattle.plug_watch.specs.ContinuityConfOf.{conf_of};
 
     /// A plugin that met no cell yet. It takes room for its tables; its faults grow with the stream.
-    pub fn new(alloc: Global, conf: &ContinuityConf, buffer: usize) -> Result<Continuity, AllocError>
+    pub fn new(
+        alloc: Global,
+        conf: &ContinuityConf,
+        buffer: usize,
+    ) -> Result<Continuity, AllocError>
         requires { IsLawfulContinuity conf.now }
         ensures rule { IfOk result (λ plugin. ⟦<Continuity as Plugin>⟧.rule plugin ≡ continuity_rule conf.now) }
         ensures fresh { IfOk result (λ plugin. ⟦<Continuity as Plugin>⟧.stands_for plugin [] 0) }

@@ -22,13 +22,9 @@ impl Fault {
     pub fn line(&self, alloc: Global) -> Result<Line, AllocError>
         ensures { IfOk result (λ line. line ≡ record { at = self.now.at; text = fault_text self.now }) }
     {
-        let text = format!(
-            in alloc;
+        let text = format!(in alloc;
             "packet {} pid {} counter {} wanted {}",
-            self.at,
-            self.pid,
-            self.counter,
-            self.wanted
+            self.at, self.pid, self.counter, self.wanted
         )?;
         Ok(Line {
             at: self.at,

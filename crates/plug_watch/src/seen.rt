@@ -93,7 +93,12 @@ fn right_counter(seen: Option<Seen>, packet: &Packet) -> u8
 }
 
 /// Notes the fault of the packet at a position, if it is one.
-pub fn push_fault(faults: &mut Vec<Fault>, at: u64, seen: Option<Seen>, packet: &Packet) -> Result<(), AllocError>
+pub fn push_fault(
+    faults: &mut Vec<Fault>,
+    at: u64,
+    seen: Option<Seen>,
+    packet: &Packet,
+) -> Result<(), AllocError>
     requires { HasCounters seen }
     ensures ok { OnOk result (faults.new.items ≡ faults.old.items ++ fault_after at seen packet.now) }
     ensures err { OnErr result (faults.new.items ≡ faults.old.items) }

@@ -17,7 +17,12 @@ const PID_BOUND: u16 = 8192;
 
 /// Puts the summary behind other lines: a line for each PID that has packets, unless the total alone is
 /// wanted, and then the total.
-pub fn push_summary(lines: &mut Vec<Line>, cut: u64, tally: &Tally, total: bool) -> Result<(), AllocError>
+pub fn push_summary(
+    lines: &mut Vec<Line>,
+    cut: u64,
+    tally: &Tally,
+    total: bool,
+) -> Result<(), AllocError>
     requires { length tally.now.counts.items ≡ pid_bound }
     ensures { OnOk result ((packets : List (List ℕ)) → IsTally tally.now.counts.items tally.now.total (map pid_of packets)
         → lines.new.items ≡ lines.old.items ++ placed_at cut (summary_on total packets)) }

@@ -19,7 +19,11 @@ fn packet(pid: u16, counter: u8) -> Cell
 }
 
 /// What a plugin reports of the first cells of a list that goes through it.
-fn said<P: Plugin + Drop>(plugin: P, cells: &mut Vec<Cell>, cut: u64) -> Result<Vec<Line>, AllocError>
+fn said<P: Plugin + Drop>(
+    plugin: P,
+    cells: &mut Vec<Cell>,
+    cut: u64,
+) -> Result<Vec<Line>, AllocError>
     requires fresh { P.stands_for plugin [] 0 }
     requires short { vec_len cells.old < 1000 }
 {
@@ -31,8 +35,25 @@ fn said<P: Plugin + Drop>(plugin: P, cells: &mut Vec<Cell>, cut: u64) -> Result<
 #[test]
 fn count_counts_to_the_cut(rt: HostRuntime) -> Result<(), Fail> {
     let rows = [
-        (true, false, 3, ["packet 0 pid 256", "packet 1 pid 257", "pid 256 packets 1", "pid 257 packets 1", "total 2"].as_slice()),
-        (false, false, 4, ["pid 256 packets 2", "pid 257 packets 1", "total 3"].as_slice()),
+        (
+            true,
+            false,
+            3,
+            [
+                "packet 0 pid 256",
+                "packet 1 pid 257",
+                "pid 256 packets 1",
+                "pid 257 packets 1",
+                "total 2",
+            ]
+            .as_slice(),
+        ),
+        (
+            false,
+            false,
+            4,
+            ["pid 256 packets 2", "pid 257 packets 1", "total 3"].as_slice(),
+        ),
         (false, true, 4, ["total 3"].as_slice()),
     ];
     for (all, total, cut, wanted) in rows {
@@ -42,8 +63,7 @@ fn count_counts_to_the_cut(rt: HostRuntime) -> Result<(), Fail> {
             all,
             total,
         };
-        let mut cells = vec![
-            in rt.alloc();
+        let mut cells = vec![in rt.alloc();
             packet(256, 0),
             packet(257, 0),
             Cell::Dropped,
@@ -66,7 +86,12 @@ fn continuity_reports_and_fixes(rt: HostRuntime) -> Result<(), Fail> {
         pid: NumberSet::of(Vec::new(rt.alloc())),
         fix: true,
     };
-    let mut cells = vec![in rt.alloc(); packet(256, 5), packet(256, 6), packet(256, 8), packet(256, 8)]?;
+    let mut cells = vec![in rt.alloc();
+        packet(256, 5),
+        packet(256, 6),
+        packet(256, 8),
+        packet(256, 8),
+    ]?;
     let continuity = Continuity::new(rt.alloc(), &conf, 1)?;
     let lines = said(continuity, &mut cells, 4)?;
     let wanted = ["packet 2 pid 256 counter 8 wanted 7", "faults 1"];

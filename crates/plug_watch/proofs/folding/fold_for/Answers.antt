@@ -1,4 +1,4 @@
-use Rattle.std.proofs.Common.{◌≡◌, List, [], ◌++◌, Bool, map, if◌then◌else◌, ap, sym, ◌∙◌}
+use Rattle.std.proofs.Common.{List, [], ◌++◌, Bool, map, if◌then◌else◌, ap, sym, ◌∙◌}
 use Rattle.plugin_trait.specs.declared.line.Line.{Line}
 use Rattle.plug_watch.specs.Folding.{line_of_note}
 use Rattle.plug_watch.proofs.folding.fold_for.Goals as goal
@@ -9,6 +9,6 @@ returns-then-has_lines c =
     record {
       folds = with.folds;
       lines_are = with.lines_are
-        ∙ (ap (λ (ls : List Line). ls ++ map line_of_note with.folds.taken) c.new-lines.ensures.items
-        ∙ sym (ap (λ (b : Bool). if b then map line_of_note with.folds.taken else []) c.if-has_lines.true));
+          ∙ (ap (λ (ls : List Line). ls ++ map line_of_note with.folds.taken) c.new-lines.ensures.items
+          ∙ sym (ap (λ (b : Bool). if b then map line_of_note with.folds.taken else []) c.if-has_lines.true));
     }

@@ -1,4 +1,4 @@
-use Rattle.std.proofs.Common.{◌≡◌, List, [], ◌∷◌, ◌++◌, ap, ◌∙◌}
+use Rattle.std.proofs.Common.{[], ◌∷◌, ◌++◌, ap, ◌∙◌}
 use Rattle.plugin_trait.specs.declared.line.Line.{Line}
 use Rattle.plug_watch.proofs.FoldingSteps.{has_room, on_pid, one_taken_with, none_taken_with, all_taken_with}
 use Rattle.plug_watch.proofs.folding.take_lines.Goals as goal
@@ -14,9 +14,9 @@ add-requires-clause-room c =
 pub loop-note-preserved : goal.loop-note-preserved
 loop-note-preserved c =
     one_taken_with _ _ _ _ _ _ _ c.loop-note.invariant.folding c.in-Some.note c.pop_below.new.notes.items _ _
-        c.in-Some.ensures.taken.0 c.in-Some.ensures.taken.1 c.add.ensures
-        c.args.lines.now.items c.loop-note.lines.items c.push.new.self.items c.loop-note.invariant.lines_are
-        (c.in_ok-push.ensures.items ∙ ap (λ (line : Line). c.loop-note.lines.items ++ line ∷ []) c.in_ok-line.ensures)
+    c.in-Some.ensures.taken.0 c.in-Some.ensures.taken.1 c.add.ensures
+    c.args.lines.now.items c.loop-note.lines.items c.push.new.self.items c.loop-note.invariant.lines_are
+    (c.in_ok-push.ensures.items ∙ ap (λ (line : Line). c.loop-note.lines.items ++ line ∷ []) c.in_ok-line.ensures)
 
 pub loop-note-init : goal.loop-note-init
 loop-note-init c = none_taken_with _ _ _ _ _

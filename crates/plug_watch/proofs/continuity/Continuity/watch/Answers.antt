@@ -1,4 +1,4 @@
-use Rattle.std.proofs.Common.{◌≡◌, ◌<◌, ℕ, List, Option, None, Some, Bool, get_or, if◌then◌else◌, ap, sym, subst, ◌∙◌, arith, length}
+use Rattle.std.proofs.Common.{◌≡◌, ◌<◌, ℕ, None, Bool, get_or, if◌then◌else◌, ap, sym, subst, ◌∙◌, arith}
 use Rattle.std.proofs.lemmas.List.{get_or_read}
 use Rattle.ts_packet.specs.Header.{pid_of, with_counter}
 use Rattle.plug_watch.specs.declared.seen.Seen.{Seen}
@@ -16,7 +16,7 @@ place_is c = c.from-place.ensures ∙ c.pid.ensures.field
 before_is : (c : After-index-before) → c.index-before.result.now ≡ get_or c.args.self.now.seen.items (pid_of c.args.packet.now) None
 before_is c =
     get_or_read c.args.self.now.seen.items c.from-place.result c.index-before.result.now
-        (omega (arith, c.requires.met.watches.whole, c.from-place.ensures, c.pid.ensures.range)) c.index-before.ensures None
+    (omega (arith, c.requires.met.watches.whole, c.from-place.ensures, c.pid.ensures.range)) c.index-before.ensures None
     ∙ ap (λ (q : ℕ). get_or c.args.self.now.seen.items q None) (place_is c)
 
 counters : (c : After-index-before) → HasCounters c.index-before.result.now
@@ -36,20 +36,20 @@ returns-then-self-clause-edited c = λ history mark w.
     let d = (goal.at.returns-then-self-clause-edited c).After-index-before in
     c.set_counter.ensures.row
     ∙ (ap (with_counter c.args.packet.now)
-        (ap (λ (s : Seen). s.right) c.seen_with-next.ensures.with
-        ∙ right_is _ _ _ history mark w c.args.packet.now c.index-before.result.now (below d) c.requires.watched (before_is d) c.seen_with-next.ensures.counter)
+    (ap (λ (s : Seen). s.right) c.seen_with-next.ensures.with
+    ∙ right_is _ _ _ history mark w c.args.packet.now c.index-before.result.now (below d) c.requires.watched (before_is d) c.seen_with-next.ensures.counter)
     ∙ sym (ap (λ (b : Bool). if b then fixed history c.args.packet.now else c.args.packet.now) c.if-self.true))
 
 pub returns-then-self-clause-met : goal.returns-then-self-clause-met
 returns-then-self-clause-met c = λ history mark w count.
     let d = (goal.at.returns-then-self-clause-met c).After-index-before in
     watches_kept _ _ _ history mark w c.args.packet.now c.index-before.result.now (below d) c.requires.watched (before_is d)
-        c.from-place.result c.args.at c.seen_with-next.result c.push_fault.new.faults.items
-        c.seen_with-next.ensures.counter c.seen_with-next.ensures.range (place_is d) c.seen_with-next.ensures.with count c.in_ok-push_fault.ensures.ok
+    c.from-place.result c.args.at c.seen_with-next.result c.push_fault.new.faults.items
+    c.seen_with-next.ensures.counter c.seen_with-next.ensures.range (place_is d) c.seen_with-next.ensures.with count c.in_ok-push_fault.ensures.ok
 
 pub returns-else-self-clause-met : goal.returns-else-self-clause-met
 returns-else-self-clause-met c = λ history mark w count.
     let d = (goal.at.returns-else-self-clause-met c).After-index-before in
     watches_kept _ _ _ history mark w c.args.packet.now c.index-before.result.now (below d) c.requires.watched (before_is d)
-        c.from-place.result c.args.at c.seen_with-next.result c.push_fault.new.faults.items
-        c.seen_with-next.ensures.counter c.seen_with-next.ensures.range (place_is d) c.seen_with-next.ensures.with count c.in_ok-push_fault.ensures.ok
+    c.from-place.result c.args.at c.seen_with-next.result c.push_fault.new.faults.items
+    c.seen_with-next.ensures.counter c.seen_with-next.ensures.range (place_is d) c.seen_with-next.ensures.with count c.in_ok-push_fault.ensures.ok

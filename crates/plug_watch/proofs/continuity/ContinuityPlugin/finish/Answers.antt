@@ -14,5 +14,5 @@ returns c = λ history mark w le within.
     c.in_ok-push_line.ensures
     ∙ (ap (λ (text : List ℕ). lines.items ++ (let l : Line = record { at = c.args.cut; text = text } in l) ∷ []) (c.in_ok-text.ensures.ok ∙ ap faults_text count)
     ∙ (ap (λ (ls : List Line). ls ++ (let l : Line = record { at = c.args.cut; text = faults_text (length ls) } in l) ∷ [])
-        (c.in_ok-lines.ensures ∙ ap (λ (fs : List Fault). map line_of_fault (take_while (λ (f : Fault). nat_lt f.at c.args.cut) fs)) (c.deref.ensures.value ∙ w.all))
+    (c.in_ok-lines.ensures ∙ ap (λ (fs : List Fault). map line_of_fault (take_while (λ (f : Fault). nat_lt f.at c.args.cut) fs)) (c.deref.ensures.value ∙ w.all))
     ∙ report_is (conf_of c.args.self.now) history c.args.cut within))

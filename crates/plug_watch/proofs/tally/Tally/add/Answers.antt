@@ -1,4 +1,4 @@
-use Rattle.std.proofs.Common.{◌≡◌, ℕ, ◌+◌, ◌<◌, ◌≤◌, List, ◌∷◌, [], ◌++◌, length, get_or, set, arith, ◌∙◌, sym, ap, subst}
+use Rattle.std.proofs.Common.{◌≡◌, ℕ, ◌+◌, ◌∷◌, [], ◌++◌, get_or, set, arith, ◌∙◌, sym, ap, subst}
 use Rattle.std.proofs.lemmas.List.{get_or_read}
 use Rattle.plug_watch.specs.Tallies.{IsTally}
 use Rattle.plug_watch.proofs.Tallying.{adds, small_count}
@@ -9,7 +9,7 @@ use Rattle.plug_watch.proofs.tally.Tally.add.Goals.{After-index_mut}
 count_is : (c : After-index_mut) → c.index_mut.result.now ≡ get_or c.args.self.now.counts.items c.args.pid 0
 count_is c =
     get_or_read c.args.self.now.counts.items c.from.result c.index_mut.result.now
-        (omega (arith, c.from.ensures, c.requires.on_pid, c.requires.room.tally.whole)) c.index_mut.ensures.value 0
+    (omega (arith, c.from.ensures, c.requires.on_pid, c.requires.room.tally.whole)) c.index_mut.ensures.value 0
     ∙ ap (λ (q : ℕ). get_or c.args.self.now.counts.items q 0) c.from.ensures
 
 pub overflow_add-index_mut : goal.overflow_add-index_mut
