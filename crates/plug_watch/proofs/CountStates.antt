@@ -1,5 +1,5 @@
 -- What a value of `count` keeps, one cell after another, and what it reports.
-use Rattle.std.proofs.Common.{◌≡◌, ℕ, ◌+◌, ◌-◌, ◌<◌, ◌≤◌, ◌^◌, List, [], ◌∷◌, ◌++◌, length, take, drop, map, ap, sym, subst, ◌∙◌, refl, Bool, true, false, if◌then◌else◌, append_assoc, append-nil, None, Some, arith, length-append, length-take, length-drop}
+use Rattle.std.proofs.Common.{◌≡◌, ℕ, ◌+◌, ◌-◌, ◌<◌, ◌≤◌, ◌^◌, List, [], ◌∷◌, ◌++◌, length, take, drop, map, ap, sym, subst, ◌∙◌, refl, Bool, true, false, if◌then◌else◌, append-nil, None, Some, arith, length-append, length-take, length-drop}
 use Rattle.std.specs.List.{All}
 use Rattle.std.proofs.lemmas.List.{take-append-le, drop-append-le, take-append-drop, length-take-le}
 use Rattle.std.proofs.lemmas.List.Elements.{All-drop, All-push}
@@ -16,7 +16,7 @@ use Rattle.plug_watch.specs.declared.note.Note.{Note}
 use Rattle.plug_watch.specs.Notes.{notes_after}
 use Rattle.plug_watch.specs.CountRule.{is_counted, counted, note_on, text_on, summary_on, count_rule}
 use Rattle.plug_watch.specs.Tallies.{IsTally}
-use Rattle.plug_watch.specs.Folding.{CanFold, Folds, FoldsFor, pids_of, line_of_note}
+use Rattle.plug_watch.specs.Folding.{CanFold, Folds, FoldsFor, line_of_note}
 use Rattle.plug_watch.specs.CountState.{CountsFrom, Counts, IsReserved, tallied_to}
 use Rattle.plug_watch.proofs.Noting.{notes_after-append, length-notes_after, placed_at-notes, placed_after-notes}
 use Rattle.plug_watch.proofs.Counting.{one_note, few_counted, taken_is, rest_is, taken_pids}

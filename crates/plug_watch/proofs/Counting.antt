@@ -1,5 +1,5 @@
 -- Notes on packets that are counted, and the numbers that they come to.
-use Rattle.std.proofs.Common.{◌≡◌, ℕ, ◌+◌, ◌-◌, ◌<◌, ◌≤◌, ◌^◌, List, [], ◌∷◌, ◌++◌, length, take, drop, map, filter, ap, sym, subst, ◌∙◌, ◌⊎◌, inl, inr, refl, Bool, true, false, not, nat_lt, ◌==◌, if◌then◌else◌, append-nil, append_assoc, arith, length-append, length-take, drop-drop}
+use Rattle.std.proofs.Common.{◌≡◌, ℕ, ◌+◌, ◌-◌, ◌≤◌, List, [], ◌∷◌, ◌++◌, length, take, drop, map, filter, ap, sym, subst, ◌∙◌, inl, inr, refl, true, false, not, nat_lt, ◌==◌, if◌then◌else◌, arith, length-take, drop-drop}
 use Rattle.std.specs.List.{count_by, fold, take_while, list_all}
 use Rattle.std.proofs.Math.Seq.{take-add}
 use Rattle.std.proofs.lemmas.Grind.{flat_map-append}
@@ -13,7 +13,6 @@ use Rattle.plug_conf.specs.declared.count_conf.CountConf.{CountConf}
 use Rattle.plug_watch.specs.declared.note.Note.{Note}
 use Rattle.plug_watch.specs.Notes.{notes_after}
 use Rattle.plug_watch.specs.CountRule.{is_counted, counted, packets_on, note_on}
-use Rattle.plug_watch.specs.Tallies.{IsTally}
 use Rattle.plug_watch.specs.Folding.{StartsFrom, pids_of}
 use Rattle.plug_watch.proofs.Noting.{IsNoteAt, fails_first, not_below, take_while-split, notes_after-append, length-notes_after, take_while-notes_after}
 

@@ -1,5 +1,5 @@
 -- Notes that are taken off the front one after another.
-use Rattle.std.proofs.Common.{◌≡◌, ℕ, ◌+◌, ◌<◌, ◌≤◌, ◌^◌, List, [], ◌∷◌, ◌++◌, length, map, drop, Bool, ap, sym, subst, ◌∙◌, refl, true, ◌&&◌, nat_lt, append_assoc, append-nil, arith, length-append}
+use Rattle.std.proofs.Common.{◌≡◌, ℕ, ◌<◌, List, [], ◌∷◌, ◌++◌, length, map, drop, Bool, ap, sym, subst, ◌∙◌, refl, true, ◌&&◌, nat_lt, append_assoc, append-nil, arith, length-append}
 use Rattle.std.specs.List.{All, list_all}
 use Rattle.std.proofs.lemmas.List.{map-append, length-map}
 use Rattle.std.proofs.lemmas.List.Folds.{list_all-append}
@@ -9,7 +9,7 @@ use Rattle.plugin_trait.specs.declared.line.Line.{Line}
 use Rattle.plug_conf.specs.Limits.{pid_bound}
 use Rattle.plug_watch.specs.declared.note.Note.{Note}
 use Rattle.plug_watch.specs.Tallies.{IsTally, HasRoomFor}
-use Rattle.plug_watch.specs.Folding.{pids_of, line_of_note, CanFold, Folds, FoldsWith, StartsFrom}
+use Rattle.plug_watch.specs.Folding.{pids_of, line_of_note, CanFold, FoldsWith, StartsFrom}
 use Rattle.plug_watch.proofs.Noting.{is_below}
 
 -- some notes were taken off the front, and counted; others may follow

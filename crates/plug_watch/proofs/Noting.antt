@@ -1,5 +1,5 @@
 -- Notes on a list of cells, cut at a position, and the lines that they stand for.
-use Rattle.std.proofs.Common.{◌≡◌, ℕ, zero, suc, ◌+◌, ◌-◌, ◌<◌, ◌≤◌, List, [], ◌∷◌, ◌++◌, length, take, drop, map, ap, sym, subst, ◌∙◌, ◌⊎◌, inl, inr, refl, Bool, true, false, nat_lt, not, ◌&&◌, if◌then◌else◌, append_assoc, append-nil, arith, length-append}
+use Rattle.std.proofs.Common.{◌≡◌, ℕ, suc, ◌-◌, ◌<◌, ◌≤◌, List, [], ◌∷◌, ◌++◌, length, take, map, ap, sym, subst, ◌∙◌, ◌⊎◌, inl, inr, refl, Bool, true, false, nat_lt, not, ◌&&◌, if◌then◌else◌, append_assoc, append-nil, arith, length-append}
 use Rattle.std.specs.List.{take_while, list_all}
 use Rattle.std.proofs.lemmas.Bool.{not-true, false≢true}
 use Rattle.std.proofs.lemmas.Bool.Decides.{nat_tests}

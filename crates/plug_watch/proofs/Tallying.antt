@@ -1,5 +1,5 @@
 -- Counting one packet more.
-use Rattle.std.proofs.Common.{◌≡◌, ℕ, ◌+◌, ◌<◌, ◌≤◌, List, [], ◌∷◌, ◌++◌, length, get_or, set, ap, sym, subst, ◌∙◌, inl, inr, Bool, true, false, ◌==◌, if◌then◌else◌, arith, length-append, length-set, get_or-set_same, get_or-set_other, eq-eqb, add-zero, refl}
+use Rattle.std.proofs.Common.{◌≡◌, ℕ, ◌+◌, ◌<◌, ◌≤◌, List, [], ◌∷◌, ◌++◌, length, get_or, set, ap, sym, subst, ◌∙◌, inl, inr, Bool, ◌==◌, if◌then◌else◌, arith, length-append, length-set, get_or-set_same, get_or-set_other, eq-eqb, add-zero, refl}
 use Rattle.std.specs.List.{count_by}
 use Rattle.std.proofs.lemmas.Bool.{cases_eq, ne_eqb}
 use Rattle.std.proofs.lemmas.List.Sums.{count_by-le-length, fold-append}

@@ -1,6 +1,6 @@
 -- What is kept of the packets on a PID, one packet after another.
-use Rattle.std.proofs.Common.{◌≡◌, ℕ, ◌+◌, ◌%◌, ◌<◌, ◌≤◌, List, [], ◌∷◌, ◌++◌, length, map, filter, get_or, set, ap, sym, subst, ◌∙◌, ◌⊎◌, inl, inr, refl, Bool, true, false, not, ◌&&◌, if◌then◌else◌, ◌==◌, append-nil, Option, None, Some, add_assoc, arith, length-append, length-set, get_or-set_same, get_or-set_other, eq-eqb, take, nat_lt, ◌-◌}
-use Rattle.std.specs.List.{flat_map, take_while}
+use Rattle.std.proofs.Common.{◌≡◌, ℕ, ◌+◌, ◌%◌, ◌<◌, ◌≤◌, List, [], ◌∷◌, ◌++◌, length, map, filter, get_or, set, ap, sym, subst, ◌∙◌, inl, inr, refl, Bool, true, false, not, ◌&&◌, if◌then◌else◌, ◌==◌, append-nil, Option, None, Some, add_assoc, arith, length-append, length-set, get_or-set_same, get_or-set_other, eq-eqb, take, nat_lt, ◌-◌}
+use Rattle.std.specs.List.{take_while}
 use Rattle.std.proofs.lemmas.List.{length-take-le, length-map}
 use Rattle.plugin_trait.specs.declared.line.Line.{Line}
 use Rattle.plugin_trait.specs.PlacedLines.{placed_at, placed_after, placed_of}

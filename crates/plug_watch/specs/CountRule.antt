@@ -9,7 +9,6 @@ use Rattle.chain_model.specs.PluginRule.{PluginRule, passes}
 use Rattle.plug_conf.specs.Limits.{pid_bound}
 use Rattle.plug_conf.specs.declared.count_conf.CountConf.{CountConf}
 use Rattle.pid_set.specs.Selection.{is_selected}
-use Rattle.plug_watch.specs.Notes.{notes_after}
 use Rattle.plug_watch.specs.declared.note.Note.{Note}
 
 -- the packet is one of those that are counted

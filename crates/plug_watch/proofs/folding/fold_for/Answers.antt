@@ -1,4 +1,4 @@
-use Rattle.std.proofs.Common.{◌≡◌, List, [], ◌++◌, Bool, map, if◌then◌else◌, ap, sym, ◌∙◌}
+use Rattle.std.proofs.Common.{List, [], ◌++◌, Bool, map, if◌then◌else◌, ap, sym, ◌∙◌}
 use Rattle.plugin_trait.specs.declared.line.Line.{Line}
 use Rattle.plug_watch.specs.Folding.{line_of_note}
 use Rattle.plug_watch.proofs.folding.fold_for.Goals as goal

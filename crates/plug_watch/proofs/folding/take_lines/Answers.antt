@@ -1,4 +1,4 @@
-use Rattle.std.proofs.Common.{◌≡◌, List, [], ◌∷◌, ◌++◌, ap, ◌∙◌}
+use Rattle.std.proofs.Common.{[], ◌∷◌, ◌++◌, ap, ◌∙◌}
 use Rattle.plugin_trait.specs.declared.line.Line.{Line}
 use Rattle.plug_watch.proofs.FoldingSteps.{has_room, on_pid, one_taken_with, none_taken_with, all_taken_with}
 use Rattle.plug_watch.proofs.folding.take_lines.Goals as goal

@@ -1,4 +1,4 @@
-use Rattle.std.proofs.Common.{◌≡◌, ◌<◌, ℕ, List, Option, None, Some, Bool, get_or, if◌then◌else◌, ap, sym, subst, ◌∙◌, arith, length}
+use Rattle.std.proofs.Common.{◌≡◌, ◌<◌, ℕ, None, Bool, get_or, if◌then◌else◌, ap, sym, subst, ◌∙◌, arith}
 use Rattle.std.proofs.lemmas.List.{get_or_read}
 use Rattle.ts_packet.specs.Header.{pid_of, with_counter}
 use Rattle.plug_watch.specs.declared.seen.Seen.{Seen}

@@ -1,6 +1,6 @@
-use Rattle.std.proofs.Common.{◌≡◌, ℕ, ◌≤◌, subst, sym}
+use Rattle.std.proofs.Common.{ℕ, ◌≤◌, subst, sym}
 use Rattle.plug_watch.specs.CountConfOf.{conf_of}
-use Rattle.plug_watch.proofs.CountStates.{can_fold, counts_noted, counts_kept}
+use Rattle.plug_watch.proofs.CountStates.{can_fold, counts_noted}
 use Rattle.plug_watch.proofs.count.CountPlugin.note.Goals as goal
 
 pub fold_below-requires : goal.fold_below-requires

@@ -1,11 +1,10 @@
-use Rattle.std.proofs.Common.{◌≡◌, ℕ, ◌<◌, ◌≤◌, List, [], ◌∷◌, ◌++◌, length, Bool, true, false, ap, sym, subst, ◌∙◌, refl, arith}
+use Rattle.std.proofs.Common.{◌≡◌, ℕ, ◌≤◌, [], ◌∷◌, ◌++◌, length, ap, sym, subst, ◌∙◌, refl, arith}
 use Rattle.std.specs.VecDeque.{deque_capacity}
 use Rattle.ts_packet.specs.declared.cell.Cell.{Cell}
-use Rattle.ts_packet.specs.Header.{pid_of}
 use Rattle.pid_set.specs.Selection.{is_selected}
 use Rattle.plug_watch.specs.declared.note.Note.{Note}
 use Rattle.plug_watch.specs.CountConfOf.{conf_of}
-use Rattle.plug_watch.specs.CountState.{Counts, IsReserved}
+use Rattle.plug_watch.specs.CountState.{Counts}
 use Rattle.plug_watch.proofs.CountStates.{counts_dropped, counts_other, counts_live, not_full}
 use Rattle.plug_watch.proofs.count.CountPlugin.step.Goals as goal
 
