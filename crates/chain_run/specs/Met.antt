@@ -1,0 +1,21 @@
+-- How far plugins met the lists of a chain. This project's own rule.
+use Rattle.std.specs.Prelude.{◌≡◌, ℕ, suc, ◌≤◌, List, [], ◌∷◌, length, take}
+use Rattle.ts_packet.specs.declared.cell.Cell.{Cell}
+use Rattle.chain_model.specs.PluginRule.{PluginRule}
+use Rattle.chain_model.specs.Apply.{StageList}
+use Rattle.chain_model.specs.StageLists.{stage_list}
+
+-- a plugin met at least the first `cut` cells of a list, and was told no mark above the cut
+pub record MetTo {P : Type 0} (stands : P → List Cell → ℕ → Type 0) (plugin : P) (list : List Cell) (cut : ℕ) : Type 0 where
+  pub history : List Cell
+  pub mark : ℕ
+  pub holds : stands plugin history mark
+  pub told : mark ≤ cut
+  pub reach : cut ≤ length history
+  pub same : take cut history ≡ take cut list
+
+-- each plugin met the first `cut` cells of the list of the stage before it; the first of them stands behind stage `j`
+abbrev pub AllMetTo : {P : Type 0} → (P → List Cell → ℕ → Type 0) → List PluginRule → StageList → ℕ → ℕ → List P → Type 0
+AllMetTo stands rules input cut j [] = Unit {0}
+AllMetTo stands rules input cut j (plugin ∷ plugins) =
+    MetTo stands plugin (stage_list rules input j).cells cut × AllMetTo stands rules input cut (suc j) plugins

@@ -1,0 +1,13 @@
+use chain_core::Closed;
+use stage_run::{InputPart, OutputPart};
+use std::alloc::AllocError;
+
+/// What a run gives back.
+pub struct RunEnd<S, K, P> {
+    pub input: InputPart<S>,
+    /// The plugins in the same order.
+    pub plugins: Vec<P>,
+    pub output: OutputPart<K>,
+    /// The cut and its cause. `AllocError` where there was no memory for the run; then nothing was read.
+    pub closed: Result<Closed, AllocError>,
+}

@@ -1,0 +1,4 @@
+pub mod PartLists
+pub mod OutputStands
+pub mod InputStands
+pub mod Parts

@@ -1,0 +1,14 @@
+//! The null packets that the input puts in.
+
+/// The null packets that the input puts in.
+#[derive(Debug, Clone, Copy, PartialEq, Eq)]
+pub struct Stuffing {
+    /// How many stand before the input's packets.
+    pub start: u64,
+    /// How many stand behind the input's end, where it is a plain end.
+    pub stop: u64,
+    /// How many stand behind each `every`-th packet of the input.
+    pub null: u32,
+    /// At least 1.
+    pub every: u32,
+}
