@@ -1,4 +1,14 @@
 pub mod PartLists
-pub mod OutputStands
+pub mod Rows
+pub mod Feeds
 pub mod InputStands
+pub mod InputSteps
+pub mod PluginSteps
+pub mod PluginStands
+pub mod OutputStands
+pub mod Writing
+pub mod Telling
+pub mod PartStands
+pub mod Works
+pub mod RoomSize
 pub mod Parts

@@ -1,16 +1,35 @@
+-- What an output stands for. This project's own rule.
 use Rattle.std.specs.Prelude.{◌≡◌, ◌≢◌, ℕ, ◌<◌, List, [], ◌∷◌, ◌++◌, length, Option, None, Some}
 use Rattle.ts_packet.specs.declared.cell.Cell.{Cell}
 use Rattle.ts_packet.specs.declared.cell.Cell.TheVariants.{Live, Dropped}
 use Rattle.ts_outside.specs.Sink.{SinkView, took, write_failed}
 use Rattle.chain_model.specs.Written.{written}
 use Rattle.chain_core.specs.declared.stage_end.StageEnd.{StageEnd}
-use Rattle.chain_core.specs.declared.stage_end.StageEnd.TheVariants.{WriteFault}
+use Rattle.chain_core.specs.declared.stage_end.StageEnd.TheVariants.{Input, Last, Stop, Refuse, WriteFault, NoMemory, Followed}
+use Rattle.stage_run.specs.declared.output_part.OutputPart.{OutputPart}
+use Rattle.stage_run.specs.declared.output_part.OutputPart.TheVariants.{Stream, Discard}
+use Rattle.stage_run.specs.declared.output_stage.OutputStage.{OutputStage}
+use Rattle.stage_run.specs.PartLists.{PartLists}
 
-abbrev pub SinkTook : SinkView → SinkView → List Cell → List ℕ → Option StageEnd → Type 0
-SinkTook first now given cut (Some WriteFault) = now ≡ write_failed (took first (written given ++ cut))
-SinkTook first now given cut _ = (now ≡ took first (written given)) × (cut ≡ [])
-
+-- these bytes are a first part of the packet of the first of these cells, and not all of it
 abbrev pub IsPartOfFirst : List Cell → List ℕ → Type 0
 IsPartOfFirst [] part = ⊥
 IsPartOfFirst (Dropped ∷ cells) part = ⊥
 IsPartOfFirst (Live packet ∷ cells) part = (rest : List ℕ) × (0 < length rest) × (packet ≡ part ++ rest)
+
+-- the sink took the bytes of the live cells that were given; after a write fault alone, and that is the last call,
+-- a part of the packet in hand too
+abbrev pub SinkTook : SinkView → SinkView → List Cell → List ℕ → Option StageEnd → Type 0
+SinkTook first now given cut (Some WriteFault) = now ≡ write_failed (took first (written given ++ cut))
+SinkTook first now given cut _ = (now ≡ took first (written given)) × (cut ≡ [])
+
+-- what an output wrote of the cells that it gave
+abbrev pub PartTook : {K : Type 0} → (K → SinkView) → OutputPart K → PartLists → Option StageEnd → Type 0
+PartTook seen (Stream sink) lists told = SinkTook lists.sink (seen sink) lists.given lists.cut told
+PartTook seen Discard lists told = told ≢ Some WriteFault
+
+-- the output met and gave these lists, and told this end
+pub record OutputStands {K : Type 0} (seen : K → SinkView) (stage : OutputStage K) (lists : PartLists) (told : Option StageEnd) : Type 0 where
+  -- it gives its cells unchanged
+  pub same : lists.given ≡ lists.met
+  pub took : PartTook seen stage.part lists told

@@ -1,5 +1,3 @@
-//! The input of a chain.
-
 /// Where the input's packets come from.
 pub enum InputPart<S> {
     /// The packets of a source's bytes.

@@ -1,11 +1,29 @@
-//! The two ends of a chain as values: where packets come from, where they go, and the null packets that the input puts in.
-//! The layer above runs a chain between them.
+//! The stages of a chain, without a seat in it: the cells in a stage's hands come in with the news of its last visit,
+//! the cells that it gives on and its word go out. The layer above uses the clauses of `StagePart`, `work` before all.
 #![tactic(auto)]
 
 mod input_part;
+mod input_stage;
+mod null_feed;
 mod output_part;
+mod output_stage;
+mod packet_feed;
+mod packet_row;
+mod packet_stream;
+mod plugin_stage;
+mod room;
+mod stage_part;
 mod stuffing;
+mod telling;
+mod work;
+mod writing;
 
 pub use input_part::InputPart;
+pub use input_stage::InputStage;
 pub use output_part::OutputPart;
+pub use output_stage::OutputStage;
+pub use plugin_stage::PluginStage;
+pub use room::Room;
+pub use stage_part::StagePart;
 pub use stuffing::Stuffing;
+pub use work::Work;

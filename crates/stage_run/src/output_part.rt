@@ -1,5 +1,3 @@
-//! The output of a chain.
-
 /// Where the output's packets go.
 pub enum OutputPart<K> {
     /// A sink takes the bytes of the live packets.

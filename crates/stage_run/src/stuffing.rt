@@ -1,5 +1,3 @@
-//! The null packets that the input puts in.
-
 /// The null packets that the input puts in.
 #[derive(Debug, Clone, Copy, PartialEq, Eq)]
 pub struct Stuffing {

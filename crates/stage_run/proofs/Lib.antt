@@ -1,0 +1,13 @@
+pub mod CellLemmas
+pub mod WritingLemmas
+pub mod StreamLemmas
+pub mod InputLemmas
+pub mod PacketLemmas
+pub mod ContinuesLemmas
+pub mod KeepingLemmas
+pub mod FarLemmas
+pub mod AgreeingLemmas
+pub mod InputWorking
+pub mod PartLemmas
+pub mod PluginWorking
+pub mod OutputWorking

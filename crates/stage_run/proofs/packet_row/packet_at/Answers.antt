@@ -1,0 +1,15 @@
+use Rattle.std.proofs.Common.{◌≡◌, ◌+◌, ◌-◌, ℕ, List, take, drop, get_or, ap, ◌∙◌, sym, arith, add-zero}
+use Rattle.std.proofs.lemmas.List.{get_or-take, get_or-drop}
+use Rattle.stage_run.proofs.packet_row.packet_at.Goals as goal
+
+pub unreachable-requires-in_default-of : goal.unreachable-requires-in_default-of
+unreachable-requires-in_default-of c =
+    let n : ℕ = c.args.from + 188 - c.args.from in
+    let front : get_or c.in-Ok.row.now 0 0 ≡ 0x47 =
+    ap (λ (l : List ℕ). get_or l 0 0) c.in-Ok.ensures.1.same
+    ∙ get_or-take n (drop c.args.from c.args.bytes.now) 0 0 (omega arith)
+    ∙ get_or-drop c.args.from c.args.bytes.now 0 0
+    ∙ ap (λ (k : ℕ). get_or c.args.bytes.now k 0) (add-zero c.args.from)
+    ∙ c.requires.sync in
+    let no = c.in_default-of.ensures.accepted.1 front in
+    cc

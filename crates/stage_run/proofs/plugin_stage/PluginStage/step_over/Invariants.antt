@@ -1,0 +1,24 @@
+use Rattle.std.proofs.Common.{◌≡◌, ℕ, List, ◌++◌, length, take, drop, is_some}
+use Rattle.ts_packet.specs.declared.cell.Cell.{Cell}
+use Rattle.chain_model.specs.Apply.{apply_after}
+use Rattle.chain_model.specs.Joint.{agreement_of}
+use Rattle.plugin_trait.proofs.Going.{behind}
+use Rattle.stage_run.specs.PluginSteps.{made_so_far, TellsAgreement}
+use Rattle.plugin_trait.specs.declared.list_end.ListEnd.TheVariants.{Through}
+use Rattle.stage_run.proofs.plugin_stage.PluginStage.step_over.Given as goal
+
+abbrev pub invariant-loop-i : goal.invariant-loop-i
+invariant-loop-i g l = record {
+  met : (history : List Cell) (mark : ℕ) → g.P.Plugin.stands_for l.fn.self.plugin history mark → length history ≡ l.at
+      → g.P.Plugin.stands_for l.self.plugin (history ++ take l.i l.fn.cells) mark;
+  made : (history : List Cell) (mark : ℕ) → g.P.Plugin.stands_for l.fn.self.plugin history mark → length history ≡ l.at
+      → apply_after (g.P.Plugin.rule l.fn.self.plugin) history l.fn.cells
+      ≡ behind (take l.i l.cells) (apply_after (g.P.Plugin.rule l.fn.self.plugin) (history ++ take l.i l.fn.cells) (drop l.i l.fn.cells));
+  far : (history : List Cell) (mark : ℕ) → g.P.Plugin.stands_for l.fn.self.plugin history mark → length history ≡ l.at
+      → apply_after (g.P.Plugin.rule l.fn.self.plugin) history (take l.i l.fn.cells) ≡ made_so_far (take l.i l.cells) Through;
+  rest : drop l.i l.cells ≡ drop l.i l.fn.cells;
+  same_rule : g.P.Plugin.rule l.self.plugin ≡ g.P.Plugin.rule l.fn.self.plugin;
+  agreed : (history : List Cell) (mark : ℕ) → g.P.Plugin.stands_for l.fn.self.plugin history mark → length history ≡ l.at
+      → l.fn.self.agreed ≡ is_some (agreement_of (g.P.Plugin.rule l.fn.self.plugin) history)
+      → TellsAgreement (g.P.Plugin.rule l.fn.self.plugin) (history ++ take l.i l.fn.cells) l.at l.agreed l.self.agreed;
+}

@@ -1,0 +1,61 @@
+-- The one relation of a part to the lists that it stands for. This project's own rule.
+use Rattle.std.specs.Prelude.{◌≡◌, ℕ, ◌≤◌, List, length, Option, None, Some}
+use Rattle.ts_packet.specs.declared.cell.Cell.{Cell}
+use Rattle.ts_outside.specs.Source.{SourceView}
+use Rattle.ts_outside.specs.Sink.{SinkView}
+use Rattle.chain_model.specs.PluginRule.{PluginRule, passing_rule}
+use Rattle.chain_model.specs.Apply.{StageList}
+use Rattle.chain_model.specs.Stuffed as model
+use Rattle.chain_core.specs.declared.stage_end.StageEnd.{StageEnd}
+use Rattle.stage_run.specs.declared.stage_part.StagePart.{StagePart}
+use Rattle.stage_run.specs.declared.stage_part.StagePart.TheVariants.{Input, Plugin, Output}
+use Rattle.stage_run.specs.PartLists.{PartLists}
+use Rattle.stage_run.specs.InputStands.{InputStands, MayGive, stuffing_of}
+use Rattle.stage_run.specs.PluginStands.{PluginStands}
+use Rattle.stage_run.specs.OutputStands.{OutputStands}
+
+-- the kinds of stages
+pub data PartKind : Type 0 where
+  an_input : PartKind
+  a_plugin : PartKind
+  an_output : PartKind
+
+abbrev pub kind_of : {S K P : Type 0} → StagePart S K P → PartKind
+kind_of (Input stage) = an_input
+kind_of (Plugin stage) = a_plugin
+kind_of (Output stage) = an_output
+
+-- the rule by which a part makes its list of the cells that it meets: an output passes everything
+abbrev pub rule_of : {S K P : Type 0} → (P → PluginRule) → StagePart S K P → PluginRule
+rule_of rule (Input stage) = passing_rule
+rule_of rule (Plugin stage) = rule stage.plugin
+rule_of rule (Output stage) = passing_rule
+
+-- the stuffing of an input
+abbrev pub stuffing_in : {S K P : Type 0} → StagePart S K P → Option model.Stuffing
+stuffing_in (Input stage) = Some (stuffing_of stage.stuffing)
+stuffing_in (Plugin stage) = None
+stuffing_in (Output stage) = None
+
+-- the part met, gave, read and wrote what these lists say, and told this end
+abbrev pub PartStands : {S K P : Type 0} → (S → SourceView) → (K → SinkView) → (P → PluginRule) → (P → List Cell → ℕ → Type 0) → StagePart S K P → PartLists → Option StageEnd → Type 0
+PartStands source sink rule stands (Input stage) lists told = InputStands source stage lists told
+PartStands source sink rule stands (Plugin stage) lists told = PluginStands rule stands stage lists told
+PartStands source sink rule stands (Output stage) lists told = OutputStands sink stage lists told
+
+-- the list of the chain's input may be this one, as far as this part knows; only an input knows of it
+abbrev pub PartGives : {S K P : Type 0} → (S → SourceView) → StagePart S K P → PartLists → StageList → Type 0
+PartGives source (Input stage) lists input = MayGive source stage lists input
+PartGives source (Plugin stage) lists input = Unit {0}
+PartGives source (Output stage) lists input = Unit {0}
+
+-- a part that stands for these lists, and has not ended, may work behind its first `at` cells with this mark
+pub record MayWork (stands : PartLists → Option StageEnd → Type 0) (at written : ℕ) (lists : PartLists) : Type 0 where
+  pub goes_on : stands lists None
+  pub given : length lists.given ≡ at
+  pub mark : lists.mark ≤ written
+
+-- a part that stands for some such lists
+pub record MayWorkOnSome (stands : PartLists → Option StageEnd → Type 0) (at written : ℕ) : Type 0 where
+  pub lists : PartLists
+  pub may : MayWork stands at written lists

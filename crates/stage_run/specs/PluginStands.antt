@@ -1,0 +1,24 @@
+-- What a plugin's stage stands for. This project's own rule.
+use Rattle.std.specs.Prelude.{◌≡◌, ℕ, List, length, Option, None, Some, is_some}
+use Rattle.ts_packet.specs.declared.cell.Cell.{Cell}
+use Rattle.chain_model.specs.PluginRule.{PluginRule}
+use Rattle.chain_model.specs.Apply.{OwnEnd, last_passed, apply}
+use Rattle.chain_model.specs.Joint.{agreement_of}
+use Rattle.chain_core.specs.declared.stage_end.StageEnd.{StageEnd}
+use Rattle.chain_core.specs.declared.stage_end.StageEnd.TheVariants.{Input, Last, Stop, Refuse, WriteFault, NoMemory, Followed}
+use Rattle.stage_run.specs.declared.plugin_stage.PluginStage.{PluginStage}
+use Rattle.stage_run.specs.PartLists.{PartLists}
+
+-- how the list of the cells that were met has ended: behind a last packet, or not
+abbrev pub end_behind_met : Option StageEnd → Option OwnEnd
+end_behind_met (Some Last) = Some last_passed
+end_behind_met _ = None
+
+-- the plugin met and gave these lists, and told this end
+pub record PluginStands {P : Type 0} (rule : P → PluginRule) (stands : P → List Cell → ℕ → Type 0) (stage : PluginStage P) (lists : PartLists) (told : Option StageEnd) : Type 0 where
+  pub plugin : stands stage.plugin lists.met lists.mark
+  -- what was given is the plugin's image of what was met, cell by cell
+  pub given : lists.given ≡ (apply (rule stage.plugin) lists.met).cells
+  pub length_same : length lists.given ≡ length lists.met
+  pub ended : (apply (rule stage.plugin) lists.met).ended ≡ end_behind_met told
+  pub agreed : stage.agreed ≡ is_some (agreement_of (rule stage.plugin) lists.met)

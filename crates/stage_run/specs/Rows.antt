@@ -1,0 +1,23 @@
+-- What stands behind the whole packets that were read. ISO/IEC 13818-1, 2.4.3.2 (a packet is 188 bytes and begins
+-- with 0x47).
+use Rattle.std.specs.Prelude.{◌≡◌, ◌≢◌, ℕ, ◌<◌, ◌≤◌, List, [], ◌∷◌, length, slice_index}
+
+-- these bytes are a first part of a packet, or none at all
+abbrev pub IsUnfinished : List ℕ → Type 0
+IsUnfinished [] = Unit {0}
+IsUnfinished (first ∷ rest) = (first ≡ 0x47) × (length (first ∷ rest) < 188)
+
+-- there is a first byte, and it is not the sync byte
+abbrev pub IsOutOfSync : List ℕ → Type 0
+IsOutOfSync [] = ⊥
+IsOutOfSync (first ∷ rest) = first ≢ 0x47
+
+-- where there is a first byte, it is the sync byte
+abbrev pub IsInSync : List ℕ → Type 0
+IsInSync [] = Unit {0}
+IsInSync (first ∷ rest) = first ≡ 0x47
+
+-- a whole packet stands in front
+pub record BeginsPacket (bytes : List ℕ) : Type 0 where
+  pub whole : 188 ≤ length bytes
+  pub sync : slice_index bytes 0 ≡ 0x47

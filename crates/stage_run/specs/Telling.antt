@@ -1,0 +1,49 @@
+-- What a stage tells with its cells. This project's own rule.
+use Rattle.std.specs.Prelude.{◌≡◌, ℕ, ◌-◌, min, nat_le, nat_lt, ◌||◌, Bool, true, false, Option, None, Some, if◌then◌else◌, List}
+use Rattle.ts_packet.specs.declared.cell.Cell.{Cell}
+use Rattle.chain_model.specs.Apply.{OwnEnd, input_over, last_passed, stopped, refused, StageList}
+use Rattle.chain_core.specs.declared.news.News.{News}
+use Rattle.chain_core.specs.declared.stage_end.StageEnd.{StageEnd}
+use Rattle.chain_core.specs.declared.stage_end.StageEnd.TheVariants.{Input, Last, Stop, Refuse, WriteFault, NoMemory, Followed}
+
+-- the limit is known, and is no more than this
+abbrev pub is_reached : Option ℕ → ℕ → Bool
+is_reached None now = false
+is_reached (Some limit) now = nat_le limit now
+
+-- by the news, a stage that has given `now` cells may end by following
+abbrev pub may_follow : News → ℕ → Bool
+may_follow news now = news.before_over || (news.after_over || is_reached news.limit now)
+
+-- the end of a stage that meets no end of its own
+abbrev pub followed : News → ℕ → Option StageEnd
+followed news now = if may_follow news now then Some Followed else None
+
+-- `Followed` is told where the news let the stage follow and it has met no end of its own, and nothing is told where
+-- they do not
+abbrev pub FollowsNews : News → ℕ → Option StageEnd → Type 0
+FollowsNews news now None = may_follow news now ≡ false
+FollowsNews news now (Some Followed) = may_follow news now ≡ true
+FollowsNews news now (Some _) = Unit {0}
+
+-- an agreement is told with the cell at which it first holds, and so not again: it is above what was given before
+abbrev pub newly_agreed : ℕ → Option ℕ → Option ℕ
+newly_agreed before None = None
+newly_agreed before (Some agreed) = if nat_lt before agreed then Some agreed else None
+
+-- how the end of a stage's own list is told
+abbrev pub end_told : OwnEnd → StageEnd
+end_told (input_over how) = Input how
+end_told last_passed = Last
+end_told stopped = Stop
+end_told (refused reason) = Refuse reason
+
+-- what is told of a list: its own end where it has one, and otherwise what the news let the stage tell
+abbrev pub told_of : Option OwnEnd → News → ℕ → Option StageEnd
+told_of None news now = followed news now
+told_of (Some own) news now = Some (end_told own)
+
+-- of so many cells, those below the limit
+abbrev pub below_limit : Option ℕ → ℕ → ℕ → ℕ
+below_limit None at len = len
+below_limit (Some limit) at len = min len (limit - at)

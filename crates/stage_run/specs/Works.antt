@@ -1,0 +1,129 @@
+-- What a stage does with the cells in its hands. This project's own rule.
+use Rattle.std.specs.Prelude.{◌≡◌, ◌⊎◌, ℕ, suc, ◌+◌, ◌*◌, ◌^◌, ◌<◌, ◌≤◌, ◌==◌, List, [], ◌++◌, length, take, drop, Option, None, Some, true, if◌then◌else◌}
+use Rattle.ts_packet.specs.declared.cell.Cell.{Cell}
+use Rattle.ts_outside.specs.Count.{raised}
+use Rattle.ts_outside.specs.Source.{SourceView}
+use Rattle.ts_outside.specs.Sink.{SinkView}
+use Rattle.chain_model.specs.declared.input_end.InputEnd.TheVariants.{ReadFault}
+use Rattle.chain_model.specs.Prefix.{IsPrefix}
+use Rattle.chain_model.specs.PluginRule.{PluginRule, passing_rule}
+use Rattle.chain_model.specs.Apply.{StageList, apply}
+use Rattle.chain_model.specs.StageLists.{rule_behind}
+use Rattle.chain_model.specs.Joint.{agreement_of}
+use Rattle.chain_core.specs.declared.news.News.{News}
+use Rattle.chain_core.specs.declared.stage_end.StageEnd.{StageEnd}
+use Rattle.chain_core.specs.declared.stage_end.StageEnd.TheVariants.{Input, Last, Stop, Refuse, WriteFault, NoMemory, Followed}
+use Rattle.chain_core.specs.declared.stage_word.StageWord.{StageWord}
+use Rattle.chain_core.specs.Keeps.{StageKeeps}
+use Rattle.stage_run.specs.declared.work.Work.{Work}
+use Rattle.stage_run.specs.declared.output_part.OutputPart.{OutputPart}
+use Rattle.stage_run.specs.declared.output_part.OutputPart.TheVariants as out
+use Rattle.stage_run.specs.declared.packet_feed.PacketFeed.{PacketFeed}
+use Rattle.stage_run.specs.declared.packet_feed.PacketFeed.TheVariants as feed
+use Rattle.stage_run.specs.declared.input_stage.InputStage.{InputStage}
+use Rattle.stage_run.specs.declared.output_stage.OutputStage.{OutputStage}
+use Rattle.stage_run.specs.declared.plugin_stage.PluginStage.{PluginStage}
+use Rattle.stage_run.specs.declared.stage_part.StagePart.{StagePart}
+use Rattle.stage_run.specs.declared.stage_part.StagePart.TheVariants as part
+use Rattle.stage_run.specs.PartLists.{PartLists}
+use Rattle.stage_run.specs.InputStands.{MayGive}
+use Rattle.stage_run.specs.OutputStands.{IsPartOfFirst}
+use Rattle.stage_run.specs.Telling.{may_follow, newly_agreed, told_of, below_limit}
+
+-- the lists behind a visit: more was met and given; what was read and written and the mark are a part's own
+pub record Behind (old new : PartLists) (cells cells_given : List Cell) (written : ℕ) : Type 0 where
+  pub met : new.met ≡ old.met ++ cells
+  pub given : new.given ≡ old.given ++ cells_given
+  pub read : IsPrefix old.read new.read
+  pub source : new.source ≡ old.source
+  pub sink : new.sink ≡ old.sink
+  pub mark : new.mark ≤ written
+
+-- for how many packets, counted from its beginning, an input may have read that works on `len` cells behind `at`: for
+-- its cells, but for one packet more at the last position
+abbrev pub read_for : ℕ → ℕ → ℕ
+read_for at len = if at == 2 ^ 60 then at + 1 else at + len
+
+-- a count of faults rose by one where this fault was told, and stood still otherwise
+abbrev pub FaultsTold : ℕ → ℕ → Option StageEnd → StageEnd → Type 0
+FaultsTold old new told fault = (told ≡ Some fault → new ≡ raised old) × ((told ≡ Some fault → ⊥) → new ≡ old)
+
+-- an input works on all its cells, unless its list ends; at the last position it looks for its end. It need not read
+-- where it may follow already
+abbrev pub InputTells : News → ℕ → ℕ → ℕ → Type 0 → Option StageEnd → Type 0
+InputTells news at len done unread None = (done ≡ len) × (at < 2 ^ 60)
+InputTells news at len done unread (Some Followed) =
+    ((done ≡ len) × (at < 2 ^ 60)) ⊎ ((done ≡ 0) × unread × (may_follow news at ≡ true))
+InputTells news at len done unread (Some (Input how)) = Unit {0}
+InputTells news at len done unread (Some _) = ⊥
+
+-- the count of faults of an input's source
+abbrev pub source_faults : {S : Type 0} → (S → SourceView) → PacketFeed S → ℕ
+source_faults seen (feed.Stream stream) = (seen stream.source).faults
+source_faults seen (feed.Nulls nulls) = 0
+
+pub record InputWorks {S : Type 0} (seen : S → SourceView) (old new : InputStage S) (before : PartLists) (news : News) (cells cells_new : List Cell) (work : Work) (after : PartLists) : Type 0 where
+  pub tells : InputTells news (length before.given) (length cells) work.done (after.read ≡ before.read) work.word.ended
+  pub agreed : work.word.agreed ≡ None
+  pub faults : FaultsTold (source_faults seen old.feed) (source_faults seen new.feed) work.word.ended (Input ReadFault)
+  -- no more is read than the cells want
+  pub reads : length after.read ≤ 188 * read_for (length before.given) (length cells)
+  -- what may follow now might have followed before, and of each such list the visit is a stage's
+  pub keeps : (input : StageList) → MayGive seen new after input → MayGive seen old before input
+      × ((rules : List PluginRule) (plugins : ℕ) → StageKeeps rules input plugins 0 [] before.given (take work.done cells_new) work.word)
+
+-- a plugin's stage gives the image of all its cells and tells how that ends, but for want of memory
+abbrev pub PluginTells : StageList → List Cell → News → Option StageEnd → Type 0
+PluginTells list given news (Some NoMemory) = IsPrefix given list.cells
+PluginTells list given news told = (given ≡ list.cells) × (told ≡ told_of list.ended news (length given))
+
+-- of the cells in the stage's hands, whatever waits behind them, and whatever its number, the visit is that of the
+-- stage with the rule
+abbrev pub KeepsRule : PluginRule → PartLists → List Cell → List Cell → StageWord → ℕ → ℕ → Type 0
+KeepsRule rule before cells given word plugins j =
+    (rules : List PluginRule) (input : StageList) (rest : List Cell) → rule_behind rules j ≡ rule
+    → StageKeeps rules input plugins (suc j) (before.met ++ (cells ++ rest)) before.given given word
+
+pub record PluginWorks (rule : PluginRule) (before : PartLists) (news : News) (cells cells_new : List Cell) (work : Work) (after : PartLists) : Type 0 where
+  pub tells : PluginTells (apply rule (before.met ++ cells)) after.given news work.word.ended
+  pub agreed : work.word.agreed ≡ newly_agreed (length before.given) (agreement_of rule after.met)
+  pub keeps : (plugins j : ℕ) → KeepsRule rule before cells (take work.done cells_new) work.word plugins j
+
+-- an output gives all its cells below the limit, but for a write fault: it ends before the cell whose packet was not
+-- taken whole
+abbrev pub OutputTells : News → ℕ → List Cell → ℕ → List ℕ → Option StageEnd → Type 0
+OutputTells news at cells done cut None = done ≡ below_limit news.limit at (length cells)
+OutputTells news at cells done cut (Some Followed) = done ≡ below_limit news.limit at (length cells)
+OutputTells news at cells done cut (Some WriteFault) =
+    (done < below_limit news.limit at (length cells)) × IsPartOfFirst (drop done cells) cut
+OutputTells news at cells done cut (Some _) = ⊥
+
+-- the count of faults of an output's sink
+abbrev pub sink_faults : {K : Type 0} → (K → SinkView) → OutputPart K → ℕ
+sink_faults seen (out.Stream sink) = (seen sink).faults
+sink_faults seen out.Discard = 0
+
+pub record OutputWorks {K : Type 0} (seen : K → SinkView) (old new : OutputStage K) (before : PartLists) (news : News) (cells cells_new : List Cell) (work : Work) (after : PartLists) : Type 0 where
+  pub unchanged : cells_new ≡ cells
+  pub tells : OutputTells news (length before.given) cells work.done after.cut work.word.ended
+  pub agreed : work.word.agreed ≡ None
+  pub faults : FaultsTold (sink_faults seen old.part) (sink_faults seen new.part) work.word.ended WriteFault
+  pub below : (limit : ℕ) → news.limit ≡ Some limit → 0 < work.done → length before.given + work.done ≤ limit
+  pub keeps : (plugins : ℕ) → KeepsRule passing_rule before cells (take work.done cells_new) work.word plugins plugins
+
+-- what a part does, by its kind; no part changes its kind
+abbrev pub WorksByKind : {S K P : Type 0} → (S → SourceView) → (K → SinkView) → (P → PluginRule) → StagePart S K P → StagePart S K P → PartLists → News → List Cell → List Cell → Work → PartLists → Type 0
+WorksByKind source sink rule (part.Input old) (part.Input new) before news cells cells_new work after =
+    InputWorks source old new before news cells cells_new work after
+WorksByKind source sink rule (part.Plugin old) (part.Plugin new) before news cells cells_new work after =
+    PluginWorks (rule old.plugin) before news cells cells_new work after
+WorksByKind source sink rule (part.Output old) (part.Output new) before news cells cells_new work after =
+    OutputWorks sink old new before news cells cells_new work after
+WorksByKind source sink rule _ _ before news cells cells_new work after = ⊥
+
+-- a stage that stood for the lists `before` stands for the lists `after` now, and did what is to be done
+pub record Works (Stands : PartLists → Option StageEnd → Type 0) (Does : PartLists → Type 0) (before : PartLists) (written : ℕ) (cells cells_new : List Cell) (work : Work) : Type 0 where
+  pub after : PartLists
+  pub behind : Behind before after (take work.done cells) (take work.done cells_new) written
+  pub stands : Stands after work.word.ended
+  pub does : Does after

@@ -1,0 +1,232 @@
+ghost use Rattle.std.specs.Prelude.{◌≡◌, ◌≤◌};
+ghost use Rattle.stage_run.specs.InputStands.{stuffing_of};
+ghost use Rattle.stage_run.specs.InputSteps.{stop_count, null_count};
+
+use crate::packet_feed::PacketFeed;
+use crate::telling::{followed, may_follow};
+use crate::{InputPart, Room, Stuffing, Work};
+use chain_core::{InputEnd, News, StageEnd};
+use ts_outside::Source;
+use ts_packet::{Cell, Packet};
+
+/// Positions are below this number.
+const POSITION_LIMIT: u64 = 1 << 60;
+
+/// An input with its stuffing.
+pub struct InputStage<S> {
+    pub(crate) feed: PacketFeed<S>,
+    pub(crate) stuffing: Stuffing,
+    /// How many null packets come before anything else.
+    pub(crate) nulls: u64,
+    /// How the packets ended, once that is known.
+    pub(crate) ended: Option<InputEnd>,
+}
+
+/// What was put into a window.
+#[derive(Clone, Copy)]
+struct Filled {
+    /// How many cells, from the front.
+    done: usize,
+    /// How the list ends behind them, if it does.
+    over: Option<InputEnd>,
+}
+
+/// How many null packets stand behind an end.
+fn stop_count(ended: Option<InputEnd>, stop: u64) -> u64
+    ensures { result ≡ stop_count ended stop }
+{
+    match ended {
+        Some(InputEnd::End { .. }) => stop,
+        _ => 0,
+    }
+}
+
+/// How many null packets stand behind the packet of this number, counted from 1.
+fn null_count(packets: u64, stuffing: &Stuffing) -> u64
+    requires { 1 ≤ stuffing.now.every }
+    ensures { result ≡ null_count (stuffing_of stuffing.now) packets }
+{
+    if packets % u64::from(stuffing.every) == 0 {
+        u64::from(stuffing.null)
+    } else {
+        0
+    }
+}
+
+impl<S: Source> InputStage<S> {
+    ghost use Rattle.std.specs.Prelude.{◌≡◌, ◌≢◌, ℕ, ◌+◌, ◌%◌, ◌^◌, ◌==◌, ◌<◌, ◌≤◌, ◌↔◌, [], length, take, drop, if◌then◌else◌, Option, None, Some, IsSome, IfSome};
+    ghost use Rattle.chain_model.specs.Apply.{StageList};
+    ghost use Rattle.chain_core.specs.declared.stage_end.StageEnd.{StageEnd};
+    ghost use Rattle.ts_outside.specs.Source.{SourceView};
+    ghost use Rattle.ts_outside.specs.Sink.{SinkView};
+    ghost use Rattle.stage_run.specs.PartLists.{PartLists, fresh_lists};
+    ghost use Rattle.stage_run.specs.Feeds.{IsReady, packets_put};
+    ghost use Rattle.stage_run.specs.InputStands.{IsOpen, InputHolds, InputStands, MayGive, stuffing_of};
+    ghost use Rattle.stage_run.specs.InputSteps.{InputFits, InputGoes, IsOver, cell_put, IsFilled, EndsAtLimit};
+    ghost use Rattle.stage_run.specs.Parts.{IsListOf, IsSourceOf, LeavesInput, SomeList};
+    ghost use Rattle.stage_run.specs.PartStands.{MayWork, MayWorkOnSome};
+    ghost use Rattle.stage_run.specs.Telling.{FollowsNews};
+    ghost use Rattle.stage_run.specs.Works.{Works, InputWorks};
+
+    /// An input that has neither read nor given anything.
+    pub(crate) fn of(part: InputPart<S>, stuffing: Stuffing, room: Room) -> Self
+        requires { 1 ≤ stuffing.every }
+        ensures stuffing { result.stuffing ≡ stuffing }
+        ensures stands { (source : SourceView) (sink : SinkView) (mark : ℕ) → IsSourceOf S.seen part source
+            → InputStands S.seen result (fresh_lists source sink mark) None }
+        ensures gives { (source : SourceView) (sink : SinkView) (mark : ℕ) (input : StageList)
+            → MayGive S.seen result (fresh_lists source sink mark) input ↔ IsListOf S.seen part (stuffing_of stuffing) input }
+    {
+        let feed = PacketFeed::of(part, room);
+        InputStage {
+            feed,
+            stuffing,
+            nulls: stuffing.start,
+            ended: None,
+        }
+    }
+
+    /// Gives the input back.
+    pub(crate) fn into_part(self) -> InputPart<S>
+        ensures leaves { (lists : PartLists) (told : Option StageEnd) → InputStands S.seen self lists told
+            → LeavesInput S.seen result (stuffing_of self.stuffing) lists told }
+        ensures some_list { (lists : PartLists) (told : Option StageEnd) → InputStands S.seen self lists told
+            → SomeList (MayGive S.seen self lists) }
+    {
+        let InputStage {
+            feed,
+            stuffing: _,
+            nulls: _,
+            ended: _,
+        } = self;
+        feed.into_part()
+    }
+
+    /// Sees to it that the next cell can be put, where no null packet is due: a packet is ready, or the end is known.
+    fn look(&mut self, lack: usize)
+        requires some { 1 ≤ lack }
+        requires fits { InputFits self.old }
+        ensures fits { InputFits self.new }
+        ensures goes { (lists : PartLists) → InputHolds S.seen self.old lists → InputGoes S.seen self.old self.new lists lack [] }
+        ensures ready { self.new.nulls ≡ 0 → self.new.ended ≡ None → IsReady self.new.feed }
+        ensures packets { packets_put self.new.feed ≡ packets_put self.old.feed }
+        ensures stays_open { 0 < self.new.nulls → IsOpen self.old.ended → IsOpen self.new.ended }
+        ensures same_stuffing { self.new.stuffing ≡ self.old.stuffing }
+    {
+        if self.nulls == 0 && self.ended.is_none() {
+            self.look_further(lack);
+        }
+    }
+
+    /// Sees to it that a packet is ready, or notes how the packets ended.
+    fn look_further(&mut self, lack: usize)
+        requires some { 1 ≤ lack }
+        requires fits { InputFits self.old }
+        requires no_nulls { self.old.nulls ≡ 0 }
+        requires goes_on { self.old.ended ≡ None }
+        ensures fits { InputFits self.new }
+        ensures goes { (lists : PartLists) → InputHolds S.seen self.old lists → InputGoes S.seen self.old self.new lists lack [] }
+        ensures ready { self.new.ended ≡ None → IsReady self.new.feed }
+        ensures packets { packets_put self.new.feed ≡ packets_put self.old.feed }
+        ensures stays_open { 0 < self.new.nulls → IsOpen self.new.ended }
+        ensures same_stuffing { self.new.stuffing ≡ self.old.stuffing }
+    {
+        self.ended = self.feed.look(lack);
+        self.nulls = stop_count(self.ended, self.stuffing.stop);
+    }
+
+    /// Puts the next cell of the list, or answers how the list ends. `lack` cells are wanted, with this one.
+    fn next_cell(&mut self, cell: &mut Cell, lack: usize) -> Option<InputEnd>
+        requires some { 1 ≤ lack }
+        requires fits { InputFits self.old }
+        requires in_range { packets_put self.old.feed < 2 ^ 62 }
+        ensures fits { InputFits self.new }
+        ensures goes { (lists : PartLists) → InputHolds S.seen self.old lists → InputGoes S.seen self.old self.new lists lack (cell_put result cell.new) }
+        ensures over { IfSome result (λ how. IsOver self.new how) }
+        ensures kept { IsSome result → cell.new ≡ cell.old }
+        ensures packets { packets_put self.new.feed ≤ packets_put self.old.feed + 1 }
+        ensures stays_open { result ≡ None → IsOpen self.old.ended → IsOpen self.new.ended }
+        ensures same_stuffing { self.new.stuffing ≡ self.old.stuffing }
+    {
+        self.look(lack);
+        if self.nulls > 0 {
+            self.nulls -= 1;
+            *cell = Cell::Live(Packet::null());
+            return None;
+        }
+        if self.ended.is_some() {
+            return self.ended;
+        }
+        self.feed.put(cell);
+        self.nulls = null_count(self.feed.packets(), &self.stuffing);
+        None
+    }
+
+    /// Puts the next cells of the list, until the window is full or the list ends.
+    fn fill(&mut self, cells: &mut [Cell]) -> Filled
+        requires fits { InputFits self.old }
+        requires in_range { packets_put self.old.feed ≤ 2 ^ 60 }
+        requires few { length cells.old ≤ 2 ^ 60 }
+        ensures done { result.done ≤ length cells.old }
+        ensures rest { drop result.done cells.new ≡ drop result.done cells.old }
+        ensures goes { (lists : PartLists) → InputHolds S.seen self.old lists
+            → InputGoes S.seen self.old self.new lists (length cells.old) (take result.done cells.new) }
+        ensures filled { IsFilled self.new (length cells.old) result.done result.over }
+        ensures stays_open { result.over ≡ None → IsOpen self.old.ended → IsOpen self.new.ended }
+        ensures same_stuffing { self.new.stuffing ≡ self.old.stuffing }
+    {
+        let len = cells.len();
+        for (done, cell) in cells.iter_mut().enumerate() {
+            let over = self.next_cell(cell, len - done);
+            if over.is_some() {
+                return Filled { done, over };
+            }
+        }
+        Filled {
+            done: len,
+            over: None,
+        }
+    }
+
+    /// How the list ends at the last position: any cell more would stand at the limit.
+    fn end_at_limit(&mut self) -> InputEnd
+        requires { InputFits self.old }
+        ensures goes { (lists : PartLists) → InputHolds S.seen self.old lists → InputGoes S.seen self.old self.new lists 1 [] }
+        ensures ends { EndsAtLimit self.new result }
+        ensures stays_open { 0 < self.new.nulls → IsOpen self.old.ended → IsOpen self.new.ended }
+        ensures same_stuffing { self.new.stuffing ≡ self.old.stuffing }
+    {
+        self.look(1);
+        match self.ended {
+            Some(how) if self.nulls == 0 => how,
+            _ => InputEnd::TooLong,
+        }
+    }
+
+    /// Reads and gives for all cells, unless the list ends or the news let the input follow already.
+    pub(crate) fn work(&mut self, at: u64, cells: &mut [Cell], news: &News) -> Work
+        requires stands { MayWorkOnSome (InputStands S.seen self.old) at news.now.written }
+        requires in_range { at + length cells.old ≤ 2 ^ 60 }
+        ensures done { result.done ≤ length cells.old }
+        ensures rest { drop result.done cells.new ≡ drop result.done cells.old }
+        ensures goes_on { result.word.ended ≡ None → result.done ≡ length cells.old }
+        ensures follows { FollowsNews news.now (at + result.done) result.word.ended }
+        ensures agreed { result.word.agreed ≡ None }
+        ensures same_stuffing { self.new.stuffing ≡ self.old.stuffing }
+        ensures works { (lists : PartLists) → MayWork (InputStands S.seen self.old) at news.now.written lists
+            → Works (InputStands S.seen self.new) (InputWorks S.seen self.old self.new lists news.now cells.old cells.new result)
+            lists news.now.written cells.old cells.new result }
+    {
+        if may_follow(news, at) {
+            return Work::ending(0, Some(StageEnd::Followed));
+        }
+        if at == POSITION_LIMIT {
+            return Work::ending(0, Some(StageEnd::Input(self.end_at_limit())));
+        }
+        let filled = self.fill(cells);
+        match filled.over {
+            Some(how) => Work::ending(filled.done, Some(StageEnd::Input(how))),
+            None => Work::ending(filled.done, followed(news, at + filled.done as u64)),
+        }
+    }
+}

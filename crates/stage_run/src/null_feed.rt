@@ -1,0 +1,29 @@
+ghost use Rattle.std.specs.Prelude.{◌≤◌};
+
+use chain_core::InputEnd;
+
+/// The null packets of an input that has nothing else.
+#[derive(Clone, Copy)]
+pub(crate) struct NullFeed {
+    /// How many there are.
+    pub(crate) all: u64,
+    /// How many were put.
+    pub(crate) packets: u64,
+    ghost within: { packets ≤ all },
+}
+
+impl NullFeed {
+    ghost use Rattle.std.specs.Prelude.{◌≡◌, None, Some, nat_lt, if◌then◌else◌};
+    ghost use Rattle.chain_model.specs.declared.input_end.InputEnd.TheVariants.{End};
+
+    /// Whether a packet is left, or how they end.
+    pub(crate) fn look(&self) -> Option<InputEnd>
+        ensures { result ≡ (if nat_lt self.now.packets self.now.all then None else Some (End 0)) }
+    {
+        if self.packets < self.all {
+            None
+        } else {
+            Some(InputEnd::End { left: 0 })
+        }
+    }
+}

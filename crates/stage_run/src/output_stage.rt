@@ -1,0 +1,75 @@
+use crate::telling::{below_limit, followed};
+use crate::writing::write_cells;
+use crate::{OutputPart, Room, Work};
+use chain_core::{News, StageEnd};
+use ts_outside::Sink;
+use ts_packet::Cell;
+
+/// An output with its room.
+pub struct OutputStage<K> {
+    pub(crate) part: OutputPart<K>,
+    pub(crate) room: Room,
+}
+
+impl<K: Sink> OutputStage<K> {
+    ghost use Rattle.std.specs.Prelude.{◌≡◌, ℕ, ◌+◌, ◌^◌, ◌<◌, ◌≤◌, [], length, take, drop, Option, None, Some};
+    ghost use Rattle.chain_core.specs.declared.stage_end.StageEnd.{StageEnd};
+    ghost use Rattle.ts_outside.specs.Source.{SourceView};
+    ghost use Rattle.ts_outside.specs.Sink.{SinkView};
+    ghost use Rattle.stage_run.specs.PartLists.{PartLists, fresh_lists};
+    ghost use Rattle.stage_run.specs.OutputStands.{OutputStands};
+    ghost use Rattle.stage_run.specs.Writing.{WritesCells, PartWrites};
+    ghost use Rattle.stage_run.specs.Parts.{IsSinkOf, LeavesOutput};
+    ghost use Rattle.stage_run.specs.PartStands.{MayWork, MayWorkOnSome};
+    ghost use Rattle.stage_run.specs.Telling.{FollowsNews};
+    ghost use Rattle.stage_run.specs.Works.{Works, OutputWorks};
+
+    /// An output that has written nothing.
+    pub(crate) fn of(part: OutputPart<K>, room: Room) -> Self
+        ensures { (source : SourceView) (sink : SinkView) (mark : ℕ) → IsSinkOf K.seen part sink
+            → OutputStands K.seen result (fresh_lists source sink mark) None }
+    {
+        OutputStage { part, room }
+    }
+
+    /// Gives the output back.
+    pub(crate) fn into_part(self) -> OutputPart<K>
+        ensures { (lists : PartLists) (told : Option StageEnd) → OutputStands K.seen self lists told
+            → LeavesOutput K.seen result lists told }
+    {
+        let OutputStage { part, room: _ } = self;
+        part
+    }
+
+    /// Writes the cells; the answer is the number of those before the one whose packet was not taken whole, or all.
+    fn write(&mut self, cells: &[Cell]) -> usize
+        ensures within { result ≤ length cells.now }
+        ensures writes { PartWrites K.seen self.old.part self.new.part cells.now result }
+    {
+        match &mut self.part {
+            OutputPart::Stream(sink) => write_cells(sink, self.room.bytes.as_mut_slice(), cells),
+            OutputPart::Discard => cells.len(),
+        }
+    }
+
+    /// Writes the live packets of all cells below the limit.
+    pub(crate) fn work(&mut self, at: u64, cells: &mut [Cell], news: &News) -> Work
+        requires stands { MayWorkOnSome (OutputStands K.seen self.old) at news.now.written }
+        requires in_range { at + length cells.old ≤ 2 ^ 60 }
+        ensures done { result.done ≤ length cells.old }
+        ensures rest { drop result.done cells.new ≡ drop result.done cells.old }
+        ensures goes_on { result.word.ended ≡ None → result.done ≡ length cells.old }
+        ensures follows { FollowsNews news.now (at + result.done) result.word.ended }
+        ensures agreed { result.word.agreed ≡ None }
+        ensures works { (lists : PartLists) → MayWork (OutputStands K.seen self.old) at news.now.written lists
+            → Works (OutputStands K.seen self.new) (OutputWorks K.seen self.old self.new lists news.now cells.old cells.new result)
+            lists news.now.written cells.old cells.new result }
+    {
+        let len = below_limit(news.limit, at, cells.len());
+        let done = self.write(&cells[..len]);
+        if done < len {
+            return Work::ending(done, Some(StageEnd::WriteFault));
+        }
+        Work::ending(done, followed(news, at + done as u64))
+    }
+}

@@ -1,0 +1,89 @@
+use crate::null_feed::NullFeed;
+use crate::packet_stream::PacketStream;
+use crate::{InputPart, Room};
+use chain_core::InputEnd;
+use ts_outside::Source;
+use ts_packet::{Cell, Packet};
+
+/// The packets of an input, one after another.
+pub(crate) enum PacketFeed<S> {
+    Stream(PacketStream<S>),
+    Nulls(NullFeed),
+}
+
+impl<S: Source> PacketFeed<S> {
+    ghost use Rattle.std.specs.Prelude.{◌≡◌, ◌+◌, ◌^◌, ◌<◌, ◌≤◌, ℕ, List, None, IfNone};
+    ghost use Rattle.ts_outside.specs.Source.{SourceView};
+    ghost use Rattle.stage_run.specs.Feeds.{FeedStands, FeedHasRoom, FeedLooks, FeedPuts, IsFeedOf, IsReady, packets_put, part_of_feed};
+
+    /// The packets of an input of which nothing was read yet; what is read goes into the room.
+    pub(crate) fn of(part: InputPart<S>, room: Room) -> Self
+        ensures { IsFeedOf part result }
+    {
+        match part {
+            InputPart::Stream(source) => PacketFeed::Stream(PacketStream {
+                source,
+                room,
+                from: 0,
+                have: 0,
+                packets: 0,
+            }),
+            InputPart::Nulls(all) => PacketFeed::Nulls(NullFeed { all, packets: 0 }),
+        }
+    }
+
+    /// Gives the input back.
+    pub(crate) fn into_part(self) -> InputPart<S>
+        ensures { result ≡ part_of_feed self }
+    {
+        match self {
+            PacketFeed::Stream(stream) => InputPart::Stream(stream.into_source()),
+            PacketFeed::Nulls(nulls) => InputPart::Nulls(nulls.all),
+        }
+    }
+
+    /// How many packets were put.
+    pub(crate) fn packets(&self) -> u64
+        ensures { result ≡ packets_put self.now }
+    {
+        match self {
+            PacketFeed::Stream(stream) => stream.packets,
+            PacketFeed::Nulls(nulls) => nulls.packets,
+        }
+    }
+
+    /// Sees to it that a packet can be put, or answers how the packets ended.
+    pub(crate) fn look(&mut self, lack: usize) -> Option<InputEnd>
+        requires some { 1 ≤ lack }
+        requires room { FeedHasRoom self.old }
+        ensures looks { (first : SourceView) (read : List ℕ) (rows : List (List ℕ)) → FeedStands S.seen self.old first read rows None
+            → FeedLooks S.seen self.old self.new lack first read rows result }
+        ensures ready { IfNone result (IsReady self.new) }
+        ensures room { FeedHasRoom self.new }
+        ensures packets { packets_put self.new ≡ packets_put self.old }
+    {
+        match self {
+            PacketFeed::Stream(stream) => stream.look(lack),
+            PacketFeed::Nulls(nulls) => nulls.look(),
+        }
+    }
+
+    /// Puts the next packet into a cell.
+    pub(crate) fn put(&mut self, cell: &mut Cell)
+        requires ready { IsReady self.old }
+        requires room { FeedHasRoom self.old }
+        requires in_range { packets_put self.old < 2 ^ 62 }
+        ensures puts { (first : SourceView) (read : List ℕ) (rows : List (List ℕ)) → FeedStands S.seen self.old first read rows None
+            → FeedPuts S.seen self.old self.new first read rows cell.new }
+        ensures room { FeedHasRoom self.new }
+        ensures packets { packets_put self.new ≡ packets_put self.old + 1 }
+    {
+        match self {
+            PacketFeed::Stream(stream) => stream.put(cell),
+            PacketFeed::Nulls(nulls) => {
+                nulls.packets += 1;
+                *cell = Cell::Live(Packet::null());
+            }
+        }
+    }
+}

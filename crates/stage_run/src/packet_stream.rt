@@ -1,0 +1,129 @@
+use crate::Room;
+use crate::packet_row::{PACKET_SIZE, packet_at};
+use chain_core::InputEnd;
+use ts_outside::{Failed, Source};
+use ts_packet::Cell;
+
+const SYNC_BYTE: u8 = 0x47;
+
+/// The packets of a source, read in large pieces.
+pub(crate) struct PacketStream<S> {
+    pub(crate) source: S,
+    pub(crate) room: Room,
+    /// Where the bytes stand in the room that were read and are in no packet yet.
+    pub(crate) from: usize,
+    /// How many they are.
+    pub(crate) have: usize,
+    /// How many packets were put.
+    pub(crate) packets: u64,
+}
+
+impl<S: Source> PacketStream<S> {
+    ghost use Rattle.std.specs.Prelude.{◌≡◌, ◌+◌, ◌*◌, ◌^◌, ◌<◌, ◌≤◌, ℕ, List, None, MatchResult, IfNone, true, false};
+    ghost use Rattle.ts_outside.specs.Source.{SourceView};
+    ghost use Rattle.stage_run.specs.Rows.{IsInSync, IsOutOfSync, BeginsPacket};
+    ghost use Rattle.stage_run.specs.Feeds.{hand_of, HasRoom, ReadsMore, FailsToRead, MovesHand, StreamStands, StreamLooks, StreamPuts};
+
+    /// Gives the source back.
+    pub(crate) fn into_source(self) -> S
+        ensures { result ≡ self.source }
+    {
+        let PacketStream {
+            source,
+            room: _,
+            from: _,
+            have: _,
+            packets: _,
+        } = self;
+        source
+    }
+
+    /// Whether the bytes in hand begin with another byte than a packet.
+    fn is_lost(&self) -> bool
+        requires { HasRoom self.now }
+        ensures lost { result ≡ true → IsOutOfSync (hand_of self.now) }
+        ensures kept { result ≡ false → IsInSync (hand_of self.now) }
+    {
+        self.have > 0 && self.room.bytes[self.from] != SYNC_BYTE
+    }
+
+    /// Moves the bytes in hand to the front of the room.
+    fn to_front(&mut self)
+        requires { HasRoom self.old }
+        ensures front { self.new.from ≡ 0 }
+        ensures room { HasRoom self.new }
+        ensures moves { MovesHand self.old self.new }
+    {
+        let end = self.from + self.have;
+        self.room.bytes.copy_within(self.from..end, 0);
+        self.from = 0;
+    }
+
+    /// Reads once, for as much as `lack` packets want beside the bytes in hand, if there is room for it.
+    fn read_more(&mut self, lack: usize) -> Result<usize, Failed>
+        requires some { 1 ≤ lack }
+        requires few { self.old.have < 188 }
+        requires room { HasRoom self.old }
+        ensures read { MatchResult result (ReadsMore S.seen self.old self.new) (λ _. FailsToRead S.seen self.old self.new) }
+        ensures asked { self.new.have ≤ 188 * lack }
+        ensures room { HasRoom self.new }
+        ensures packets { self.new.packets ≡ self.old.packets }
+    {
+        self.to_front();
+        let bytes = self.room.bytes.as_mut_slice();
+        let want = lack.min(bytes.len() / PACKET_SIZE) * PACKET_SIZE;
+        let count = self.source.read(&mut bytes[self.have..want])?;
+        self.have += count;
+        Ok(count)
+    }
+
+    /// Reads until a whole packet stands in front of the bytes in hand, or answers how the packets ended.
+    ///
+    /// The first byte of a packet that was read decides before any further read. Of the source no more is asked than
+    /// `lack` packets want behind those that were put.
+    pub(crate) fn look(&mut self, lack: usize) -> Option<InputEnd>
+        requires some { 1 ≤ lack }
+        requires room { HasRoom self.old }
+        ensures looks { (first : SourceView) (read : List ℕ) (rows : List (List ℕ)) → StreamStands S.seen self.old first read rows None
+            → StreamLooks S.seen self.new lack first read rows result }
+        ensures ready { IfNone result (BeginsPacket (hand_of self.new)) }
+        ensures room { HasRoom self.new }
+        ensures packets { self.new.packets ≡ self.old.packets }
+    {
+        loop {
+            if self.is_lost() {
+                return Some(InputEnd::Sync {
+                    packet: self.packets,
+                });
+            }
+            if self.have >= PACKET_SIZE {
+                return None;
+            }
+            match self.read_more(lack) {
+                Ok(0) => {
+                    return Some(InputEnd::End {
+                        left: self.have as u8,
+                    });
+                }
+                Ok(_) => {}
+                Err(Failed) => return Some(InputEnd::ReadFault),
+            }
+        }
+    }
+
+    /// Puts the packet in front into a cell.
+    pub(crate) fn put(&mut self, cell: &mut Cell)
+        requires ready { BeginsPacket (hand_of self.old) }
+        requires room { HasRoom self.old }
+        requires in_range { self.old.packets < 2 ^ 62 }
+        ensures puts { (first : SourceView) (read : List ℕ) (rows : List (List ℕ)) → StreamStands S.seen self.old first read rows None
+            → StreamPuts S.seen self.new first read rows cell.new }
+        ensures room { HasRoom self.new }
+        ensures packets { self.new.packets ≡ self.old.packets + 1 }
+    {
+        *cell = Cell::Live(packet_at(&self.room.bytes, self.from));
+        self.from += PACKET_SIZE;
+        self.have -= PACKET_SIZE;
+        self.packets += 1;
+    }
+}

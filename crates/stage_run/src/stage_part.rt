@@ -1,0 +1,140 @@
+use crate::{InputPart, InputStage, OutputPart, OutputStage, PluginStage, Room, Stuffing, Work};
+use chain_core::News;
+use plugin_trait::Plugin;
+use ts_outside::{Gate, Sink, Source};
+use ts_packet::Cell;
+
+/// One stage of a chain: an input, a plugin or an output.
+///
+/// A part stands for lists: the cells that it met and gave, the bytes that it read and wrote. It keeps less than these,
+/// so this is a relation: a call asks for some lists that the part stands for, and what it promises holds for each.
+pub enum StagePart<S, K, P> {
+    Input(InputStage<S>),
+    Plugin(PluginStage<P>),
+    Output(OutputStage<K>),
+}
+
+impl<S: Source, K: Sink, P: Plugin> StagePart<S, K, P> {
+    ghost use Rattle.std.specs.Prelude.{◌≡◌, ℕ, ◌+◌, ◌<◌, ◌≤◌, ◌^◌, ◌↔◌, [], length, drop, Option, None, Some};
+    ghost use Rattle.chain_model.specs.Apply.{StageList};
+    ghost use Rattle.chain_model.specs.Stuffed as model;
+    ghost use Rattle.chain_core.specs.declared.stage_end.StageEnd.{StageEnd};
+    ghost use Rattle.ts_outside.specs.Source.{SourceView};
+    ghost use Rattle.ts_outside.specs.Sink.{SinkView};
+    ghost use Rattle.plugin_trait.specs.Steps.{MeetsCells};
+    ghost use Rattle.stage_run.specs.PartLists.{PartLists, fresh_lists};
+    ghost use Rattle.stage_run.specs.InputStands.{stuffing_of};
+    ghost use Rattle.stage_run.specs.Parts.{IsListOf, IsSourceOf, IsSinkOf, LeavesInput, LeavesOutput, SomeList};
+    ghost use Rattle.stage_run.specs.PartStands.{PartStands, PartGives, MayWork, MayWorkOnSome, rule_of, kind_of, stuffing_in, an_input, a_plugin, an_output};
+    ghost use Rattle.stage_run.specs.Telling.{FollowsNews};
+    ghost use Rattle.stage_run.specs.Works.{Works, WorksByKind};
+
+    /// The input's stage. It reads into the room. Nothing was read or given yet.
+    pub fn of_input(part: InputPart<S>, stuffing: Stuffing, room: Room) -> Self
+        requires { 1 ≤ stuffing.every }
+        ensures kind { kind_of result ≡ an_input }
+        ensures stuffing { stuffing_in result ≡ Some (stuffing_of stuffing) }
+        ensures stands { (source : SourceView) (sink : SinkView) (mark : ℕ) → IsSourceOf S.seen part source
+            → PartStands S.seen K.seen P.rule P.stands_for result (fresh_lists source sink mark) None }
+        ensures gives { (source : SourceView) (sink : SinkView) (mark : ℕ) (input : StageList)
+            → PartGives S.seen result (fresh_lists source sink mark) input ↔ IsListOf S.seen part (stuffing_of stuffing) input }
+    {
+        StagePart::Input(InputStage::of(part, stuffing, room))
+    }
+
+    /// A plugin's stage. The plugin met no cell yet.
+    pub fn of_plugin(plugin: P) -> Self
+        requires { MeetsCells (P.stands_for plugin) 0 }
+        ensures kind { kind_of result ≡ a_plugin }
+        ensures rule { rule_of P.rule result ≡ P.rule plugin }
+        ensures stands { (source : SourceView) (sink : SinkView) (mark : ℕ) → P.stands_for plugin [] mark
+            → PartStands S.seen K.seen P.rule P.stands_for result (fresh_lists source sink mark) None }
+    {
+        StagePart::Plugin(PluginStage::of(plugin))
+    }
+
+    /// The output's stage. It gathers in the room what it writes. Nothing was written yet.
+    pub fn of_output(part: OutputPart<K>, room: Room) -> Self
+        ensures kind { kind_of result ≡ an_output }
+        ensures stands { (source : SourceView) (sink : SinkView) (mark : ℕ) → IsSinkOf K.seen part sink
+            → PartStands S.seen K.seen P.rule P.stands_for result (fresh_lists source sink mark) None }
+    {
+        StagePart::Output(OutputStage::of(part, room))
+    }
+
+    /// Gives the input back. Whatever it stands for, some list may be the input's, and each such list ends as inputs do.
+    pub fn into_input(self) -> InputPart<S>
+        requires { kind_of self ≡ an_input }
+        ensures leaves { (lists : PartLists) (told : Option StageEnd) (stuffing : model.Stuffing) → PartStands S.seen K.seen P.rule P.stands_for self lists told
+            → stuffing_in self ≡ Some stuffing → LeavesInput S.seen result stuffing lists told }
+        ensures some_list { (lists : PartLists) (told : Option StageEnd) → PartStands S.seen K.seen P.rule P.stands_for self lists told
+            → SomeList (PartGives S.seen self lists) }
+    {
+        match self {
+            StagePart::Input(stage) => stage.into_part(),
+            _ => unreachable!(),
+        }
+    }
+
+    /// Gives the plugin back.
+    pub fn into_plugin(self) -> P
+        requires { kind_of self ≡ a_plugin }
+        ensures rule { P.rule result ≡ rule_of P.rule self }
+        ensures stands { (lists : PartLists) (told : Option StageEnd) → PartStands S.seen K.seen P.rule P.stands_for self lists told
+            → P.stands_for result lists.met lists.mark }
+    {
+        match self {
+            StagePart::Plugin(stage) => stage.into_plugin(),
+            _ => unreachable!(),
+        }
+    }
+
+    /// Gives the output back.
+    pub fn into_output(self) -> OutputPart<K>
+        requires { kind_of self ≡ an_output }
+        ensures { (lists : PartLists) (told : Option StageEnd) → PartStands S.seen K.seen P.rule P.stands_for self lists told
+            → LeavesOutput K.seen result lists told }
+    {
+        match self {
+            StagePart::Output(stage) => stage.into_part(),
+            _ => unreachable!(),
+        }
+    }
+
+    /// Works on the first cells in the stage's hands, at the position `at`, with the news of its last visit.
+    ///
+    /// An input reads for all of them at once, a plugin is told the mark and steps over them between the gate's two
+    /// calls, an output writes the live packets of those below the limit together. Of the work's answer the next visit
+    /// tells: the first `done` cells are the next ones of the stage's list, and the word says what it agrees to and how
+    /// it ends. It takes no memory, but for what a plugin takes.
+    pub fn work<G: Gate>(
+        &mut self,
+        stage: usize,
+        at: u64,
+        cells: &mut [Cell],
+        news: &News,
+        gate: &G,
+    ) -> Work
+        requires stands { MayWorkOnSome (PartStands S.seen K.seen P.rule P.stands_for self.old) at news.now.written }
+        requires written { news.now.written ≤ at }
+        requires in_hand { at + length cells.old ≤ news.now.taken }
+        requires in_range { news.now.taken ≤ 2 ^ 60 }
+        ensures done { result.done ≤ length cells.old }
+        ensures rest { drop result.done cells.new ≡ drop result.done cells.old }
+        ensures goes_on { result.word.ended ≡ None → result.done ≡ length cells.old }
+        ensures follows { FollowsNews news.now (at + result.done) result.word.ended }
+        ensures agreed { (agreed : ℕ) → result.word.agreed ≡ Some agreed → (at < agreed) × (agreed ≤ at + result.done) }
+        ensures same_kind { kind_of self.new ≡ kind_of self.old }
+        ensures same_rule { rule_of P.rule self.new ≡ rule_of P.rule self.old }
+        ensures same_stuffing { stuffing_in self.new ≡ stuffing_in self.old }
+        ensures works { (lists : PartLists) → MayWork (PartStands S.seen K.seen P.rule P.stands_for self.old) at news.now.written lists
+            → Works (PartStands S.seen K.seen P.rule P.stands_for self.new) (WorksByKind S.seen K.seen P.rule self.old self.new lists news.now cells.old cells.new result)
+            lists news.now.written cells.old cells.new result }
+    {
+        match self {
+            StagePart::Input(input) => input.work(at, cells, news),
+            StagePart::Plugin(plugin) => plugin.work(stage, at, cells, news, gate),
+            StagePart::Output(output) => output.work(at, cells, news),
+        }
+    }
+}

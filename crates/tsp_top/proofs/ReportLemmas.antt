@@ -1,0 +1,60 @@
+-- What plugins report, one after another.
+use Rattle.std.proofs.Common.{◌≡◌, ℕ, suc, ◌+◌, ◌≤◌, List, [], ◌∷◌, ◌++◌, length, take, map, refl, ap, sym, ◌∙◌, subst, arith, add-one}
+use Rattle.std.specs.List.{flat_map}
+use Rattle.ts_packet.specs.declared.cell.Cell.{Cell}
+use Rattle.chain_model.specs.PluginRule.{PluginRule}
+use Rattle.chain_model.specs.Apply.{StageList}
+use Rattle.chain_model.specs.StageLists.{stage_list}
+use Rattle.chain_model.specs.Reports.{plugin_line, said_of, reports_from}
+use Rattle.plugin_trait.specs.Marks.{AllowsMark}
+use Rattle.chain_run.specs.Met.{MetTo, AllMetTo}
+use Rattle.tsp_top.specs.Reported.{ReachesCut}
+
+-- the first of plugins that reach the cut may be told it, and those behind it reach it
+pub ReachesCut-split : {P : Type 0} (stands : P → List Cell → ℕ → Type 0) (plugins rest : List P) (plugin : P) (cut j : ℕ)
+    → plugins ≡ plugin ∷ rest → ReachesCut stands plugins cut j → AllowsMark (stands plugin) cut × ReachesCut stands rest cut (j + 1)
+ReachesCut-split {P} stands plugins rest plugin cut j e reaches =
+    let A : List P → Type 0 = λ l. AllMetTo stands reaches.rules reaches.input cut j l in
+    let met : AllMetTo stands reaches.rules reaches.input cut j (plugin ∷ rest) = subst A e reaches.met in
+    let B : ℕ → Type 0 = λ k. AllMetTo stands reaches.rules reaches.input cut k rest in (
+      record {
+        history = met.0.history;
+        mark = met.0.mark;
+        holds = met.0.holds;
+        not_below = met.0.told;
+        met = met.0.reach;
+      },
+      record { rules = reaches.rules; input = reaches.input; met = subst B (sym (add-one j)) met.1 },
+    )
+
+-- what plugins report begins with the lines of the first of them
+pub record ReportSplit {P : Type 0} (rule : P → PluginRule) (stands : P → List Cell → ℕ → Type 0) (rules : List PluginRule) (input : StageList)
+    (plugins rest : List P) (names later : List (List ℕ)) (name : List ℕ) (j cut : ℕ) (lines : List (List ℕ)) : Type 0 where
+  pub said : reports_from rules input cut j (map rule plugins) names ≡ flat_map (plugin_line (j + 1) name) lines ++ reports_from rules input cut (j + 1) (map rule rest) later
+  pub met : AllMetTo stands rules input cut (j + 1) rest
+
+report-of-cons : {P : Type 0} (rule : P → PluginRule) (stands : P → List Cell → ℕ → Type 0) (rules : List PluginRule) (input : StageList)
+    (rest : List P) (plugin : P) (later : List (List ℕ)) (name : List ℕ) (j cut : ℕ) (lines : List (List ℕ))
+    → AllMetTo stands rules input cut j (plugin ∷ rest)
+    → ((history : List Cell) (mark : ℕ) → stands plugin history mark → mark ≤ cut → cut ≤ length history → lines ≡ said_of (rule plugin) (take cut history))
+    → ReportSplit rule stands rules input (plugin ∷ rest) rest (name ∷ later) later name j cut lines
+report-of-cons rule stands rules input rest plugin later name j cut lines met says =
+    let own : lines ≡ said_of (rule plugin) (take cut (stage_list rules input j).cells) =
+    says met.0.history met.0.mark met.0.holds met.0.told met.0.reach ∙ ap (said_of (rule plugin)) met.0.same in
+    let B : ℕ → Type 0 = λ k. AllMetTo stands rules input cut k rest in
+    record {
+      said = ap (λ texts. flat_map (plugin_line (suc j) name) texts ++ reports_from rules input cut (suc j) (map rule rest) later) (sym own)
+          ∙ ap (λ k. flat_map (plugin_line k name) lines ++ reports_from rules input cut k (map rule rest) later) (sym (add-one j));
+      met = subst B (sym (add-one j)) met.1;
+    }
+
+pub report-split : {P : Type 0} (rule : P → PluginRule) (stands : P → List Cell → ℕ → Type 0) (rules : List PluginRule) (input : StageList)
+    (plugins rest : List P) (plugin : P) (names later : List (List ℕ)) (name : List ℕ) (j cut : ℕ) (lines : List (List ℕ))
+    → plugins ≡ plugin ∷ rest → names ≡ name ∷ later → AllMetTo stands rules input cut j plugins
+    → ((history : List Cell) (mark : ℕ) → stands plugin history mark → mark ≤ cut → cut ≤ length history → lines ≡ said_of (rule plugin) (take cut history))
+    → ReportSplit rule stands rules input plugins rest names later name j cut lines
+report-split {P} rule stands rules input plugins rest plugin names later name j cut lines e f met says =
+    let M : List P → Type 0 = λ l. AllMetTo stands rules input cut j l in
+    let A : List P → Type 0 = λ l. ReportSplit rule stands rules input l rest (name ∷ later) later name j cut lines in
+    let B : List (List ℕ) → Type 0 = λ l. ReportSplit rule stands rules input plugins rest l later name j cut lines in
+    subst B (sym f) (subst A (sym e) (report-of-cons rule stands rules input rest plugin later name j cut lines (subst M e met) says))

@@ -1,0 +1,62 @@
+-- How a call of `tsp` ends, and the status that tells it. This project's own rule.
+use Rattle.std.specs.Prelude.{◌≡◌, ◌⊎◌, ℕ, Bool, true, false, if◌then◌else◌}
+use Rattle.chain_model.specs.declared.input_end.InputEnd.{InputEnd}
+use Rattle.chain_model.specs.declared.input_end.InputEnd.TheVariants as input
+use Rattle.chain_model.specs.declared.cause.Cause.{Cause}
+use Rattle.chain_model.specs.declared.cause.Cause.TheVariants as cause
+use Rattle.ts_outside.specs.Count.{HasCause}
+use Rattle.ts_outside.specs.Desk.{DeskView}
+use Rattle.tsp_top.specs.declared.status.Status.{Status}
+use Rattle.tsp_top.specs.declared.status.Status.TheVariants.{Done, NoMemory, Words, ReadFault, WriteFault, Sync, Refused, TooLong}
+
+-- how a call ended whose words have a plan
+pub data CallEnd : Type 0 where
+  -- the input was not opened
+  no_input : CallEnd
+  -- the output was not opened
+  no_output : CallEnd
+  -- the chain ran and was cut at `cut` for this cause; `late` is whether its report or the closing of its output failed
+  ran : (cut : ℕ) → (cause : Cause) → (late : Bool) → CallEnd
+  -- memory was wanted
+  out_of_memory : CallEnd
+
+-- the status of an input's end
+abbrev pub status_of_input : InputEnd → Status
+status_of_input (input.End left) = Done
+status_of_input (input.Sync packet) = Sync packet
+status_of_input input.ReadFault = ReadFault
+status_of_input input.TooLong = TooLong
+
+-- the status of a cause
+abbrev pub status_of : Cause → Status
+status_of (cause.Input how) = status_of_input how
+status_of cause.Joint = Done
+status_of (cause.Until j) = Done
+status_of (cause.Stop j) = Done
+status_of (cause.Refuse j reason) = Refused j reason
+status_of cause.WriteFault = WriteFault
+status_of (cause.NoMemory k) = NoMemory
+
+-- the status where a report or the closing of the output failed: that of the cause, unless it is `Done`
+abbrev pub status_when_late : Status → Status
+status_when_late Done = WriteFault
+status_when_late status = status
+
+-- a fault of reading or writing is a cause only where its count rose
+abbrev pub FaultRose : DeskView → DeskView → Cause → Type 0
+FaultRose old new (cause.Input input.ReadFault) = HasCause old.read_faults new.read_faults
+FaultRose old new cause.WriteFault = HasCause old.write_faults new.write_faults
+FaultRose old new _ = Unit {0}
+
+-- what failed late, or that nothing did
+abbrev pub LateRose : DeskView → DeskView → Cause → Bool → Type 0
+LateRose old new why true = HasCause old.write_faults new.write_faults ⊎ HasCause old.report_faults new.report_faults
+LateRose old new why false = (status_of why ≡ Done → new.write_faults ≡ old.write_faults) × (new.report_faults ≡ old.report_faults)
+
+-- the status tells how the call ended, and a fault is told only where its count rose
+abbrev pub StatusTellsCause : DeskView → DeskView → Status → CallEnd → Type 0
+StatusTellsCause old new status no_input = (status ≡ ReadFault) × HasCause old.read_faults new.read_faults
+StatusTellsCause old new status no_output = (status ≡ WriteFault) × HasCause old.write_faults new.write_faults
+StatusTellsCause old new status (ran cut why late) =
+    (status ≡ (if late then status_when_late (status_of why) else status_of why)) × FaultRose old new why × LateRose old new why late
+StatusTellsCause old new status out_of_memory = status ≡ NoMemory

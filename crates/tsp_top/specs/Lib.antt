@@ -1,0 +1,11 @@
+pub mod CallEnd
+pub mod ExitNumber
+pub mod Openings
+pub mod PluginNames
+pub mod PlannedChain
+pub mod Ran
+pub mod Refusals
+pub mod Reported
+pub mod Saying
+pub mod StreamTheorem
+pub mod TspCall

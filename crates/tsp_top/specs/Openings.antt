@@ -1,0 +1,70 @@
+-- The desk after the two ends of a chain were opened and closed. This project's own rule.
+use Rattle.std.specs.Prelude.{◌≡◌, ◌↔◌, ℕ, List, [], Bool, Option, None, Some}
+use Rattle.std.specs.Option.{option_map}
+use Rattle.chain_args.specs.declared.input_conf.InputConf.{InputConf}
+use Rattle.chain_args.specs.declared.input_conf.InputConf.TheVariants as input
+use Rattle.chain_args.specs.declared.output_conf.OutputConf.{OutputConf}
+use Rattle.chain_args.specs.declared.output_conf.OutputConf.TheVariants as output
+use Rattle.stage_run.specs.declared.input_part.InputPart.{InputPart}
+use Rattle.stage_run.specs.declared.input_part.InputPart.TheVariants.{Stream, Nulls}
+use Rattle.stage_run.specs.declared.output_part.OutputPart.{OutputPart}
+use Rattle.stage_run.specs.declared.output_part.OutputPart.TheVariants as out
+use Rattle.ts_outside.specs.declared.requests.Purpose.TheVariants.{Input, Output}
+use Rattle.ts_outside.specs.Source.{SourceView}
+use Rattle.ts_outside.specs.Sink.{SinkView}
+use Rattle.ts_outside.specs.Desk.{DeskView, asked_well, asked_in_vain, content, input_closed, output_closed}
+
+-- the desk after the input was opened, and after that failed
+abbrev pub asked_input : DeskView → InputConf → DeskView
+asked_input desk (input.File name) = asked_well desk Input name
+asked_input desk (input.Null count) = desk
+
+abbrev pub asked_input_in_vain : DeskView → InputConf → DeskView
+asked_input_in_vain desk (input.File name) = asked_in_vain desk Input name
+asked_input_in_vain desk (input.Null count) = desk
+
+-- the same of the output
+abbrev pub asked_output : DeskView → OutputConf → DeskView
+asked_output desk (output.File name) = asked_well desk Output name
+asked_output desk output.Drop = desk
+
+abbrev pub asked_output_in_vain : DeskView → OutputConf → DeskView
+asked_output_in_vain desk (output.File name) = asked_in_vain desk Output name
+asked_output_in_vain desk output.Drop = desk
+
+-- there is something to open
+abbrev pub NamesInput : InputConf → Type 0
+NamesInput (input.File name) = Unit {0}
+NamesInput (input.Null count) = ⊥
+
+abbrev pub NamesOutput : OutputConf → Type 0
+NamesOutput (output.File name) = Unit {0}
+NamesOutput output.Drop = ⊥
+
+-- the part of an input that was opened: a source of all the file's bytes, or the null packets
+abbrev pub OpensInput : {S : Type 0} → (S → SourceView) → DeskView → InputConf → InputPart S → Type 0
+OpensInput seen desk (input.File name) (Stream source) = seen source ≡ record { left = content desk name; faults = 0 }
+OpensInput seen desk (input.Null count) (Nulls packets) = packets ≡ count
+OpensInput seen desk _ _ = ⊥
+
+-- the part of an output that was opened: a sink of the name that took nothing, or none
+abbrev pub OpensOutput : {K : Type 0} → (K → SinkView) → DeskView → OutputConf → OutputPart K → Type 0
+OpensOutput seen desk (output.File name) (out.Stream sink) =
+    seen sink ≡ record { taken = option_map (λ _. []) desk.outputs; name = option_map (λ _. name) desk.outputs; faults = 0 }
+OpensOutput seen desk output.Drop out.Discard = Unit {0}
+OpensOutput seen desk _ _ = ⊥
+
+-- the desk after the input was closed
+abbrev pub input_closed_as : {S : Type 0} → (S → SourceView) → DeskView → InputPart S → DeskView
+input_closed_as seen desk (Stream source) = input_closed desk (seen source)
+input_closed_as seen desk (Nulls packets) = desk
+
+-- the desk after the output was closed, where that failed or did not
+abbrev pub output_closed_as : {K : Type 0} → (K → SinkView) → DeskView → OutputPart K → Bool → DeskView
+output_closed_as seen desk (out.Stream sink) failed = output_closed desk (seen sink) failed
+output_closed_as seen desk out.Discard failed = desk
+
+-- the output is a sink
+abbrev pub WasOpened : {K : Type 0} → OutputPart K → Type 0
+WasOpened (out.Stream sink) = Unit {0}
+WasOpened out.Discard = ⊥

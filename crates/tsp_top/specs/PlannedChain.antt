@@ -1,0 +1,50 @@
+-- The chain that a plan asks for, over the files that the desk tells. This project's own rule.
+use Rattle.std.specs.Prelude.{ℕ, List, [], ◌∷◌, ◌++◌, map, Bool, true, Option, None, Some}
+use Rattle.plug_conf.specs.declared.plugin_conf.PluginConf.{PluginConf}
+use Rattle.chain_args.specs.declared.plan_type.Plan.{Plan}
+use Rattle.chain_args.specs.declared.general_conf.GeneralConf.{GeneralConf}
+use Rattle.chain_args.specs.declared.input_conf.InputConf.{InputConf}
+use Rattle.chain_args.specs.declared.input_conf.InputConf.TheVariants as input
+use Rattle.chain_args.specs.declared.output_conf.OutputConf.{OutputConf}
+use Rattle.chain_args.specs.declared.output_conf.OutputConf.TheVariants as output
+use Rattle.chain_model.specs.PluginRule.{PluginRule, passing_rule}
+use Rattle.chain_model.specs.InputList.{InputList, input_of_bytes, input_of_nulls}
+use Rattle.chain_model.specs.Stuffed.{Stuffing, stuffed}
+use Rattle.chain_model.specs.PureRun.{Chain}
+use Rattle.ts_outside.specs.Desk.{file_of}
+use Rattle.ts_outside.specs.declared.requests.Purpose.{Purpose}
+use Rattle.ts_outside.specs.declared.requests.Purpose.TheVariants.{Input, Output}
+use Rattle.tsp_top.specs.PluginNames.{name_of}
+use Rattle.plug_set.specs.Rules.{rule_of}
+
+-- the stuffing of the general options
+abbrev pub stuffing_of : GeneralConf → Stuffing
+stuffing_of general = record {
+  start = general.add_start_stuffing;
+  stop = general.add_stop_stuffing;
+  null = general.add_input_stuffing.0;
+  every = general.add_input_stuffing.1;
+}
+
+-- the input's packets: those of the bytes of its file, or null packets
+abbrev pub input_of : InputConf → List (List ℕ × List ℕ) → InputList
+input_of (input.File name) files = input_of_bytes (file_of files name)
+input_of (input.Null count) files = input_of_nulls count
+
+-- the chain of a plan
+abbrev pub chain_of : Plan → List (List ℕ × List ℕ) → Chain
+chain_of plan files = record {
+  input = stuffed (stuffing_of plan.general) (input_of plan.input files);
+  rules = map rule_of plan.plugins;
+  names = map name_of plan.plugins;
+  users = [];
+}
+
+-- what is opened for the input and for the output: nothing for null packets, and nothing to drop packets
+abbrev pub input_name : InputConf → Option (List ℕ)
+input_name (input.File name) = Some name
+input_name (input.Null count) = None
+
+abbrev pub output_name : OutputConf → Option (List ℕ)
+output_name (output.File name) = Some name
+output_name output.Drop = None

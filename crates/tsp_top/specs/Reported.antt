@@ -1,0 +1,26 @@
+-- Plugins that can be asked for their reports up to a cut. This project's own rule.
+use Rattle.std.specs.Prelude.{◌≡◌, ◌⊎◌, ◌||◌, Bool, ℕ, List, if◌then◌else◌}
+use Rattle.chain_model.specs.declared.cause.Cause.{Cause}
+use Rattle.ts_outside.specs.Desk.{DeskView}
+use Rattle.tsp_top.specs.Saying.{Says}
+use Rattle.tsp_top.specs.CallEnd.{status_of, status_when_late}
+use Rattle.tsp_top.specs.declared.status.Status.{Status}
+use Rattle.tsp_top.specs.declared.status.Status.TheVariants.{NoMemory}
+use Rattle.ts_packet.specs.declared.cell.Cell.{Cell}
+use Rattle.chain_model.specs.PluginRule.{PluginRule}
+use Rattle.chain_model.specs.Apply.{StageList}
+use Rattle.chain_run.specs.Met.{AllMetTo}
+
+-- the plugins met the cells before the cut of the lists of some chain; the first of them stands behind stage `j`
+pub record ReachesCut {P : Type 0} (stands : P → List Cell → ℕ → Type 0) (plugins : List P) (cut j : ℕ) : Type 0 where
+  pub rules : List PluginRule
+  pub input : StageList
+  pub met : AllMetTo stands rules input cut j plugins
+
+-- a run is reported: its text is, whole or a first part of it where a report failed, and the status tells it;
+-- or memory was wanted for the text, and nothing is reported
+abbrev pub ReportsRun : List ℕ → Cause → Bool → DeskView → DeskView → Status → Type 0
+ReportsRun text why closing_failed old new status =
+    ((failed : Bool) × Says old new text failed
+    × (status ≡ (if closing_failed || failed then status_when_late (status_of why) else status_of why)))
+    ⊎ ((status ≡ NoMemory) × (new ≡ old))

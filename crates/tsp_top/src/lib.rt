@@ -1,0 +1,20 @@
+//! The top call of `tsp`: words and a desk come in; packets go out, reports are printed, a status comes back.
+//! The program uses the clauses of `tsp_call`, the stream theorem, and nothing else.
+#![tactic(auto)]
+
+mod call;
+mod end_line;
+mod opening;
+mod report;
+mod reporting;
+mod running;
+mod saying;
+mod status;
+mod words;
+
+pub use call::tsp_call;
+pub use chain_args::{WordsFault, WordsRule};
+pub use status::Status;
+
+#[cfg(test)]
+mod tests;

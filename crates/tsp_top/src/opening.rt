@@ -1,0 +1,67 @@
+//! The two ends of a chain: what a plan names is opened, and whatever was opened is closed.
+ghost use Rattle.std.specs.Prelude.{◌≡◌, IfOk, OnErr, is_err};
+ghost use Rattle.std.specs.Option.{option_map};
+ghost use Rattle.ts_outside.specs.OpenFault.{MatchOpen};
+ghost use Rattle.tsp_top.specs.PlannedChain.{input_name, output_name};
+ghost use Rattle.tsp_top.specs.Openings.{asked_input, asked_output, asked_input_in_vain, asked_output_in_vain, OpensInput, OpensOutput, NamesInput, NamesOutput, input_closed_as, output_closed_as, WasOpened};
+
+use chain_args::{InputConf, OutputConf};
+use stage_run::{InputPart, OutputPart};
+use ts_outside::{Desk, Failed, OpenFault};
+
+/// Opens the input, unless it is null packets.
+pub(crate) fn open_input<D: Desk>(
+    desk: &mut D,
+    conf: &InputConf,
+) -> Result<InputPart<D::In>, OpenFault>
+    ensures asked { MatchOpen result
+        (λ _. D.seen desk.new ≡ asked_input (D.seen desk.old) conf.now)
+        (D.seen desk.new ≡ asked_input_in_vain (D.seen desk.old) conf.now)
+        (D.seen desk.new ≡ D.seen desk.old) }
+    ensures part { IfOk result (λ part. OpensInput D.In.seen (D.seen desk.old) conf.now part) }
+    ensures named { OnErr result (NamesInput conf.now) }
+{
+    match conf {
+        InputConf::File(name) => Ok(InputPart::Stream(desk.open_in(Some(name.as_str()))?)),
+        InputConf::Null(count) => Ok(InputPart::Nulls(*count)),
+    }
+}
+
+/// Opens the output, unless packets are dropped.
+pub(crate) fn open_output<D: Desk>(
+    desk: &mut D,
+    conf: &OutputConf,
+) -> Result<OutputPart<D::Out>, OpenFault>
+    ensures asked { MatchOpen result
+        (λ _. D.seen desk.new ≡ asked_output (D.seen desk.old) conf.now)
+        (D.seen desk.new ≡ asked_output_in_vain (D.seen desk.old) conf.now)
+        (D.seen desk.new ≡ D.seen desk.old) }
+    ensures part { IfOk result (λ part. OpensOutput D.Out.seen (D.seen desk.old) conf.now part) }
+    ensures named { OnErr result (NamesOutput conf.now) }
+{
+    match conf {
+        OutputConf::File(name) => Ok(OutputPart::Stream(desk.open_out(Some(name.as_str()))?)),
+        OutputConf::Drop => Ok(OutputPart::Discard),
+    }
+}
+
+/// Closes the input, if it was opened.
+pub(crate) fn close_input<D: Desk>(desk: &mut D, part: InputPart<D::In>)
+    ensures { D.seen desk.new ≡ input_closed_as D.In.seen (D.seen desk.old) part }
+{
+    match part {
+        InputPart::Stream(source) => desk.close_in(source),
+        InputPart::Nulls(_) => {}
+    }
+}
+
+/// Closes the output, if it was opened.
+pub(crate) fn close_output<D: Desk>(desk: &mut D, part: OutputPart<D::Out>) -> Result<(), Failed>
+    ensures closed { D.seen desk.new ≡ output_closed_as D.Out.seen (D.seen desk.old) part (is_err result) }
+    ensures failed { OnErr result (WasOpened part) }
+{
+    match part {
+        OutputPart::Stream(sink) => desk.close_out(sink),
+        OutputPart::Discard => Ok(()),
+    }
+}

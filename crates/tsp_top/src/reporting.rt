@@ -1,0 +1,72 @@
+//! The report of a run: what each plugin has to say of the cells that count.
+ghost use Rattle.std.specs.Prelude.{◌≡◌, ◌<◌, ◌+◌, ◌^◌, ◌≤◌, ◌++◌, length, map, OnOk, List};
+ghost use Rattle.std.specs.List.{flat_map};
+ghost use Rattle.std.specs.String.{string_bytes};
+ghost use Rattle.chain_model.specs.Reports.{plugin_line, reports_from};
+ghost use Rattle.chain_model.specs.PluginRule.{PluginRule};
+ghost use Rattle.chain_model.specs.Apply.{StageList};
+ghost use Rattle.chain_run.specs.Met.{AllMetTo};
+ghost use Rattle.tsp_top.specs.PluginNames.{name_of};
+ghost use Rattle.tsp_top.specs.Reported.{ReachesCut};
+
+use plug_conf::PluginConf;
+use plugin_trait::{Line, Plugin, report};
+use std::alloc::AllocError;
+
+/// The name of a plugin in the reports.
+fn plugin_name(conf: &PluginConf) -> &'static str
+    ensures { result.now ≡ name_of conf.now }
+{
+    match conf {
+        PluginConf::Filter(_) => "filter",
+        PluginConf::Skip(_) => "skip",
+        PluginConf::Slice(_) => "slice",
+        PluginConf::Pattern(_) => "pattern",
+        PluginConf::Until(_) => "until",
+        PluginConf::Count(_) => "count",
+        PluginConf::Continuity(_) => "continuity",
+        PluginConf::Remap(_) => "remap",
+    }
+}
+
+/// Puts one line of plugin `j` behind the text.
+fn push_line(text: &mut String, j: usize, name: &str, said: &str) -> Result<(), AllocError>
+    ensures { OnOk result (string_bytes text.new ≡ string_bytes text.old ++ plugin_line j name.now said.now) }
+{
+    write!(text, "[{j}] {name}: {said}\n")
+}
+
+/// Puts the lines of plugin `j` behind the text.
+fn push_lines(text: &mut String, j: usize, name: &str, lines: &[Line]) -> Result<(), AllocError>
+    ensures { OnOk result (string_bytes text.new ≡ string_bytes text.old ++ flat_map (plugin_line j name.now) (map (λ line. line.text) lines.now)) }
+{
+    for line in lines {
+        push_line(text, j, name, line.text.as_str())?;
+    }
+    Ok(())
+}
+
+/// Puts what the plugins say of the first `cut` cells behind the text. The first of them stands behind stage `j`.
+pub(crate) fn push_reports<P: Plugin>(
+    text: &mut String,
+    plugins: &mut [P],
+    confs: &[PluginConf],
+    j: usize,
+    cut: u64,
+) -> Result<(), AllocError>
+    requires one_each { length confs.now ≡ length plugins.old }
+    requires numbers { j + length plugins.old < 2 ^ 63 }
+    requires reach { ReachesCut P.stands_for plugins.old cut j }
+    ensures { (rules : List PluginRule) (input : StageList) → AllMetTo P.stands_for rules input cut j plugins.old
+        → OnOk result (string_bytes text.new ≡ string_bytes text.old ++ reports_from rules input cut j (map P.rule plugins.old) (map name_of confs.now)) }
+{
+    let Some((first, rest)) = plugins.split_first_mut() else {
+        return Ok(());
+    };
+    let Some((conf, later)) = confs.split_first() else {
+        return Ok(());
+    };
+    let lines = report(first, cut)?;
+    push_lines(text, j + 1, plugin_name(conf), &lines)?;
+    push_reports(text, rest, later, j + 1, cut)
+}

@@ -1,0 +1,80 @@
+ghost use Rattle.std.specs.Prelude.{◌≡◌, if◌then◌else◌};
+ghost use Rattle.tsp_top.specs.CallEnd.{status_of, status_of_input, status_when_late};
+ghost use Rattle.tsp_top.specs.ExitNumber.{exit_number};
+
+use chain_args::WordsFault;
+use chain_model::{Cause, InputEnd, Reason};
+
+/// How a call of `tsp` ended.
+#[derive(Debug, Clone, Copy, PartialEq, Eq)]
+pub enum Status {
+    /// Everything was written and reported.
+    Done,
+    /// Memory was wanting.
+    NoMemory,
+    /// The words are no command line; nothing was opened.
+    Words(WordsFault),
+    /// A read, or the opening of the input, failed.
+    ReadFault,
+    /// A write, a report, the opening or the closing of the output failed.
+    WriteFault,
+    /// The input packet of this number does not begin with the sync byte.
+    Sync { packet: u64 },
+    /// This plugin, counted from 1, refused a packet.
+    Refused { plugin: usize, reason: Reason },
+    /// A packet would have had position 2^60.
+    TooLong,
+}
+
+impl Status {
+    /// The program's exit number.
+    pub fn exit_code(self) -> u8
+        ensures { result ≡ exit_number self }
+    {
+        match self {
+            Status::Done => 0,
+            Status::NoMemory => 1,
+            Status::Words(_) => 2,
+            Status::ReadFault => 3,
+            Status::WriteFault => 4,
+            Status::Sync { .. } => 5,
+            Status::Refused { .. } => 7,
+            Status::TooLong => 8,
+        }
+    }
+}
+
+/// The status of a cause.
+pub(crate) fn status_of_cause(cause: Cause) -> Status
+    ensures { result ≡ status_of cause }
+{
+    match cause {
+        Cause::Input(how) => status_of_input_end(how),
+        Cause::Joint | Cause::Until(_) | Cause::Stop(_) => Status::Done,
+        Cause::Refuse(plugin, reason) => Status::Refused { plugin, reason },
+        Cause::WriteFault => Status::WriteFault,
+        Cause::NoMemory(_) => Status::NoMemory,
+    }
+}
+
+/// The status of an input's end.
+fn status_of_input_end(how: InputEnd) -> Status
+    ensures { result ≡ status_of_input how }
+{
+    match how {
+        InputEnd::End { .. } => Status::Done,
+        InputEnd::Sync { packet } => Status::Sync { packet },
+        InputEnd::ReadFault => Status::ReadFault,
+        InputEnd::TooLong => Status::TooLong,
+    }
+}
+
+/// The status where a report or the closing of the output failed, or did not.
+pub(crate) fn status_if_late(status: Status, late: bool) -> Status
+    ensures { result ≡ (if late then status_when_late status else status) }
+{
+    match status {
+        Status::Done if late => Status::WriteFault,
+        _ => status,
+    }
+}
