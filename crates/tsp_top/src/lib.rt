@@ -15,6 +15,3 @@ mod words;
 pub use call::tsp_call;
 pub use chain_args::{WordsFault, WordsRule};
 pub use status::Status;
-
-#[cfg(test)]
-mod tests;
