@@ -1,6 +1,7 @@
-pub mod Reading
-pub mod Writing
-pub mod PlainChain
-pub mod StuffedCells
-pub mod RunLists
+pub mod Fresh
 pub mod Met
+pub mod RunOf
+pub mod Slots
+pub mod Runs
+pub mod Working
+pub mod Parts

@@ -1,15 +1,14 @@
 //! The chain from its stages: an input, plugins and an output come in, and come back with the cut and its cause.
-//! It runs over whole lists, one plugin after another; the layer above uses the clauses of `run_lists`.
+//! The layer above uses the clauses of `run_serial`: cut, cause, what was written and what the plugins met are those of the
+//! run without faults, or a fault ended the chain where it may.
 #![tactic(auto)]
 
-mod lists;
-mod plugins;
-mod reading;
+mod parts;
 mod run_end;
+mod serial;
+mod serial_run;
 mod stages;
-mod stuffing;
-mod writing;
 
-pub use lists::run_lists;
 pub use run_end::RunEnd;
+pub use serial_run::run_serial;
 pub use stages::Stages;

@@ -8,6 +8,6 @@ pub struct RunEnd<S, K, P> {
     /// The plugins in the same order.
     pub plugins: Vec<P>,
     pub output: OutputPart<K>,
-    /// The cut and its cause. `AllocError` where there was no memory for the run; then nothing was read.
+    /// The cut and its cause. `AllocError` where there was no memory for the run; then it never began.
     pub closed: Result<Closed, AllocError>,
 }

@@ -1,0 +1,206 @@
+-- A chain before its first turn.
+use Rattle.std.proofs.Common.{◌≡◌, ◌≢◌, ℕ, zero, suc, ◌+◌, ◌*◌, ◌<◌, ◌≤◌, ◌↔◌, List, [], ◌∷◌, ◌++◌, length, map, take, drop, Bool, false, Option, Some, None, refl, ap, sym, ◌∙◌, subst, arith, inl, inr}
+use Rattle.std.specs.Prelude.{slice_index_or}
+use Rattle.std.specs.List.{All}
+use Rattle.std.proofs.lemmas.Bool.{cases_lt}
+use Rattle.std.proofs.lemmas.List.{length-map}
+use Rattle.std.proofs.Math.Seq.{get_or-append_seam}
+use Rattle.ts_packet.specs.declared.cell.Cell.{Cell}
+use Rattle.ts_outside.specs.Source.{SourceView}
+use Rattle.ts_outside.specs.Sink.{SinkView}
+use Rattle.chain_model.specs.Prefix.{IsPrefix}
+use Rattle.chain_model.specs.PluginRule.{PluginRule}
+use Rattle.chain_model.specs.Apply.{StageList, last_passed, apply}
+use Rattle.chain_model.specs.StageLists.{rule_behind}
+use Rattle.chain_core.specs.declared.core_plan.CorePlan.{CorePlan}
+use Rattle.chain_core.specs.declared.stage_end.StageEnd.{StageEnd}
+use Rattle.chain_core.specs.Machine.{ChainState, start}
+use Rattle.chain_core.specs.ChainRun.{state_after, took}
+use Rattle.chain_core.specs.CoreNumbers.{CoreNumbers, IsLawfulPlan, StandsFor}
+use Rattle.chain_core.specs.Keeps.{IsEndOf, KeepsList, KeepsAgreement, StageKeeps}
+use Rattle.stage_run.specs.declared.input_part.InputPart.{InputPart}
+use Rattle.stage_run.specs.declared.input_part.InputPart.TheVariants as input
+use Rattle.stage_run.specs.declared.output_part.OutputPart.{OutputPart}
+use Rattle.stage_run.specs.declared.output_part.OutputPart.TheVariants as output
+use Rattle.stage_run.specs.declared.stage_part.StagePart.{StagePart}
+use Rattle.stage_run.specs.declared.stuffing.Stuffing.{Stuffing}
+use Rattle.stage_run.specs.PartLists.{PartLists, fresh_lists}
+use Rattle.stage_run.specs.PartStands.{PartStands, PartGives, kind_of, rule_of, stuffing_in, has_source, has_sink, has_stream, an_input, a_plugin, an_output}
+use Rattle.stage_run.specs.InputStands.{stuffing_of}
+use Rattle.stage_run.specs.Parts.{IsListOf, IsSourceOf, IsSinkOf}
+use Rattle.chain_run.specs.Fresh.{AreFresh}
+use Rattle.chain_run.specs.Parts.{MadeOf, AreMadeOf}
+use Rattle.chain_run.specs.Runs.{nothing_told, Begun, Fits, PartAt, InputAt, PluginAt, OutputAt, KeptFor, RunsBy, Runs}
+use Rattle.chain_run.specs.Working.{Goes}
+use Rattle.chain_run.proofs.QuietVisit.{silent}
+use Rattle.chain_run.proofs.TurnLemmas.{list-ends}
+
+-- a member of a list is the same whatever stands for no member
+pub any-default : {X : Type 0} (xs : List X) (k : ℕ) (d e : X) → k < length xs → slice_index_or xs k d ≡ slice_index_or xs k e
+any-default [] k d e lt = absurd (omega arith)
+any-default (x ∷ xs) zero d e lt = refl
+any-default (x ∷ xs) (suc k) d e lt = any-default xs k d e (omega arith)
+
+-- some view of the source of an input, and of the sink of an output
+view-of-source : {S : Type 0} (seen : S → SourceView) (part : InputPart S) → (view : SourceView) × IsSourceOf seen part view
+view-of-source seen (input.Stream source) = (seen source, refl)
+view-of-source seen (input.Nulls count) = (record { left = None; faults = 0 }, tt)
+
+view-of-sink : {K : Type 0} (seen : K → SinkView) (part : OutputPart K) → (view : SinkView) × IsSinkOf seen part view
+view-of-sink seen (output.Stream sink) = (seen sink, refl)
+view-of-sink seen output.Discard = (record { taken = None; name = None; faults = 0 }, tt)
+
+-- ---- rules
+
+module _ {P : Type 0} (rule : P → PluginRule) (stands : P → List Cell → ℕ → Type 0) where
+  pub rules-open : (plugins : List P) → AreFresh stands plugins → ((plugin : P) (history : List Cell) (mark : ℕ) → stands plugin history mark → (rule plugin).agrees [] ≡ false) → All (λ (r : PluginRule). r.agrees [] ≡ false) (map rule plugins)
+  rules-open [] fresh law k d lt = absurd (omega arith)
+  rules-open (plugin ∷ plugins) fresh law zero d lt = law plugin [] 0 fresh.0
+  rules-open (plugin ∷ plugins) fresh law (suc k) d lt = rules-open plugins fresh.1 law k d (omega arith)
+
+-- ---- stages that have done nothing
+
+module _ (rules : List PluginRule) (input : StageList) (plugins : ℕ) where
+  pub starts-quiet : (input.ended ≢ Some last_passed) → (k : ℕ) (took_ : List Cell) → took_ ≡ [] → StageKeeps rules input plugins k took_ [] [] nothing_told
+  starts-quiet no_last zero took_ none = record {
+    list = record { gives = (input.cells, refl); ends = λ end e. cc; last_at_once = λ last. absurd (no_last last.ended) };
+    agreement = tt;
+  }
+  starts-quiet no_last (suc j) took_ none =
+      subst (λ (l : List Cell). StageKeeps rules input plugins (suc j) l [] [] nothing_told) (sym none)
+      (record {
+        list = record { gives = ([], refl); ends = λ end e. cc; last_at_once = λ last. (let e : None ≡ Some last_passed = last.ended in cc) };
+        agreement = silent (rule_behind rules j) [] 0 (0 + 0) (omega arith);
+      })
+
+module _ {S K P : Type 0} (in_seen : S → SourceView) (out_seen : K → SinkView) (rule : P → PluginRule) (stands : P → List Cell → ℕ → Type 0) where
+  pub made-length : (made : List (StagePart S K P)) (plugins : List P) → AreMadeOf in_seen out_seen rule stands made plugins → length made ≡ length plugins
+  made-length [] [] are = refl
+  made-length [] (plugin ∷ plugins) are = absurd are
+  made-length (part ∷ made) [] are = absurd are
+  made-length (part ∷ made) (plugin ∷ plugins) are = omega (arith, made-length made plugins are.1)
+
+  -- the stage at a place, its plugin and its rule
+  pub record MadeAt (part : StagePart S K P) (r : PluginRule) : Type 0 where
+    pub plugin : P
+    pub is : MadeOf in_seen out_seen rule stands part plugin
+    pub rule_is : r ≡ rule plugin
+    pub fresh : stands plugin [] 0
+
+  made-at : (made rest : List (StagePart S K P)) (plugins : List P) (j : ℕ) (d : StagePart S K P) → AreMadeOf in_seen out_seen rule stands made plugins → AreFresh stands plugins → j < length plugins → MadeAt (slice_index_or (made ++ rest) j d) (rule_behind (map rule plugins) j)
+  made-at [] rest [] j d are fresh lt = absurd (omega arith)
+  made-at [] rest (plugin ∷ plugins) j d are fresh lt = absurd are
+  made-at (part ∷ made) rest [] j d are fresh lt = absurd are
+  made-at (part ∷ made) rest (plugin ∷ plugins) zero d are fresh lt = record { plugin = plugin; is = are.0; rule_is = refl; fresh = fresh.0 }
+  made-at (part ∷ made) rest (plugin ∷ plugins) (suc j) d are fresh lt = made-at made rest plugins j d are.1 fresh.1 (omega arith)
+
+  module _ (plan : CorePlan) (lawful : IsLawfulPlan plan) (core : CoreNumbers) (plan_is : core.plan ≡ plan) (numbers : StandsFor core start)
+      (from : InputPart S) (stuffing : Stuffing) (to : OutputPart K) (plugins : List P) (fresh : AreFresh stands plugins) (number : plan.plugins ≡ length plugins)
+      (opens : (plugin : P) (history : List Cell) (mark : ℕ) → stands plugin history mark → (rule plugin).agrees [] ≡ false)
+      (first out : StagePart S K P) (made : List (StagePart S K P)) (are : AreMadeOf in_seen out_seen rule stands made plugins)
+      (in_kind : kind_of first ≡ an_input) (in_stream : has_stream first ≡ has_source from) (in_stuffing : stuffing_in first ≡ Some (stuffing_of stuffing))
+      (in_stands : (source : SourceView) (sink : SinkView) (mark : ℕ) → IsSourceOf in_seen from source → PartStands in_seen out_seen rule stands first (fresh_lists source sink mark) None)
+      (in_gives : (source : SourceView) (sink : SinkView) (mark : ℕ) (input : StageList) → PartGives in_seen first (fresh_lists source sink mark) input ↔ IsListOf in_seen from (stuffing_of stuffing) input)
+      (out_kind : kind_of out ≡ an_output) (out_stream : has_stream out ≡ has_sink to)
+      (out_stands : (source : SourceView) (sink : SinkView) (mark : ℕ) → IsSinkOf out_seen to sink → PartStands in_seen out_seen rule stands out (fresh_lists source sink mark) None)
+      (cells : List Cell) (slots : length cells ≡ plan.buffer) where
+    abbrev pub began : Begun S K
+    began = record { from = from; to = to; stuffing = stuffing_of stuffing; rules = map rule plugins; plan = plan }
+
+    abbrev parts : List (StagePart S K P)
+    parts = first ∷ (made ++ out ∷ [])
+
+    abbrev part : ℕ → StagePart S K P
+    part k = slice_index_or parts k first
+
+    abbrev lists : ℕ → PartLists
+    lists k = fresh_lists (view-of-source in_seen from).0 (view-of-sink out_seen to).0 0
+
+    parts-length : length parts ≡ plan.plugins + 2
+    parts-length = let a = made-length made plugins are in omega (arith, length-snoc made out)
+      where
+        length-snoc : (xs : List (StagePart S K P)) (x : StagePart S K P) → length (xs ++ x ∷ []) ≡ length xs + 1
+        length-snoc [] x = refl
+        length-snoc (y ∷ xs) x = omega (arith, length-snoc xs x)
+
+    last-is : part (suc plan.plugins) ≡ out
+    last-is =
+        ap (λ n. slice_index_or (made ++ out ∷ []) n first) (let a = made-length made plugins are in let b = number in omega arith)
+        ∙ get_or-append_seam made out [] first
+
+    fits : Fits began core (length parts) (length cells)
+    fits = record {
+      plan_is = plan_is;
+      lawful = lawful;
+      stages_are = parts-length;
+      slots_are = slots;
+      rules_are = length-map plugins rule ∙ sym number;
+      agree_late = rules-open rule stands plugins fresh opens;
+    }
+
+    at-start : (p : StagePart S K P) (k : ℕ) → PartStands in_seen out_seen rule stands p (lists k) None → PartAt in_seen out_seen rule stands began p k (lists k) (state_after plan [])
+    unfolding state_after
+    at-start p k is = record { stands_for = is; given = refl; mark = omega arith }
+
+    input-start : InputAt in_seen out_seen rule stands began first (lists 0) (state_after plan [])
+    input-start = record {
+      at = at-start first 0 (in_stands (view-of-source in_seen from).0 (view-of-sink out_seen to).0 0 (view-of-source in_seen from).1);
+      kind = in_kind;
+      stuffing_is = in_stuffing;
+      stream = in_stream;
+      source = (view-of-source in_seen from).1;
+      within = inl (omega arith);
+    }
+
+    plugin-start : (j : ℕ) → j < plan.plugins → PluginAt in_seen out_seen rule stands began (part (suc j)) j (lists (suc j)) (state_after plan [])
+    unfolding state_after
+    plugin-start j lt =
+        let here = made-at made (out ∷ []) plugins j first are fresh (omega (arith, number)) in
+        record {
+          at = at-start (part (suc j)) (suc j) (here.is.fresh (view-of-source in_seen from).0 (view-of-sink out_seen to).0 0 here.fresh);
+          kind = here.is.kind;
+          rule_is = here.is.same_rule ∙ sym here.rule_is;
+          met = refl;
+        }
+
+    output-start : (Gives : StageList → Type 0) → OutputAt in_seen out_seen rule stands began out (lists (suc plan.plugins)) (state_after plan []) Gives
+    unfolding state_after
+    output-start Gives = record {
+      at = at-start out (suc plan.plugins) (out_stands (view-of-source in_seen from).0 (view-of-sink out_seen to).0 0 (view-of-sink out_seen to).1);
+      kind = out_kind;
+      stream = out_stream;
+      met = refl;
+      sink = (view-of-sink out_seen to).1;
+      failed = λ e. cc;
+    }
+
+    kept-start : (input : StageList) → PartGives in_seen first (lists 0) input → KeptFor in_seen out_seen rule stands began [] input
+    unfolding state_after
+    kept-start input gives =
+        let is : IsListOf in_seen from (stuffing_of stuffing) input = (in_gives (view-of-source in_seen from).0 (view-of-sink out_seen to).0 0 input).0 gives in
+        let ends = list-ends in_seen from (stuffing_of stuffing) input is in
+        record {
+          is_list = is;
+          kept = tt;
+          going = λ k e. starts-quiet (map rule plugins) input plan.plugins (λ last. (let how = ends.0 in let f = sym ends.1 ∙ last in cc)) k (took (state_after plan []) k) (nothing-taken k);
+        }
+      where
+        nothing-taken : (k : ℕ) → took start k ≡ []
+        nothing-taken zero = refl
+        nothing-taken (suc j) = refl
+
+    by-start : RunsBy in_seen out_seen rule stands began core parts cells [] part lists
+    unfolding state_after
+    by-start = record {
+      parts_are = λ k d le. any-default parts k d first (let a = parts-length in omega arith);
+      numbers = numbers;
+      run = tt;
+      kept = kept-start;
+      input = input-start;
+      plugin = plugin-start;
+      output = subst (λ p. OutputAt in_seen out_seen rule stands began p (lists (suc plan.plugins)) (state_after plan []) (PartGives in_seen (part 0) (lists 0))) (sym last-is) (output-start (PartGives in_seen (part 0) (lists 0)));
+      buffer = λ k le. tt;
+    }
+
+    pub starts : Goes in_seen out_seen rule stands began core parts cells
+    starts = record { fits = fits; runs = record { visits = []; part = part; lists = lists; by = by-start } }

@@ -1,0 +1,132 @@
+-- A turn of a stage: two visits with its work between them.
+use Rattle.std.proofs.Common.{◌≡◌, ◌≢◌, ◌⊎◌, ℕ, zero, suc, ◌+◌, ◌-◌, ◌*◌, ◌%◌, ◌^◌, ◌<◌, ◌≤◌, min, Bool, true, false, List, [], ◌∷◌, ◌++◌, length, take, drop, Option, Some, None, refl, ap, sym, ◌∙◌, subst, arith, inl, inr, append-nil, length-append, eq-eqb}
+use Rattle.std.specs.Prelude.{slice_index_or, slice_set, is_some, ◌==◌, ◌&&◌, ◌||◌, nat_le, IsTrue}
+use Rattle.std.specs.Option.{option_or}
+use Rattle.std.proofs.lemmas.Bool.{cases_eq, cases_lt, cases_Bool, cond-true, cond-false, leb-true, le-leb}
+use Rattle.std.proofs.lemmas.List.{length-take, length-set}
+use Rattle.ts_packet.specs.declared.cell.Cell.{Cell}
+use Rattle.ts_outside.specs.Source.{SourceView}
+use Rattle.ts_outside.specs.Sink.{SinkView}
+use Rattle.chain_model.specs.PluginRule.{PluginRule}
+use Rattle.chain_model.specs.Apply.{StageList, input_over}
+use Rattle.chain_model.specs.InputList.{input_of_bytes, input_of_nulls}
+use Rattle.chain_model.specs.Stuffed.{null_cells, stuffed_after, stop_nulls, stuffed}
+use Rattle.chain_model.specs.Stuffed as model
+use Rattle.chain_model.specs.declared.input_end.InputEnd.{InputEnd}
+use Rattle.chain_core.specs.declared.core_plan.CorePlan.{CorePlan}
+use Rattle.chain_core.specs.declared.mark.Mark.{Mark}
+use Rattle.chain_core.specs.declared.news.News.{News}
+use Rattle.chain_core.specs.declared.stage_end.StageEnd.{StageEnd}
+use Rattle.chain_core.specs.declared.stage_end.StageEnd.TheVariants.{Followed}
+use Rattle.chain_core.specs.declared.stage_word.StageWord.{StageWord}
+use Rattle.chain_core.specs.Stages.{has_stage}
+use Rattle.chain_core.specs.Numbers.{Marks, limit_of, reach_of, takes_of, agreed_with, is_before_over, is_after_over, news_of, MayFollow, MayVisit}
+use Rattle.chain_core.specs.Machine.{ChainState, StageState, Visit, mark_of, marks_of, visit_of, noted, visited, Allowed, news_after}
+use Rattle.chain_core.specs.ChainRun.{ChainRun, state_after}
+use Rattle.chain_core.specs.CoreNumbers.{CoreNumbers, IsLawfulPlan, StandsFor, marks_in}
+use Rattle.chain_core.specs.Keeps.{KeptRun}
+use Rattle.chain_core.specs.EveryOrder.{SoFar}
+use Rattle.chain_core.proofs.Stepping.{noted_stage, taking, noted-same, noted-other, visited-same}
+use Rattle.stage_run.specs.declared.input_part.InputPart.{InputPart}
+use Rattle.stage_run.specs.declared.input_part.InputPart.TheVariants.{Stream, Nulls}
+use Rattle.stage_run.specs.declared.stage_part.StagePart.{StagePart}
+use Rattle.stage_run.specs.declared.work.Work.{Work}
+use Rattle.stage_run.specs.PartLists.{PartLists}
+use Rattle.stage_run.specs.PartStands.{PartStands, MayWork, MayWorkOnSome}
+use Rattle.stage_run.specs.Parts.{IsListOf}
+use Rattle.stage_run.specs.Telling.{is_reached, may_follow, FollowsNews}
+use Rattle.stage_run.proofs.ContinuesLemmas.{within_limit-ends}
+use Rattle.chain_run.specs.Runs.{nothing_told, Begun, Fits, KeptFor, RunsBy, Runs}
+use Rattle.chain_run.specs.Working.{Goes, PartWorks, StageWorks}
+use Rattle.chain_run.proofs.MachineLaws.{MachineLaws, after-visit, change, stage-other, given-taken, taken-below}
+use Rattle.chain_run.proofs.SlotLemmas.{over_row, length-over_row}
+use Rattle.chain_run.proofs.StepLemmas.{set_at}
+use Rattle.chain_run.proofs.QuietVisit.{quiet-visit}
+use Rattle.chain_run.proofs.KindLemmas.{OutputDid}
+use Rattle.chain_run.proofs.WorkVisit.{may, written-below, given-below, w, worked-visit, output-done}
+
+-- the list of an input ends by the input's end
+pub list-ends : {S : Type 0} (seen : S → SourceView) (from : InputPart S) (stuffing : model.Stuffing) (list : StageList) → IsListOf seen from stuffing list → (how : InputEnd) × (list.ended ≡ Some (input_over how))
+list-ends seen (Stream source) stuffing list is =
+    let e = within_limit-ends (null_cells stuffing.start ++ (stuffed_after stuffing 0 (input_of_bytes is.0).packets ++ stop_nulls stuffing (input_of_bytes is.0).ended)) (input_of_bytes is.0).ended in
+    (e.0, ap (λ (l : StageList). l.ended) is.1 ∙ e.1)
+list-ends seen (Nulls count) stuffing list is =
+    let e = within_limit-ends (null_cells stuffing.start ++ (stuffed_after stuffing 0 (input_of_nulls count).packets ++ stop_nulls stuffing (input_of_nulls count).ended)) (input_of_nulls count).ended in
+    (e.0, ap (λ (l : StageList). l.ended) is ∙ e.1)
+
+-- what a stage may do by its news it may do by the numbers
+pub follows-news : (plan : CorePlan) (marks : Marks) (k now : ℕ) → may_follow (news_of plan marks k) now ≡ true → MayFollow plan marks k now
+follows-news plan marks k now is =
+    elim (cases_Bool (is_before_over marks k)) [
+      | inl before ↦ inl before
+      | inr not_before ↦ elim (cases_Bool (is_after_over plan marks k)) [
+        | inl behind ↦ inr (inl behind)
+        | inr not_behind ↦ inr (inr (reached (limit_of plan marks) refl (sym (or-none (is_before_over marks k) (is_after_over plan marks k) (is_reached (limit_of plan marks) now) not_before not_behind) ∙ is)))
+      ]
+    ]
+  where
+    or-none : (a b c : Bool) → a ≡ false → b ≡ false → (a || (b || c)) ≡ c
+    or-none true b c no_ none = absurd cc
+    or-none false true c no_ none = absurd cc
+    or-none false false c no_ none = refl
+
+    reached : (o : Option ℕ) → limit_of plan marks ≡ o → is_reached o now ≡ true → (limit : ℕ) × (limit_of plan marks ≡ Some limit) × (limit ≤ now)
+    reached None e yes_ = absurd cc
+    reached (Some limit) e yes_ = (limit, e, leb-true limit now yes_)
+
+pub not-following : (plan : CorePlan) (marks : Marks) (k now : ℕ) → may_follow (news_of plan marks k) now ≡ false → MayFollow plan marks k now → ⊥
+not-following plan marks k now no_ (inl before) =
+    let e : is_before_over marks k ≡ true = before in
+    let t : may_follow (news_of plan marks k) now ≡ true = ap (λ (b : Bool). b || (is_after_over plan marks k || is_reached (limit_of plan marks) now)) e in
+    let f : true ≡ false = sym t ∙ no_ in cc
+not-following plan marks k now no_ (inr (inl behind)) =
+    let e : is_after_over plan marks k ≡ true = behind in
+    let t : may_follow (news_of plan marks k) now ≡ true = ap (λ (b : Bool). is_before_over marks k || (b || is_reached (limit_of plan marks) now)) e ∙ or-true (is_before_over marks k) in
+    let f : true ≡ false = sym t ∙ no_ in cc
+  where
+    or-true : (b : Bool) → (b || true) ≡ true
+    or-true true = refl
+    or-true false = refl
+not-following plan marks k now no_ (inr (inr reached)) =
+    let e : is_reached (limit_of plan marks) now ≡ true = ap (λ (o : Option ℕ). is_reached o now) reached.1 ∙ le-leb reached.0 now reached.2 in
+    let t : may_follow (news_of plan marks k) now ≡ true = ap (λ (b : Bool). is_before_over marks k || (is_after_over plan marks k || b)) e ∙ or-both (is_before_over marks k) (is_after_over plan marks k) in
+    let f : true ≡ false = sym t ∙ no_ in cc
+  where
+    or-both : (a b : Bool) → (a || (b || true)) ≡ true
+    or-both true b = refl
+    or-both false true = refl
+    or-both false false = refl
+
+-- the marks of a stage that gave and told nothing
+module _ (plan : CorePlan) (state : ChainState) (k : ℕ) (open_ : (state.stages k).ended ≡ None) where
+  abbrev pub quiet : Visit
+  quiet = visit_of k [] nothing_told
+
+  pub quiet-agreed : (known : Option ℕ) → agreed_with plan k known None ≡ known
+  quiet-agreed known =
+      elim (cases_Bool (has_stage plan.users k)) [
+        | inl yes_ ↦ cond-true (has_stage plan.users k) (option_or known None) known yes_ ∙ or-none known
+        | inr no_ ↦ cond-false (has_stage plan.users k) (option_or known None) known no_
+      ]
+    where
+      or-none : (o : Option ℕ) → option_or o None ≡ o
+      or-none None = refl
+      or-none (Some n) = refl
+
+  pub quiet-mark : (j : ℕ) → marks_of (noted plan state quiet) j ≡ marks_of state j
+  quiet-mark j =
+      elim (cases_eq j k) [
+        | inl same ↦ subst (λ i. marks_of (noted plan state quiet) i ≡ marks_of state i) (sym same) here
+        | inr apart ↦ ap mark_of (noted-other plan state quiet j apart)
+      ]
+    where
+      here : marks_of (noted plan state quiet) k ≡ marks_of state k
+      here =
+          ap mark_of (noted-same plan state quiet)
+          ∙ ((λ i. record { given = length (append-nil (state.stages k).given i); taken = (state.stages k).taken; agreed = quiet-agreed (state.stages k).agreed i; ended = sym open_ i }))
+
+  -- it takes of what waits
+  pub quiet-taken : ((visited plan state quiet).stages k).taken ≡ (state.stages k).taken + takes_of plan (marks_of state) k
+  quiet-taken =
+      ap (λ (s : StageState). s.taken) (visited-same plan state quiet)
+      ∙ ap (λ (marks : Marks). (state.stages k).taken + takes_of plan marks k) (λ i j. quiet-mark j i)

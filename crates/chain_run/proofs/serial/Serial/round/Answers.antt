@@ -1,0 +1,14 @@
+use Rattle.std.proofs.Common.{◌≡◌, ◌≤◌, ℕ, suc, sym, ap, subst, ◌∙◌}
+use Rattle.chain_core.specs.declared.core_plan.CorePlan.{CorePlan}
+use Rattle.chain_core.specs.Numbers.{Marks}
+use Rattle.chain_core.specs.CoreNumbers.{marks_in}
+use Rattle.chain_core.specs.ChainRun.{AllEnded}
+use Rattle.chain_run.specs.Runs.{IsIdleOrOver}
+use Rattle.chain_run.proofs.MarkLemmas.{over-of}
+use Rattle.chain_run.proofs.serial.Serial.round.Goals as goal
+
+pub returns-clause-over : goal.returns-clause-over
+returns-clause-over g c = λ rests.
+    let goes = c.turns.ensures.runs c.requires.runs.0 c.requires.runs.1 in
+    over-of c.requires.runs.0.plan c.turns.new.self.core goes.runs.visits goes.fits.plan_is goes.fits.lawful goes.runs.by.run goes.runs.by.numbers c.quiet_is_over.ensures
+    (subst (λ (p : CorePlan). (stage : ℕ) → stage ≤ suc p.plugins → IsIdleOrOver p (marks_in c.turns.new.self.core) stage) (c.requires.runs.1.fits.plan_is) (c.turns.ensures.idle rests))

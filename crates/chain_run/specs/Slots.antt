@@ -1,0 +1,13 @@
+-- The slots of the buffer. This project's own rule.
+use Rattle.std.specs.Prelude.{◌≡◌, ℕ, suc, ◌%◌, List, [], ◌∷◌, length, slice_index_or}
+use Rattle.ts_packet.specs.declared.cell.Cell.{Cell}
+use Rattle.ts_packet.specs.declared.cell.Cell.TheVariants.{Dropped}
+
+-- the cell at a position: it stands in the slot of that number modulo the number of slots
+abbrev pub slot : List Cell → ℕ → Cell
+slot slots position = slice_index_or slots (position % length slots) Dropped
+
+-- from a position on these cells stand
+abbrev pub HoldsFrom : (ℕ → Cell) → ℕ → List Cell → Type 0
+HoldsFrom cell_at at [] = Unit {0}
+HoldsFrom cell_at at (cell ∷ cells) = (cell_at at ≡ cell) × HoldsFrom cell_at (suc at) cells

@@ -1,0 +1,55 @@
+-- How a stage works on a window of the buffer. This project's own rule.
+use Rattle.std.specs.Prelude.{◌≡◌, ℕ, ◌+◌, ◌*◌, ◌%◌, ◌<◌, ◌≤◌, List, ◌++◌, length, take, drop, slice_index_or, slice_set, Some, None}
+use Rattle.ts_packet.specs.declared.cell.Cell.{Cell}
+use Rattle.ts_outside.specs.Source.{SourceView}
+use Rattle.ts_outside.specs.Sink.{SinkView}
+use Rattle.chain_model.specs.PluginRule.{PluginRule}
+use Rattle.chain_core.specs.declared.news.News.{News}
+use Rattle.chain_core.specs.CoreNumbers.{CoreNumbers}
+use Rattle.stage_run.specs.declared.stage_part.StagePart.{StagePart}
+use Rattle.stage_run.specs.declared.work.Work.{Work}
+use Rattle.stage_run.specs.PartLists.{PartLists}
+use Rattle.stage_run.specs.PartStands.{PartStands, MayWork, rule_of, kind_of, stuffing_in, has_stream}
+use Rattle.stage_run.specs.Telling.{FollowsNews}
+use Rattle.stage_run.specs.Works.{Works, WorksByKind}
+use Rattle.chain_run.specs.Runs.{Begun, Fits, Runs}
+
+module _ {S K P : Type 0} (in_seen : S → SourceView) (out_seen : K → SinkView) (rule : P → PluginRule) (stands : P → List Cell → ℕ → Type 0) where
+  -- a chain that runs, as it began
+  pub record Goes (begun : Begun S K) (core : CoreNumbers) (parts : List (StagePart S K P)) (cells : List Cell) : Type 0 where
+    pub fits : Fits begun core (length parts) (length cells)
+    pub runs : Runs in_seen out_seen rule stands begun core parts cells
+
+  -- a chain that runs, however it began
+  abbrev pub RunsSomehow : CoreNumbers → List (StagePart S K P) → List Cell → Type 0
+  RunsSomehow core parts cells = (begun : Begun S K) × Goes begun core parts cells
+
+  -- a part worked on a window that begins at a position
+  pub record PartWorks (old new : StagePart S K P) (at : ℕ) (news : News) (window window_new : List Cell) (work : Work) : Type 0 where
+    pub done : work.done ≤ length window
+    pub rest : drop work.done window_new ≡ drop work.done window
+    pub goes_on : work.word.ended ≡ None → work.done ≡ length window
+    pub follows : FollowsNews news (at + work.done) work.word.ended
+    pub agreed : (agreed : ℕ) → work.word.agreed ≡ Some agreed → (at < agreed) × (agreed ≤ at + work.done)
+    pub same_kind : kind_of new ≡ kind_of old
+    pub same_rule : rule_of rule new ≡ rule_of rule old
+    pub same_stuffing : stuffing_in new ≡ stuffing_in old
+    pub same_stream : has_stream new ≡ has_stream old
+    pub works : (lists : PartLists) → MayWork (PartStands in_seen out_seen rule stands old) at news.written lists
+        → Works (PartStands in_seen out_seen rule stands new) (WorksByKind in_seen out_seen rule old new lists news window window_new work)
+        lists news.written window window_new work
+
+  -- the stage of this number worked on cells that stand in one row of the buffer
+  pub record StageWorks (parts parts_new : List (StagePart S K P)) (cells cells_new : List Cell) (stage at : ℕ) (news : News) (work : Work) : Type 0 where
+    pub old : StagePart S K P
+    pub new : StagePart S K P
+    pub is_old : old ≡ slice_index_or parts stage old
+    pub is_new : parts_new ≡ slice_set parts stage new
+    pub len : ℕ
+    pub in_hand : at + len ≤ news.taken
+    pub some : at < news.taken → 0 < len
+    pub in_row : at % length cells + len ≤ length cells
+    pub window_new : List Cell
+    pub same_length : length window_new ≡ len
+    pub cells_are : cells_new ≡ take (at % length cells) cells ++ (window_new ++ drop (at % length cells + len) cells)
+    pub worked : PartWorks old new at news (take len (drop (at % length cells) cells)) window_new work
