@@ -14,7 +14,7 @@ use Rattle.chain_core.specs.EveryOrder.{SoFar, AtClose}
 use Rattle.chain_core.proofs.Facts.{all_by_recursion}
 use Rattle.chain_core.proofs.Soundness.{AreUsers, users_from, Sound, run-sound}
 use Rattle.chain_core.proofs.ListsKept.{Faithful, run-faithful}
-use Rattle.chain_core.proofs.Closing.{limit-joint, output-prefix, closing}
+use Rattle.chain_core.proofs.Closing.{limit-joint, joint-limit, output-prefix, closing}
 
 agrees-late : (rules : List PluginRule) → AllByRecursion (λ (rule : PluginRule). rule.agrees [] ≡ false) rules → (j : ℕ) → (rule_behind rules j).agrees [] ≡ false
 unfolding passing_rule
@@ -42,6 +42,7 @@ module _ (plan : CorePlan) (rules : List PluginRule) (input : StageList) (visits
     output = output-prefix plan rules input (state_after plan visits) users kept.plugins sound faithful;
     limit_is_joint = limit-joint plan rules input (state_after plan visits) users faithful;
     written_within = (λ limit is. (sound.limited limit is).0);
+    limit_when_due = (λ joint is reached. joint-limit plan rules input (state_after plan visits) users faithful joint reached joint is (omega arith));
     made = (let a = sound.within 0 in let b = sound.bound in omega arith);
     ends = faithful.ends;
     followers = (λ k is. sound.key k Followed is);

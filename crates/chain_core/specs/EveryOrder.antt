@@ -39,6 +39,8 @@ pub record SoFar (plan : CorePlan) (rules : List PluginRule) (input : StageList)
   -- the limit, once known, is the joint position, and the output gave no more
   pub limit_is_joint : (limit : ℕ) → limit_of plan (marks_of state) ≡ Some limit → joint_position rules input (stages_of plan.users) ≡ Some limit
   pub written_within : (limit : ℕ) → limit_of plan (marks_of state) ≡ Some limit → length (state.stages (suc plan.plugins)).given ≤ limit
+  -- and it is known as soon as the input and every plugin gave so many cells
+  pub limit_when_due : (joint : ℕ) → joint_position rules input (stages_of plan.users) ≡ Some joint → ((k : ℕ) → k ≤ plan.plugins → joint ≤ length (state.stages k).given) → limit_of plan (marks_of state) ≡ Some joint
   -- the input is ahead of the output by the buffer at most
   pub made : length (state.stages 0).given ≤ length (state.stages (suc plan.plugins)).given + plan.buffer
   -- a stage that ended did so as its list says

@@ -54,6 +54,14 @@ impl Core {
         })
     }
 
+    /// What the core knows of a stage.
+    pub fn mark(&self, stage: usize) -> Mark
+        requires { stage ≤ suc self.now.plan.plugins }
+        ensures { result ≡ marks_in self.now stage }
+    {
+        self.marks[stage]
+    }
+
     /// One visit of a stage, which gives `done` of the cells in its hands and tells the word. It is
     /// the machine's visit, whatever the cells are, and its answer the machine's news. It takes no
     /// memory.

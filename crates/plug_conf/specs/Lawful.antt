@@ -1,6 +1,6 @@
 -- Which settings a plugin can be made of.
 -- This project's own rule.
-use Rattle.std.specs.Prelude.{◌==◌, Bool, true}
+use Rattle.std.specs.Prelude.{Bool, true}
 use Rattle.plug_conf.specs.Continuity.{IsLawfulContinuity}
 use Rattle.plug_conf.specs.Count.{IsLawfulCount}
 use Rattle.plug_conf.specs.Filter.{IsLawfulFilter}
@@ -8,7 +8,7 @@ use Rattle.plug_conf.specs.Pattern.{IsLawfulPattern}
 use Rattle.plug_conf.specs.Remap.{IsLawfulRemap, pairs_agree}
 use Rattle.plug_conf.specs.Skip.{IsLawfulSkip}
 use Rattle.plug_conf.specs.Slice.{IsLawfulSlice, slices_differ}
-use Rattle.plug_conf.specs.Until.{IsLawfulUntil, counts_given}
+use Rattle.plug_conf.specs.Until.{IsLawfulUntil, until_together}
 use Rattle.plug_conf.specs.declared.plugin_conf.PluginConf.{PluginConf}
 use Rattle.plug_conf.specs.declared.plugin_conf.PluginConf.TheVariants.{Continuity, Count, Filter, Pattern, Remap, Skip, Slice, Until}
 
@@ -27,6 +27,6 @@ IsLawful (Remap c) = IsLawfulRemap c
 -- what is given goes together: the part of `IsLawful` that speaks of several options at once
 abbrev pub go_together : PluginConf → Bool
 go_together (Slice c) = slices_differ c
-go_together (Until c) = counts_given c == 1
+go_together (Until c) = until_together c
 go_together (Remap c) = pairs_agree c
 go_together _ = true

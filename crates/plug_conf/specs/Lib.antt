@@ -1,6 +1,7 @@
 pub mod Continuity
 pub mod Count
 pub mod Filter
+pub mod JointUse
 pub mod Lawful
 pub mod Limits
 pub mod NumberSet

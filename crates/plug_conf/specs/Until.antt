@@ -1,6 +1,6 @@
 -- Lawful settings of `until`.
 -- This project's own rule.
-use Rattle.std.specs.Prelude.{◌==◌, ◌+◌, ◌≤◌, ℕ, IfSome, IsTrue, Option, if◌then◌else◌, is_some}
+use Rattle.std.specs.Prelude.{◌==◌, ◌+◌, ◌≤◌, ◌&&◌, not, ℕ, Bool, IfSome, IsTrue, Option, if◌then◌else◌, is_some}
 use Rattle.plug_conf.specs.Limits.{most_number}
 use Rattle.plug_conf.specs.declared.until_conf.UntilConf.{UntilConf}
 
@@ -16,8 +16,12 @@ counts_given c = one_if_given c.packets + one_if_given c.bytes + one_if_given c.
 abbrev pub IsCount : Option ℕ → Type 0
 IsCount n = IfSome n (λ k. (1 ≤ k) × (k ≤ most_number))
 
+-- one number is given, and not both flags
+abbrev pub until_together : UntilConf → Bool
+until_together c = counts_given c == 1 && not (c.exclude_last && c.joint_termination)
+
 pub record IsLawfulUntil (c : UntilConf) : Type 0 where
   pub of_packets : IsCount c.packets
   pub of_bytes : IsCount c.bytes
   pub of_unit_starts : IsCount c.unit_start_count
-  pub one : IsTrue (counts_given c == 1)
+  pub together : IsTrue (until_together c)

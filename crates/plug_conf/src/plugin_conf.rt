@@ -1,5 +1,6 @@
 ghost use Rattle.std.specs.Prelude.{◌≡◌};
 ghost use Rattle.plug_conf.specs.Lawful.{go_together};
+ghost use Rattle.plug_conf.specs.JointUse.{uses_joint};
 
 use crate::continuity_conf::ContinuityConf;
 use crate::count_conf::CountConf;
@@ -31,9 +32,19 @@ impl PluginConf {
     {
         match self {
             PluginConf::Slice(conf) => conf.has_distinct_numbers(),
-            PluginConf::Until(conf) => conf.has_one_count(),
+            PluginConf::Until(conf) => conf.goes_together(),
             PluginConf::Remap(conf) => conf.has_agreeing_pairs(),
             _ => true,
+        }
+    }
+
+    /// Whether the plugin uses joint termination.
+    pub fn uses_joint_termination(&self) -> bool
+        ensures { result ≡ uses_joint self.now }
+    {
+        match self {
+            PluginConf::Until(conf) => conf.joint_termination,
+            _ => false,
         }
     }
 }

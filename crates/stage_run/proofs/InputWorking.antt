@@ -230,6 +230,7 @@ module _ {S : Type 0} (seen : S → SourceView) where
         does = record {
           tells = tells;
           agreed = refl;
+          same = goes.same;
           faults = faults_told new.ended new.nulls after told (source_faults seen old.feed) (source_faults seen new.feed) fit
               (feed_faults old.feed new.feed lists.source lists.read (lists.read ++ goes.bytes) was.holds.rows goes.holds.rows old.ended new.ended goes.same was.holds.feed was.fits.can goes.holds.feed);
           reads = goes.reads (read_for (length lists.given) (length cells)) within room;

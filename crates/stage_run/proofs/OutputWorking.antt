@@ -20,7 +20,7 @@ use Rattle.stage_run.specs.declared.output_part.OutputPart.TheVariants.{Stream, 
 use Rattle.stage_run.specs.declared.output_stage.OutputStage.{OutputStage}
 use Rattle.stage_run.specs.PartLists.{PartLists}
 use Rattle.stage_run.specs.PartStands.{MayWork}
-use Rattle.stage_run.specs.OutputStands.{IsPartOfFirst, SinkTook, PartTook, OutputStands}
+use Rattle.stage_run.specs.OutputStands.{IsPartOfFirst, SamePart, SinkTook, PartTook, OutputStands}
 use Rattle.stage_run.specs.Writing.{CutsAt, WritesCells, PartWrites}
 use Rattle.stage_run.specs.Telling.{may_follow, followed, below_limit}
 use Rattle.stage_run.specs.Works.{Works, OutputWorks, OutputTells, FaultsTold, sink_faults, KeepsRule}
@@ -133,6 +133,12 @@ module _ {K : Type 0} (seen : K → SinkView) where
   took_whole Discard (Stream new) lists piece done b all was writes = absurd writes
   took_whole Discard Discard lists piece done b all was writes = (no_write_fault b, refl)
 
+  same_part : (old new : OutputPart K) (piece : List Cell) (done : ℕ) → PartWrites seen old new piece done → SamePart old new
+  same_part (Stream old) (Stream new) piece done writes = tt
+  same_part (Stream old) Discard piece done writes = absurd writes
+  same_part Discard (Stream new) piece done writes = absurd writes
+  same_part Discard Discard piece done writes = tt
+
   -- what was written of the packet at which a write failed
   pub record Cut (old new : OutputPart K) (lists : PartLists) (piece : List Cell) (done : ℕ) : Type 0 where
     pub part : List ℕ
@@ -184,6 +190,7 @@ module _ {K : Type 0} (seen : K → SinkView) where
           unchanged = refl;
           tells = tells_whole b news (length lists.given) done cells [] (same ∙ is ∙ ap (λ (n : ℕ). below_limit news.limit n (length cells)) (sym given_is));
           agreed = refl;
+          same = same_part old.part new.part (take len cells) done writes;
           faults = faults_whole b (sink_faults seen old.part) (sink_faults seen new.part) took_all.1;
           below = λ limit known some. below_least news.limit (length lists.given) (length cells) limit done known
               (let few : done ≡ below_limit news.limit (length lists.given) (length cells) = same ∙ is ∙ ap (λ (n : ℕ). below_limit news.limit n (length cells)) (sym given_is) in omega arith) some;
@@ -215,6 +222,7 @@ module _ {K : Type 0} (seen : K → SinkView) where
           unchanged = refl;
           tells = (omega arith, part-of-all len done cells cut.part (omega arith) cut.is_part);
           agreed = refl;
+          same = same_part old.part new.part (take len cells) done writes;
           faults = (λ failed. cut.faults, λ other. absurd (other refl));
           below = λ limit known some. below_least news.limit (length lists.given) (length cells) limit done known (omega arith) some;
           keeps = λ plugins. keeps_passing lists cells done plugins (Some WriteFault) was.same tt;

@@ -23,6 +23,12 @@ abbrev pub SinkTook : SinkView → SinkView → List Cell → List ℕ → Optio
 SinkTook first now given cut (Some WriteFault) = now ≡ write_failed (took first (written given ++ cut))
 SinkTook first now given cut _ = (now ≡ took first (written given)) × (cut ≡ [])
 
+-- both are sinks, or both let everything go
+abbrev pub SamePart : {K : Type 0} → OutputPart K → OutputPart K → Type 0
+SamePart (Stream old) (Stream new) = Unit {0}
+SamePart Discard Discard = Unit {0}
+SamePart _ _ = ⊥
+
 -- what an output wrote of the cells that it gave
 abbrev pub PartTook : {K : Type 0} → (K → SinkView) → OutputPart K → PartLists → Option StageEnd → Type 0
 PartTook seen (Stream sink) lists told = SinkTook lists.sink (seen sink) lists.given lists.cut told

@@ -1,5 +1,5 @@
 -- The one relation of a part to the lists that it stands for. This project's own rule.
-use Rattle.std.specs.Prelude.{◌≡◌, ℕ, ◌≤◌, List, length, Option, None, Some}
+use Rattle.std.specs.Prelude.{◌≡◌, ℕ, ◌≤◌, Bool, true, false, List, length, Option, None, Some}
 use Rattle.ts_packet.specs.declared.cell.Cell.{Cell}
 use Rattle.ts_outside.specs.Source.{SourceView}
 use Rattle.ts_outside.specs.Sink.{SinkView}
@@ -7,6 +7,12 @@ use Rattle.chain_model.specs.PluginRule.{PluginRule, passing_rule}
 use Rattle.chain_model.specs.Apply.{StageList}
 use Rattle.chain_model.specs.Stuffed as model
 use Rattle.chain_core.specs.declared.stage_end.StageEnd.{StageEnd}
+use Rattle.stage_run.specs.declared.input_part.InputPart.{InputPart}
+use Rattle.stage_run.specs.declared.input_part.InputPart.TheVariants as input
+use Rattle.stage_run.specs.declared.output_part.OutputPart.{OutputPart}
+use Rattle.stage_run.specs.declared.output_part.OutputPart.TheVariants as output
+use Rattle.stage_run.specs.declared.packet_feed.PacketFeed.{PacketFeed}
+use Rattle.stage_run.specs.declared.packet_feed.PacketFeed.TheVariants as feed
 use Rattle.stage_run.specs.declared.stage_part.StagePart.{StagePart}
 use Rattle.stage_run.specs.declared.stage_part.StagePart.TheVariants.{Input, Plugin, Output}
 use Rattle.stage_run.specs.PartLists.{PartLists}
@@ -36,6 +42,27 @@ abbrev pub stuffing_in : {S K P : Type 0} → StagePart S K P → Option model.S
 stuffing_in (Input stage) = Some (stuffing_of stage.stuffing)
 stuffing_in (Plugin stage) = None
 stuffing_in (Output stage) = None
+
+-- whether an input has a source
+abbrev pub has_source : {S : Type 0} → InputPart S → Bool
+has_source (input.Stream source) = true
+has_source (input.Nulls count) = false
+
+-- whether an output has a sink
+abbrev pub has_sink : {K : Type 0} → OutputPart K → Bool
+has_sink (output.Stream sink) = true
+has_sink output.Discard = false
+
+-- whether what feeds an input is a source
+abbrev pub feeds_stream : {S : Type 0} → PacketFeed S → Bool
+feeds_stream (feed.Stream stream) = true
+feeds_stream (feed.Nulls nulls) = false
+
+-- whether a part is an input with a source, or an output with a sink
+abbrev pub has_stream : {S K P : Type 0} → StagePart S K P → Bool
+has_stream (Input stage) = feeds_stream stage.feed
+has_stream (Plugin stage) = false
+has_stream (Output stage) = has_sink stage.part
 
 -- the part met, gave, read and wrote what these lists say, and told this end
 abbrev pub PartStands : {S K P : Type 0} → (S → SourceView) → (K → SinkView) → (P → PluginRule) → (P → List Cell → ℕ → Type 0) → StagePart S K P → PartLists → Option StageEnd → Type 0

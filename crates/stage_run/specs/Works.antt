@@ -26,8 +26,9 @@ use Rattle.stage_run.specs.declared.plugin_stage.PluginStage.{PluginStage}
 use Rattle.stage_run.specs.declared.stage_part.StagePart.{StagePart}
 use Rattle.stage_run.specs.declared.stage_part.StagePart.TheVariants as part
 use Rattle.stage_run.specs.PartLists.{PartLists}
+use Rattle.stage_run.specs.Feeds.{SameFeed}
 use Rattle.stage_run.specs.InputStands.{MayGive}
-use Rattle.stage_run.specs.OutputStands.{IsPartOfFirst}
+use Rattle.stage_run.specs.OutputStands.{IsPartOfFirst, SamePart}
 use Rattle.stage_run.specs.Telling.{may_follow, newly_agreed, told_of, below_limit}
 
 -- the lists behind a visit: more was met and given; what was read and written and the mark are a part's own
@@ -65,6 +66,8 @@ source_faults seen (feed.Nulls nulls) = 0
 pub record InputWorks {S : Type 0} (seen : S → SourceView) (old new : InputStage S) (before : PartLists) (news : News) (cells cells_new : List Cell) (work : Work) (after : PartLists) : Type 0 where
   pub tells : InputTells news (length before.given) (length cells) work.done (after.read ≡ before.read) work.word.ended
   pub agreed : work.word.agreed ≡ None
+  -- the input stays what it is
+  pub same : SameFeed old.feed new.feed
   pub faults : FaultsTold (source_faults seen old.feed) (source_faults seen new.feed) work.word.ended (Input ReadFault)
   -- no more is read than the cells want
   pub reads : length after.read ≤ 188 * read_for (length before.given) (length cells)
@@ -107,6 +110,8 @@ pub record OutputWorks {K : Type 0} (seen : K → SinkView) (old new : OutputSta
   pub unchanged : cells_new ≡ cells
   pub tells : OutputTells news (length before.given) cells work.done after.cut work.word.ended
   pub agreed : work.word.agreed ≡ None
+  -- the output stays what it is
+  pub same : SamePart old.part new.part
   pub faults : FaultsTold (sink_faults seen old.part) (sink_faults seen new.part) work.word.ended WriteFault
   pub below : (limit : ℕ) → news.limit ≡ Some limit → 0 < work.done → length before.given + work.done ≤ limit
   pub keeps : (plugins : ℕ) → KeepsRule passing_rule before cells (take work.done cells_new) work.word plugins plugins

@@ -64,7 +64,7 @@ impl<S: Source> InputStage<S> {
     ghost use Rattle.stage_run.specs.InputStands.{IsOpen, InputHolds, InputStands, MayGive, stuffing_of};
     ghost use Rattle.stage_run.specs.InputSteps.{InputFits, InputGoes, IsOver, cell_put, IsFilled, EndsAtLimit};
     ghost use Rattle.stage_run.specs.Parts.{IsListOf, IsSourceOf, LeavesInput, SomeList};
-    ghost use Rattle.stage_run.specs.PartStands.{MayWork, MayWorkOnSome};
+    ghost use Rattle.stage_run.specs.PartStands.{MayWork, MayWorkOnSome, has_source, feeds_stream};
     ghost use Rattle.stage_run.specs.Telling.{FollowsNews};
     ghost use Rattle.stage_run.specs.Works.{Works, InputWorks};
 
@@ -72,6 +72,7 @@ impl<S: Source> InputStage<S> {
     pub(crate) fn of(part: InputPart<S>, stuffing: Stuffing, room: Room) -> Self
         requires { 1 ≤ stuffing.every }
         ensures stuffing { result.stuffing ≡ stuffing }
+        ensures stream { feeds_stream result.feed ≡ has_source part }
         ensures stands { (source : SourceView) (sink : SinkView) (mark : ℕ) → IsSourceOf S.seen part source
             → InputStands S.seen result (fresh_lists source sink mark) None }
         ensures gives { (source : SourceView) (sink : SinkView) (mark : ℕ) (input : StageList)
@@ -88,6 +89,7 @@ impl<S: Source> InputStage<S> {
 
     /// Gives the input back.
     pub(crate) fn into_part(self) -> InputPart<S>
+        ensures stream { has_source result ≡ feeds_stream self.feed }
         ensures leaves { (lists : PartLists) (told : Option StageEnd) → InputStands S.seen self lists told
             → LeavesInput S.seen result (stuffing_of self.stuffing) lists told }
         ensures some_list { (lists : PartLists) (told : Option StageEnd) → InputStands S.seen self lists told

@@ -20,13 +20,14 @@ impl<K: Sink> OutputStage<K> {
     ghost use Rattle.stage_run.specs.OutputStands.{OutputStands};
     ghost use Rattle.stage_run.specs.Writing.{WritesCells, PartWrites};
     ghost use Rattle.stage_run.specs.Parts.{IsSinkOf, LeavesOutput};
-    ghost use Rattle.stage_run.specs.PartStands.{MayWork, MayWorkOnSome};
+    ghost use Rattle.stage_run.specs.PartStands.{MayWork, MayWorkOnSome, has_sink};
     ghost use Rattle.stage_run.specs.Telling.{FollowsNews};
     ghost use Rattle.stage_run.specs.Works.{Works, OutputWorks};
 
     /// An output that has written nothing.
     pub(crate) fn of(part: OutputPart<K>, room: Room) -> Self
-        ensures { (source : SourceView) (sink : SinkView) (mark : ℕ) → IsSinkOf K.seen part sink
+        ensures stream { has_sink result.part ≡ has_sink part }
+        ensures stands { (source : SourceView) (sink : SinkView) (mark : ℕ) → IsSinkOf K.seen part sink
             → OutputStands K.seen result (fresh_lists source sink mark) None }
     {
         OutputStage { part, room }
@@ -34,7 +35,8 @@ impl<K: Sink> OutputStage<K> {
 
     /// Gives the output back.
     pub(crate) fn into_part(self) -> OutputPart<K>
-        ensures { (lists : PartLists) (told : Option StageEnd) → OutputStands K.seen self lists told
+        ensures stream { has_sink result ≡ has_sink self.part }
+        ensures leaves { (lists : PartLists) (told : Option StageEnd) → OutputStands K.seen self lists told
             → LeavesOutput K.seen result lists told }
     {
         let OutputStage { part, room: _ } = self;

@@ -25,7 +25,7 @@ impl<S: Source, K: Sink, P: Plugin> StagePart<S, K, P> {
     ghost use Rattle.stage_run.specs.PartLists.{PartLists, fresh_lists};
     ghost use Rattle.stage_run.specs.InputStands.{stuffing_of};
     ghost use Rattle.stage_run.specs.Parts.{IsListOf, IsSourceOf, IsSinkOf, LeavesInput, LeavesOutput, SomeList};
-    ghost use Rattle.stage_run.specs.PartStands.{PartStands, PartGives, MayWork, MayWorkOnSome, rule_of, kind_of, stuffing_in, an_input, a_plugin, an_output};
+    ghost use Rattle.stage_run.specs.PartStands.{PartStands, PartGives, MayWork, MayWorkOnSome, rule_of, kind_of, stuffing_in, has_source, has_sink, has_stream, an_input, a_plugin, an_output};
     ghost use Rattle.stage_run.specs.Telling.{FollowsNews};
     ghost use Rattle.stage_run.specs.Works.{Works, WorksByKind};
 
@@ -33,6 +33,7 @@ impl<S: Source, K: Sink, P: Plugin> StagePart<S, K, P> {
     pub fn of_input(part: InputPart<S>, stuffing: Stuffing, room: Room) -> Self
         requires { 1 ≤ stuffing.every }
         ensures kind { kind_of result ≡ an_input }
+        ensures stream { has_stream result ≡ has_source part }
         ensures stuffing { stuffing_in result ≡ Some (stuffing_of stuffing) }
         ensures stands { (source : SourceView) (sink : SinkView) (mark : ℕ) → IsSourceOf S.seen part source
             → PartStands S.seen K.seen P.rule P.stands_for result (fresh_lists source sink mark) None }
@@ -56,6 +57,7 @@ impl<S: Source, K: Sink, P: Plugin> StagePart<S, K, P> {
     /// The output's stage. It gathers in the room what it writes. Nothing was written yet.
     pub fn of_output(part: OutputPart<K>, room: Room) -> Self
         ensures kind { kind_of result ≡ an_output }
+        ensures stream { has_stream result ≡ has_sink part }
         ensures stands { (source : SourceView) (sink : SinkView) (mark : ℕ) → IsSinkOf K.seen part sink
             → PartStands S.seen K.seen P.rule P.stands_for result (fresh_lists source sink mark) None }
     {
@@ -65,6 +67,7 @@ impl<S: Source, K: Sink, P: Plugin> StagePart<S, K, P> {
     /// Gives the input back. Whatever it stands for, some list may be the input's, and each such list ends as inputs do.
     pub fn into_input(self) -> InputPart<S>
         requires { kind_of self ≡ an_input }
+        ensures stream { has_source result ≡ has_stream self }
         ensures leaves { (lists : PartLists) (told : Option StageEnd) (stuffing : model.Stuffing) → PartStands S.seen K.seen P.rule P.stands_for self lists told
             → stuffing_in self ≡ Some stuffing → LeavesInput S.seen result stuffing lists told }
         ensures some_list { (lists : PartLists) (told : Option StageEnd) → PartStands S.seen K.seen P.rule P.stands_for self lists told
@@ -92,7 +95,8 @@ impl<S: Source, K: Sink, P: Plugin> StagePart<S, K, P> {
     /// Gives the output back.
     pub fn into_output(self) -> OutputPart<K>
         requires { kind_of self ≡ an_output }
-        ensures { (lists : PartLists) (told : Option StageEnd) → PartStands S.seen K.seen P.rule P.stands_for self lists told
+        ensures stream { has_sink result ≡ has_stream self }
+        ensures leaves { (lists : PartLists) (told : Option StageEnd) → PartStands S.seen K.seen P.rule P.stands_for self lists told
             → LeavesOutput K.seen result lists told }
     {
         match self {
@@ -125,6 +129,7 @@ impl<S: Source, K: Sink, P: Plugin> StagePart<S, K, P> {
         ensures follows { FollowsNews news.now (at + result.done) result.word.ended }
         ensures agreed { (agreed : ℕ) → result.word.agreed ≡ Some agreed → (at < agreed) × (agreed ≤ at + result.done) }
         ensures same_kind { kind_of self.new ≡ kind_of self.old }
+        ensures same_stream { has_stream self.new ≡ has_stream self.old }
         ensures same_rule { rule_of P.rule self.new ≡ rule_of P.rule self.old }
         ensures same_stuffing { stuffing_in self.new ≡ stuffing_in self.old }
         ensures works { (lists : PartLists) → MayWork (PartStands S.seen K.seen P.rule P.stands_for self.old) at news.now.written lists
