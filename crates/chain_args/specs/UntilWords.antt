@@ -19,6 +19,7 @@ until_rows = record { name = codes "packets"; kind = value until_form }
     ∷ record { name = codes "bytes"; kind = value until_form }
     ∷ record { name = codes "unit-start-count"; kind = value until_form }
     ∷ record { name = codes "exclude-last"; kind = flag }
+    ∷ record { name = codes "joint-termination"; kind = flag }
     ∷ []
 
 abbrev pub until_number : List ℕ → List Row → Option ℕ
@@ -35,6 +36,7 @@ until = record {
     bytes = until_number (codes "bytes") found;
     unit_start_count = until_number (codes "unit-start-count") found;
     exclude_last = has_flag (codes "exclude-last") found;
+    joint_termination = has_flag (codes "joint-termination") found;
   });
   go_together = go_together;
 }

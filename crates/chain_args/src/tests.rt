@@ -159,8 +159,13 @@ fn words_of_plugins(rt: HostRuntime) -> Result<(), Fail> {
         ("-P until", Some(WordsRule::Missing)),
         ("-P until --packets 0", Some(WordsRule::Value)),
         ("-P until --packets 1 --bytes 1", Some(WordsRule::Conflict)),
+        ("-P until --packets 1 --joint-termination", None),
         (
-            "-P until --packets 1 --joint-termination",
+            "-P until --packets 1 --joint-termination --exclude-last",
+            Some(WordsRule::Conflict),
+        ),
+        (
+            "-P until --packets 1 --joint-termination=1",
             Some(WordsRule::Shape),
         ),
         ("-P until --unit-start-count 2 --exclude-last", None),

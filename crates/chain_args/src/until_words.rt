@@ -23,7 +23,8 @@ fn until_command<'a>(alloc: Global) -> Result<Command<'a>, AllocError>
     let command = with_value(alloc, new_command(alloc), "packets")?;
     let command = with_value(alloc, command, "bytes")?;
     let command = with_value(alloc, command, "unit-start-count")?;
-    with_flag(alloc, command, "exclude-last")
+    let command = with_flag(alloc, command, "exclude-last")?;
+    with_flag(alloc, command, "joint-termination")
 }
 
 fn until_settings(found: &Findings) -> Result<PluginConf, Refusal>
@@ -41,8 +42,9 @@ fn until_settings(found: &Findings) -> Result<PluginConf, Refusal>
         bytes: found.number("bytes", 1, MOST_COUNT)?,
         unit_start_count: found.number("unit-start-count", 1, MOST_COUNT)?,
         exclude_last: found.has_flag("exclude-last"),
+        joint_termination: found.has_flag("joint-termination"),
     };
-    if !conf.has_one_count() {
+    if !conf.goes_together() {
         return Err(Refusal::Broken(WordsRule::Conflict));
     }
     Ok(PluginConf::Until(conf))

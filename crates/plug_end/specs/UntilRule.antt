@@ -1,5 +1,5 @@
 -- The rule of `until`. This project's own rule, over the header of ISO/IEC 13818-1, 2.4.3.2.
-use Rattle.std.specs.Prelude.{ℕ, ◌*◌, List, [], ◌∷◌, ◌++◌, Bool, false, Option, None, Some, ◌||◌, nat_le, count_by, if◌then◌else◌}
+use Rattle.std.specs.Prelude.{ℕ, ◌*◌, List, [], ◌∷◌, ◌++◌, Bool, false, Option, None, Some, ◌&&◌, ◌||◌, nat_le, count_by, if◌then◌else◌}
 use Rattle.ts_packet.specs.declared.cell.Cell.{Cell}
 use Rattle.ts_packet.specs.declared.cell.Cell.TheVariants.{Live}
 use Rattle.ts_packet.specs.Cells.{live_packets}
@@ -22,15 +22,18 @@ abbrev pub is_reached : UntilConf → List Cell → Bool
 is_reached conf cells = reaches (live_count cells) conf.packets
     || (reaches (188 * live_count cells) conf.bytes || reaches (unit_starts cells) conf.unit_start_count)
 
--- what becomes of the packet with which the number is reached: it is the last, or is left out
+-- what becomes of a packet with which the number is reached: it passes like any other where the end is
+-- a joint one, and else it is the last, or is left out
 abbrev pub fate_at_end : UntilConf → List ℕ → Fate
-fate_at_end conf packet = if conf.exclude_last then stops else lasts packet
+fate_at_end conf packet =
+    if conf.joint_termination then passes packet else if conf.exclude_last then stops else lasts packet
 
--- packets pass until the number is reached with one
+-- packets pass until the number is reached with one; where the end is a joint one, every packet passes,
+-- and the plugin agrees to end wherever the number is reached
 abbrev pub until_rule : UntilConf → PluginRule
 until_rule conf = record {
   outcome_of = λ history packet. if is_reached conf (history ++ Live packet ∷ []) then fate_at_end conf packet else passes packet;
   lines_of = λ _ _. [];
   summary_of = λ _. [];
-  agrees = λ _. false;
+  agrees = λ history. conf.joint_termination && is_reached conf history;
 }

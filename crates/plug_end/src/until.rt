@@ -10,13 +10,15 @@ use ts_packet::Cell;
 const PACKET_SIZE: u128 = 188;
 
 /// Passes packets until a number of packets, of their bytes or of unit starts is reached. The packet
-/// with which it is reached is the last one, or is left out.
+/// with which it is reached is the last one, or is left out. With joint termination every packet
+/// passes, and the plugin agrees to end from that packet on.
 #[derive(Drop, Debug)]
 pub struct Until {
     packets: Option<u64>,
     bytes: Option<u64>,
     unit_start_count: Option<u64>,
     exclude_last: bool,
+    joint_termination: bool,
     /// How many packets were met.
     met: u64,
     /// How many unit starts were met.
@@ -42,6 +44,7 @@ impl Until {
             bytes: conf.bytes,
             unit_start_count: conf.unit_start_count,
             exclude_last: conf.exclude_last,
+            joint_termination: conf.joint_termination,
             met: 0,
             starts: 0,
             buffer,
@@ -71,13 +74,13 @@ fn reaches(count: u128, least: Option<u64>) -> bool
 }
 
 impl Plugin for Until {
-    ghost use Rattle.std.specs.Prelude.{Some, refl};
+    ghost use Rattle.std.specs.Prelude.{Some};
     ghost use Rattle.plug_end.specs.UntilRule.{until_rule};
     ghost use Rattle.plug_end.specs.UntilState.{conf_of, Counts};
 
     ghost rule = { λ s. until_rule (conf_of s) };
 
-    ghost stands_for = { λ s history mark. Counts s.met s.starts history mark };
+    ghost stands_for = { λ s history mark. Counts (conf_of s) s.met s.starts history mark };
 
     ghost steady = { λ s. Some s.buffer };
 
@@ -87,13 +90,13 @@ impl Plugin for Until {
         };
         let met = self.met + 1;
         let starts = self.starts + u64::from(packet.unit_start());
-        let is_reached = self.is_reached(met, starts);
-        if is_reached && self.exclude_last {
+        let ends = !self.joint_termination && self.is_reached(met, starts);
+        if ends && self.exclude_last {
             return Outcome::Stop;
         }
         self.met = met;
         self.starts = starts;
-        if is_reached {
+        if ends {
             return Outcome::Last;
         }
         Outcome::Pass
@@ -104,12 +107,12 @@ impl Plugin for Until {
     }
 
     fn agreed(&self) -> bool {
-        false
+        self.joint_termination && self.is_reached(self.met, self.starts)
     }
 
     fn finish(&mut self, _cut: u64) -> Result<Vec<Line>, AllocError> {
         Ok(silent_report(self.alloc))
     }
 
-    ghost starts_open = { λ plugin history mark stands. refl };
+    ghost starts_open = { λ plugin history mark stands. stands.open_at_first };
 }

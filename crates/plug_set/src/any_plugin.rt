@@ -143,7 +143,7 @@ impl Plugin for AnyPlugin {
       | MadeSkip p ↦ λ history mark stands. refl
       | MadeSlice p ↦ λ history mark stands. refl
       | MadePattern p ↦ λ history mark stands. refl
-      | MadeUntil p ↦ λ history mark stands. refl
+      | MadeUntil p ↦ λ history mark stands. stands.open_at_first
       | MadeCount p ↦ λ history mark stands. refl
       | MadeContinuity p ↦ λ history mark stands. refl
       | MadeRemap p ↦ λ history mark stands. refl

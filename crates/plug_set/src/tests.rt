@@ -45,6 +45,7 @@ fn plugins_one_behind_another(rt: HostRuntime) -> Result<(), Fail> {
         bytes: None,
         unit_start_count: None,
         exclude_last: false,
+        joint_termination: false,
     });
     let (end, lines) = through(rt.alloc(), &until, &mut cells)?;
     assert_eq!(rt; end, ListEnd::Last);
