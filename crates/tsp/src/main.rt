@@ -6,7 +6,7 @@ use std::io::ErrorKind;
 use std::process::ExitCode;
 use std::{env, io};
 use ts_os::OsDesk;
-use ts_outside::report_whole;
+use ts_outside::{OpenGate, report_whole};
 use tsp_top::tsp_call;
 
 /// The exit numbers of a start that never came to the call.
@@ -31,6 +31,6 @@ fn main(rt: HostRuntime) -> ExitCode {
         }
         Err(_) => return ExitCode::from(NO_MEMORY),
     };
-    let status = tsp_call(rt.alloc(), words.as_slice(), &mut desk);
+    let status = tsp_call(&rt, rt.alloc(), words.as_slice(), &mut desk, &OpenGate);
     ExitCode::from(status.exit_code())
 }

@@ -1,7 +1,5 @@
 -- The stream theorem of calls that ended before the chain ran.
-use Rattle.std.proofs.Common.{◌≡◌, ℕ, ◌≤◌, List, [], ◌∷◌, ◌++◌, Bool, true, false, Option, Err, refl, ap, sym, ◌∙◌, subst, take, length, codes, arith}
-use Rattle.std.specs.List.{All}
-use Rattle.std.proofs.lemmas.List.Elements.{All-tail}
+use Rattle.std.proofs.Common.{◌≡◌, ℕ, ◌≤◌, List, [], ◌∷◌, ◌++◌, Bool, true, false, Option, Err, refl, ap, sym, ◌∙◌, subst, take, length, codes, inl, arith}
 use Rattle.std.proofs.lemmas.List.{take_all, take-append-le}
 use Rattle.ts_packet.specs.declared.cell.Cell.{Cell}
 use Rattle.chain_args.specs.declared.plan_type.Plan.{Plan}
@@ -20,14 +18,15 @@ use Rattle.ts_outside.specs.Source.{SourceView}
 use Rattle.ts_outside.specs.Told.{grown}
 use Rattle.ts_outside.specs.Desk.{DeskView}
 use Rattle.ts_outside.proofs.Views.{HasCause-raised, grown-grown}
-use Rattle.chain_run.specs.PlainChain.{AreFresh}
+use Rattle.chain_run.specs.Fresh.{AreFresh}
 use Rattle.tsp_top.specs.Saying.{Says}
 use Rattle.tsp_top.specs.PlannedChain.{chain_of, input_name, output_name}
-use Rattle.tsp_top.specs.Openings.{asked_input, asked_input_in_vain, asked_output_in_vain, NamesInput, NamesOutput, input_closed_as}
+use Rattle.tsp_top.specs.Openings.{asked_input, asked_input_in_vain, asked_output_in_vain, NamesInput, NamesOutput, OpensInput, input_closed_as}
 use Rattle.tsp_top.specs.CallEnd.{no_input, no_output, out_of_memory}
-use Rattle.tsp_top.specs.StreamTheorem.{StreamTheorem, EndsRight, Writes, Reports, asked_for}
+use Rattle.tsp_top.specs.StreamTheorem.{StreamTheorem, EndsRight, Reads, Writes, Reports, asked_for}
 use Rattle.tsp_top.specs.declared.status.Status.TheVariants.{NoMemory, ReadFault, WriteFault}
 use Rattle.tsp_top.proofs.DeskLemmas.{SameOutside, same-asked_input, asked-asked_input, leaves-input_closed, outputs-input_closed, write_faults-input_closed, leaves-says}
+use Rattle.tsp_top.proofs.SourceLemmas.{reads-nothing}
 use Rattle.tsp_top.proofs.StreamLemmas.{if-some, reports-text}
 
 -- an opening in vain changes what was asked and one count of faults
@@ -57,7 +56,8 @@ no-input-theorem plan old made new failed named asked says =
     record {
       end = no_input;
       status_tells_cause = (refl, subst (λ (n : ℕ). HasCause old.read_faults n) (sym l.read_faults) v.1);
-      pure_or_fault = λ quiet. if-some old.files (λ files. EndsRight (chain_of plan files) no_input) (λ files is. tt);
+      pure_or_fault = if-some old.files (λ files. EndsRight (chain_of plan files) no_input) (λ files is. tt);
+      reads = if-some old.files (λ files. Reads plan files old new no_input) (λ files is. l.closed_in ∙ v.0.closed_in);
       written = if-some old.files (λ files. Writes plan (chain_of plan files) old new no_input) (λ files is. l.outputs ∙ v.0.outputs);
       reported = if-some old.files (λ files. Reports (chain_of plan files) old new no_input)
           (λ files is. reports-text old vain new text failed v.0.reported v.0.report_faults said);
@@ -66,10 +66,10 @@ no-input-theorem plan old made new failed named asked says =
     }
 
 -- the output was not opened, and the input was closed
-pub no-output-theorem : {S : Type 0} (seen : S → SourceView) (plan : Plan) (old made new : DeskView) (part : InputPart S) (failed : Bool) → NamesOutput plan.output
+pub no-output-theorem : {S : Type 0} (seen : S → SourceView) (plan : Plan) (old made new : DeskView) (part : InputPart S) (failed : Bool) → OpensInput seen old plan.input part → NamesOutput plan.output
     → made ≡ input_closed_as seen (asked_output_in_vain (asked_input old plan.input) plan.output) part
     → Says made new (codes "tsp: cannot open output" ++ 10 ∷ []) failed → StreamTheorem plan old new WriteFault
-no-output-theorem seen plan old made new part failed named asked says =
+no-output-theorem seen plan old made new part failed opens named asked says =
     let text : List ℕ = codes "tsp: cannot open output" ++ 10 ∷ [] in
     let first : DeskView = asked_input old plan.input in
     let vain : DeskView = asked_output_in_vain first plan.output in
@@ -86,7 +86,9 @@ no-output-theorem seen plan old made new part failed named asked says =
         subst (λ (n : ℕ). HasCause n new.write_faults) a.1.write_faults
             (subst (λ (n : ℕ). HasCause first.write_faults n) (sym (l.write_faults ∙ write_faults-input_closed seen vain part)) v.1),
       );
-      pure_or_fault = λ quiet. if-some old.files (λ files. EndsRight (chain_of plan files) no_output) (λ files is. tt);
+      pure_or_fault = if-some old.files (λ files. EndsRight (chain_of plan files) no_output) (λ files is. tt);
+      reads = if-some old.files (λ files. Reads plan files old new no_output)
+          (λ files told. reads-nothing seen old vain new files plan.input part told opens (v.0.closed_in ∙ a.0.closed_in) l.closed_in);
       written = if-some old.files (λ files. Writes plan (chain_of plan files) old new no_output)
           (λ files is. l.outputs ∙ outputs-input_closed seen vain part ∙ v.0.outputs ∙ a.0.outputs);
       reported = if-some old.files (λ files. Reports (chain_of plan files) old new no_output)
@@ -104,20 +106,24 @@ take-first xs ys =
 
 -- there was no memory for the output, and the input was closed
 pub no-memory-theorem : {S : Type 0} (seen : S → SourceView) (plan : Plan) (old new : DeskView) (part : InputPart S)
-    → new ≡ input_closed_as seen (asked_input old plan.input) part → StreamTheorem plan old new NoMemory
-no-memory-theorem seen plan old new part is =
+    → OpensInput seen old plan.input part → new ≡ input_closed_as seen (asked_input old plan.input) part → StreamTheorem plan old new NoMemory
+no-memory-theorem seen plan old new part opens is =
     let first : DeskView = asked_input old plan.input in
     let one : List Asked = asked_for Input (input_name plan.input) true in
     let two : List Asked = asked_for Output (output_name plan.output) true in
     let a = same-asked_input old plan.input in
     let c = leaves-input_closed seen first part in
     let reported : new.reported ≡ old.reported = ap (λ (d : DeskView). d.reported) is ∙ c.reported ∙ a.0.reported in
+    let report_faults : new.report_faults ≡ old.report_faults = ap (λ (d : DeskView). d.report_faults) is ∙ c.report_faults ∙ a.0.report_faults in
     record {
       end = out_of_memory;
       status_tells_cause = refl;
-      pure_or_fault = λ quiet. if-some old.files (λ files. EndsRight (chain_of plan files) out_of_memory) (λ files is. tt);
-      written = if-some old.files (λ files. Writes plan (chain_of plan files) old new out_of_memory) (λ files is. tt);
-      reported = if-some old.files (λ files. Reports (chain_of plan files) old new out_of_memory) (λ files is. reported);
+      pure_or_fault = if-some old.files (λ files. EndsRight (chain_of plan files) out_of_memory) (λ files is. tt);
+      reads = if-some old.files (λ files. Reads plan files old new out_of_memory)
+          (λ files told. reads-nothing seen old first new files plan.input part told opens a.0.closed_in (ap (λ (d : DeskView). d.closed_in) is));
+      written = if-some old.files (λ files. Writes plan (chain_of plan files) old new out_of_memory)
+          (λ files told. inl (ap (λ (d : DeskView). d.outputs) is ∙ outputs-input_closed seen first part ∙ a.0.outputs));
+      reported = if-some old.files (λ files. Reports (chain_of plan files) old new out_of_memory) (λ files told. (reported, report_faults));
       opened = (
         length one,
         ap (λ (d : DeskView). d.asked) is ∙ c.asked ∙ asked-asked_input old plan.input
@@ -138,7 +144,3 @@ open-failed P Q R e is h = subst (λ (f : OpenFault). MatchOpen (Err f) P Q R) i
 
 pub open-no-memory : {T : Type 0} (P : T → Type 0) (Q R : Type 0) (e : OpenFault) → e ≡ fault.NoMemory → MatchOpen (Err e) P Q R → R
 open-no-memory P Q R e is h = subst (λ (f : OpenFault). MatchOpen (Err f) P Q R) is h
-
--- a fact of all is one of those behind the first
-pub all-rest : {X : Type 0} (P : X → Type 0) (xs rest : List X) (x : X) → xs ≡ x ∷ rest → All P xs → All P rest
-all-rest {X} P xs rest x e h = All-tail P x rest (subst (λ (l : List X). All P l) e h)

@@ -1,6 +1,5 @@
 -- What opening, closing and reporting leave of a desk as it was.
-use Rattle.std.proofs.Common.{◌≡◌, ℕ, List, [], ◌∷◌, ◌++◌, Bool, true, false, ◌||◌, Option, None, Some, refl, ap, sym, ◌∙◌, take, append-nil}
-use Rattle.std.specs.Option.{option_map}
+use Rattle.std.proofs.Common.{◌≡◌, ℕ, List, ◌++◌, Bool, true, false, Option, refl, ap, sym, ◌∙◌, take}
 use Rattle.chain_args.specs.declared.input_conf.InputConf.{InputConf}
 use Rattle.chain_args.specs.declared.input_conf.InputConf.TheVariants as input
 use Rattle.chain_args.specs.declared.output_conf.OutputConf.{OutputConf}
@@ -18,7 +17,7 @@ use Rattle.ts_outside.specs.Desk.{DeskView, reports, report_failed}
 use Rattle.ts_outside.proofs.Views.{grown-nil, grown-grown}
 use Rattle.tsp_top.specs.Saying.{Says}
 use Rattle.tsp_top.specs.PlannedChain.{input_name, output_name}
-use Rattle.tsp_top.specs.Openings.{asked_input, asked_input_in_vain, asked_output, asked_output_in_vain, input_closed_as, output_closed_as}
+use Rattle.tsp_top.specs.Openings.{asked_input, asked_output, input_closed_as, output_closed_as}
 use Rattle.tsp_top.specs.StreamTheorem.{asked_for}
 
 -- two desks that differ at most in what was asked, and in counts of faults
@@ -131,6 +130,10 @@ leaves-same old new made e leaves = record {
   read_faults = ap (λ (d : DeskView). d.read_faults) e ∙ leaves.read_faults;
   write_faults = ap (λ (d : DeskView). d.write_faults) e ∙ leaves.write_faults;
 }
+
+pub leaves-all : (old new : DeskView) → new ≡ old → LeavesAll old new
+leaves-all old new e =
+    leaves-same old new old e (record { files = refl; outputs = refl; asked = refl; closed_in = refl; read_faults = refl; write_faults = refl })
 
 pub leaves-says : (old new : DeskView) (text : List ℕ) (failed : Bool) → Says old new text failed → LeavesAll old new
 leaves-says old new text false says = leaves-same old new (reports old text) says (leaves-reports old text)

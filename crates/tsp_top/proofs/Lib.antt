@@ -1,10 +1,10 @@
 pub mod ReportLemmas
 pub mod DeskLemmas
+pub mod PlanningLemmas
 pub mod RunLemmas
 pub mod SinkLemmas
-pub mod CauseLemmas
 pub mod SourceLemmas
+pub mod CutLemmas
 pub mod StreamLemmas
-pub mod DeskSame
 pub mod RanTheorem
 pub mod CallLemmas

@@ -1,5 +1,5 @@
 -- What plugins report, one after another.
-use Rattle.std.proofs.Common.{◌≡◌, ℕ, suc, ◌+◌, ◌≤◌, List, [], ◌∷◌, ◌++◌, length, take, map, refl, ap, sym, ◌∙◌, subst, arith, add-one}
+use Rattle.std.proofs.Common.{◌≡◌, ℕ, suc, ◌+◌, ◌≤◌, List, ◌∷◌, ◌++◌, length, take, map, ap, sym, ◌∙◌, subst, add-one}
 use Rattle.std.specs.List.{flat_map}
 use Rattle.ts_packet.specs.declared.cell.Cell.{Cell}
 use Rattle.chain_model.specs.PluginRule.{PluginRule}
@@ -7,7 +7,7 @@ use Rattle.chain_model.specs.Apply.{StageList}
 use Rattle.chain_model.specs.StageLists.{stage_list}
 use Rattle.chain_model.specs.Reports.{plugin_line, said_of, reports_from}
 use Rattle.plugin_trait.specs.Marks.{AllowsMark}
-use Rattle.chain_run.specs.Met.{MetTo, AllMetTo}
+use Rattle.chain_run.specs.Met.{AllMetTo}
 use Rattle.tsp_top.specs.Reported.{ReachesCut}
 
 -- the first of plugins that reach the cut may be told it, and those behind it reach it

@@ -1,5 +1,5 @@
 -- What the closed outputs are, and what their count is, after an output was written and closed.
-use Rattle.std.proofs.Common.{◌≡◌, ℕ, ◌<◌, List, [], ◌∷◌, ◌++◌, Bool, true, false, ◌||◌, Option, None, Some, refl, ap, sym, ◌∙◌, subst, append-nil, take, drop, nat_lt}
+use Rattle.std.proofs.Common.{◌≡◌, ◌≢◌, ℕ, List, [], ◌∷◌, ◌++◌, Bool, true, false, ◌||◌, Option, None, Some, refl, ap, sym, ◌∙◌, append-nil, take, nat_lt}
 use Rattle.std.specs.Option.{option_map}
 use Rattle.ts_packet.specs.declared.cell.Cell.{Cell}
 use Rattle.chain_args.specs.declared.output_conf.OutputConf.{OutputConf}
@@ -7,21 +7,17 @@ use Rattle.chain_args.specs.declared.output_conf.OutputConf.TheVariants as outpu
 use Rattle.chain_model.specs.Written.{written}
 use Rattle.stage_run.specs.declared.output_part.OutputPart.{OutputPart}
 use Rattle.stage_run.specs.declared.output_part.OutputPart.TheVariants as out
-use Rattle.stage_run.specs.OutputStands.{IsPartOfFirst}
-use Rattle.chain_run.specs.RunLists.{WritesOutput}
+use Rattle.chain_run.specs.RunOf.{TakesTo, LeftOutput}
+use Rattle.chain_model.specs.declared.cause.Cause.{Cause}
+use Rattle.chain_model.specs.declared.cause.Cause.TheVariants.{Input, Joint, Until, Stop, Refuse, WriteFault, NoMemory}
 use Rattle.ts_outside.specs.Count.{raised, HasCause}
 use Rattle.ts_outside.specs.Told.{grown}
 use Rattle.ts_outside.specs.Sink.{SinkView, took, write_failed}
 use Rattle.ts_outside.specs.Desk.{DeskView, with_output}
-use Rattle.ts_outside.proofs.Views.{HasCause-raised}
+use Rattle.ts_outside.proofs.Views.{HasCause-raised, grown-nil}
 use Rattle.tsp_top.specs.PlannedChain.{output_name}
 use Rattle.tsp_top.specs.Openings.{OpensOutput, output_closed_as, WasOpened}
-use Rattle.tsp_top.specs.StreamTheorem.{outputs_with}
-
--- the bytes that were written of these cells: all of them, or those before a place and a part of the packet there
-abbrev pub WroteBytes : List Cell → Option ℕ → List ℕ → Type 0
-WroteBytes cells None bytes = bytes ≡ written cells
-WroteBytes cells (Some place) bytes = (part : List ℕ) × (bytes ≡ written (take place cells) ++ part) × IsPartOfFirst (drop place cells) part
+use Rattle.tsp_top.specs.StreamTheorem.{outputs_with, IsCutPart}
 
 -- the closed outputs with one more
 with_output-is : (o : Option (List (List ℕ × List ℕ))) (s : SinkView) (name bytes : List ℕ)
@@ -39,66 +35,110 @@ closed-took d before name bytes first now started taken named same =
     (taken ∙ ap (λ (s : SinkView). grown s.taken bytes) started)
     (named ∙ ap (λ (s : SinkView). s.name) started)
 
--- the outputs after an output took cells and was closed
-pub outputs-wrote : {K : Type 0} (seen : K → SinkView) (d before : DeskView) (conf : OutputConf) (old new : OutputPart K) (cells : List Cell) (cut : Option ℕ) (failed : Bool)
-    → OpensOutput seen d conf old → WritesOutput seen old new cells cut → before.outputs ≡ d.outputs
-    → (bytes : List ℕ) × ((output_closed_as seen before new failed).outputs ≡ outputs_with (output_name conf) d.outputs bytes) × WroteBytes cells cut bytes
-outputs-wrote seen d before (output.File name) (out.Stream first) (out.Stream now) cells None failed opens wrote same = (
-  written cells,
-  closed-took d before name (written cells) (seen first) (seen now) opens
-      (ap (λ (s : SinkView). s.taken) wrote) (ap (λ (s : SinkView). s.name) wrote) same,
-  refl,
-)
-outputs-wrote seen d before (output.File name) (out.Stream first) (out.Stream now) cells (Some place) failed opens wrote same = (
-  written (take place cells) ++ wrote.0,
-  closed-took d before name (written (take place cells) ++ wrote.0) (seen first) (seen now) opens
-      (ap (λ (s : SinkView). s.taken) wrote.1) (ap (λ (s : SinkView). s.name) wrote.1) same,
-  (wrote.0, refl, wrote.2),
-)
-outputs-wrote seen d before output.Drop out.Discard out.Discard cells None failed opens wrote same = (written cells, same, refl)
-outputs-wrote seen d before output.Drop out.Discard out.Discard cells (Some place) failed opens wrote same = absurd (some-none wrote)
-  where
-    some-none : {X : Type 0} {x : X} → Some x ≡ None → ⊥
-    some-none e = cc
-outputs-wrote seen d before (output.File name) out.Discard new cells cut failed opens wrote same = absurd opens
-outputs-wrote seen d before (output.File name) (out.Stream first) out.Discard cells cut failed opens wrote same = absurd wrote
-outputs-wrote seen d before output.Drop (out.Stream first) new cells cut failed opens wrote same = absurd opens
-outputs-wrote seen d before output.Drop out.Discard (out.Stream now) cells cut failed opens wrote same = absurd wrote
+-- the bytes that an output took up to a cut, with the part behind it
+pub record TookBytes (cells : List Cell) (cut : ℕ) (why : Cause) (old new : Option (List (List ℕ × List ℕ))) (name : Option (List ℕ)) : Type 0 where
+  pub part : List ℕ
+  pub outputs : new ≡ outputs_with name old (written (take cut cells) ++ part)
+  pub cut_part : IsCutPart cells cut why part
+
+-- without a failed write there is no part
+no-part : (cells : List Cell) (cut : ℕ) (why : Cause) → why ≢ WriteFault → IsCutPart cells cut why []
+no-part cells cut WriteFault other = absurd (other refl)
+no-part cells cut (Input how) other = refl
+no-part cells cut Joint other = refl
+no-part cells cut (Until j) other = refl
+no-part cells cut (Stop j) other = refl
+no-part cells cut (Refuse j reason) other = refl
+no-part cells cut (NoMemory k) other = refl
+
+-- a sink that took the cells up to a cut, by whether a write failed
+by-took : (old new : SinkView) (cells : List Cell) (cut : ℕ) (why : Cause) (G : Type 0) → TakesTo old new cells cut why
+    → (why ≢ WriteFault → new ≡ took old (written (take cut cells)) → G)
+    → (why ≡ WriteFault → (part : List ℕ) → new ≡ write_failed (took old (written (take cut cells) ++ part)) → IsCutPart cells cut why part → G) → G
+by-took old new cells cut WriteFault G takes plain failed = failed refl takes.0 takes.1 takes.2
+by-took old new cells cut (Input how) G takes plain failed = plain (λ e. cc) takes
+by-took old new cells cut Joint G takes plain failed = plain (λ e. cc) takes
+by-took old new cells cut (Until j) G takes plain failed = plain (λ e. cc) takes
+by-took old new cells cut (Stop j) G takes plain failed = plain (λ e. cc) takes
+by-took old new cells cut (Refuse j reason) G takes plain failed = plain (λ e. cc) takes
+by-took old new cells cut (NoMemory k) G takes plain failed = plain (λ e. cc) takes
+
+-- the outputs after an output took the cells up to a cut and was closed
+pub outputs-took : {K : Type 0} (seen : K → SinkView) (d before : DeskView) (conf : OutputConf) (old new : OutputPart K) (cells : List Cell) (cut : ℕ) (why : Cause) (failed : Bool)
+    → OpensOutput seen d conf old → LeftOutput seen old new cells cut why → before.outputs ≡ d.outputs
+    → TookBytes cells cut why d.outputs (output_closed_as seen before new failed).outputs (output_name conf)
+outputs-took seen d before (output.File name) (out.Stream first) (out.Stream now) cells cut why failed opens left same =
+    let bytes : List ℕ = written (take cut cells) in
+    let G : Type 0 = TookBytes cells cut why d.outputs (with_output before.outputs (seen now)) (Some name) in
+    by-took (seen first) (seen now) cells cut why G left
+    (λ other took. record {
+      part = [];
+      outputs = closed-took d before name (bytes ++ []) (seen first) (seen now) opens
+          (ap (λ (s : SinkView). s.taken) took ∙ ap (λ (b : List ℕ). grown (seen first).taken b) (sym (append-nil bytes)))
+          (ap (λ (s : SinkView). s.name) took) same;
+      cut_part = no-part cells cut why other;
+    })
+    (λ is part took cut_part. record {
+      part = part;
+      outputs = closed-took d before name (bytes ++ part) (seen first) (seen now) opens
+          (ap (λ (s : SinkView). s.taken) took) (ap (λ (s : SinkView). s.name) took) same;
+      cut_part = cut_part;
+    })
+outputs-took seen d before output.Drop out.Discard out.Discard cells cut why failed opens left same =
+    record { part = []; outputs = same; cut_part = no-part cells cut why left }
+outputs-took seen d before (output.File name) out.Discard new cells cut why failed opens left same = absurd opens
+outputs-took seen d before (output.File name) (out.Stream first) out.Discard cells cut why failed opens left same = absurd left
+outputs-took seen d before output.Drop (out.Stream first) new cells cut why failed opens left same = absurd opens
+outputs-took seen d before output.Drop out.Discard (out.Stream now) cells cut why failed opens left same = absurd left
+
+-- the outputs after an output was opened and closed at once
+pub outputs-empty : {K : Type 0} (seen : K → SinkView) (d before : DeskView) (conf : OutputConf) (part : OutputPart K) (failed : Bool)
+    → OpensOutput seen d conf part → before.outputs ≡ d.outputs → (output_closed_as seen before part failed).outputs ≡ outputs_with (output_name conf) d.outputs []
+outputs-empty seen d before (output.File name) (out.Stream sink) failed opens same =
+    closed-took d before name [] (seen sink) (seen sink) opens (sym (grown-nil (seen sink).taken)) refl same
+outputs-empty seen d before output.Drop out.Discard failed opens same = same
+outputs-empty seen d before (output.File name) out.Discard failed opens same = absurd opens
+outputs-empty seen d before output.Drop (out.Stream sink) failed opens same = absurd opens
 
 or-true : (a : Bool) → (a || true) ≡ true
 or-true true = refl
 or-true false = refl
 
 -- a write that failed is counted at the closing, and so is a closing that failed
-pub write_fault-counted : {K : Type 0} (seen : K → SinkView) (d before : DeskView) (conf : OutputConf) (old new : OutputPart K) (cells : List Cell) (place : ℕ) (failed : Bool)
-    → OpensOutput seen d conf old → WritesOutput seen old new cells (Some place)
+pub write_fault-counted : {K : Type 0} (seen : K → SinkView) (d before : DeskView) (conf : OutputConf) (old new : OutputPart K) (cells : List Cell) (cut : ℕ) (why : Cause) (failed : Bool)
+    → OpensOutput seen d conf old → LeftOutput seen old new cells cut why → why ≡ WriteFault
     → HasCause before.write_faults (output_closed_as seen before new failed).write_faults
-write_fault-counted seen d before (output.File name) (out.Stream first) (out.Stream now) cells place failed opens wrote =
-    let one : (seen now).faults ≡ 1 = ap (λ (s : SinkView). s.faults) wrote.1 ∙ ap raised (ap (λ (s : SinkView). s.faults) opens) in
-    rw one (HasCause-raised before.write_faults)
-write_fault-counted seen d before output.Drop out.Discard out.Discard cells place failed opens wrote = absurd (some-none wrote)
-  where
-    some-none : {X : Type 0} {x : X} → Some x ≡ None → ⊥
-    some-none e = cc
-write_fault-counted seen d before (output.File name) out.Discard new cells place failed opens wrote = absurd opens
-write_fault-counted seen d before (output.File name) (out.Stream first) out.Discard cells place failed opens wrote = absurd wrote
-write_fault-counted seen d before output.Drop (out.Stream first) new cells place failed opens wrote = absurd opens
-write_fault-counted seen d before output.Drop out.Discard (out.Stream now) cells place failed opens wrote = absurd wrote
+write_fault-counted seen d before (output.File name) (out.Stream first) (out.Stream now) cells cut why failed opens left is =
+    let G : Type 0 = HasCause before.write_faults (output_closed_as seen before (out.Stream now) failed).write_faults in
+    by-took (seen first) (seen now) cells cut why G left
+    (λ other took. absurd (other is))
+    (λ same part took cut_part.
+    let one : (seen now).faults ≡ 1 = ap (λ (s : SinkView). s.faults) took ∙ ap raised (ap (λ (s : SinkView). s.faults) opens) in
+    rw one (HasCause-raised before.write_faults))
+write_fault-counted seen d before output.Drop out.Discard out.Discard cells cut why failed opens left is = absurd (left is)
+write_fault-counted seen d before (output.File name) out.Discard new cells cut why failed opens left is = absurd opens
+write_fault-counted seen d before (output.File name) (out.Stream first) out.Discard cells cut why failed opens left is = absurd left
+write_fault-counted seen d before output.Drop (out.Stream first) new cells cut why failed opens left is = absurd opens
+write_fault-counted seen d before output.Drop out.Discard (out.Stream now) cells cut why failed opens left is = absurd left
 
 pub closing-counted : {K : Type 0} (seen : K → SinkView) (before : DeskView) (part : OutputPart K) → WasOpened part
     → HasCause before.write_faults (output_closed_as seen before part true).write_faults
 closing-counted seen before (out.Stream now) opened = rw (or-true (nat_lt 0 (seen now).faults)) (HasCause-raised before.write_faults)
 closing-counted seen before out.Discard opened = absurd opened
 
--- where nothing failed, the count stays
-pub write_faults-stay : {K : Type 0} (seen : K → SinkView) (d before : DeskView) (conf : OutputConf) (old new : OutputPart K) (cells : List Cell)
-    → OpensOutput seen d conf old → WritesOutput seen old new cells None
+-- where no write and no closing failed, the count stays
+pub write_faults-stay : {K : Type 0} (seen : K → SinkView) (d before : DeskView) (conf : OutputConf) (old new : OutputPart K) (cells : List Cell) (cut : ℕ) (why : Cause)
+    → OpensOutput seen d conf old → LeftOutput seen old new cells cut why → why ≢ WriteFault
     → (output_closed_as seen before new false).write_faults ≡ before.write_faults
-write_faults-stay seen d before (output.File name) (out.Stream first) (out.Stream now) cells opens wrote =
-    let none : (seen now).faults ≡ 0 = ap (λ (s : SinkView). s.faults) wrote ∙ ap (λ (s : SinkView). s.faults) opens in
-    rw none refl
-write_faults-stay seen d before output.Drop out.Discard out.Discard cells opens wrote = refl
-write_faults-stay seen d before (output.File name) out.Discard new cells opens wrote = absurd opens
-write_faults-stay seen d before (output.File name) (out.Stream first) out.Discard cells opens wrote = absurd wrote
-write_faults-stay seen d before output.Drop (out.Stream first) new cells opens wrote = absurd opens
-write_faults-stay seen d before output.Drop out.Discard (out.Stream now) cells opens wrote = absurd wrote
+write_faults-stay seen d before (output.File name) (out.Stream first) (out.Stream now) cells cut why opens left other =
+    let G : Type 0 = (output_closed_as seen before (out.Stream now) false).write_faults ≡ before.write_faults in
+    by-took (seen first) (seen now) cells cut why G left
+    (λ same took.
+    let none : (seen now).faults ≡ 0 = ap (λ (s : SinkView). s.faults) took ∙ ap (λ (s : SinkView). s.faults) opens in
+    rw none refl)
+    (λ is part took cut_part. absurd (other is))
+write_faults-stay seen d before output.Drop out.Discard out.Discard cells cut why opens left other = refl
+write_faults-stay seen d before (output.File name) out.Discard new cells cut why opens left other = absurd opens
+write_faults-stay seen d before (output.File name) (out.Stream first) out.Discard cells cut why opens left other = absurd left
+write_faults-stay seen d before output.Drop (out.Stream first) new cells cut why opens left other = absurd opens
+write_faults-stay seen d before output.Drop out.Discard (out.Stream now) cells cut why opens left other = absurd left

@@ -7,7 +7,7 @@ use Rattle.chain_model.specs.declared.cause.Cause.TheVariants as cause
 use Rattle.ts_outside.specs.Count.{HasCause}
 use Rattle.ts_outside.specs.Desk.{DeskView}
 use Rattle.tsp_top.specs.declared.status.Status.{Status}
-use Rattle.tsp_top.specs.declared.status.Status.TheVariants.{Done, NoMemory, Words, ReadFault, WriteFault, Sync, Refused, TooLong}
+use Rattle.tsp_top.specs.declared.status.Status.TheVariants.{Done, NoMemory, ReadFault, WriteFault, Sync, Refused, TooLong}
 
 -- how a call ended whose words have a plan
 pub data CallEnd : Type 0 where
@@ -17,7 +17,9 @@ pub data CallEnd : Type 0 where
   no_output : CallEnd
   -- the chain ran and was cut at `cut` for this cause; `late` is whether its report or the closing of its output failed
   ran : (cut : ℕ) → (cause : Cause) → (late : Bool) → CallEnd
-  -- memory was wanted
+  -- the chain ran and was cut so, but there was no memory for its report
+  unreported : (cut : ℕ) → (cause : Cause) → CallEnd
+  -- memory was wanted before the chain ran
   out_of_memory : CallEnd
 
 -- the status of an input's end
@@ -59,4 +61,5 @@ StatusTellsCause old new status no_input = (status ≡ ReadFault) × HasCause ol
 StatusTellsCause old new status no_output = (status ≡ WriteFault) × HasCause old.write_faults new.write_faults
 StatusTellsCause old new status (ran cut why late) =
     (status ≡ (if late then status_when_late (status_of why) else status_of why)) × FaultRose old new why × LateRose old new why late
+StatusTellsCause old new status (unreported cut why) = (status ≡ NoMemory) × FaultRose old new why
 StatusTellsCause old new status out_of_memory = status ≡ NoMemory

@@ -4,6 +4,7 @@ pub mod Openings
 pub mod PluginNames
 pub mod PlannedChain
 pub mod Ran
+pub mod Readings
 pub mod Refusals
 pub mod Reported
 pub mod Saying

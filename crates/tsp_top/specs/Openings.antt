@@ -1,5 +1,5 @@
 -- The desk after the two ends of a chain were opened and closed. This project's own rule.
-use Rattle.std.specs.Prelude.{◌≡◌, ◌↔◌, ℕ, List, [], Bool, Option, None, Some}
+use Rattle.std.specs.Prelude.{◌≡◌, [], Bool}
 use Rattle.std.specs.Option.{option_map}
 use Rattle.chain_args.specs.declared.input_conf.InputConf.{InputConf}
 use Rattle.chain_args.specs.declared.input_conf.InputConf.TheVariants as input

@@ -1,19 +1,17 @@
 -- The chain that a plan asks for, over the files that the desk tells. This project's own rule.
-use Rattle.std.specs.Prelude.{ℕ, List, [], ◌∷◌, ◌++◌, map, Bool, true, Option, None, Some}
+use Rattle.std.specs.Prelude.{ℕ, suc, List, [], ◌∷◌, ◌++◌, map, if◌then◌else◌, Option, None, Some}
 use Rattle.plug_conf.specs.declared.plugin_conf.PluginConf.{PluginConf}
+use Rattle.plug_conf.specs.JointUse.{uses_joint}
 use Rattle.chain_args.specs.declared.plan_type.Plan.{Plan}
 use Rattle.chain_args.specs.declared.general_conf.GeneralConf.{GeneralConf}
 use Rattle.chain_args.specs.declared.input_conf.InputConf.{InputConf}
 use Rattle.chain_args.specs.declared.input_conf.InputConf.TheVariants as input
 use Rattle.chain_args.specs.declared.output_conf.OutputConf.{OutputConf}
 use Rattle.chain_args.specs.declared.output_conf.OutputConf.TheVariants as output
-use Rattle.chain_model.specs.PluginRule.{PluginRule, passing_rule}
 use Rattle.chain_model.specs.InputList.{InputList, input_of_bytes, input_of_nulls}
 use Rattle.chain_model.specs.Stuffed.{Stuffing, stuffed}
 use Rattle.chain_model.specs.PureRun.{Chain}
 use Rattle.ts_outside.specs.Desk.{file_of}
-use Rattle.ts_outside.specs.declared.requests.Purpose.{Purpose}
-use Rattle.ts_outside.specs.declared.requests.Purpose.TheVariants.{Input, Output}
 use Rattle.tsp_top.specs.PluginNames.{name_of}
 use Rattle.plug_set.specs.Rules.{rule_of}
 
@@ -31,13 +29,26 @@ abbrev pub input_of : InputConf → List (List ℕ × List ℕ) → InputList
 input_of (input.File name) files = input_of_bytes (file_of files name)
 input_of (input.Null count) files = input_of_nulls count
 
+-- the number of a plugin, if it uses joint termination
+abbrev pub user_at : ℕ → PluginConf → List ℕ
+user_at j conf = if uses_joint conf then j ∷ [] else []
+
+-- the numbers of the plugins that use joint termination, the least first, where the first plugin has this number
+abbrev pub users_from : ℕ → List PluginConf → List ℕ
+users_from j [] = []
+users_from j (conf ∷ confs) = user_at j conf ++ users_from (suc j) confs
+
+-- the stages of a plan that use joint termination: none where the plan ignores it
+abbrev pub users_of : Plan → List ℕ
+users_of plan = if plan.general.ignore_joint_termination then [] else users_from 1 plan.plugins
+
 -- the chain of a plan
 abbrev pub chain_of : Plan → List (List ℕ × List ℕ) → Chain
 chain_of plan files = record {
   input = stuffed (stuffing_of plan.general) (input_of plan.input files);
   rules = map rule_of plan.plugins;
   names = map name_of plan.plugins;
-  users = [];
+  users = users_of plan;
 }
 
 -- what is opened for the input and for the output: nothing for null packets, and nothing to drop packets

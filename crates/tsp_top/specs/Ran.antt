@@ -1,5 +1,5 @@
 -- A chain that ran between its two opened ends. This project's own rule.
-use Rattle.std.specs.Prelude.{◌≡◌, ℕ, List, [], map, Bool, ◌⊎◌}
+use Rattle.std.specs.Prelude.{◌≡◌, ℕ, List, map, Bool, ◌⊎◌}
 use Rattle.std.specs.Bool.{OnTrue}
 use Rattle.ts_packet.specs.declared.cell.Cell.{Cell}
 use Rattle.ts_outside.specs.Source.{SourceView}
@@ -7,17 +7,17 @@ use Rattle.ts_outside.specs.Sink.{SinkView}
 use Rattle.ts_outside.specs.Desk.{DeskView}
 use Rattle.chain_args.specs.declared.plan_type.Plan.{Plan}
 use Rattle.chain_core.specs.declared.closed.Closed.{Closed}
+use Rattle.chain_core.specs.declared.core_plan.CorePlan.{CorePlan}
+use Rattle.chain_core.specs.Stages.{stages_of}
 use Rattle.chain_model.specs.PluginRule.{PluginRule}
-use Rattle.chain_model.specs.Apply.{StageList}
 use Rattle.chain_model.specs.Reports.{reports}
 use Rattle.stage_run.specs.declared.input_part.InputPart.{InputPart}
 use Rattle.stage_run.specs.declared.output_part.OutputPart.{OutputPart}
 use Rattle.stage_run.specs.declared.stuffing.Stuffing.{Stuffing}
 use Rattle.stage_run.specs.InputStands as stage
-use Rattle.chain_run.specs.RunLists.{RunLists}
-use Rattle.chain_run.specs.Met.{AllMetTo}
+use Rattle.chain_run.specs.RunOf.{RunOf}
 use Rattle.tsp_top.specs.PluginNames.{name_of}
-use Rattle.tsp_top.specs.PlannedChain.{stuffing_of}
+use Rattle.tsp_top.specs.PlannedChain.{stuffing_of, users_of}
 use Rattle.tsp_top.specs.Openings.{input_closed_as, output_closed_as, WasOpened}
 use Rattle.tsp_top.specs.Reported.{ReportsRun}
 use Rattle.tsp_top.specs.declared.status.Status.{Status}
@@ -27,23 +27,37 @@ use Rattle.tsp_top.specs.declared.status.Status.TheVariants.{NoMemory}
 abbrev pub closed_desk : {S K : Type 0} → (S → SourceView) → (K → SinkView) → DeskView → InputPart S → OutputPart K → Bool → DeskView
 closed_desk in_seen out_seen desk input output failed = output_closed_as out_seen (input_closed_as in_seen desk input) output failed
 
--- a run that was closed and reported
+-- the numbers that a run is given are the plan's
+pub record IsPlanned (plan : Plan) (stuffing : Stuffing) (core : CorePlan) : Type 0 where
+  pub stuffing_is : stage.stuffing_of stuffing ≡ stuffing_of plan.general
+  pub buffer_is : core.buffer ≡ plan.general.buffer_packets
+  pub users_are : stages_of core.users ≡ users_of plan
+
+-- a run that was closed and reported, or closed only, where there was no memory for its report
 pub record RanClosed {S K P : Type 0} (in_seen : S → SourceView) (out_seen : K → SinkView) (rule : P → PluginRule) (stands : P → List Cell → ℕ → Type 0)
     (plan : Plan) (old new : DeskView) (from made_from : InputPart S) (plugins : List P) (to made_to : OutputPart K) (failed : Bool) (status : Status) (closed : Closed) : Type 0 where
   pub stuffing : Stuffing
-  pub stuffing_is : stage.stuffing_of stuffing ≡ stuffing_of plan.general
+  pub core : CorePlan
+  pub planned : IsPlanned plan stuffing core
   pub made : List P
-  pub run : RunLists in_seen out_seen rule stands from made_from stuffing plugins made to made_to closed
-  pub reported : (list : StageList) → AllMetTo stands (map rule plugins) list closed.cut 0 made
-      → ReportsRun (reports (map rule plugins) (map name_of plan.plugins) list closed.cut closed.cause) closed.cause failed
+  pub run : RunOf in_seen out_seen rule stands from made_from stuffing plugins made to made_to core closed
+  pub reported : ReportsRun (reports (map rule plugins) (map name_of plan.plugins) run.list closed.cut closed.cause) closed.cause failed
       (closed_desk in_seen out_seen old made_from made_to failed) new status
+
+-- there was no memory for the run: the ends were closed as they were opened
+pub record NotRun {S K : Type 0} (in_seen : S → SourceView) (out_seen : K → SinkView) (old new : DeskView)
+    (from made_from : InputPart S) (to made_to : OutputPart K) (failed : Bool) (status : Status) : Type 0 where
+  pub status_is : status ≡ NoMemory
+  pub input_same : made_from ≡ from
+  pub output_same : made_to ≡ to
+  pub desk : new ≡ closed_desk in_seen out_seen old made_from made_to failed
 
 -- one of the two
 abbrev pub RanEnds : {S K P : Type 0} → (S → SourceView) → (K → SinkView) → (P → PluginRule) → (P → List Cell → ℕ → Type 0)
     → Plan → DeskView → DeskView → InputPart S → InputPart S → List P → OutputPart K → OutputPart K → Bool → Status → Type 0
 RanEnds in_seen out_seen rule stands plan old new from made_from plugins to made_to failed status =
     ((closed : Closed) × RanClosed in_seen out_seen rule stands plan old new from made_from plugins to made_to failed status closed)
-    ⊎ ((status ≡ NoMemory) × (new ≡ closed_desk in_seen out_seen old made_from made_to failed))
+    ⊎ NotRun in_seen out_seen old new from made_from to made_to failed status
 
 -- the chain ran, both ends were closed, and the run was reported; or there was no memory for the run
 pub record RanOpened {S K P : Type 0} (in_seen : S → SourceView) (out_seen : K → SinkView) (rule : P → PluginRule) (stands : P → List Cell → ℕ → Type 0)

@@ -1,61 +1,74 @@
--- The stream theorem: what a call of `tsp` writes, reports, opens and answers. This project's own rule.
-use Rattle.std.specs.Prelude.{◌≡◌, ◌⊎◌, ℕ, ◌≤◌, ◌<◌, List, [], ◌∷◌, ◌++◌, length, take, drop, codes, Bool, true, false, Option, None, Some, IfSome}
+-- The stream theorem: what a call of `tsp` reads, writes, reports, opens and answers. This project's own rule.
+use Rattle.std.specs.Prelude.{◌≡◌, ◌⊎◌, ℕ, ◌<◌, List, [], ◌∷◌, ◌++◌, length, take, drop, codes, Bool, true, false, Option, None, Some, IfSome}
 use Rattle.chain_model.specs.Prefix.{IsPrefix}
 use Rattle.chain_model.specs.StageLists.{end_list}
-use Rattle.chain_model.specs.Cut.{cut_of, cause_of, is_fault}
+use Rattle.chain_model.specs.Cut.{cut_of, IsLawfulFault}
 use Rattle.chain_model.specs.PureRun.{Chain, written_to, reported_at}
 use Rattle.chain_model.specs.declared.cause.Cause.{Cause}
 use Rattle.chain_model.specs.declared.cause.Cause.TheVariants.{WriteFault}
 use Rattle.chain_args.specs.declared.plan_type.Plan.{Plan}
-use Rattle.ts_outside.specs.Count.{HasCause, IsQuiet}
+use Rattle.chain_core.specs.EveryOrder.{IsPureClose}
+use Rattle.ts_packet.specs.declared.cell.Cell.{Cell}
+use Rattle.ts_outside.specs.Count.{HasCause}
 use Rattle.ts_outside.specs.Told.{grown}
 use Rattle.ts_outside.specs.declared.requests.Asked.{Asked}
 use Rattle.ts_outside.specs.declared.requests.Purpose.{Purpose}
 use Rattle.ts_outside.specs.declared.requests.Purpose.TheVariants.{Input, Output}
 use Rattle.ts_outside.specs.Desk.{DeskView}
 use Rattle.stage_run.specs.OutputStands.{IsPartOfFirst}
-use Rattle.tsp_top.specs.CallEnd.{CallEnd, no_input, no_output, ran, out_of_memory, StatusTellsCause}
+use Rattle.tsp_top.specs.CallEnd.{CallEnd, no_input, no_output, ran, unreported, out_of_memory, StatusTellsCause}
 use Rattle.tsp_top.specs.PlannedChain.{chain_of, input_name, output_name}
+use Rattle.tsp_top.specs.Readings.{ReadsNothing, ReadsTo}
 use Rattle.tsp_top.specs.declared.status.Status.{Status}
 
--- cut and cause are those of the run without faults; after a failing write the cut is not behind theirs
+-- cut and cause are those of the run without faults, or a fault ended the chain where it may
 abbrev pub IsPureOrFault : Chain → ℕ → Cause → Type 0
 IsPureOrFault chain cut why =
-    ((cut ≡ cut_of chain.rules chain.input chain.users) × (why ≡ cause_of chain.rules chain.input chain.users))
-    ⊎ ((why ≡ WriteFault) × (cut ≤ cut_of chain.rules chain.input chain.users))
+    IsPureClose chain.rules chain.input chain.users cut why ⊎ IsLawfulFault chain.rules chain.input chain.users cut why
 
 abbrev pub EndsRight : Chain → CallEnd → Type 0
 EndsRight chain (ran cut why late) = IsPureOrFault chain cut why
+EndsRight chain (unreported cut why) = IsPureOrFault chain cut why
 EndsRight chain _ = Unit {0}
 
--- after a failing write alone, a part of the packet in hand was taken too
-abbrev pub IsCutPart : Chain → ℕ → Cause → List ℕ → Type 0
-IsCutPart chain cut WriteFault part = IsPartOfFirst (drop cut (end_list chain.rules chain.input).cells) part
-IsCutPart chain cut _ part = part ≡ []
+-- after a failing write alone, a part of the packet behind the cut was taken too
+abbrev pub IsCutPart : List Cell → ℕ → Cause → List ℕ → Type 0
+IsCutPart cells cut WriteFault part = IsPartOfFirst (drop cut cells) part
+IsCutPart cells cut _ part = part ≡ []
 
 -- the bytes of the cells before the cut, and after a failing write alone a part of the next packet
 abbrev pub IsWrittenTo : Chain → ℕ → Cause → List ℕ → Type 0
-IsWrittenTo chain cut why bytes = (part : List ℕ) × (bytes ≡ written_to chain cut ++ part) × IsCutPart chain cut why part
+IsWrittenTo chain cut why bytes =
+    (part : List ℕ) × (bytes ≡ written_to chain cut ++ part) × IsCutPart (end_list chain.rules chain.input).cells cut why part
 
 -- the closed outputs with one more, unless packets are dropped
 abbrev pub outputs_with : Option (List ℕ) → Option (List (List ℕ × List ℕ)) → List ℕ → Option (List (List ℕ × List ℕ))
 outputs_with None outputs bytes = outputs
 outputs_with (Some name) outputs bytes = grown outputs ((name, bytes) ∷ [])
 
--- no read failed
-abbrev pub ReadsWell : DeskView → DeskView → Type 0
-ReadsWell old new = IsQuiet old.read_faults new.read_faults
+-- an output was closed with exactly these bytes, which are a first part of what the run without faults writes
+abbrev pub WritesTo : Plan → Chain → DeskView → DeskView → ℕ → Cause → Type 0
+WritesTo plan chain old new cut why =
+    (bytes : List ℕ) × (new.outputs ≡ outputs_with (output_name plan.output) old.outputs bytes)
+    × IsWrittenTo chain cut why bytes
+    × IsPrefix bytes (written_to chain (cut_of chain.rules chain.input chain.users))
 
--- what is written: where no read failed, exactly the bytes of the cells before the cut; a first part of what the run
--- without faults writes where one did
+-- what is written; nothing before the chain ran
 abbrev pub Writes : Plan → Chain → DeskView → DeskView → CallEnd → Type 0
 Writes plan chain old new no_input = new.outputs ≡ old.outputs
 Writes plan chain old new no_output = new.outputs ≡ old.outputs
-Writes plan chain old new (ran cut why late) =
-    (bytes : List ℕ) × (new.outputs ≡ outputs_with (output_name plan.output) old.outputs bytes)
-    × IsPrefix bytes (written_to chain (cut_of chain.rules chain.input chain.users))
-    × (ReadsWell old new → IsWrittenTo chain cut why bytes)
-Writes plan chain old new out_of_memory = Unit {0}
+Writes plan chain old new (ran cut why late) = WritesTo plan chain old new cut why
+Writes plan chain old new (unreported cut why) = WritesTo plan chain old new cut why
+Writes plan chain old new out_of_memory =
+    (new.outputs ≡ old.outputs) ⊎ (new.outputs ≡ outputs_with (output_name plan.output) old.outputs [])
+
+-- what is read of the input; nothing before the chain ran
+abbrev pub Reads : Plan → List (List ℕ × List ℕ) → DeskView → DeskView → CallEnd → Type 0
+Reads plan files old new no_input = new.closed_in ≡ old.closed_in
+Reads plan files old new no_output = ReadsNothing plan.input files old new
+Reads plan files old new (ran cut why late) = ReadsTo plan.general plan.input files old new cut why
+Reads plan files old new (unreported cut why) = ReadsTo plan.general plan.input files old new cut why
+Reads plan files old new out_of_memory = ReadsNothing plan.input files old new
 
 -- a text was reported, whole, or a first part of it where a report failed
 abbrev pub ReportsText : DeskView → DeskView → List ℕ → Type 0
@@ -63,12 +76,17 @@ ReportsText old new text =
     ((new.reported ≡ grown old.reported text) × (new.report_faults ≡ old.report_faults))
     ⊎ ((n : ℕ) × (n < length text) × (new.reported ≡ grown old.reported (take n text)) × HasCause old.report_faults new.report_faults)
 
+-- nothing was reported, and no report failed
+abbrev pub ReportsNothing : DeskView → DeskView → Type 0
+ReportsNothing old new = (new.reported ≡ old.reported) × (new.report_faults ≡ old.report_faults)
+
 -- what is reported
 abbrev pub Reports : Chain → DeskView → DeskView → CallEnd → Type 0
 Reports chain old new no_input = ReportsText old new (codes "tsp: cannot open input" ++ 10 ∷ [])
 Reports chain old new no_output = ReportsText old new (codes "tsp: cannot open output" ++ 10 ∷ [])
-Reports chain old new (ran cut why late) = ReadsWell old new → ReportsText old new (reported_at chain cut why)
-Reports chain old new out_of_memory = new.reported ≡ old.reported
+Reports chain old new (ran cut why late) = ReportsText old new (reported_at chain cut why)
+Reports chain old new (unreported cut why) = ReportsNothing old new
+Reports chain old new out_of_memory = ReportsNothing old new
 
 -- an opening that was asked for, unless there is nothing to open
 abbrev pub asked_for : Purpose → Option (List ℕ) → Bool → List Asked
@@ -82,6 +100,8 @@ Opens plan old new no_output =
     new.asked ≡ grown old.asked (asked_for Input (input_name plan.input) true ++ asked_for Output (output_name plan.output) false)
 Opens plan old new (ran cut why late) =
     new.asked ≡ grown old.asked (asked_for Input (input_name plan.input) true ++ asked_for Output (output_name plan.output) true)
+Opens plan old new (unreported cut why) =
+    new.asked ≡ grown old.asked (asked_for Input (input_name plan.input) true ++ asked_for Output (output_name plan.output) true)
 Opens plan old new out_of_memory =
     (n : ℕ) × (new.asked ≡ grown old.asked (take n (asked_for Input (input_name plan.input) true ++ asked_for Output (output_name plan.output) true)))
 
@@ -91,7 +111,9 @@ pub record StreamTheorem (plan : Plan) (old new : DeskView) (status : Status) : 
   -- the status tells the cause
   pub status_tells_cause : StatusTellsCause old new status end
   -- a cause without fault is the cause of the run without faults, at its cut
-  pub pure_or_fault : ReadsWell old new → IfSome old.files (λ files. EndsRight (chain_of plan files) end)
+  pub pure_or_fault : IfSome old.files (λ files. EndsRight (chain_of plan files) end)
+  -- what is read
+  pub reads : IfSome old.files (λ files. Reads plan files old new end)
   -- what is written
   pub written : IfSome old.files (λ files. Writes plan (chain_of plan files) old new end)
   -- what is reported

@@ -1,5 +1,5 @@
 -- What a call of `tsp` does. This project's own rule.
-use Rattle.std.specs.Prelude.{◌≡◌, ◌⊎◌, ℕ, List, Option, Some}
+use Rattle.std.specs.Prelude.{◌≡◌, ◌⊎◌, ℕ, List, Some}
 use Rattle.chain_args.specs.PlanOf.{plan_of}
 use Rattle.chain_args.specs.WordsFault.{IsFirstFault}
 use Rattle.chain_args.specs.declared.plan_type.Plan.{Plan}

@@ -5,7 +5,7 @@ ghost use Rattle.std.specs.String.{string_bytes};
 ghost use Rattle.plug_conf.specs.Lawful.{IsLawful};
 ghost use Rattle.plug_set.specs.Rules.{rule_of};
 ghost use Rattle.chain_args.specs.LawfulPlan.{IsLawfulPlan};
-ghost use Rattle.chain_run.specs.PlainChain.{AreFresh};
+ghost use Rattle.chain_run.specs.Fresh.{AreFresh};
 ghost use Rattle.ts_outside.specs.Desk.{DeskView};
 ghost use Rattle.tsp_top.specs.Openings.{asked_input, OpensInput};
 ghost use Rattle.tsp_top.specs.StreamTheorem.{StreamTheorem};
@@ -23,7 +23,9 @@ use plug_set::AnyPlugin;
 use plugin_trait::Plugin;
 use stage_run::InputPart;
 use std::alloc::{AllocError, Global};
-use ts_outside::{Desk, OpenFault};
+use std::sync::Wait;
+use std::thread::Threads;
+use ts_outside::{Desk, Gate, OpenFault};
 
 /// Does what the words of a command line ask for, given without the program's name.
 ///
@@ -38,18 +40,38 @@ use ts_outside::{Desk, OpenFault};
 ///   a report failed behind a run that would be `Done`;
 /// - `Sync`, `Refused` and `TooLong` where that ended the run;
 /// - `Done` in all other cases.
-pub fn tsp_call<D: Desk>(alloc: Global, words: &[String], desk: &mut D) -> Status
+///
+/// The runtime is there to wait and to start threads with. `serial_call` does the same without it.
+pub fn tsp_call<R: Threads + Wait + Sync, D: Desk, G: Gate>(
+    _rt: &R,
+    alloc: Global,
+    words: &[String],
+    desk: &mut D,
+    gate: &G,
+) -> Status
+    ensures { CallsTsp (map string_bytes words.now) (D.seen desk.old) (D.seen desk.new) result }
+{
+    serial_call(alloc, words, desk, gate)
+}
+
+/// Does what `tsp_call` does, in one thread. It needs no handle, so it returns if the desk and the gate do.
+pub fn serial_call<D: Desk, G: Gate>(
+    alloc: Global,
+    words: &[String],
+    desk: &mut D,
+    gate: &G,
+) -> Status
     ensures { CallsTsp (map string_bytes words.now) (D.seen desk.old) (D.seen desk.new) result }
 {
     match plan(alloc, words) {
-        Ok(plan) => call_plan(alloc, desk, &plan),
+        Ok(plan) => call_plan(alloc, desk, &plan, gate),
         Err(WordsFault::At { word, rule }) => refuse_words(alloc, desk, word, rule),
         Err(WordsFault::NoMemory) => Status::NoMemory,
     }
 }
 
 /// Does what a plan asks for.
-fn call_plan<D: Desk>(alloc: Global, desk: &mut D, plan: &Plan) -> Status
+fn call_plan<D: Desk, G: Gate>(alloc: Global, desk: &mut D, plan: &Plan, gate: &G) -> Status
     requires { IsLawfulPlan plan.now }
     ensures { StreamTheorem plan.now (D.seen desk.old) (D.seen desk.new) result
         ⊎ ((result ≡ NoMemory) × (D.seen desk.new ≡ D.seen desk.old)) }
@@ -57,7 +79,7 @@ fn call_plan<D: Desk>(alloc: Global, desk: &mut D, plan: &Plan) -> Status
     let mut plugins: Vec<AnyPlugin> = Vec::new(alloc);
     let buffer = plan.general.buffer_packets as usize;
     match add_plugins(alloc, &mut plugins, plan.plugins.as_slice(), buffer) {
-        Ok(()) => open_and_run(alloc, desk, plan, plugins),
+        Ok(()) => open_and_run(alloc, desk, plan, plugins, gate),
         Err(AllocError) => Status::NoMemory,
     }
 }
@@ -83,11 +105,12 @@ fn add_plugins(
 }
 
 /// Opens the input, and runs these plugins behind it.
-fn open_and_run<P: Plugin + Drop, D: Desk>(
+fn open_and_run<P: Plugin + Drop, D: Desk, G: Gate>(
     alloc: Global,
     desk: &mut D,
     plan: &Plan,
     plugins: Vec<P>,
+    gate: &G,
 ) -> Status
     requires lawful { IsLawfulPlan plan.now }
     requires rules { map P.rule plugins.items ≡ map rule_of plan.now.plugins }
@@ -96,7 +119,7 @@ fn open_and_run<P: Plugin + Drop, D: Desk>(
         ⊎ ((result ≡ NoMemory) × (D.seen desk.new ≡ D.seen desk.old)) }
 {
     match open_input(desk, &plan.input) {
-        Ok(input) => run_behind(alloc, desk, plan, input, plugins),
+        Ok(input) => run_behind(alloc, desk, plan, input, plugins, gate),
         Err(OpenFault::Failed) => {
             say(desk, "tsp: cannot open input\n");
             Status::ReadFault
@@ -106,12 +129,13 @@ fn open_and_run<P: Plugin + Drop, D: Desk>(
 }
 
 /// Opens the output, and runs these plugins between the input and it.
-fn run_behind<P: Plugin + Drop, D: Desk>(
+fn run_behind<P: Plugin + Drop, D: Desk, G: Gate>(
     alloc: Global,
     desk: &mut D,
     plan: &Plan,
     input: InputPart<D::In>,
     plugins: Vec<P>,
+    gate: &G,
 ) -> Status
     requires lawful { IsLawfulPlan plan.now }
     requires opened { ((old : DeskView) × OpensInput D.In.seen old plan.now.input input) }
@@ -121,7 +145,7 @@ fn run_behind<P: Plugin + Drop, D: Desk>(
         → OpensInput D.In.seen old plan.now.input input → StreamTheorem plan.now old (D.seen desk.new) result }
 {
     match open_output(desk, &plan.output) {
-        Ok(output) => run_opened(alloc, desk, plan, input, plugins, output),
+        Ok(output) => run_opened(alloc, desk, plan, input, plugins, output, gate),
         Err(OpenFault::Failed) => {
             close_input(desk, input);
             say(desk, "tsp: cannot open output\n");

@@ -5,6 +5,7 @@
 mod call;
 mod end_line;
 mod opening;
+mod planning;
 mod report;
 mod reporting;
 mod running;
@@ -12,6 +13,6 @@ mod saying;
 mod status;
 mod words;
 
-pub use call::tsp_call;
+pub use call::{serial_call, tsp_call};
 pub use chain_args::{WordsFault, WordsRule};
 pub use status::Status;

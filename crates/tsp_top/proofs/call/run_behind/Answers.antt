@@ -13,14 +13,14 @@ returns-in-Ok g c = λ old asked opens.
     subst (λ (d : DeskView). OpensOutput g.D.Out.Sink.seen d c.args.plan.now.output c.in-Ok.output) asked c.in-Ok.ensures.part in
     ran-theorem g.D.In.Source.seen g.D.Out.Sink.seen g.P.Plugin.rule g.P.Plugin.stands_for c.args.plan.now old
     (g.D.Desk.seen c.open_output.new.desk) (g.D.Desk.seen c.run_opened.new.desk) c.args.input c.args.plugins.items c.in-Ok.output c.run_opened.result
-    c.requires.lawful made opens opens_out c.requires.rules c.run_opened.ensures
+    made opens opens_out c.requires.rules c.run_opened.ensures
 
 pub returns-in-Err-Failed : goal.returns-in-Err-Failed
 returns-in-Err-Failed g c = λ old asked opens.
     let vain : g.D.Desk.seen c.open_output.new.desk ≡ asked_output_in_vain (asked_input old c.args.plan.now.input) c.args.plan.now.output =
     open-failed _ _ _ c.in-Err-Failed.field-0 c.in-Err-Failed.field-0-is c.in-Err-Failed.ensures.asked ∙ ap (λ (d : DeskView). asked_output_in_vain d c.args.plan.now.output) asked in
     no-output-theorem g.D.In.Source.seen c.args.plan.now old (g.D.Desk.seen c.close_input.new.desk) (g.D.Desk.seen c.say.new.desk) c.args.input c.say.result
-    c.in-Err-Failed.ensures.named
+    opens c.in-Err-Failed.ensures.named
     (c.close_input.ensures ∙ ap (λ (d : DeskView). input_closed_as g.D.In.Source.seen d c.args.input) vain)
     c.say.ensures
 
@@ -29,4 +29,4 @@ returns g c = λ old asked opens.
     let same : g.D.Desk.seen c.open_output.new.desk ≡ asked_input old c.args.plan.now.input =
     open-no-memory _ _ _ c.in-Err-NoMemory.field-0 c.in-Err-NoMemory.field-0-is c.in-Err-NoMemory.ensures.asked ∙ asked in
     no-memory-theorem g.D.In.Source.seen c.args.plan.now old (g.D.Desk.seen c.close_input-in-Err-NoMemory.new.desk) c.args.input
-    (c.close_input-in-Err-NoMemory.ensures ∙ ap (λ (d : DeskView). input_closed_as g.D.In.Source.seen d c.args.input) same)
+    opens (c.close_input-in-Err-NoMemory.ensures ∙ ap (λ (d : DeskView). input_closed_as g.D.In.Source.seen d c.args.input) same)

@@ -1,0 +1,44 @@
+-- What a call reads of its input. This project's own rule.
+use Rattle.std.specs.Prelude.{◌≡◌, ◌≢◌, ℕ, List, [], ◌∷◌, ◌++◌, length, Bool, true, false}
+use Rattle.chain_args.specs.declared.general_conf.GeneralConf.{GeneralConf}
+use Rattle.chain_args.specs.declared.input_conf.InputConf.{InputConf}
+use Rattle.chain_args.specs.declared.input_conf.InputConf.TheVariants as input
+use Rattle.chain_model.specs.declared.input_end.InputEnd.TheVariants.{End, ReadFault}
+use Rattle.chain_model.specs.declared.cause.Cause.{Cause}
+use Rattle.chain_model.specs.declared.cause.Cause.TheVariants.{Input}
+use Rattle.chain_model.specs.InputList.{input_of_bytes, packets_of}
+use Rattle.chain_model.specs.Stuffed.{Stuffing, stuffed}
+use Rattle.ts_outside.specs.Told.{grown}
+use Rattle.ts_outside.specs.Desk.{DeskView, file_of}
+use Rattle.chain_run.specs.RunOf.{MayRead}
+use Rattle.tsp_top.specs.PlannedChain.{stuffing_of}
+
+-- nothing was read of the input: its file was closed with all its bytes still to come, and no read of it failed
+abbrev pub ReadsNothing : InputConf → List (List ℕ × List ℕ) → DeskView → DeskView → Type 0
+ReadsNothing (input.File name) files old new =
+    new.closed_in ≡ grown old.closed_in (record { left = length (file_of files name); failed = false } ∷ [])
+ReadsNothing (input.Null count) files old new = new.closed_in ≡ old.closed_in
+
+-- behind a failed read: the bytes that were read show no lost sync, and the cut is where the stuffed list of the whole
+-- packets among them ends
+pub record CutsAtRead (stuffing : Stuffing) (read : List ℕ) (failed : Bool) (cut : ℕ) : Type 0 where
+  pub did_fail : failed ≡ true
+  pub in_sync : (left : ℕ) × ((input_of_bytes read).ended ≡ End left)
+  pub cut_is : cut ≡ length (stuffed stuffing (record { packets = packets_of read; ended = ReadFault })).cells
+
+-- the file of an input was read and closed by a run that was cut at `cut`
+pub record ReadsFile (general : GeneralConf) (file : List ℕ) (old new : DeskView) (cut : ℕ) (why : Cause) : Type 0 where
+  pub read : List ℕ
+  pub rest : List ℕ
+  -- whether a read failed, of what counts or behind it
+  pub failed : Bool
+  pub bytes : file ≡ read ++ rest
+  pub closed : new.closed_in ≡ grown old.closed_in (record { left = length rest; failed = failed } ∷ [])
+  -- at most the buffer's packets beyond the cut
+  pub within : MayRead general.buffer_packets cut (length read)
+  pub at_fault : why ≡ Input ReadFault → CutsAtRead (stuffing_of general) read failed cut
+
+-- what a run that was cut at `cut` reads of its input; null packets are not read
+abbrev pub ReadsTo : GeneralConf → InputConf → List (List ℕ × List ℕ) → DeskView → DeskView → ℕ → Cause → Type 0
+ReadsTo general (input.File name) files old new cut why = ReadsFile general (file_of files name) old new cut why
+ReadsTo general (input.Null count) files old new cut why = (new.closed_in ≡ old.closed_in) × (why ≢ Input ReadFault)
