@@ -11,3 +11,6 @@ pub mod TurnWorks
 pub mod TurnMoves
 pub mod TurnLaws
 pub mod StartLemmas
+pub mod CloseLemmas
+pub mod RunLemmas
+pub mod PartLemmas

@@ -1,14 +1,12 @@
 -- The marks of the stages through a turn: what is left to do falls, or nothing has moved.
-use Rattle.std.proofs.Common.{◌≡◌, ◌≢◌, ◌⊎◌, ℕ, zero, suc, ◌+◌, ◌-◌, ◌^◌, ◌<◌, ◌≤◌, min, Bool, true, false, List, [], ◌∷◌, ◌++◌, length, Option, Some, None, refl, ap, sym, ◌∙◌, subst, arith, inl, inr, append-nil, length-append, if◌then◌else◌}
+use Rattle.std.proofs.Common.{◌≡◌, ◌≢◌, ◌⊎◌, ℕ, zero, suc, ◌+◌, ◌-◌, ◌^◌, ◌<◌, ◌≤◌, Bool, true, false, List, [], length, Option, None, refl, ap, sym, ◌∙◌, subst, arith, inl, inr, append-nil, if◌then◌else◌}
 use Rattle.std.specs.Prelude.{is_some}
 use Rattle.std.proofs.lemmas.Bool.{cases_eq, cases_lt}
-use Rattle.ts_packet.specs.declared.cell.Cell.{Cell}
 use Rattle.chain_core.specs.declared.core_plan.CorePlan.{CorePlan}
 use Rattle.chain_core.specs.declared.mark.Mark.{Mark}
 use Rattle.chain_core.specs.declared.stage_end.StageEnd.{StageEnd}
-use Rattle.chain_core.specs.declared.stage_word.StageWord.{StageWord}
 use Rattle.chain_core.specs.Numbers.{Marks, UsersArePlugins, reach_of, takes_of}
-use Rattle.chain_core.specs.Machine.{ChainState, StageState, Visit, marks_of, visit_of, noted, visited}
+use Rattle.chain_core.specs.Machine.{ChainState, StageState, Visit, marks_of, visit_of, visited}
 use Rattle.chain_core.specs.ChainRun.{ChainRun, state_after, AllEnded}
 use Rattle.chain_core.specs.CoreNumbers.{CoreNumbers, IsLawfulPlan, StandsFor, marks_in}
 use Rattle.chain_core.specs.Laws.{IsQuiet}

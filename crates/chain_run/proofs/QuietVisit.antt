@@ -1,5 +1,5 @@
 -- A visit that gives nothing and tells nothing: all stages stand for what they stood for.
-use Rattle.std.proofs.Common.{◌≡◌, ◌≢◌, ℕ, zero, suc, ◌+◌, ◌<◌, ◌≤◌, List, [], ◌∷◌, ◌++◌, length, take, drop, Option, Some, None, refl, ap, sym, ◌∙◌, subst, arith, inl, inr, append-nil}
+use Rattle.std.proofs.Common.{◌≡◌, ℕ, zero, suc, ◌+◌, ◌<◌, ◌≤◌, List, [], ◌∷◌, ◌++◌, length, take, drop, Option, None, refl, ap, sym, ◌∙◌, subst, arith, inl, inr, append-nil}
 use Rattle.std.specs.Prelude.{slice_index_or, slice_set}
 use Rattle.std.proofs.lemmas.Bool.{cases_eq}
 use Rattle.std.proofs.lemmas.List.{set-get_or, length-take}
@@ -19,13 +19,13 @@ use Rattle.chain_core.specs.Numbers.{written_of}
 use Rattle.chain_core.specs.Machine.{ChainState, StageState, Visit, marks_of, visit_of, Allowed}
 use Rattle.chain_core.specs.ChainRun.{ChainRun, state_after, took}
 use Rattle.chain_core.specs.CoreNumbers.{CoreNumbers, IsLawfulPlan, StandsFor}
-use Rattle.chain_core.specs.Keeps.{Keeps, KeepsList, KeepsAgreement, StageKeeps}
+use Rattle.chain_core.specs.Keeps.{Keeps, KeepsList, KeepsAgreement}
 use Rattle.stage_run.specs.declared.stage_part.StagePart.{StagePart}
 use Rattle.stage_run.specs.PartLists.{PartLists}
 use Rattle.stage_run.specs.PartStands.{PartGives}
 use Rattle.chain_run.specs.Slots.{slot, HoldsFrom}
-use Rattle.chain_run.specs.Runs.{nothing_told, between, Begun, InputAt, PluginAt, OutputAt, RunsBy}
-use Rattle.chain_run.proofs.MachineLaws.{MachineLaws, change, stage-other, written-grows, given-falls, given-taken}
+use Rattle.chain_run.specs.Runs.{nothing_told, Begun, InputAt, PluginAt, OutputAt, RunsBy}
+use Rattle.chain_run.proofs.MachineLaws.{MachineLaws, change, stage-other, written-grows, given-falls}
 use Rattle.chain_run.proofs.StepLemmas.{set_at, pick, input-frame, plugin-frame, output-frame, Own, stepped}
 
 -- ---- a stage that goes on may tell nothing

@@ -1,23 +1,20 @@
 -- A chain before its first turn.
-use Rattle.std.proofs.Common.{◌≡◌, ◌≢◌, ℕ, zero, suc, ◌+◌, ◌*◌, ◌<◌, ◌≤◌, ◌↔◌, List, [], ◌∷◌, ◌++◌, length, map, take, drop, Bool, false, Option, Some, None, refl, ap, sym, ◌∙◌, subst, arith, inl, inr}
+use Rattle.std.proofs.Common.{◌≡◌, ◌≢◌, ℕ, zero, suc, ◌+◌, ◌<◌, ◌↔◌, List, [], ◌∷◌, ◌++◌, length, map, false, Some, None, refl, ap, sym, ◌∙◌, subst, arith, inl}
 use Rattle.std.specs.Prelude.{slice_index_or}
 use Rattle.std.specs.List.{All}
-use Rattle.std.proofs.lemmas.Bool.{cases_lt}
 use Rattle.std.proofs.lemmas.List.{length-map}
 use Rattle.std.proofs.Math.Seq.{get_or-append_seam}
 use Rattle.ts_packet.specs.declared.cell.Cell.{Cell}
 use Rattle.ts_outside.specs.Source.{SourceView}
 use Rattle.ts_outside.specs.Sink.{SinkView}
-use Rattle.chain_model.specs.Prefix.{IsPrefix}
 use Rattle.chain_model.specs.PluginRule.{PluginRule}
-use Rattle.chain_model.specs.Apply.{StageList, last_passed, apply}
+use Rattle.chain_model.specs.Apply.{StageList, last_passed}
 use Rattle.chain_model.specs.StageLists.{rule_behind}
 use Rattle.chain_core.specs.declared.core_plan.CorePlan.{CorePlan}
-use Rattle.chain_core.specs.declared.stage_end.StageEnd.{StageEnd}
-use Rattle.chain_core.specs.Machine.{ChainState, start}
+use Rattle.chain_core.specs.Machine.{start}
 use Rattle.chain_core.specs.ChainRun.{state_after, took}
 use Rattle.chain_core.specs.CoreNumbers.{CoreNumbers, IsLawfulPlan, StandsFor}
-use Rattle.chain_core.specs.Keeps.{IsEndOf, KeepsList, KeepsAgreement, StageKeeps}
+use Rattle.chain_core.specs.Keeps.{StageKeeps}
 use Rattle.stage_run.specs.declared.input_part.InputPart.{InputPart}
 use Rattle.stage_run.specs.declared.input_part.InputPart.TheVariants as input
 use Rattle.stage_run.specs.declared.output_part.OutputPart.{OutputPart}
@@ -25,12 +22,12 @@ use Rattle.stage_run.specs.declared.output_part.OutputPart.TheVariants as output
 use Rattle.stage_run.specs.declared.stage_part.StagePart.{StagePart}
 use Rattle.stage_run.specs.declared.stuffing.Stuffing.{Stuffing}
 use Rattle.stage_run.specs.PartLists.{PartLists, fresh_lists}
-use Rattle.stage_run.specs.PartStands.{PartStands, PartGives, kind_of, rule_of, stuffing_in, has_source, has_sink, has_stream, an_input, a_plugin, an_output}
+use Rattle.stage_run.specs.PartStands.{PartStands, PartGives, kind_of, stuffing_in, has_source, has_sink, has_stream, an_input, an_output}
 use Rattle.stage_run.specs.InputStands.{stuffing_of}
 use Rattle.stage_run.specs.Parts.{IsListOf, IsSourceOf, IsSinkOf}
 use Rattle.chain_run.specs.Fresh.{AreFresh}
 use Rattle.chain_run.specs.Parts.{MadeOf, AreMadeOf}
-use Rattle.chain_run.specs.Runs.{nothing_told, Begun, Fits, PartAt, InputAt, PluginAt, OutputAt, KeptFor, RunsBy, Runs}
+use Rattle.chain_run.specs.Runs.{nothing_told, Begun, Fits, PartAt, InputAt, PluginAt, OutputAt, KeptFor, RunsBy}
 use Rattle.chain_run.specs.Working.{Goes}
 use Rattle.chain_run.proofs.QuietVisit.{silent}
 use Rattle.chain_run.proofs.TurnLemmas.{list-ends}

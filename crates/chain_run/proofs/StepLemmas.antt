@@ -1,8 +1,8 @@
 -- One visit more: what its stage stands for then, and that all other stages stand for what they stood for.
-use Rattle.std.proofs.Common.{◌≡◌, ◌≢◌, ℕ, zero, suc, ◌+◌, ◌*◌, ◌^◌, ◌<◌, ◌≤◌, ◌==◌, if◌then◌else◌, Bool, List, [], ◌∷◌, ◌++◌, length, take, drop, Option, Some, None, refl, ap, sym, ◌∙◌, subst, arith, inl, inr, le_trans}
+use Rattle.std.proofs.Common.{◌≡◌, ◌≢◌, ℕ, suc, ◌<◌, ◌≤◌, ◌==◌, if◌then◌else◌, List, [], ◌∷◌, ◌++◌, length, take, drop, Option, None, ap, sym, ◌∙◌, subst, arith, inl, inr, le_trans}
 use Rattle.std.specs.Prelude.{slice_index_or, slice_set}
 use Rattle.std.proofs.lemmas.Bool.{cases_eq, cond-true, cond-false, eq-eqb, ne_eqb}
-use Rattle.std.proofs.lemmas.List.{get_or-set_same, get_or-set_other, take-append-le, length-append}
+use Rattle.std.proofs.lemmas.List.{get_or-set_same, get_or-set_other, take-append-le}
 use Rattle.std.proofs.Math.Seq.{drop-append-le}
 use Rattle.ts_packet.specs.declared.cell.Cell.{Cell}
 use Rattle.ts_packet.specs.declared.cell.Cell.TheVariants.{Live, Dropped}
@@ -11,13 +11,12 @@ use Rattle.ts_outside.specs.Sink.{SinkView}
 use Rattle.chain_model.specs.PluginRule.{PluginRule}
 use Rattle.chain_model.specs.Apply.{StageList}
 use Rattle.chain_core.specs.declared.stage_end.StageEnd.{StageEnd}
-use Rattle.chain_core.specs.declared.stage_end.StageEnd.TheVariants.{WriteFault}
 use Rattle.chain_core.specs.declared.stage_word.StageWord.{StageWord}
 use Rattle.chain_core.specs.Numbers.{written_of}
 use Rattle.chain_core.specs.Machine.{ChainState, StageState, Visit, marks_of, visit_of, Allowed}
-use Rattle.chain_core.specs.ChainRun.{ChainRun, state_after, took}
+use Rattle.chain_core.specs.ChainRun.{ChainRun, state_after}
 use Rattle.chain_core.specs.CoreNumbers.{CoreNumbers, IsLawfulPlan, StandsFor}
-use Rattle.chain_core.specs.Keeps.{Keeps, StageKeeps}
+use Rattle.chain_core.specs.Keeps.{Keeps}
 use Rattle.stage_run.specs.declared.stage_part.StagePart.{StagePart}
 use Rattle.stage_run.specs.PartLists.{PartLists}
 use Rattle.stage_run.specs.PartStands.{PartStands, PartGives}
@@ -25,7 +24,7 @@ use Rattle.stage_run.specs.OutputStands.{IsPartOfFirst}
 use Rattle.chain_run.specs.RunOf.{MayRead}
 use Rattle.chain_run.specs.Slots.{slot, HoldsFrom}
 use Rattle.chain_run.specs.Runs.{nothing_told, between, Begun, PartAt, InputAt, PluginAt, FailedAt, OutputAt, KeptFor, RunsBy}
-use Rattle.chain_run.proofs.MachineLaws.{MachineLaws, after-visit, given-falls, change, stage-other, written-grows, given-more}
+use Rattle.chain_run.proofs.MachineLaws.{MachineLaws, given-falls, stage-other, written-grows, given-more}
 
 -- ---- functions that are changed at one place
 

@@ -1,5 +1,5 @@
 -- A turn, from what its calls ensure.
-use Rattle.std.proofs.Common.{◌≡◌, ◌⊎◌, ℕ, suc, ◌+◌, ◌^◌, ◌<◌, ◌≤◌, Bool, true, false, List, [], ◌∷◌, length, Option, Some, None, sym, ◌∙◌, subst, ap, refl}
+use Rattle.std.proofs.Common.{◌≡◌, ◌⊎◌, ℕ, suc, ◌+◌, ◌^◌, ◌<◌, ◌≤◌, true, List, length, None, sym, ◌∙◌, subst, ap}
 use Rattle.std.specs.Prelude.{slice_index_or, is_some}
 use Rattle.ts_packet.specs.declared.cell.Cell.{Cell}
 use Rattle.ts_outside.specs.Source.{SourceView}
@@ -20,7 +20,7 @@ use Rattle.stage_run.specs.PartStands.{PartStands, MayWorkOnSome}
 use Rattle.chain_run.specs.Runs.{nothing_told, Begun, IsIdle, still_below}
 use Rattle.chain_run.specs.Working.{Goes, RunsSomehow, StageWorks}
 use Rattle.chain_run.proofs.MachineLaws.{MachineLaws}
-use Rattle.chain_run.proofs.TurnWorks.{Looked, look, quiet-may, work-written, work-given, work-taken, work-stands, work-may, turned}
+use Rattle.chain_run.proofs.TurnWorks.{Looked, look, work-written, work-given, work-taken, work-stands, work-may, turned}
 use Rattle.chain_run.proofs.TurnMoves.{moves, rests, idle}
 
 -- the calls of a turn up to its work: a stage that goes on makes a visit that gives nothing

@@ -1,49 +1,25 @@
 -- A turn of a stage: two visits with its work between them.
-use Rattle.std.proofs.Common.{◌≡◌, ◌≢◌, ◌⊎◌, ℕ, zero, suc, ◌+◌, ◌-◌, ◌*◌, ◌%◌, ◌^◌, ◌<◌, ◌≤◌, min, Bool, true, false, List, [], ◌∷◌, ◌++◌, length, take, drop, Option, Some, None, refl, ap, sym, ◌∙◌, subst, arith, inl, inr, append-nil, length-append, eq-eqb}
-use Rattle.std.specs.Prelude.{slice_index_or, slice_set, is_some, ◌==◌, ◌&&◌, ◌||◌, nat_le, IsTrue}
+use Rattle.std.proofs.Common.{◌≡◌, ℕ, ◌+◌, ◌≤◌, Bool, true, false, [], ◌++◌, length, Option, Some, None, refl, ap, sym, ◌∙◌, subst, inl, inr, append-nil}
+use Rattle.std.specs.Prelude.{◌||◌}
 use Rattle.std.specs.Option.{option_or}
-use Rattle.std.proofs.lemmas.Bool.{cases_eq, cases_lt, cases_Bool, cond-true, cond-false, leb-true, le-leb}
-use Rattle.std.proofs.lemmas.List.{length-take, length-set}
-use Rattle.ts_packet.specs.declared.cell.Cell.{Cell}
+use Rattle.std.proofs.lemmas.Bool.{cases_eq, cases_Bool, cond-true, cond-false, leb-true, le-leb}
 use Rattle.ts_outside.specs.Source.{SourceView}
-use Rattle.ts_outside.specs.Sink.{SinkView}
-use Rattle.chain_model.specs.PluginRule.{PluginRule}
 use Rattle.chain_model.specs.Apply.{StageList, input_over}
 use Rattle.chain_model.specs.InputList.{input_of_bytes, input_of_nulls}
 use Rattle.chain_model.specs.Stuffed.{null_cells, stuffed_after, stop_nulls, stuffed}
 use Rattle.chain_model.specs.Stuffed as model
 use Rattle.chain_model.specs.declared.input_end.InputEnd.{InputEnd}
 use Rattle.chain_core.specs.declared.core_plan.CorePlan.{CorePlan}
-use Rattle.chain_core.specs.declared.mark.Mark.{Mark}
-use Rattle.chain_core.specs.declared.news.News.{News}
-use Rattle.chain_core.specs.declared.stage_end.StageEnd.{StageEnd}
-use Rattle.chain_core.specs.declared.stage_end.StageEnd.TheVariants.{Followed}
-use Rattle.chain_core.specs.declared.stage_word.StageWord.{StageWord}
 use Rattle.chain_core.specs.Stages.{has_stage}
-use Rattle.chain_core.specs.Numbers.{Marks, limit_of, reach_of, takes_of, agreed_with, is_before_over, is_after_over, news_of, MayFollow, MayVisit}
-use Rattle.chain_core.specs.Machine.{ChainState, StageState, Visit, mark_of, marks_of, visit_of, noted, visited, Allowed, news_after}
-use Rattle.chain_core.specs.ChainRun.{ChainRun, state_after}
-use Rattle.chain_core.specs.CoreNumbers.{CoreNumbers, IsLawfulPlan, StandsFor, marks_in}
-use Rattle.chain_core.specs.Keeps.{KeptRun}
-use Rattle.chain_core.specs.EveryOrder.{SoFar}
-use Rattle.chain_core.proofs.Stepping.{noted_stage, taking, noted-same, noted-other, visited-same}
+use Rattle.chain_core.specs.Numbers.{Marks, limit_of, takes_of, agreed_with, is_before_over, is_after_over, news_of, MayFollow}
+use Rattle.chain_core.specs.Machine.{ChainState, StageState, Visit, mark_of, marks_of, visit_of, noted, visited}
+use Rattle.chain_core.proofs.Stepping.{noted-same, noted-other, visited-same}
 use Rattle.stage_run.specs.declared.input_part.InputPart.{InputPart}
 use Rattle.stage_run.specs.declared.input_part.InputPart.TheVariants.{Stream, Nulls}
-use Rattle.stage_run.specs.declared.stage_part.StagePart.{StagePart}
-use Rattle.stage_run.specs.declared.work.Work.{Work}
-use Rattle.stage_run.specs.PartLists.{PartLists}
-use Rattle.stage_run.specs.PartStands.{PartStands, MayWork, MayWorkOnSome}
 use Rattle.stage_run.specs.Parts.{IsListOf}
-use Rattle.stage_run.specs.Telling.{is_reached, may_follow, FollowsNews}
+use Rattle.stage_run.specs.Telling.{is_reached, may_follow}
 use Rattle.stage_run.proofs.ContinuesLemmas.{within_limit-ends}
-use Rattle.chain_run.specs.Runs.{nothing_told, Begun, Fits, KeptFor, RunsBy, Runs}
-use Rattle.chain_run.specs.Working.{Goes, PartWorks, StageWorks}
-use Rattle.chain_run.proofs.MachineLaws.{MachineLaws, after-visit, change, stage-other, given-taken, taken-below}
-use Rattle.chain_run.proofs.SlotLemmas.{over_row, length-over_row}
-use Rattle.chain_run.proofs.StepLemmas.{set_at}
-use Rattle.chain_run.proofs.QuietVisit.{quiet-visit}
-use Rattle.chain_run.proofs.KindLemmas.{OutputDid}
-use Rattle.chain_run.proofs.WorkVisit.{may, written-below, given-below, w, worked-visit, output-done}
+use Rattle.chain_run.specs.Runs.{nothing_told}
 
 -- the list of an input ends by the input's end
 pub list-ends : {S : Type 0} (seen : S → SourceView) (from : InputPart S) (stuffing : model.Stuffing) (list : StageList) → IsListOf seen from stuffing list → (how : InputEnd) × (list.ended ≡ Some (input_over how))

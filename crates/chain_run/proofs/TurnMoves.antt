@@ -1,6 +1,6 @@
 -- What a turn does to the marks: less is left to do, or nothing has moved and the stage is idle.
-use Rattle.std.proofs.Common.{◌≡◌, ◌≢◌, ◌⊎◌, ℕ, zero, suc, ◌+◌, ◌%◌, ◌^◌, ◌<◌, ◌≤◌, Bool, true, false, List, [], ◌∷◌, ◌++◌, length, take, drop, Option, Some, None, refl, ap, sym, ◌∙◌, subst, arith, inl, inr, length-append}
-use Rattle.std.specs.Prelude.{slice_index_or, slice_set, is_some}
+use Rattle.std.proofs.Common.{◌≡◌, ◌≢◌, ◌⊎◌, ℕ, zero, suc, ◌+◌, ◌%◌, ◌^◌, ◌<◌, ◌≤◌, true, false, List, [], ◌∷◌, length, take, drop, Option, Some, None, refl, ap, sym, ◌∙◌, subst, arith, inl, inr, length-append}
+use Rattle.std.specs.Prelude.{is_some}
 use Rattle.std.proofs.lemmas.Bool.{cases_eq, cases_lt}
 use Rattle.std.proofs.lemmas.List.{length-take, length-drop}
 use Rattle.ts_packet.specs.declared.cell.Cell.{Cell}
@@ -12,10 +12,9 @@ use Rattle.chain_model.specs.Apply.{StageList}
 use Rattle.chain_core.specs.declared.core_plan.CorePlan.{CorePlan}
 use Rattle.chain_core.specs.declared.mark.Mark.{Mark}
 use Rattle.chain_core.specs.declared.news.News.{News}
-use Rattle.chain_core.specs.declared.stage_end.StageEnd.{StageEnd}
 use Rattle.chain_core.specs.declared.stage_word.StageWord.{StageWord}
-use Rattle.chain_core.specs.Numbers.{Marks, reach_of, takes_of, news_of, MayFollow}
-use Rattle.chain_core.specs.Machine.{ChainState, StageState, Visit, mark_of, marks_of, visit_of, visited}
+use Rattle.chain_core.specs.Numbers.{Marks, takes_of, news_of}
+use Rattle.chain_core.specs.Machine.{ChainState, StageState, Visit, mark_of, visit_of, visited}
 use Rattle.chain_core.specs.ChainRun.{state_after}
 use Rattle.chain_core.specs.CoreNumbers.{CoreNumbers, StandsFor, marks_in}
 use Rattle.chain_core.specs.Keeps.{KeptRun}

@@ -1,7 +1,6 @@
 -- A turn of a stage: it looks, works, and tells what it has done.
-use Rattle.std.proofs.Common.{◌≡◌, ◌≢◌, ◌⊎◌, ℕ, zero, suc, ◌+◌, ◌%◌, ◌^◌, ◌<◌, ◌≤◌, Bool, true, false, List, [], ◌∷◌, ◌++◌, length, take, drop, Option, Some, None, refl, ap, sym, ◌∙◌, subst, arith, inl, inr}
-use Rattle.std.specs.Prelude.{slice_index_or, slice_set, is_some}
-use Rattle.std.proofs.lemmas.Bool.{cases_eq}
+use Rattle.std.proofs.Common.{◌≡◌, ℕ, suc, ◌+◌, ◌%◌, ◌^◌, ◌<◌, ◌≤◌, true, List, [], ◌∷◌, ◌++◌, length, take, drop, Some, None, refl, ap, sym, ◌∙◌, subst, arith, inl}
+use Rattle.std.specs.Prelude.{slice_index_or, slice_set}
 use Rattle.std.proofs.lemmas.List.{length-take, length-drop, length-set}
 use Rattle.ts_packet.specs.declared.cell.Cell.{Cell}
 use Rattle.ts_outside.specs.Source.{SourceView}
@@ -11,13 +10,11 @@ use Rattle.chain_model.specs.Apply.{StageList}
 use Rattle.chain_core.specs.declared.core_plan.CorePlan.{CorePlan}
 use Rattle.chain_core.specs.declared.mark.Mark.{Mark}
 use Rattle.chain_core.specs.declared.news.News.{News}
-use Rattle.chain_core.specs.declared.stage_end.StageEnd.{StageEnd}
-use Rattle.chain_core.specs.declared.stage_end.StageEnd.TheVariants.{Followed}
 use Rattle.chain_core.specs.declared.stage_word.StageWord.{StageWord}
 use Rattle.chain_core.specs.Numbers.{Marks, limit_of, news_of, MayVisit}
-use Rattle.chain_core.specs.Machine.{ChainState, StageState, Visit, marks_of, visit_of, visited, Allowed, news_after}
+use Rattle.chain_core.specs.Machine.{ChainState, Visit, marks_of, visit_of, visited, Allowed, news_after}
 use Rattle.chain_core.specs.ChainRun.{ChainRun, state_after}
-use Rattle.chain_core.specs.CoreNumbers.{CoreNumbers, IsLawfulPlan, StandsFor, marks_in}
+use Rattle.chain_core.specs.CoreNumbers.{CoreNumbers, StandsFor, marks_in}
 use Rattle.chain_core.specs.Keeps.{KeptRun}
 use Rattle.chain_core.specs.EveryOrder.{SoFar}
 use Rattle.stage_run.specs.declared.stage_part.StagePart.{StagePart}
@@ -39,7 +36,6 @@ use Rattle.chain_run.proofs.MarkLemmas.{as-marks}
 module _ {S K P : Type 0} (in_seen : S → SourceView) (out_seen : K → SinkView) (rule : P → PluginRule) (stands : P → List Cell → ℕ → Type 0)
     (laws : MachineLaws) (every : (plan : CorePlan) (rules : List PluginRule) (input : StageList) (visits : List Visit) → KeptRun plan rules input visits → SoFar plan rules input (state_after plan visits))
     (begun : Begun S K) where
-
   -- the chain theorem of a run so far
   pub kept-run : (core : CoreNumbers) (stages slots : ℕ) → Fits begun core stages slots → (input : StageList) (visits : List Visit) → KeptFor in_seen out_seen rule stands begun visits input → ChainRun begun.plan visits → KeptRun begun.plan begun.rules input visits
   kept-run core stages slots fits input visits kept run = record {

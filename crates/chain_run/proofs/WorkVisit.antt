@@ -1,19 +1,16 @@
 -- A visit that tells what a stage has done: what the stage stands for then.
-use Rattle.std.proofs.Common.{◌≡◌, ◌≢◌, ◌⊎◌, ℕ, zero, suc, ◌+◌, ◌-◌, ◌*◌, ◌%◌, ◌^◌, ◌<◌, ◌≤◌, min, List, [], ◌∷◌, ◌++◌, length, take, drop, Option, Some, None, refl, ap, sym, ◌∙◌, subst, arith, inl, inr, append-nil, append_assoc, length-append, le_trans}
-use Rattle.std.specs.Prelude.{slice_index_or, slice_set}
-use Rattle.std.specs.List.{All}
-use Rattle.std.proofs.lemmas.Bool.{cases_eq, cases_lt, cond-true, cond-false, eq-eqb, ne_eqb}
-use Rattle.std.proofs.lemmas.List.{take-take, take-append-drop, take-append-le, drop-drop, length-take, length-drop}
+use Rattle.std.proofs.Common.{◌≡◌, ◌≢◌, ◌⊎◌, ℕ, zero, suc, ◌+◌, ◌-◌, ◌*◌, ◌%◌, ◌^◌, ◌<◌, ◌≤◌, List, [], ◌∷◌, ◌++◌, length, take, drop, Option, Some, None, refl, ap, sym, ◌∙◌, subst, arith, inl, inr, length-append}
+use Rattle.std.specs.Prelude.{slice_set}
+use Rattle.std.proofs.lemmas.Bool.{cases_eq, cases_lt}
+use Rattle.std.proofs.lemmas.List.{take-take, take-append-drop, drop-drop, length-take, length-drop}
 use Rattle.std.proofs.Math.Seq.{take-add, drop-append-le}
 use Rattle.ts_packet.specs.declared.cell.Cell.{Cell}
 use Rattle.ts_outside.specs.Source.{SourceView}
 use Rattle.ts_outside.specs.Sink.{SinkView}
 use Rattle.chain_model.specs.PluginRule.{PluginRule, passing_rule}
-use Rattle.chain_model.specs.Apply.{StageList, OwnEnd, input_over}
+use Rattle.chain_model.specs.Apply.{StageList}
 use Rattle.chain_model.specs.StageLists.{rule_behind}
 use Rattle.chain_model.specs.Joint.{joint_position}
-use Rattle.chain_model.specs.declared.input_end.InputEnd.{InputEnd}
-use Rattle.chain_core.specs.declared.core_plan.CorePlan.{CorePlan}
 use Rattle.chain_core.specs.declared.news.News.{News}
 use Rattle.chain_core.specs.declared.stage_end.StageEnd.{StageEnd}
 use Rattle.chain_core.specs.declared.stage_end.StageEnd.TheVariants.{WriteFault}
@@ -23,7 +20,7 @@ use Rattle.chain_core.specs.Numbers.{written_of, limit_of, news_of}
 use Rattle.chain_core.specs.Machine.{ChainState, StageState, Visit, marks_of, visit_of, Allowed}
 use Rattle.chain_core.specs.ChainRun.{ChainRun, state_after, took}
 use Rattle.chain_core.specs.CoreNumbers.{CoreNumbers, IsLawfulPlan, StandsFor}
-use Rattle.chain_core.specs.Keeps.{Keeps, StageKeeps, KeptRun}
+use Rattle.chain_core.specs.Keeps.{Keeps, StageKeeps}
 use Rattle.chain_core.specs.EveryOrder.{SoFar}
 use Rattle.stage_run.specs.declared.stage_part.StagePart.{StagePart}
 use Rattle.stage_run.specs.declared.work.Work.{Work}
@@ -36,13 +33,13 @@ use Rattle.stage_run.specs.Telling.{below_limit}
 use Rattle.stage_run.specs.Works.{Works, WorksByKind, OutputTells, KeepsRule, read_for}
 use Rattle.chain_run.specs.RunOf.{MayRead}
 use Rattle.chain_run.specs.Slots.{slot, HoldsFrom}
-use Rattle.chain_run.specs.Runs.{nothing_told, between, Begun, PartAt, InputAt, PluginAt, FailedAt, OutputAt, KeptFor, RunsBy}
+use Rattle.chain_run.specs.Runs.{between, Begun, PartAt, InputAt, PluginAt, FailedAt, OutputAt, KeptFor, RunsBy}
 use Rattle.chain_run.specs.Working.{PartWorks}
 use Rattle.chain_run.proofs.MachineLaws.{MachineLaws, change, stage-other, written-grows, given-falls, given-taken, taken-given, taken-falls, written-given, taken-ahead}
 use Rattle.chain_run.proofs.SlotLemmas.{holds-append, holds-take, holds-drop, holds-same, over_row, row-reads, row-written, row-other}
 use Rattle.chain_run.proofs.StepLemmas.{set_at, set_at-same, pick, part-more, Own, stepped}
 use Rattle.chain_run.proofs.QuietVisit.{going-own}
-use Rattle.chain_run.proofs.KindLemmas.{InputDid, input-did, PluginDid, plugin-did, OutputDid, output-did}
+use Rattle.chain_run.proofs.KindLemmas.{InputDid, input-did, plugin-did, OutputDid, output-did}
 
 -- ---- pieces of a list
 
@@ -359,9 +356,9 @@ module _ {S K P : Type 0} (in_seen : S → SourceView) (out_seen : K → SinkVie
               elim (cases_lt (at + work.done) joint) [
                 | inl before ↦ before
                 | inr due ↦ (let far = so_far input visits (by.kept input (less input gives)) by.run in
-                  let few = cut-before.0 in
-                  let known : limit_of begun.plan (marks_of old) ≡ Some joint = far.limit_when_due joint is (λ i below. let a = taken-falls laws begun.plan lawful.users visits by.run k i (omega (arith, e)) in let b = in_taken in omega arith) in
-                  cut-before.1 joint (ap (λ (n : News). n.limit) told ∙ known))
+                    let few = cut-before.0 in
+                    let known : limit_of begun.plan (marks_of old) ≡ Some joint = far.limit_when_due joint is (λ i below. let a = taken-falls laws begun.plan lawful.users visits by.run k i (omega (arith, e)) in let b = in_taken in omega arith) in
+                    cut-before.1 joint (ap (λ (n : News). n.limit) told ∙ known))
               ]
 
           failed : FailedAt in_seen out_seen rule stands begun after new Gives
@@ -499,7 +496,7 @@ module _ {S K P : Type 0} (in_seen : S → SourceView) (out_seen : K → SinkVie
               | inr apart' ↦ elim (cases_eq (suc j) k) [
                 | inl next ↦ is-left j next le
                 | inr far ↦ (subst (λ (l : List Cell). HoldsFrom (slot new_cells) (length (new.stages (suc j)).given) (drop (length (new.stages (suc j)).given) l)) (sym (given_same j apart'))
-                  (subst (λ (l : List Cell). HoldsFrom (slot new_cells) (length l) (drop (length l) (old.stages j).given)) (sym (given_same (suc j) far)) (frame j le (beside j apart' far))))
+                    (subst (λ (l : List Cell). HoldsFrom (slot new_cells) (length l) (drop (length l) (old.stages j).given)) (sym (given_same (suc j) far)) (frame j le (beside j apart' far))))
               ]
             ]
           where

@@ -8,7 +8,7 @@ ghost use Rattle.chain_run.specs.RunOf.{RunOf, NeverBegan};
 use crate::parts::{add_plugins, take_plugins};
 use crate::serial::Serial;
 use crate::{RunEnd, Stages};
-use chain_core::{Core, CorePlan};
+use chain_core::{Core, CorePlan, every_order, more_cells, news_promises, one_visit};
 use plugin_trait::Plugin;
 use stage_run::{Room, StagePart};
 use std::alloc::{AllocError, Global};
@@ -97,6 +97,10 @@ pub fn run_serial<S: Source, K: Sink, P: Plugin, G: Gate>(
     parts.push_reserved(StagePart::of_input(input, stuffing, input_room));
     add_plugins(&mut parts, &mut plugins);
     parts.push_reserved(StagePart::of_output(output, output_room));
+    one_visit();
+    news_promises();
+    more_cells();
+    every_order();
     let mut serial = Serial { core, parts, cells };
     serial.run(sizes, gate);
     let Serial {

@@ -1,8 +1,6 @@
-use Rattle.std.proofs.Common.{◌≡◌, ◌≤◌, ℕ, suc, sym, ap, subst, ◌∙◌}
+use Rattle.std.proofs.Common.{◌≤◌, ℕ, suc, subst}
 use Rattle.chain_core.specs.declared.core_plan.CorePlan.{CorePlan}
-use Rattle.chain_core.specs.Numbers.{Marks}
 use Rattle.chain_core.specs.CoreNumbers.{marks_in}
-use Rattle.chain_core.specs.ChainRun.{AllEnded}
 use Rattle.chain_run.specs.Runs.{IsIdleOrOver}
 use Rattle.chain_run.proofs.MarkLemmas.{over-of}
 use Rattle.chain_run.proofs.serial.Serial.round.Goals as goal

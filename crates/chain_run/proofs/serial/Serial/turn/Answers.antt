@@ -1,4 +1,4 @@
-use Rattle.std.proofs.Common.{◌≡◌, ◌<◌, ℕ, Bool, Option, None, Some, true, false, is_some, sym, ap, ◌∙◌, arith, inl, inr, refl}
+use Rattle.std.proofs.Common.{◌≡◌, Option, None, Some, false, is_some, sym, ap, ◌∙◌, arith, inl, inr, refl}
 use Rattle.chain_core.specs.declared.mark.Mark.{Mark}
 use Rattle.chain_core.specs.CoreNumbers.{marks_in}
 use Rattle.chain_run.proofs.TurnLaws.{turn-written, turn-given, turn-taken, turn-stands, turn-may, turn-goes, turn-moves, turn-rests, turn-idle}
@@ -168,4 +168,3 @@ returns-else-work-gt0-clause-idle g c = λ rests open_.
       news_is = c.visit-news.ensures.news;
     })
     c.work-work.new.self.core c.work-work.ensures.core c.work-work.new.self.parts.items c.work-work.new.self.cells.items c.work-work.result c.work-work.ensures.works c.visit.new.self c.visit.ensures.plan c.visit.ensures.visited (omega arith) (still-open c.work-work.result.word.ended (sym c.is_some-else-work-gt0.ensures ∙ rests))
-

@@ -1,4 +1,4 @@
-use Rattle.std.proofs.Common.{◌<◌, ◌≡◌, ◌+◌, ◌≤◌, ℕ, length, true, false}
+use Rattle.std.proofs.Common.{◌<◌, ◌≡◌, ◌+◌, ℕ, length, true, false}
 use Rattle.chain_core.specs.CoreNumbers.{marks_in}
 use Rattle.chain_run.specs.Runs.{Begun, IsIdleOrOver, still_below}
 use Rattle.chain_run.specs.Working.{Goes}

@@ -1,6 +1,5 @@
-use Rattle.std.proofs.Common.{slice_index_or, slice_set, ◌≡◌, ◌+◌, ◌<◌, ◌≤◌, ◌-◌, ◌%◌, ℕ, length, take, drop, List, refl, sym, subst, ap, ◌∙◌, arith}
+use Rattle.std.proofs.Common.{slice_index_or, slice_set, ◌≡◌, ◌<◌, ◌%◌, refl, sym, subst, ap, arith}
 use Rattle.std.proofs.Math.Nat.{mod-lt}
-use Rattle.ts_packet.specs.declared.cell.Cell.{Cell}
 use Rattle.chain_core.specs.declared.mark.Mark.{Mark}
 use Rattle.chain_core.specs.CoreNumbers.{marks_in}
 use Rattle.stage_run.specs.declared.stage_part.StagePart.{StagePart}

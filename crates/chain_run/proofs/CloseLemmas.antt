@@ -1,0 +1,304 @@
+-- A chain whose stages have all ended: what it comes to.
+use Rattle.std.proofs.Common.{◌≡◌, ◌≢◌, ◌⊎◌, ℕ, suc, ◌+◌, ◌<◌, ◌≤◌, List, [], ◌∷◌, ◌++◌, length, map, take, drop, true, false, Option, Some, None, refl, ap, sym, ◌∙◌, subst, arith, inl, inr}
+use Rattle.std.specs.Prelude.{slice_index_or}
+use Rattle.std.proofs.lemmas.Bool.{cases_eq, cases_lt}
+use Rattle.std.proofs.lemmas.List.{take-take, length-take}
+use Rattle.std.proofs.Math.Seq.{drop-append-le}
+use Rattle.ts_packet.specs.declared.cell.Cell.{Cell}
+use Rattle.ts_outside.specs.Source.{SourceView, unread, read_failed}
+use Rattle.ts_outside.specs.Sink.{SinkView, took, write_failed}
+use Rattle.chain_model.specs.declared.input_end.InputEnd.TheVariants.{End, Sync, ReadFault, TooLong}
+use Rattle.chain_model.specs.declared.cause.Cause.{Cause}
+use Rattle.chain_model.specs.declared.cause.Cause.TheVariants as cause
+use Rattle.chain_model.specs.Prefix.{IsPrefix}
+use Rattle.chain_model.specs.PluginRule.{PluginRule}
+use Rattle.chain_model.specs.Apply.{StageList}
+use Rattle.chain_model.specs.StageLists.{rule_behind, stage_list, end_list}
+use Rattle.chain_model.specs.Stuffed as model
+use Rattle.chain_model.specs.Written.{written}
+use Rattle.chain_core.specs.declared.core_plan.CorePlan.{CorePlan}
+use Rattle.chain_core.specs.declared.stage_end.StageEnd.{StageEnd}
+use Rattle.chain_core.specs.declared.stage_end.StageEnd.TheVariants.{Input, Last, Stop, Refuse, WriteFault, NoMemory, Followed}
+use Rattle.chain_core.specs.Numbers.{Marks, written_of}
+use Rattle.chain_core.specs.Machine.{ChainState, Visit, marks_of}
+use Rattle.chain_core.specs.ChainRun.{state_after, AllEnded}
+use Rattle.chain_core.specs.Close.{cause_of_stage, cut_at_close, cause_at_close}
+use Rattle.chain_core.specs.CoreNumbers.{CoreNumbers, marks_in}
+use Rattle.chain_core.specs.Keeps.{KeptRun}
+use Rattle.chain_core.specs.EveryOrder.{SoFar, AtClose}
+use Rattle.stage_run.specs.declared.input_part.InputPart.{InputPart}
+use Rattle.stage_run.specs.declared.input_part.InputPart.TheVariants as input
+use Rattle.stage_run.specs.declared.output_part.OutputPart.{OutputPart}
+use Rattle.stage_run.specs.declared.output_part.OutputPart.TheVariants as output
+use Rattle.stage_run.specs.declared.stage_part.StagePart.{StagePart}
+use Rattle.stage_run.specs.PartLists.{PartLists}
+use Rattle.stage_run.specs.PartStands.{PartStands, PartGives, rule_of, has_source, has_sink}
+use Rattle.stage_run.specs.OutputStands.{IsPartOfFirst, SinkTook}
+use Rattle.stage_run.specs.Parts.{IsSourceOf, IsSinkOf, FailedReading, LeavesSource, LeavesInput, LeavesOutput}
+use Rattle.chain_run.specs.Met.{AllMetTo}
+use Rattle.chain_run.specs.Parts.{AreTakenFrom}
+use Rattle.chain_run.specs.RunOf.{MayRead, LeftInput, TakesTo, LeftOutput}
+use Rattle.chain_run.specs.Runs.{between, Begun, KeptFor, RunsBy}
+use Rattle.chain_run.specs.Working.{Goes}
+use Rattle.chain_run.proofs.MachineLaws.{MachineLaws, taken-falls, written-given}
+use Rattle.chain_run.proofs.MarkLemmas.{as-marks}
+use Rattle.chain_run.proofs.StepLemmas.{may_read-more, part-more}
+use Rattle.chain_run.proofs.TurnWorks.{kept-run, far}
+
+-- ---- ends by their causes
+
+end-of-read_fault : (k : ℕ) (end : StageEnd) → cause_of_stage k end ≡ Some (cause.Input ReadFault) → end ≡ Input ReadFault
+end-of-read_fault k (Input how) e = let same : how ≡ ReadFault = cc in ap Input same
+end-of-read_fault k Last e = cc
+end-of-read_fault k Stop e = cc
+end-of-read_fault k (Refuse reason) e = cc
+end-of-read_fault k WriteFault e = cc
+end-of-read_fault k NoMemory e = cc
+end-of-read_fault k Followed e = cc
+
+end-of-write_fault : (k : ℕ) (end : StageEnd) → cause_of_stage k end ≡ Some cause.WriteFault → end ≡ WriteFault
+end-of-write_fault k (Input how) e = cc
+end-of-write_fault k Last e = cc
+end-of-write_fault k Stop e = cc
+end-of-write_fault k (Refuse reason) e = cc
+end-of-write_fault k WriteFault e = refl
+end-of-write_fault k NoMemory e = cc
+end-of-write_fault k Followed e = cc
+
+-- ---- what is left
+
+source-left : (stuffing : model.Stuffing) (first now : SourceView) (lists : PartLists) (told : Option StageEnd) → LeavesSource stuffing first now lists told → (first ≡ unread lists.read now) ⊎ (read_failed first ≡ unread lists.read now)
+source-left stuffing first now lists None left = inl left
+source-left stuffing first now lists (Some (Input (End n))) left = inl left
+source-left stuffing first now lists (Some (Input (Sync packet))) left = inl left
+source-left stuffing first now lists (Some (Input ReadFault)) left = inr left.source
+source-left stuffing first now lists (Some (Input TooLong)) left = inl left
+source-left stuffing first now lists (Some Last) left = inl left
+source-left stuffing first now lists (Some Stop) left = inl left
+source-left stuffing first now lists (Some (Refuse reason)) left = inl left
+source-left stuffing first now lists (Some WriteFault) left = inl left
+source-left stuffing first now lists (Some NoMemory) left = inl left
+source-left stuffing first now lists (Some Followed) left = inl left
+
+sink-left : (first now : SinkView) (given : List Cell) (cut : List ℕ) (told : Option StageEnd) → SinkTook first now given cut told
+    → ((told ≡ Some WriteFault) × (now ≡ write_failed (took first (written given ++ cut)))) ⊎ ((told ≢ Some WriteFault) × (now ≡ took first (written given)))
+sink-left first now given cut None left = inr (λ e. cc, left.0)
+sink-left first now given cut (Some (Input how)) left = inr (λ e. cc, left.0)
+sink-left first now given cut (Some Last) left = inr (λ e. cc, left.0)
+sink-left first now given cut (Some Stop) left = inr (λ e. cc, left.0)
+sink-left first now given cut (Some (Refuse reason)) left = inr (λ e. cc, left.0)
+sink-left first now given cut (Some WriteFault) left = inl (refl, left)
+sink-left first now given cut (Some NoMemory) left = inr (λ e. cc, left.0)
+sink-left first now given cut (Some Followed) left = inr (λ e. cc, left.0)
+
+takes-other : (old new : SinkView) (cells : List Cell) (cut : ℕ) (why : Cause) → (why ≡ cause.WriteFault → ⊥) → new ≡ took old (written (take cut cells)) → TakesTo old new cells cut why
+takes-other old new cells cut (cause.Input how) no_ is = is
+takes-other old new cells cut cause.Joint no_ is = is
+takes-other old new cells cut (cause.Until j) no_ is = is
+takes-other old new cells cut (cause.Stop j) no_ is = is
+takes-other old new cells cut (cause.Refuse j reason) no_ is = is
+takes-other old new cells cut cause.WriteFault no_ is = absurd (no_ refl)
+takes-other old new cells cut (cause.NoMemory k) no_ is = is
+
+module _ {S K P : Type 0} (in_seen : S → SourceView) (out_seen : K → SinkView) (rule : P → PluginRule) (stands : P → List Cell → ℕ → Type 0)
+    (laws : MachineLaws) (every : (plan : CorePlan) (rules : List PluginRule) (input : StageList) (visits : List Visit) → KeptRun plan rules input visits → SoFar plan rules input (state_after plan visits))
+    (close : (plan : CorePlan) (rules : List PluginRule) (input : StageList) (visits : List Visit) → KeptRun plan rules input visits → AllEnded plan (marks_of (state_after plan visits))
+    → AtClose plan rules input (state_after plan visits) (cut_at_close plan (marks_of (state_after plan visits))) (cause_at_close plan (marks_of (state_after plan visits))))
+    (begun : Begun S K) (core : CoreNumbers) (parts : List (StagePart S K P)) (cells : List Cell) (goes : Goes in_seen out_seen rule stands begun core parts cells) (over : AllEnded core.plan (marks_in core)) where
+  abbrev pub state : ChainState
+  state = state_after begun.plan goes.runs.visits
+
+  abbrev by : RunsBy in_seen out_seen rule stands begun core parts cells goes.runs.visits goes.runs.part goes.runs.lists
+  by = goes.runs.by
+
+  abbrev pub cut : ℕ
+  cut = cut_at_close begun.plan (marks_of state)
+
+  abbrev pub why : Cause
+  why = cause_at_close begun.plan (marks_of state)
+
+  abbrev out : ℕ
+  out = suc begun.plan.plugins
+
+  over-state : AllEnded begun.plan (marks_of state)
+  over-state =
+      subst (λ (p : CorePlan). AllEnded p (marks_of state)) goes.fits.plan_is
+      (subst (λ (m : Marks). AllEnded core.plan m) (as-marks core state by.numbers) over)
+
+  module _ (list : StageList) (gives : PartGives in_seen (goes.runs.part 0) (goes.runs.lists 0) list) where
+    kept : KeptFor in_seen out_seen rule stands begun goes.runs.visits list
+    kept = by.kept list gives
+
+    pub at-close : AtClose begun.plan begun.rules list state cut why
+    at-close =
+        close begun.plan begun.rules list goes.runs.visits (kept-run in_seen out_seen rule stands laws every begun core (length parts) (length cells) goes.fits list goes.runs.visits kept by.run) over-state
+
+    so-far : SoFar begun.plan begun.rules list state
+    so-far = far in_seen out_seen rule stands laws every begun core (length parts) (length cells) goes.fits list goes.runs.visits kept by.run
+
+    given-cut : length (state.stages out).given ≡ cut
+    given-cut =
+        let a = at-close.reached out (omega arith) in
+        let b : length (state.stages out).given ≡ length (take cut (end_list begun.rules list).cells) = ap (λ (l : List Cell). length l) at-close.written in
+        omega (arith, length-take cut (end_list begun.rules list).cells)
+
+    written-cut : written_of begun.plan (marks_of state) ≤ cut
+    written-cut =
+        let a = written-given laws begun.plan goes.fits.lawful.users goes.runs.visits by.run out (omega arith) in let b = given-cut in omega arith
+
+    -- a failed read is told by the input alone
+    read-told : why ≡ cause.Input ReadFault → ((state.stages 0).ended ≡ Some (Input ReadFault)) × (length (state.stages 0).given ≡ cut)
+    read-told is =
+        elim at-close.told [
+          | inl joint ↦ (let e = joint.0 in let f : cause.Joint ≡ cause.Input ReadFault = sym e ∙ is in cc)
+          | inr told ↦ (let k : ℕ = told.0 in let ends = told.1 in
+              let same : ends.end ≡ Input ReadFault = end-of-read_fault k ends.end (ends.gives ∙ ap (λ c. Some c) is) in
+              let ended : (state.stages k).ended ≡ Some (Input ReadFault) = ends.ended ∙ ap (λ e. Some e) same in
+              let first : k ≡ 0 = so-far.ends k (Input ReadFault) ended in
+              (subst (λ i. (state.stages i).ended ≡ Some (Input ReadFault)) first ended, subst (λ i. length (state.stages i).given ≡ cut) first told.3))
+        ]
+
+    -- and a failed write by the output
+    write-told : why ≡ cause.WriteFault → (state.stages out).ended ≡ Some WriteFault
+    write-told is =
+        elim at-close.told [
+          | inl joint ↦ (let e = joint.0 in let f : cause.Joint ≡ cause.WriteFault = sym e ∙ is in cc)
+          | inr told ↦ (let k : ℕ = told.0 in let ends = told.1 in
+              let same : ends.end ≡ WriteFault = end-of-write_fault k ends.end (ends.gives ∙ ap (λ c. Some c) is) in
+              let ended : (state.stages k).ended ≡ Some WriteFault = ends.ended ∙ ap (λ e. Some e) same in
+              let last : k ≡ out = so-far.ends k WriteFault ended in
+              subst (λ i. (state.stages i).ended ≡ Some WriteFault) last ended)
+        ]
+
+    told-write : (state.stages out).ended ≡ Some WriteFault → why ≡ cause.WriteFault
+    told-write is =
+        let failed = by.output.failed is in
+        elim at-close.told [
+          | inl joint ↦ (let late = failed.late list gives cut (so-far.limit_is_joint cut joint.1) in let a = given-cut in absurd (omega arith))
+          | inr told ↦ elim (cases_eq told.0 out) [
+            | inl last ↦ (let ends = told.1 in
+                let end-is : Some ends.end ≡ Some WriteFault = sym ends.ended ∙ (ap (λ i. (state.stages i).ended) last ∙ is) in
+                let same : ends.end ≡ WriteFault = cc in
+                let gives_it : Some cause.WriteFault ≡ Some why = sym (ap (cause_of_stage told.0) same) ∙ ends.gives in
+                let it : cause.WriteFault ≡ why = cc in sym it)
+            | inr before ↦ (let at : told.0 < out = below told.0 told.2 before in
+                let a = taken-falls laws begun.plan goes.fits.lawful.users goes.runs.visits by.run out told.0 at in
+                let b = failed.few in let c : length (state.stages told.0).given ≡ cut = told.3 in let d = given-cut in absurd (omega arith))
+          ]
+        ]
+      where
+        below : (k : ℕ) → k ≤ out → k ≢ out → k < out
+        below k le apart =
+            elim (cases_lt k out) [
+              | inl lt ↦ lt
+              | inr far' ↦ absurd (apart (omega arith))
+            ]
+
+    -- ---- the input
+
+    pub left-input : (made_from : InputPart S) → has_source made_from ≡ has_source begun.from → LeavesInput in_seen made_from begun.stuffing (goes.runs.lists 0) (state.stages 0).ended → LeftInput in_seen begun.stuffing begun.plan.buffer begun.from made_from cut why
+    left-input made_from same left =
+        cases begun.from made_from same by.input.source left read-told
+        (may_read-more begun.plan.buffer (written_of begun.plan (marks_of state)) cut (length (goes.runs.lists 0).read) written-cut by.input.within)
+        (ap (λ (l : List Cell). length l) by.input.at.given)
+      where
+        cases : (from made : InputPart S) → has_source made ≡ has_source from → IsSourceOf in_seen from (goes.runs.lists 0).source → LeavesInput in_seen made begun.stuffing (goes.runs.lists 0) (state.stages 0).ended
+            → (why ≡ cause.Input ReadFault → ((state.stages 0).ended ≡ Some (Input ReadFault)) × (length (state.stages 0).given ≡ cut)) → MayRead begun.plan.buffer cut (length (goes.runs.lists 0).read) → length (goes.runs.lists 0).given ≡ length (state.stages 0).given
+            → LeftInput in_seen begun.stuffing begun.plan.buffer from made cut why
+        cases (input.Stream old) (input.Stream new) has source leaves told within given =
+            let left' : LeavesSource begun.stuffing (in_seen old) (in_seen new) (goes.runs.lists 0) (state.stages 0).ended =
+            subst (λ (v : SourceView). LeavesSource begun.stuffing v (in_seen new) (goes.runs.lists 0) (state.stages 0).ended) source leaves in
+            record {
+              read = (goes.runs.lists 0).read;
+              source = source-left begun.stuffing (in_seen old) (in_seen new) (goes.runs.lists 0) (state.stages 0).ended left';
+              within = within;
+              at_fault = λ is. (let t = told is in
+                  let f : FailedReading begun.stuffing (in_seen old) (in_seen new) (goes.runs.lists 0) = subst (λ e. LeavesSource begun.stuffing (in_seen old) (in_seen new) (goes.runs.lists 0) e) t.0 left' in
+                  record {
+                    failed = f.source;
+                    in_sync = f.in_sync;
+                    cut_is = sym t.1 ∙ (sym given ∙ ap (λ (l : List Cell). length l) f.given);
+                  });
+            }
+        cases (input.Nulls old) (input.Nulls new) has source leaves told within given = λ is. leaves (told is).0
+        cases (input.Stream old) (input.Nulls new) has source leaves told within given = let e : false ≡ true = has in cc
+        cases (input.Nulls old) (input.Stream new) has source leaves told within given = let e : true ≡ false = has in cc
+
+    -- ---- the output
+
+    part-left : (state.stages out).ended ≡ Some WriteFault → IsPartOfFirst (drop cut (end_list begun.rules list).cells) (goes.runs.lists out).cut
+    part-left is =
+        let failed = by.output.failed is in
+        let prefix : IsPrefix (state.stages begun.plan.plugins).given (end_list begun.rules list).cells =
+        subst (λ n. IsPrefix (state.stages begun.plan.plugins).given (stage_list begun.rules list n).cells) (sym goes.fits.rules_are) (so-far.lists begun.plan.plugins (omega arith)) in
+        let long = at-close.reached begun.plan.plugins (omega arith) in
+        subst (λ (l : List Cell). IsPartOfFirst l (goes.runs.lists out).cut)
+        (sym (ap (drop cut) prefix.1 ∙ (drop-append-le cut (state.stages begun.plan.plugins).given prefix.0 long
+        ∙ ap (λ n. drop n (state.stages begun.plan.plugins).given ++ prefix.0) (sym given-cut))))
+        (part-more (between state begun.plan.plugins) prefix.0 (goes.runs.lists out).cut failed.part)
+
+    given-is : (goes.runs.lists out).given ≡ take cut (end_list begun.rules list).cells
+    given-is = by.output.at.given ∙ at-close.written
+
+    pub left-output : (made_to : OutputPart K) → has_sink made_to ≡ has_sink begun.to → LeavesOutput out_seen made_to (goes.runs.lists out) (state.stages out).ended → LeftOutput out_seen begun.to made_to (end_list begun.rules list).cells cut why
+    left-output made_to same left =
+        cases begun.to made_to same by.output.sink left
+      where
+        takes : (old new : SinkView) → SinkTook old new (goes.runs.lists out).given (goes.runs.lists out).cut (state.stages out).ended → TakesTo old new (end_list begun.rules list).cells cut why
+        takes old new left' =
+            elim (sink-left old new (goes.runs.lists out).given (goes.runs.lists out).cut (state.stages out).ended left') [
+              | inl failed ↦ subst (λ c. TakesTo old new (end_list begun.rules list).cells cut c) (sym (told-write failed.0))
+                  ((goes.runs.lists out).cut, failed.1 ∙ ap (λ (l : List Cell). write_failed (took old (written l ++ (goes.runs.lists out).cut))) given-is, part-left failed.0)
+              | inr whole ↦ takes-other old new (end_list begun.rules list).cells cut why (λ is. whole.0 (write-told is)) (whole.1 ∙ ap (λ (l : List Cell). took old (written l)) given-is)
+            ]
+
+        cases : (to made : OutputPart K) → has_sink made ≡ has_sink to → IsSinkOf out_seen to (goes.runs.lists out).sink → LeavesOutput out_seen made (goes.runs.lists out) (state.stages out).ended
+            → LeftOutput out_seen to made (end_list begun.rules list).cells cut why
+        cases (output.Stream old) (output.Stream new) has sink leaves =
+            takes (out_seen old) (out_seen new) (subst (λ (v : SinkView). SinkTook v (out_seen new) (goes.runs.lists out).given (goes.runs.lists out).cut (state.stages out).ended) sink leaves)
+        cases output.Discard output.Discard has sink leaves = λ is. leaves (write-told is)
+        cases (output.Stream old) output.Discard has sink leaves = let e : false ≡ true = has in cc
+        cases output.Discard (output.Stream new) has sink leaves = let e : true ≡ false = has in cc
+
+    -- ---- the plugins
+
+    pub met-all : (j : ℕ) (rest : List (StagePart S K P)) (made : List P) → AreTakenFrom in_seen out_seen rule stands rest made → j + length made ≡ begun.plan.plugins
+        → ((i : ℕ) (d : StagePart S K P) → i < length made → slice_index_or rest i d ≡ goes.runs.part (suc (j + i))) → AllMetTo stands begun.rules list cut j made
+    met-all j [] [] taken number same = tt
+    met-all j [] (plugin ∷ made) taken number same = absurd taken
+    met-all j (part ∷ []) [] taken number same = tt
+    met-all j (part ∷ next ∷ rest) [] taken number same = tt
+    met-all j (part ∷ rest) (plugin ∷ made) taken number same =
+        let lt : j < begun.plan.plugins = omega arith in
+        let is : part ≡ goes.runs.part (suc j) = same 0 part (omega arith) ∙ ap (λ n. goes.runs.part (suc n)) (omega arith) in
+        let here = by.plugin j lt in
+        let holds : stands plugin (goes.runs.lists (suc j)).met (goes.runs.lists (suc j)).mark =
+        taken.0.holds (goes.runs.lists (suc j)) (state.stages (suc j)).ended (subst (λ p. PartStands in_seen out_seen rule stands p (goes.runs.lists (suc j)) (state.stages (suc j)).ended) (sym is) here.at.stands_for) in
+        let reached : cut ≤ length (state.stages (suc j)).given = at-close.reached (suc j) (omega arith) in
+        let before : cut ≤ length (state.stages j).given = at-close.reached j (omega arith) in (
+          record {
+            history = (goes.runs.lists (suc j)).met;
+            mark = (goes.runs.lists (suc j)).mark;
+            holds = holds;
+            told = (let a = here.at.mark in let b = written-cut in omega arith);
+            reach = (let size : length (goes.runs.lists (suc j)).met ≡ length (take (length (state.stages (suc j)).given) (state.stages j).given) = ap (λ (l : List Cell). length l) here.met in omega (arith, length-take (length (state.stages (suc j)).given) (state.stages j).given));
+            same = ap (take cut) here.met ∙ (take-take cut (length (state.stages (suc j)).given) (state.stages j).given reached ∙ at-close.counted j (omega arith));
+          },
+          met-all (suc j) rest made taken.1 (omega arith) (λ i d below. same (suc i) d (omega arith) ∙ ap (λ n. goes.runs.part (suc n)) (omega arith)),
+        )
+
+  -- the rules are those of the plugins that went in
+  pub rules-all : (j : ℕ) (rules : List PluginRule) (rest : List (StagePart S K P)) (made : List P) → AreTakenFrom in_seen out_seen rule stands rest made → length made ≡ length rules → j + length made ≡ begun.plan.plugins
+      → ((i : ℕ) (d : StagePart S K P) → i < length made → slice_index_or rest i d ≡ goes.runs.part (suc (j + i)))
+      → ((i : ℕ) → i < length made → rule_behind begun.rules (j + i) ≡ rule_behind rules i) → map rule made ≡ rules
+  rules-all j [] rest [] taken long number same are = refl
+  rules-all j (r ∷ rules) rest [] taken long number same are = absurd (omega arith)
+  rules-all j [] rest (plugin ∷ made) taken long number same are = absurd (omega arith)
+  rules-all j (r ∷ rules) [] (plugin ∷ made) taken long number same are = absurd taken
+  rules-all j (r ∷ rules) (part ∷ rest) (plugin ∷ made) taken long number same are =
+      let lt : j < begun.plan.plugins = omega arith in
+      let is : part ≡ goes.runs.part (suc j) = same 0 part (omega arith) ∙ ap (λ n. goes.runs.part (suc n)) (omega arith) in
+      let head : rule plugin ≡ r = taken.0.same_rule ∙ (ap (λ p. rule_of rule p) is ∙ ((by.plugin j lt).rule_is ∙ (ap (rule_behind begun.rules) (omega arith) ∙ are 0 (omega arith)))) in
+      let tail : map rule made ≡ rules = rules-all (suc j) rules rest made taken.1 (omega arith) (omega arith) (λ i d below. same (suc i) d (omega arith) ∙ ap (λ n. goes.runs.part (suc n)) (omega arith))
+      (λ i below. ap (rule_behind begun.rules) (omega arith) ∙ are (suc i) (omega arith)) in
+      λ i. head i ∷ tail i

@@ -1,0 +1,27 @@
+-- Plugins on their way back from the stages of a chain.
+use Rattle.std.proofs.Common.{◌≡◌, ℕ, ◌+◌, ◌<◌, ◌≤◌, List, [], ◌∷◌, ◌++◌, length, take, drop, sym, arith}
+use Rattle.std.specs.Prelude.{slice_index_or}
+use Rattle.ts_packet.specs.declared.cell.Cell.{Cell}
+use Rattle.ts_outside.specs.Source.{SourceView}
+use Rattle.ts_outside.specs.Sink.{SinkView}
+use Rattle.chain_model.specs.PluginRule.{PluginRule}
+use Rattle.stage_run.specs.declared.stage_part.StagePart.{StagePart}
+use Rattle.chain_run.specs.Parts.{AreTakenFrom, ArePluginsAndOne}
+
+-- a list whose first member was taken away
+pub first-taken : {X : Type 0} (xs rest : List X) (x : X) → 0 < length xs → x ≡ slice_index_or xs 0 x → rest ≡ take 0 xs ++ drop (0 + 1) xs → xs ≡ x ∷ rest
+first-taken [] rest x some is are = absurd (omega arith)
+first-taken (y ∷ xs) rest x some is are = λ i. sym is i ∷ sym are i
+
+-- a list of one
+pub one-is : {X : Type 0} (xs : List X) (x : X) → length xs ≡ 1 → x ≡ slice_index_or xs 0 x → xs ≡ x ∷ []
+one-is [] x one is = absurd (omega arith)
+one-is (y ∷ []) x one is = λ i. sym is i ∷ []
+one-is (y ∷ z ∷ xs) x one is = absurd (omega arith)
+
+module _ {S K P : Type 0} (in_seen : S → SourceView) (out_seen : K → SinkView) (rule : P → PluginRule) (stands : P → List Cell → ℕ → Type 0) where
+  -- where one stage is left, no plugin is
+  pub none-taken : (parts : List (StagePart S K P)) → length parts ≤ 1 → ArePluginsAndOne in_seen out_seen rule stands parts → AreTakenFrom in_seen out_seen rule stands parts []
+  none-taken [] few are = absurd are
+  none-taken (part ∷ []) few are = tt
+  none-taken (part ∷ next ∷ parts) few are = absurd (omega arith)
