@@ -58,16 +58,12 @@ fn sized_trial(
     goes: &str,
 ) -> Result<Trial, AllocError> {
     let mut words = Vec::new(alloc);
-    for text in [
-        chain.general,
-        buffer,
-        goes,
-        "-I file in",
-        chain.plugins,
-        "-O file out",
-    ] {
-        push_words(alloc, &mut words, text)?;
-    }
+    push_words(alloc, &mut words, chain.general)?;
+    push_words(alloc, &mut words, buffer)?;
+    push_words(alloc, &mut words, goes)?;
+    push_words(alloc, &mut words, "-I file in")?;
+    push_words(alloc, &mut words, chain.plugins)?;
+    push_words(alloc, &mut words, "-O file out")?;
     call_tool(alloc, words.as_slice(), Input::Mixed, Fails::Never)
 }
 

@@ -32,7 +32,7 @@ pub(crate) fn push_mixed(bytes: &mut Vec<u8>) -> Result<(), AllocError> {
         let counter = next_counter(counters[which], n, kind);
         counters[which] = counter;
         push_header(bytes, n, PIDS[which], kind.control | counter)?;
-        push_body(bytes, n, kind.field)?;
+        push_body(bytes, (n % 256) as u8, kind.field)?;
     }
     Ok(())
 }
@@ -85,13 +85,14 @@ fn push_header(bytes: &mut Vec<u8>, n: usize, pid: u16, last: u8) -> Result<(), 
     bytes.extend_from_slice(&[0x47, unit_start | high, low, last])
 }
 
-/// The 184 bytes behind the header: the adaptation field's length and flags, where there is one, and counting bytes.
-fn push_body(bytes: &mut Vec<u8>, n: usize, field: Option<Field>) -> Result<(), AllocError> {
-    for k in 0..184usize {
+/// The 184 bytes behind the header: the adaptation field's length and flags, where there is one, and bytes that
+/// count up from the least one.
+fn push_body(bytes: &mut Vec<u8>, least: u8, field: Option<Field>) -> Result<(), AllocError> {
+    for k in 0..184u8 {
         let byte = match field {
             Some(field) if k == 0 => field.length,
             Some(field) if k == 1 && field.length > 0 => field.flags,
-            _ => ((n + k) % 256) as u8,
+            _ => least.wrapping_add(k),
         };
         bytes.push(byte)?;
     }

@@ -37,7 +37,8 @@ fn print_report(rt: &impl Print, bytes: &[u8]) -> Result<()> {
 fn print_output(rt: &impl Print, name: &str, bytes: &[u8]) -> Result<()> {
     let count = bytes.len();
     print!(rt; "  output {name:?}: {count} bytes")?;
-    if count <= SHORT {
+    if 188 <= count && count <= SHORT {
+        print!(rt; ",")?;
         print_packets(rt, bytes)?;
     }
     if let [.., a, b, c, d] = bytes {
@@ -50,17 +51,15 @@ fn print_output(rt: &impl Print, name: &str, bytes: &[u8]) -> Result<()> {
 /// Prints each whole packet by its PID and its counter, and a null packet as `N`.
 fn print_packets(rt: &impl Print, bytes: &[u8]) -> Result<()> {
     let mut left = bytes;
-    let mut sign = ",";
     while let Some((row, rest)) = left.split_first_chunk::<188>() {
         let pid = u16::from_be_bytes([row[1] & 0x1F, row[2]]);
         if pid == NULL_PID {
-            print!(rt; "{sign} N")?;
+            print!(rt; " N")?;
         } else {
             let counter = row[3] & 0x0F;
-            print!(rt; "{sign} {pid}/{counter}")?;
+            print!(rt; " {pid}/{counter}")?;
         }
         left = rest;
-        sign = "";
     }
     Ok(())
 }
