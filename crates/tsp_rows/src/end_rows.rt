@@ -1,0 +1,76 @@
+//! Rows on what comes in, what goes out, and the input's own ends.
+use crate::fills::Fails;
+use crate::inputs::Input;
+use crate::row::Row;
+
+/// Three packets on two PIDs.
+const THREE: [u16; 3] = [256, 257, 256];
+
+pub(crate) const END_ROWS: [Row; 11] = [
+    Row {
+        name: "filter keeps one PID",
+        words: "-I file in -P filter --pid 256 -O file out",
+        input: Input::Pids(&THREE),
+        fails: Fails::Never,
+    },
+    Row {
+        name: "standard input and standard output",
+        words: "-P filter --pid 256",
+        input: Input::Pids(&THREE),
+        fails: Fails::Never,
+    },
+    Row {
+        name: "empty input",
+        words: "-I file in -O file out",
+        input: Input::Pids(&[]),
+        fails: Fails::Never,
+    },
+    Row {
+        name: "bytes left out",
+        words: "-I file in -O file out",
+        input: Input::Cut(&[256, 257], 205),
+        fails: Fails::Never,
+    },
+    Row {
+        name: "lost sync",
+        words: "-I file in -O file out",
+        input: Input::Lost(&[256, 256, 256], 376),
+        fails: Fails::Never,
+    },
+    Row {
+        name: "until before lost sync",
+        words: "-I file in -P until --packets 2 -O file out",
+        input: Input::Lost(&[256, 256, 256], 376),
+        fails: Fails::Never,
+    },
+    Row {
+        name: "stuffing",
+        words: "--add-start-stuffing 2 --add-input-stuffing 1/2 --add-stop-stuffing 1 -I file in -O file out",
+        input: Input::Pids(&THREE),
+        fails: Fails::Never,
+    },
+    Row {
+        name: "no stop nulls behind lost sync",
+        words: "--add-stop-stuffing 3 -I file in -O file out",
+        input: Input::Lost(&[256, 256, 256], 376),
+        fails: Fails::Never,
+    },
+    Row {
+        name: "null packets",
+        words: "-I null 2 -O file out",
+        input: Input::Pids(&THREE),
+        fails: Fails::Never,
+    },
+    Row {
+        name: "nothing is opened",
+        words: "-I null 4 -P filter --pid=0x1FFF -O drop",
+        input: Input::Pids(&THREE),
+        fails: Fails::Never,
+    },
+    Row {
+        name: "drop opens nothing",
+        words: "-I file in -O drop",
+        input: Input::Pids(&THREE),
+        fails: Fails::Never,
+    },
+];

@@ -1,0 +1,85 @@
+//! Rows on faults of the outside.
+use crate::fills::Fails;
+use crate::inputs::Input;
+use crate::row::Row;
+
+/// Three packets on two PIDs.
+const THREE: [u16; 3] = [256, 257, 256];
+
+/// Five packets on one PID.
+const FIVE: [u16; 5] = [256; 5];
+
+pub(crate) const OPENING_ROWS: [Row; 2] = [
+    Row {
+        name: "input not there",
+        words: "-I file in -O file out",
+        input: Input::Pids(&THREE),
+        fails: Fails::Open(1),
+    },
+    Row {
+        name: "output not to be opened",
+        words: "-I file in -O file out",
+        input: Input::Pids(&THREE),
+        fails: Fails::Open(2),
+    },
+];
+
+pub(crate) const RUN_ROWS: [Row; 6] = [
+    Row {
+        name: "a failing third read",
+        words: "-I file in -O file out",
+        input: Input::Pids(&FIVE),
+        fails: Fails::Read(3),
+    },
+    Row {
+        name: "until before a failing read",
+        words: "-I file in -P until --packets 2 -O file out",
+        input: Input::Pids(&FIVE),
+        fails: Fails::Read(3),
+    },
+    Row {
+        name: "no stop nulls behind a failing read",
+        words: "--add-stop-stuffing 3 -I file in -O file out",
+        input: Input::Pids(&FIVE),
+        fails: Fails::Read(3),
+    },
+    Row {
+        name: "joint termination before a failing read",
+        words: "-I file in -P until --packets 2 --joint-termination -O file out",
+        input: Input::Pids(&FIVE),
+        fails: Fails::Read(3),
+    },
+    Row {
+        name: "a failing second write",
+        words: "-I file in -O file out",
+        input: Input::Pids(&[256]),
+        fails: Fails::Write(2),
+    },
+    Row {
+        name: "a failing write behind a plugin",
+        words: "-I file in -P count -O file out",
+        input: Input::Pids(&FIVE),
+        fails: Fails::Write(1),
+    },
+];
+
+pub(crate) const LATE_ROWS: [Row; 3] = [
+    Row {
+        name: "a failing closing",
+        words: "-I file in -O file out",
+        input: Input::Pids(&THREE),
+        fails: Fails::Close(1),
+    },
+    Row {
+        name: "a failing report",
+        words: "-I file in -O file out",
+        input: Input::Pids(&THREE),
+        fails: Fails::Report(1),
+    },
+    Row {
+        name: "a failing report behind lost sync",
+        words: "-I file in -O file out",
+        input: Input::Lost(&[256, 256, 256], 376),
+        fails: Fails::Report(1),
+    },
+];

@@ -1,0 +1,68 @@
+//! The file that comes in: packets with payload, made from their PIDs and counters.
+use crate::mixed::push_mixed;
+use std::alloc::{AllocError, Global};
+
+const OTHER_BYTE: u8 = 0x46;
+
+/// What is in the file that a row reads.
+#[derive(Clone, Copy)]
+pub(crate) enum Input {
+    /// Packets on these PIDs, with right counters.
+    Pids(&'static [u16]),
+    /// Packets on PID 256 with these counters.
+    Counters(&'static [u8]),
+    /// So many bytes of packets on these PIDs.
+    Cut(&'static [u16], usize),
+    /// Packets on these PIDs, with 0x46 for the sync byte at this place.
+    Lost(&'static [u16], usize),
+    /// Sixty packets of many kinds on four PIDs.
+    Mixed,
+}
+
+/// The bytes of the file.
+pub(crate) fn input_bytes(alloc: Global, input: Input) -> Result<Vec<u8>, AllocError> {
+    let mut bytes = Vec::new(alloc);
+    match input {
+        Input::Pids(pids) => push_packets(&mut bytes, pids)?,
+        Input::Counters(counters) => push_counters(&mut bytes, counters)?,
+        Input::Cut(pids, len) => {
+            push_packets(&mut bytes, pids)?;
+            bytes.truncate(len);
+        }
+        Input::Lost(pids, place) => {
+            push_packets(&mut bytes, pids)?;
+            if let Some(byte) = bytes.get_mut(place) {
+                *byte = OTHER_BYTE;
+            }
+        }
+        Input::Mixed => push_mixed(&mut bytes)?,
+    }
+    Ok(bytes)
+}
+
+/// A packet on each of these PIDs, with the counter that follows the one before on its PID.
+fn push_packets(bytes: &mut Vec<u8>, pids: &[u16]) -> Result<(), AllocError> {
+    for (i, pid) in pids.iter().enumerate() {
+        let before = pids[..i].iter().filter(|p| **p == *pid).count();
+        push_packet(bytes, *pid, (before % 16) as u8)?;
+    }
+    Ok(())
+}
+
+/// A packet on PID 256 with each of these counters.
+fn push_counters(bytes: &mut Vec<u8>, counters: &[u8]) -> Result<(), AllocError> {
+    for counter in counters {
+        push_packet(bytes, 256, *counter)?;
+    }
+    Ok(())
+}
+
+/// A packet with payload from byte 4 on and without its unit start; its payload counts up from the counter.
+fn push_packet(bytes: &mut Vec<u8>, pid: u16, counter: u8) -> Result<(), AllocError> {
+    let [high, low] = pid.to_be_bytes();
+    bytes.extend_from_slice(&[0x47, high, low, 0x10 | counter % 16])?;
+    for k in 0..184u8 {
+        bytes.push(counter.wrapping_add(k))?;
+    }
+    Ok(())
+}

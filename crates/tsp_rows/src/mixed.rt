@@ -1,0 +1,100 @@
+//! The stream of the chains: sixty packets on four PIDs, some with unit starts, some with adaptation fields, some with
+//! counters that jump or stay.
+use std::alloc::AllocError;
+
+const PIDS: [u16; 4] = [256, 257, 258, 512];
+
+/// The bytes of adaptation_field_control, with an adaptation field alone and with one before a payload.
+const FIELD_ALONE: u8 = 0x20;
+
+const PAYLOAD_ALONE: u8 = 0x10;
+
+/// The adaptation field of a packet: its length and its flags.
+#[derive(Clone, Copy)]
+struct Field {
+    length: u8,
+    flags: u8,
+}
+
+/// What is in the fourth byte of a header besides its counter, and the adaptation field.
+#[derive(Clone, Copy)]
+struct Kind {
+    control: u8,
+    field: Option<Field>,
+}
+
+/// Puts all packets of the stream behind the bytes.
+pub(crate) fn push_mixed(bytes: &mut Vec<u8>) -> Result<(), AllocError> {
+    let mut counters = [0u8; 4];
+    for n in 0..60usize {
+        let kind = kind_of(n);
+        let which = (n + n * n / 7) % 4;
+        let counter = next_counter(counters[which], n, kind);
+        counters[which] = counter;
+        push_header(bytes, n, PIDS[which], kind.control | counter)?;
+        push_body(bytes, (n % 256) as u8, kind.field)?;
+    }
+    Ok(())
+}
+
+/// Whether a packet has an adaptation field alone, one before a payload, or a payload alone.
+fn kind_of(n: usize) -> Kind {
+    match n % 12 {
+        3 => Kind {
+            control: FIELD_ALONE,
+            field: Some(Field {
+                length: 183,
+                flags: 0,
+            }),
+        },
+        7 => with_field(7, 0),
+        10 => with_field(1, 0x80),
+        11 => with_field(0, 0),
+        _ => Kind {
+            control: PAYLOAD_ALONE,
+            field: None,
+        },
+    }
+}
+
+/// An adaptation field before a payload.
+fn with_field(length: u8, flags: u8) -> Kind {
+    Kind {
+        control: FIELD_ALONE | PAYLOAD_ALONE,
+        field: Some(Field { length, flags }),
+    }
+}
+
+/// The counter behind another one on its PID: it jumps at each ninth packet and stays at each fourteenth.
+fn next_counter(before: u8, n: usize, kind: Kind) -> u8 {
+    let stays = kind.control == FIELD_ALONE || n % 14 == 6;
+    let step = if n % 9 == 5 {
+        3
+    } else if stays {
+        0
+    } else {
+        1
+    };
+    before.wrapping_add(step) % 16
+}
+
+/// The four bytes of the header; each fifth packet has its unit start.
+fn push_header(bytes: &mut Vec<u8>, n: usize, pid: u16, last: u8) -> Result<(), AllocError> {
+    let [high, low] = pid.to_be_bytes();
+    let unit_start = if n % 5 == 0 { 0x40 } else { 0 };
+    bytes.extend_from_slice(&[0x47, unit_start | high, low, last])
+}
+
+/// The 184 bytes behind the header: the adaptation field's length and flags, where there is one, and bytes that
+/// count up from the least one.
+fn push_body(bytes: &mut Vec<u8>, least: u8, field: Option<Field>) -> Result<(), AllocError> {
+    for k in 0..184u8 {
+        let byte = match field {
+            Some(field) if k == 0 => field.length,
+            Some(field) if k == 1 && field.length > 0 => field.flags,
+            _ => least.wrapping_add(k),
+        };
+        bytes.push(byte)?;
+    }
+    Ok(())
+}

@@ -1,0 +1,55 @@
+//! Rows on words that are no command line: nothing is opened.
+use crate::fills::Fails;
+use crate::inputs::Input;
+use crate::row::Row;
+
+pub(crate) const WORD_ROWS: [Row; 8] = [
+    Row {
+        name: "missing option",
+        words: "-I null 2 -P filter -O drop",
+        input: Input::Pids(&[]),
+        fails: Fails::Never,
+    },
+    Row {
+        name: "second input",
+        words: "-I null 2 -I null 3",
+        input: Input::Pids(&[]),
+        fails: Fails::Never,
+    },
+    Row {
+        name: "no name",
+        words: "-I null 2 -P",
+        input: Input::Pids(&[]),
+        fails: Fails::Never,
+    },
+    Row {
+        name: "bad value",
+        words: "-I null 2 -P filter --pid 8192",
+        input: Input::Pids(&[]),
+        fails: Fails::Never,
+    },
+    Row {
+        name: "bad options",
+        words: "-I null 2 -P filter --pid 1 --pid 2",
+        input: Input::Pids(&[]),
+        fails: Fails::Never,
+    },
+    Row {
+        name: "unknown plugin",
+        words: "-I file in -P nosuch -O drop",
+        input: Input::Pids(&[]),
+        fails: Fails::Never,
+    },
+    Row {
+        name: "bad value of a general option",
+        words: "--buffer-packets 0",
+        input: Input::Pids(&[]),
+        fails: Fails::Never,
+    },
+    Row {
+        name: "options in conflict",
+        words: "-I file in -P until --packets 1 --exclude-last --joint-termination -O file out",
+        input: Input::Pids(&[]),
+        fails: Fails::Never,
+    },
+];
