@@ -1,4 +1,4 @@
-use Rattle.std.proofs.Common.{length, ap, arith}
+use Rattle.std.proofs.Common.{ap, arith}
 use Rattle.chain_core.specs.declared.news.News.{News}
 use Rattle.stage_run.specs.PartStands.{PartStands}
 use Rattle.stage_run.proofs.FreshLemmas.{works-on}
