@@ -12,3 +12,6 @@ mod stages;
 pub use run_end::RunEnd;
 pub use serial_run::run_serial;
 pub use stages::Stages;
+
+#[cfg(test)]
+mod tests;
