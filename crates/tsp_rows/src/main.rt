@@ -18,13 +18,13 @@ mod word_rows;
 use anyhow::Result;
 
 fn main(rt: HostRuntime) -> Result<()> {
-    row::print_rows(&rt, &end_rows::END_ROWS)?;
-    row::print_rows(&rt, &plugin_rows::PLUGIN_ROWS)?;
-    row::print_rows(&rt, &plugin_rows::WATCH_ROWS)?;
-    row::print_rows(&rt, &plugin_rows::JOINT_ROWS)?;
-    row::print_rows(&rt, &fault_rows::OPENING_ROWS)?;
-    row::print_rows(&rt, &fault_rows::RUN_ROWS)?;
-    row::print_rows(&rt, &fault_rows::LATE_ROWS)?;
-    row::print_rows(&rt, &word_rows::WORD_ROWS)?;
+    end_rows::print_end_rows(&rt)?;
+    plugin_rows::print_plugin_rows(&rt)?;
+    plugin_rows::print_watch_rows(&rt)?;
+    plugin_rows::print_joint_rows(&rt)?;
+    fault_rows::print_opening_rows(&rt)?;
+    fault_rows::print_run_rows(&rt)?;
+    fault_rows::print_late_rows(&rt)?;
+    word_rows::print_word_rows(&rt)?;
     chains::print_chains(&rt)
 }
