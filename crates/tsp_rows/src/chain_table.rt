@@ -8,7 +8,7 @@ pub(crate) struct Chain {
     pub(crate) plugins: &'static str,
 }
 
-pub(crate) const CHAINS: [Chain; 7] = [
+pub(crate) static CHAINS: [Chain; 7] = [
     Chain {
         name: "filter, skip and count",
         general: "",

@@ -8,7 +8,7 @@ use anyhow::Result;
 use std::alloc::{AllocError, Global};
 
 /// Sizes of the buffer; the empty text leaves the one by default.
-const BUFFERS: [&str; 5] = [
+static BUFFERS: [&str; 5] = [
     "--buffer-packets 1",
     "--buffer-packets 2",
     "--buffer-packets 7",
@@ -17,7 +17,7 @@ const BUFFERS: [&str; 5] = [
 ];
 
 /// How many cells a stage takes in one go, at most.
-const GOES: [&str; 3] = ["--max-flushed-packets 1", "--max-flushed-packets 3", ""];
+static GOES: [&str; 3] = ["--max-flushed-packets 1", "--max-flushed-packets 3", ""];
 
 /// How many runs there were, and how many came to what the first one came to.
 #[derive(Clone, Copy)]

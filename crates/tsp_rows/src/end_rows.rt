@@ -1,18 +1,12 @@
 //! Rows on what comes in, what goes out, and the input's own ends.
 use crate::fills::Fails;
 use crate::inputs::Input;
-use crate::row::{Row, print_rows};
-use anyhow::Result;
+use crate::row::Row;
 
 /// Three packets on two PIDs.
 const THREE: [u16; 3] = [256, 257, 256];
 
-/// Runs these rows, and prints what they came to.
-pub(crate) fn print_end_rows(rt: &(impl Print + AllocGlobal)) -> Result<()> {
-    print_rows(rt, &END_ROWS)
-}
-
-const END_ROWS: [Row; 11] = [
+pub(crate) static END_ROWS: [Row; 11] = [
     Row {
         name: "filter keeps one PID",
         words: "-I file in -P filter --pid 256 -O file out",

@@ -1,8 +1,7 @@
 //! Rows on faults of the outside.
 use crate::fills::Fails;
 use crate::inputs::Input;
-use crate::row::{Row, print_rows};
-use anyhow::Result;
+use crate::row::Row;
 
 /// Three packets on two PIDs.
 const THREE: [u16; 3] = [256, 257, 256];
@@ -10,12 +9,7 @@ const THREE: [u16; 3] = [256, 257, 256];
 /// Five packets on one PID.
 const FIVE: [u16; 5] = [256; 5];
 
-/// Runs the rows on openings that fail.
-pub(crate) fn print_opening_rows(rt: &(impl Print + AllocGlobal)) -> Result<()> {
-    print_rows(rt, &OPENING_ROWS)
-}
-
-const OPENING_ROWS: [Row; 2] = [
+pub(crate) static OPENING_ROWS: [Row; 2] = [
     Row {
         name: "input not there",
         words: "-I file in -O file out",
@@ -30,12 +24,7 @@ const OPENING_ROWS: [Row; 2] = [
     },
 ];
 
-/// Runs the rows on reads and writes that fail.
-pub(crate) fn print_run_rows(rt: &(impl Print + AllocGlobal)) -> Result<()> {
-    print_rows(rt, &RUN_ROWS)
-}
-
-const RUN_ROWS: [Row; 6] = [
+pub(crate) static RUN_ROWS: [Row; 6] = [
     Row {
         name: "a failing third read",
         words: "-I file in -O file out",
@@ -74,12 +63,7 @@ const RUN_ROWS: [Row; 6] = [
     },
 ];
 
-/// Runs the rows on what fails behind the run.
-pub(crate) fn print_late_rows(rt: &(impl Print + AllocGlobal)) -> Result<()> {
-    print_rows(rt, &LATE_ROWS)
-}
-
-const LATE_ROWS: [Row; 3] = [
+pub(crate) static LATE_ROWS: [Row; 3] = [
     Row {
         name: "a failing closing",
         words: "-I file in -O file out",

@@ -16,15 +16,20 @@ mod trial;
 mod word_rows;
 
 use anyhow::Result;
+use end_rows::END_ROWS;
+use fault_rows::{LATE_ROWS, OPENING_ROWS, RUN_ROWS};
+use plugin_rows::{JOINT_ROWS, PLUGIN_ROWS, WATCH_ROWS};
+use row::print_rows;
+use word_rows::WORD_ROWS;
 
 fn main(rt: HostRuntime) -> Result<()> {
-    end_rows::print_end_rows(&rt)?;
-    plugin_rows::print_plugin_rows(&rt)?;
-    plugin_rows::print_watch_rows(&rt)?;
-    plugin_rows::print_joint_rows(&rt)?;
-    fault_rows::print_opening_rows(&rt)?;
-    fault_rows::print_run_rows(&rt)?;
-    fault_rows::print_late_rows(&rt)?;
-    word_rows::print_word_rows(&rt)?;
+    print_rows(&rt, &END_ROWS)?;
+    print_rows(&rt, &PLUGIN_ROWS)?;
+    print_rows(&rt, &WATCH_ROWS)?;
+    print_rows(&rt, &JOINT_ROWS)?;
+    print_rows(&rt, &OPENING_ROWS)?;
+    print_rows(&rt, &RUN_ROWS)?;
+    print_rows(&rt, &LATE_ROWS)?;
+    print_rows(&rt, &WORD_ROWS)?;
     chains::print_chains(&rt)
 }

@@ -1,8 +1,7 @@
 //! Rows on the plugins, one or a few at a time.
 use crate::fills::Fails;
 use crate::inputs::Input;
-use crate::row::{Row, print_rows};
-use anyhow::Result;
+use crate::row::Row;
 
 /// Three packets on two PIDs.
 const THREE: [u16; 3] = [256, 257, 256];
@@ -16,12 +15,7 @@ const SAME: [u16; 10] = [256; 10];
 /// Ten packets, of which the last is on a PID of its own.
 const REFUSED: [u16; 10] = [256, 256, 256, 256, 256, 256, 256, 256, 256, 512];
 
-/// Runs the rows on plugins that let packets pass, or not.
-pub(crate) fn print_plugin_rows(rt: &(impl Print + AllocGlobal)) -> Result<()> {
-    print_rows(rt, &PLUGIN_ROWS)
-}
-
-const PLUGIN_ROWS: [Row; 6] = [
+pub(crate) static PLUGIN_ROWS: [Row; 6] = [
     Row {
         name: "slice drops, passes and stops",
         words: "-I file in -P slice --drop 1 --pass 3 --stop 4 -O file out",
@@ -60,12 +54,7 @@ const PLUGIN_ROWS: [Row; 6] = [
     },
 ];
 
-/// Runs the rows on plugins that report.
-pub(crate) fn print_watch_rows(rt: &(impl Print + AllocGlobal)) -> Result<()> {
-    print_rows(rt, &WATCH_ROWS)
-}
-
-const WATCH_ROWS: [Row; 6] = [
+pub(crate) static WATCH_ROWS: [Row; 6] = [
     Row {
         name: "count of all behind skip",
         words: "-I file in -P skip 1 -P count --all -O file out",
@@ -104,12 +93,7 @@ const WATCH_ROWS: [Row; 6] = [
     },
 ];
 
-/// Runs the rows on joint termination.
-pub(crate) fn print_joint_rows(rt: &(impl Print + AllocGlobal)) -> Result<()> {
-    print_rows(rt, &JOINT_ROWS)
-}
-
-const JOINT_ROWS: [Row; 6] = [
+pub(crate) static JOINT_ROWS: [Row; 6] = [
     Row {
         name: "joint termination at 5 and 3",
         words: "-I file in -P until --packets 5 --joint-termination -P skip 2 -P until --packets 1 --joint-termination -O file out",

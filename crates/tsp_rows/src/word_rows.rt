@@ -1,15 +1,9 @@
 //! Rows on words that are no command line: nothing is opened.
 use crate::fills::Fails;
 use crate::inputs::Input;
-use crate::row::{Row, print_rows};
-use anyhow::Result;
+use crate::row::Row;
 
-/// Runs these rows, and prints what they came to.
-pub(crate) fn print_word_rows(rt: &(impl Print + AllocGlobal)) -> Result<()> {
-    print_rows(rt, &WORD_ROWS)
-}
-
-const WORD_ROWS: [Row; 8] = [
+pub(crate) static WORD_ROWS: [Row; 8] = [
     Row {
         name: "missing option",
         words: "-I null 2 -P filter -O drop",
