@@ -1,9 +1,9 @@
 //! Chains with sizes of many kinds: each run has to come to what the first one comes to.
 use crate::chain_table::{CHAINS, Chain};
-use crate::fills::Fails;
 use crate::inputs::Input;
 use crate::outcome::print_outcome;
 use crate::trial::{Trial, call_tool, push_words};
+use crate::trial_desk::Fails;
 use anyhow::Result;
 use std::alloc::{AllocError, Global};
 

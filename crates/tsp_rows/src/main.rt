@@ -6,13 +6,13 @@ mod chain_table;
 mod chains;
 mod end_rows;
 mod fault_rows;
-mod fills;
 mod inputs;
-mod mixed;
+mod mixed_stream;
 mod outcome;
 mod plugin_rows;
 mod row;
 mod trial;
+mod trial_desk;
 mod word_rows;
 
 use anyhow::Result;

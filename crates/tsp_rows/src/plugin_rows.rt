@@ -1,7 +1,7 @@
 //! Rows on the plugins, one or a few at a time.
-use crate::fills::Fails;
 use crate::inputs::Input;
 use crate::row::Row;
+use crate::trial_desk::Fails;
 
 /// Three packets on two PIDs.
 const THREE: [u16; 3] = [256, 257, 256];
@@ -15,6 +15,7 @@ const SAME: [u16; 10] = [256; 10];
 /// Ten packets, of which the last is on a PID of its own.
 const REFUSED: [u16; 10] = [256, 256, 256, 256, 256, 256, 256, 256, 256, 512];
 
+/// Plugins that change packets or end their list.
 pub(crate) static PLUGIN_ROWS: [Row; 6] = [
     Row {
         name: "slice drops, passes and stops",
@@ -54,6 +55,7 @@ pub(crate) static PLUGIN_ROWS: [Row; 6] = [
     },
 ];
 
+/// Plugins that report, with sizes that may not change what they say.
 pub(crate) static WATCH_ROWS: [Row; 6] = [
     Row {
         name: "count of all behind skip",
@@ -93,6 +95,7 @@ pub(crate) static WATCH_ROWS: [Row; 6] = [
     },
 ];
 
+/// Plugins that agree to a common end, or would.
 pub(crate) static JOINT_ROWS: [Row; 6] = [
     Row {
         name: "joint termination at 5 and 3",
