@@ -5,3 +5,4 @@ pub mod Noting
 pub mod Summing
 pub mod Tallying
 pub mod Watching
+mod Rows

@@ -11,3 +11,4 @@ pub mod InputWorking
 pub mod PartLemmas
 pub mod PluginWorking
 pub mod OutputWorking
+pub mod FreshLemmas

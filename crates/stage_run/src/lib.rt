@@ -27,3 +27,6 @@ pub use room::Room;
 pub use stage_part::StagePart;
 pub use stuffing::Stuffing;
 pub use work::Work;
+
+#[cfg(test)]
+mod tests;

@@ -262,7 +262,7 @@ ran-facts in_seen out_seen rule stands plan old made new from made_from stuffing
       rose = faults-rose in_seen out_seen plan old made new from made_from to made_to failed (stage.stuffing_of stuffing) core.buffer cells closed.cut closed.cause opened run.input run.output leaves;
       closes = run.closes;
       reads = λ files told. reads-to in_seen old made new files plan.general plan.input from made_from (stage.stuffing_of stuffing) core.buffer closed.cut closed.cause
-          planned.stuffing_is planned.buffer_is told opened.input desks.made_inputs (leaves.closed_in ∙ desks.inputs) run.input;
+          planned.stuffing_is planned.buffer_within told opened.input desks.made_inputs (leaves.closed_in ∙ desks.inputs) run.input;
       written = (
         bytes,
         leaves.outputs ∙ took.outputs ∙ ap (λ o. outputs_with (output_name plan.output) o bytes) desks.first_outputs,

@@ -1,5 +1,5 @@
 -- What was read of an input that was opened and closed.
-use Rattle.std.proofs.Common.{◌≡◌, ◌⊎◌, ℕ, List, [], ◌∷◌, ◌++◌, Option, None, Some, IfSome, false, nat_lt, refl, ap, sym, ◌∙◌, subst, inl, inr, length}
+use Rattle.std.proofs.Common.{◌≡◌, ◌⊎◌, ◌≤◌, ℕ, List, [], ◌∷◌, ◌++◌, Option, None, Some, IfSome, false, nat_lt, refl, ap, sym, ◌∙◌, subst, inl, inr, length, arith}
 use Rattle.std.specs.Option.{option_map}
 use Rattle.chain_args.specs.declared.general_conf.GeneralConf.{GeneralConf}
 use Rattle.chain_args.specs.declared.input_conf.InputConf.{InputConf}
@@ -98,13 +98,17 @@ read-fault general old new read stuffing cut stuffing_is none cuts =
       cut_is = subst C stuffing_is cuts.cut_is;
     }
 
+-- what may be read with a buffer may be read with a greater one
+may_read-wider : (buffer wider cut bytes : ℕ) → buffer ≤ wider → MayRead buffer cut bytes → MayRead wider cut bytes
+may_read-wider buffer wider cut bytes le (inl few) = inl (omega arith)
+may_read-wider buffer wider cut bytes le (inr far) = inr (let a = far.0 in omega arith, far.1)
+
 -- a told file that a run read
 reads-file : (general : GeneralConf) (file : List ℕ) (d made next : DeskView) (old new : SourceView) (stuffing : model.Stuffing) (buffer cut : ℕ) (why : Cause)
-    → stuffing ≡ stuffing_of general → buffer ≡ general.buffer_packets → old.left ≡ Some file → old.faults ≡ 0 → made.closed_in ≡ d.closed_in → next.closed_in ≡ with_input made.closed_in new
+    → stuffing ≡ stuffing_of general → buffer ≤ general.buffer_packets → old.left ≡ Some file → old.faults ≡ 0 → made.closed_in ≡ d.closed_in → next.closed_in ≡ with_input made.closed_in new
     → ReadsSource stuffing buffer old new cut why → ReadsFile general file d next cut why
-reads-file general file d made next old new stuffing buffer cut why stuffing_is buffer_is told none same is run =
+reads-file general file d made next old new stuffing buffer cut why stuffing_is buffer_within told none same is run =
     let rest = left-behind new.left run.read file (sym told ∙ source-left old new run.read run.source) in
-    let W : ℕ → Type 0 = λ n. MayRead n cut (length run.read) in
     record {
       read = run.read;
       rest = rest.0;
@@ -112,19 +116,19 @@ reads-file general file d made next old new stuffing buffer cut why stuffing_is 
       bytes = rest.2;
       closed = is ∙ with_input-is made.closed_in new rest.0 rest.1
           ∙ ap (λ (o : Option (List ClosedInput)). grown o (record { left = length rest.0; failed = nat_lt 0 new.faults } ∷ [])) same;
-      within = subst W buffer_is run.within;
+      within = may_read-wider buffer general.buffer_packets cut (length run.read) buffer_within run.within;
       at_fault = λ is. read-fault general old new run.read stuffing cut stuffing_is none (run.at_fault is);
     }
 
 -- what a run reads of the input that was opened for it
 pub reads-to : {S : Type 0} (seen : S → SourceView) (d made next : DeskView) (files : List (List ℕ × List ℕ)) (general : GeneralConf) (conf : InputConf) (old new : InputPart S) (stuffing : model.Stuffing) (buffer cut : ℕ) (why : Cause)
-    → stuffing ≡ stuffing_of general → buffer ≡ general.buffer_packets → d.files ≡ Some files → OpensInput seen d conf old → made.closed_in ≡ d.closed_in
+    → stuffing ≡ stuffing_of general → buffer ≤ general.buffer_packets → d.files ≡ Some files → OpensInput seen d conf old → made.closed_in ≡ d.closed_in
     → next.closed_in ≡ (input_closed_as seen made new).closed_in → LeftInput seen stuffing buffer old new cut why → ReadsTo general conf files d next cut why
-reads-to seen d made next files general (input.File name) (Stream first) (Stream now) stuffing buffer cut why stuffing_is buffer_is told opens same is left =
-    reads-file general (file_of files name) d made next (seen first) (seen now) stuffing buffer cut why stuffing_is buffer_is
+reads-to seen d made next files general (input.File name) (Stream first) (Stream now) stuffing buffer cut why stuffing_is buffer_within told opens same is left =
+    reads-file general (file_of files name) d made next (seen first) (seen now) stuffing buffer cut why stuffing_is buffer_within
     (opened-told (seen first) d files name told opens) (ap (λ (s : SourceView). s.faults) opens) same is left
-reads-to seen d made next files general (input.Null count) (Nulls old) (Nulls new) stuffing buffer cut why stuffing_is buffer_is told opens same is left = (is ∙ same, left)
-reads-to seen d made next files general (input.File name) (Nulls old) new stuffing buffer cut why stuffing_is buffer_is told opens same is left = absurd opens
-reads-to seen d made next files general (input.File name) (Stream first) (Nulls new) stuffing buffer cut why stuffing_is buffer_is told opens same is left = absurd left
-reads-to seen d made next files general (input.Null count) (Stream first) new stuffing buffer cut why stuffing_is buffer_is told opens same is left = absurd opens
-reads-to seen d made next files general (input.Null count) (Nulls old) (Stream now) stuffing buffer cut why stuffing_is buffer_is told opens same is left = absurd left
+reads-to seen d made next files general (input.Null count) (Nulls old) (Nulls new) stuffing buffer cut why stuffing_is buffer_within told opens same is left = (is ∙ same, left)
+reads-to seen d made next files general (input.File name) (Nulls old) new stuffing buffer cut why stuffing_is buffer_within told opens same is left = absurd opens
+reads-to seen d made next files general (input.File name) (Stream first) (Nulls new) stuffing buffer cut why stuffing_is buffer_within told opens same is left = absurd left
+reads-to seen d made next files general (input.Null count) (Stream first) new stuffing buffer cut why stuffing_is buffer_within told opens same is left = absurd opens
+reads-to seen d made next files general (input.Null count) (Nulls old) (Stream now) stuffing buffer cut why stuffing_is buffer_within told opens same is left = absurd left

@@ -1,5 +1,5 @@
 -- A chain that ran between its two opened ends. This project's own rule.
-use Rattle.std.specs.Prelude.{◌≡◌, ℕ, List, map, Bool, ◌⊎◌}
+use Rattle.std.specs.Prelude.{◌≡◌, ◌≤◌, ℕ, List, map, Bool, ◌⊎◌}
 use Rattle.std.specs.Bool.{OnTrue}
 use Rattle.ts_packet.specs.declared.cell.Cell.{Cell}
 use Rattle.ts_outside.specs.Source.{SourceView}
@@ -30,7 +30,7 @@ closed_desk in_seen out_seen desk input output failed = output_closed_as out_see
 -- the numbers that a run is given are the plan's
 pub record IsPlanned (plan : Plan) (stuffing : Stuffing) (core : CorePlan) : Type 0 where
   pub stuffing_is : stage.stuffing_of stuffing ≡ stuffing_of plan.general
-  pub buffer_is : core.buffer ≡ plan.general.buffer_packets
+  pub buffer_within : core.buffer ≤ plan.general.buffer_packets
   pub users_are : stages_of core.users ≡ users_of plan
 
 -- a run that was closed and reported, or closed only, where there was no memory for its report

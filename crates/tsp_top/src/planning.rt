@@ -27,12 +27,19 @@ pub(crate) fn planned_stuffing(general: &GeneralConf) -> Stuffing
     }
 }
 
+/// One thread takes no more packets at a time than this, however many the options allow: so many stay in the processor's
+/// cache from the input to the output, and each call of the outside still moves 188 KiB.
+const MOST_AT_A_TIME: u64 = 1024;
+
 /// How many packets a stage takes at a time: no more than either option allows.
 pub(crate) fn planned_size(general: &GeneralConf) -> u32
     requires { IsLawfulGeneral general.now }
-    ensures { 1 ≤ result }
+    ensures some { 1 ≤ result }
+    ensures input { result ≤ general.now.max_input_packets }
+    ensures flushed { result ≤ general.now.max_flushed_packets }
 {
-    general.max_input_packets.min(general.max_flushed_packets) as u32
+    let most = general.max_input_packets.min(general.max_flushed_packets);
+    most.min(MOST_AT_A_TIME) as u32
 }
 
 /// The set with this stage too, if its plugin uses joint termination.
@@ -73,18 +80,19 @@ fn planned_users(plan: &Plan) -> StageSet
     }
 }
 
-/// The numbers of the chain's core.
+/// The numbers of the chain's core. Where the stages take turns, a buffer of more than one turn's packets serves nothing.
 pub(crate) fn planned_core(plan: &Plan) -> CorePlan
     requires { args.IsLawfulPlan plan.now }
     ensures lawful { core.IsLawfulPlan result }
     ensures plugins { result.plugins ≡ length plan.now.plugins }
-    ensures buffer { result.buffer ≡ plan.now.general.buffer_packets }
+    ensures buffer { result.buffer ≤ plan.now.general.buffer_packets }
     ensures users { stages_of result.users ≡ users_of plan.now }
 {
+    let most = planned_size(&plan.general) as usize;
     CorePlan {
         plugins: plan.plugins.as_slice().len(),
-        buffer: plan.general.buffer_packets as usize,
-        most: planned_size(&plan.general) as usize,
+        buffer: most.min(plan.general.buffer_packets as usize),
+        most,
         users: planned_users(plan),
     }
 }

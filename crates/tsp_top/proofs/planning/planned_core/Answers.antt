@@ -10,6 +10,6 @@ returns-clause-lawful c =
       plugins = rw count c.requires.few;
       some_buffer = omega arith;
       buffer = omega arith;
-      most = c.planned_size.ensures;
+      most = c.planned_size-most.ensures.some;
       users = rw (c.planned_users.ensures, count) (users-are-plugins c.args.plan.now.general.ignore_joint_termination c.args.plan.now.plugins);
     }

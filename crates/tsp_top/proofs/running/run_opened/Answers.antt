@@ -28,7 +28,7 @@ returns-in-Ok g c =
           core = c.planned_core-core.result;
           planned = record {
             stuffing_is = c.planned_stuffing-stuffing.ensures.stuffing;
-            buffer_is = c.planned_core-core.ensures.buffer;
+            buffer_within = c.planned_core-core.ensures.buffer;
             users_are = c.planned_core-core.ensures.users;
           };
           made = c.run_serial-input.result.plugins.items;

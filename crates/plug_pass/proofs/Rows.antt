@@ -1,0 +1,99 @@
+-- Worked rows of the rules, computed on the definitions. Packets of four bytes do as well as whole ones here, but for
+-- `pattern`, which writes to the end of a whole one.
+use Rattle.std.proofs.Common.{◌≡◌, ℕ, List, [], ◌∷◌, ◌++◌, replicate, None, Some, true, false, refl}
+use Rattle.bit_rows.specs.BitRow.{bit_of, field}
+use Rattle.ts_packet.specs.declared.cell.Cell.{Cell}
+use Rattle.ts_packet.specs.declared.cell.Cell.TheVariants.{Live, Dropped}
+use Rattle.ts_packet.specs.Packet.{null_packet}
+use Rattle.ts_packet.specs.Adaptation.{adaptation_length_of}
+use Rattle.ts_packet.specs.Payload.{payload_start_of}
+use Rattle.ts_packet.specs.Pcr.{pcr_of, has_pcr_of, clock_of}
+use Rattle.chain_model.specs.Apply.{apply, stopped}
+use Rattle.plug_conf.specs.declared.filter_conf.FilterConf.{FilterConf}
+use Rattle.plug_conf.specs.declared.pattern_conf.PatternConf.{PatternConf}
+use Rattle.plug_conf.specs.declared.slice_conf.SliceConf.{SliceConf}
+use Rattle.plug_pass.specs.FilterRule.{filter_rule}
+use Rattle.plug_pass.specs.PatternRule.{pattern_rule, repeated}
+use Rattle.plug_pass.specs.SkipRule.{skip_rule}
+use Rattle.plug_pass.specs.SliceRule.{slice_rule}
+
+-- a packet on PID 256, one on PID 257 with its unit start indicator, and a scrambled one on PID 258
+abbrev on_256 : List ℕ
+on_256 = 0x47 ∷ 0x01 ∷ 0x00 ∷ 0x10 ∷ []
+
+abbrev on_257 : List ℕ
+on_257 = 0x47 ∷ 0x41 ∷ 0x01 ∷ 0x10 ∷ []
+
+abbrev on_258 : List ℕ
+on_258 = 0x47 ∷ 0x01 ∷ 0x02 ∷ 0x90 ∷ []
+
+abbrev three : List Cell
+three = Live on_256 ∷ Live on_257 ∷ Live on_258 ∷ []
+
+-- `filter --pid 256-257`
+abbrev by_pid : FilterConf
+by_pid = record { pid = (256, 257) ∷ []; pcr = false; unit_start = false; scrambled = false; negate = false; stuffing = false }
+
+pid-kept : (apply (filter_rule by_pid) three).cells ≡ Live on_256 ∷ Live on_257 ∷ Dropped ∷ []
+unfolding field bit_of adaptation_length_of has_pcr_of clock_of pcr_of
+pid-kept = refl
+
+-- with `--negate`, and with `--stuffing` too
+pid-negated : (apply (filter_rule (record by_pid { negate = true })) three).cells ≡ Dropped ∷ Dropped ∷ Live on_258 ∷ []
+unfolding field bit_of adaptation_length_of has_pcr_of clock_of pcr_of
+pid-negated = refl
+
+pid-stuffed : (apply (filter_rule (record by_pid { stuffing = true })) three).cells ≡ Live on_256 ∷ Live on_257 ∷ Live null_packet ∷ []
+unfolding field bit_of adaptation_length_of has_pcr_of clock_of pcr_of
+pid-stuffed = refl
+
+-- one of two conditions is enough
+one-of_two : (apply (filter_rule (record by_pid { pid = []; unit_start = true; scrambled = true })) three).cells ≡ Dropped ∷ Live on_257 ∷ Live on_258 ∷ []
+unfolding field bit_of adaptation_length_of has_pcr_of clock_of pcr_of
+one-of_two = refl
+
+-- `skip 2`: a cell that was dropped before is no packet
+two-skipped : (apply (skip_rule 2) (Live on_256 ∷ Dropped ∷ Live on_257 ∷ Live on_258 ∷ [])).cells ≡ Dropped ∷ Dropped ∷ Dropped ∷ Live on_258 ∷ []
+two-skipped = refl
+
+none-skipped : (apply (skip_rule 0) three).cells ≡ three
+none-skipped = refl
+
+-- `slice --drop 1 --pass 3 --stop 4`: packets are numbered from 0
+abbrev slices : SliceConf
+slices = record { drop = Some 1; null = None; pass = Some 3; stop = Some 4 }
+
+sliced : apply (slice_rule slices) (Live on_256 ∷ Live on_257 ∷ Live on_258 ∷ Live on_257 ∷ Live on_256 ∷ Live on_257 ∷ [])
+    ≡ record { cells = Live on_256 ∷ Dropped ∷ Dropped ∷ Live on_257 ∷ []; ended = Some stopped }
+sliced = refl
+
+-- cells that were dropped before have no number
+sliced-packets : apply (slice_rule slices) (Dropped ∷ Live on_256 ∷ Dropped ∷ Live on_257 ∷ Live on_258 ∷ [])
+    ≡ record { cells = Dropped ∷ Live on_256 ∷ Dropped ∷ Dropped ∷ Dropped ∷ []; ended = None }
+sliced-packets = refl
+
+-- the pattern begins again behind its last byte
+seven-repeated : repeated (1 ∷ 2 ∷ 3 ∷ []) 7 ≡ 1 ∷ 2 ∷ 3 ∷ 1 ∷ 2 ∷ 3 ∷ 1 ∷ []
+unfolding repeated
+seven-repeated = refl
+
+-- `pattern 0102 --offset-pusi 181 --offset-non-pusi 183`: payloads begin at 4 in these packets
+abbrev patterns : PatternConf
+patterns = record { operand = 1 ∷ 2 ∷ []; pid = []; negate = false; offset_pusi = Some 181; offset_non_pusi = Some 183 }
+
+patterned-start : (apply (pattern_rule patterns) (Live (on_257 ++ replicate 184 0) ∷ [])).cells ≡ Live (on_257 ++ (replicate 181 0 ++ 1 ∷ 2 ∷ 1 ∷ [])) ∷ []
+unfolding field bit_of adaptation_length_of payload_start_of repeated
+patterned-start = refl
+
+patterned-other : (apply (pattern_rule patterns) (Live (on_256 ++ replicate 184 0) ∷ [])).cells ≡ Live (on_256 ++ (replicate 183 0 ++ 1 ∷ [])) ∷ []
+unfolding field bit_of adaptation_length_of payload_start_of repeated
+patterned-other = refl
+
+-- behind an adaptation field of two bytes the place is behind the packet's end, and a field alone has no payload
+behind-end : (apply (pattern_rule patterns) (Live (0x47 ∷ 0x01 ∷ 0x00 ∷ 0x30 ∷ 2 ∷ replicate 183 0) ∷ [])).cells ≡ Live (0x47 ∷ 0x01 ∷ 0x00 ∷ 0x30 ∷ 2 ∷ replicate 183 0) ∷ []
+unfolding field bit_of adaptation_length_of payload_start_of repeated
+behind-end = refl
+
+no-payload : (apply (pattern_rule patterns) (Live (0x47 ∷ 0x01 ∷ 0x00 ∷ 0x20 ∷ 183 ∷ replicate 183 0) ∷ [])).cells ≡ Live (0x47 ∷ 0x01 ∷ 0x00 ∷ 0x20 ∷ 183 ∷ replicate 183 0) ∷ []
+unfolding field bit_of adaptation_length_of payload_start_of repeated
+no-payload = refl

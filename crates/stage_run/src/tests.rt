@@ -1,0 +1,430 @@
+ghost use Rattle.std.specs.Prelude.{◌≡◌, ◌+◌, ◌≤◌, [], None, IfOk, length, false};
+ghost use Rattle.stage_run.specs.PartStands.{PartStands, MayWorkOnSome, kind_of, an_input, a_plugin, an_output};
+
+use super::*;
+use chain_core::{InputEnd, News, StageEnd};
+use plugin_trait::{Line, Outcome, Plugin, silent_report};
+use std::alloc::{AllocError, Global};
+use std::process::Abort;
+use std::test::Fail;
+use ts_outside::{
+    Desk, FailPlan, FileBytes, FileList, MemoryDesk, MemorySink, MemorySource, NameText,
+    NumberList, OpenGate, Sink, Source,
+};
+use ts_packet::{Cell, Packet};
+
+/// Passes the packets before a position, and stops at the first one from there on.
+#[derive(Drop)]
+struct StopsAt {
+    position: u64,
+    alloc: Global,
+}
+
+impl Plugin for StopsAt {
+    ghost use Rattle.std.specs.Prelude.{◌≡◌, ◌≤◌, [], None, false, length, nat_le, if◌then◌else◌, refl};
+    ghost use Rattle.chain_model.specs.PluginRule.{passes, stops};
+
+    ghost rule = { λ s. record {
+      outcome_of = λ history packet. if nat_le s.position (length history) then stops else passes packet;
+      lines_of = λ _ _. [];
+      summary_of = λ _. [];
+      agrees = λ _. false;
+    } };
+
+    ghost stands_for = { λ s history mark. mark ≤ length history };
+
+    ghost steady = { λ s. None };
+
+    fn step(&mut self, at: u64, cell: &mut Cell) -> Outcome {
+        if let Cell::Live(_) = cell {
+            if self.position <= at {
+                return Outcome::Stop;
+            }
+        }
+        Outcome::Pass
+    }
+
+    fn note(&mut self, _written: u64) -> Result<(), AllocError> {
+        Ok(())
+    }
+
+    fn agreed(&self) -> bool {
+        false
+    }
+
+    fn finish(&mut self, _cut: u64) -> Result<Vec<Line>, AllocError> {
+        Ok(silent_report(self.alloc))
+    }
+
+    ghost starts_open = { λ plugin history mark stands. refl };
+}
+
+/// A packet on PID 256.
+fn packet() -> Packet {
+    let mut packet = Packet::null();
+    packet.set_pid(256);
+    packet
+}
+
+/// A file `in` of so many packets on PID 256.
+fn files(alloc: Global, packets: usize) -> Result<FileList, AllocError> {
+    let mut bytes = Vec::new(alloc);
+    for _ in 0..packets {
+        bytes.extend_from_slice(packet().bytes())?;
+    }
+    let name = NameText::of(String::from_str(alloc, "in")?);
+    let mut files = Vec::new(alloc);
+    files.push((name, FileBytes::of(bytes)))?;
+    Ok(FileList::of(files))
+}
+
+/// A plan by which a read of this number fails, and a write of that one; one write takes at most 300 bytes.
+fn plan(alloc: Global, read: u64, write: u64) -> Result<FailPlan, AllocError>
+    ensures { IfOk result (λ p. (p.read_piece ≡ 1000) × (p.write_piece ≡ 300)) }
+{
+    Ok(FailPlan {
+        opens: NumberList::of(Vec::new(alloc)),
+        reads: NumberList::of(vec![in alloc; read]?),
+        writes: NumberList::of(vec![in alloc; write]?),
+        reports: NumberList::of(Vec::new(alloc)),
+        closes: NumberList::of(Vec::new(alloc)),
+        read_piece: 1000,
+        write_piece: 300,
+        room: 1000,
+    })
+}
+
+/// A desk with a file `in` of so many packets. Calls are numbered from 1, so that with 0 none fails.
+fn desk(alloc: Global, packets: usize, read: u64, write: u64) -> Result<MemoryDesk, AllocError> {
+    MemoryDesk::new(alloc, files(alloc, packets)?, plan(alloc, read, write)?)
+}
+
+/// News of ten cells, of which none is written.
+fn news(limit: Option<u64>) -> News
+    ensures { result ≡ record { taken = 10; limit = limit; written = 0; before_over = false; after_over = false } }
+{
+    News {
+        taken: 10,
+        limit,
+        written: 0,
+        before_over: false,
+        after_over: false,
+    }
+}
+
+/// A new input, which may work.
+fn input<S: Source, K: Sink, P: Plugin>(
+    part: InputPart<S>,
+    start: u64,
+    room: Room,
+) -> StagePart<S, K, P>
+    ensures may { MayWorkOnSome (PartStands S.seen K.seen P.rule P.stands_for result) 0 0 }
+    ensures kind { kind_of result ≡ an_input }
+{
+    let stuffing = Stuffing {
+        start,
+        stop: 0,
+        null: 0,
+        every: 1,
+    };
+    StagePart::of_input(part, stuffing, room)
+}
+
+/// A new output, which may work.
+fn output<S: Source, K: Sink, P: Plugin>(part: OutputPart<K>, room: Room) -> StagePart<S, K, P>
+    ensures may { MayWorkOnSome (PartStands S.seen K.seen P.rule P.stands_for result) 0 0 }
+    ensures kind { kind_of result ≡ an_output }
+{
+    StagePart::of_output(part, room)
+}
+
+/// A new plugin's stage, which may work.
+fn plugin<S: Source, K: Sink, P: Plugin>(plugin: P) -> StagePart<S, K, P>
+    requires fresh { P.stands_for plugin [] 0 }
+    ensures may { MayWorkOnSome (PartStands S.seen K.seen P.rule P.stands_for result) 0 0 }
+    ensures kind { kind_of result ≡ a_plugin }
+{
+    StagePart::of_plugin(plugin)
+}
+
+/// A stage's work on cells behind `at` others. It may work behind these too, unless it has ended.
+fn work<S: Source, K: Sink, P: Plugin>(
+    part: &mut StagePart<S, K, P>,
+    at: u64,
+    cells: &mut [Cell],
+    limit: Option<u64>,
+) -> Work
+    requires may { MayWorkOnSome (PartStands S.seen K.seen P.rule P.stands_for part.old) at 0 }
+    requires few { at + length cells.old ≤ 10 }
+    ensures again { result.word.ended ≡ None
+        → MayWorkOnSome (PartStands S.seen K.seen P.rule P.stands_for part.new) (at + length cells.old) 0 }
+    ensures kind { kind_of part.new ≡ kind_of part.old }
+{
+    part.work(1, at, cells, &news(limit), &OpenGate)
+}
+
+/// Closes the source of an input. The answer is how many null packets an input without a source has.
+fn close_input(desk: &mut MemoryDesk, part: InputPart<MemorySource>) -> Option<u64> {
+    match part {
+        InputPart::Stream(source) => {
+            desk.close_in(source);
+            None
+        }
+        InputPart::Nulls(count) => Some(count),
+    }
+}
+
+/// Closes the sink of an output. The answer is whether there was one.
+fn close_output(desk: &mut MemoryDesk, part: OutputPart<MemorySink>) -> bool {
+    match part {
+        OutputPart::Stream(sink) => {
+            let _ = desk.close_out(sink);
+            true
+        }
+        OutputPart::Discard => false,
+    }
+}
+
+/// What an input did with two windows of two cells; nothing with the second where the first one ended it.
+#[derive(Clone, Copy)]
+struct Gave {
+    first: Work,
+    second: Option<Work>,
+}
+
+/// Works on two windows of two cells, the second behind the first.
+fn gives<S: Source, K: Sink, P: Plugin>(
+    part: &mut StagePart<S, K, P>,
+    first: &mut [Cell; 2],
+    second: &mut [Cell; 2],
+) -> Gave
+    requires may { MayWorkOnSome (PartStands S.seen K.seen P.rule P.stands_for part.old) 0 0 }
+    ensures kind { kind_of part.new ≡ kind_of part.old }
+{
+    let one = work(part, 0, first, None);
+    if one.word.ended.is_some() {
+        return Gave {
+            first: one,
+            second: None,
+        };
+    }
+    let two = work(part, 2, second, None);
+    Gave {
+        first: one,
+        second: Some(two),
+    }
+}
+
+/// Works on two windows with an input, and gives the input back.
+fn gives_and_ends<S: Source, K: Sink, P: Plugin>(
+    part: InputPart<S>,
+    start: u64,
+    room: Room,
+    first: &mut [Cell; 2],
+    second: &mut [Cell; 2],
+) -> (InputPart<S>, Gave) {
+    let mut part: StagePart<S, K, P> = input(part, start, room);
+    let gave = gives(&mut part, first, second);
+    (part.into_input(), gave)
+}
+
+/// Works on two windows with an input that reads the file `in`, of so many packets. A read of this number fails.
+fn read_file(
+    alloc: Global,
+    packets: usize,
+    start: u64,
+    read: u64,
+    first: &mut [Cell; 2],
+    second: &mut [Cell; 2],
+) -> Result<Gave, Fail> {
+    let mut desk = desk(alloc, packets, read, 0)?;
+    let room = Room::new(alloc, 2)?;
+    let source = match desk.open_in(Some("in")) {
+        Ok(source) => source,
+        Err(_) => return Err("no source".into()),
+    };
+    let (part, gave) = gives_and_ends::<MemorySource, MemorySink, StopsAt>(
+        InputPart::Stream(source),
+        start,
+        room,
+        first,
+        second,
+    );
+    close_input(&mut desk, part);
+    Ok(gave)
+}
+
+/// The PID of a cell's packet, and none of a dropped cell.
+fn pid(cell: &Cell) -> Option<u16> {
+    match cell {
+        Cell::Live(packet) => Some(packet.pid()),
+        Cell::Dropped => None,
+    }
+}
+
+/// Looks at what was done with a window.
+fn did(rt: &impl Abort, work: Work, done: usize, ended: Option<StageEnd>) {
+    assert_eq!(rt; work.done, done);
+    assert_eq!(rt; work.word.ended, ended);
+}
+
+#[test]
+fn an_input_gives_its_packets_and_then_its_end(rt: HostRuntime) -> Result<(), Fail> {
+    let mut first = [Cell::Dropped; 2];
+    let mut second = [Cell::Dropped; 2];
+    let gave = read_file(rt.alloc(), 3, 0, 0, &mut first, &mut second)?;
+    did(&rt, gave.first, 2, None);
+    let end = StageEnd::Input(InputEnd::End { left: 0 });
+    did(&rt, gave.second.ok_or("the input ended")?, 1, Some(end));
+    assert_eq!(rt; pid(&first[1]), Some(256));
+    assert_eq!(rt; pid(&second[0]), Some(256));
+    assert_eq!(rt; pid(&second[1]), None);
+    Ok(())
+}
+
+#[test]
+fn stuffing_comes_first(rt: HostRuntime) -> Result<(), Fail> {
+    let mut first = [Cell::Dropped; 2];
+    let mut second = [Cell::Dropped; 2];
+    let gave = read_file(rt.alloc(), 2, 1, 0, &mut first, &mut second)?;
+    did(&rt, gave.first, 2, None);
+    let end = StageEnd::Input(InputEnd::End { left: 0 });
+    did(&rt, gave.second.ok_or("the input ended")?, 1, Some(end));
+    assert_eq!(rt; pid(&first[0]), Some(8191));
+    assert_eq!(rt; pid(&first[1]), Some(256));
+    assert_eq!(rt; pid(&second[0]), Some(256));
+    Ok(())
+}
+
+#[test]
+fn a_read_fails_behind_the_first_window(rt: HostRuntime) -> Result<(), Fail> {
+    let mut first = [Cell::Dropped; 2];
+    let mut second = [Cell::Dropped; 2];
+    let gave = read_file(rt.alloc(), 3, 0, 2, &mut first, &mut second)?;
+    did(&rt, gave.first, 2, None);
+    let end = StageEnd::Input(InputEnd::ReadFault);
+    did(&rt, gave.second.ok_or("the input ended")?, 0, Some(end));
+    Ok(())
+}
+
+#[test]
+fn an_input_of_null_packets_ends(rt: HostRuntime) -> Result<(), Fail> {
+    let mut first = [Cell::Dropped; 2];
+    let mut second = [Cell::Dropped; 2];
+    let mut desk = desk(rt.alloc(), 0, 0, 0)?;
+    let room = Room::new(rt.alloc(), 1)?;
+    let (part, gave) = gives_and_ends::<MemorySource, MemorySink, StopsAt>(
+        InputPart::Nulls(1),
+        0,
+        room,
+        &mut first,
+        &mut second,
+    );
+    assert_eq!(rt; close_input(&mut desk, part), Some(1));
+    let end = StageEnd::Input(InputEnd::End { left: 0 });
+    did(&rt, gave.first, 1, Some(end));
+    assert!(rt; gave.second.is_none());
+    assert_eq!(rt; pid(&first[0]), Some(8191));
+    assert_eq!(rt; pid(&first[1]), None);
+    Ok(())
+}
+
+/// Works on four cells with a plugin, and gives the plugin back.
+fn edits<S: Source, K: Sink, P: Plugin>(stage: P, cells: &mut [Cell; 4]) -> (P, Work)
+    requires fresh { P.stands_for stage [] 0 }
+{
+    let mut part: StagePart<S, K, P> = plugin(stage);
+    let work = work(&mut part, 0, cells, None);
+    (part.into_plugin(), work)
+}
+
+/// Four cells, of which the second is a dropped one.
+fn four() -> [Cell; 4] {
+    [
+        Cell::Live(packet()),
+        Cell::Dropped,
+        Cell::Live(packet()),
+        Cell::Live(packet()),
+    ]
+}
+
+#[test]
+fn a_plugin_passes_and_stops(rt: HostRuntime) -> Result<(), Fail> {
+    let alloc = rt.alloc();
+    let mut cells = four();
+    let stops = StopsAt { position: 4, alloc };
+    let (stops, work) = edits::<MemorySource, MemorySink, StopsAt>(stops, &mut cells);
+    did(&rt, work, 4, None);
+    assert_eq!(rt; stops.position, 4);
+    let stops = StopsAt { position: 1, alloc };
+    let (_, work) = edits::<MemorySource, MemorySink, StopsAt>(stops, &mut cells);
+    did(&rt, work, 2, Some(StageEnd::Stop));
+    Ok(())
+}
+
+/// Works on four cells with an output, and gives the output back.
+fn writes<S: Source, K: Sink, P: Plugin>(
+    part: OutputPart<K>,
+    room: Room,
+    limit: Option<u64>,
+) -> (OutputPart<K>, Work) {
+    let mut part: StagePart<S, K, P> = output(part, room);
+    let mut cells = four();
+    let work = work(&mut part, 0, &mut cells, limit);
+    (part.into_output(), work)
+}
+
+/// Writes four cells, and tells how many bytes the sink took. A write of this number fails.
+fn written(alloc: Global, limit: Option<u64>, write: u64) -> Result<(usize, Work), Fail> {
+    let mut desk = desk(alloc, 0, 0, write)?;
+    let room = Room::new(alloc, 4)?;
+    let sink = match desk.open_out(None) {
+        Ok(sink) => sink,
+        Err(_) => return Err("no sink".into()),
+    };
+    let (part, work) = writes::<MemorySource, MemorySink, StopsAt>(
+        OutputPart::Stream(sink),
+        room,
+        limit,
+    );
+    close_output(&mut desk, part);
+    match desk.output(0) {
+        Some((_, bytes)) => Ok((bytes.len(), work)),
+        None => Err("no output".into()),
+    }
+}
+
+#[test]
+fn an_output_writes_live_cells_alone(rt: HostRuntime) -> Result<(), Fail> {
+    let (bytes, work) = written(rt.alloc(), None, 0)?;
+    did(&rt, work, 4, None);
+    assert_eq!(rt; bytes, 3 * 188);
+    Ok(())
+}
+
+#[test]
+fn an_output_ends_at_the_limit(rt: HostRuntime) -> Result<(), Fail> {
+    let (bytes, work) = written(rt.alloc(), Some(2), 0)?;
+    did(&rt, work, 2, Some(StageEnd::Followed));
+    assert_eq!(rt; bytes, 188);
+    Ok(())
+}
+
+// The first write takes 300 bytes: a packet, and a part of the one behind the dropped cell.
+#[test]
+fn a_write_fails_within_a_packet(rt: HostRuntime) -> Result<(), Fail> {
+    let (bytes, work) = written(rt.alloc(), None, 2)?;
+    did(&rt, work, 2, Some(StageEnd::WriteFault));
+    assert_eq!(rt; bytes, 300);
+    Ok(())
+}
+
+#[test]
+fn a_discarding_output_counts_cells(rt: HostRuntime) -> Result<(), Fail> {
+    let mut desk = desk(rt.alloc(), 0, 0, 0)?;
+    let room = Room::new(rt.alloc(), 1)?;
+    let (part, work) = writes::<MemorySource, MemorySink, StopsAt>(OutputPart::Discard, room, None);
+    assert!(rt; !close_output(&mut desk, part));
+    did(&rt, work, 4, None);
+    Ok(())
+}
