@@ -8,7 +8,8 @@ pub(crate) struct Chain {
     pub(crate) plugins: &'static str,
 }
 
-pub(crate) const CHAINS: [Chain; 7] = [
+/// Together they use each plugin, all over the same mixed stream.
+pub(crate) static CHAINS: [Chain; 7] = [
     Chain {
         name: "filter, skip and count",
         general: "",

@@ -1,14 +1,14 @@
 //! Chains with sizes of many kinds: each run has to come to what the first one comes to.
 use crate::chain_table::{CHAINS, Chain};
-use crate::fills::Fails;
 use crate::inputs::Input;
 use crate::outcome::print_outcome;
 use crate::trial::{Trial, call_tool, push_words};
+use crate::trial_desk::Fails;
 use anyhow::Result;
 use std::alloc::{AllocError, Global};
 
 /// Sizes of the buffer; the empty text leaves the one by default.
-const BUFFERS: [&str; 5] = [
+static BUFFERS: [&str; 5] = [
     "--buffer-packets 1",
     "--buffer-packets 2",
     "--buffer-packets 7",
@@ -17,7 +17,7 @@ const BUFFERS: [&str; 5] = [
 ];
 
 /// How many cells a stage takes in one go, at most.
-const GOES: [&str; 3] = ["--max-flushed-packets 1", "--max-flushed-packets 3", ""];
+static GOES: [&str; 3] = ["--max-flushed-packets 1", "--max-flushed-packets 3", ""];
 
 /// How many runs there were, and how many came to what the first one came to.
 #[derive(Clone, Copy)]

@@ -1,12 +1,13 @@
 //! Rows on what comes in, what goes out, and the input's own ends.
-use crate::fills::Fails;
 use crate::inputs::Input;
 use crate::row::Row;
+use crate::trial_desk::Fails;
 
 /// Three packets on two PIDs.
 const THREE: [u16; 3] = [256, 257, 256];
 
-pub(crate) const END_ROWS: [Row; 11] = [
+/// No plugin, or one: the frame of a run.
+pub(crate) static END_ROWS: [Row; 11] = [
     Row {
         name: "filter keeps one PID",
         words: "-I file in -P filter --pid 256 -O file out",

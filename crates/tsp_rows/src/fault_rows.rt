@@ -1,7 +1,7 @@
 //! Rows on faults of the outside.
-use crate::fills::Fails;
 use crate::inputs::Input;
 use crate::row::Row;
+use crate::trial_desk::Fails;
 
 /// Three packets on two PIDs.
 const THREE: [u16; 3] = [256, 257, 256];
@@ -9,7 +9,8 @@ const THREE: [u16; 3] = [256, 257, 256];
 /// Five packets on one PID.
 const FIVE: [u16; 5] = [256; 5];
 
-pub(crate) const OPENING_ROWS: [Row; 2] = [
+/// Openings that fail: there is no run.
+pub(crate) static OPENING_ROWS: [Row; 2] = [
     Row {
         name: "input not there",
         words: "-I file in -O file out",
@@ -24,7 +25,8 @@ pub(crate) const OPENING_ROWS: [Row; 2] = [
     },
 ];
 
-pub(crate) const RUN_ROWS: [Row; 6] = [
+/// Reads and writes that fail in the run.
+pub(crate) static RUN_ROWS: [Row; 6] = [
     Row {
         name: "a failing third read",
         words: "-I file in -O file out",
@@ -63,7 +65,8 @@ pub(crate) const RUN_ROWS: [Row; 6] = [
     },
 ];
 
-pub(crate) const LATE_ROWS: [Row; 3] = [
+/// What fails behind the run.
+pub(crate) static LATE_ROWS: [Row; 3] = [
     Row {
         name: "a failing closing",
         words: "-I file in -O file out",

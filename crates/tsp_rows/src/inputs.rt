@@ -1,5 +1,5 @@
 //! The file that comes in: packets with payload, made from their PIDs and counters.
-use crate::mixed::push_mixed;
+use crate::mixed_stream::push_mixed;
 use std::alloc::{AllocError, Global};
 
 const OTHER_BYTE: u8 = 0x46;

@@ -6,25 +6,30 @@ mod chain_table;
 mod chains;
 mod end_rows;
 mod fault_rows;
-mod fills;
 mod inputs;
-mod mixed;
+mod mixed_stream;
 mod outcome;
 mod plugin_rows;
 mod row;
 mod trial;
+mod trial_desk;
 mod word_rows;
 
 use anyhow::Result;
+use end_rows::END_ROWS;
+use fault_rows::{LATE_ROWS, OPENING_ROWS, RUN_ROWS};
+use plugin_rows::{JOINT_ROWS, PLUGIN_ROWS, WATCH_ROWS};
+use row::print_rows;
+use word_rows::WORD_ROWS;
 
 fn main(rt: HostRuntime) -> Result<()> {
-    row::print_rows(&rt, &end_rows::END_ROWS)?;
-    row::print_rows(&rt, &plugin_rows::PLUGIN_ROWS)?;
-    row::print_rows(&rt, &plugin_rows::WATCH_ROWS)?;
-    row::print_rows(&rt, &plugin_rows::JOINT_ROWS)?;
-    row::print_rows(&rt, &fault_rows::OPENING_ROWS)?;
-    row::print_rows(&rt, &fault_rows::RUN_ROWS)?;
-    row::print_rows(&rt, &fault_rows::LATE_ROWS)?;
-    row::print_rows(&rt, &word_rows::WORD_ROWS)?;
+    print_rows(&rt, &END_ROWS)?;
+    print_rows(&rt, &PLUGIN_ROWS)?;
+    print_rows(&rt, &WATCH_ROWS)?;
+    print_rows(&rt, &JOINT_ROWS)?;
+    print_rows(&rt, &OPENING_ROWS)?;
+    print_rows(&rt, &RUN_ROWS)?;
+    print_rows(&rt, &LATE_ROWS)?;
+    print_rows(&rt, &WORD_ROWS)?;
     chains::print_chains(&rt)
 }

@@ -1,7 +1,7 @@
 //! Rows on the plugins, one or a few at a time.
-use crate::fills::Fails;
 use crate::inputs::Input;
 use crate::row::Row;
+use crate::trial_desk::Fails;
 
 /// Three packets on two PIDs.
 const THREE: [u16; 3] = [256, 257, 256];
@@ -15,15 +15,16 @@ const SAME: [u16; 10] = [256; 10];
 /// Ten packets, of which the last is on a PID of its own.
 const REFUSED: [u16; 10] = [256, 256, 256, 256, 256, 256, 256, 256, 256, 512];
 
-pub(crate) const PLUGIN_ROWS: [Row; 6] = [
+/// Plugins that change packets or end their list.
+pub(crate) static PLUGIN_ROWS: [Row; 6] = [
     Row {
-        name: "slice",
+        name: "slice drops, passes and stops",
         words: "-I file in -P slice --drop 1 --pass 3 --stop 4 -O file out",
         input: Input::Pids(&TEN),
         fails: Fails::Never,
     },
     Row {
-        name: "pattern",
+        name: "pattern at the end of a packet",
         words: "-I file in -P pattern ABCD --offset-non-pusi 182 -O file out",
         input: Input::Pids(&[256]),
         fails: Fails::Never,
@@ -54,7 +55,8 @@ pub(crate) const PLUGIN_ROWS: [Row; 6] = [
     },
 ];
 
-pub(crate) const WATCH_ROWS: [Row; 6] = [
+/// Plugins that report, with sizes that may not change what they say.
+pub(crate) static WATCH_ROWS: [Row; 6] = [
     Row {
         name: "count of all behind skip",
         words: "-I file in -P skip 1 -P count --all -O file out",
@@ -93,7 +95,8 @@ pub(crate) const WATCH_ROWS: [Row; 6] = [
     },
 ];
 
-pub(crate) const JOINT_ROWS: [Row; 6] = [
+/// Plugins that agree to a common end, or would.
+pub(crate) static JOINT_ROWS: [Row; 6] = [
     Row {
         name: "joint termination at 5 and 3",
         words: "-I file in -P until --packets 5 --joint-termination -P skip 2 -P until --packets 1 --joint-termination -O file out",

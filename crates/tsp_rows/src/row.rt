@@ -1,8 +1,8 @@
 //! A worked example: its words, what comes in, and which call fails.
-use crate::fills::Fails;
 use crate::inputs::Input;
 use crate::outcome::print_outcome;
 use crate::trial::{call_tool, push_words};
+use crate::trial_desk::Fails;
 use anyhow::Result;
 
 /// A worked example.

@@ -1,6 +1,6 @@
 //! One call of the tool over a desk in memory.
-use crate::fills::{Fails, filled_desk};
 use crate::inputs::Input;
+use crate::trial_desk::{Fails, filled_desk};
 use std::alloc::{AllocError, Global};
 use ts_outside::{MemoryDesk, OpenGate};
 use tsp_top::{Status, serial_call};

@@ -1,9 +1,10 @@
 //! Rows on words that are no command line: nothing is opened.
-use crate::fills::Fails;
 use crate::inputs::Input;
 use crate::row::Row;
+use crate::trial_desk::Fails;
 
-pub(crate) const WORD_ROWS: [Row; 8] = [
+/// One row for each broken rule but that of too many plugins.
+pub(crate) static WORD_ROWS: [Row; 8] = [
     Row {
         name: "missing option",
         words: "-I null 2 -P filter -O drop",

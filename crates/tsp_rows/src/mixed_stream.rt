@@ -4,10 +4,10 @@ use std::alloc::AllocError;
 
 const PIDS: [u16; 4] = [256, 257, 258, 512];
 
-/// The bytes of adaptation_field_control, with an adaptation field alone and with one before a payload.
-const FIELD_ALONE: u8 = 0x20;
+/// The bits of adaptation_field_control for an adaptation field, and for a payload; both may be set.
+const HAS_FIELD: u8 = 0x20;
 
-const PAYLOAD_ALONE: u8 = 0x10;
+const HAS_PAYLOAD: u8 = 0x10;
 
 /// The adaptation field of a packet: its length and its flags.
 #[derive(Clone, Copy)]
@@ -37,11 +37,12 @@ pub(crate) fn push_mixed(bytes: &mut Vec<u8>) -> Result<(), AllocError> {
     Ok(())
 }
 
-/// Whether a packet has an adaptation field alone, one before a payload, or a payload alone.
+/// Whether a packet has an adaptation field alone, one before a payload, or a payload alone. The flag
+/// 0x80 tells a discontinuity.
 fn kind_of(n: usize) -> Kind {
     match n % 12 {
         3 => Kind {
-            control: FIELD_ALONE,
+            control: HAS_FIELD,
             field: Some(Field {
                 length: 183,
                 flags: 0,
@@ -51,7 +52,7 @@ fn kind_of(n: usize) -> Kind {
         10 => with_field(1, 0x80),
         11 => with_field(0, 0),
         _ => Kind {
-            control: PAYLOAD_ALONE,
+            control: HAS_PAYLOAD,
             field: None,
         },
     }
@@ -60,14 +61,15 @@ fn kind_of(n: usize) -> Kind {
 /// An adaptation field before a payload.
 fn with_field(length: u8, flags: u8) -> Kind {
     Kind {
-        control: FIELD_ALONE | PAYLOAD_ALONE,
+        control: HAS_FIELD | HAS_PAYLOAD,
         field: Some(Field { length, flags }),
     }
 }
 
-/// The counter behind another one on its PID: it jumps at each ninth packet and stays at each fourteenth.
+/// The counter behind another one on its PID: it jumps at each ninth packet, and stays at each fourteenth and where
+/// there is no payload.
 fn next_counter(before: u8, n: usize, kind: Kind) -> u8 {
-    let stays = kind.control == FIELD_ALONE || n % 14 == 6;
+    let stays = kind.control == HAS_FIELD || n % 14 == 6;
     let step = if n % 9 == 5 {
         3
     } else if stays {
