@@ -8,3 +8,4 @@ pub mod CutLemmas
 pub mod StreamLemmas
 pub mod RanTheorem
 pub mod CallLemmas
+pub mod HeadlineLemmas

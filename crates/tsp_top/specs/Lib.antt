@@ -10,3 +10,4 @@ pub mod Reported
 pub mod Saying
 pub mod StreamTheorem
 pub mod TspCall
+pub mod Headline

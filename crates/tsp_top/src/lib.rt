@@ -11,8 +11,10 @@ mod reporting;
 mod running;
 mod saying;
 mod status;
+mod stream_law;
 mod words;
 
 pub use call::{serial_call, tsp_call};
 pub use chain_args::{WordsFault, WordsRule};
 pub use status::Status;
+pub use stream_law::headline;
