@@ -1,6 +1,5 @@
 -- The list of an input, as what is put so far and a rest.
-use Rattle.std.proofs.Common.{◌≡◌, ◌≢◌, ℕ, zero, suc, ◌+◌, ◌-◌, ◌*◌, ◌^◌, ◌<◌, ◌≤◌, Bool, true, false, List, [], ◌∷◌, ◌++◌, length, take, drop, replicate, refl, ap, sym, ◌∙◌, arith, append_assoc, append-nil, length-append, subst, take_at, Option, None, Some, ◌⊎◌, inl, inr}
-use Rattle.std.specs.Option.{IfSome}
+use Rattle.std.proofs.Common.{◌≡◌, ℕ, ◌+◌, ◌-◌, ◌*◌, ◌^◌, ◌<◌, ◌≤◌, false, List, [], ◌∷◌, ◌++◌, length, take, drop, replicate, refl, ap, sym, ◌∙◌, arith, append_assoc, append-nil, length-append, subst, Option, None, Some, inl, inr}
 use Rattle.std.proofs.lemmas.Bool.{cond-true, cond-false, le-leb, lt-leb, cases_lt}
 use Rattle.std.proofs.lemmas.List.{length-replicate, replicate-append-replicate, get_or_append_left}
 use Rattle.std.proofs.Math.Seq.{take-append-add}
@@ -8,17 +7,17 @@ use Rattle.std.specs.List.{All, concat}
 use Rattle.ts_packet.specs.Packet.{IsPacket, null_packet}
 use Rattle.ts_packet.specs.declared.cell.Cell.{Cell}
 use Rattle.ts_packet.specs.declared.cell.Cell.TheVariants.{Live}
-use Rattle.ts_outside.specs.Source.{SourceView, unread, read_failed}
+use Rattle.ts_outside.specs.Source.{SourceView}
 use Rattle.chain_model.specs.declared.input_end.InputEnd.{InputEnd}
 use Rattle.chain_model.specs.declared.input_end.InputEnd.TheVariants.{End, Sync, ReadFault, TooLong}
 use Rattle.chain_model.specs.Prefix.{IsPrefix}
-use Rattle.chain_model.specs.Apply.{StageList, OwnEnd, input_over, last_passed}
-use Rattle.chain_model.specs.InputList.{InputList, is_packet_in_front, packets_within, packets_of, end_behind, input_of_bytes, input_of_nulls}
+use Rattle.chain_model.specs.Apply.{StageList, input_over}
+use Rattle.chain_model.specs.InputList.{is_packet_in_front, packets_within, packets_of, end_behind, input_of_bytes, input_of_nulls}
 use Rattle.chain_model.specs.Stuffed.{null_cells, nulls_behind, stuffed_after, stop_nulls, within_limit, stuffed}
 use Rattle.chain_model.specs.Stuffed as model
 use Rattle.stage_run.specs.declared.packet_feed.PacketFeed.{PacketFeed}
 use Rattle.stage_run.specs.declared.packet_feed.PacketFeed.TheVariants.{Stream, Nulls}
-use Rattle.stage_run.specs.Rows.{IsUnfinished, IsOutOfSync, BeginsPacket}
+use Rattle.stage_run.specs.Rows.{BeginsPacket}
 use Rattle.stage_run.specs.Feeds.{FeedStands, StandsAtSource, NullsEnd, IsReady, hand_of}
 use Rattle.stage_run.specs.InputStands.{FeedGives, MayFollowEnd, stuffed_so_far}
 use Rattle.stage_run.proofs.PacketLemmas.{front-begins, front-unfinished, front-lost, packets_within-some, fuel_behind, fuel-some, packets_of-rows, packets_of-all, rest-behind, end_behind-unfinished, end_behind-lost}

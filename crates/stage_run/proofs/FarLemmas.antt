@@ -1,12 +1,11 @@
 -- What a plugin makes of two lists of cells, one behind the other, and cell by cell.
-use Rattle.std.proofs.Common.{◌≡◌, ℕ, ◌+◌, ◌<◌, ◌≤◌, List, [], ◌∷◌, ◌++◌, length, take, get_or, set, refl, ap, sym, ◌∙◌, arith, append_assoc, append-nil, subst, Option, None, Some}
+use Rattle.std.proofs.Common.{◌≡◌, ℕ, ◌+◌, ◌<◌, List, [], ◌∷◌, ◌++◌, length, take, get_or, set, refl, ap, sym, ◌∙◌, arith, append_assoc, append-nil, None}
 use Rattle.std.proofs.lemmas.List.{take_more, take_more_set, take-set}
 use Rattle.ts_packet.specs.declared.cell.Cell.{Cell}
-use Rattle.plugin_trait.specs.declared.list_end.ListEnd.{ListEnd}
 use Rattle.plugin_trait.specs.declared.list_end.ListEnd.TheVariants.{Through}
 use Rattle.plugin_trait.specs.declared.list_end.ListEnd.TheVariants as window
 use Rattle.chain_model.specs.PluginRule.{PluginRule}
-use Rattle.chain_model.specs.Apply.{StageList, OwnEnd, last_passed, CellFate, goes_on, ends_after, ends_before, became, onto, apply_after, apply}
+use Rattle.chain_model.specs.Apply.{StageList, CellFate, goes_on, ends_after, ends_before, became, onto, apply_after}
 use Rattle.plugin_trait.proofs.Going.{behind}
 use Rattle.stage_run.specs.PluginSteps.{made_so_far}
 

@@ -1,25 +1,24 @@
 -- An input step by step: what was given, with the null packets that are due, stays the stuffed list of its packets.
-use Rattle.std.proofs.Common.{◌≡◌, ◌≢◌, ℕ, zero, suc, ◌+◌, ◌-◌, ◌*◌, ◌%◌, ◌==◌, ◌<◌, ◌≤◌, Bool, true, false, if◌then◌else◌, List, [], ◌∷◌, ◌++◌, length, replicate, refl, ap, sym, ◌∙◌, arith, length-append, append_assoc, append-nil, add-one, subst, Option, None, Some, is_some, ◌⊎◌, inl, inr}
+use Rattle.std.proofs.Common.{◌≡◌, ℕ, ◌+◌, ◌*◌, ◌%◌, ◌==◌, ◌≤◌, Bool, true, false, if◌then◌else◌, List, [], ◌∷◌, ◌++◌, length, refl, ap, sym, ◌∙◌, arith, length-append, append_assoc, append-nil, add-one, subst, Option, None, Some, is_some, inr}
 use Rattle.std.specs.Option.{IfSome}
 use Rattle.std.proofs.lemmas.List.{append_cancel_left, length-replicate}
-use Rattle.ts_packet.specs.Packet.{IsPacket, null_packet}
+use Rattle.ts_packet.specs.Packet.{null_packet}
 use Rattle.ts_packet.specs.declared.cell.Cell.{Cell}
 use Rattle.ts_packet.specs.declared.cell.Cell.TheVariants.{Live}
 use Rattle.ts_outside.specs.Told.{before}
-use Rattle.ts_outside.specs.Source.{SourceView, unread, read_failed}
+use Rattle.ts_outside.specs.Source.{SourceView}
 use Rattle.chain_model.specs.declared.input_end.InputEnd.{InputEnd}
 use Rattle.chain_model.specs.declared.input_end.InputEnd.TheVariants.{End, Sync, ReadFault, TooLong}
 use Rattle.chain_model.specs.Apply.{StageList}
 use Rattle.chain_model.specs.InputList.{input_of_bytes, input_of_nulls}
 use Rattle.chain_model.specs.Stuffed.{null_cells, nulls_behind, stuffed_after, stop_nulls, stuffed}
 use Rattle.chain_model.specs.Stuffed as model
-use Rattle.stage_run.specs.declared.packet_stream.PacketStream.{PacketStream}
 use Rattle.stage_run.specs.declared.packet_feed.PacketFeed.{PacketFeed}
 use Rattle.stage_run.specs.declared.packet_feed.PacketFeed.TheVariants.{Stream, Nulls}
 use Rattle.stage_run.specs.declared.input_stage.InputStage.{InputStage}
 use Rattle.stage_run.specs.PartLists.{PartLists}
 use Rattle.stage_run.specs.Feeds.{FeedStands, FeedLooks, FeedPuts, SameFeed, StandsAtSource, packets_put, hand_of}
-use Rattle.stage_run.specs.InputStands.{InputHolds, FeedGives, MayGive, MayFollowEnd, stuffing_of, stuffed_so_far}
+use Rattle.stage_run.specs.InputStands.{InputHolds, FeedGives, MayGive, stuffing_of, stuffed_so_far}
 use Rattle.stage_run.specs.InputSteps.{InputGoes, IsOver, IsFilled, EndsAtLimit, cell_put, with_more, stop_count, null_count}
 
 -- one packet more, with the null packets behind it

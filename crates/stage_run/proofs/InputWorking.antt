@@ -1,10 +1,10 @@
 -- An input's work, put together from what it read and gave.
-use Rattle.std.proofs.Common.{◌≡◌, ◌≢◌, ℕ, zero, suc, ◌+◌, ◌-◌, ◌*◌, ◌^◌, ◌<◌, ◌≤◌, ◌==◌, if◌then◌else◌, Bool, true, false, List, [], ◌∷◌, ◌++◌, length, take, drop, refl, ap, sym, ◌∙◌, arith, append_assoc, append-nil, length-append, length-take, subst, Option, None, Some, ◌⊎◌, inl, inr, le_trans}
+use Rattle.std.proofs.Common.{◌≡◌, ◌≢◌, ℕ, ◌+◌, ◌*◌, ◌^◌, ◌<◌, ◌≤◌, if◌then◌else◌, Bool, true, false, List, [], ◌++◌, length, take, refl, ap, sym, ◌∙◌, arith, append-nil, length-append, length-take, subst, Option, None, Some, ◌⊎◌, inl, inr, le_trans}
 use Rattle.std.proofs.lemmas.Bool.{cond-true, cond-false, eq-eqb, ne_eqb, cases_eq}
 use Rattle.std.proofs.Math.Nat.{mul-le-mul_left}
 use Rattle.ts_packet.specs.declared.cell.Cell.{Cell}
 use Rattle.ts_outside.specs.Count.{raised}
-use Rattle.ts_outside.specs.Source.{SourceView, unread, read_failed}
+use Rattle.ts_outside.specs.Source.{SourceView, unread}
 use Rattle.chain_model.specs.declared.input_end.InputEnd.{InputEnd}
 use Rattle.chain_model.specs.declared.input_end.InputEnd.TheVariants.{End, Sync, ReadFault, TooLong}
 use Rattle.chain_model.specs.Apply.{StageList}
@@ -17,9 +17,9 @@ use Rattle.stage_run.specs.declared.packet_feed.PacketFeed.TheVariants.{Stream, 
 use Rattle.stage_run.specs.declared.input_stage.InputStage.{InputStage}
 use Rattle.stage_run.specs.PartLists.{PartLists}
 use Rattle.stage_run.specs.Feeds.{FeedStands, SameFeed, StandsAtSource, IsReady, hand_of}
-use Rattle.stage_run.specs.InputStands.{InputHolds, InputStands, IsOpen, IsGoingOn, FitsTold, MayGive, stuffing_of}
-use Rattle.stage_run.specs.InputSteps.{InputGoes, IsOver, EndsAtLimit, with_more}
-use Rattle.stage_run.specs.Telling.{may_follow, followed, FollowsNews}
+use Rattle.stage_run.specs.InputStands.{InputHolds, InputStands, IsOpen, IsGoingOn, FitsTold, stuffing_of}
+use Rattle.stage_run.specs.InputSteps.{InputGoes, IsOver, EndsAtLimit}
+use Rattle.stage_run.specs.Telling.{may_follow, followed}
 use Rattle.stage_run.specs.Works.{Works, InputWorks, InputTells, FaultsTold, source_faults, read_for}
 use Rattle.stage_run.specs.PartStands.{MayWork}
 use Rattle.stage_run.proofs.InputLemmas.{InputGoes-none}

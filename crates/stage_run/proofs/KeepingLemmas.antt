@@ -1,26 +1,21 @@
 -- What an input gives and tells, as a stage's list says.
-use Rattle.std.proofs.Common.{◌≡◌, ◌≢◌, ℕ, zero, suc, ◌+◌, ◌-◌, ◌*◌, ◌^◌, ◌<◌, ◌≤◌, ◌==◌, if◌then◌else◌, Bool, true, false, List, [], ◌∷◌, ◌++◌, length, take, drop, replicate, refl, ap, sym, ◌∙◌, arith, append_assoc, append-nil, length-append, subst, take_at, Option, None, Some, ◌⊎◌, inl, inr}
-use Rattle.std.proofs.lemmas.Bool.{cond-true, cond-false, eq-eqb, ne_eqb}
+use Rattle.std.proofs.Common.{◌≡◌, ℕ, ◌+◌, ◌^◌, ◌<◌, ◌≤◌, List, [], ◌++◌, length, refl, ap, sym, ◌∙◌, arith, append_assoc, append-nil, length-append, subst, take_at, Option, Some}
 use Rattle.std.proofs.lemmas.List.{length-replicate}
 use Rattle.ts_packet.specs.Packet.{null_packet}
 use Rattle.ts_packet.specs.declared.cell.Cell.{Cell}
 use Rattle.ts_packet.specs.declared.cell.Cell.TheVariants.{Live}
-use Rattle.ts_outside.specs.Source.{SourceView, unread, read_failed}
 use Rattle.chain_model.specs.declared.input_end.InputEnd.{InputEnd}
 use Rattle.chain_model.specs.declared.input_end.InputEnd.TheVariants.{End, Sync, ReadFault, TooLong}
 use Rattle.chain_model.specs.Prefix.{IsPrefix}
-use Rattle.chain_model.specs.PluginRule.{PluginRule}
-use Rattle.chain_model.specs.Apply.{StageList, OwnEnd, input_over, last_passed}
+use Rattle.chain_model.specs.Apply.{StageList, input_over, last_passed}
 use Rattle.chain_model.specs.Stuffed.{null_cells, within_limit, stuffed}
 use Rattle.chain_model.specs.Stuffed as model
 use Rattle.chain_core.specs.declared.stage_end.StageEnd.{StageEnd}
 use Rattle.chain_core.specs.declared.stage_end.StageEnd.TheVariants.{Input, Last, Stop, Refuse, WriteFault, NoMemory, Followed}
-use Rattle.chain_core.specs.Keeps.{IsEndOf, EndsAs, KeepsList, StageKeeps}
-use Rattle.stage_run.specs.declared.input_stage.InputStage.{InputStage}
+use Rattle.chain_core.specs.Keeps.{IsEndOf, EndsAs, KeepsList}
 use Rattle.stage_run.specs.PartLists.{PartLists}
-use Rattle.stage_run.specs.Feeds.{FeedStands, IsReady}
-use Rattle.stage_run.specs.InputStands.{InputHolds, InputStands, FitsTold, MayGive, stuffing_of, stuffed_so_far}
-use Rattle.stage_run.proofs.ContinuesLemmas.{Continues, EndsWith, continues-feed, within_limit-short, within_limit-long, within_limit-ends, within_limit-prefix, take-past}
+use Rattle.stage_run.specs.InputStands.{FitsTold, stuffed_so_far}
+use Rattle.stage_run.proofs.ContinuesLemmas.{Continues, EndsWith, within_limit-short, within_limit-long, within_limit-ends, within_limit-prefix}
 
 -- more cells would come than there are positions, where this is told
 abbrev pub IsLonger : Option StageEnd → ℕ → ℕ → Type 0

@@ -1,27 +1,25 @@
 -- An output's work, put together from what it wrote.
-use Rattle.std.proofs.Common.{◌≡◌, ◌≢◌, ℕ, zero, suc, ◌+◌, ◌-◌, ◌<◌, ◌≤◌, min, if◌then◌else◌, Bool, true, false, List, [], ◌∷◌, ◌++◌, length, take, drop, refl, ap, sym, ◌∙◌, arith, append_assoc, append-nil, length-append, length-take, subst, Option, None, Some, ◌⊎◌, inl, inr, take-append-drop}
+use Rattle.std.proofs.Common.{◌≡◌, ◌≢◌, ℕ, suc, ◌+◌, ◌<◌, ◌≤◌, if◌then◌else◌, Bool, true, false, List, [], ◌∷◌, ◌++◌, length, take, drop, refl, ap, sym, ◌∙◌, arith, append_assoc, append-nil, length-take, subst, Option, None, Some, inl, inr, take-append-drop}
 use Rattle.ts_packet.specs.declared.cell.Cell.{Cell}
 use Rattle.ts_outside.specs.Count.{raised}
 use Rattle.ts_outside.specs.Sink.{SinkView, took, write_failed}
 use Rattle.ts_outside.proofs.Views.{took-took}
-use Rattle.chain_model.specs.Prefix.{IsPrefix}
 use Rattle.chain_model.specs.PluginRule.{PluginRule, passing_rule}
-use Rattle.chain_model.specs.Apply.{StageList, OwnEnd, input_over, last_passed, stopped, refused, apply}
-use Rattle.chain_model.specs.StageLists.{rule_behind}
-use Rattle.chain_model.specs.Joint.{agreement_after, agreement_of}
+use Rattle.chain_model.specs.Apply.{StageList, last_passed, apply}
+use Rattle.chain_model.specs.Joint.{agreement_after}
 use Rattle.chain_model.specs.Written.{written}
 use Rattle.chain_model.proofs.ApplyLaws.{apply-passes}
 use Rattle.chain_core.specs.declared.news.News.{News}
 use Rattle.chain_core.specs.declared.stage_end.StageEnd.{StageEnd}
 use Rattle.chain_core.specs.declared.stage_end.StageEnd.TheVariants.{Input, Last, Stop, Refuse, WriteFault, NoMemory, Followed}
-use Rattle.chain_core.specs.Keeps.{IsEndOf, EndsAs, KeepsList, KeepsAgreement, StageKeeps}
+use Rattle.chain_core.specs.Keeps.{EndsAs, KeepsList, KeepsAgreement}
 use Rattle.stage_run.specs.declared.output_part.OutputPart.{OutputPart}
 use Rattle.stage_run.specs.declared.output_part.OutputPart.TheVariants.{Stream, Discard}
 use Rattle.stage_run.specs.declared.output_stage.OutputStage.{OutputStage}
 use Rattle.stage_run.specs.PartLists.{PartLists}
 use Rattle.stage_run.specs.PartStands.{MayWork}
 use Rattle.stage_run.specs.OutputStands.{IsPartOfFirst, SamePart, SinkTook, PartTook, OutputStands}
-use Rattle.stage_run.specs.Writing.{CutsAt, WritesCells, PartWrites}
+use Rattle.stage_run.specs.Writing.{PartWrites}
 use Rattle.stage_run.specs.Telling.{may_follow, followed, below_limit}
 use Rattle.stage_run.specs.Works.{Works, OutputWorks, OutputTells, FaultsTold, sink_faults, KeepsRule}
 use Rattle.stage_run.proofs.InputWorking.{plain_work}

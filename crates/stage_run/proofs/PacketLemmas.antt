@@ -1,11 +1,10 @@
 -- The packets of bytes that begin with packets.
-use Rattle.std.proofs.Common.{◌≡◌, ◌≢◌, ℕ, zero, suc, ◌+◌, ◌-◌, ◌*◌, ◌<◌, ◌≤◌, ◌==◌, ◌&&◌, Bool, true, false, List, [], ◌∷◌, ◌++◌, length, take, drop, get_or, refl, ap, sym, ◌∙◌, arith, append_assoc, append-nil, length-append, take_at, drop_at, eq-eqb, ne_eqb, zero-add}
+use Rattle.std.proofs.Common.{◌≡◌, ℕ, zero, suc, ◌+◌, ◌-◌, ◌*◌, ◌<◌, ◌&&◌, Bool, true, false, List, [], ◌∷◌, ◌++◌, length, take, drop, refl, ap, ◌∙◌, arith, append_assoc, append-nil, length-append, take_at, drop_at, eq-eqb, ne_eqb, zero-add}
 use Rattle.std.proofs.lemmas.Bool.{cond-true, cond-false, le-leb, lt-leb}
 use Rattle.std.proofs.lemmas.List.{get_or_append_left}
 use Rattle.std.proofs.lemmas.List.Elements.{All-head, All-tail}
 use Rattle.std.specs.List.{All, concat}
 use Rattle.ts_packet.specs.Packet.{IsPacket}
-use Rattle.chain_model.specs.declared.input_end.InputEnd.{InputEnd}
 use Rattle.chain_model.specs.declared.input_end.InputEnd.TheVariants.{End, Sync}
 use Rattle.chain_model.specs.InputList.{is_packet_in_front, packets_within, packets_of, end_behind}
 use Rattle.stage_run.specs.Rows.{IsUnfinished, IsOutOfSync, BeginsPacket}

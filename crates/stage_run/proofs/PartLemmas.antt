@@ -1,5 +1,5 @@
 -- An input before it was read, and what it leaves.
-use Rattle.std.proofs.Common.{◌≡◌, ◌≢◌, ℕ, zero, suc, ◌+◌, ◌-◌, ◌*◌, ◌^◌, ◌<◌, ◌≤◌, ◌↔◌, List, [], ◌∷◌, ◌++◌, length, take, drop, replicate, refl, ap, sym, ◌∙◌, arith, append-nil, subst, Option, None, Some, false}
+use Rattle.std.proofs.Common.{◌≡◌, ◌≢◌, ℕ, ◌^◌, ◌≤◌, ◌↔◌, List, [], ◌++◌, length, take, drop, replicate, refl, ap, sym, ◌∙◌, arith, append-nil, subst, Option, None, Some, false}
 use Rattle.std.specs.Option.{IfSome}
 use Rattle.std.specs.List.{All, concat}
 use Rattle.ts_packet.specs.Packet.{IsPacket, null_packet}
@@ -9,8 +9,8 @@ use Rattle.ts_outside.specs.Sink.{SinkView}
 use Rattle.ts_outside.proofs.Views.{unread-nil}
 use Rattle.chain_model.specs.declared.input_end.InputEnd.{InputEnd}
 use Rattle.chain_model.specs.declared.input_end.InputEnd.TheVariants.{End, Sync, ReadFault, TooLong}
-use Rattle.chain_model.specs.Apply.{StageList, input_over}
-use Rattle.chain_model.specs.InputList.{InputList, is_packet_in_front, packets_of, end_behind, input_of_bytes, input_of_nulls}
+use Rattle.chain_model.specs.Apply.{StageList}
+use Rattle.chain_model.specs.InputList.{InputList, is_packet_in_front, packets_of, input_of_bytes, input_of_nulls}
 use Rattle.chain_model.specs.Stuffed.{null_cells, stuffed_after, within_limit, stuffed}
 use Rattle.chain_model.specs.Stuffed as model
 use Rattle.chain_core.specs.declared.stage_end.StageEnd.{StageEnd}
@@ -24,7 +24,7 @@ use Rattle.stage_run.specs.declared.input_stage.InputStage.{InputStage}
 use Rattle.stage_run.specs.PartLists.{PartLists, fresh_lists}
 use Rattle.stage_run.specs.Rows.{IsUnfinished}
 use Rattle.stage_run.specs.Feeds.{FeedStands, StandsAtSource, NullsEnd, IsFeedOf, part_of_feed, hand_of}
-use Rattle.stage_run.specs.InputStands.{InputHolds, InputStands, IsOpen, FitsTold, FeedGives, MayFollowEnd, MayGive, stuffing_of, stuffed_so_far}
+use Rattle.stage_run.specs.InputStands.{InputStands, IsOpen, FitsTold, FeedGives, MayGive, stuffing_of, stuffed_so_far}
 use Rattle.stage_run.specs.Parts.{IsListOf, IsSourceOf, FailedReading, LeavesSource, LeavesInput, EndsByInput, SomeList}
 use Rattle.stage_run.proofs.PacketLemmas.{front-unfinished, packets_of-all, end_behind-unfinished}
 use Rattle.stage_run.proofs.ContinuesLemmas.{ended-behind, within_limit-short, within_limit-ends}

@@ -1,15 +1,13 @@
 -- A plugin's work, put together from what it made of its window.
-use Rattle.std.proofs.Common.{◌≡◌, ◌≢◌, ℕ, zero, suc, ◌+◌, ◌-◌, ◌<◌, ◌≤◌, if◌then◌else◌, Bool, true, false, List, [], ◌∷◌, ◌++◌, length, take, drop, refl, ap, sym, ◌∙◌, arith, append_assoc, append-nil, length-append, length-take, subst, Option, None, Some, is_some, inl, inr, take-append-drop}
+use Rattle.std.proofs.Common.{◌≡◌, ℕ, suc, ◌+◌, ◌<◌, ◌≤◌, if◌then◌else◌, Bool, true, false, List, [], ◌++◌, length, take, drop, refl, ap, sym, ◌∙◌, arith, append_assoc, append-nil, length-append, length-take, subst, Option, None, Some, is_some, inl, inr, take-append-drop}
 use Rattle.std.proofs.lemmas.Bool.{cond-true, cond-false, lt-ltb, le-ltb, cases_lt}
-use Rattle.std.proofs.lemmas.List.{take_all, take_at}
+use Rattle.std.proofs.lemmas.List.{take_at}
 use Rattle.ts_packet.specs.declared.cell.Cell.{Cell}
 use Rattle.chain_model.specs.Prefix.{IsPrefix}
 use Rattle.chain_model.specs.PluginRule.{PluginRule}
-use Rattle.chain_model.specs.Apply.{StageList, OwnEnd, input_over, last_passed, stopped, refused, apply, apply_after}
-use Rattle.chain_model.specs.StageLists.{rule_behind}
+use Rattle.chain_model.specs.Apply.{StageList, OwnEnd, last_passed, stopped, refused, apply, apply_after}
 use Rattle.chain_model.specs.Joint.{agreement_of}
 use Rattle.chain_model.proofs.ApplyLaws.{apply-ended, apply-last}
-use Rattle.chain_model.proofs.AgreementLaws.{agreement_of-within}
 use Rattle.chain_model.proofs.PrefixLemmas.{IsPrefix-apply}
 use Rattle.plugin_trait.specs.Driving.{Makes}
 use Rattle.plugin_trait.specs.declared.list_end.ListEnd.{ListEnd}
@@ -18,9 +16,9 @@ use Rattle.plugin_trait.specs.declared.list_end.ListEnd.TheVariants as window
 use Rattle.plugin_trait.proofs.Going.{behind}
 use Rattle.chain_core.specs.declared.news.News.{News}
 use Rattle.chain_core.specs.declared.stage_end.StageEnd.{StageEnd}
-use Rattle.chain_core.specs.declared.stage_end.StageEnd.TheVariants.{Input, Last, Stop, Refuse, WriteFault, NoMemory, Followed}
+use Rattle.chain_core.specs.declared.stage_end.StageEnd.TheVariants.{Last, Stop, Refuse, NoMemory, Followed}
 use Rattle.chain_core.specs.declared.stage_word.StageWord.{StageWord}
-use Rattle.chain_core.specs.Keeps.{IsEndOf, EndsAs, KeepsList, KeepsAgreement, StageKeeps}
+use Rattle.chain_core.specs.Keeps.{IsEndOf, EndsAs, KeepsList, KeepsAgreement}
 use Rattle.stage_run.specs.declared.work.Work.{Work}
 use Rattle.stage_run.specs.declared.plugin_stage.PluginStage.{PluginStage}
 use Rattle.stage_run.specs.PartLists.{PartLists}
@@ -28,7 +26,7 @@ use Rattle.stage_run.specs.PartStands.{MayWork}
 use Rattle.stage_run.specs.PluginSteps.{told_by, end_of_window, made_so_far, TellsAgreement, StandsBelow}
 use Rattle.stage_run.specs.PluginStands.{PluginStands, end_behind_met}
 use Rattle.stage_run.specs.Telling.{may_follow, followed, FollowsNews, newly_agreed, told_of}
-use Rattle.stage_run.specs.Works.{Works, PluginWorks, PluginTells, KeepsRule}
+use Rattle.stage_run.specs.Works.{Works, PluginWorks, PluginTells}
 use Rattle.stage_run.proofs.FarLemmas.{apply_after-append, apply_after-same_length}
 
 -- an agreement that is told is the one that holds, and is above what was given before

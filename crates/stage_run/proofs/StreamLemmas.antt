@@ -1,23 +1,20 @@
 -- Bytes in hand: how they grow by a read, what stands in front of them, and how a packet is put.
-use Rattle.std.proofs.Common.{◌≡◌, ◌≢◌, ℕ, zero, suc, ◌+◌, ◌-◌, ◌*◌, ◌<◌, ◌≤◌, List, [], ◌∷◌, ◌++◌, length, take, drop, get_or, refl, ap, sym, ◌∙◌, arith, length-append, length-take, length-drop, append_assoc, append-nil, subst, Vec, Option, None, Some, take-add, vec_len}
+use Rattle.std.proofs.Common.{◌≡◌, ℕ, ◌+◌, ◌-◌, ◌*◌, ◌<◌, ◌≤◌, List, [], ◌∷◌, ◌++◌, length, take, drop, refl, ap, sym, ◌∙◌, arith, length-append, length-take, length-drop, append_assoc, append-nil, subst, Vec, None, Some, take-add, vec_len}
 use Rattle.std.specs.Vec.{with_items}
 use Rattle.std.specs.Option.{IfSome}
 use Rattle.std.specs.List.{All, concat}
-use Rattle.std.proofs.lemmas.List.{with_items_is, length-take-le, drop-drop, get_or-take, get_or-drop, nil_from_length}
+use Rattle.std.proofs.lemmas.List.{with_items_is, drop-drop, nil_from_length}
 use Rattle.std.proofs.lemmas.Slice.{take-put_mid_below}
 use Rattle.std.proofs.lemmas.List.Elements.{All-push, All-head, All-tail}
 use Rattle.std.proofs.lemmas.Grind.{common_steps}
-use borrow.Rule.Slice.PartMut.{put_mid, post_of}
+use borrow.Rule.Slice.PartMut.{put_mid}
 use Rattle.ts_packet.specs.Packet.{IsPacket}
-use Rattle.ts_packet.specs.declared.cell.Cell.{Cell}
-use Rattle.ts_packet.specs.declared.cell.Cell.TheVariants.{Live}
 use Rattle.ts_outside.specs.Source.{SourceView, unread, read_failed}
 use Rattle.ts_outside.proofs.Views.{take-filled, unread-unread, unread-nil}
-use Rattle.chain_model.specs.declared.input_end.InputEnd.{InputEnd}
 use Rattle.chain_model.specs.declared.input_end.InputEnd.TheVariants.{End, Sync, ReadFault}
 use Rattle.stage_run.specs.declared.packet_stream.PacketStream.{PacketStream}
 use Rattle.stage_run.specs.Rows.{IsUnfinished, IsInSync, IsOutOfSync, BeginsPacket}
-use Rattle.stage_run.specs.Feeds.{hand_of, HasRoom, ReadsMore, FailsToRead, StreamStands, StreamLooks, StreamPuts, StandsAtSource}
+use Rattle.stage_run.specs.Feeds.{hand_of, HasRoom, ReadsMore, FailsToRead, StreamStands, StreamLooks}
 
 pub length-put_mid : (have k : ℕ) (old got : List ℕ) → have + k ≤ length old → length got ≡ k → length (put_mid have k old got) ≡ length old
 length-put_mid have k old got fits long = grind (arith, common_steps)

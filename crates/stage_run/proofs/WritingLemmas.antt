@@ -1,6 +1,6 @@
 -- Cells one after another: what they write, and where a byte of it stands.
-use Rattle.std.proofs.Common.{◌≡◌, ℕ, zero, suc, ◌+◌, ◌-◌, ◌<◌, ◌≤◌, List, [], ◌∷◌, ◌++◌, length, take, drop, get_or, refl, ap, sym, ◌∙◌, arith, append_assoc, append-nil, length-append, length-drop, length-take, subst, take-add, drop-drop, take-append-drop, ◌⊎◌, inl, inr}
-use Rattle.std.proofs.lemmas.List.{drop_more, take_more, drop-append-le, take-append-le, take_all, take-take}
+use Rattle.std.proofs.Common.{◌≡◌, ℕ, ◌+◌, ◌<◌, ◌≤◌, List, [], ◌∷◌, ◌++◌, length, take, drop, get_or, refl, ap, sym, ◌∙◌, arith, append_assoc, append-nil, length-append, length-drop, subst, take-add, drop-drop, take-append-drop, inr}
+use Rattle.std.proofs.lemmas.List.{drop_more, take_more, drop-append-le, take-append-le}
 use Rattle.std.proofs.Math.Seq.{take-append-add}
 use Rattle.std.proofs.lemmas.List.Concat.{flat_map-append}
 use Rattle.ts_packet.specs.declared.cell.Cell.{Cell}
@@ -9,7 +9,7 @@ use Rattle.ts_outside.specs.Sink.{SinkView, took, write_failed}
 use Rattle.ts_outside.proofs.Views.{took-took}
 use Rattle.chain_model.specs.Written.{cell_bytes, written}
 use Rattle.stage_run.specs.OutputStands.{IsPartOfFirst}
-use Rattle.stage_run.specs.Writing.{StandsAt, CutsAt, WritesCells}
+use Rattle.stage_run.specs.Writing.{StandsAt, WritesCells}
 
 pub written-append : (xs ys : List Cell) → written (xs ++ ys) ≡ written xs ++ written ys
 written-append xs ys = flat_map-append cell_bytes xs ys

@@ -1,18 +1,16 @@
 -- What an input with its stuffing stands for. This project's own rule.
 use Rattle.std.specs.Prelude.{◌≡◌, ℕ, ◌*◌, ◌≤◌, ◌^◌, List, [], ◌++◌, length, Option, None, Some, IfSome}
 use Rattle.ts_packet.specs.declared.cell.Cell.{Cell}
-use Rattle.ts_outside.specs.Source.{SourceView, unread, read_failed}
+use Rattle.ts_outside.specs.Source.{SourceView}
 use Rattle.chain_model.specs.declared.input_end.InputEnd.{InputEnd}
-use Rattle.chain_model.specs.declared.input_end.InputEnd.TheVariants.{End, Sync, ReadFault, TooLong}
+use Rattle.chain_model.specs.declared.input_end.InputEnd.TheVariants.{End, TooLong}
 use Rattle.chain_model.specs.Apply.{StageList}
-use Rattle.chain_model.specs.InputList.{InputList, input_of_bytes, input_of_nulls, packets_of}
+use Rattle.chain_model.specs.InputList.{input_of_bytes, input_of_nulls}
 use Rattle.chain_model.specs.Stuffed.{null_cells, stuffed_after, stop_nulls, stuffed}
 use Rattle.chain_model.specs.Stuffed as model
 use Rattle.chain_core.specs.declared.stage_end.StageEnd.{StageEnd}
-use Rattle.chain_core.specs.declared.stage_end.StageEnd.TheVariants.{Input, Last, Stop, Refuse, WriteFault, NoMemory, Followed}
+use Rattle.chain_core.specs.declared.stage_end.StageEnd.TheVariants.{Input, Followed}
 use Rattle.stage_run.specs.declared.stuffing.Stuffing.{Stuffing}
-use Rattle.stage_run.specs.declared.input_part.InputPart.{InputPart}
-use Rattle.stage_run.specs.declared.input_part.InputPart.TheVariants as part
 use Rattle.stage_run.specs.declared.packet_feed.PacketFeed.{PacketFeed}
 use Rattle.stage_run.specs.declared.packet_feed.PacketFeed.TheVariants as feed
 use Rattle.stage_run.specs.declared.input_stage.InputStage.{InputStage}

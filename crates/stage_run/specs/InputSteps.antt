@@ -3,7 +3,7 @@ use Rattle.std.specs.Prelude.{◌≡◌, ◌⊎◌, ℕ, ◌+◌, ◌*◌, ◌<�
 use Rattle.ts_packet.specs.declared.cell.Cell.{Cell}
 use Rattle.ts_outside.specs.Source.{SourceView}
 use Rattle.chain_model.specs.declared.input_end.InputEnd.{InputEnd}
-use Rattle.chain_model.specs.declared.input_end.InputEnd.TheVariants.{End, Sync, ReadFault, TooLong}
+use Rattle.chain_model.specs.declared.input_end.InputEnd.TheVariants.{End, TooLong}
 use Rattle.chain_model.specs.Apply.{StageList}
 use Rattle.chain_model.specs.Stuffed as model
 use Rattle.stage_run.specs.declared.input_stage.InputStage.{InputStage}

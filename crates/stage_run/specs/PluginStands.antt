@@ -5,7 +5,7 @@ use Rattle.chain_model.specs.PluginRule.{PluginRule}
 use Rattle.chain_model.specs.Apply.{OwnEnd, last_passed, apply}
 use Rattle.chain_model.specs.Joint.{agreement_of}
 use Rattle.chain_core.specs.declared.stage_end.StageEnd.{StageEnd}
-use Rattle.chain_core.specs.declared.stage_end.StageEnd.TheVariants.{Input, Last, Stop, Refuse, WriteFault, NoMemory, Followed}
+use Rattle.chain_core.specs.declared.stage_end.StageEnd.TheVariants.{Last}
 use Rattle.stage_run.specs.declared.plugin_stage.PluginStage.{PluginStage}
 use Rattle.stage_run.specs.PartLists.{PartLists}
 

@@ -1,10 +1,9 @@
 -- What a stage tells with its cells. This project's own rule.
-use Rattle.std.specs.Prelude.{◌≡◌, ℕ, ◌-◌, min, nat_le, nat_lt, ◌||◌, Bool, true, false, Option, None, Some, if◌then◌else◌, List}
-use Rattle.ts_packet.specs.declared.cell.Cell.{Cell}
-use Rattle.chain_model.specs.Apply.{OwnEnd, input_over, last_passed, stopped, refused, StageList}
+use Rattle.std.specs.Prelude.{◌≡◌, ℕ, ◌-◌, min, nat_le, nat_lt, ◌||◌, Bool, true, false, Option, None, Some, if◌then◌else◌}
+use Rattle.chain_model.specs.Apply.{OwnEnd, input_over, last_passed, stopped, refused}
 use Rattle.chain_core.specs.declared.news.News.{News}
 use Rattle.chain_core.specs.declared.stage_end.StageEnd.{StageEnd}
-use Rattle.chain_core.specs.declared.stage_end.StageEnd.TheVariants.{Input, Last, Stop, Refuse, WriteFault, NoMemory, Followed}
+use Rattle.chain_core.specs.declared.stage_end.StageEnd.TheVariants.{Input, Last, Stop, Refuse, Followed}
 
 -- the limit is known, and is no more than this
 abbrev pub is_reached : Option ℕ → ℕ → Bool

@@ -12,7 +12,7 @@ use Rattle.chain_model.specs.StageLists.{rule_behind}
 use Rattle.chain_model.specs.Joint.{agreement_of}
 use Rattle.chain_core.specs.declared.news.News.{News}
 use Rattle.chain_core.specs.declared.stage_end.StageEnd.{StageEnd}
-use Rattle.chain_core.specs.declared.stage_end.StageEnd.TheVariants.{Input, Last, Stop, Refuse, WriteFault, NoMemory, Followed}
+use Rattle.chain_core.specs.declared.stage_end.StageEnd.TheVariants.{Input, WriteFault, NoMemory, Followed}
 use Rattle.chain_core.specs.declared.stage_word.StageWord.{StageWord}
 use Rattle.chain_core.specs.Keeps.{StageKeeps}
 use Rattle.stage_run.specs.declared.work.Work.{Work}
@@ -22,7 +22,6 @@ use Rattle.stage_run.specs.declared.packet_feed.PacketFeed.{PacketFeed}
 use Rattle.stage_run.specs.declared.packet_feed.PacketFeed.TheVariants as feed
 use Rattle.stage_run.specs.declared.input_stage.InputStage.{InputStage}
 use Rattle.stage_run.specs.declared.output_stage.OutputStage.{OutputStage}
-use Rattle.stage_run.specs.declared.plugin_stage.PluginStage.{PluginStage}
 use Rattle.stage_run.specs.declared.stage_part.StagePart.{StagePart}
 use Rattle.stage_run.specs.declared.stage_part.StagePart.TheVariants as part
 use Rattle.stage_run.specs.PartLists.{PartLists}

@@ -1,11 +1,11 @@
 -- The headline, from the stream theorem.
-use Rattle.std.proofs.Common.{◌≡◌, ◌⊎◌, inl, inr, ℕ, ◌<◌, ◌≤◌, List, [], ◌++◌, Bool, true, false, Option, Some, None, refl, ap, sym, ◌∙◌, subst, arith, append-nil}
+use Rattle.std.proofs.Common.{◌≡◌, inl, inr, ℕ, List, ◌++◌, true, false, Some, None, refl, ap, sym, ◌∙◌, subst, arith, append-nil}
 use Rattle.std.specs.Prelude.{IsTrue, IfSome, is_some}
 use Rattle.std.proofs.lemmas.Bool.{cond-true}
 use Rattle.chain_model.specs.declared.input_end.InputEnd.TheVariants.{End, Sync, ReadFault, TooLong}
 use Rattle.chain_model.specs.declared.cause.Cause.{Cause}
 use Rattle.chain_model.specs.declared.cause.Cause.TheVariants.{Input, Joint, Until, Stop, Refuse, WriteFault, NoMemory}
-use Rattle.chain_model.specs.Cut.{cut_of, cause_of, is_fault}
+use Rattle.chain_model.specs.Cut.{cut_of, is_fault}
 use Rattle.chain_model.specs.PureRun.{Chain, written_to, reported_at}
 use Rattle.chain_args.specs.PlanOf.{plan_of}
 use Rattle.chain_args.specs.WordsFault.{IsFirstFault}
@@ -15,11 +15,11 @@ use Rattle.chain_args.specs.declared.words_fault.WordsFault.TheVariants.{At}
 use Rattle.ts_outside.specs.Count.{HasCause, IsQuiet}
 use Rattle.ts_outside.specs.Told.{grown}
 use Rattle.ts_outside.specs.Desk.{DeskView}
-use Rattle.tsp_top.specs.CallEnd.{CallEnd, no_input, no_output, ran, unreported, out_of_memory, status_of, FaultRose, LateRose, StatusTellsCause}
+use Rattle.tsp_top.specs.CallEnd.{CallEnd, no_input, no_output, ran, unreported, out_of_memory, status_of, FaultRose, StatusTellsCause}
 use Rattle.tsp_top.specs.PlannedChain.{chain_of, output_name}
 use Rattle.tsp_top.specs.StreamTheorem.{EndsRight, IsWrittenTo, outputs_with, Writes, Reports, StreamTheorem}
 use Rattle.tsp_top.specs.TspCall.{CallsTsp}
-use Rattle.tsp_top.specs.Headline.{NothingFails, IsPureCall, IsPureOrWants}
+use Rattle.tsp_top.specs.Headline.{NothingFails, IsPureOrWants}
 use Rattle.tsp_top.specs.declared.status.Status.{Status}
 use Rattle.tsp_top.specs.declared.status.Status.TheVariants as status
 

@@ -1,4 +1,4 @@
-use Rattle.std.proofs.Common.{◌≡◌, ◌+◌, ◌-◌, ℕ, List, take, drop, get_or, ap, ◌∙◌, sym, arith, add-zero}
+use Rattle.std.proofs.Common.{◌≡◌, ◌+◌, ◌-◌, ℕ, List, drop, get_or, ap, ◌∙◌, arith, add-zero}
 use Rattle.std.proofs.lemmas.List.{get_or-take, get_or-drop}
 use Rattle.stage_run.proofs.packet_row.packet_at.Goals as goal
 

@@ -1,8 +1,8 @@
-use Rattle.std.proofs.Common.{◌≡◌, ℕ, ◌+◌, ◌-◌, ◌<◌, ◌≤◌, List, length, take, drop, ap, sym, ◌∙◌, subst, arith, length-drop, length-take}
+use Rattle.std.proofs.Common.{◌≡◌, ℕ, ◌-◌, ◌<◌, List, length, take, drop, ap, ◌∙◌, subst, arith, length-drop}
 use Rattle.std.proofs.lemmas.List.{take_all}
 use Rattle.ts_packet.specs.declared.cell.Cell.{Cell}
 use Rattle.chain_model.specs.Written.{written}
-use Rattle.stage_run.specs.Writing.{StandsAt, WritesCells}
+use Rattle.stage_run.specs.Writing.{StandsAt}
 use Rattle.stage_run.proofs.WritingLemmas.{taken-more, cut-behind, written-take-least}
 use Rattle.stage_run.proofs.writing.write_cells.Goals as goal
 

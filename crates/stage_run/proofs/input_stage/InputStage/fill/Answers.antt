@@ -1,4 +1,4 @@
-use Rattle.std.proofs.Common.{◌≡◌, ℕ, ◌+◌, ◌-◌, ◌<◌, ◌≤◌, List, [], ◌∷◌, ◌++◌, length, take, drop, set, ◌∙◌, refl, sym, ap, subst, arith, append-nil}
+use Rattle.std.proofs.Common.{◌≡◌, ℕ, ◌+◌, ◌-◌, ◌≤◌, List, [], ◌∷◌, length, take, ◌∙◌, sym, subst, arith, append-nil}
 use Rattle.std.proofs.lemmas.List.{take-set, take_more_set, length-take-le}
 use Rattle.ts_packet.specs.declared.cell.Cell.{Cell}
 use Rattle.stage_run.specs.InputSteps.{InputGoes, with_more, cell_put}

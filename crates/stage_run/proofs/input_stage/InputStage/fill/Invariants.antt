@@ -1,4 +1,4 @@
-use Rattle.std.proofs.Common.{◌≡◌, ℕ, ◌+◌, ◌≤◌, ◌-◌, List, length, take, drop, None}
+use Rattle.std.proofs.Common.{◌≡◌, ◌+◌, ◌≤◌, length, take, drop}
 use Rattle.stage_run.specs.PartLists.{PartLists}
 use Rattle.stage_run.specs.Feeds.{packets_put}
 use Rattle.stage_run.specs.InputStands.{IsOpen, InputHolds}

@@ -1,4 +1,4 @@
-use Rattle.std.proofs.Common.{◌≡◌, ℕ, ◌+◌, ◌-◌, ◌≤◌, List, [], ◌∷◌, ◌∙◌, refl, sym, ap, subst, arith}
+use Rattle.std.proofs.Common.{ℕ, ◌-◌, List, [], ◌∷◌, ◌∙◌, refl, sym, ap, subst, arith}
 use Rattle.ts_packet.specs.declared.cell.Cell.TheVariants.{Live}
 use Rattle.stage_run.specs.declared.input_stage.InputStage.{InputStage}
 use Rattle.stage_run.specs.InputSteps.{InputGoes, with_more, null_count}

@@ -1,8 +1,6 @@
-use Rattle.std.proofs.Common.{◌≡◌, ℕ, ◌+◌, ◌≤◌, length, take, Option, Some, sym, ap, subst, arith, ◌∙◌}
-use Rattle.chain_core.specs.declared.stage_end.StageEnd.TheVariants.{WriteFault}
+use Rattle.std.proofs.Common.{sym, ap, subst, arith, ◌∙◌}
 use Rattle.stage_run.specs.declared.work.Work.{Work}
 use Rattle.stage_run.specs.OutputStands.{OutputStands}
-use Rattle.stage_run.specs.Telling.{followed}
 use Rattle.stage_run.specs.Works.{Works, OutputWorks}
 use Rattle.stage_run.proofs.InputWorking.{plain_work}
 use Rattle.stage_run.proofs.OutputWorking.{output_whole, output_cut}

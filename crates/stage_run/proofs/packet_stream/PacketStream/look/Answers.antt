@@ -1,4 +1,4 @@
-use Rattle.std.proofs.Common.{◌≡◌, ℕ, ◌<◌, ◌∙◌, refl, subst, arith}
+use Rattle.std.proofs.Common.{ℕ, ◌<◌, ◌∙◌, refl, subst, arith}
 use Rattle.stage_run.specs.Feeds.{ReadsMore}
 use Rattle.stage_run.proofs.StreamLemmas.{StreamLooks-more, StreamLooks-lost, StreamLooks-end, StreamLooks-failed}
 use Rattle.stage_run.proofs.packet_stream.PacketStream.look.Goals as goal

@@ -1,4 +1,4 @@
-use Rattle.std.proofs.Common.{◌≡◌, ℕ, ◌≤◌, List, length, take, drop, ap, sym, ◌∙◌, arith, refl, length-take, subst}
+use Rattle.std.proofs.Common.{ℕ, ◌≤◌, List, take, drop, ap, ◌∙◌, arith, refl, length-take}
 use Rattle.stage_run.proofs.StreamLemmas.{StreamStands-put}
 use Rattle.stage_run.proofs.packet_stream.PacketStream.put.Goals as goal
 

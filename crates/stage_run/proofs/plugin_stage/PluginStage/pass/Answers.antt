@@ -1,4 +1,4 @@
-use Rattle.std.proofs.Common.{◌≡◌, ℕ, ◌≤◌, List, [], ◌++◌, length, ap, sym, ◌∙◌, arith, length-append, append-nil, is_some}
+use Rattle.std.proofs.Common.{◌≡◌, List, [], ◌++◌, length, ap, sym, ◌∙◌, arith, length-append, append-nil, is_some}
 use Rattle.ts_packet.specs.declared.cell.Cell.{Cell}
 use Rattle.chain_model.specs.Joint.{agreement_of}
 use Rattle.chain_model.proofs.AgreementLaws.{agreement_of-within}

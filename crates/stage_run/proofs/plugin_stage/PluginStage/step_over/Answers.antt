@@ -1,5 +1,4 @@
-use Rattle.std.proofs.Common.{◌≡◌, ℕ, ◌<◌, ◌+◌, Bool, List, [], ◌∷◌, ◌++◌, length, take, drop, get_or, ap, refl, sym, subst, ◌∙◌, arith, length-append, length-take, append-nil, Option, None, Some, is_some}
-use Rattle.std.specs.Option.{option_or}
+use Rattle.std.proofs.Common.{◌≡◌, ℕ, ◌<◌, ◌+◌, List, [], ◌∷◌, ◌++◌, length, take, drop, get_or, ap, refl, sym, subst, ◌∙◌, arith, length-append, length-take, append-nil, is_some}
 use Rattle.std.proofs.lemmas.List.{take-set}
 use Rattle.ts_packet.specs.declared.cell.Cell.{Cell}
 use Rattle.chain_model.specs.PluginRule.{PluginRule}
@@ -7,9 +6,8 @@ use Rattle.chain_model.specs.Apply.{StageList, became, apply_after}
 use Rattle.chain_model.specs.Joint.{agreement_of}
 use Rattle.chain_model.proofs.AgreementLaws.{agreement_of-within}
 use Rattle.plugin_trait.specs.Steps.{StepTells}
-use Rattle.plugin_trait.proofs.Going.{behind, half_goes_on, met-more, met_goes_on, tells_goes_on, read_at, same_behind}
-use Rattle.stage_run.specs.PluginSteps.{AgreesNow, TellsAgreement}
-use Rattle.stage_run.proofs.FarLemmas.{far_goes_on, far_ends_after, far_as_before}
+use Rattle.plugin_trait.proofs.Going.{half_goes_on, met-more, met_goes_on, tells_goes_on, read_at, same_behind}
+use Rattle.stage_run.proofs.FarLemmas.{far_goes_on, far_ends_after}
 use Rattle.stage_run.proofs.AgreeingLemmas.{agreed_step, newly_agreed-within}
 use Rattle.stage_run.proofs.plugin_stage.PluginStage.step_over.Goals as goal
 

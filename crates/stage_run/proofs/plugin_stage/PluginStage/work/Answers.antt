@@ -1,4 +1,4 @@
-use Rattle.std.proofs.Common.{◌≡◌, ℕ, ◌+◌, ◌<◌, ◌≤◌, List, [], ◌++◌, length, take, Option, None, Some, refl, sym, ap, subst, arith, ◌∙◌, length-append, length-take, append-nil, add-zero, is_some}
+use Rattle.std.proofs.Common.{◌≡◌, ℕ, ◌+◌, ◌≤◌, List, [], ◌++◌, length, take, None, refl, sym, ap, subst, arith, ◌∙◌, length-append, length-take, append-nil, add-zero, is_some}
 use Rattle.std.proofs.lemmas.Bool.{eqb-true}
 use Rattle.plugin_trait.specs.declared.list_end.ListEnd.TheVariants.{Through}
 use Rattle.chain_model.specs.Apply.{apply_after}
@@ -11,7 +11,7 @@ use Rattle.ts_packet.specs.declared.cell.Cell.{Cell}
 use Rattle.chain_model.specs.Joint.{agreement_of}
 use Rattle.chain_model.proofs.AgreementLaws.{agreement_of-within}
 use Rattle.stage_run.specs.declared.work.Work.{Work}
-use Rattle.stage_run.specs.PluginSteps.{Allows, told_by}
+use Rattle.stage_run.specs.PluginSteps.{Allows}
 use Rattle.stage_run.specs.PluginStands.{PluginStands}
 use Rattle.stage_run.specs.Works.{Works, PluginWorks}
 use Rattle.stage_run.proofs.PluginWorking.{plugin_works, plugin_work, newly_agreed-Some, through_all}
