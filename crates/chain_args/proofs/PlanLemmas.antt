@@ -3,15 +3,15 @@ use Rattle.std.proofs.Common.{◌≡◌, ◌∙◌, ◌+◌, ℕ, true, List, []
 use Rattle.std.specs.Prelude.{if◌then◌else◌}
 use Rattle.std.specs.Result.{IfErr, IsErrAnd}
 use Rattle.chain_args.specs.General.{general}
-use Rattle.chain_args.specs.Parts.{RefusesBy, StandsFor, parts_plan, segment}
+use Rattle.chain_args.specs.PlanBuilder.{RefusesBy, StandsFor, parts_plan, segment}
 use Rattle.chain_args.specs.PlanOf.{plan_made, plan_of}
-use Rattle.chain_args.specs.Profile.{Profile, broken_option, settings_of}
+use Rattle.chain_args.specs.OptionTable.{OptionTable, broken_option, settings_of}
 use Rattle.chain_args.specs.Refusal.{Reads}
 use Rattle.chain_args.specs.Rules.{broken_rule, fault_at, first_fault, first_word_fault}
 use Rattle.chain_args.specs.Segments.{Segment, cut, general_words, is_segment_word, segments}
 use Rattle.chain_args.specs.WordsFault.{FaultsBy, fault_of_refusal}
 use Rattle.chain_args.specs.declared.general_conf.GeneralConf.{GeneralConf}
-use Rattle.chain_args.specs.declared.parts.Parts.{Parts}
+use Rattle.chain_args.specs.declared.plan_builder.PlanBuilder.{PlanBuilder}
 use Rattle.chain_args.specs.declared.refusal.Refusal.{Refusal}
 use Rattle.chain_args.specs.declared.refusal.Refusal.TheVariants.{Broken, NoMemory}
 use Rattle.chain_args.specs.declared.words_fault.WordsFault.{WordsFault}
@@ -68,7 +68,7 @@ no_words text (w ∷ rest) e = absurd (omega (arith, e))
 
 -- ---- the general options and the segments together
 
-pub reads_refuses : {C : Type 0} (p : Profile C) (words own : List (List ℕ)) (refusal : Refusal) → own ≡ words → Reads p own (Err refusal) → RefusesBy (broken_option p words) refusal
+pub reads_refuses : {C : Type 0} (p : OptionTable C) (words own : List (List ℕ)) (refusal : Refusal) → own ≡ words → Reads p own (Err refusal) → RefusesBy (broken_option p words) refusal
 reads_refuses p words own (Broken rule) same reads = ap (broken_option p) (sym same) ∙ reads
 reads_refuses p words own NoMemory same reads = tt
 
@@ -83,7 +83,7 @@ module _ (words own rest : List (List ℕ)) (count : ℕ) (front : own ≡ gener
       ∙ ap₂ (λ n later. first_fault [] n later) (ap length (sym front) ∙ sym counted) (sym (ap (λ p. p.1) back))
 
 -- the plan of parts that stand for all segments
-pub plan_from : (words own : List (List ℕ)) (conf : GeneralConf) (parts : Parts) → own ≡ general_words words → first_word_fault words ≡ None → conf ≡ settings_of general own → StandsFor parts (segments words) → plan_of words ≡ Some (parts_plan conf parts)
+pub plan_from : (words own : List (List ℕ)) (conf : GeneralConf) (parts : PlanBuilder) → own ≡ general_words words → first_word_fault words ≡ None → conf ≡ settings_of general own → StandsFor parts (segments words) → plan_of words ≡ Some (parts_plan conf parts)
 unfolding plan_of
 plan_from words own conf parts front clean is stands =
     ap (λ fault. if is_some fault then None else Some (plan_made words)) clean

@@ -6,7 +6,7 @@ use Rattle.plug_conf.specs.declared.plugin_conf.PluginConf.{PluginConf}
 use Rattle.plug_conf.specs.declared.plugin_conf.PluginConf.TheVariants.{Count}
 use Rattle.chain_args.specs.Forms.{ranges}
 use Rattle.chain_args.specs.Options.{OptionRow, flag, has_flag, read_value, value}
-use Rattle.chain_args.specs.Profile.{Profile}
+use Rattle.chain_args.specs.OptionTable.{OptionTable}
 use Rattle.chain_args.specs.Ranges.{ranges_of}
 
 abbrev pub count_rows : List OptionRow
@@ -17,7 +17,7 @@ count_rows = record { name = codes "pid"; kind = value (ranges 8191) }
     ∷ []
 
 -- nothing has to be given
-abbrev pub count : Profile PluginConf
+abbrev pub count : OptionTable PluginConf
 count = record {
   rows = count_rows;
   has_needed = λ found. true;

@@ -6,7 +6,7 @@ use Rattle.plug_conf.specs.declared.plugin_conf.PluginConf.{PluginConf}
 use Rattle.plug_conf.specs.declared.plugin_conf.PluginConf.TheVariants.{Filter}
 use Rattle.chain_args.specs.Forms.{ranges}
 use Rattle.chain_args.specs.Options.{OptionRow, flag, has_flag, has_value, read_value, value}
-use Rattle.chain_args.specs.Profile.{Profile}
+use Rattle.chain_args.specs.OptionTable.{OptionTable}
 use Rattle.chain_args.specs.Ranges.{ranges_of}
 
 abbrev pub filter_rows : List OptionRow
@@ -19,7 +19,7 @@ filter_rows = record { name = codes "pid"; kind = value (ranges 8191) }
     ∷ []
 
 -- one of the four conditions has to be given
-abbrev pub filter : Profile PluginConf
+abbrev pub filter : OptionTable PluginConf
 filter = record {
   rows = filter_rows;
   has_needed = λ found. has_value (codes "pid") found || (has_flag (codes "pcr") found

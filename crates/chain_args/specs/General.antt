@@ -6,7 +6,7 @@ use Rattle.chain_args.specs.Forms.{number, pair}
 use Rattle.chain_args.specs.Number.{number_within}
 use Rattle.chain_args.specs.Options.{OptionRow, flag, has_flag, read_value, value}
 use Rattle.chain_args.specs.Pairs.{pair_of}
-use Rattle.chain_args.specs.Profile.{Profile}
+use Rattle.chain_args.specs.OptionTable.{OptionTable}
 use Rattle.chain_args.specs.declared.general_conf.GeneralConf.{GeneralConf}
 
 -- the byte `/`
@@ -42,7 +42,7 @@ general_settings found = record {
 }
 
 -- none has to be given, and any go together
-abbrev pub general : Profile GeneralConf
+abbrev pub general : OptionTable GeneralConf
 general = record {
   rows = general_rows;
   has_needed = λ found. true;

@@ -5,14 +5,14 @@ use Rattle.std.specs.Str.{bytes_eq}
 use Rattle.chain_args.specs.Forms.{number, text}
 use Rattle.chain_args.specs.Number.{number_within}
 use Rattle.chain_args.specs.Options.{has_value, operand, read_value, value_of}
-use Rattle.chain_args.specs.Profile.{Profile}
+use Rattle.chain_args.specs.OptionTable.{OptionTable}
 use Rattle.chain_args.specs.declared.input_words.InputKind.{InputKind}
 use Rattle.chain_args.specs.declared.input_words.InputKind.TheVariants as kind
 use Rattle.chain_args.specs.declared.input_conf.InputConf.{InputConf}
 use Rattle.chain_args.specs.declared.input_conf.InputConf.TheVariants.{File, Null}
 
 -- `file`: a name; without one, or where it is empty, standard input
-abbrev pub file_input : Profile InputConf
+abbrev pub file_input : OptionTable InputConf
 file_input = record {
   rows = record { name = codes "name"; kind = operand text } ∷ [];
   has_needed = λ found. true;
@@ -21,7 +21,7 @@ file_input = record {
 }
 
 -- `null`: so many packets, 0 to 2^40
-abbrev pub null_input : Profile InputConf
+abbrev pub null_input : OptionTable InputConf
 null_input = record {
   rows = record { name = codes "count"; kind = operand (number 0 1099511627776) } ∷ [];
   has_needed = has_value (codes "count");
@@ -36,6 +36,6 @@ input_kind_named name = if bytes_eq name (codes "file") then Some kind.File
     else (if bytes_eq name (codes "null") then Some kind.Null else None)
 
 -- what each takes
-abbrev pub profile_of_input : InputKind → Profile InputConf
-profile_of_input kind.File = file_input
-profile_of_input kind.Null = null_input
+abbrev pub options_of_input : InputKind → OptionTable InputConf
+options_of_input kind.File = file_input
+options_of_input kind.Null = null_input

@@ -10,11 +10,11 @@ pub mod Number
 pub mod Options
 pub mod Outputs
 pub mod Pairs
-pub mod Parts
+pub mod PlanBuilder
 pub mod PatternWords
 pub mod PlanOf
 pub mod Plugins
-pub mod Profile
+pub mod OptionTable
 pub mod Ranges
 pub mod Refusal
 pub mod RemapWords

@@ -4,14 +4,14 @@ use Rattle.std.specs.Prelude.{ℕ, List, [], ◌∷◌, None, Option, Some, code
 use Rattle.std.specs.Str.{bytes_eq}
 use Rattle.chain_args.specs.Forms.{text}
 use Rattle.chain_args.specs.Options.{operand, value_of}
-use Rattle.chain_args.specs.Profile.{Profile}
+use Rattle.chain_args.specs.OptionTable.{OptionTable}
 use Rattle.chain_args.specs.declared.output_words.OutputKind.{OutputKind}
 use Rattle.chain_args.specs.declared.output_words.OutputKind.TheVariants as kind
 use Rattle.chain_args.specs.declared.output_conf.OutputConf.{OutputConf}
 use Rattle.chain_args.specs.declared.output_conf.OutputConf.TheVariants.{Drop, File}
 
 -- `file`: a name; without one, or where it is empty, standard output
-abbrev pub file_output : Profile OutputConf
+abbrev pub file_output : OptionTable OutputConf
 file_output = record {
   rows = record { name = codes "name"; kind = operand text } ∷ [];
   has_needed = λ found. true;
@@ -20,7 +20,7 @@ file_output = record {
 }
 
 -- `drop`: no options and no operands
-abbrev pub drop_output : Profile OutputConf
+abbrev pub drop_output : OptionTable OutputConf
 drop_output = record {
   rows = [];
   has_needed = λ found. true;
@@ -34,6 +34,6 @@ output_kind_named name = if bytes_eq name (codes "file") then Some kind.File
     else (if bytes_eq name (codes "drop") then Some kind.Drop else None)
 
 -- what each takes
-abbrev pub profile_of_output : OutputKind → Profile OutputConf
-profile_of_output kind.File = file_output
-profile_of_output kind.Drop = drop_output
+abbrev pub options_of_output : OutputKind → OptionTable OutputConf
+options_of_output kind.File = file_output
+options_of_output kind.Drop = drop_output

@@ -6,7 +6,7 @@ use Rattle.plug_conf.specs.declared.plugin_conf.PluginConf.{PluginConf}
 use Rattle.plug_conf.specs.declared.plugin_conf.PluginConf.TheVariants.{Pattern}
 use Rattle.chain_args.specs.Forms.{bytes, number, ranges}
 use Rattle.chain_args.specs.Options.{OptionRow, flag, has_flag, has_value, operand, read_value, value}
-use Rattle.chain_args.specs.Profile.{Profile}
+use Rattle.chain_args.specs.OptionTable.{OptionTable}
 use Rattle.chain_args.specs.HexText.{bytes_of}
 use Rattle.chain_args.specs.Number.{number_within}
 use Rattle.chain_args.specs.Ranges.{ranges_of}
@@ -20,7 +20,7 @@ pattern_rows = record { name = codes "operand"; kind = operand (bytes 1 184) }
     ∷ []
 
 -- the pattern has to be given
-abbrev pub pattern : Profile PluginConf
+abbrev pub pattern : OptionTable PluginConf
 pattern = record {
   rows = pattern_rows;
   has_needed = has_value (codes "operand");

@@ -4,10 +4,10 @@ use Rattle.std.specs.Prelude.{ℕ, List, [], None, Option, Some, if◌then◌els
 use Rattle.std.specs.List.{filter_map}
 use Rattle.plug_conf.specs.declared.plugin_conf.PluginConf.{PluginConf}
 use Rattle.chain_args.specs.General.{general}
-use Rattle.chain_args.specs.Inputs.{profile_of_input}
-use Rattle.chain_args.specs.Outputs.{profile_of_output}
-use Rattle.chain_args.specs.Plugins.{profile_of_plugin}
-use Rattle.chain_args.specs.Profile.{settings_of}
+use Rattle.chain_args.specs.Inputs.{options_of_input}
+use Rattle.chain_args.specs.Outputs.{options_of_output}
+use Rattle.chain_args.specs.Plugins.{options_of_plugin}
+use Rattle.chain_args.specs.OptionTable.{settings_of}
 use Rattle.chain_args.specs.Rules.{first_word_fault}
 use Rattle.chain_args.specs.Segments.{Segment, general_words, input_of, output_of, own_words, plugin_of, segments}
 use Rattle.chain_args.specs.declared.input_conf.InputConf.{InputConf}
@@ -18,13 +18,13 @@ use Rattle.chain_args.specs.declared.plan_type.Plan.{Plan}
 
 -- what a segment makes, where it names an input, a plugin, an output
 abbrev pub input_made : Segment → Option InputConf
-input_made s = option_map (λ k. settings_of (profile_of_input k) (own_words s)) (input_of s)
+input_made s = option_map (λ k. settings_of (options_of_input k) (own_words s)) (input_of s)
 
 abbrev pub plugin_made : Segment → Option PluginConf
-plugin_made s = option_map (λ k. settings_of (profile_of_plugin k) (own_words s)) (plugin_of s)
+plugin_made s = option_map (λ k. settings_of (options_of_plugin k) (own_words s)) (plugin_of s)
 
 abbrev pub output_made : Segment → Option OutputConf
-output_made s = option_map (λ k. settings_of (profile_of_output k) (own_words s)) (output_of s)
+output_made s = option_map (λ k. settings_of (options_of_output k) (own_words s)) (output_of s)
 
 -- the inputs, the plugins and the outputs that segments make, in their order
 abbrev pub inputs_of : List Segment → List InputConf

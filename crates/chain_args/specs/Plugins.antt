@@ -11,7 +11,7 @@ use Rattle.chain_args.specs.RemapWords.{remap}
 use Rattle.chain_args.specs.SkipWords.{skip}
 use Rattle.chain_args.specs.SliceWords.{slice}
 use Rattle.chain_args.specs.UntilWords.{until}
-use Rattle.chain_args.specs.Profile.{Profile}
+use Rattle.chain_args.specs.OptionTable.{OptionTable}
 use Rattle.chain_args.specs.declared.plugin_words.PluginKind.{PluginKind}
 use Rattle.chain_args.specs.declared.plugin_words.PluginKind.TheVariants as kind
 
@@ -29,12 +29,12 @@ plugin_kind_named name =
     else None)))))))
 
 -- what each takes
-abbrev pub profile_of_plugin : PluginKind → Profile PluginConf
-profile_of_plugin kind.Filter = filter
-profile_of_plugin kind.Skip = skip
-profile_of_plugin kind.Slice = slice
-profile_of_plugin kind.Pattern = pattern
-profile_of_plugin kind.Until = until
-profile_of_plugin kind.Count = count
-profile_of_plugin kind.Continuity = continuity
-profile_of_plugin kind.Remap = remap
+abbrev pub options_of_plugin : PluginKind → OptionTable PluginConf
+options_of_plugin kind.Filter = filter
+options_of_plugin kind.Skip = skip
+options_of_plugin kind.Slice = slice
+options_of_plugin kind.Pattern = pattern
+options_of_plugin kind.Until = until
+options_of_plugin kind.Count = count
+options_of_plugin kind.Continuity = continuity
+options_of_plugin kind.Remap = remap

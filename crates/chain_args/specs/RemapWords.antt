@@ -6,7 +6,7 @@ use Rattle.plug_conf.specs.declared.plugin_conf.PluginConf.{PluginConf}
 use Rattle.plug_conf.specs.declared.plugin_conf.PluginConf.TheVariants.{Remap}
 use Rattle.chain_args.specs.Forms.{pair}
 use Rattle.chain_args.specs.Options.{OptionRow, flag, has_flag, operands, values_of}
-use Rattle.chain_args.specs.Profile.{Profile}
+use Rattle.chain_args.specs.OptionTable.{OptionTable}
 use Rattle.chain_args.specs.Pairs.{pair_of}
 
 -- the byte `=`
@@ -27,7 +27,7 @@ remap_rows = record {
     ∷ []
 
 -- a pair has to be given, and so far `--no-psi`
-abbrev pub remap : Profile PluginConf
+abbrev pub remap : OptionTable PluginConf
 remap = record {
   rows = remap_rows;
   has_needed = λ found.

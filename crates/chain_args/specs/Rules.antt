@@ -3,10 +3,10 @@
 use Rattle.std.specs.Prelude.{ℕ, ◌+◌, ◌&&◌, ◌||◌, Bool, List, [], ◌∷◌, ◌++◌, None, Option, Some, count_by, is_some, length, nat_le, not, option_and_then}
 use Rattle.std.specs.List.{list_any}
 use Rattle.chain_args.specs.General.{general}
-use Rattle.chain_args.specs.Inputs.{profile_of_input}
-use Rattle.chain_args.specs.Outputs.{profile_of_output}
-use Rattle.chain_args.specs.Plugins.{profile_of_plugin}
-use Rattle.chain_args.specs.Profile.{broken_option, first_broken}
+use Rattle.chain_args.specs.Inputs.{options_of_input}
+use Rattle.chain_args.specs.Outputs.{options_of_output}
+use Rattle.chain_args.specs.Plugins.{options_of_plugin}
+use Rattle.chain_args.specs.OptionTable.{broken_option, first_broken}
 use Rattle.chain_args.specs.Segments.{Segment, general_words, input_of, is_input, is_output, is_plugin, name_of, output_of, own_words, plugin_of, segments, word_count}
 use Rattle.chain_args.specs.declared.words_rule.WordsRule.{WordsRule}
 use Rattle.chain_args.specs.declared.words_rule.WordsRule.TheVariants.{NoName, TooMany, Twice, UnknownPlugin}
@@ -35,13 +35,13 @@ is_one_too_many before s = is_plugin s && nat_le most_plugins (count_by is_plugi
 
 -- what the options of a named segment break
 abbrev pub broken_input : Segment → Option WordsRule
-broken_input s = option_and_then (λ k. broken_option (profile_of_input k) (own_words s)) (input_of s)
+broken_input s = option_and_then (λ k. broken_option (options_of_input k) (own_words s)) (input_of s)
 
 abbrev pub broken_plugin : Segment → Option WordsRule
-broken_plugin s = option_and_then (λ k. broken_option (profile_of_plugin k) (own_words s)) (plugin_of s)
+broken_plugin s = option_and_then (λ k. broken_option (options_of_plugin k) (own_words s)) (plugin_of s)
 
 abbrev pub broken_output : Segment → Option WordsRule
-broken_output s = option_and_then (λ k. broken_option (profile_of_output k) (own_words s)) (output_of s)
+broken_output s = option_and_then (λ k. broken_option (options_of_output k) (own_words s)) (output_of s)
 
 -- the first of two that there is
 abbrev pub or_else : Option WordsRule → Option WordsRule → Option WordsRule

@@ -6,14 +6,14 @@ use Rattle.plug_conf.specs.declared.plugin_conf.PluginConf.{PluginConf}
 use Rattle.plug_conf.specs.declared.plugin_conf.PluginConf.TheVariants.{Skip}
 use Rattle.chain_args.specs.Forms.{number}
 use Rattle.chain_args.specs.Options.{OptionRow, has_value, operand, read_value}
-use Rattle.chain_args.specs.Profile.{Profile}
+use Rattle.chain_args.specs.OptionTable.{OptionTable}
 use Rattle.chain_args.specs.Number.{number_within}
 
 abbrev pub skip_rows : List OptionRow
 skip_rows = record { name = codes "operand"; kind = operand (number 0 1099511627776) } ∷ []
 
 -- the number of packets, 0 to 2^40, has to be given
-abbrev pub skip : Profile PluginConf
+abbrev pub skip : OptionTable PluginConf
 skip = record {
   rows = skip_rows;
   has_needed = has_value (codes "operand");

@@ -7,7 +7,7 @@ use Rattle.plug_conf.specs.declared.plugin_conf.PluginConf.{PluginConf}
 use Rattle.plug_conf.specs.declared.plugin_conf.PluginConf.TheVariants.{Slice}
 use Rattle.chain_args.specs.Forms.{Form, number}
 use Rattle.chain_args.specs.Options.{OptionRow, has_value, read_value, value}
-use Rattle.chain_args.specs.Profile.{Profile}
+use Rattle.chain_args.specs.OptionTable.{OptionTable}
 use Rattle.chain_args.specs.Number.{number_within}
 
 -- a number of packets, 0 to 2^60
@@ -25,7 +25,7 @@ abbrev pub slice_number : List ℕ → List Row → Option ℕ
 slice_number = read_value (number_within 0 1152921504606846976)
 
 -- one of the four has to be given
-abbrev pub slice : Profile PluginConf
+abbrev pub slice : OptionTable PluginConf
 slice = record {
   rows = slice_rows;
   has_needed = λ found. has_value (codes "drop") found || (has_value (codes "null") found

@@ -7,7 +7,7 @@ use Rattle.plug_conf.specs.declared.plugin_conf.PluginConf.{PluginConf}
 use Rattle.plug_conf.specs.declared.plugin_conf.PluginConf.TheVariants.{Until}
 use Rattle.chain_args.specs.Forms.{Form, number}
 use Rattle.chain_args.specs.Options.{OptionRow, flag, has_flag, has_value, read_value, value}
-use Rattle.chain_args.specs.Profile.{Profile}
+use Rattle.chain_args.specs.OptionTable.{OptionTable}
 use Rattle.chain_args.specs.Number.{number_within}
 
 -- a count, 1 to 2^60
@@ -26,7 +26,7 @@ abbrev pub until_number : List ℕ → List Row → Option ℕ
 until_number = read_value (number_within 1 1152921504606846976)
 
 -- one of the three counts has to be given
-abbrev pub until : Profile PluginConf
+abbrev pub until : OptionTable PluginConf
 until = record {
   rows = until_rows;
   has_needed = λ found. has_value (codes "packets") found

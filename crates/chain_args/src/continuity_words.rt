@@ -4,10 +4,10 @@ ghost use Rattle.clap.specs.Simple.{app_of};
 ghost use Rattle.plug_conf.specs.Lawful.{IsLawful};
 ghost use Rattle.chain_args.specs.ContinuityWords.{continuity, continuity_rows};
 ghost use Rattle.chain_args.specs.Options.{command_of};
-ghost use Rattle.chain_args.specs.Refusal.{Reads, ReadsFindings};
+ghost use Rattle.chain_args.specs.Refusal.{Reads, ReadsParsed};
 
 use crate::commands::{new_command, with_flag, with_value};
-use crate::findings::Findings;
+use crate::parsed_options::ParsedOptions;
 use crate::refusal::Refusal;
 use clap::Command;
 use plug_conf::{ContinuityConf, PluginConf};
@@ -23,8 +23,8 @@ fn continuity_command<'a>(alloc: Global) -> Result<Command<'a>, AllocError>
     with_flag(alloc, command, "fix")
 }
 
-fn continuity_settings(alloc: Global, found: &Findings) -> Result<PluginConf, Refusal>
-    ensures reads { ReadsFindings continuity found.now result }
+fn continuity_settings(alloc: Global, found: &ParsedOptions) -> Result<PluginConf, Refusal>
+    ensures reads { ReadsParsed continuity found.now result }
     ensures lawful { IfOk result IsLawful }
 {
     Ok(PluginConf::Continuity(ContinuityConf {
@@ -38,6 +38,6 @@ pub(crate) fn read_continuity(alloc: Global, words: &[String]) -> Result<PluginC
     ensures reads { Reads continuity (map string_bytes words.now) result }
     ensures lawful { IfOk result IsLawful }
 {
-    let found = Findings::of(continuity_command(alloc)?, words)?;
+    let found = ParsedOptions::of(continuity_command(alloc)?, words)?;
     continuity_settings(alloc, &found)
 }

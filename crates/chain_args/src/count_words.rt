@@ -4,10 +4,10 @@ ghost use Rattle.clap.specs.Simple.{app_of};
 ghost use Rattle.plug_conf.specs.Lawful.{IsLawful};
 ghost use Rattle.chain_args.specs.CountWords.{count, count_rows};
 ghost use Rattle.chain_args.specs.Options.{command_of};
-ghost use Rattle.chain_args.specs.Refusal.{Reads, ReadsFindings};
+ghost use Rattle.chain_args.specs.Refusal.{Reads, ReadsParsed};
 
 use crate::commands::{new_command, with_flag, with_value};
-use crate::findings::Findings;
+use crate::parsed_options::ParsedOptions;
 use crate::refusal::Refusal;
 use clap::Command;
 use plug_conf::{CountConf, PluginConf};
@@ -25,8 +25,8 @@ fn count_command<'a>(alloc: Global) -> Result<Command<'a>, AllocError>
     with_flag(alloc, command, "total")
 }
 
-fn count_settings(alloc: Global, found: &Findings) -> Result<PluginConf, Refusal>
-    ensures reads { ReadsFindings count found.now result }
+fn count_settings(alloc: Global, found: &ParsedOptions) -> Result<PluginConf, Refusal>
+    ensures reads { ReadsParsed count found.now result }
     ensures lawful { IfOk result IsLawful }
 {
     Ok(PluginConf::Count(CountConf {
@@ -42,6 +42,6 @@ pub(crate) fn read_count(alloc: Global, words: &[String]) -> Result<PluginConf, 
     ensures reads { Reads count (map string_bytes words.now) result }
     ensures lawful { IfOk result IsLawful }
 {
-    let found = Findings::of(count_command(alloc)?, words)?;
+    let found = ParsedOptions::of(count_command(alloc)?, words)?;
     count_settings(alloc, &found)
 }

@@ -4,10 +4,10 @@ ghost use Rattle.clap.specs.Simple.{app_of};
 ghost use Rattle.plug_conf.specs.Lawful.{IsLawful};
 ghost use Rattle.chain_args.specs.FilterWords.{filter, filter_rows};
 ghost use Rattle.chain_args.specs.Options.{command_of};
-ghost use Rattle.chain_args.specs.Refusal.{Reads, ReadsFindings};
+ghost use Rattle.chain_args.specs.Refusal.{Reads, ReadsParsed};
 
 use crate::commands::{new_command, with_flag, with_value};
-use crate::findings::Findings;
+use crate::parsed_options::ParsedOptions;
 use crate::refusal::Refusal;
 use crate::words_rule::WordsRule;
 use clap::Command;
@@ -28,8 +28,8 @@ fn filter_command<'a>(alloc: Global) -> Result<Command<'a>, AllocError>
     with_flag(alloc, command, "stuffing")
 }
 
-fn filter_settings(alloc: Global, found: &Findings) -> Result<PluginConf, Refusal>
-    ensures reads { ReadsFindings filter found.now result }
+fn filter_settings(alloc: Global, found: &ParsedOptions) -> Result<PluginConf, Refusal>
+    ensures reads { ReadsParsed filter found.now result }
     ensures lawful { IfOk result IsLawful }
 {
     let has_condition = found.has_value("pid")
@@ -54,6 +54,6 @@ pub(crate) fn read_filter(alloc: Global, words: &[String]) -> Result<PluginConf,
     ensures reads { Reads filter (map string_bytes words.now) result }
     ensures lawful { IfOk result IsLawful }
 {
-    let found = Findings::of(filter_command(alloc)?, words)?;
+    let found = ParsedOptions::of(filter_command(alloc)?, words)?;
     filter_settings(alloc, &found)
 }

@@ -4,11 +4,11 @@ ghost use Rattle.clap.specs.Simple.{app_of};
 ghost use Rattle.chain_args.specs.General.{general, general_rows};
 ghost use Rattle.chain_args.specs.LawfulPlan.{IsLawfulGeneral};
 ghost use Rattle.chain_args.specs.Options.{command_of};
-ghost use Rattle.chain_args.specs.Refusal.{Reads, ReadsFindings};
+ghost use Rattle.chain_args.specs.Refusal.{Reads, ReadsParsed};
 
 use crate::commands::{new_command, with_flag, with_value};
-use crate::findings::Findings;
 use crate::general_conf::GeneralConf;
+use crate::parsed_options::ParsedOptions;
 use crate::refusal::Refusal;
 use clap::Command;
 use std::alloc::{AllocError, Global};
@@ -37,8 +37,8 @@ fn general_command<'a>(alloc: Global) -> Result<Command<'a>, AllocError>
     with_flag(alloc, command, "ignore-joint-termination")
 }
 
-fn general_settings(found: &Findings) -> Result<GeneralConf, Refusal>
-    ensures reads { ReadsFindings general found.now result }
+fn general_settings(found: &ParsedOptions) -> Result<GeneralConf, Refusal>
+    ensures reads { ReadsParsed general found.now result }
     ensures lawful { IfOk result IsLawfulGeneral }
 {
     let most = MOST_PACKETS;
@@ -64,6 +64,6 @@ pub(crate) fn read_general(alloc: Global, words: &[String]) -> Result<GeneralCon
     ensures reads { Reads general (map string_bytes words.now) result }
     ensures lawful { IfOk result IsLawfulGeneral }
 {
-    let found = Findings::of(general_command(alloc)?, words)?;
+    let found = ParsedOptions::of(general_command(alloc)?, words)?;
     general_settings(&found)
 }

@@ -1,15 +1,15 @@
 ghost use Rattle.std.specs.Prelude.{◌≡◌, IfOk, map, option_map};
 ghost use Rattle.std.specs.String.{string_bytes};
 ghost use Rattle.clap.specs.Simple.{app_of};
-ghost use Rattle.chain_args.specs.Inputs.{file_input, input_kind_named, null_input, profile_of_input};
+ghost use Rattle.chain_args.specs.Inputs.{file_input, input_kind_named, null_input, options_of_input};
 ghost use Rattle.chain_args.specs.LawfulPlan.{IsLawfulInput};
 ghost use Rattle.chain_args.specs.Options.{command_of};
-ghost use Rattle.chain_args.specs.Profile.{Profile};
-ghost use Rattle.chain_args.specs.Refusal.{Reads, ReadsFindings};
+ghost use Rattle.chain_args.specs.OptionTable.{OptionTable};
+ghost use Rattle.chain_args.specs.Refusal.{Reads, ReadsParsed};
 
 use crate::commands::{new_command, with_operand};
-use crate::findings::Findings;
 use crate::input_conf::InputConf;
+use crate::parsed_options::ParsedOptions;
 use crate::refusal::Refusal;
 use crate::words_rule::WordsRule;
 use std::alloc::Global;
@@ -38,7 +38,7 @@ impl InputKind {
 
     /// Reads the words after the name.
     pub(crate) fn read(self, alloc: Global, words: &[String]) -> Result<InputConf, Refusal>
-        ensures reads { Reads (profile_of_input self) (map string_bytes words.now) result }
+        ensures reads { Reads (options_of_input self) (map string_bytes words.now) result }
         ensures lawful { IfOk result IsLawfulInput }
     {
         match self {
@@ -53,7 +53,7 @@ fn read_file(alloc: Global, words: &[String]) -> Result<InputConf, Refusal>
     ensures lawful { IfOk result IsLawfulInput }
 {
     let command = with_operand(alloc, new_command(alloc), "name")?;
-    let found = Findings::of(command, words)?;
+    let found = ParsedOptions::of(command, words)?;
     Ok(InputConf::File(found.text(alloc, "name")?))
 }
 
@@ -62,12 +62,12 @@ fn read_null(alloc: Global, words: &[String]) -> Result<InputConf, Refusal>
     ensures lawful { IfOk result IsLawfulInput }
 {
     let command = with_operand(alloc, new_command(alloc), "count")?;
-    let found = Findings::of(command, words)?;
+    let found = ParsedOptions::of(command, words)?;
     null_settings(&found)
 }
 
-fn null_settings(found: &Findings) -> Result<InputConf, Refusal>
-    ensures reads { ReadsFindings null_input found.now result }
+fn null_settings(found: &ParsedOptions) -> Result<InputConf, Refusal>
+    ensures reads { ReadsParsed null_input found.now result }
     ensures lawful { IfOk result IsLawfulInput }
 {
     if !found.has_value("count") {

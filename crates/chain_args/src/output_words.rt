@@ -1,12 +1,12 @@
 ghost use Rattle.std.specs.Prelude.{◌≡◌, map};
 ghost use Rattle.std.specs.String.{string_bytes};
-ghost use Rattle.chain_args.specs.Outputs.{drop_output, file_output, output_kind_named, profile_of_output};
-ghost use Rattle.chain_args.specs.Profile.{Profile};
+ghost use Rattle.chain_args.specs.Outputs.{drop_output, file_output, output_kind_named, options_of_output};
+ghost use Rattle.chain_args.specs.OptionTable.{OptionTable};
 ghost use Rattle.chain_args.specs.Refusal.{Reads};
 
 use crate::commands::{new_command, with_operand};
-use crate::findings::Findings;
 use crate::output_conf::OutputConf;
+use crate::parsed_options::ParsedOptions;
 use crate::refusal::Refusal;
 use std::alloc::Global;
 
@@ -31,7 +31,7 @@ impl OutputKind {
 
     /// Reads the words after the name.
     pub(crate) fn read(self, alloc: Global, words: &[String]) -> Result<OutputConf, Refusal>
-        ensures { Reads (profile_of_output self) (map string_bytes words.now) result }
+        ensures { Reads (options_of_output self) (map string_bytes words.now) result }
     {
         match self {
             OutputKind::File => read_file(alloc, words),
@@ -44,13 +44,13 @@ fn read_file(alloc: Global, words: &[String]) -> Result<OutputConf, Refusal>
     ensures { Reads file_output (map string_bytes words.now) result }
 {
     let command = with_operand(alloc, new_command(alloc), "name")?;
-    let found = Findings::of(command, words)?;
+    let found = ParsedOptions::of(command, words)?;
     Ok(OutputConf::File(found.text(alloc, "name")?))
 }
 
 fn read_drop(alloc: Global, words: &[String]) -> Result<OutputConf, Refusal>
     ensures { Reads drop_output (map string_bytes words.now) result }
 {
-    let _found = Findings::of(new_command(alloc), words)?;
+    let _found = ParsedOptions::of(new_command(alloc), words)?;
     Ok(OutputConf::Drop)
 }

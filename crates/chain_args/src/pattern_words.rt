@@ -4,10 +4,10 @@ ghost use Rattle.clap.specs.Simple.{app_of};
 ghost use Rattle.plug_conf.specs.Lawful.{IsLawful};
 ghost use Rattle.chain_args.specs.PatternWords.{pattern, pattern_rows};
 ghost use Rattle.chain_args.specs.Options.{command_of};
-ghost use Rattle.chain_args.specs.Refusal.{Reads, ReadsFindings};
+ghost use Rattle.chain_args.specs.Refusal.{Reads, ReadsParsed};
 
 use crate::commands::{new_command, with_flag, with_operand, with_value};
-use crate::findings::Findings;
+use crate::parsed_options::ParsedOptions;
 use crate::refusal::Refusal;
 use crate::words_rule::WordsRule;
 use clap::Command;
@@ -33,8 +33,8 @@ fn pattern_command<'a>(alloc: Global) -> Result<Command<'a>, AllocError>
     with_flag(alloc, command, "negate")
 }
 
-fn pattern_settings(alloc: Global, found: &Findings) -> Result<PluginConf, Refusal>
-    ensures reads { ReadsFindings pattern found.now result }
+fn pattern_settings(alloc: Global, found: &ParsedOptions) -> Result<PluginConf, Refusal>
+    ensures reads { ReadsParsed pattern found.now result }
     ensures lawful { IfOk result IsLawful }
 {
     if !found.has_value("operand") {
@@ -58,6 +58,6 @@ pub(crate) fn read_pattern(alloc: Global, words: &[String]) -> Result<PluginConf
     ensures reads { Reads pattern (map string_bytes words.now) result }
     ensures lawful { IfOk result IsLawful }
 {
-    let found = Findings::of(pattern_command(alloc)?, words)?;
+    let found = ParsedOptions::of(pattern_command(alloc)?, words)?;
     pattern_settings(alloc, &found)
 }

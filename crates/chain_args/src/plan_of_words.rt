@@ -1,14 +1,14 @@
 ghost use Rattle.std.specs.Prelude.{◌≡◌, ◌+◌, ◌<◌, ◌^◌, [], IfErr, IfOk, MatchResult, None, Some, length, map};
 ghost use Rattle.std.specs.String.{string_bytes};
 ghost use Rattle.chain_args.specs.LawfulPlan.{IsLawfulPlan};
-ghost use Rattle.chain_args.specs.Parts.{RefusesBy, StandsFor};
+ghost use Rattle.chain_args.specs.PlanBuilder.{RefusesBy, StandsFor};
 ghost use Rattle.chain_args.specs.PlanOf.{plan_of};
 ghost use Rattle.chain_args.specs.Rules.{first_fault};
 ghost use Rattle.chain_args.specs.Segments.{general_words, segments};
 ghost use Rattle.chain_args.specs.WordsFault.{FaultsBy, IsFirstFault};
 
 use crate::general_words::read_general;
-use crate::parts::Parts;
+use crate::plan_builder::PlanBuilder;
 use crate::plan_type::Plan;
 use crate::segments::cut_at_segment;
 use crate::words_fault::WordsFault;
@@ -35,7 +35,7 @@ pub fn plan(alloc: Global, words: &[String]) -> Result<Plan, WordsFault>
 }
 
 /// Reads the segments of words that begin with one, the first of them as word number `at`.
-fn read_segments(alloc: Global, at: usize, words: &[String]) -> Result<Parts, WordsFault>
+fn read_segments(alloc: Global, at: usize, words: &[String]) -> Result<PlanBuilder, WordsFault>
     requires begins { general_words (map string_bytes words.now) ≡ [] }
     requires fits { at + length words.now < 2 ^ 64 }
     ensures { MatchResult result
@@ -43,7 +43,7 @@ fn read_segments(alloc: Global, at: usize, words: &[String]) -> Result<Parts, Wo
         × StandsFor parts (segments (map string_bytes words.now)))
         (FaultsBy (first_fault [] at (segments (map string_bytes words.now)))) }
 {
-    let mut parts = Parts::new(alloc);
+    let mut parts = PlanBuilder::new(alloc);
     let mut at = at;
     let mut rest = words;
     while let Some((first, after)) = rest.split_first() {

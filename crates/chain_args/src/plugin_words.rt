@@ -1,7 +1,7 @@
 ghost use Rattle.std.specs.Prelude.{◌≡◌, IfOk, map};
 ghost use Rattle.std.specs.String.{string_bytes};
 ghost use Rattle.plug_conf.specs.Lawful.{IsLawful};
-ghost use Rattle.chain_args.specs.Plugins.{plugin_kind_named, profile_of_plugin};
+ghost use Rattle.chain_args.specs.Plugins.{plugin_kind_named, options_of_plugin};
 ghost use Rattle.chain_args.specs.Refusal.{Reads};
 
 use crate::continuity_words::read_continuity;
@@ -49,7 +49,7 @@ impl PluginKind {
 
     /// Reads the words after the name.
     pub(crate) fn read(self, alloc: Global, words: &[String]) -> Result<PluginConf, Refusal>
-        ensures reads { Reads (profile_of_plugin self) (map string_bytes words.now) result }
+        ensures reads { Reads (options_of_plugin self) (map string_bytes words.now) result }
         ensures lawful { IfOk result IsLawful }
     {
         match self {

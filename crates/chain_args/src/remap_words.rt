@@ -4,10 +4,10 @@ ghost use Rattle.clap.specs.Simple.{app_of};
 ghost use Rattle.plug_conf.specs.Lawful.{IsLawful};
 ghost use Rattle.chain_args.specs.RemapWords.{remap, remap_rows};
 ghost use Rattle.chain_args.specs.Options.{command_of};
-ghost use Rattle.chain_args.specs.Refusal.{Reads, ReadsFindings};
+ghost use Rattle.chain_args.specs.Refusal.{Reads, ReadsParsed};
 
 use crate::commands::{new_command, with_flag, with_operands};
-use crate::findings::Findings;
+use crate::parsed_options::ParsedOptions;
 use crate::refusal::Refusal;
 use crate::words_rule::WordsRule;
 use clap::Command;
@@ -25,8 +25,8 @@ fn remap_command<'a>(alloc: Global) -> Result<Command<'a>, AllocError>
     with_flag(alloc, command, "unchecked")
 }
 
-fn remap_settings(alloc: Global, found: &Findings) -> Result<PluginConf, Refusal>
-    ensures reads { ReadsFindings remap found.now result }
+fn remap_settings(alloc: Global, found: &ParsedOptions) -> Result<PluginConf, Refusal>
+    ensures reads { ReadsParsed remap found.now result }
     ensures lawful { IfOk result IsLawful }
 {
     if !found.has_values("operand") || !found.has_flag("no-psi") {
@@ -48,6 +48,6 @@ pub(crate) fn read_remap(alloc: Global, words: &[String]) -> Result<PluginConf, 
     ensures reads { Reads remap (map string_bytes words.now) result }
     ensures lawful { IfOk result IsLawful }
 {
-    let found = Findings::of(remap_command(alloc)?, words)?;
+    let found = ParsedOptions::of(remap_command(alloc)?, words)?;
     remap_settings(alloc, &found)
 }

@@ -4,10 +4,10 @@ ghost use Rattle.clap.specs.Simple.{app_of};
 ghost use Rattle.plug_conf.specs.Lawful.{IsLawful};
 ghost use Rattle.chain_args.specs.SkipWords.{skip, skip_rows};
 ghost use Rattle.chain_args.specs.Options.{command_of};
-ghost use Rattle.chain_args.specs.Refusal.{Reads, ReadsFindings};
+ghost use Rattle.chain_args.specs.Refusal.{Reads, ReadsParsed};
 
 use crate::commands::{new_command, with_operand};
-use crate::findings::Findings;
+use crate::parsed_options::ParsedOptions;
 use crate::refusal::Refusal;
 use crate::words_rule::WordsRule;
 use clap::Command;
@@ -23,8 +23,8 @@ fn skip_command<'a>(alloc: Global) -> Result<Command<'a>, AllocError>
     with_operand(alloc, new_command(alloc), "operand")
 }
 
-fn skip_settings(found: &Findings) -> Result<PluginConf, Refusal>
-    ensures reads { ReadsFindings skip found.now result }
+fn skip_settings(found: &ParsedOptions) -> Result<PluginConf, Refusal>
+    ensures reads { ReadsParsed skip found.now result }
     ensures lawful { IfOk result IsLawful }
 {
     if !found.has_value("operand") {
@@ -39,6 +39,6 @@ pub(crate) fn read_skip(alloc: Global, words: &[String]) -> Result<PluginConf, R
     ensures reads { Reads skip (map string_bytes words.now) result }
     ensures lawful { IfOk result IsLawful }
 {
-    let found = Findings::of(skip_command(alloc)?, words)?;
+    let found = ParsedOptions::of(skip_command(alloc)?, words)?;
     skip_settings(&found)
 }

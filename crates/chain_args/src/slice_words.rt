@@ -4,10 +4,10 @@ ghost use Rattle.clap.specs.Simple.{app_of};
 ghost use Rattle.plug_conf.specs.Lawful.{IsLawful};
 ghost use Rattle.chain_args.specs.SliceWords.{slice, slice_rows};
 ghost use Rattle.chain_args.specs.Options.{command_of};
-ghost use Rattle.chain_args.specs.Refusal.{Reads, ReadsFindings};
+ghost use Rattle.chain_args.specs.Refusal.{Reads, ReadsParsed};
 
 use crate::commands::{new_command, with_value};
-use crate::findings::Findings;
+use crate::parsed_options::ParsedOptions;
 use crate::refusal::Refusal;
 use crate::words_rule::WordsRule;
 use clap::Command;
@@ -26,8 +26,8 @@ fn slice_command<'a>(alloc: Global) -> Result<Command<'a>, AllocError>
     with_value(alloc, command, "stop")
 }
 
-fn slice_settings(found: &Findings) -> Result<PluginConf, Refusal>
-    ensures reads { ReadsFindings slice found.now result }
+fn slice_settings(found: &ParsedOptions) -> Result<PluginConf, Refusal>
+    ensures reads { ReadsParsed slice found.now result }
     ensures lawful { IfOk result IsLawful }
 {
     let is_given = found.has_value("drop")
@@ -58,6 +58,6 @@ pub(crate) fn read_slice(alloc: Global, words: &[String]) -> Result<PluginConf, 
     ensures reads { Reads slice (map string_bytes words.now) result }
     ensures lawful { IfOk result IsLawful }
 {
-    let found = Findings::of(slice_command(alloc)?, words)?;
+    let found = ParsedOptions::of(slice_command(alloc)?, words)?;
     slice_settings(&found)
 }

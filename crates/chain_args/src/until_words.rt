@@ -4,10 +4,10 @@ ghost use Rattle.clap.specs.Simple.{app_of};
 ghost use Rattle.plug_conf.specs.Lawful.{IsLawful};
 ghost use Rattle.chain_args.specs.UntilWords.{until, until_rows};
 ghost use Rattle.chain_args.specs.Options.{command_of};
-ghost use Rattle.chain_args.specs.Refusal.{Reads, ReadsFindings};
+ghost use Rattle.chain_args.specs.Refusal.{Reads, ReadsParsed};
 
 use crate::commands::{new_command, with_flag, with_value};
-use crate::findings::Findings;
+use crate::parsed_options::ParsedOptions;
 use crate::refusal::Refusal;
 use crate::words_rule::WordsRule;
 use clap::Command;
@@ -27,8 +27,8 @@ fn until_command<'a>(alloc: Global) -> Result<Command<'a>, AllocError>
     with_flag(alloc, command, "joint-termination")
 }
 
-fn until_settings(found: &Findings) -> Result<PluginConf, Refusal>
-    ensures reads { ReadsFindings until found.now result }
+fn until_settings(found: &ParsedOptions) -> Result<PluginConf, Refusal>
+    ensures reads { ReadsParsed until found.now result }
     ensures lawful { IfOk result IsLawful }
 {
     let is_given = found.has_value("packets")
@@ -55,6 +55,6 @@ pub(crate) fn read_until(alloc: Global, words: &[String]) -> Result<PluginConf, 
     ensures reads { Reads until (map string_bytes words.now) result }
     ensures lawful { IfOk result IsLawful }
 {
-    let found = Findings::of(until_command(alloc)?, words)?;
+    let found = ParsedOptions::of(until_command(alloc)?, words)?;
     until_settings(&found)
 }

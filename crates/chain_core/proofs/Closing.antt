@@ -23,11 +23,11 @@ use Rattle.chain_core.specs.declared.core_plan.CorePlan.{CorePlan}
 use Rattle.chain_core.specs.declared.stage_end.StageEnd.{StageEnd}
 use Rattle.chain_core.specs.declared.stage_end.StageEnd.TheVariants.{Input, Last, Stop, Refuse, WriteFault, NoMemory, Followed}
 use Rattle.chain_core.specs.Stages.{has_stage, stages_of}
-use Rattle.chain_core.specs.Numbers.{Marks, limit_of}
-use Rattle.chain_core.specs.Machine.{ChainState, marks_of}
+use Rattle.chain_core.specs.Numbers.{StagesProgress, limit_of}
+use Rattle.chain_core.specs.Machine.{ChainState, progress_of_stages}
 use Rattle.chain_core.specs.ChainRun.{AllEnded}
 use Rattle.chain_core.specs.Keeps.{IsEndOf, EndsAs}
-use Rattle.chain_core.specs.Close.{cause_of_stage, ending_with, ending_of_mark, told_endings, least_among, cut_at_close, cause_at_close}
+use Rattle.chain_core.specs.Close.{cause_of_stage, ending_with, ending_of_progress, told_endings, least_among, cut_at_close, cause_at_close}
 use Rattle.chain_core.specs.EveryOrder.{EndsBy, IsCutWithin, IsPureClose, IsToldCause, AtClose}
 use Rattle.chain_core.proofs.Facts.{falls, all_both, prefix-length, prefix-whole, prefix-take, prefix-is_take}
 use Rattle.chain_core.proofs.Members.{stages-have}
@@ -89,7 +89,7 @@ module _ (plan : CorePlan) (rules : List PluginRule) (input : StageList) (state 
       ap (agreement_of (rule_behind rules j)) (sym (take-append-drop m l)) ∙ agreement_of-more (rule_behind rules j) (take m l) (drop m l) n (sym (faithful.agreed j has) ∙ is)
 
   -- the limit, once known, is the joint position
-  pub limit-joint : (limit : ℕ) → limit_of plan (marks_of state) ≡ Some limit → joint_position rules input (stages_of plan.users) ≡ Some limit
+  pub limit-joint : (limit : ℕ) → limit_of plan (progress_of_stages state) ≡ Some limit → joint_position rules input (stages_of plan.users) ≡ Some limit
   limit-joint limit is =
       greatest-kept (λ u. (state.stages u).agreed) (agreement_at rules input) (stages_of plan.users) limit
       (all_both (λ u. (1 ≤ u) × (u ≤ plan.plugins)) (λ u. has_stage plan.users u ≡ true) (IsKept (λ u. (state.stages u).agreed) (agreement_at rules input)) agreed-true (stages_of plan.users) users (stages-have plan.users))
@@ -112,7 +112,7 @@ module _ (plan : CorePlan) (rules : List PluginRule) (input : StageList) (state 
           let b = apply-length (rule_behind rules j) (stage_list rules input j).cells in omega arith
 
   -- a joint position that every stage has reached is the limit
-  pub joint-limit : (c : ℕ) → ((k : ℕ) → k ≤ plan.plugins → c ≤ gave state k) → (joint : ℕ) → joint_position rules input (stages_of plan.users) ≡ Some joint → joint ≤ c → limit_of plan (marks_of state) ≡ Some joint
+  pub joint-limit : (c : ℕ) → ((k : ℕ) → k ≤ plan.plugins → c ≤ gave state k) → (joint : ℕ) → joint_position rules input (stages_of plan.users) ≡ Some joint → joint ≤ c → limit_of plan (progress_of_stages state) ≡ Some joint
   joint-limit c reached joint is le =
       greatest-kept (agreement_at rules input) (λ u. (state.stages u).agreed) (stages_of plan.users) joint
       (all_both (λ u. ((1 ≤ u) × (u ≤ plan.plugins)) × (has_stage plan.users u ≡ true)) (IsKnownWithin (agreement_at rules input) joint) (IsKept (agreement_at rules input) (λ u. (state.stages u).agreed)) (agreed-known c reached joint le) (stages_of plan.users)
@@ -123,14 +123,14 @@ module _ (plan : CorePlan) (rules : List PluginRule) (input : StageList) (state 
 -- ---- the endings told, and those of the lists
 
 -- the ending of a stage that ended by itself
-ended-ending : (marks : Marks) (k : ℕ) (why : Cause) → EndsBy marks k why → ending_of_mark k (marks k) ≡ record { at = (marks k).given; cause = why } ∷ []
-ended-ending marks k why by =
-    ap (λ (o : Option Cause). ending_with (marks k).given o) (ap (λ (o : Option StageEnd). option_and_then (cause_of_stage k) o) by.ended ∙ by.gives)
+ended-ending : (progress : StagesProgress) (k : ℕ) (why : Cause) → EndsBy progress k why → ending_of_progress k (progress k) ≡ record { at = (progress k).given; cause = why } ∷ []
+ended-ending progress k why by =
+    ap (λ (o : Option Cause). ending_with (progress k).given o) (ap (λ (o : Option StageEnd). option_and_then (cause_of_stage k) o) by.ended ∙ by.gives)
 
-told-rows : (marks : Marks) (n : ℕ) → told_endings marks n ≡ up_to (λ k. ending_of_mark k (marks k)) n
-told-rows marks zero = refl
-told-rows marks (suc j) =
-    ap (λ (row : List Ending). row ++ ending_of_mark (suc j) (marks (suc j))) (told-rows marks j)
+told-rows : (progress : StagesProgress) (n : ℕ) → told_endings progress n ≡ up_to (λ k. ending_of_progress k (progress k)) n
+told-rows progress zero = refl
+told-rows progress (suc j) =
+    ap (λ (row : List Ending). row ++ ending_of_progress (suc j) (progress (suc j))) (told-rows progress j)
 
 pure-rows : (rules : List PluginRule) (input : StageList) (n : ℕ) → endings_to rules input n ≡ up_to (λ k. ending_of k (stage_list rules input k)) n
 pure-rows rules input zero = refl
@@ -138,26 +138,26 @@ pure-rows rules input (suc j) =
     ap (λ (row : List Ending). row ++ ending_of (suc j) (stage_list rules input (suc j))) (pure-rows rules input j)
 
 -- how a stage stands at a place: it ended by itself there, or no cause of it stands there
-told-cases : (marks : Marks) (c k : ℕ) → (causes_at c (ending_of_mark k (marks k)) ≡ []) ⊎ ((why : Cause) × EndsBy marks k why × ((marks k).given ≡ c))
-told-cases marks c k =
-    elim (marks k).ended as (λ o. (marks k).ended ≡ o → (causes_at c (ending_with (marks k).given (option_and_then (cause_of_stage k) o)) ≡ []) ⊎ ((why : Cause) × EndsBy marks k why × ((marks k).given ≡ c))) [
+told-cases : (progress : StagesProgress) (c k : ℕ) → (causes_at c (ending_of_progress k (progress k)) ≡ []) ⊎ ((why : Cause) × EndsBy progress k why × ((progress k).given ≡ c))
+told-cases progress c k =
+    elim (progress k).ended as (λ o. (progress k).ended ≡ o → (causes_at c (ending_with (progress k).given (option_and_then (cause_of_stage k) o)) ≡ []) ⊎ ((why : Cause) × EndsBy progress k why × ((progress k).given ≡ c))) [
       | None ↦ (λ is. inl refl)
       | Some end ↦ (λ is. by_cause end is)
     ] refl
   where
-    by_cause : (end : StageEnd) → (marks k).ended ≡ Some end → (causes_at c (ending_with (marks k).given (cause_of_stage k end)) ≡ []) ⊎ ((why : Cause) × EndsBy marks k why × ((marks k).given ≡ c))
+    by_cause : (end : StageEnd) → (progress k).ended ≡ Some end → (causes_at c (ending_with (progress k).given (cause_of_stage k end)) ≡ []) ⊎ ((why : Cause) × EndsBy progress k why × ((progress k).given ≡ c))
     by_cause end is =
-        elim (cause_of_stage k end) as (λ o. cause_of_stage k end ≡ o → (causes_at c (ending_with (marks k).given o) ≡ []) ⊎ ((why : Cause) × EndsBy marks k why × ((marks k).given ≡ c))) [
+        elim (cause_of_stage k end) as (λ o. cause_of_stage k end ≡ o → (causes_at c (ending_with (progress k).given o) ≡ []) ⊎ ((why : Cause) × EndsBy progress k why × ((progress k).given ≡ c))) [
           | None ↦ (λ gives. inl refl)
-          | Some why ↦ (λ gives. elim (cases_eq (marks k).given c) [
+          | Some why ↦ (λ gives. elim (cases_eq (progress k).given c) [
             | inl same ↦ inr (why, record { end = end; ended = is; gives = gives }, same)
-            | inr apart ↦ inl (causes_at-elsewhere c (marks k).given why apart)
+            | inr apart ↦ inl (causes_at-elsewhere c (progress k).given why apart)
           ])
         ] refl
 
-told-here : (marks : Marks) (c k : ℕ) (why : Cause) → EndsBy marks k why → (marks k).given ≡ c → causes_at c (ending_of_mark k (marks k)) ≡ why ∷ []
-told-here marks c k why by at =
-    ap (causes_at c) (ended-ending marks k why by) ∙ causes_at-here c (marks k).given why at
+told-here : (progress : StagesProgress) (c k : ℕ) (why : Cause) → EndsBy progress k why → (progress k).given ≡ c → causes_at c (ending_of_progress k (progress k)) ≡ why ∷ []
+told-here progress c k why by at =
+    ap (causes_at c) (ended-ending progress k why by) ∙ causes_at-here c (progress k).given why at
 
 -- the same of a list
 list-cases : (c k : ℕ) (list : StageList) → (causes_at c (ending_of k list) ≡ []) ⊎ ((own : OwnEnd) × (list.ended ≡ Some own) × (length list.cells ≡ c))
@@ -201,11 +201,11 @@ until-passed k stopped h = absurd cc
 until-passed k (refused reason) h = absurd cc
 
 -- a stage that told a last packet at the place
-told-until : (marks : Marks) (c k : ℕ) (u : Cause) → until_at c (ending_of_mark k (marks k)) ≡ Some u → EndsBy marks k u × ((marks k).ended ≡ Some Last) × ((marks k).given ≡ c) × (u ≡ cause.Until k)
-told-until marks c k u e =
-    elim (told-cases marks c k) [
-      | inl none ↦ (let n : until_at c (ending_of_mark k (marks k)) ≡ None = ap (find is_until) none in absurd cc)
-      | inr (why, by, at) ↦ (let one = find-one why u (is_until why) refl (sym (ap (find is_until) (told-here marks c k why by at)) ∙ e) in let last = until-last k by.end why by.gives one.0 in (subst (λ w. EndsBy marks k w) one.1 by, by.ended ∙ ap (λ (end : StageEnd). Some end) last.0, at, sym one.1 ∙ last.1))
+told-until : (progress : StagesProgress) (c k : ℕ) (u : Cause) → until_at c (ending_of_progress k (progress k)) ≡ Some u → EndsBy progress k u × ((progress k).ended ≡ Some Last) × ((progress k).given ≡ c) × (u ≡ cause.Until k)
+told-until progress c k u e =
+    elim (told-cases progress c k) [
+      | inl none ↦ (let n : until_at c (ending_of_progress k (progress k)) ≡ None = ap (find is_until) none in absurd cc)
+      | inr (why, by, at) ↦ (let one = find-one why u (is_until why) refl (sym (ap (find is_until) (told-here progress c k why by at)) ∙ e) in let last = until-last k by.end why by.gives one.0 in (subst (λ w. EndsBy progress k w) one.1 by, by.ended ∙ ap (λ (end : StageEnd). Some end) last.0, at, sym one.1 ∙ last.1))
     ]
 
 -- a list that ends after a last packet at the place
@@ -216,9 +216,9 @@ list-until c k list u e =
       | inr (own, is, at) ↦ (let one = find-one (cause_of_end k own) u (is_until (cause_of_end k own)) refl (sym (ap (find is_until) (list-here c k list own is at)) ∙ e) in let last : own ≡ last_passed = until-passed k own one.0 in (is ∙ ap (λ (o : OwnEnd). Some o) last, at, sym one.1 ∙ ap (cause_of_end k) last))
     ]
 
-told-until_at : (marks : Marks) (c k : ℕ) → (marks k).ended ≡ Some Last → (marks k).given ≡ c → until_at c (ending_of_mark k (marks k)) ≡ Some (cause.Until k)
-told-until_at marks c k is at =
-    ap (find is_until) (told-here marks c k (cause.Until k) (record { end = Last; ended = is; gives = refl }) at)
+told-until_at : (progress : StagesProgress) (c k : ℕ) → (progress k).ended ≡ Some Last → (progress k).given ≡ c → until_at c (ending_of_progress k (progress k)) ≡ Some (cause.Until k)
+told-until_at progress c k is at =
+    ap (find is_until) (told-here progress c k (cause.Until k) (record { end = Last; ended = is; gives = refl }) at)
 
 list-until_at : (c k : ℕ) (list : StageList) → list.ended ≡ Some last_passed → length list.cells ≡ c → until_at c (ending_of k list) ≡ Some (cause.Until k)
 list-until_at c k list is at = ap (find is_until) (list-here c k list last_passed is at)
@@ -256,21 +256,21 @@ is_at-not None c not_ = refl
 is_at-not (Some m) c not_ = ne_eqb m c (λ e. not_ (ap (λ n. Some n) e))
 
 -- the greatest stage that ended by itself at the place
-last-told : (marks : Marks) (c n k : ℕ) (why : Cause) → k ≤ n → EndsBy marks k why → (marks k).given ≡ c → (j : ℕ) × (last : Cause) × (j ≤ n) × EndsBy marks j last × ((marks j).given ≡ c) × (last_at c (up_to (λ i. ending_of_mark i (marks i)) n) ≡ Some last)
-last-told marks c zero k why le by at =
+last-told : (progress : StagesProgress) (c n k : ℕ) (why : Cause) → k ≤ n → EndsBy progress k why → (progress k).given ≡ c → (j : ℕ) × (last : Cause) × (j ≤ n) × EndsBy progress j last × ((progress j).given ≡ c) × (last_at c (up_to (λ i. ending_of_progress i (progress i)) n) ≡ Some last)
+last-told progress c zero k why le by at =
     let z : k ≡ 0 = omega arith in
-    (k, why, le, by, at, ap (λ (causes : List Cause). last_or None causes) (ap (λ i. causes_at c (ending_of_mark i (marks i))) (sym z) ∙ told-here marks c k why by at))
-last-told marks c (suc n) k why le by at =
-    let row : ℕ → List Ending = λ i. ending_of_mark i (marks i) in
-    elim (told-cases marks c (suc n)) [
-      | inr (last, by', at') ↦ (suc n, last, omega arith, by', at', last_at-more c row n ∙ ap (λ (causes : List Cause). last_or (last_at c (up_to row n)) causes) (told-here marks c (suc n) last by' at'))
-      | inl none ↦ (let r = last-told marks c n k why (lower none) by at in (r.0, r.1, omega (arith, r.2), r.3, r.4, last_at-more c row n ∙ (ap (λ (causes : List Cause). last_or (last_at c (up_to row n)) causes) none ∙ r.5)))
+    (k, why, le, by, at, ap (λ (causes : List Cause). last_or None causes) (ap (λ i. causes_at c (ending_of_progress i (progress i))) (sym z) ∙ told-here progress c k why by at))
+last-told progress c (suc n) k why le by at =
+    let row : ℕ → List Ending = λ i. ending_of_progress i (progress i) in
+    elim (told-cases progress c (suc n)) [
+      | inr (last, by', at') ↦ (suc n, last, omega arith, by', at', last_at-more c row n ∙ ap (λ (causes : List Cause). last_or (last_at c (up_to row n)) causes) (told-here progress c (suc n) last by' at'))
+      | inl none ↦ (let r = last-told progress c n k why (lower none) by at in (r.0, r.1, omega (arith, r.2), r.3, r.4, last_at-more c row n ∙ (ap (λ (causes : List Cause). last_or (last_at c (up_to row n)) causes) none ∙ r.5)))
     ]
   where
-    lower : causes_at c (ending_of_mark (suc n) (marks (suc n))) ≡ [] → k ≤ n
+    lower : causes_at c (ending_of_progress (suc n) (progress (suc n))) ≡ [] → k ≤ n
     lower none =
         elim (cases_eq k (suc n)) [
-          | inl same ↦ (let h : causes_at c (ending_of_mark (suc n) (marks (suc n))) ≡ why ∷ [] = ap (λ i. causes_at c (ending_of_mark i (marks i))) (sym same) ∙ told-here marks c k why by at in absurd cc)
+          | inl same ↦ (let h : causes_at c (ending_of_progress (suc n) (progress (suc n))) ≡ why ∷ [] = ap (λ i. causes_at c (ending_of_progress i (progress i))) (sym same) ∙ told-here progress c k why by at in absurd cc)
           | inr apart ↦ omega arith
         ]
 
@@ -280,7 +280,7 @@ module _ (plan : CorePlan) (rules : List PluginRule) (input : StageList) (state 
   output-prefix =
       subst (λ (cells : List Cell). IsPrefix (state.stages (suc plan.plugins)).given cells) (output-cells plan rules input plugins) (faithful.lists (suc plan.plugins))
 
-  module _ (all_ended : AllEnded plan (marks_of state)) where
+  module _ (all_ended : AllEnded plan (progress_of_stages state)) where
     abbrev c : ℕ
     c = gave state (suc plan.plugins)
 
@@ -290,18 +290,18 @@ module _ (plan : CorePlan) (rules : List PluginRule) (input : StageList) (state 
     reached-plugins : (k : ℕ) → k ≤ plan.plugins → c ≤ gave state k
     reached-plugins k le = reached k (omega arith)
 
-    cut-within : IsCutWithin plan (marks_of state) c
+    cut-within : IsCutWithin plan (progress_of_stages state) c
     cut-within =
-        elim (state.stages (suc plan.plugins)).ended as (λ o. (state.stages (suc plan.plugins)).ended ≡ o → IsCutWithin plan (marks_of state) c) [
+        elim (state.stages (suc plan.plugins)).ended as (λ o. (state.stages (suc plan.plugins)).ended ≡ o → IsCutWithin plan (progress_of_stages state) c) [
           | None ↦ (λ is. (let e : true ≡ is_some (state.stages (suc plan.plugins)).ended = sym (all_ended (suc plan.plugins) (omega arith)) in let n : is_some (state.stages (suc plan.plugins)).ended ≡ false = ap (λ (o : Option StageEnd). is_some o) is in absurd cc))
           | Some end ↦ (λ is. sound.key (suc plan.plugins) end is)
         ] refl
 
-    limit-above : (limit : ℕ) → limit_of plan (marks_of state) ≡ Some limit → c ≤ limit
+    limit-above : (limit : ℕ) → limit_of plan (progress_of_stages state) ≡ Some limit → c ≤ limit
     limit-above limit is = (sound.limited limit is).0
 
     abbrev row : ℕ → List Ending
-    row k = ending_of_mark k (marks_of state k)
+    row k = ending_of_progress k (progress_of_stages state k)
 
     all-above : AllByRecursion (λ (e : Ending). c ≤ e.at) (up_to row (suc plan.plugins))
     all-above =
@@ -315,18 +315,18 @@ module _ (plan : CorePlan) (rules : List PluginRule) (input : StageList) (state 
         one k le =
             with-one c (gave state k) (option_and_then (cause_of_stage k) (state.stages k).ended) le
 
-    some-reach : ((x : ℕ) × (limit_of plan (marks_of state) ≡ Some x) × (x ≤ c)) ⊎ SomeWithin c (up_to row (suc plan.plugins))
+    some-reach : ((x : ℕ) × (limit_of plan (progress_of_stages state) ≡ Some x) × (x ≤ c)) ⊎ SomeWithin c (up_to row (suc plan.plugins))
     some-reach = from cut-within
       where
-        from : IsCutWithin plan (marks_of state) c → ((x : ℕ) × (limit_of plan (marks_of state) ≡ Some x) × (x ≤ c)) ⊎ SomeWithin c (up_to row (suc plan.plugins))
+        from : IsCutWithin plan (progress_of_stages state) c → ((x : ℕ) × (limit_of plan (progress_of_stages state) ≡ Some x) × (x ≤ c)) ⊎ SomeWithin c (up_to row (suc plan.plugins))
         from (inl (k, why, by, in_, small)) =
-            inr (up_to-some c row (suc plan.plugins) k in_ (subst (λ (endings : List Ending). SomeWithin c endings) (sym (ended-ending (marks_of state) k why by)) (inl small)))
+            inr (up_to-some c row (suc plan.plugins) k in_ (subst (λ (endings : List Ending). SomeWithin c endings) (sym (ended-ending (progress_of_stages state) k why by)) (inl small)))
         from (inr known) = inl known
 
     -- the cut is what the output gave
-    cut-is : cut_at_close plan (marks_of state) ≡ c
+    cut-is : cut_at_close plan (progress_of_stages state) ≡ c
     cut-is =
-        ap (λ (o : Option ℕ). unwrap_or o 0) (ap (least_among (limit_of plan (marks_of state))) (told-rows (marks_of state) (suc plan.plugins)) ∙ least-is c (limit_of plan (marks_of state)) (up_to row (suc plan.plugins)) limit-above all-above some-reach)
+        ap (λ (o : Option ℕ). unwrap_or o 0) (ap (least_among (limit_of plan (progress_of_stages state))) (told-rows (progress_of_stages state) (suc plan.plugins)) ∙ least-is c (limit_of plan (progress_of_stages state)) (up_to row (suc plan.plugins)) limit-above all-above some-reach)
 
     joint-above : (joint : ℕ) → joint_position rules input (stages_of plan.users) ≡ Some joint → c ≤ joint
     joint-above joint is =
@@ -363,13 +363,13 @@ module _ (plan : CorePlan) (rules : List PluginRule) (input : StageList) (state 
     abbrev Verdict : Cause → Type 0
     Verdict why =
         (IsPureClose rules input (stages_of plan.users) c why ⊎ IsLawfulFault rules input (stages_of plan.users) c why)
-        × IsToldCause plan (marks_of state) c why
+        × IsToldCause plan (progress_of_stages state) c why
 
     abbrev pure_row : ℕ → List Ending
     pure_row k = ending_of k (stage_list rules input k)
 
     -- joint termination at the cut
-    joint-verdict : limit_of plan (marks_of state) ≡ Some c → Verdict cause.Joint
+    joint-verdict : limit_of plan (progress_of_stages state) ≡ Some c → Verdict cause.Joint
     joint-verdict is =
         let joint = limit-joint plan rules input state users faithful c is in
         let cut : c ≡ cut_of rules input (stages_of plan.users) = (let a = cells-above in omega arith) ∙ ap (lesser_end (length (end_list rules input).cells)) (sym joint) in
@@ -382,14 +382,14 @@ module _ (plan : CorePlan) (rules : List PluginRule) (input : StageList) (state 
     one-until : (k : ℕ) → k ≤ plan.plugins → until_at c (row k) ≡ until_at c (pure_row k)
     one-until k le =
         elim (until_at c (row k)) as (λ o. until_at c (row k) ≡ o → o ≡ until_at c (pure_row k)) [
-          | Some u ↦ (λ is. from_told u (told-until (marks_of state) c k u is))
+          | Some u ↦ (λ is. from_told u (told-until (progress_of_stages state) c k u is))
           | None ↦ (λ is. elim (until_at c (pure_row k)) as (λ o. until_at c (pure_row k) ≡ o → None ≡ o) [
             | None ↦ (λ none. refl)
             | Some u ↦ (λ some. (let t = from_list u (list-until c k (stage_list rules input k) u some) in absurd cc))
           ] refl)
         ] refl
       where
-        from_told : (u : Cause) → EndsBy (marks_of state) k u × ((state.stages k).ended ≡ Some Last) × (gave state k ≡ c) × (u ≡ cause.Until k) → Some u ≡ until_at c (pure_row k)
+        from_told : (u : Cause) → EndsBy (progress_of_stages state) k u × ((state.stages k).ended ≡ Some Last) × (gave state k ≡ c) × (u ≡ cause.Until k) → Some u ≡ until_at c (pure_row k)
         from_told u (by, is, at, w) =
             let e = faithful.ends k Last is in
             ap (λ (x : Cause). Some x) w ∙ sym (list-until_at c k (stage_list rules input k) e.ended (ap length (sym e.whole) ∙ at))
@@ -398,7 +398,7 @@ module _ (plan : CorePlan) (rules : List PluginRule) (input : StageList) (state 
         from_list u (is, at, w) =
             let far = reached-plugins k le in
             let all = prefix-whole (state.stages k).given (stage_list rules input k).cells (faithful.lists k) (omega arith) in
-            told-until_at (marks_of state) c k (faithful.lasts_told k (record { ended = is; whole = all })) (ap length all ∙ at)
+            told-until_at (progress_of_stages state) c k (faithful.lasts_told k (record { ended = is; whole = all })) (ap length all ∙ at)
 
     or-none-right : (o : Option Cause) → option_or o None ≡ o
     or-none-right None = refl
@@ -409,7 +409,7 @@ module _ (plan : CorePlan) (rules : List PluginRule) (input : StageList) (state 
     output-until =
         elim (until_at c (row (suc plan.plugins))) as (λ o. until_at c (row (suc plan.plugins)) ≡ o → o ≡ None) [
           | None ↦ (λ is. refl)
-          | Some u ↦ (λ is. (let t = told-until (marks_of state) c (suc plan.plugins) u is in let e = (faithful.ends (suc plan.plugins) Last t.1).ended in let n = output-ended plan rules input plugins in absurd cc))
+          | Some u ↦ (λ is. (let t = told-until (progress_of_stages state) c (suc plan.plugins) u is in let e = (faithful.ends (suc plan.plugins) Last t.1).ended in let n = output-ended plan rules input plugins in absurd cc))
         ] refl
 
     same-until : until_at c (up_to row (suc plan.plugins)) ≡ until_at c (up_to pure_row plan.plugins)
@@ -431,12 +431,12 @@ module _ (plan : CorePlan) (rules : List PluginRule) (input : StageList) (state 
         ∙ (cond-false (is_at (joint_position rules input (stages_of plan.users)) c) cause.Joint (chosen (endings_of rules input)) (is_at-not (joint_position rules input (stages_of plan.users)) c not_)
         ∙ ap (λ (endings : List Ending). chosen endings) pure-endings))
 
-    joint-not : (limit_of plan (marks_of state) ≡ Some c → ⊥) → joint_position rules input (stages_of plan.users) ≡ Some c → ⊥
+    joint-not : (limit_of plan (progress_of_stages state) ≡ Some c → ⊥) → joint_position rules input (stages_of plan.users) ≡ Some c → ⊥
     joint-not not_ joint =
         not_ (joint-limit plan rules input state users faithful c reached-plugins c joint (omega arith))
 
     -- a last packet at the cut
-    until-verdict : (limit_of plan (marks_of state) ≡ Some c → ⊥) → (u : Cause) → until_at c (up_to pure_row plan.plugins) ≡ Some u → Verdict (chosen (up_to row (suc plan.plugins)))
+    until-verdict : (limit_of plan (progress_of_stages state) ≡ Some c → ⊥) → (u : Cause) → until_at c (up_to pure_row plan.plugins) ≡ Some u → Verdict (chosen (up_to row (suc plan.plugins)))
     until-verdict not_ u is =
         let told : until_at c (up_to row (suc plan.plugins)) ≡ Some u = same-until ∙ is in
         let s = until_at-some c pure_row plan.plugins u is in
@@ -445,7 +445,7 @@ module _ (plan : CorePlan) (rules : List PluginRule) (input : StageList) (state 
         let why : chosen (up_to row (suc plan.plugins)) ≡ u = ap (λ (o : Option Cause). unwrap_or (option_or o (last_at c (up_to row (suc plan.plugins)))) cause.Joint) told in
         let why' : chosen (up_to pure_row plan.plugins) ≡ u = ap (λ (o : Option Cause). unwrap_or (option_or o (last_at c (up_to pure_row plan.plugins))) cause.Joint) is in
         let t = until_at-some c row (suc plan.plugins) u told in
-        let by = told-until (marks_of state) c t.0 u t.2 in
+        let by = told-until (progress_of_stages state) c t.0 u t.2 in
         subst (λ (w : Cause). Verdict w) (sym why) (inl (cut, sym why' ∙ pure-cause (joint-not not_) cut), inr (t.0, by.0, t.1, by.2))
 
     -- no list ends at the cut behind one that does, where no last packet stands there
@@ -463,7 +463,7 @@ module _ (plan : CorePlan) (rules : List PluginRule) (input : StageList) (state 
             let n = until_at-none c pure_row plan.plugins none (suc i) le in absurd cc
 
     -- the greatest stage's own end at the cut
-    last-verdict : (limit_of plan (marks_of state) ≡ Some c → ⊥) → until_at c (up_to pure_row plan.plugins) ≡ None → (k : ℕ) (why : Cause) → k ≤ suc plan.plugins → EndsBy (marks_of state) k why → gave state k ≡ c → last_at c (up_to row (suc plan.plugins)) ≡ Some why → Verdict (chosen (up_to row (suc plan.plugins)))
+    last-verdict : (limit_of plan (progress_of_stages state) ≡ Some c → ⊥) → until_at c (up_to pure_row plan.plugins) ≡ None → (k : ℕ) (why : Cause) → k ≤ suc plan.plugins → EndsBy (progress_of_stages state) k why → gave state k ≡ c → last_at c (up_to row (suc plan.plugins)) ≡ Some why → Verdict (chosen (up_to row (suc plan.plugins)))
     last-verdict not_ none k why le by at is =
         subst (λ (w : Cause). Verdict w) (sym told) (judged (own-or-fault plan.plugins k (stage_list rules input k) (state.stages k).given by.end why (faithful.ends k by.end by.ended) by.gives), inr (k, by, le, at))
       where
@@ -497,26 +497,26 @@ module _ (plan : CorePlan) (rules : List PluginRule) (input : StageList) (state 
             })
 
     -- an own end at the cut
-    own-verdict : (limit_of plan (marks_of state) ≡ Some c → ⊥) → until_at c (up_to pure_row plan.plugins) ≡ None → Verdict (chosen (up_to row (suc plan.plugins)))
+    own-verdict : (limit_of plan (progress_of_stages state) ≡ Some c → ⊥) → until_at c (up_to pure_row plan.plugins) ≡ None → Verdict (chosen (up_to row (suc plan.plugins)))
     own-verdict not_ none = from cut-within
       where
-        from : IsCutWithin plan (marks_of state) c → Verdict (chosen (up_to row (suc plan.plugins)))
+        from : IsCutWithin plan (progress_of_stages state) c → Verdict (chosen (up_to row (suc plan.plugins)))
         from (inl (k, why, by, in_, small)) =
             let far = reached k in_ in
-            let l = last-told (marks_of state) c (suc plan.plugins) k why in_ by (omega arith) in
+            let l = last-told (progress_of_stages state) c (suc plan.plugins) k why in_ by (omega arith) in
             last-verdict not_ none l.0 l.1 l.2 l.3 l.4 l.5
         from (inr (limit, is, le)) =
             let a = limit-above limit is in
             let same : limit ≡ c = omega arith in absurd (not_ (is ∙ ap (λ n. Some n) same))
 
-    verdict : Verdict (cause_among c (limit_of plan (marks_of state)) (told_endings (marks_of state) (suc plan.plugins)))
+    verdict : Verdict (cause_among c (limit_of plan (progress_of_stages state)) (told_endings (progress_of_stages state) (suc plan.plugins)))
     verdict =
-        elim (cases_Bool (is_at (limit_of plan (marks_of state)) c)) [
-          | inl at ↦ subst (λ (w : Cause). Verdict w) (sym (cond-true (is_at (limit_of plan (marks_of state)) c) cause.Joint (chosen (told_endings (marks_of state) (suc plan.plugins))) at)) (joint-verdict (is_at-some (limit_of plan (marks_of state)) c at))
-          | inr off ↦ subst (λ (w : Cause). Verdict w) (sym (cond-false (is_at (limit_of plan (marks_of state)) c) cause.Joint (chosen (told_endings (marks_of state) (suc plan.plugins))) off ∙ ap (λ (endings : List Ending). chosen endings) (told-rows (marks_of state) (suc plan.plugins)))) (by_until (λ is. (let on : is_at (limit_of plan (marks_of state)) c ≡ true = ap (λ (o : Option ℕ). is_at o c) is ∙ eq-eqb c c refl in absurd cc)))
+        elim (cases_Bool (is_at (limit_of plan (progress_of_stages state)) c)) [
+          | inl at ↦ subst (λ (w : Cause). Verdict w) (sym (cond-true (is_at (limit_of plan (progress_of_stages state)) c) cause.Joint (chosen (told_endings (progress_of_stages state) (suc plan.plugins))) at)) (joint-verdict (is_at-some (limit_of plan (progress_of_stages state)) c at))
+          | inr off ↦ subst (λ (w : Cause). Verdict w) (sym (cond-false (is_at (limit_of plan (progress_of_stages state)) c) cause.Joint (chosen (told_endings (progress_of_stages state) (suc plan.plugins))) off ∙ ap (λ (endings : List Ending). chosen endings) (told-rows (progress_of_stages state) (suc plan.plugins)))) (by_until (λ is. (let on : is_at (limit_of plan (progress_of_stages state)) c ≡ true = ap (λ (o : Option ℕ). is_at o c) is ∙ eq-eqb c c refl in absurd cc)))
         ]
       where
-        by_until : (limit_of plan (marks_of state) ≡ Some c → ⊥) → Verdict (chosen (up_to row (suc plan.plugins)))
+        by_until : (limit_of plan (progress_of_stages state) ≡ Some c → ⊥) → Verdict (chosen (up_to row (suc plan.plugins)))
         by_until not_ =
             elim (until_at c (up_to pure_row plan.plugins)) as (λ o. until_at c (up_to pure_row plan.plugins) ≡ o → Verdict (chosen (up_to row (suc plan.plugins)))) [
               | Some u ↦ (λ is. until-verdict not_ u is)
@@ -524,9 +524,9 @@ module _ (plan : CorePlan) (rules : List PluginRule) (input : StageList) (state 
             ] refl
 
     -- what holds at the close
-    pub closing : AtClose plan rules input state (cut_at_close plan (marks_of state)) (cause_at_close plan (marks_of state))
+    pub closing : AtClose plan rules input state (cut_at_close plan (progress_of_stages state)) (cause_at_close plan (progress_of_stages state))
     closing =
-        let P : ℕ → Type 0 = λ m. AtClose plan rules input state m (cause_among m (limit_of plan (marks_of state)) (told_endings (marks_of state) (suc plan.plugins))) in
+        let P : ℕ → Type 0 = λ m. AtClose plan rules input state m (cause_among m (limit_of plan (progress_of_stages state)) (told_endings (progress_of_stages state) (suc plan.plugins))) in
         subst P (sym cut-is) (record {
           written = prefix-is_take (state.stages (suc plan.plugins)).given (end_list rules input).cells output-prefix;
           reached = reached;

@@ -8,7 +8,7 @@ use Rattle.chain_core.specs.declared.stage_end.StageEnd.{StageEnd}
 use Rattle.chain_core.specs.declared.stage_end.StageEnd.TheVariants.{Stop, WriteFault, NoMemory, Followed}
 use Rattle.chain_core.specs.Stages.{has_stage, stages_below, stages_of}
 use Rattle.chain_core.specs.Numbers.{limit_of, news_of}
-use Rattle.chain_core.specs.Machine.{Visit, marks_of, with_stage, noted, served, visited}
+use Rattle.chain_core.specs.Machine.{Visit, progress_of_stages, with_stage, noted, served, visited}
 use Rattle.chain_core.specs.ChainRun.{state_after}
 use Rattle.chain_core.specs.Close.{closed_of}
 
@@ -37,24 +37,24 @@ unfolding stages_of stages_below has_stage
 users-are = refl
 
 -- the limit is known once both have told, and the output hears it
-joint-news : news_of (plan_with 6) (marks_of (state_after (plan_with 6) (reverse agreeing))) 3 ≡ record { taken = 6; limit = Some 5; written = 0; before_over = false; after_over = false }
+joint-news : news_of (plan_with 6) (progress_of_stages (state_after (plan_with 6) (reverse agreeing))) 3 ≡ record { taken = 6; limit = Some 5; written = 0; before_over = false; after_over = false }
 unfolding state_after visited served noted with_stage stages_of stages_below has_stage
 joint-news = refl
 
-joint-close : closed_of (plan_with 6) (marks_of (state_after (plan_with 6) (reverse (agreeing ++ followed)))) ≡ record { cut = 5; cause = cause.Joint }
+joint-close : closed_of (plan_with 6) (progress_of_stages (state_after (plan_with 6) (reverse (agreeing ++ followed)))) ≡ record { cut = 5; cause = cause.Joint }
 unfolding state_after visited served noted with_stage stages_of stages_below has_stage
 joint-close = refl
 
 -- ignored: there is no limit
-ignored-limit : limit_of (plan_with 0) (marks_of (state_after (plan_with 0) (reverse agreeing))) ≡ None
+ignored-limit : limit_of (plan_with 0) (progress_of_stages (state_after (plan_with 0) (reverse agreeing))) ≡ None
 unfolding state_after visited served noted with_stage stages_of stages_below has_stage
 ignored-limit = refl
 
 -- a fault of the output before the limit, then the greatest of two stages that ended at one place
-fault-close : closed_of (plan_with 6) (marks_of (state_after (plan_with 6) (reverse (agreeing ++ ends 3 4 WriteFault ∷ ends 2 0 Followed ∷ ends 1 0 Followed ∷ ends 0 0 Followed ∷ [])))) ≡ record { cut = 4; cause = cause.WriteFault }
+fault-close : closed_of (plan_with 6) (progress_of_stages (state_after (plan_with 6) (reverse (agreeing ++ ends 3 4 WriteFault ∷ ends 2 0 Followed ∷ ends 1 0 Followed ∷ ends 0 0 Followed ∷ [])))) ≡ record { cut = 4; cause = cause.WriteFault }
 unfolding state_after visited served noted with_stage stages_of stages_below has_stage
 fault-close = refl
 
-tie-close : closed_of (plan_with 0) (marks_of (state_after (plan_with 0) (reverse (agreeing ++ ends 1 0 Stop ∷ ends 2 0 NoMemory ∷ ends 3 6 Followed ∷ ends 0 0 Followed ∷ [])))) ≡ record { cut = 6; cause = cause.NoMemory 2 }
+tie-close : closed_of (plan_with 0) (progress_of_stages (state_after (plan_with 0) (reverse (agreeing ++ ends 1 0 Stop ∷ ends 2 0 NoMemory ∷ ends 3 6 Followed ∷ ends 0 0 Followed ∷ [])))) ≡ record { cut = 6; cause = cause.NoMemory 2 }
 unfolding state_after visited served noted with_stage stages_of stages_below has_stage
 tie-close = refl

@@ -11,7 +11,7 @@ use Rattle.chain_core.specs.declared.stage_end.StageEnd.{StageEnd}
 use Rattle.chain_core.specs.declared.stage_end.StageEnd.TheVariants.{Input, Last, Stop, Refuse, WriteFault, NoMemory, Followed}
 use Rattle.chain_core.specs.Stages.{has_stage, stages_of}
 use Rattle.chain_core.specs.Numbers.{UsersArePlugins, limit_of, takes_of, agreed_with, IsAgreement, MayFollow, is_before_over}
-use Rattle.chain_core.specs.Machine.{StageState, ChainState, Visit, start, marks_of, noted, served, visited, Allowed}
+use Rattle.chain_core.specs.Machine.{StageState, ChainState, Visit, start, progress_of_stages, noted, served, visited, Allowed}
 use Rattle.chain_core.specs.ChainRun.{ChainRun, state_after}
 use Rattle.chain_core.specs.Close.{cause_of_stage}
 use Rattle.chain_core.specs.EveryOrder.{IsCutWithin}
@@ -39,10 +39,10 @@ pub record Sound (plan : CorePlan) (state : ChainState) : Type 0 where
   pub handed : (k : ℕ) → took_count state (suc k) ≤ gave state k
   pub bound : took_count state 0 ≤ gave state (suc plan.plugins) + plan.buffer
   pub places : took_count state 0 ≤ position_limit
-  pub limited : (limit : ℕ) → limit_of plan (marks_of state) ≡ Some limit → (gave state (suc plan.plugins) ≤ limit) × ((state.told ≡ Some limit) ⊎ (took_count state (suc plan.plugins) ≤ limit))
-  pub told_is : (limit : ℕ) → state.told ≡ Some limit → limit_of plan (marks_of state) ≡ Some limit
+  pub limited : (limit : ℕ) → limit_of plan (progress_of_stages state) ≡ Some limit → (gave state (suc plan.plugins) ≤ limit) × ((state.told ≡ Some limit) ⊎ (took_count state (suc plan.plugins) ≤ limit))
+  pub told_is : (limit : ℕ) → state.told ≡ Some limit → limit_of plan (progress_of_stages state) ≡ Some limit
   pub ended_in : (k : ℕ) (end : StageEnd) → (state.stages k).ended ≡ Some end → k ≤ suc plan.plugins
-  pub key : (k : ℕ) (end : StageEnd) → (state.stages k).ended ≡ Some end → IsCutWithin plan (marks_of state) (gave state k)
+  pub key : (k : ℕ) (end : StageEnd) → (state.stages k).ended ≡ Some end → IsCutWithin plan (progress_of_stages state) (gave state k)
 
 -- a later stage has given no more
 pub gave-falls : (plan : CorePlan) (state : ChainState) → Sound plan state → (k j : ℕ) → j ≤ k → gave state k ≤ gave state j
@@ -106,7 +106,7 @@ module _ (plan : CorePlan) (state : ChainState) (visit : Visit) where
   noted-ended_other j apart =
       ap (λ (stage : StageState). stage.ended) (noted-other plan state visit j apart)
 
-  pub noted-limit_kept : (limit : ℕ) → limit_of plan (marks_of state) ≡ Some limit → limit_of plan (marks_of (noted plan state visit)) ≡ Some limit
+  pub noted-limit_kept : (limit : ℕ) → limit_of plan (progress_of_stages state) ≡ Some limit → limit_of plan (progress_of_stages (noted plan state visit)) ≡ Some limit
   noted-limit_kept limit is =
       greatest-kept (λ u. (state.stages u).agreed) (λ u. ((noted plan state visit).stages u).agreed) (stages_of plan.users) limit (all_each (IsKept (λ u. (state.stages u).agreed) (λ u. ((noted plan state visit).stages u).agreed)) noted-agreed_kept (stages_of plan.users)) is
 
@@ -125,7 +125,7 @@ module _ (plan : CorePlan) (users : AreUsers plan) (state : ChainState) (visit :
       let t = noted-took plan state visit (suc k) in let h = sound.handed k in omega arith
 
   -- where the limit becomes known, the output has taken no more
-  noted-limit_new : (limit : ℕ) → limit_of plan (marks_of state) ≡ None → limit_of plan (marks_of (noted plan state visit)) ≡ Some limit → took_count state (suc plan.plugins) ≤ limit
+  noted-limit_new : (limit : ℕ) → limit_of plan (progress_of_stages state) ≡ None → limit_of plan (progress_of_stages (noted plan state visit)) ≡ Some limit → took_count state (suc plan.plugins) ≤ limit
   noted-limit_new limit none is =
       greatest-new (λ u. (state.stages u).agreed) (λ u. ((noted plan state visit).stages u).agreed) (took_count state (suc plan.plugins)) (stages_of plan.users) limit
       (all_each (IsKept (λ u. (state.stages u).agreed) (λ u. ((noted plan state visit).stages u).agreed)) (noted-agreed_kept plan state visit) (stages_of plan.users))
@@ -143,7 +143,7 @@ module _ (plan : CorePlan) (users : AreUsers plan) (state : ChainState) (visit :
           let b : gave state plan.plugins ≤ gave state visit.stage = gave-falls plan state sound plan.plugins visit.stage (omega (arith, user.1, new.0)) in
           let h = sound.handed plan.plugins in omega arith
 
-  noted-output_within : (limit : ℕ) → limit_of plan (marks_of state) ≡ Some limit → gave (noted plan state visit) (suc plan.plugins) ≤ limit
+  noted-output_within : (limit : ℕ) → limit_of plan (progress_of_stages state) ≡ Some limit → gave (noted plan state visit) (suc plan.plugins) ≤ limit
   noted-output_within limit is =
       elim (cases_eq (suc plan.plugins) visit.stage) [
         | inl same ↦ subst (λ i. gave (noted plan state visit) i ≤ limit) (sym same) (at_output same (sound.limited limit is).1)
@@ -164,9 +164,9 @@ module _ (plan : CorePlan) (users : AreUsers plan) (state : ChainState) (visit :
           let h' : took_count state visit.stage ≤ limit = subst (λ i. took_count state i ≤ limit) same took in
           let h = ok.held in omega arith
 
-  noted-limited : (limit : ℕ) → limit_of plan (marks_of (noted plan state visit)) ≡ Some limit → (gave (noted plan state visit) (suc plan.plugins) ≤ limit) × (((noted plan state visit).told ≡ Some limit) ⊎ (took_count (noted plan state visit) (suc plan.plugins) ≤ limit))
+  noted-limited : (limit : ℕ) → limit_of plan (progress_of_stages (noted plan state visit)) ≡ Some limit → (gave (noted plan state visit) (suc plan.plugins) ≤ limit) × (((noted plan state visit).told ≡ Some limit) ⊎ (took_count (noted plan state visit) (suc plan.plugins) ≤ limit))
   noted-limited limit is =
-      elim (limit_of plan (marks_of state)) as (λ o. limit_of plan (marks_of state) ≡ o → (gave (noted plan state visit) (suc plan.plugins) ≤ limit) × (((noted plan state visit).told ≡ Some limit) ⊎ (took_count (noted plan state visit) (suc plan.plugins) ≤ limit))) [
+      elim (limit_of plan (progress_of_stages state)) as (λ o. limit_of plan (progress_of_stages state) ≡ o → (gave (noted plan state visit) (suc plan.plugins) ≤ limit) × (((noted plan state visit).told ≡ Some limit) ⊎ (took_count (noted plan state visit) (suc plan.plugins) ≤ limit))) [
         | None ↦ (λ none. let a = noted-limit_new limit none is in let t = noted-took plan state visit (suc plan.plugins) in let w = noted-within (suc plan.plugins) in (omega arith, inr (omega arith)))
         | Some known ↦ (λ was. same_limit (was ∙ (sym (noted-limit_kept plan state visit known was) ∙ is)))
       ] refl
@@ -175,7 +175,7 @@ module _ (plan : CorePlan) (users : AreUsers plan) (state : ChainState) (visit :
       moved (inl told) = inl (noted-told plan state visit ∙ told)
       moved (inr took) = (let t = noted-took plan state visit (suc plan.plugins) in inr (omega arith))
 
-      same_limit : limit_of plan (marks_of state) ≡ Some limit → (gave (noted plan state visit) (suc plan.plugins) ≤ limit) × (((noted plan state visit).told ≡ Some limit) ⊎ (took_count (noted plan state visit) (suc plan.plugins) ≤ limit))
+      same_limit : limit_of plan (progress_of_stages state) ≡ Some limit → (gave (noted plan state visit) (suc plan.plugins) ≤ limit) × (((noted plan state visit).told ≡ Some limit) ⊎ (took_count (noted plan state visit) (suc plan.plugins) ≤ limit))
       same_limit was = (noted-output_within limit was, moved (sound.limited limit was).1)
 
   -- a stage that has ended is not the one of the visit
@@ -185,7 +185,7 @@ module _ (plan : CorePlan) (users : AreUsers plan) (state : ChainState) (visit :
       let e : (state.stages k).ended ≡ None = ap (λ i. (state.stages i).ended) same ∙ open_ in absurd cc
 
   -- where the cut is known to be within, it stays so
-  noted-cut : (m n : ℕ) → m ≤ n → IsCutWithin plan (marks_of state) m → IsCutWithin plan (marks_of (noted plan state visit)) n
+  noted-cut : (m n : ℕ) → m ≤ n → IsCutWithin plan (progress_of_stages state) m → IsCutWithin plan (progress_of_stages (noted plan state visit)) n
   noted-cut m n le (inl (k, why, by, in_, small)) =
       let apart = ended-apart k by.end by.ended in
       let e = noted-gave_other plan state visit k apart in
@@ -194,9 +194,9 @@ module _ (plan : CorePlan) (users : AreUsers plan) (state : ChainState) (visit :
       inr (limit, noted-limit_kept plan state visit limit is, omega arith)
 
   -- what a stage that ends in this visit knows
-  new-end : (end : StageEnd) → visit.word.ended ≡ Some end → IsCutWithin plan (marks_of (noted plan state visit)) (gave (noted plan state visit) visit.stage)
+  new-end : (end : StageEnd) → visit.word.ended ≡ Some end → IsCutWithin plan (progress_of_stages (noted plan state visit)) (gave (noted plan state visit) visit.stage)
   new-end end is =
-      elim (cause_of_stage visit.stage end) as (λ o. cause_of_stage visit.stage end ≡ o → IsCutWithin plan (marks_of (noted plan state visit)) (gave (noted plan state visit) visit.stage)) [
+      elim (cause_of_stage visit.stage end) as (λ o. cause_of_stage visit.stage end ≡ o → IsCutWithin plan (progress_of_stages (noted plan state visit)) (gave (noted plan state visit) visit.stage)) [
         | Some why ↦ (λ gives. inl (visit.stage, why, record { end = end; ended = noted-ended_same plan state visit ∙ is; gives = gives }, ok.is_stage, omega arith))
         | None ↦ (λ gives. follow (ok.follows (is ∙ ap (λ (e : StageEnd). Some e) (follows end gives))))
       ] refl
@@ -210,7 +210,7 @@ module _ (plan : CorePlan) (users : AreUsers plan) (state : ChainState) (visit :
       follows NoMemory e = absurd cc
       follows Followed e = refl
 
-      before : (k : ℕ) → visit.stage ≡ k → is_before_over (marks_of state) k ≡ true → IsCutWithin plan (marks_of (noted plan state visit)) (gave (noted plan state visit) visit.stage)
+      before : (k : ℕ) → visit.stage ≡ k → is_before_over (progress_of_stages state) k ≡ true → IsCutWithin plan (progress_of_stages (noted plan state visit)) (gave (noted plan state visit) visit.stage)
       before zero same over = absurd cc
       before (suc j) same over =
           let both = and_parts (is_some (state.stages j).ended) (gave state (suc j) == gave state j) over in
@@ -224,7 +224,7 @@ module _ (plan : CorePlan) (users : AreUsers plan) (state : ChainState) (visit :
           some_of None e = absurd cc
           some_of (Some end) e = (end, refl)
 
-      follow : MayFollow plan (marks_of state) visit.stage (gave state visit.stage + length visit.cells) → IsCutWithin plan (marks_of (noted plan state visit)) (gave (noted plan state visit) visit.stage)
+      follow : MayFollow plan (progress_of_stages state) visit.stage (gave state visit.stage + length visit.cells) → IsCutWithin plan (progress_of_stages (noted plan state visit)) (gave (noted plan state visit) visit.stage)
       follow (inl over) = before visit.stage refl over
       follow (inr (inl over)) =
           let both = and_parts (nat_le visit.stage plan.plugins) (is_some (state.stages (suc visit.stage)).ended) over in
@@ -241,10 +241,10 @@ module _ (plan : CorePlan) (users : AreUsers plan) (state : ChainState) (visit :
           let e = noted-gave_same plan state visit in
           inr (limit, noted-limit_kept plan state visit limit is_, omega arith)
 
-  noted-key : (k : ℕ) (end : StageEnd) → ((noted plan state visit).stages k).ended ≡ Some end → IsCutWithin plan (marks_of (noted plan state visit)) (gave (noted plan state visit) k)
+  noted-key : (k : ℕ) (end : StageEnd) → ((noted plan state visit).stages k).ended ≡ Some end → IsCutWithin plan (progress_of_stages (noted plan state visit)) (gave (noted plan state visit) k)
   noted-key k end is =
       elim (cases_eq k visit.stage) [
-        | inl same ↦ subst (λ i. IsCutWithin plan (marks_of (noted plan state visit)) (gave (noted plan state visit) i)) (sym same) (new-end end (sym (noted-ended_same plan state visit) ∙ (ap (λ i. ((noted plan state visit).stages i).ended) (sym same) ∙ is)))
+        | inl same ↦ subst (λ i. IsCutWithin plan (progress_of_stages (noted plan state visit)) (gave (noted plan state visit) i)) (sym same) (new-end end (sym (noted-ended_same plan state visit) ∙ (ap (λ i. ((noted plan state visit).stages i).ended) (sym same) ∙ is)))
         | inr apart ↦ noted-cut (gave state k) (gave (noted plan state visit) k) (noted-gave_grows plan state visit k) (sound.key k end (sym (noted-ended_other plan state visit k apart) ∙ is))
       ]
 
@@ -290,14 +290,14 @@ module _ (plan : CorePlan) (state : ChainState) (k : ℕ) where
         | inr apart ↦ ap (λ (stage : StageState). stage.ended) (served-other plan state k j apart)
       ]
 
-  pub served-took_same : took_count (served plan state k) k ≡ took_count state k + takes_of plan (marks_of state) k
+  pub served-took_same : took_count (served plan state k) k ≡ took_count state k + takes_of plan (progress_of_stages state) k
   served-took_same = ap (λ (stage : StageState). stage.taken) (served-same plan state k)
 
   pub served-took_other : (j : ℕ) → j ≢ k → took_count (served plan state k) j ≡ took_count state j
   served-took_other j apart =
       ap (λ (stage : StageState). stage.taken) (served-other plan state k j apart)
 
-  pub served-limit : limit_of plan (marks_of (served plan state k)) ≡ limit_of plan (marks_of state)
+  pub served-limit : limit_of plan (progress_of_stages (served plan state k)) ≡ limit_of plan (progress_of_stages state)
   served-limit =
       ap (λ (f : ℕ → Option ℕ). greatest_if_all (map f (stages_of plan.users))) (λ i u. served-agreed u i)
 
@@ -308,7 +308,7 @@ module _ (plan : CorePlan) (state : ChainState) (k : ℕ) where
         let g = served-gave j in
         let h = sound.within j in
         elim (cases_eq j k) [
-          | inl same ↦ (let t = subst (λ i. took_count (served plan state k) i ≡ took_count state i + takes_of plan (marks_of state) i) (sym same) served-took_same in omega arith)
+          | inl same ↦ (let t = subst (λ i. took_count (served plan state k) i ≡ took_count state i + takes_of plan (progress_of_stages state) i) (sym same) served-took_same in omega arith)
           | inr apart ↦ (let t = served-took_other j apart in omega arith)
         ]
 
@@ -317,7 +317,7 @@ module _ (plan : CorePlan) (state : ChainState) (k : ℕ) where
         let g = served-gave j in
         let h = sound.handed j in
         elim (cases_eq (suc j) k) [
-          | inl same ↦ (let t = subst (λ i. took_count (served plan state k) i ≡ took_count state i + takes_of plan (marks_of state) i) (sym same) served-took_same in omega arith)
+          | inl same ↦ (let t = subst (λ i. took_count (served plan state k) i ≡ took_count state i + takes_of plan (progress_of_stages state) i) (sym same) served-took_same in omega arith)
           | inr apart ↦ (let t = served-took_other (suc j) apart in omega arith)
         ]
 
@@ -327,16 +327,16 @@ module _ (plan : CorePlan) (state : ChainState) (k : ℕ) where
         let h = sound.bound in
         let h' = sound.places in
         elim (cases_eq 0 k) [
-          | inl same ↦ (let t = subst (λ i. took_count (served plan state k) i ≡ took_count state i + takes_of plan (marks_of state) i) (sym same) served-took_same in input_taken _ _ _ _ _ _ _ h h' t g)
+          | inl same ↦ (let t = subst (λ i. took_count (served plan state k) i ≡ took_count state i + takes_of plan (progress_of_stages state) i) (sym same) served-took_same in input_taken _ _ _ _ _ _ _ h h' t g)
           | inr apart ↦ (let t = served-took_other 0 apart in (omega arith, rw t h'))
         ]
       where
         input_taken : (taken taken' given given' buffer most limit : ℕ) → taken ≤ given + buffer → taken ≤ limit → taken' ≡ taken + min most (min (given + buffer) limit - taken) → given' ≡ given → (taken' ≤ given' + buffer) × (taken' ≤ limit)
         input_taken taken taken' given given' buffer most limit a b c d = (omega arith, omega arith)
 
-    served-limited : (limit : ℕ) → limit_of plan (marks_of (served plan state k)) ≡ Some limit → (gave (served plan state k) (suc plan.plugins) ≤ limit) × (((served plan state k).told ≡ Some limit) ⊎ (took_count (served plan state k) (suc plan.plugins) ≤ limit))
+    served-limited : (limit : ℕ) → limit_of plan (progress_of_stages (served plan state k)) ≡ Some limit → (gave (served plan state k) (suc plan.plugins) ≤ limit) × (((served plan state k).told ≡ Some limit) ⊎ (took_count (served plan state k) (suc plan.plugins) ≤ limit))
     served-limited limit is =
-        let was : limit_of plan (marks_of state) ≡ Some limit = sym served-limit ∙ is in
+        let was : limit_of plan (progress_of_stages state) ≡ Some limit = sym served-limit ∙ is in
         let g = served-gave (suc plan.plugins) in
         let h : gave state (suc plan.plugins) ≤ limit = (sound.limited limit was).0 in (
           omega arith,
@@ -351,14 +351,14 @@ module _ (plan : CorePlan) (state : ChainState) (k : ℕ) where
         moved apart (inr took) =
             let t = served-took_other (suc plan.plugins) (λ e. apart (sym e)) in inr (omega arith)
 
-    served-told_is : (limit : ℕ) → (served plan state k).told ≡ Some limit → limit_of plan (marks_of (served plan state k)) ≡ Some limit
+    served-told_is : (limit : ℕ) → (served plan state k).told ≡ Some limit → limit_of plan (progress_of_stages (served plan state k)) ≡ Some limit
     served-told_is limit is =
         elim (cases_eq k (suc plan.plugins)) [
           | inl same ↦ served-limit ∙ (sym (served-told_output plan state k same) ∙ is)
           | inr apart ↦ served-limit ∙ sound.told_is limit (sym (served-told_other plan state k apart) ∙ is)
         ]
 
-    served-cut : (m n : ℕ) → m ≤ n → IsCutWithin plan (marks_of state) m → IsCutWithin plan (marks_of (served plan state k)) n
+    served-cut : (m n : ℕ) → m ≤ n → IsCutWithin plan (progress_of_stages state) m → IsCutWithin plan (progress_of_stages (served plan state k)) n
     served-cut m n le (inl (j, why, by, in_, small)) =
         let g = served-gave j in
         inl (j, why, record { end = by.end; ended = served-ended j ∙ by.ended; gives = by.gives }, in_, omega arith)

@@ -4,7 +4,7 @@ use Rattle.std.specs.Prelude.{◌==◌}
 use Rattle.std.proofs.lemmas.Bool.{cond-true, cond-false, ne_eqb}
 use Rattle.chain_core.specs.declared.core_plan.CorePlan.{CorePlan}
 use Rattle.chain_core.specs.Numbers.{limit_of, takes_of, agreed_with}
-use Rattle.chain_core.specs.Machine.{StageState, ChainState, Visit, marks_of, with_stage, noted, served, visited}
+use Rattle.chain_core.specs.Machine.{StageState, ChainState, Visit, progress_of_stages, with_stage, noted, served, visited}
 
 pub with_stage-same : (stages : ℕ → StageState) (k : ℕ) (stage : StageState) → with_stage stages k stage k ≡ stage
 unfolding with_stage
@@ -45,25 +45,25 @@ module _ (plan : CorePlan) (state : ChainState) (visit : Visit) where
   noted-told = refl
 
 module _ (plan : CorePlan) (state : ChainState) (k : ℕ) where
-  pub served-same : (served plan state k).stages k ≡ taking (state.stages k) (takes_of plan (marks_of state) k)
+  pub served-same : (served plan state k).stages k ≡ taking (state.stages k) (takes_of plan (progress_of_stages state) k)
   unfolding served
   served-same =
-      with_stage-same state.stages k (taking (state.stages k) (takes_of plan (marks_of state) k))
+      with_stage-same state.stages k (taking (state.stages k) (takes_of plan (progress_of_stages state) k))
 
   pub served-other : (j : ℕ) → j ≢ k → (served plan state k).stages j ≡ state.stages j
   unfolding served
   served-other j apart =
-      with_stage-other state.stages k (taking (state.stages k) (takes_of plan (marks_of state) k)) j apart
+      with_stage-other state.stages k (taking (state.stages k) (takes_of plan (progress_of_stages state) k)) j apart
 
-  pub served-told_output : k ≡ suc plan.plugins → (served plan state k).told ≡ limit_of plan (marks_of state)
+  pub served-told_output : k ≡ suc plan.plugins → (served plan state k).told ≡ limit_of plan (progress_of_stages state)
   unfolding served
   served-told_output is =
-      cond-true (k == suc plan.plugins) (limit_of plan (marks_of state)) state.told (eq-eqb k (suc plan.plugins) is)
+      cond-true (k == suc plan.plugins) (limit_of plan (progress_of_stages state)) state.told (eq-eqb k (suc plan.plugins) is)
 
   pub served-told_other : k ≢ suc plan.plugins → (served plan state k).told ≡ state.told
   unfolding served
   served-told_other apart =
-      cond-false (k == suc plan.plugins) (limit_of plan (marks_of state)) state.told (ne_eqb k (suc plan.plugins) apart)
+      cond-false (k == suc plan.plugins) (limit_of plan (progress_of_stages state)) state.told (ne_eqb k (suc plan.plugins) apart)
 
 module _ (plan : CorePlan) (state : ChainState) (visit : Visit) where
   pub visited-other : (j : ℕ) → j ≢ visit.stage → (visited plan state visit).stages j ≡ state.stages j
@@ -72,7 +72,7 @@ module _ (plan : CorePlan) (state : ChainState) (visit : Visit) where
       served-other plan (noted plan state visit) visit.stage j apart ∙ noted-other plan state visit j apart
 
   -- what the stage of the visit has given, agreed to and ended by
-  pub visited-same : (visited plan state visit).stages visit.stage ≡ taking (noted_stage plan (state.stages visit.stage) visit) (takes_of plan (marks_of (noted plan state visit)) visit.stage)
+  pub visited-same : (visited plan state visit).stages visit.stage ≡ taking (noted_stage plan (state.stages visit.stage) visit) (takes_of plan (progress_of_stages (noted plan state visit)) visit.stage)
   unfolding visited
   visited-same =
-      served-same plan (noted plan state visit) visit.stage ∙ ap (λ (stage : StageState). taking stage (takes_of plan (marks_of (noted plan state visit)) visit.stage)) (noted-same plan state visit)
+      served-same plan (noted plan state visit) visit.stage ∙ ap (λ (stage : StageState). taking stage (takes_of plan (progress_of_stages (noted plan state visit)) visit.stage)) (noted-same plan state visit)

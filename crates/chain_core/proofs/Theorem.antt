@@ -6,7 +6,7 @@ use Rattle.chain_model.specs.Apply.{StageList, last_passed}
 use Rattle.chain_model.specs.StageLists.{rule_behind}
 use Rattle.chain_core.specs.declared.core_plan.CorePlan.{CorePlan}
 use Rattle.chain_core.specs.declared.stage_end.StageEnd.TheVariants.{Followed}
-use Rattle.chain_core.specs.Machine.{Visit, marks_of}
+use Rattle.chain_core.specs.Machine.{Visit, progress_of_stages}
 use Rattle.chain_core.specs.ChainRun.{state_after, AllEnded}
 use Rattle.chain_core.specs.Keeps.{KeptRun}
 use Rattle.chain_core.specs.Close.{cut_at_close, cause_at_close}
@@ -48,6 +48,6 @@ module _ (plan : CorePlan) (rules : List PluginRule) (input : StageList) (visits
     followers = (λ k is. sound.key k Followed is);
   }
 
-  pub at-close : AllEnded plan (marks_of (state_after plan visits)) → AtClose plan rules input (state_after plan visits) (cut_at_close plan (marks_of (state_after plan visits))) (cause_at_close plan (marks_of (state_after plan visits)))
+  pub at-close : AllEnded plan (progress_of_stages (state_after plan visits)) → AtClose plan rules input (state_after plan visits) (cut_at_close plan (progress_of_stages (state_after plan visits))) (cause_at_close plan (progress_of_stages (state_after plan visits)))
   at-close ended =
       closing plan rules input (state_after plan visits) users kept.plugins sound faithful ended

@@ -7,10 +7,10 @@ use Rattle.ts_packet.specs.declared.cell.Cell.{Cell}
 use Rattle.chain_model.specs.Cut.{lesser_end}
 use Rattle.chain_model.specs.Stuffed.{position_limit}
 use Rattle.chain_core.specs.declared.core_plan.CorePlan.{CorePlan}
-use Rattle.chain_core.specs.declared.mark.Mark.{Mark}
+use Rattle.chain_core.specs.declared.progress.Progress.{Progress}
 use Rattle.chain_core.specs.declared.stage_end.StageEnd.{StageEnd}
 use Rattle.chain_core.specs.Numbers.{limit_of, written_of, is_before_over, is_after_over, MayFollow, IsAgreement}
-use Rattle.chain_core.specs.Machine.{StageState, ChainState, Visit, mark_of, marks_of, noted, visited, Allowed}
+use Rattle.chain_core.specs.Machine.{StageState, ChainState, Visit, progress_of_stage, progress_of_stages, noted, visited, Allowed}
 use Rattle.chain_core.specs.ChainRun.{took, AllEnded}
 use Rattle.chain_core.specs.Keeps.{StageKeeps}
 use Rattle.chain_core.specs.Laws.{ChangesOneStage, LeavesOthers, NewsHold, NewsGrow, IsQuiet}
@@ -18,11 +18,11 @@ use Rattle.chain_core.proofs.Facts.{falls}
 use Rattle.chain_core.proofs.Stepping.{visited-other, visited-same, noted-told, served-told_output, served-told_other}
 use Rattle.chain_core.proofs.Soundness.{gave, took_count, Sound, gave-falls, noted-limit_kept, noted-gave_grows, served-limit, served-gave}
 
-pub visited-limit : (plan : CorePlan) (state : ChainState) (visit : Visit) → limit_of plan (marks_of (visited plan state visit)) ≡ limit_of plan (marks_of (noted plan state visit))
+pub visited-limit : (plan : CorePlan) (state : ChainState) (visit : Visit) → limit_of plan (progress_of_stages (visited plan state visit)) ≡ limit_of plan (progress_of_stages (noted plan state visit))
 unfolding visited
 visited-limit plan state visit = served-limit plan (noted plan state visit) visit.stage
 
-visited-told_output : (plan : CorePlan) (state : ChainState) (visit : Visit) → visit.stage ≡ suc plan.plugins → (visited plan state visit).told ≡ limit_of plan (marks_of (visited plan state visit))
+visited-told_output : (plan : CorePlan) (state : ChainState) (visit : Visit) → visit.stage ≡ suc plan.plugins → (visited plan state visit).told ≡ limit_of plan (progress_of_stages (visited plan state visit))
 unfolding visited
 visited-told_output plan state visit is =
     served-told_output plan (noted plan state visit) visit.stage is ∙ sym (served-limit plan (noted plan state visit) visit.stage)
@@ -49,34 +49,34 @@ changes plan state visit = record {
   not_told = visited-told_other plan state visit;
 }
 
-limit-kept : (plan : CorePlan) (state : ChainState) (visit : Visit) (limit : ℕ) → limit_of plan (marks_of state) ≡ Some limit → limit_of plan (marks_of (visited plan state visit)) ≡ Some limit
+limit-kept : (plan : CorePlan) (state : ChainState) (visit : Visit) (limit : ℕ) → limit_of plan (progress_of_stages state) ≡ Some limit → limit_of plan (progress_of_stages (visited plan state visit)) ≡ Some limit
 limit-kept plan state visit limit is =
     visited-limit plan state visit ∙ noted-limit_kept plan state visit limit is
 
 -- what a visit leaves
 module _ (plan : CorePlan) (state : ChainState) (visit : Visit) (sound : Sound plan state) (ok : Allowed plan state visit) where
-  same-mark : (j : ℕ) → j ≢ visit.stage → marks_of (visited plan state visit) j ≡ marks_of state j
-  same-mark j apart = ap mark_of (visited-other plan state visit j apart)
+  same-progress : (j : ℕ) → j ≢ visit.stage → progress_of_stages (visited plan state visit) j ≡ progress_of_stages state j
+  same-progress j apart = ap progress_of_stage (visited-other plan state visit j apart)
 
   ended-apart : (j : ℕ) → is_some (state.stages j).ended ≡ true → j ≢ visit.stage
   ended-apart j is same =
       let none = ok.goes_on in
       let e : is_some (state.stages j).ended ≡ false = ap (λ (o : Option StageEnd). is_some o) (ap (λ i. (state.stages i).ended) same ∙ none) in absurd cc
 
-  before-stays : (j : ℕ) → j ≢ visit.stage → is_before_over (marks_of state) j ≡ true → is_before_over (marks_of (visited plan state visit)) j ≡ true
+  before-stays : (j : ℕ) → j ≢ visit.stage → is_before_over (progress_of_stages state) j ≡ true → is_before_over (progress_of_stages (visited plan state visit)) j ≡ true
   before-stays zero apart over = over
   before-stays (suc i) apart over =
       let both = and_parts (is_some (state.stages i).ended) (gave state (suc i) == gave state i) over in
       let apart' = ended-apart i both.0 in
-      (λ t. is_some (same-mark i apart' t).ended && (same-mark (suc i) apart t).given == (same-mark i apart' t).given) ∙ over
+      (λ t. is_some (same-progress i apart' t).ended && (same-progress (suc i) apart t).given == (same-progress i apart' t).given) ∙ over
 
-  after-stays : (j : ℕ) → is_after_over plan (marks_of state) j ≡ true → is_after_over plan (marks_of (visited plan state visit)) j ≡ true
+  after-stays : (j : ℕ) → is_after_over plan (progress_of_stages state) j ≡ true → is_after_over plan (progress_of_stages (visited plan state visit)) j ≡ true
   after-stays j over =
       let both = and_parts (nat_le j plan.plugins) (is_some (state.stages (suc j)).ended) over in
       let apart = ended-apart (suc j) both.1 in
-      ap (λ (m : Mark). nat_le j plan.plugins && is_some m.ended) (same-mark (suc j) apart) ∙ over
+      ap (λ (m : Progress). nat_le j plan.plugins && is_some m.ended) (same-progress (suc j) apart) ∙ over
 
-  follow-stays : (j now : ℕ) → j ≢ visit.stage → MayFollow plan (marks_of state) j now → MayFollow plan (marks_of (visited plan state visit)) j now
+  follow-stays : (j now : ℕ) → j ≢ visit.stage → MayFollow plan (progress_of_stages state) j now → MayFollow plan (progress_of_stages (visited plan state visit)) j now
   follow-stays j now apart (inl over) = inl (before-stays j apart over)
   follow-stays j now apart (inr (inl over)) = inr (inl (after-stays j over))
   follow-stays j now apart (inr (inr (limit, is, le))) =
@@ -93,7 +93,7 @@ module _ (plan : CorePlan) (state : ChainState) (visit : Visit) (sound : Sound p
         held = subst (λ (stage : StageState). length stage.given + n ≤ stage.taken) (sym e) may.held;
         agreement = subst (λ (stage : StageState). (agreed : ℕ) → other.word.agreed ≡ Some agreed → IsAgreement (length stage.given) (length stage.given + n) agreed) (sym e) may.agreement;
         below_limit = (λ is limit told some. subst (λ (stage : StageState). length stage.given + n ≤ limit) (sym e) (may.below_limit is limit (sym (visited-told_other plan state visit (λ at. apart (is ∙ sym at))) ∙ told) some));
-        follows = (λ is. subst (λ (stage : StageState). MayFollow plan (marks_of (visited plan state visit)) j (length stage.given + n)) (sym e) (follow-stays j (gave state j + n) apart (may.follows is)));
+        follows = (λ is. subst (λ (stage : StageState). MayFollow plan (progress_of_stages (visited plan state visit)) j (length stage.given + n)) (sym e) (follow-stays j (gave state j + n) apart (may.follows is)));
       }
 
   took-same : (j : ℕ) → j ≢ visit.stage → took (visited plan state visit) j ≡ took state j
@@ -120,9 +120,9 @@ module _ (plan : CorePlan) (state : ChainState) (visit : Visit) (sound : Sound p
 
 -- ---- the news
 
-written-is : (plan : CorePlan) (state : ChainState) → Sound plan state → written_of plan (marks_of state) ≡ gave state (suc plan.plugins)
+written-is : (plan : CorePlan) (state : ChainState) → Sound plan state → written_of plan (progress_of_stages state) ≡ gave state (suc plan.plugins)
 written-is plan state sound =
-    elim (limit_of plan (marks_of state)) as (λ o. limit_of plan (marks_of state) ≡ o → lesser_end (gave state (suc plan.plugins)) o ≡ gave state (suc plan.plugins)) [
+    elim (limit_of plan (progress_of_stages state)) as (λ o. limit_of plan (progress_of_stages state) ≡ o → lesser_end (gave state (suc plan.plugins)) o ≡ gave state (suc plan.plugins)) [
       | None ↦ (λ is. refl)
       | Some limit ↦ (λ is. (let h : gave state (suc plan.plugins) ≤ limit = (sound.limited limit is).0 in omega arith))
     ] refl
@@ -193,7 +193,7 @@ module _ (plan : CorePlan) (state : ChainState) (sound : Sound plan state) (some
   full : (given output taken buffer limit : ℕ) → output ≡ given → min (output + buffer) limit ≤ taken → taken ≤ given → given < limit → 1 ≤ buffer → ⊥
   full given output taken buffer limit a b c d e = omega arith
 
-  pub quiet-over : AllEnded plan (marks_of state)
+  pub quiet-over : AllEnded plan (progress_of_stages state)
   quiet-over k le =
       elim (is-open (state.stages 0).ended) [
         | inr ended ↦ first-open ended k le

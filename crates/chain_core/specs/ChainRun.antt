@@ -2,7 +2,7 @@
 use Rattle.std.specs.Prelude.{ℕ, zero, suc, ◌≤◌, List, [], ◌∷◌, take, IsSome}
 use Rattle.ts_packet.specs.declared.cell.Cell.{Cell}
 use Rattle.chain_core.specs.declared.core_plan.CorePlan.{CorePlan}
-use Rattle.chain_core.specs.Numbers.{Marks}
+use Rattle.chain_core.specs.Numbers.{StagesProgress}
 use Rattle.chain_core.specs.Machine.{ChainState, Visit, start, visited, Allowed}
 
 -- the state after visits, of which the last one comes first
@@ -21,5 +21,5 @@ took state zero = []
 took state (suc j) = take (state.stages (suc j)).taken (state.stages j).given
 
 -- every stage has ended
-abbrev pub AllEnded : CorePlan → Marks → Type 0
-AllEnded plan marks = (k : ℕ) → k ≤ suc plan.plugins → IsSome (marks k).ended
+abbrev pub AllEnded : CorePlan → StagesProgress → Type 0
+AllEnded plan progress = (k : ℕ) → k ≤ suc plan.plugins → IsSome (progress k).ended

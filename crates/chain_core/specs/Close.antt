@@ -6,10 +6,10 @@ use Rattle.chain_model.specs.declared.cause.Cause.TheVariants as cause
 use Rattle.chain_model.specs.Cut.{Ending, cause_among}
 use Rattle.chain_core.specs.declared.closed.Closed.{Closed}
 use Rattle.chain_core.specs.declared.core_plan.CorePlan.{CorePlan}
-use Rattle.chain_core.specs.declared.mark.Mark.{Mark}
+use Rattle.chain_core.specs.declared.progress.Progress.{Progress}
 use Rattle.chain_core.specs.declared.stage_end.StageEnd.{StageEnd}
 use Rattle.chain_core.specs.declared.stage_end.StageEnd.TheVariants.{Input, Last, Stop, Refuse, WriteFault, NoMemory, Followed}
-use Rattle.chain_core.specs.Numbers.{Marks, limit_of}
+use Rattle.chain_core.specs.Numbers.{StagesProgress, limit_of}
 
 -- the cause that stage `k` gives by ending so: none where it only followed
 abbrev pub cause_of_stage : ℕ → StageEnd → Option Cause
@@ -27,13 +27,13 @@ ending_with at None = []
 ending_with at (Some why) = record { at = at; cause = why } ∷ []
 
 -- the ending of stage `k`, where it ended by itself
-abbrev pub ending_of_mark : ℕ → Mark → List Ending
-ending_of_mark k mark = ending_with mark.given (option_and_then (cause_of_stage k) mark.ended)
+abbrev pub ending_of_progress : ℕ → Progress → List Ending
+ending_of_progress k progress = ending_with progress.given (option_and_then (cause_of_stage k) progress.ended)
 
 -- the endings of the stages up to `j`
-abbrev pub told_endings : Marks → ℕ → List Ending
-told_endings marks zero = ending_of_mark zero (marks zero)
-told_endings marks (suc j) = told_endings marks j ++ ending_of_mark (suc j) (marks (suc j))
+abbrev pub told_endings : StagesProgress → ℕ → List Ending
+told_endings progress zero = ending_of_progress zero (progress zero)
+told_endings progress (suc j) = told_endings progress j ++ ending_of_progress (suc j) (progress (suc j))
 
 -- the lesser of a number that may be wanting and a number
 abbrev pub lesser_if : Option ℕ → ℕ → ℕ
@@ -46,15 +46,15 @@ least_among least [] = least
 least_among least (ending ∷ rest) = least_among (Some (lesser_if least ending.at)) rest
 
 -- the cut: the least of the limit and of what the stages that ended by themselves gave
-abbrev pub cut_at_close : CorePlan → Marks → ℕ
-cut_at_close plan marks =
-    unwrap_or (least_among (limit_of plan marks) (told_endings marks (suc plan.plugins))) 0
+abbrev pub cut_at_close : CorePlan → StagesProgress → ℕ
+cut_at_close plan progress =
+    unwrap_or (least_among (limit_of plan progress) (told_endings progress (suc plan.plugins))) 0
 
 -- why the chain was cut there
-abbrev pub cause_at_close : CorePlan → Marks → Cause
-cause_at_close plan marks =
-    cause_among (cut_at_close plan marks) (limit_of plan marks) (told_endings marks (suc plan.plugins))
+abbrev pub cause_at_close : CorePlan → StagesProgress → Cause
+cause_at_close plan progress =
+    cause_among (cut_at_close plan progress) (limit_of plan progress) (told_endings progress (suc plan.plugins))
 
 -- what a run whose stages have all ended comes to
-abbrev pub closed_of : CorePlan → Marks → Closed
-closed_of plan marks = record { cut = cut_at_close plan marks; cause = cause_at_close plan marks }
+abbrev pub closed_of : CorePlan → StagesProgress → Closed
+closed_of plan progress = record { cut = cut_at_close plan progress; cause = cause_at_close plan progress }

@@ -13,23 +13,23 @@ use Rattle.chain_core.specs.declared.core_plan.CorePlan.{CorePlan}
 use Rattle.chain_core.specs.declared.stage_end.StageEnd.{StageEnd}
 use Rattle.chain_core.specs.declared.stage_end.StageEnd.TheVariants.{Followed}
 use Rattle.chain_core.specs.Stages.{stages_of}
-use Rattle.chain_core.specs.Numbers.{Marks, limit_of}
-use Rattle.chain_core.specs.Machine.{ChainState, marks_of}
+use Rattle.chain_core.specs.Numbers.{StagesProgress, limit_of}
+use Rattle.chain_core.specs.Machine.{ChainState, progress_of_stages}
 use Rattle.chain_core.specs.Keeps.{EndsAs}
 use Rattle.chain_core.specs.Close.{cause_of_stage}
 
 -- a stage ended by itself so, and the cause that this gives is `why`
-pub record EndsBy (marks : Marks) (k : ℕ) (why : Cause) : Type 0 where
+pub record EndsBy (progress : StagesProgress) (k : ℕ) (why : Cause) : Type 0 where
   pub end : StageEnd
-  pub ended : (marks k).ended ≡ Some end
+  pub ended : (progress k).ended ≡ Some end
   pub gives : cause_of_stage k end ≡ Some why
 
 -- the cut is known not to be behind `m`: some stage ended by itself and gave no more, or the limit is known
 -- and is no more
-abbrev pub IsCutWithin : CorePlan → Marks → ℕ → Type 0
-IsCutWithin plan marks m =
-    ((k : ℕ) × (why : Cause) × EndsBy marks k why × (k ≤ suc plan.plugins) × ((marks k).given ≤ m))
-    ⊎ ((limit : ℕ) × (limit_of plan marks ≡ Some limit) × (limit ≤ m))
+abbrev pub IsCutWithin : CorePlan → StagesProgress → ℕ → Type 0
+IsCutWithin plan progress m =
+    ((k : ℕ) × (why : Cause) × EndsBy progress k why × (k ≤ suc plan.plugins) × ((progress k).given ≤ m))
+    ⊎ ((limit : ℕ) × (limit_of plan progress ≡ Some limit) × (limit ≤ m))
 
 -- what holds at every moment of a run
 pub record SoFar (plan : CorePlan) (rules : List PluginRule) (input : StageList) (state : ChainState) : Type 0 where
@@ -37,16 +37,16 @@ pub record SoFar (plan : CorePlan) (rules : List PluginRule) (input : StageList)
   pub lists : (k : ℕ) → k ≤ plan.plugins → IsPrefix (state.stages k).given (stage_list rules input k).cells
   pub output : IsPrefix (state.stages (suc plan.plugins)).given (end_list rules input).cells
   -- the limit, once known, is the joint position, and the output gave no more
-  pub limit_is_joint : (limit : ℕ) → limit_of plan (marks_of state) ≡ Some limit → joint_position rules input (stages_of plan.users) ≡ Some limit
-  pub written_within : (limit : ℕ) → limit_of plan (marks_of state) ≡ Some limit → length (state.stages (suc plan.plugins)).given ≤ limit
+  pub limit_is_joint : (limit : ℕ) → limit_of plan (progress_of_stages state) ≡ Some limit → joint_position rules input (stages_of plan.users) ≡ Some limit
+  pub written_within : (limit : ℕ) → limit_of plan (progress_of_stages state) ≡ Some limit → length (state.stages (suc plan.plugins)).given ≤ limit
   -- and it is known as soon as the input and every plugin gave so many cells
-  pub limit_when_due : (joint : ℕ) → joint_position rules input (stages_of plan.users) ≡ Some joint → ((k : ℕ) → k ≤ plan.plugins → joint ≤ length (state.stages k).given) → limit_of plan (marks_of state) ≡ Some joint
+  pub limit_when_due : (joint : ℕ) → joint_position rules input (stages_of plan.users) ≡ Some joint → ((k : ℕ) → k ≤ plan.plugins → joint ≤ length (state.stages k).given) → limit_of plan (progress_of_stages state) ≡ Some joint
   -- the input is ahead of the output by the buffer at most
   pub made : length (state.stages 0).given ≤ length (state.stages (suc plan.plugins)).given + plan.buffer
   -- a stage that ended did so as its list says
   pub ends : (k : ℕ) (end : StageEnd) → (state.stages k).ended ≡ Some end → EndsAs plan.plugins k (stage_list rules input k) (state.stages k).given end
   -- a stage that followed gave at least all that will count
-  pub followers : (k : ℕ) → (state.stages k).ended ≡ Some Followed → IsCutWithin plan (marks_of state) (length (state.stages k).given)
+  pub followers : (k : ℕ) → (state.stages k).ended ≡ Some Followed → IsCutWithin plan (progress_of_stages state) (length (state.stages k).given)
 
 -- the cut and the cause are those of the run without faults
 abbrev pub IsPureClose : List PluginRule → StageList → List ℕ → ℕ → Cause → Type 0
@@ -54,10 +54,10 @@ IsPureClose rules input users cut cause =
     (cut ≡ cut_of rules input users) × (cause ≡ cause_of rules input users)
 
 -- the cause is joint termination at the limit, or a stage told it and gave as much as counts
-abbrev pub IsToldCause : CorePlan → Marks → ℕ → Cause → Type 0
-IsToldCause plan marks cut cause =
-    ((cause ≡ Joint) × (limit_of plan marks ≡ Some cut))
-    ⊎ ((k : ℕ) × EndsBy marks k cause × (k ≤ suc plan.plugins) × ((marks k).given ≡ cut))
+abbrev pub IsToldCause : CorePlan → StagesProgress → ℕ → Cause → Type 0
+IsToldCause plan progress cut cause =
+    ((cause ≡ Joint) × (limit_of plan progress ≡ Some cut))
+    ⊎ ((k : ℕ) × EndsBy progress k cause × (k ≤ suc plan.plugins) × ((progress k).given ≡ cut))
 
 -- what holds at the end of a run, with its cut and its cause
 pub record AtClose (plan : CorePlan) (rules : List PluginRule) (input : StageList) (state : ChainState) (cut : ℕ) (cause : Cause) : Type 0 where
@@ -70,4 +70,4 @@ pub record AtClose (plan : CorePlan) (rules : List PluginRule) (input : StageLis
   pub made : length (state.stages 0).given ≤ cut + plan.buffer
   -- cut and cause are the pure ones, or a fault ended the chain where it may
   pub pure_or_fault : IsPureClose rules input (stages_of plan.users) cut cause ⊎ IsLawfulFault rules input (stages_of plan.users) cut cause
-  pub told : IsToldCause plan (marks_of state) cut cause
+  pub told : IsToldCause plan (progress_of_stages state) cut cause

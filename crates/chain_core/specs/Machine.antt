@@ -3,11 +3,11 @@
 use Rattle.std.specs.Prelude.{ℕ, suc, ◌+◌, ◌==◌, if◌then◌else◌, List, [], ◌++◌, length, Option, None}
 use Rattle.ts_packet.specs.declared.cell.Cell.{Cell}
 use Rattle.chain_core.specs.declared.core_plan.CorePlan.{CorePlan}
-use Rattle.chain_core.specs.declared.mark.Mark.{Mark}
+use Rattle.chain_core.specs.declared.progress.Progress.{Progress}
 use Rattle.chain_core.specs.declared.news.News.{News}
 use Rattle.chain_core.specs.declared.stage_end.StageEnd.{StageEnd}
 use Rattle.chain_core.specs.declared.stage_word.StageWord.{StageWord}
-use Rattle.chain_core.specs.Numbers.{Marks, limit_of, takes_of, agreed_with, news_of, MayVisit}
+use Rattle.chain_core.specs.Numbers.{StagesProgress, limit_of, takes_of, agreed_with, news_of, MayVisit}
 
 -- a stage: the cells that it has given, how many it has taken, and the agreement and the end that it told
 pub record StageState : Type 0 where
@@ -32,12 +32,12 @@ abbrev pub visit_of : ℕ → List Cell → StageWord → Visit
 visit_of stage cells word = record { stage = stage; cells = cells; word = word }
 
 -- the numbers of a stage
-abbrev pub mark_of : StageState → Mark
-mark_of stage = record { given = length stage.given; taken = stage.taken; agreed = stage.agreed; ended = stage.ended }
+abbrev pub progress_of_stage : StageState → Progress
+progress_of_stage stage = record { given = length stage.given; taken = stage.taken; agreed = stage.agreed; ended = stage.ended }
 
 -- the numbers of all stages
-abbrev pub marks_of : ChainState → Marks
-marks_of state k = mark_of (state.stages k)
+abbrev pub progress_of_stages : ChainState → StagesProgress
+progress_of_stages state k = progress_of_stage (state.stages k)
 
 -- nothing was given or taken
 abbrev pub start : ChainState
@@ -64,11 +64,11 @@ unfoldable pub served : CorePlan → ChainState → ℕ → ChainState
 served plan state k = record {
   stages = with_stage state.stages k (record {
     given = (state.stages k).given;
-    taken = (state.stages k).taken + takes_of plan (marks_of state) k;
+    taken = (state.stages k).taken + takes_of plan (progress_of_stages state) k;
     agreed = (state.stages k).agreed;
     ended = (state.stages k).ended;
   });
-  told = if k == suc plan.plugins then limit_of plan (marks_of state) else state.told;
+  told = if k == suc plan.plugins then limit_of plan (progress_of_stages state) else state.told;
 }
 
 -- the state after a visit
@@ -78,8 +78,8 @@ visited plan state visit = served plan (noted plan state visit) visit.stage
 -- the machine allows the visit
 abbrev pub Allowed : CorePlan → ChainState → Visit → Type 0
 Allowed plan state visit =
-    MayVisit plan (marks_of state) state.told visit.stage (length visit.cells) visit.word
+    MayVisit plan (progress_of_stages state) state.told visit.stage (length visit.cells) visit.word
 
 -- what the stage is told by a visit
 abbrev pub news_after : CorePlan → ChainState → Visit → News
-news_after plan state visit = news_of plan (marks_of (visited plan state visit)) visit.stage
+news_after plan state visit = news_of plan (progress_of_stages (visited plan state visit)) visit.stage

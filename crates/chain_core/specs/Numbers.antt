@@ -7,56 +7,56 @@ use Rattle.chain_model.specs.Joint.{greatest_if_all}
 use Rattle.chain_model.specs.Cut.{lesser_end}
 use Rattle.chain_model.specs.Stuffed.{position_limit}
 use Rattle.chain_core.specs.declared.core_plan.CorePlan.{CorePlan}
-use Rattle.chain_core.specs.declared.mark.Mark.{Mark}
+use Rattle.chain_core.specs.declared.progress.Progress.{Progress}
 use Rattle.chain_core.specs.declared.news.News.{News}
 use Rattle.chain_core.specs.declared.stage_end.StageEnd.TheVariants.{Followed}
 use Rattle.chain_core.specs.declared.stage_word.StageWord.{StageWord}
 use Rattle.chain_core.specs.Stages.{has_stage, stages_of}
 
 -- the numbers of all stages, by the stage's number
-abbrev pub Marks : Type 0
-Marks = ℕ → Mark
+abbrev pub StagesProgress : Type 0
+StagesProgress = ℕ → Progress
 
 -- only plugins use joint termination
 abbrev pub UsersArePlugins : CorePlan → Type 0
 UsersArePlugins plan = All (λ k. (1 ≤ k) × (k ≤ plan.plugins)) (stages_of plan.users)
 
 -- the joint position, once every plugin that uses joint termination has told its agreement
-abbrev pub limit_of : CorePlan → Marks → Option ℕ
-limit_of plan marks = greatest_if_all (map (λ k. (marks k).agreed) (stages_of plan.users))
+abbrev pub limit_of : CorePlan → StagesProgress → Option ℕ
+limit_of plan progress = greatest_if_all (map (λ k. (progress k).agreed) (stages_of plan.users))
 
 -- how many cells the output has given, at most the limit
-abbrev pub written_of : CorePlan → Marks → ℕ
-written_of plan marks = lesser_end (marks (suc plan.plugins)).given (limit_of plan marks)
+abbrev pub written_of : CorePlan → StagesProgress → ℕ
+written_of plan progress = lesser_end (progress (suc plan.plugins)).given (limit_of plan progress)
 
 -- the stage before has ended, and the stage has given on all its cells
-abbrev pub is_before_over : Marks → ℕ → Bool
-is_before_over marks zero = false
-is_before_over marks (suc j) = is_some (marks j).ended && (marks (suc j)).given == (marks j).given
+abbrev pub is_before_over : StagesProgress → ℕ → Bool
+is_before_over progress zero = false
+is_before_over progress (suc j) = is_some (progress j).ended && (progress (suc j)).given == (progress j).given
 
 -- the stage behind has ended; there is none behind the output
-abbrev pub is_after_over : CorePlan → Marks → ℕ → Bool
-is_after_over plan marks k = nat_le k plan.plugins && is_some (marks (suc k)).ended
+abbrev pub is_after_over : CorePlan → StagesProgress → ℕ → Bool
+is_after_over plan progress k = nat_le k plan.plugins && is_some (progress (suc k)).ended
 
 -- what a stage is told
-abbrev pub news_of : CorePlan → Marks → ℕ → News
-news_of plan marks k = record {
-  taken = (marks k).taken;
-  limit = limit_of plan marks;
-  written = written_of plan marks;
-  before_over = is_before_over marks k;
-  after_over = is_after_over plan marks k;
+abbrev pub news_of : CorePlan → StagesProgress → ℕ → News
+news_of plan progress k = record {
+  taken = (progress k).taken;
+  limit = limit_of plan progress;
+  written = written_of plan progress;
+  before_over = is_before_over progress k;
+  after_over = is_after_over plan progress k;
 }
 
 -- the positions below this number may be taken by the stage: for the input those that fit the buffer,
 -- for another stage those that the stage before has given
-abbrev pub reach_of : CorePlan → Marks → ℕ → ℕ
-reach_of plan marks zero = min ((marks (suc plan.plugins)).given + plan.buffer) position_limit
-reach_of plan marks (suc j) = (marks j).given
+abbrev pub reach_of : CorePlan → StagesProgress → ℕ → ℕ
+reach_of plan progress zero = min ((progress (suc plan.plugins)).given + plan.buffer) position_limit
+reach_of plan progress (suc j) = (progress j).given
 
 -- how many cells the stage takes with a visit
-abbrev pub takes_of : CorePlan → Marks → ℕ → ℕ
-takes_of plan marks k = min plan.most (reach_of plan marks k - (marks k).taken)
+abbrev pub takes_of : CorePlan → StagesProgress → ℕ → ℕ
+takes_of plan progress k = min plan.most (reach_of plan progress k - (progress k).taken)
 
 -- the agreement that is known of a stage: the first one that it told, if it uses joint termination
 abbrev pub agreed_with : CorePlan → ℕ → Option ℕ → Option ℕ → Option ℕ
@@ -67,18 +67,18 @@ abbrev pub IsAgreement : ℕ → ℕ → ℕ → Type 0
 IsAgreement before now agreed = ((before < agreed) × (agreed ≤ now)) ⊎ (agreed ≡ now)
 
 -- a stage that has given `now` cells may end by following
-abbrev pub MayFollow : CorePlan → Marks → ℕ → ℕ → Type 0
-MayFollow plan marks k now =
-    IsTrue (is_before_over marks k)
-    ⊎ (IsTrue (is_after_over plan marks k)
-    ⊎ ((limit : ℕ) × (limit_of plan marks ≡ Some limit) × (limit ≤ now)))
+abbrev pub MayFollow : CorePlan → StagesProgress → ℕ → ℕ → Type 0
+MayFollow plan progress k now =
+    IsTrue (is_before_over progress k)
+    ⊎ (IsTrue (is_after_over plan progress k)
+    ⊎ ((limit : ℕ) × (limit_of plan progress ≡ Some limit) × (limit ≤ now)))
 
 -- the machine allows a visit in which the stage gives so many cells; `told` is the limit that the
 -- output was last told
-pub record MayVisit (plan : CorePlan) (marks : Marks) (told : Option ℕ) (stage done : ℕ) (word : StageWord) : Type 0 where
+pub record MayVisit (plan : CorePlan) (progress : StagesProgress) (told : Option ℕ) (stage done : ℕ) (word : StageWord) : Type 0 where
   pub is_stage : stage ≤ suc plan.plugins
-  pub goes_on : (marks stage).ended ≡ None
-  pub held : (marks stage).given + done ≤ (marks stage).taken
-  pub agreement : (agreed : ℕ) → word.agreed ≡ Some agreed → IsAgreement (marks stage).given ((marks stage).given + done) agreed
-  pub below_limit : stage ≡ suc plan.plugins → (limit : ℕ) → told ≡ Some limit → 0 < done → (marks stage).given + done ≤ limit
-  pub follows : word.ended ≡ Some Followed → MayFollow plan marks stage ((marks stage).given + done)
+  pub goes_on : (progress stage).ended ≡ None
+  pub held : (progress stage).given + done ≤ (progress stage).taken
+  pub agreement : (agreed : ℕ) → word.agreed ≡ Some agreed → IsAgreement (progress stage).given ((progress stage).given + done) agreed
+  pub below_limit : stage ≡ suc plan.plugins → (limit : ℕ) → told ≡ Some limit → 0 < done → (progress stage).given + done ≤ limit
+  pub follows : word.ended ≡ Some Followed → MayFollow plan progress stage ((progress stage).given + done)

@@ -1,21 +1,21 @@
-//! The cut and the cause from the marks of all stages.
+//! The cut and the cause from the progress of all stages.
 
 ghost use Rattle.std.specs.Prelude.{◌≡◌, Option, length, find, option_to_list};
 ghost use Rattle.chain_model.specs.Cut.{is_at, is_until, cause_among};
 ghost use Rattle.chain_core.specs.Close.{least_among, ending_with};
-ghost use Rattle.chain_core.specs.CoreNumbers.{mark_in, endings_before};
+ghost use Rattle.chain_core.specs.CoreNumbers.{progress_in, endings_before};
 
-use crate::Mark;
+use crate::Progress;
 use crate::limit::lesser;
 use chain_model::Cause;
 
 /// The least of the limit and of what the stages that ended by themselves have given.
-pub(crate) fn least_end(marks: &[Mark], limit: Option<u64>) -> Option<u64>
-    ensures { result ≡ least_among limit (endings_before (mark_in marks.now) (length marks.now)) }
+pub(crate) fn least_end(progress: &[Progress], limit: Option<u64>) -> Option<u64>
+    ensures { result ≡ least_among limit (endings_before (progress_in progress.now) (length progress.now)) }
 {
     let mut least = limit;
-    for (stage, mark) in marks.iter().enumerate() {
-        least = lesser_with(least, mark.given, mark.own_cause(stage));
+    for (stage, one) in progress.iter().enumerate() {
+        least = lesser_with(least, one.given, one.own_cause(stage));
     }
     least
 }
@@ -32,13 +32,13 @@ fn lesser_with(least: Option<u64>, at: u64, own: Option<Cause>) -> Option<u64>
 
 /// Why the chain ends at the cut: joint termination, else the first last packet, else the end of
 /// the greatest stage.
-pub(crate) fn cause_at(marks: &[Mark], limit: Option<u64>, cut: u64) -> Cause
-    ensures { result ≡ cause_among cut limit (endings_before (mark_in marks.now) (length marks.now)) }
+pub(crate) fn cause_at(progress: &[Progress], limit: Option<u64>, cut: u64) -> Cause
+    ensures { result ≡ cause_among cut limit (endings_before (progress_in progress.now) (length progress.now)) }
 {
     let mut until = None;
     let mut last = None;
-    for (stage, mark) in marks.iter().enumerate() {
-        let here = mark.cause_at(stage, cut);
+    for (stage, one) in progress.iter().enumerate() {
+        let here = one.cause_at(stage, cut);
         until = until.or(last_packet(here));
         last = here.or(last);
     }

@@ -9,7 +9,7 @@ ghost use Rattle.chain_model.specs.StageLists.{rule_behind};
 ghost use Rattle.chain_core.specs.declared.core_plan.CorePlan.{CorePlan};
 ghost use Rattle.chain_core.specs.declared.stage_end.StageEnd.{StageEnd};
 ghost use Rattle.chain_core.specs.Numbers.{UsersArePlugins};
-ghost use Rattle.chain_core.specs.Machine.{ChainState, Visit, marks_of, visited, Allowed};
+ghost use Rattle.chain_core.specs.Machine.{ChainState, Visit, progress_of_stages, visited, Allowed};
 ghost use Rattle.chain_core.specs.ChainRun.{ChainRun, state_after, AllEnded};
 ghost use Rattle.chain_core.specs.Keeps.{KeepsList};
 ghost use Rattle.chain_core.specs.Laws.{ChangesOneStage, LeavesOthers, NewsHold, NewsGrow, IsQuiet};
@@ -38,7 +38,7 @@ pub fn quiet_is_over()
     ensures { (plan : CorePlan) (visits : List Visit)
         → UsersArePlugins plan → 1 ≤ plan.buffer → ChainRun plan visits
         → IsQuiet plan (state_after plan visits)
-        → AllEnded plan (marks_of (state_after plan visits)) }
+        → AllEnded plan (progress_of_stages (state_after plan visits)) }
 {}
 
 /// What a stage has done by the cells that it worked on it has done by all that it took, and past

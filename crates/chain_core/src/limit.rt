@@ -5,19 +5,19 @@ ghost use Rattle.chain_model.specs.Cut.{lesser_end};
 ghost use Rattle.chain_model.specs.Joint.{greatest_if_all};
 ghost use Rattle.chain_core.specs.Stages.{stages_of};
 ghost use Rattle.chain_core.specs.Close.{lesser_if};
-ghost use Rattle.chain_core.specs.CoreNumbers.{mark_in, greatest_more};
+ghost use Rattle.chain_core.specs.CoreNumbers.{progress_in, greatest_more};
 
-use crate::{Mark, StageSet};
+use crate::{Progress, StageSet};
 
 /// The greatest agreement of the users, once each of them has one.
-pub(crate) fn limit_of(users: StageSet, marks: &[Mark]) -> Option<u64>
-    ensures { result ≡ greatest_if_all (map (λ k. (mark_in marks.now k).agreed) (stages_of users)) }
+pub(crate) fn limit_of(users: StageSet, progress: &[Progress]) -> Option<u64>
+    ensures { result ≡ greatest_if_all (map (λ k. (progress_in progress.now k).agreed) (stages_of users)) }
 {
     let mut asked = false;
     let mut limit = None;
     for stage in 0..64 {
         if users.has(stage) {
-            limit = joined(asked, limit, agreed_at(marks, stage));
+            limit = joined(asked, limit, agreed_at(progress, stage));
             asked = true;
         }
     }
@@ -25,11 +25,11 @@ pub(crate) fn limit_of(users: StageSet, marks: &[Mark]) -> Option<u64>
 }
 
 // The agreement that is known of a stage.
-fn agreed_at(marks: &[Mark], stage: usize) -> Option<u64>
-    ensures { result ≡ (mark_in marks.now stage).agreed }
+fn agreed_at(progress: &[Progress], stage: usize) -> Option<u64>
+    ensures { result ≡ (progress_in progress.now stage).agreed }
 {
-    match marks.get(stage) {
-        Some(mark) => mark.agreed,
+    match progress.get(stage) {
+        Some(progress) => progress.agreed,
         None => None,
     }
 }

@@ -2,7 +2,7 @@ ghost use Rattle.std.specs.Prelude.{List};
 ghost use Rattle.chain_model.specs.PluginRule.{PluginRule};
 ghost use Rattle.chain_model.specs.Apply.{StageList};
 ghost use Rattle.chain_core.specs.declared.core_plan.CorePlan.{CorePlan};
-ghost use Rattle.chain_core.specs.Machine.{Visit, marks_of};
+ghost use Rattle.chain_core.specs.Machine.{Visit, progress_of_stages};
 ghost use Rattle.chain_core.specs.ChainRun.{state_after, AllEnded};
 ghost use Rattle.chain_core.specs.Keeps.{KeptRun};
 ghost use Rattle.chain_core.specs.Close.{cut_at_close, cause_at_close};
@@ -17,8 +17,8 @@ pub fn every_order()
         → SoFar plan rules input (state_after plan visits) }
     ensures at_close { (plan : CorePlan) (rules : List PluginRule) (input : StageList) (visits : List Visit)
         → KeptRun plan rules input visits
-        → AllEnded plan (marks_of (state_after plan visits))
+        → AllEnded plan (progress_of_stages (state_after plan visits))
         → AtClose plan rules input (state_after plan visits)
-        (cut_at_close plan (marks_of (state_after plan visits)))
-        (cause_at_close plan (marks_of (state_after plan visits))) }
+        (cut_at_close plan (progress_of_stages (state_after plan visits)))
+        (cause_at_close plan (progress_of_stages (state_after plan visits))) }
 {}

@@ -6,7 +6,7 @@ use Rattle.std.proofs.lemmas.List.Concat.{flat_map-append}
 use Rattle.ts_packet.specs.declared.cell.Cell.{Cell}
 use Rattle.chain_model.specs.Prefix.{IsPrefix}
 use Rattle.chain_model.specs.PluginRule.{PluginRule}
-use Rattle.chain_model.specs.Apply.{StageList, CellFate, goes_on, ends_after, ends_before, became, onto, apply_after, apply}
+use Rattle.chain_model.specs.Apply.{StageList, CellOutcome, goes_on, ends_after, ends_before, became, onto, apply_after, apply}
 use Rattle.chain_model.specs.StageLists.{rule_behind, stage_list}
 use Rattle.chain_model.specs.Written.{cell_bytes, written}
 
@@ -26,7 +26,7 @@ IsPrefix-take m xs = (drop m xs, sym (take-append-drop m xs))
 pub IsPrefix-written : (xs ys : List Cell) → IsPrefix xs ys → IsPrefix (written xs) (written ys)
 IsPrefix-written xs ys p = (written p.0, ap written p.1 ∙ flat_map-append cell_bytes xs p.0)
 
-onto-prefix : (fate : CellFate) (a b : StageList) → IsPrefix a.cells b.cells → IsPrefix (onto fate a).cells (onto fate b).cells
+onto-prefix : (fate : CellOutcome) (a b : StageList) → IsPrefix a.cells b.cells → IsPrefix (onto fate a).cells (onto fate b).cells
 onto-prefix (goes_on cell) a b p = (p.0, ap (λ cells. cell ∷ cells) p.1)
 onto-prefix (ends_after cell) a b p = ([], refl)
 onto-prefix (ends_before how) a b p = ([], refl)

@@ -5,7 +5,7 @@ use Rattle.ts_packet.specs.declared.cell.Cell.TheVariants.{Live, Dropped}
 use Rattle.chain_model.specs.declared.cause.Cause.TheVariants.{Input, Joint, Until, Stop, Refuse}
 use Rattle.chain_model.specs.declared.input_end.InputEnd.TheVariants.{End}
 use Rattle.chain_model.specs.declared.reason.Reason.TheVariants.{Pid}
-use Rattle.chain_model.specs.PluginRule.{PluginRule, Fate, passes, drops, lasts, stops, refuses}
+use Rattle.chain_model.specs.PluginRule.{PluginRule, RuleOutcome, passes, drops, lasts, stops, refuses}
 use Rattle.chain_model.specs.Apply.{input_over, StageList}
 use Rattle.chain_model.specs.StageLists.{end_list}
 use Rattle.chain_model.specs.Joint.{agreement_of, joint_position}
@@ -13,7 +13,7 @@ use Rattle.chain_model.specs.Cut.{cut_of, cause_of}
 use Rattle.chain_model.specs.Stuffed.{stuffed}
 
 -- a rule that gives this fate behind so many cells, passes before, and agrees behind so many others
-abbrev rule_at : ℕ → (List ℕ → Fate) → ℕ → PluginRule
+abbrev rule_at : ℕ → (List ℕ → RuleOutcome) → ℕ → PluginRule
 rule_at n fate agreed = record {
   outcome_of = λ history packet. if length history == n then fate packet else passes packet;
   lines_of = λ history packet. [];

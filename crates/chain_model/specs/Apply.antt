@@ -4,7 +4,7 @@ use Rattle.ts_packet.specs.declared.cell.Cell.{Cell}
 use Rattle.ts_packet.specs.declared.cell.Cell.TheVariants.{Live, Dropped}
 use Rattle.chain_model.specs.declared.reason.Reason.{Reason}
 use Rattle.chain_model.specs.declared.input_end.InputEnd.{InputEnd}
-use Rattle.chain_model.specs.PluginRule.{PluginRule, Fate, passes, drops, lasts, stops, refuses}
+use Rattle.chain_model.specs.PluginRule.{PluginRule, RuleOutcome, passes, drops, lasts, stops, refuses}
 
 -- how a stage ends its own list
 pub data OwnEnd : Type 0 where
@@ -23,26 +23,26 @@ pub record StageList : Type 0 where
   pub ended : Option OwnEnd
 
 -- what becomes of a cell at a plugin: the list goes on with a cell, or ends after it, or ends before it
-pub data CellFate : Type 0 where
-  goes_on : (cell : Cell) → CellFate
-  ends_after : (cell : Cell) → CellFate
-  ends_before : (how : OwnEnd) → CellFate
+pub data CellOutcome : Type 0 where
+  goes_on : (cell : Cell) → CellOutcome
+  ends_after : (cell : Cell) → CellOutcome
+  ends_before : (how : OwnEnd) → CellOutcome
 
 -- what a plugin's fate for a live packet makes of its cell
-abbrev pub fate_of_live : Fate → CellFate
-fate_of_live (passes packet) = goes_on (Live packet)
-fate_of_live drops = goes_on Dropped
-fate_of_live (lasts packet) = ends_after (Live packet)
-fate_of_live stops = ends_before stopped
-fate_of_live (refuses reason) = ends_before (refused reason)
+abbrev pub outcome_of_live : RuleOutcome → CellOutcome
+outcome_of_live (passes packet) = goes_on (Live packet)
+outcome_of_live drops = goes_on Dropped
+outcome_of_live (lasts packet) = ends_after (Live packet)
+outcome_of_live stops = ends_before stopped
+outcome_of_live (refuses reason) = ends_before (refused reason)
 
 -- a dropped cell stays dropped, and a plugin does not see it
-abbrev pub became : PluginRule → List Cell → Cell → CellFate
-became rule history (Live packet) = fate_of_live (rule.outcome_of history packet)
+abbrev pub became : PluginRule → List Cell → Cell → CellOutcome
+became rule history (Live packet) = outcome_of_live (rule.outcome_of history packet)
 became rule history Dropped = goes_on Dropped
 
 -- the list that begins with what became of a cell; `rest` is the list where it goes on
-abbrev pub onto : CellFate → StageList → StageList
+abbrev pub onto : CellOutcome → StageList → StageList
 onto (goes_on cell) rest = record { cells = cell ∷ rest.cells; ended = rest.ended }
 onto (ends_after cell) rest = record { cells = cell ∷ []; ended = Some last_passed }
 onto (ends_before how) rest = record { cells = []; ended = Some how }

@@ -5,22 +5,22 @@ use Rattle.ts_packet.specs.declared.cell.Cell.{Cell}
 use Rattle.chain_model.specs.declared.reason.Reason.{Reason}
 
 -- what a plugin does with a live packet
-pub data Fate : Type 0 where
+pub data RuleOutcome : Type 0 where
   -- the list goes on with this packet in the packet's place
-  passes : (packet : List ℕ) → Fate
+  passes : (packet : List ℕ) → RuleOutcome
   -- the list goes on, and the cell's packet is dropped
-  drops : Fate
+  drops : RuleOutcome
   -- this packet is the last of the list
-  lasts : (packet : List ℕ) → Fate
+  lasts : (packet : List ℕ) → RuleOutcome
   -- the list ends before the packet
-  stops : Fate
+  stops : RuleOutcome
   -- the list ends before the packet, which is refused
-  refuses : (reason : Reason) → Fate
+  refuses : (reason : Reason) → RuleOutcome
 
 -- what a plugin is: what becomes of a live packet, the lines that it gives at the packet's position,
 -- its summary over a history, and whether it agrees to end behind that history
 pub record PluginRule : Type 0 where
-  pub outcome_of : List Cell → List ℕ → Fate
+  pub outcome_of : List Cell → List ℕ → RuleOutcome
   pub lines_of : List Cell → List ℕ → List (List ℕ)
   pub summary_of : List Cell → List (List ℕ)
   pub agrees : List Cell → Bool

@@ -19,11 +19,11 @@ use Rattle.chain_model.specs.Written.{written}
 use Rattle.chain_core.specs.declared.core_plan.CorePlan.{CorePlan}
 use Rattle.chain_core.specs.declared.stage_end.StageEnd.{StageEnd}
 use Rattle.chain_core.specs.declared.stage_end.StageEnd.TheVariants.{Input, Last, Stop, Refuse, WriteFault, NoMemory, Followed}
-use Rattle.chain_core.specs.Numbers.{Marks, written_of}
-use Rattle.chain_core.specs.Machine.{ChainState, Visit, marks_of}
+use Rattle.chain_core.specs.Numbers.{StagesProgress, written_of}
+use Rattle.chain_core.specs.Machine.{ChainState, Visit, progress_of_stages}
 use Rattle.chain_core.specs.ChainRun.{state_after, AllEnded}
 use Rattle.chain_core.specs.Close.{cause_of_stage, cut_at_close, cause_at_close}
-use Rattle.chain_core.specs.CoreNumbers.{CoreNumbers, marks_in}
+use Rattle.chain_core.specs.CoreNumbers.{CoreNumbers, progress_of_core}
 use Rattle.chain_core.specs.Keeps.{KeptRun}
 use Rattle.chain_core.specs.EveryOrder.{SoFar, AtClose}
 use Rattle.stage_run.specs.declared.input_part.InputPart.{InputPart}
@@ -38,10 +38,10 @@ use Rattle.stage_run.specs.Parts.{IsSourceOf, IsSinkOf, FailedReading, LeavesSou
 use Rattle.chain_run.specs.Met.{AllMetTo}
 use Rattle.chain_run.specs.Parts.{AreTakenFrom}
 use Rattle.chain_run.specs.RunOf.{MayRead, LeftInput, TakesTo, LeftOutput}
-use Rattle.chain_run.specs.Runs.{between, Begun, KeptFor, RunsBy}
-use Rattle.chain_run.specs.Working.{Goes}
+use Rattle.chain_run.specs.Runs.{between, RunStart, KeptFor, RunsBy}
+use Rattle.chain_run.specs.Working.{IsRunning}
 use Rattle.chain_run.proofs.MachineLaws.{MachineLaws, taken-falls, written-given}
-use Rattle.chain_run.proofs.MarkLemmas.{as-marks}
+use Rattle.chain_run.proofs.ProgressLemmas.{as-progress}
 use Rattle.chain_run.proofs.StepLemmas.{may_read-more, part-more}
 use Rattle.chain_run.proofs.TurnWorks.{kept-run, far}
 
@@ -102,9 +102,9 @@ takes-other old new cells cut (cause.NoMemory k) no_ is = is
 
 module _ {S K P : Type 0} (in_seen : S → SourceView) (out_seen : K → SinkView) (rule : P → PluginRule) (stands : P → List Cell → ℕ → Type 0)
     (laws : MachineLaws) (every : (plan : CorePlan) (rules : List PluginRule) (input : StageList) (visits : List Visit) → KeptRun plan rules input visits → SoFar plan rules input (state_after plan visits))
-    (close : (plan : CorePlan) (rules : List PluginRule) (input : StageList) (visits : List Visit) → KeptRun plan rules input visits → AllEnded plan (marks_of (state_after plan visits))
-    → AtClose plan rules input (state_after plan visits) (cut_at_close plan (marks_of (state_after plan visits))) (cause_at_close plan (marks_of (state_after plan visits))))
-    (begun : Begun S K) (core : CoreNumbers) (parts : List (StagePart S K P)) (cells : List Cell) (goes : Goes in_seen out_seen rule stands begun core parts cells) (over : AllEnded core.plan (marks_in core)) where
+    (close : (plan : CorePlan) (rules : List PluginRule) (input : StageList) (visits : List Visit) → KeptRun plan rules input visits → AllEnded plan (progress_of_stages (state_after plan visits))
+    → AtClose plan rules input (state_after plan visits) (cut_at_close plan (progress_of_stages (state_after plan visits))) (cause_at_close plan (progress_of_stages (state_after plan visits))))
+    (begun : RunStart S K) (core : CoreNumbers) (parts : List (StagePart S K P)) (cells : List Cell) (goes : IsRunning in_seen out_seen rule stands begun core parts cells) (over : AllEnded core.plan (progress_of_core core)) where
   abbrev pub state : ChainState
   state = state_after begun.plan goes.runs.visits
 
@@ -112,18 +112,18 @@ module _ {S K P : Type 0} (in_seen : S → SourceView) (out_seen : K → SinkVie
   by = goes.runs.by
 
   abbrev pub cut : ℕ
-  cut = cut_at_close begun.plan (marks_of state)
+  cut = cut_at_close begun.plan (progress_of_stages state)
 
   abbrev pub why : Cause
-  why = cause_at_close begun.plan (marks_of state)
+  why = cause_at_close begun.plan (progress_of_stages state)
 
   abbrev out : ℕ
   out = suc begun.plan.plugins
 
-  over-state : AllEnded begun.plan (marks_of state)
+  over-state : AllEnded begun.plan (progress_of_stages state)
   over-state =
-      subst (λ (p : CorePlan). AllEnded p (marks_of state)) goes.fits.plan_is
-      (subst (λ (m : Marks). AllEnded core.plan m) (as-marks core state by.numbers) over)
+      subst (λ (p : CorePlan). AllEnded p (progress_of_stages state)) goes.fits.plan_is
+      (subst (λ (m : StagesProgress). AllEnded core.plan m) (as-progress core state by.numbers) over)
 
   module _ (list : StageList) (gives : PartGives in_seen (goes.runs.part 0) (goes.runs.lists 0) list) where
     kept : KeptFor in_seen out_seen rule stands begun goes.runs.visits list
@@ -142,7 +142,7 @@ module _ {S K P : Type 0} (in_seen : S → SourceView) (out_seen : K → SinkVie
         let b : length (state.stages out).given ≡ length (take cut (end_list begun.rules list).cells) = ap (λ (l : List Cell). length l) at-close.written in
         omega (arith, length-take cut (end_list begun.rules list).cells)
 
-    written-cut : written_of begun.plan (marks_of state) ≤ cut
+    written-cut : written_of begun.plan (progress_of_stages state) ≤ cut
     written-cut =
         let a = written-given laws begun.plan goes.fits.lawful.users goes.runs.visits by.run out (omega arith) in let b = given-cut in omega arith
 
@@ -199,7 +199,7 @@ module _ {S K P : Type 0} (in_seen : S → SourceView) (out_seen : K → SinkVie
     pub left-input : (made_from : InputPart S) → has_source made_from ≡ has_source begun.from → LeavesInput in_seen made_from begun.stuffing (goes.runs.lists 0) (state.stages 0).ended → LeftInput in_seen begun.stuffing begun.plan.buffer begun.from made_from cut why
     left-input made_from same left =
         cases begun.from made_from same by.input.source left read-told
-        (may_read-more begun.plan.buffer (written_of begun.plan (marks_of state)) cut (length (goes.runs.lists 0).read) written-cut by.input.within)
+        (may_read-more begun.plan.buffer (written_of begun.plan (progress_of_stages state)) cut (length (goes.runs.lists 0).read) written-cut by.input.within)
         (ap (λ (l : List Cell). length l) by.input.at.given)
       where
         cases : (from made : InputPart S) → has_source made ≡ has_source from → IsSourceOf in_seen from (goes.runs.lists 0).source → LeavesInput in_seen made begun.stuffing (goes.runs.lists 0) (state.stages 0).ended

@@ -6,7 +6,7 @@ pub mod QuietVisit
 pub mod KindLemmas
 pub mod WorkVisit
 pub mod TurnLemmas
-pub mod MarkLemmas
+pub mod ProgressLemmas
 pub mod TurnWorks
 pub mod TurnMoves
 pub mod TurnLaws

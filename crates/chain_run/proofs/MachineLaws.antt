@@ -8,7 +8,7 @@ use Rattle.chain_model.specs.Apply.{apply}
 use Rattle.chain_core.specs.declared.core_plan.CorePlan.{CorePlan}
 use Rattle.chain_core.specs.declared.stage_end.StageEnd.{StageEnd}
 use Rattle.chain_core.specs.Numbers.{UsersArePlugins, written_of}
-use Rattle.chain_core.specs.Machine.{ChainState, Visit, StageState, marks_of, visited}
+use Rattle.chain_core.specs.Machine.{ChainState, Visit, StageState, progress_of_stages, visited}
 use Rattle.chain_core.specs.ChainRun.{ChainRun, state_after}
 use Rattle.chain_core.specs.Keeps.{KeepsList}
 use Rattle.chain_core.specs.Laws.{ChangesOneStage, LeavesOthers, NewsHold, NewsGrow}
@@ -50,11 +50,11 @@ module _ (laws : MachineLaws) (plan : CorePlan) (users : UsersArePlugins plan) (
   taken-falls zero j lt = absurd (omega arith)
   taken-falls (suc k) j lt = let a = given-falls k j (omega arith) in let b = taken-given k in omega arith
 
-  pub written-given : (k : ℕ) → k ≤ suc plan.plugins → written_of plan (marks_of state) ≤ length (state.stages k).given
+  pub written-given : (k : ℕ) → k ≤ suc plan.plugins → written_of plan (progress_of_stages state) ≤ length (state.stages k).given
   written-given k le = (laws.hold plan visits k users run).written_within le
 
   -- no stage took more than the buffer behind what was written
-  pub taken-ahead : (k : ℕ) → (state.stages k).taken ≤ written_of plan (marks_of state) + plan.buffer
+  pub taken-ahead : (k : ℕ) → (state.stages k).taken ≤ written_of plan (progress_of_stages state) + plan.buffer
   taken-ahead k = (laws.hold plan visits k users run).taken_ahead
 
   pub taken-below : (k : ℕ) → (state.stages k).taken ≤ 2 ^ 60
@@ -74,7 +74,7 @@ module _ (laws : MachineLaws) (plan : CorePlan) (users : UsersArePlugins plan) (
   pub stage-other : (j : ℕ) → j ≢ visit.stage → new.stages j ≡ old.stages j
   stage-other j apart = change.others j apart
 
-  pub written-grows : written_of plan (marks_of old) ≤ written_of plan (marks_of new)
+  pub written-grows : written_of plan (progress_of_stages old) ≤ written_of plan (progress_of_stages new)
   written-grows = (laws.grow plan visits visit users run).written
 
   -- what another stage was given grew at most

@@ -16,7 +16,7 @@ use Rattle.chain_core.specs.declared.core_plan.CorePlan.{CorePlan}
 use Rattle.chain_core.specs.declared.stage_end.StageEnd.{StageEnd}
 use Rattle.chain_core.specs.declared.stage_word.StageWord.{StageWord}
 use Rattle.chain_core.specs.Numbers.{written_of}
-use Rattle.chain_core.specs.Machine.{ChainState, StageState, Visit, marks_of, visit_of, Allowed}
+use Rattle.chain_core.specs.Machine.{ChainState, StageState, Visit, progress_of_stages, visit_of, Allowed}
 use Rattle.chain_core.specs.ChainRun.{ChainRun, state_after, took}
 use Rattle.chain_core.specs.CoreNumbers.{CoreNumbers, IsLawfulPlan, StandsFor}
 use Rattle.chain_core.specs.Keeps.{Keeps, KeepsList, KeepsAgreement}
@@ -24,7 +24,7 @@ use Rattle.stage_run.specs.declared.stage_part.StagePart.{StagePart}
 use Rattle.stage_run.specs.PartLists.{PartLists}
 use Rattle.stage_run.specs.PartStands.{PartGives}
 use Rattle.chain_run.specs.Slots.{slot, HoldsFrom}
-use Rattle.chain_run.specs.Runs.{nothing_told, Begun, InputAt, PluginAt, OutputAt, RunsBy}
+use Rattle.chain_run.specs.Runs.{nothing_told, RunStart, InputAt, PluginAt, OutputAt, RunsBy}
 use Rattle.chain_run.proofs.MachineLaws.{MachineLaws, change, stage-other, written-grows, given-falls}
 use Rattle.chain_run.proofs.StepLemmas.{set_at, pick, input-frame, plugin-frame, output-frame, Own, stepped}
 
@@ -65,7 +65,7 @@ module _ (laws : MachineLaws) (plan : CorePlan) (rules : List PluginRule) (input
 
 -- ---- the visit
 
-module _ {S K P : Type 0} (in_seen : S → SourceView) (out_seen : K → SinkView) (rule : P → PluginRule) (stands : P → List Cell → ℕ → Type 0) (begun : Begun S K)
+module _ {S K P : Type 0} (in_seen : S → SourceView) (out_seen : K → SinkView) (rule : P → PluginRule) (stands : P → List Cell → ℕ → Type 0) (begun : RunStart S K)
     (laws : MachineLaws) (lawful : IsLawfulPlan begun.plan) (core new_core : CoreNumbers) (parts : List (StagePart S K P)) (cells : List Cell) (visits : List Visit) (part : ℕ → StagePart S K P) (lists : ℕ → PartLists)
     (by : RunsBy in_seen out_seen rule stands begun core parts cells visits part lists)
     (k : ℕ) (is_stage : k ≤ suc begun.plan.plugins) (ended : ((state_after begun.plan visits).stages k).ended ≡ None)
@@ -99,7 +99,7 @@ module _ {S K P : Type 0} (in_seen : S → SourceView) (out_seen : K → SinkVie
   ended_same : (new.stages k).ended ≡ (old.stages k).ended
   ended_same = ended_none ∙ sym ended
 
-  grows : written_of begun.plan (marks_of old) ≤ written_of begun.plan (marks_of new)
+  grows : written_of begun.plan (progress_of_stages old) ≤ written_of begun.plan (progress_of_stages new)
   grows = written-grows laws begun.plan lawful.users visits (visit_of k [] nothing_told) run
 
   falls : (j : ℕ) → length (old.stages (suc j)).given ≤ length (old.stages j).given

@@ -12,10 +12,10 @@ use Rattle.chain_model.specs.Stuffed as model
 use Rattle.chain_core.specs.declared.closed.Closed.{Closed}
 use Rattle.chain_core.specs.declared.core_plan.CorePlan.{CorePlan}
 use Rattle.chain_core.specs.declared.stage_end.StageEnd.{StageEnd}
-use Rattle.chain_core.specs.Machine.{ChainState, Visit, start, marks_of}
+use Rattle.chain_core.specs.Machine.{ChainState, Visit, start, progress_of_stages}
 use Rattle.chain_core.specs.ChainRun.{state_after, AllEnded}
 use Rattle.chain_core.specs.Close.{closed_of, cut_at_close, cause_at_close}
-use Rattle.chain_core.specs.CoreNumbers.{CoreNumbers, IsLawfulPlan, StandsFor, marks_in}
+use Rattle.chain_core.specs.CoreNumbers.{CoreNumbers, IsLawfulPlan, StandsFor, progress_of_core}
 use Rattle.chain_core.specs.Keeps.{KeptRun}
 use Rattle.chain_core.specs.EveryOrder.{SoFar, AtClose}
 use Rattle.stage_run.specs.declared.input_part.InputPart.{InputPart}
@@ -29,15 +29,15 @@ use Rattle.stage_run.specs.Parts.{IsListOf, IsSourceOf, IsSinkOf, LeavesInput, L
 use Rattle.chain_run.specs.Fresh.{AreFresh}
 use Rattle.chain_run.specs.Parts.{AreMadeOf, AreTakenFrom, ArePluginsAndOne}
 use Rattle.chain_run.specs.RunOf.{RunOf}
-use Rattle.chain_run.specs.Runs.{Begun}
-use Rattle.chain_run.specs.Working.{Goes}
+use Rattle.chain_run.specs.Runs.{RunStart}
+use Rattle.chain_run.specs.Working.{IsRunning}
 use Rattle.chain_run.proofs.MachineLaws.{MachineLaws}
 use Rattle.chain_run.proofs.StartLemmas.{starts}
 use Rattle.chain_run.proofs.CloseLemmas.{at-close, left-input, left-output, met-all, rules-all}
 
 module _ {S K P : Type 0} (in_seen : S → SourceView) (out_seen : K → SinkView) (rule : P → PluginRule) (stands : P → List Cell → ℕ → Type 0) where
   -- the chain that a run began with
-  abbrev pub began_with : InputPart S → Stuffing → List P → OutputPart K → CorePlan → Begun S K
+  abbrev pub began_with : InputPart S → Stuffing → List P → OutputPart K → CorePlan → RunStart S K
   began_with from stuffing plugins to plan = record { from = from; to = to; stuffing = stuffing_of stuffing; rules = map rule plugins; plan = plan }
 
   -- the stages before the first turn
@@ -64,15 +64,15 @@ module _ {S K P : Type 0} (in_seen : S → SourceView) (out_seen : K → SinkVie
     pub slots : length cells ≡ plan.buffer
 
   pub laid-goes : (from : InputPart S) (stuffing : Stuffing) (plugins : List P) (to : OutputPart K) (plan : CorePlan) (core : CoreNumbers) (parts : List (StagePart S K P)) (cells : List Cell)
-      → Laid from stuffing plugins to plan core parts cells → Goes in_seen out_seen rule stands (began_with from stuffing plugins to plan) core parts cells
+      → Laid from stuffing plugins to plan core parts cells → IsRunning in_seen out_seen rule stands (began_with from stuffing plugins to plan) core parts cells
   laid-goes from stuffing plugins to plan core parts cells laid =
-      subst (λ (l : List (StagePart S K P)). Goes in_seen out_seen rule stands (began_with from stuffing plugins to plan) core l cells) (sym laid.row)
+      subst (λ (l : List (StagePart S K P)). IsRunning in_seen out_seen rule stands (began_with from stuffing plugins to plan) core l cells) (sym laid.row)
       (starts in_seen out_seen rule stands plan laid.lawful core laid.plan_is laid.numbers from stuffing to plugins laid.fresh laid.number laid.opens laid.first laid.out laid.made laid.are
       laid.in_kind laid.in_stream laid.in_stuffing laid.in_stands laid.in_gives laid.out_kind laid.out_stream laid.out_stands cells laid.slots)
 
   -- ---- the stages when all have ended
 
-  module _ (begun : Begun S K) (core : CoreNumbers) (parts : List (StagePart S K P)) (cells : List Cell) (goes : Goes in_seen out_seen rule stands begun core parts cells)
+  module _ (begun : RunStart S K) (core : CoreNumbers) (parts : List (StagePart S K P)) (cells : List Cell) (goes : IsRunning in_seen out_seen rule stands begun core parts cells)
       (first : StagePart S K P) (rest : List (StagePart S K P)) (row : parts ≡ first ∷ rest) where
     rest-length : length rest ≡ begun.plan.plugins + 1
     rest-length = let a = goes.fits.stages_are in omega (arith, ap (λ (l : List (StagePart S K P)). length l) row)
@@ -125,11 +125,11 @@ module _ {S K P : Type 0} (in_seen : S → SourceView) (out_seen : K → SinkVie
   -- ---- what the run comes to
 
   module _ (laws : MachineLaws) (every : (plan : CorePlan) (rules : List PluginRule) (input : StageList) (visits : List Visit) → KeptRun plan rules input visits → SoFar plan rules input (state_after plan visits))
-      (close : (plan : CorePlan) (rules : List PluginRule) (input : StageList) (visits : List Visit) → KeptRun plan rules input visits → AllEnded plan (marks_of (state_after plan visits))
-      → AtClose plan rules input (state_after plan visits) (cut_at_close plan (marks_of (state_after plan visits))) (cause_at_close plan (marks_of (state_after plan visits)))) where
+      (close : (plan : CorePlan) (rules : List PluginRule) (input : StageList) (visits : List Visit) → KeptRun plan rules input visits → AllEnded plan (progress_of_stages (state_after plan visits))
+      → AtClose plan rules input (state_after plan visits) (cut_at_close plan (progress_of_stages (state_after plan visits))) (cause_at_close plan (progress_of_stages (state_after plan visits)))) where
     pub run-of : (from made_from : InputPart S) (stuffing : Stuffing) (plugins made : List P) (to made_to : OutputPart K) (plan : CorePlan) (closed : Closed) (core : CoreNumbers) (parts : List (StagePart S K P)) (cells : List Cell)
-        → (goes : Goes in_seen out_seen rule stands (began_with from stuffing plugins to plan) core parts cells) → AllEnded core.plan (marks_in core)
-        → ((state : ChainState) → StandsFor core state → closed ≡ closed_of core.plan (marks_of state))
+        → (goes : IsRunning in_seen out_seen rule stands (began_with from stuffing plugins to plan) core parts cells) → AllEnded core.plan (progress_of_core core)
+        → ((state : ChainState) → StandsFor core state → closed ≡ closed_of core.plan (progress_of_stages state))
         → (first : StagePart S K P) (rest : List (StagePart S K P)) → parts ≡ first ∷ rest
         → (front : List (StagePart S K P)) (last : StagePart S K P) → rest ≡ front ++ last ∷ []
         → has_source made_from ≡ has_stream first
@@ -140,12 +140,12 @@ module _ {S K P : Type 0} (in_seen : S → SourceView) (out_seen : K → SinkVie
         → ((lists : PartLists) (told : Option StageEnd) → PartStands in_seen out_seen rule stands last lists told → LeavesOutput out_seen made_to lists told)
         → RunOf in_seen out_seen rule stands from made_from stuffing plugins made to made_to plan closed
     run-of from made_from stuffing plugins made to made_to plan closed core parts cells goes over closes first rest row front last ends in_stream leaves some taken out_stream left =
-        let begun : Begun S K = began_with from stuffing plugins to plan in
+        let begun : RunStart S K = began_with from stuffing plugins to plan in
         let by = goes.runs.by in
         let state : ChainState = state_after plan goes.runs.visits in
         let is-first : first ≡ goes.runs.part 0 = first-is begun core parts cells goes first rest row in
         let is-last : last ≡ goes.runs.part (suc plan.plugins) = last-is begun core parts cells goes first rest row front last ends in
-        let closed-is : closed ≡ closed_of plan (marks_of state) = subst (λ (p : CorePlan). closed ≡ closed_of p (marks_of state)) goes.fits.plan_is (closes state by.numbers) in
+        let closed-is : closed ≡ closed_of plan (progress_of_stages state) = subst (λ (p : CorePlan). closed ≡ closed_of p (progress_of_stages state)) goes.fits.plan_is (closes state by.numbers) in
         let first-stands : PartStands in_seen out_seen rule stands first (goes.runs.lists 0) (state.stages 0).ended =
         subst (λ p. PartStands in_seen out_seen rule stands p (goes.runs.lists 0) (state.stages 0).ended) (sym is-first) by.input.at.stands_for in
         let last-stands : PartStands in_seen out_seen rule stands last (goes.runs.lists (suc plan.plugins)) (state.stages (suc plan.plugins)).ended =
@@ -157,7 +157,7 @@ module _ {S K P : Type 0} (in_seen : S → SourceView) (out_seen : K → SinkVie
         let same : (i : ℕ) (d : StagePart S K P) → i < length made → slice_index_or rest i d ≡ goes.runs.part (suc (0 + i)) =
         λ i d lt. rest-is begun core parts cells goes first rest row i d (let a = taken-length rest made taken in omega arith) ∙ ap (λ n. goes.runs.part (suc n)) (let e : i ≡ 0 + i = omega arith in e) in
         let rules-length : length (map rule plugins) ≡ plan.plugins = goes.fits.rules_are in
-        let done : RunOf in_seen out_seen rule stands from made_from stuffing plugins made to made_to plan (closed_of plan (marks_of state)) = record {
+        let done : RunOf in_seen out_seen rule stands from made_from stuffing plugins made to made_to plan (closed_of plan (progress_of_stages state)) = record {
           list = chosen.list;
           is_list = (by.kept chosen.list gives).is_list;
           closes = at.pure_or_fault;

@@ -27,8 +27,8 @@ use Rattle.stage_run.specs.InputStands.{stuffing_of}
 use Rattle.stage_run.specs.Parts.{IsListOf, IsSourceOf, IsSinkOf}
 use Rattle.chain_run.specs.Fresh.{AreFresh}
 use Rattle.chain_run.specs.Parts.{MadeOf, AreMadeOf}
-use Rattle.chain_run.specs.Runs.{nothing_told, Begun, Fits, PartAt, InputAt, PluginAt, OutputAt, KeptFor, RunsBy}
-use Rattle.chain_run.specs.Working.{Goes}
+use Rattle.chain_run.specs.Runs.{nothing_told, RunStart, NumbersFit, PartAt, InputAt, PluginAt, OutputAt, KeptFor, RunsBy}
+use Rattle.chain_run.specs.Working.{IsRunning}
 use Rattle.chain_run.proofs.QuietVisit.{silent}
 use Rattle.chain_run.proofs.TurnLemmas.{list-ends}
 
@@ -101,7 +101,7 @@ module _ {S K P : Type 0} (in_seen : S → SourceView) (out_seen : K → SinkVie
       (out_kind : kind_of out ≡ an_output) (out_stream : has_stream out ≡ has_sink to)
       (out_stands : (source : SourceView) (sink : SinkView) (mark : ℕ) → IsSinkOf out_seen to sink → PartStands in_seen out_seen rule stands out (fresh_lists source sink mark) None)
       (cells : List Cell) (slots : length cells ≡ plan.buffer) where
-    abbrev pub began : Begun S K
+    abbrev pub began : RunStart S K
     began = record { from = from; to = to; stuffing = stuffing_of stuffing; rules = map rule plugins; plan = plan }
 
     abbrev parts : List (StagePart S K P)
@@ -125,7 +125,7 @@ module _ {S K P : Type 0} (in_seen : S → SourceView) (out_seen : K → SinkVie
         ap (λ n. slice_index_or (made ++ out ∷ []) n first) (let a = made-length made plugins are in let b = number in omega arith)
         ∙ get_or-append_seam made out [] first
 
-    fits : Fits began core (length parts) (length cells)
+    fits : NumbersFit began core (length parts) (length cells)
     fits = record {
       plan_is = plan_is;
       lawful = lawful;
@@ -199,5 +199,5 @@ module _ {S K P : Type 0} (in_seen : S → SourceView) (out_seen : K → SinkVie
       buffer = λ k le. tt;
     }
 
-    pub starts : Goes in_seen out_seen rule stands began core parts cells
+    pub starts : IsRunning in_seen out_seen rule stands began core parts cells
     starts = record { fits = fits; runs = record { visits = []; part = part; lists = lists; by = by-start } }

@@ -13,7 +13,7 @@ use Rattle.chain_model.specs.Apply.{StageList}
 use Rattle.chain_core.specs.declared.stage_end.StageEnd.{StageEnd}
 use Rattle.chain_core.specs.declared.stage_word.StageWord.{StageWord}
 use Rattle.chain_core.specs.Numbers.{written_of}
-use Rattle.chain_core.specs.Machine.{ChainState, StageState, Visit, marks_of, visit_of, Allowed}
+use Rattle.chain_core.specs.Machine.{ChainState, StageState, Visit, progress_of_stages, visit_of, Allowed}
 use Rattle.chain_core.specs.ChainRun.{ChainRun, state_after}
 use Rattle.chain_core.specs.CoreNumbers.{CoreNumbers, IsLawfulPlan, StandsFor}
 use Rattle.chain_core.specs.Keeps.{Keeps}
@@ -23,7 +23,7 @@ use Rattle.stage_run.specs.PartStands.{PartStands, PartGives}
 use Rattle.stage_run.specs.OutputStands.{IsPartOfFirst}
 use Rattle.chain_run.specs.RunOf.{MayRead}
 use Rattle.chain_run.specs.Slots.{slot, HoldsFrom}
-use Rattle.chain_run.specs.Runs.{nothing_told, between, Begun, PartAt, InputAt, PluginAt, FailedAt, OutputAt, KeptFor, RunsBy}
+use Rattle.chain_run.specs.Runs.{nothing_told, between, RunStart, PartAt, InputAt, PluginAt, FailedAt, OutputAt, KeptFor, RunsBy}
 use Rattle.chain_run.proofs.MachineLaws.{MachineLaws, given-falls, stage-other, written-grows, given-more}
 
 -- ---- functions that are changed at one place
@@ -64,10 +64,10 @@ drop-frame : (m n : ℕ) (xs ys more : List Cell) → n ≡ m → ys ≡ xs ++ m
 drop-frame m n xs ys more e grown le =
     ap (λ i. drop i ys) e ∙ (ap (drop m) grown ∙ drop-append-le m xs more le)
 
-module _ {S K P : Type 0} (in_seen : S → SourceView) (out_seen : K → SinkView) (rule : P → PluginRule) (stands : P → List Cell → ℕ → Type 0) (begun : Begun S K) where
+module _ {S K P : Type 0} (in_seen : S → SourceView) (out_seen : K → SinkView) (rule : P → PluginRule) (stands : P → List Cell → ℕ → Type 0) (begun : RunStart S K) where
   -- ---- stages that were not visited
 
-  module _ (old new : ChainState) (grown : written_of begun.plan (marks_of old) ≤ written_of begun.plan (marks_of new)) where
+  module _ (old new : ChainState) (grown : written_of begun.plan (progress_of_stages old) ≤ written_of begun.plan (progress_of_stages new)) where
     part-frame : (part : StagePart S K P) (k : ℕ) (lists : PartLists) → (new.stages k).given ≡ (old.stages k).given → (new.stages k).ended ≡ (old.stages k).ended
         → PartAt in_seen out_seen rule stands begun part k lists old → PartAt in_seen out_seen rule stands begun part k lists new
     part-frame part k lists same ended at = record {
@@ -84,7 +84,7 @@ module _ {S K P : Type 0} (in_seen : S → SourceView) (out_seen : K → SinkVie
       stuffing_is = is.stuffing_is;
       stream = is.stream;
       source = is.source;
-      within = may_read-more begun.plan.buffer (written_of begun.plan (marks_of old)) (written_of begun.plan (marks_of new)) (length lists.read) grown is.within;
+      within = may_read-more begun.plan.buffer (written_of begun.plan (progress_of_stages old)) (written_of begun.plan (progress_of_stages new)) (length lists.read) grown is.within;
     }
 
     pub plugin-frame : (part : StagePart S K P) (j : ℕ) (lists : PartLists) (more : List Cell) → (new.stages (suc j)).given ≡ (old.stages (suc j)).given → (new.stages (suc j)).ended ≡ (old.stages (suc j)).ended
@@ -171,7 +171,7 @@ module _ {S K P : Type 0} (in_seen : S → SourceView) (out_seen : K → SinkVie
       taken_same : (j : ℕ) → j ≢ k → (old.stages j).taken ≤ (new.stages j).taken
       taken_same j apart = let e : (new.stages j).taken ≡ (old.stages j).taken = ap (λ (s : StageState). s.taken) (other j apart) in omega arith
 
-      grows : written_of begun.plan (marks_of old) ≤ written_of begun.plan (marks_of new)
+      grows : written_of begun.plan (progress_of_stages old) ≤ written_of begun.plan (progress_of_stages new)
       grows = written-grows laws begun.plan lawful.users visits (visit_of k given word) run
 
       more : (j : ℕ) → (l : List Cell) × ((new.stages j).given ≡ (old.stages j).given ++ l)

@@ -11,14 +11,14 @@ use Rattle.chain_core.specs.declared.news.News.{News}
 use Rattle.chain_core.specs.Numbers.{MayVisit}
 use Rattle.chain_core.specs.Machine.{ChainState, Visit, visit_of, visited, news_after}
 use Rattle.chain_core.specs.ChainRun.{state_after}
-use Rattle.chain_core.specs.CoreNumbers.{CoreNumbers, StandsFor, marks_in}
+use Rattle.chain_core.specs.CoreNumbers.{CoreNumbers, StandsFor, progress_of_core}
 use Rattle.chain_core.specs.Keeps.{KeptRun}
 use Rattle.chain_core.specs.EveryOrder.{SoFar}
 use Rattle.stage_run.specs.declared.stage_part.StagePart.{StagePart}
 use Rattle.stage_run.specs.declared.work.Work.{Work}
 use Rattle.stage_run.specs.PartStands.{PartStands, MayWorkOnSome}
-use Rattle.chain_run.specs.Runs.{nothing_told, Begun, IsIdle, still_below}
-use Rattle.chain_run.specs.Working.{Goes, RunsSomehow, StageWorks}
+use Rattle.chain_run.specs.Runs.{nothing_told, RunStart, IsIdle, remaining_work}
+use Rattle.chain_run.specs.Working.{IsRunning, IsRunningSomehow, StageWorks}
 use Rattle.chain_run.proofs.MachineLaws.{MachineLaws}
 use Rattle.chain_run.proofs.TurnWorks.{Looked, look, work-written, work-given, work-taken, work-stands, work-may, turned}
 use Rattle.chain_run.proofs.TurnMoves.{moves, rests, idle}
@@ -28,42 +28,42 @@ pub record Looks {S K P : Type 0} (in_seen : S → SourceView) (out_seen : K →
     (core core1 : CoreNumbers) (parts : List (StagePart S K P)) (cells : List Cell) (k : ℕ) (news : News) : Type 0 where
   pub laws : MachineLaws
   pub every : (plan : CorePlan) (rules : List PluginRule) (input : StageList) (visits : List Visit) → KeptRun plan rules input visits → SoFar plan rules input (state_after plan visits)
-  pub somehow : RunsSomehow in_seen out_seen rule stands core parts cells
+  pub somehow : IsRunningSomehow in_seen out_seen rule stands core parts cells
   pub is_stage : k ≤ suc core.plan.plugins
-  pub open_ : (marks_in core k).ended ≡ None
+  pub open_ : (progress_of_core core k).ended ≡ None
   pub plan1 : core1.plan ≡ core.plan
   pub first : (state : ChainState) (gave : List Cell) → length gave ≡ 0 → StandsFor core state → StandsFor core1 (visited core.plan state (visit_of k gave nothing_told))
   pub news_is : (state : ChainState) (gave : List Cell) → length gave ≡ 0 → StandsFor core state → news ≡ news_after core.plan state (visit_of k gave nothing_told)
 
 module _ {S K P : Type 0} (in_seen : S → SourceView) (out_seen : K → SinkView) (rule : P → PluginRule) (stands : P → List Cell → ℕ → Type 0)
     (core core1 : CoreNumbers) (parts : List (StagePart S K P)) (cells : List Cell) (k : ℕ) (news : News) (looks : Looks in_seen out_seen rule stands core core1 parts cells k news) where
-  abbrev Looked_ : Begun S K → Type 0
+  abbrev Looked_ : RunStart S K → Type 0
   Looked_ begun = Looked in_seen out_seen rule stands looks.laws looks.every begun core1 parts cells k news
 
-  looked-of : (begun : Begun S K) → Goes in_seen out_seen rule stands begun core parts cells → Looked_ begun
+  looked-of : (begun : RunStart S K) → IsRunning in_seen out_seen rule stands begun core parts cells → Looked_ begun
   looked-of begun goes =
       look in_seen out_seen rule stands looks.laws looks.every begun core core1 parts cells goes k news looks.is_stage looks.open_ looks.plan1 looks.first looks.news_is
 
   somehow : Looked_ looks.somehow.0
   somehow = looked-of looks.somehow.0 looks.somehow.1
 
-  pub turn-written : news.written ≤ (marks_in core1 k).given
+  pub turn-written : news.written ≤ (progress_of_core core1 k).given
   turn-written = work-written in_seen out_seen rule stands looks.laws looks.every looks.somehow.0 core1 parts cells k news somehow
 
-  pub turn-given : (marks_in core1 k).given ≤ news.taken
+  pub turn-given : (progress_of_core core1 k).given ≤ news.taken
   turn-given = work-given in_seen out_seen rule stands looks.laws looks.every looks.somehow.0 core1 parts cells k news somehow
 
   pub turn-taken : news.taken ≤ 2 ^ 60
   turn-taken = work-taken in_seen out_seen rule stands looks.laws looks.every looks.somehow.0 core1 parts cells k news somehow
 
-  pub turn-stands : (d : StagePart S K P) → MayWorkOnSome (PartStands in_seen out_seen rule stands (slice_index_or parts k d)) (marks_in core1 k).given news.written
+  pub turn-stands : (d : StagePart S K P) → MayWorkOnSome (PartStands in_seen out_seen rule stands (slice_index_or parts k d)) (progress_of_core core1 k).given news.written
   turn-stands = work-stands in_seen out_seen rule stands looks.laws looks.every looks.somehow.0 core1 parts cells k news somehow
 
   module _ (core1' : CoreNumbers) (same : core1' ≡ core1) (parts_new : List (StagePart S K P)) (cells_new : List Cell) (work : Work)
-      (works : StageWorks in_seen out_seen rule stands parts parts_new cells cells_new k (marks_in core1 k).given news work) where
-    pub turn-may : MayVisit core1'.plan (marks_in core1') core1'.told k work.done work.word
+      (works : StageWorks in_seen out_seen rule stands parts parts_new cells cells_new k (progress_of_core core1 k).given news work) where
+    pub turn-may : MayVisit core1'.plan (progress_of_core core1') core1'.told k work.done work.word
     turn-may =
-        subst (λ (c : CoreNumbers). MayVisit c.plan (marks_in c) c.told k work.done work.word) (sym same)
+        subst (λ (c : CoreNumbers). MayVisit c.plan (progress_of_core c) c.told k work.done work.word) (sym same)
         (work-may in_seen out_seen rule stands looks.laws looks.every looks.somehow.0 core1 parts cells k news somehow parts_new cells_new work works)
 
     module _ (core2 : CoreNumbers) (plan2 : core2.plan ≡ core1'.plan)
@@ -72,18 +72,18 @@ module _ {S K P : Type 0} (in_seen : S → SourceView) (out_seen : K → SinkVie
       told =
           subst (λ (c : CoreNumbers). (state : ChainState) (gave : List Cell) → length gave ≡ work.done → StandsFor c state → StandsFor core2 (visited c.plan state (visit_of k gave work.word))) same second
 
-      pub turn-goes : (begun : Begun S K) → Goes in_seen out_seen rule stands begun core parts cells → Goes in_seen out_seen rule stands begun core2 parts_new cells_new
+      pub turn-goes : (begun : RunStart S K) → IsRunning in_seen out_seen rule stands begun core parts cells → IsRunning in_seen out_seen rule stands begun core2 parts_new cells_new
       turn-goes begun goes =
           turned in_seen out_seen rule stands looks.laws looks.every begun core1 parts cells k news (looked-of begun goes) parts_new cells_new work works core2 (plan2 ∙ ap (λ (c : CoreNumbers). c.plan) same) told
 
-      pub turn-moves : (0 < work.done) ⊎ (is_some work.word.ended ≡ true) → still_below (marks_in core2) (core.plan.plugins + 2) < still_below (marks_in core) (core.plan.plugins + 2)
+      pub turn-moves : (0 < work.done) ⊎ (is_some work.word.ended ≡ true) → remaining_work (progress_of_core core2) (core.plan.plugins + 2) < remaining_work (progress_of_core core) (core.plan.plugins + 2)
       turn-moves =
           moves in_seen out_seen rule stands looks.laws looks.every looks.somehow.0 core core1 core2 parts cells looks.somehow.1 k looks.is_stage looks.open_ news somehow parts_new cells_new work works looks.first told
 
-      pub turn-rests : work.done ≡ 0 → work.word.ended ≡ None → marks_in core2 ≡ marks_in core
+      pub turn-rests : work.done ≡ 0 → work.word.ended ≡ None → progress_of_core core2 ≡ progress_of_core core
       turn-rests =
           rests in_seen out_seen rule stands looks.laws looks.every looks.somehow.0 core core1 core2 parts cells looks.somehow.1 k looks.is_stage looks.open_ news somehow parts_new cells_new work works looks.first told
 
-      pub turn-idle : work.done ≡ 0 → work.word.ended ≡ None → IsIdle core.plan (marks_in core2) k
+      pub turn-idle : work.done ≡ 0 → work.word.ended ≡ None → IsIdle core.plan (progress_of_core core2) k
       turn-idle =
           idle in_seen out_seen rule stands looks.laws looks.every looks.somehow.0 core core1 core2 parts cells looks.somehow.1 k looks.is_stage looks.open_ news somehow parts_new cells_new work works looks.first told

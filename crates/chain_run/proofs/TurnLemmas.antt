@@ -11,8 +11,8 @@ use Rattle.chain_model.specs.Stuffed as model
 use Rattle.chain_model.specs.declared.input_end.InputEnd.{InputEnd}
 use Rattle.chain_core.specs.declared.core_plan.CorePlan.{CorePlan}
 use Rattle.chain_core.specs.Stages.{has_stage}
-use Rattle.chain_core.specs.Numbers.{Marks, limit_of, takes_of, agreed_with, is_before_over, is_after_over, news_of, MayFollow}
-use Rattle.chain_core.specs.Machine.{ChainState, StageState, Visit, mark_of, marks_of, visit_of, noted, visited}
+use Rattle.chain_core.specs.Numbers.{StagesProgress, limit_of, takes_of, agreed_with, is_before_over, is_after_over, news_of, MayFollow}
+use Rattle.chain_core.specs.Machine.{ChainState, StageState, Visit, progress_of_stage, progress_of_stages, visit_of, noted, visited}
 use Rattle.chain_core.proofs.Stepping.{noted-same, noted-other, visited-same}
 use Rattle.stage_run.specs.declared.input_part.InputPart.{InputPart}
 use Rattle.stage_run.specs.declared.input_part.InputPart.TheVariants.{Stream, Nulls}
@@ -31,13 +31,13 @@ list-ends seen (Nulls count) stuffing list is =
     (e.0, ap (λ (l : StageList). l.ended) is ∙ e.1)
 
 -- what a stage may do by its news it may do by the numbers
-pub follows-news : (plan : CorePlan) (marks : Marks) (k now : ℕ) → may_follow (news_of plan marks k) now ≡ true → MayFollow plan marks k now
-follows-news plan marks k now is =
-    elim (cases_Bool (is_before_over marks k)) [
+pub follows-news : (plan : CorePlan) (progress : StagesProgress) (k now : ℕ) → may_follow (news_of plan progress k) now ≡ true → MayFollow plan progress k now
+follows-news plan progress k now is =
+    elim (cases_Bool (is_before_over progress k)) [
       | inl before ↦ inl before
-      | inr not_before ↦ elim (cases_Bool (is_after_over plan marks k)) [
+      | inr not_before ↦ elim (cases_Bool (is_after_over plan progress k)) [
         | inl behind ↦ inr (inl behind)
-        | inr not_behind ↦ inr (inr (reached (limit_of plan marks) refl (sym (or-none (is_before_over marks k) (is_after_over plan marks k) (is_reached (limit_of plan marks) now) not_before not_behind) ∙ is)))
+        | inr not_behind ↦ inr (inr (reached (limit_of plan progress) refl (sym (or-none (is_before_over progress k) (is_after_over plan progress k) (is_reached (limit_of plan progress) now) not_before not_behind) ∙ is)))
       ]
     ]
   where
@@ -46,26 +46,26 @@ follows-news plan marks k now is =
     or-none false true c no_ none = absurd cc
     or-none false false c no_ none = refl
 
-    reached : (o : Option ℕ) → limit_of plan marks ≡ o → is_reached o now ≡ true → (limit : ℕ) × (limit_of plan marks ≡ Some limit) × (limit ≤ now)
+    reached : (o : Option ℕ) → limit_of plan progress ≡ o → is_reached o now ≡ true → (limit : ℕ) × (limit_of plan progress ≡ Some limit) × (limit ≤ now)
     reached None e yes_ = absurd cc
     reached (Some limit) e yes_ = (limit, e, leb-true limit now yes_)
 
-pub not-following : (plan : CorePlan) (marks : Marks) (k now : ℕ) → may_follow (news_of plan marks k) now ≡ false → MayFollow plan marks k now → ⊥
-not-following plan marks k now no_ (inl before) =
-    let e : is_before_over marks k ≡ true = before in
-    let t : may_follow (news_of plan marks k) now ≡ true = ap (λ (b : Bool). b || (is_after_over plan marks k || is_reached (limit_of plan marks) now)) e in
+pub not-following : (plan : CorePlan) (progress : StagesProgress) (k now : ℕ) → may_follow (news_of plan progress k) now ≡ false → MayFollow plan progress k now → ⊥
+not-following plan progress k now no_ (inl before) =
+    let e : is_before_over progress k ≡ true = before in
+    let t : may_follow (news_of plan progress k) now ≡ true = ap (λ (b : Bool). b || (is_after_over plan progress k || is_reached (limit_of plan progress) now)) e in
     let f : true ≡ false = sym t ∙ no_ in cc
-not-following plan marks k now no_ (inr (inl behind)) =
-    let e : is_after_over plan marks k ≡ true = behind in
-    let t : may_follow (news_of plan marks k) now ≡ true = ap (λ (b : Bool). is_before_over marks k || (b || is_reached (limit_of plan marks) now)) e ∙ or-true (is_before_over marks k) in
+not-following plan progress k now no_ (inr (inl behind)) =
+    let e : is_after_over plan progress k ≡ true = behind in
+    let t : may_follow (news_of plan progress k) now ≡ true = ap (λ (b : Bool). is_before_over progress k || (b || is_reached (limit_of plan progress) now)) e ∙ or-true (is_before_over progress k) in
     let f : true ≡ false = sym t ∙ no_ in cc
   where
     or-true : (b : Bool) → (b || true) ≡ true
     or-true true = refl
     or-true false = refl
-not-following plan marks k now no_ (inr (inr reached)) =
-    let e : is_reached (limit_of plan marks) now ≡ true = ap (λ (o : Option ℕ). is_reached o now) reached.1 ∙ le-leb reached.0 now reached.2 in
-    let t : may_follow (news_of plan marks k) now ≡ true = ap (λ (b : Bool). is_before_over marks k || (is_after_over plan marks k || b)) e ∙ or-both (is_before_over marks k) (is_after_over plan marks k) in
+not-following plan progress k now no_ (inr (inr reached)) =
+    let e : is_reached (limit_of plan progress) now ≡ true = ap (λ (o : Option ℕ). is_reached o now) reached.1 ∙ le-leb reached.0 now reached.2 in
+    let t : may_follow (news_of plan progress k) now ≡ true = ap (λ (b : Bool). is_before_over progress k || (is_after_over plan progress k || b)) e ∙ or-both (is_before_over progress k) (is_after_over plan progress k) in
     let f : true ≡ false = sym t ∙ no_ in cc
   where
     or-both : (a b : Bool) → (a || (b || true)) ≡ true
@@ -73,7 +73,7 @@ not-following plan marks k now no_ (inr (inr reached)) =
     or-both false true = refl
     or-both false false = refl
 
--- the marks of a stage that gave and told nothing
+-- the progress of a stage that gave and told nothing
 module _ (plan : CorePlan) (state : ChainState) (k : ℕ) (open_ : (state.stages k).ended ≡ None) where
   abbrev pub quiet : Visit
   quiet = visit_of k [] nothing_told
@@ -89,20 +89,20 @@ module _ (plan : CorePlan) (state : ChainState) (k : ℕ) (open_ : (state.stages
       or-none None = refl
       or-none (Some n) = refl
 
-  pub quiet-mark : (j : ℕ) → marks_of (noted plan state quiet) j ≡ marks_of state j
+  pub quiet-mark : (j : ℕ) → progress_of_stages (noted plan state quiet) j ≡ progress_of_stages state j
   quiet-mark j =
       elim (cases_eq j k) [
-        | inl same ↦ subst (λ i. marks_of (noted plan state quiet) i ≡ marks_of state i) (sym same) here
-        | inr apart ↦ ap mark_of (noted-other plan state quiet j apart)
+        | inl same ↦ subst (λ i. progress_of_stages (noted plan state quiet) i ≡ progress_of_stages state i) (sym same) here
+        | inr apart ↦ ap progress_of_stage (noted-other plan state quiet j apart)
       ]
     where
-      here : marks_of (noted plan state quiet) k ≡ marks_of state k
+      here : progress_of_stages (noted plan state quiet) k ≡ progress_of_stages state k
       here =
-          ap mark_of (noted-same plan state quiet)
+          ap progress_of_stage (noted-same plan state quiet)
           ∙ ((λ i. record { given = length (append-nil (state.stages k).given i); taken = (state.stages k).taken; agreed = quiet-agreed (state.stages k).agreed i; ended = sym open_ i }))
 
   -- it takes of what waits
-  pub quiet-taken : ((visited plan state quiet).stages k).taken ≡ (state.stages k).taken + takes_of plan (marks_of state) k
+  pub quiet-taken : ((visited plan state quiet).stages k).taken ≡ (state.stages k).taken + takes_of plan (progress_of_stages state) k
   quiet-taken =
       ap (λ (s : StageState). s.taken) (visited-same plan state quiet)
-      ∙ ap (λ (marks : Marks). (state.stages k).taken + takes_of plan marks k) (λ i j. quiet-mark j i)
+      ∙ ap (λ (progress : StagesProgress). (state.stages k).taken + takes_of plan progress k) (λ i j. quiet-mark j i)

@@ -1,4 +1,4 @@
--- What a turn does to the marks: less is left to do, or nothing has moved and the stage is idle.
+-- What a turn does to the progress: less is left to do, or nothing has moved and the stage is idle.
 use Rattle.std.proofs.Common.{◌≡◌, ◌≢◌, ◌⊎◌, ℕ, zero, suc, ◌+◌, ◌%◌, ◌^◌, ◌<◌, ◌≤◌, true, false, List, [], ◌∷◌, length, take, drop, Option, Some, None, refl, ap, sym, ◌∙◌, subst, arith, inl, inr, length-append}
 use Rattle.std.specs.Prelude.{is_some}
 use Rattle.std.proofs.lemmas.Bool.{cases_eq, cases_lt}
@@ -10,13 +10,13 @@ use Rattle.ts_outside.specs.Sink.{SinkView}
 use Rattle.chain_model.specs.PluginRule.{PluginRule}
 use Rattle.chain_model.specs.Apply.{StageList}
 use Rattle.chain_core.specs.declared.core_plan.CorePlan.{CorePlan}
-use Rattle.chain_core.specs.declared.mark.Mark.{Mark}
+use Rattle.chain_core.specs.declared.progress.Progress.{Progress}
 use Rattle.chain_core.specs.declared.news.News.{News}
 use Rattle.chain_core.specs.declared.stage_word.StageWord.{StageWord}
-use Rattle.chain_core.specs.Numbers.{Marks, takes_of, news_of}
-use Rattle.chain_core.specs.Machine.{ChainState, StageState, Visit, mark_of, visit_of, visited}
+use Rattle.chain_core.specs.Numbers.{StagesProgress, takes_of, news_of}
+use Rattle.chain_core.specs.Machine.{ChainState, StageState, Visit, progress_of_stage, visit_of, visited}
 use Rattle.chain_core.specs.ChainRun.{state_after}
-use Rattle.chain_core.specs.CoreNumbers.{CoreNumbers, StandsFor, marks_in}
+use Rattle.chain_core.specs.CoreNumbers.{CoreNumbers, StandsFor, progress_of_core}
 use Rattle.chain_core.specs.Keeps.{KeptRun}
 use Rattle.chain_core.specs.EveryOrder.{SoFar}
 use Rattle.chain_core.proofs.Stepping.{visited-same, visited-other}
@@ -25,12 +25,12 @@ use Rattle.stage_run.specs.declared.work.Work.{Work}
 use Rattle.stage_run.specs.PartStands.{kind_of, an_input}
 use Rattle.stage_run.specs.Telling.{may_follow, FollowsNews}
 use Rattle.stage_run.specs.Works.{InputTells}
-use Rattle.chain_run.specs.Runs.{nothing_told, Begun, still_of, still_below, IsIdle}
-use Rattle.chain_run.specs.Working.{Goes, StageWorks}
+use Rattle.chain_run.specs.Runs.{nothing_told, RunStart, still_of, remaining_work, IsIdle}
+use Rattle.chain_run.specs.Working.{IsRunning, StageWorks}
 use Rattle.chain_run.proofs.MachineLaws.{MachineLaws, given-taken, taken-below}
 use Rattle.chain_run.proofs.TurnLemmas.{not-following}
 use Rattle.chain_run.proofs.KindLemmas.{input-did}
-use Rattle.chain_run.proofs.MarkLemmas.{TakesAlone, as-marks, takes-alone, same-marks, takes-none, none-waits, still-same, still-falls, still-less}
+use Rattle.chain_run.proofs.ProgressLemmas.{TakesAlone, as-progress, takes-alone, same-progress, takes-none, none-waits, still-same, still-falls, still-less}
 use Rattle.chain_run.proofs.TurnWorks.{Looked, open-state, here, worked, given-le, taken-is, may-now}
 
 no-agreement : (o : Option ℕ) (at : ℕ) → ((agreed : ℕ) → o ≡ Some agreed → (at < agreed) × (agreed ≤ at + 0)) → o ≡ None
@@ -39,19 +39,19 @@ no-agreement (Some n) at may = let a = may n refl in absurd (omega (arith, a.0, 
 
 module _ {S K P : Type 0} (in_seen : S → SourceView) (out_seen : K → SinkView) (rule : P → PluginRule) (stands : P → List Cell → ℕ → Type 0)
     (laws : MachineLaws) (every : (plan : CorePlan) (rules : List PluginRule) (input : StageList) (visits : List Visit) → KeptRun plan rules input visits → SoFar plan rules input (state_after plan visits))
-    (begun : Begun S K) (core core1 core2 : CoreNumbers) (parts : List (StagePart S K P)) (cells : List Cell) (goes : Goes in_seen out_seen rule stands begun core parts cells) (k : ℕ) (is_stage : k ≤ suc core.plan.plugins) (open_ : (marks_in core k).ended ≡ None)
+    (begun : RunStart S K) (core core1 core2 : CoreNumbers) (parts : List (StagePart S K P)) (cells : List Cell) (goes : IsRunning in_seen out_seen rule stands begun core parts cells) (k : ℕ) (is_stage : k ≤ suc core.plan.plugins) (open_ : (progress_of_core core k).ended ≡ None)
     (news : News) (looked : Looked in_seen out_seen rule stands laws every begun core1 parts cells k news)
-    (parts_new : List (StagePart S K P)) (cells_new : List Cell) (work : Work) (works : StageWorks in_seen out_seen rule stands parts parts_new cells cells_new k (marks_in core1 k).given news work)
+    (parts_new : List (StagePart S K P)) (cells_new : List Cell) (work : Work) (works : StageWorks in_seen out_seen rule stands parts parts_new cells cells_new k (progress_of_core core1 k).given news work)
     (first : (state : ChainState) (gave : List Cell) → length gave ≡ 0 → StandsFor core state → StandsFor core1 (visited core.plan state (visit_of k gave nothing_told)))
     (second : (state : ChainState) (gave : List Cell) → length gave ≡ work.done → StandsFor core1 state → StandsFor core2 (visited core1.plan state (visit_of k gave work.word))) where
-  abbrev m0 : Marks
-  m0 = marks_in core
+  abbrev m0 : StagesProgress
+  m0 = progress_of_core core
 
-  abbrev m1 : Marks
-  m1 = marks_in core1
+  abbrev m1 : StagesProgress
+  m1 = progress_of_core core1
 
-  abbrev m2 : Marks
-  m2 = marks_in core2
+  abbrev m2 : StagesProgress
+  m2 = progress_of_core core2
 
   abbrev now : ChainState
   now = state_after begun.plan looked.visits
@@ -62,7 +62,7 @@ module _ {S K P : Type 0} (in_seen : S → SourceView) (out_seen : K → SinkVie
       (subst (λ (p : CorePlan). StandsFor core1 (visited p (state_after begun.plan goes.runs.visits) (visit_of k [] nothing_told))) goes.fits.plan_is (first (state_after begun.plan goes.runs.visits) [] refl goes.runs.by.numbers))
       (open-state in_seen out_seen rule stands laws every begun core parts cells goes k is_stage open_)
 
-  looks-same : (n : ℕ) → still_below m1 n ≡ still_below m0 n
+  looks-same : (n : ℕ) → remaining_work m1 n ≡ remaining_work m0 n
   looks-same n =
       still-same m0 m1 n (λ j. elim (cases_eq j k) [
         | inl here ↦ subst (λ i. still_of (m1 i) ≡ still_of (m0 i)) (sym here) (ap still_of took0.here)
@@ -72,7 +72,7 @@ module _ {S K P : Type 0} (in_seen : S → SourceView) (out_seen : K → SinkVie
   -- ---- something moved
 
   at-is : (m1 k).given ≡ length (now.stages k).given
-  at-is = ap (λ (m : Mark). m.given) (looked.by.numbers.marks k)
+  at-is = ap (λ (m : Progress). m.given) (looked.by.numbers.progress k)
 
   -- any cells, so many, lead to the same numbers
   fake : (n : ℕ) → (cells : List Cell) × (length cells ≡ n)
@@ -84,23 +84,23 @@ module _ {S K P : Type 0} (in_seen : S → SourceView) (out_seen : K → SinkVie
 
   moved-other : (j : ℕ) → j ≢ k → m2 j ≡ m1 j
   moved-other j apart =
-      moved-stands.marks j ∙ (ap mark_of (visited-other core1.plan now (visit_of k (fake work.done).0 work.word) j apart) ∙ sym (looked.by.numbers.marks j))
+      moved-stands.progress j ∙ (ap progress_of_stage (visited-other core1.plan now (visit_of k (fake work.done).0 work.word) j apart) ∙ sym (looked.by.numbers.progress j))
 
   moved-given : (m2 k).given ≡ (m1 k).given + work.done
   moved-given =
-      ap (λ (m : Mark). m.given) (moved-stands.marks k)
+      ap (λ (m : Progress). m.given) (moved-stands.progress k)
       ∙ (ap (λ (s : StageState). length s.given) (visited-same core1.plan now (visit_of k (fake work.done).0 work.word))
       ∙ (let a = (fake work.done).1 in let b = at-is in omega (arith, length-append (now.stages k).given (fake work.done).0)))
 
   moved-ended : (m2 k).ended ≡ work.word.ended
   moved-ended =
-      ap (λ (m : Mark). m.ended) (moved-stands.marks k)
+      ap (λ (m : Progress). m.ended) (moved-stands.progress k)
       ∙ ap (λ (s : StageState). s.ended) (visited-same core1.plan now (visit_of k (fake work.done).0 work.word))
 
-  pub moves : (0 < work.done) ⊎ (is_some work.word.ended ≡ true) → still_below m2 (core.plan.plugins + 2) < still_below m0 (core.plan.plugins + 2)
+  pub moves : (0 < work.done) ⊎ (is_some work.word.ended ≡ true) → remaining_work m2 (core.plan.plugins + 2) < remaining_work m0 (core.plan.plugins + 2)
   moves some =
       let less : still_of (m2 k) < still_of (m1 k) =
-      still-less (m1 k) (m2 k) work.done (ap (λ (m : Mark). m.ended) (looked.by.numbers.marks k) ∙ looked.open_) moved-given
+      still-less (m1 k) (m2 k) work.done (ap (λ (m : Progress). m.ended) (looked.by.numbers.progress k) ∙ looked.open_) moved-given
       (let a = given-le in_seen out_seen rule stands laws every begun core1 parts cells k news looked parts_new cells_new work works in
       let b = taken-is in_seen out_seen rule stands laws every begun core1 parts cells k news looked parts_new cells_new work works in
       let c = taken-below laws begun.plan looked.fits.lawful.users looked.visits looked.by.run k in let d = at-is in omega arith)
@@ -130,7 +130,7 @@ module _ {S K P : Type 0} (in_seen : S → SourceView) (out_seen : K → SinkVie
     empty =
         let a = empty-len in let b = at-is in
         let c : news.taken ≡ (now.stages k).taken = taken-is in_seen out_seen rule stands laws every begun core1 parts cells k news looked parts_new cells_new work works in
-        let d : (m1 k).taken ≡ (now.stages k).taken = ap (λ (m : Mark). m.taken) (looked.by.numbers.marks k) in
+        let d : (m1 k).taken ≡ (now.stages k).taken = ap (λ (m : Progress). m.taken) (looked.by.numbers.progress k) in
         elim (cases_lt (length (now.stages k).given) news.taken) [
           | inl more ↦ (let e = did-here.some more in absurd (omega arith))
           | inr fine ↦ omega arith
@@ -139,13 +139,13 @@ module _ {S K P : Type 0} (in_seen : S → SourceView) (out_seen : K → SinkVie
     held : (m0 k).given ≤ (m0 k).taken
     held =
         let a = given-taken laws begun.plan goes.fits.lawful.users goes.runs.visits goes.runs.by.run k in
-        let b = goes.runs.by.numbers.marks k in
-        let c : (m0 k).given ≡ length ((state_after begun.plan goes.runs.visits).stages k).given = ap (λ (m : Mark). m.given) b in
-        let d : (m0 k).taken ≡ ((state_after begun.plan goes.runs.visits).stages k).taken = ap (λ (m : Mark). m.taken) b in
+        let b = goes.runs.by.numbers.progress k in
+        let c : (m0 k).given ≡ length ((state_after begun.plan goes.runs.visits).stages k).given = ap (λ (m : Progress). m.given) b in
+        let d : (m0 k).taken ≡ ((state_after begun.plan goes.runs.visits).stages k).taken = ap (λ (m : Progress). m.taken) b in
         omega arith
 
     first-same : m1 ≡ m0
-    first-same = same-marks begun.plan m0 m1 k took0 (takes-none begun.plan m0 m1 k took0 held empty)
+    first-same = same-progress begun.plan m0 m1 k took0 (takes-none begun.plan m0 m1 k took0 held empty)
 
     silent : work.word ≡ nothing_told
     silent =
@@ -162,16 +162,16 @@ module _ {S K P : Type 0} (in_seen : S → SourceView) (out_seen : K → SinkVie
 
     pub rests : m2 ≡ m0
     rests =
-        same-marks begun.plan m1 m2 k took1 (ap (λ (m : Marks). takes_of begun.plan m k) first-same ∙ takes-none begun.plan m0 m1 k took0 held empty)
+        same-progress begun.plan m1 m2 k took1 (ap (λ (m : StagesProgress). takes_of begun.plan m k) first-same ∙ takes-none begun.plan m0 m1 k took0 held empty)
         ∙ first-same
 
     idle0 : IsIdle begun.plan m0 k
     idle0 = record {
       took_all = none-waits begun.plan m0 m1 k took0 held empty goes.fits.lawful.most;
-      gave_all = subst (λ (m : Marks). (m k).taken ≤ (m k).given) first-same empty;
+      gave_all = subst (λ (m : StagesProgress). (m k).taken ≤ (m k).given) first-same empty;
       not_following = not-following begun.plan m0 k (m0 k).given
-          (subst (λ (m : Marks). may_follow (news_of begun.plan m k) (m k).given ≡ false) first-same
-          (subst (λ (m : Marks). may_follow (news_of begun.plan m k) (m k).given ≡ false) (sym (as-marks core1 now looked.by.numbers))
+          (subst (λ (m : StagesProgress). may_follow (news_of begun.plan m k) (m k).given ≡ false) first-same
+          (subst (λ (m : StagesProgress). may_follow (news_of begun.plan m k) (m k).given ≡ false) (sym (as-progress core1 now looked.by.numbers))
           (subst (λ n. may_follow n (length (now.stages k).given) ≡ false) looked.told
           (subst (λ n. may_follow news n ≡ false) (let a = none in omega arith)
           (subst (λ t. FollowsNews news (length (now.stages k).given + work.done) t) still_open did-here.worked.follows)))));
@@ -188,9 +188,9 @@ module _ {S K P : Type 0} (in_seen : S → SourceView) (out_seen : K → SinkVie
             let tells : (work.done ≡ length (take did-here.len (drop (length (now.stages k).given % length cells) cells))) × (length (looked.lists k).given < 2 ^ 60) =
             subst (λ t. InputTells news (length (looked.lists k).given) (length (take did-here.len (drop (length (now.stages k).given % length cells) cells))) work.done (w.after.read ≡ (looked.lists k).read) t) still_open did.tells in
             let a = tells.1 in let b : length (looked.lists k).given ≡ length (now.stages k).given = may.given in let c = at-is in
-            let d : (m1 k).given ≡ (m0 k).given = ap (λ (m : Marks). (m k).given) first-same in
+            let d : (m1 k).given ≡ (m0 k).given = ap (λ (m : StagesProgress). (m k).given) first-same in
             omega arith
 
     pub idle : IsIdle core.plan m2 k
     idle =
-        subst (λ (p : CorePlan). IsIdle p m2 k) (sym goes.fits.plan_is) (subst (λ (m : Marks). IsIdle begun.plan m k) (sym rests) idle0)
+        subst (λ (p : CorePlan). IsIdle p m2 k) (sym goes.fits.plan_is) (subst (λ (m : StagesProgress). IsIdle begun.plan m k) (sym rests) idle0)

@@ -8,13 +8,13 @@ use Rattle.ts_outside.specs.Sink.{SinkView}
 use Rattle.chain_model.specs.PluginRule.{PluginRule}
 use Rattle.chain_model.specs.Apply.{StageList}
 use Rattle.chain_core.specs.declared.core_plan.CorePlan.{CorePlan}
-use Rattle.chain_core.specs.declared.mark.Mark.{Mark}
+use Rattle.chain_core.specs.declared.progress.Progress.{Progress}
 use Rattle.chain_core.specs.declared.news.News.{News}
 use Rattle.chain_core.specs.declared.stage_word.StageWord.{StageWord}
-use Rattle.chain_core.specs.Numbers.{Marks, limit_of, news_of, MayVisit}
-use Rattle.chain_core.specs.Machine.{ChainState, Visit, marks_of, visit_of, visited, Allowed, news_after}
+use Rattle.chain_core.specs.Numbers.{StagesProgress, limit_of, news_of, MayVisit}
+use Rattle.chain_core.specs.Machine.{ChainState, Visit, progress_of_stages, visit_of, visited, Allowed, news_after}
 use Rattle.chain_core.specs.ChainRun.{ChainRun, state_after}
-use Rattle.chain_core.specs.CoreNumbers.{CoreNumbers, StandsFor, marks_in}
+use Rattle.chain_core.specs.CoreNumbers.{CoreNumbers, StandsFor, progress_of_core}
 use Rattle.chain_core.specs.Keeps.{KeptRun}
 use Rattle.chain_core.specs.EveryOrder.{SoFar}
 use Rattle.stage_run.specs.declared.stage_part.StagePart.{StagePart}
@@ -22,8 +22,8 @@ use Rattle.stage_run.specs.declared.work.Work.{Work}
 use Rattle.stage_run.specs.PartLists.{PartLists}
 use Rattle.stage_run.specs.PartStands.{PartStands, MayWork, MayWorkOnSome, kind_of, an_output}
 use Rattle.stage_run.specs.Telling.{may_follow, FollowsNews}
-use Rattle.chain_run.specs.Runs.{nothing_told, Begun, Fits, KeptFor, RunsBy, Runs}
-use Rattle.chain_run.specs.Working.{Goes, PartWorks, StageWorks}
+use Rattle.chain_run.specs.Runs.{nothing_told, RunStart, NumbersFit, KeptFor, RunsBy, Runs}
+use Rattle.chain_run.specs.Working.{IsRunning, PartWorks, StageWorks}
 use Rattle.chain_run.proofs.MachineLaws.{MachineLaws, after-visit, change, given-taken, taken-below}
 use Rattle.chain_run.proofs.SlotLemmas.{length-over_row}
 use Rattle.chain_run.proofs.StepLemmas.{set_at}
@@ -31,13 +31,13 @@ use Rattle.chain_run.proofs.QuietVisit.{quiet-visit}
 use Rattle.chain_run.proofs.WorkVisit.{may, written-below, given-below, worked-visit}
 use Rattle.chain_run.proofs.KindLemmas.{output-did}
 use Rattle.chain_run.proofs.TurnLemmas.{list-ends, follows-news}
-use Rattle.chain_run.proofs.MarkLemmas.{as-marks}
+use Rattle.chain_run.proofs.ProgressLemmas.{as-progress}
 
 module _ {S K P : Type 0} (in_seen : S → SourceView) (out_seen : K → SinkView) (rule : P → PluginRule) (stands : P → List Cell → ℕ → Type 0)
     (laws : MachineLaws) (every : (plan : CorePlan) (rules : List PluginRule) (input : StageList) (visits : List Visit) → KeptRun plan rules input visits → SoFar plan rules input (state_after plan visits))
-    (begun : Begun S K) where
+    (begun : RunStart S K) where
   -- the chain theorem of a run so far
-  pub kept-run : (core : CoreNumbers) (stages slots : ℕ) → Fits begun core stages slots → (input : StageList) (visits : List Visit) → KeptFor in_seen out_seen rule stands begun visits input → ChainRun begun.plan visits → KeptRun begun.plan begun.rules input visits
+  pub kept-run : (core : CoreNumbers) (stages slots : ℕ) → NumbersFit begun core stages slots → (input : StageList) (visits : List Visit) → KeptFor in_seen out_seen rule stands begun visits input → ChainRun begun.plan visits → KeptRun begun.plan begun.rules input visits
   kept-run core stages slots fits input visits kept run = record {
     plugins = fits.rules_are;
     users = fits.lawful.users;
@@ -47,18 +47,18 @@ module _ {S K P : Type 0} (in_seen : S → SourceView) (out_seen : K → SinkVie
     kept = kept.kept;
   }
 
-  pub far : (core : CoreNumbers) (stages slots : ℕ) → Fits begun core stages slots → (input : StageList) (visits : List Visit) → KeptFor in_seen out_seen rule stands begun visits input → ChainRun begun.plan visits → SoFar begun.plan begun.rules input (state_after begun.plan visits)
+  pub far : (core : CoreNumbers) (stages slots : ℕ) → NumbersFit begun core stages slots → (input : StageList) (visits : List Visit) → KeptFor in_seen out_seen rule stands begun visits input → ChainRun begun.plan visits → SoFar begun.plan begun.rules input (state_after begun.plan visits)
   far core stages slots fits input visits kept run =
       every begun.plan begun.rules input visits (kept-run core stages slots fits input visits kept run)
 
   -- a visit that the machine allows, in the words of the core
-  pub to-core : (core : CoreNumbers) (state : ChainState) (k done : ℕ) (word : StageWord) → core.plan ≡ begun.plan → StandsFor core state → MayVisit begun.plan (marks_of state) state.told k done word → MayVisit core.plan (marks_in core) core.told k done word
+  pub to-core : (core : CoreNumbers) (state : ChainState) (k done : ℕ) (word : StageWord) → core.plan ≡ begun.plan → StandsFor core state → MayVisit begun.plan (progress_of_stages state) state.told k done word → MayVisit core.plan (progress_of_core core) core.told k done word
   to-core core state k done word plan_is numbers may =
-      subst (λ p. MayVisit p (marks_in core) core.told k done word) (sym plan_is)
-      (subst (λ t. MayVisit begun.plan (marks_in core) t k done word) (sym numbers.told)
-      (subst (λ (m : Marks). MayVisit begun.plan m state.told k done word) (sym (as-marks core state numbers)) may))
+      subst (λ p. MayVisit p (progress_of_core core) core.told k done word) (sym plan_is)
+      (subst (λ t. MayVisit begun.plan (progress_of_core core) t k done word) (sym numbers.told)
+      (subst (λ (m : StagesProgress). MayVisit begun.plan m state.told k done word) (sym (as-progress core state numbers)) may))
 
-  module _ (core : CoreNumbers) (parts : List (StagePart S K P)) (cells : List Cell) (goes : Goes in_seen out_seen rule stands begun core parts cells) (k : ℕ) (is_stage : k ≤ suc core.plan.plugins) (open_ : (marks_in core k).ended ≡ None) where
+  module _ (core : CoreNumbers) (parts : List (StagePart S K P)) (cells : List Cell) (goes : IsRunning in_seen out_seen rule stands begun core parts cells) (k : ℕ) (is_stage : k ≤ suc core.plan.plugins) (open_ : (progress_of_core core k).ended ≡ None) where
     abbrev visits : List Visit
     visits = goes.runs.visits
 
@@ -72,7 +72,7 @@ module _ {S K P : Type 0} (in_seen : S → SourceView) (out_seen : K → SinkVie
     is_stage' = subst (λ (p : CorePlan). k ≤ suc p.plugins) goes.fits.plan_is is_stage
 
     pub open-state : (state.stages k).ended ≡ None
-    open-state = sym (ap (λ (m : Mark). m.ended) (by.numbers.marks k)) ∙ open_
+    open-state = sym (ap (λ (m : Progress). m.ended) (by.numbers.progress k)) ∙ open_
 
     quiet-allowed : Allowed begun.plan state (visit_of k [] nothing_told)
     quiet-allowed = record {
@@ -85,23 +85,23 @@ module _ {S K P : Type 0} (in_seen : S → SourceView) (out_seen : K → SinkVie
     }
 
     -- the first visit may be made
-    pub quiet-may : MayVisit core.plan (marks_in core) core.told k 0 nothing_told
+    pub quiet-may : MayVisit core.plan (progress_of_core core) core.told k 0 nothing_told
     quiet-may = to-core core state k 0 nothing_told goes.fits.plan_is by.numbers quiet-allowed
 
   -- a stage of a running chain has its news
   pub record Looked (core : CoreNumbers) (parts : List (StagePart S K P)) (cells : List Cell) (k : ℕ) (news : News) : Type 0 where
-    pub fits : Fits begun core (length parts) (length cells)
+    pub fits : NumbersFit begun core (length parts) (length cells)
     pub visits : List Visit
     pub part : ℕ → StagePart S K P
     pub lists : ℕ → PartLists
     pub by : RunsBy in_seen out_seen rule stands begun core parts cells visits part lists
     pub is_stage : k ≤ suc begun.plan.plugins
     pub open_ : ((state_after begun.plan visits).stages k).ended ≡ None
-    pub told : news ≡ news_of begun.plan (marks_of (state_after begun.plan visits)) k
-    pub limit_told : k ≡ suc begun.plan.plugins → (state_after begun.plan visits).told ≡ limit_of begun.plan (marks_of (state_after begun.plan visits))
+    pub told : news ≡ news_of begun.plan (progress_of_stages (state_after begun.plan visits)) k
+    pub limit_told : k ≡ suc begun.plan.plugins → (state_after begun.plan visits).told ≡ limit_of begun.plan (progress_of_stages (state_after begun.plan visits))
 
   -- the first visit
-  pub look : (core new : CoreNumbers) (parts : List (StagePart S K P)) (cells : List Cell) (goes : Goes in_seen out_seen rule stands begun core parts cells) (k : ℕ) (news : News) → k ≤ suc core.plan.plugins → (marks_in core k).ended ≡ None
+  pub look : (core new : CoreNumbers) (parts : List (StagePart S K P)) (cells : List Cell) (goes : IsRunning in_seen out_seen rule stands begun core parts cells) (k : ℕ) (news : News) → k ≤ suc core.plan.plugins → (progress_of_core core k).ended ≡ None
       → new.plan ≡ core.plan
       → ((state : ChainState) (gave : List Cell) → length gave ≡ 0 → StandsFor core state → StandsFor new (visited core.plan state (visit_of k gave nothing_told)))
       → ((state : ChainState) (gave : List Cell) → length gave ≡ 0 → StandsFor core state → news ≡ news_after core.plan state (visit_of k gave nothing_told))
@@ -116,8 +116,8 @@ module _ {S K P : Type 0} (in_seen : S → SourceView) (out_seen : K → SinkVie
       subst (λ (s : ChainState). StandsFor new s) (sym (after-visit begun.plan goes.runs.visits quiet))
       (subst (λ (p : CorePlan). StandsFor new (visited p state quiet)) goes.fits.plan_is (visited_is state [] refl by.numbers)) in
       let changed = change laws begun.plan goes.fits.lawful.users goes.runs.visits quiet (by.run, allowed) in
-      let told : news ≡ news_of begun.plan (marks_of (state_after begun.plan (quiet ∷ goes.runs.visits))) k =
-      subst (λ (s : ChainState). news ≡ news_of begun.plan (marks_of s) k) (sym (after-visit begun.plan goes.runs.visits quiet))
+      let told : news ≡ news_of begun.plan (progress_of_stages (state_after begun.plan (quiet ∷ goes.runs.visits))) k =
+      subst (λ (s : ChainState). news ≡ news_of begun.plan (progress_of_stages s) k) (sym (after-visit begun.plan goes.runs.visits quiet))
       (subst (λ (p : CorePlan). news ≡ news_after p state quiet) goes.fits.plan_is (news_is state [] refl by.numbers)) in
       record {
         fits = record {
@@ -145,39 +145,39 @@ module _ {S K P : Type 0} (in_seen : S → SourceView) (out_seen : K → SinkVie
     abbrev now : ChainState
     now = state_after begun.plan looked.visits
 
-    mark-is : marks_in core k ≡ marks_of now k
-    mark-is = looked.by.numbers.marks k
+    mark-is : progress_of_core core k ≡ progress_of_stages now k
+    mark-is = looked.by.numbers.progress k
 
-    pub work-written : news.written ≤ (marks_in core k).given
+    pub work-written : news.written ≤ (progress_of_core core k).given
     work-written =
         let a = written-below in_seen out_seen rule stands begun laws looked.fits.lawful looked.fits.rules_are (far core (length parts) (length cells) looked.fits) core core parts cells looked.visits looked.part looked.lists looked.by k looked.is_stage looked.open_ news looked.told in
-        let b : (marks_in core k).given ≡ length (now.stages k).given = ap (λ (m : Mark). m.given) mark-is in omega arith
+        let b : (progress_of_core core k).given ≡ length (now.stages k).given = ap (λ (m : Progress). m.given) mark-is in omega arith
 
-    pub work-given : (marks_in core k).given ≤ news.taken
+    pub work-given : (progress_of_core core k).given ≤ news.taken
     work-given =
         let a = given-below in_seen out_seen rule stands begun laws looked.fits.lawful looked.fits.rules_are (far core (length parts) (length cells) looked.fits) core core parts cells looked.visits looked.part looked.lists looked.by k looked.is_stage looked.open_ news looked.told in
-        let b : (marks_in core k).given ≡ length (now.stages k).given = ap (λ (m : Mark). m.given) mark-is in omega arith
+        let b : (progress_of_core core k).given ≡ length (now.stages k).given = ap (λ (m : Progress). m.given) mark-is in omega arith
 
     pub work-taken : news.taken ≤ 2 ^ 60
     work-taken =
         let a = taken-below laws begun.plan looked.fits.lawful.users looked.visits looked.by.run k in
         let b : news.taken ≡ (now.stages k).taken = ap (λ (n : News). n.taken) looked.told in omega arith
 
-    pub work-stands : (d : StagePart S K P) → MayWorkOnSome (PartStands in_seen out_seen rule stands (slice_index_or parts k d)) (marks_in core k).given news.written
+    pub work-stands : (d : StagePart S K P) → MayWorkOnSome (PartStands in_seen out_seen rule stands (slice_index_or parts k d)) (progress_of_core core k).given news.written
     work-stands d =
-        let b : (marks_in core k).given ≡ length (now.stages k).given = ap (λ (m : Mark). m.given) mark-is in
-        subst (λ (p : StagePart S K P). MayWorkOnSome (PartStands in_seen out_seen rule stands p) (marks_in core k).given news.written) (sym (looked.by.parts_are k d looked.is_stage))
+        let b : (progress_of_core core k).given ≡ length (now.stages k).given = ap (λ (m : Progress). m.given) mark-is in
+        subst (λ (p : StagePart S K P). MayWorkOnSome (PartStands in_seen out_seen rule stands p) (progress_of_core core k).given news.written) (sym (looked.by.parts_are k d looked.is_stage))
         (subst (λ n. MayWorkOnSome (PartStands in_seen out_seen rule stands (looked.part k)) n news.written) (sym b)
         (record { lists = looked.lists k; may = may in_seen out_seen rule stands begun laws looked.fits.lawful looked.fits.rules_are (far core (length parts) (length cells) looked.fits) core core parts cells looked.visits looked.part looked.lists looked.by k looked.is_stage looked.open_ news looked.told }))
 
     -- ---- the second visit
 
-    module _ (parts_new : List (StagePart S K P)) (cells_new : List Cell) (work : Work) (works : StageWorks in_seen out_seen rule stands parts parts_new cells cells_new k (marks_in core k).given news work) where
+    module _ (parts_new : List (StagePart S K P)) (cells_new : List Cell) (work : Work) (works : StageWorks in_seen out_seen rule stands parts parts_new cells cells_new k (progress_of_core core k).given news work) where
       abbrev at : ℕ
       at = length (now.stages k).given
 
-      at-is : (marks_in core k).given ≡ at
-      at-is = ap (λ (m : Mark). m.given) mark-is
+      at-is : (progress_of_core core k).given ≡ at
+      at-is = ap (λ (m : Progress). m.given) mark-is
 
       -- the same, in the words of the state
       pub here : StageWorks in_seen out_seen rule stands parts parts_new cells cells_new k at news work
@@ -212,29 +212,29 @@ module _ {S K P : Type 0} (in_seen : S → SourceView) (out_seen : K → SinkVie
           let known : news.limit ≡ Some limit = ap (λ (n : News). n.limit) looked.told ∙ (sym (looked.limit_told o) ∙ is) in
           subst (λ n. n + work.done ≤ limit) may-now.given (did.below limit known some)
 
-      may-state : MayVisit begun.plan (marks_of now) now.told k work.done work.word
+      may-state : MayVisit begun.plan (progress_of_stages now) now.told k work.done work.word
       may-state = record {
         is_stage = looked.is_stage;
         goes_on = looked.open_;
         held = (let a = given-le in let b = taken-is in omega arith);
         agreement = λ agreed e. inl (worked.agreed agreed e);
         below_limit = below;
-        follows = λ e. follows-news begun.plan (marks_of now) k (at + work.done)
+        follows = λ e. follows-news begun.plan (progress_of_stages now) k (at + work.done)
             (subst (λ (n : News). may_follow n (at + work.done) ≡ true) looked.told (subst (λ t. FollowsNews news (at + work.done) t) e worked.follows));
       }
 
       -- the second visit may be made
-      pub work-may : MayVisit core.plan (marks_in core) core.told k work.done work.word
+      pub work-may : MayVisit core.plan (progress_of_core core) core.told k work.done work.word
       work-may = to-core core now k work.done work.word looked.fits.plan_is looked.by.numbers may-state
 
       -- and then the chain goes on
       pub turned : (new : CoreNumbers) → new.plan ≡ core.plan
           → ((state : ChainState) (gave : List Cell) → length gave ≡ work.done → StandsFor core state → StandsFor new (visited core.plan state (visit_of k gave work.word)))
-          → Goes in_seen out_seen rule stands begun new parts_new cells_new
+          → IsRunning in_seen out_seen rule stands begun new parts_new cells_new
       turned new plan_same visited_is =
           let given : List Cell = take work.done here.window_new in
           let visit : Visit = visit_of k given work.word in
-          let allowed : Allowed begun.plan now visit = subst (λ n. MayVisit begun.plan (marks_of now) now.told k n work.word) (sym works-length) may-state in
+          let allowed : Allowed begun.plan now visit = subst (λ n. MayVisit begun.plan (progress_of_stages now) now.told k n work.word) (sym works-length) may-state in
           let numbers : StandsFor new (state_after begun.plan (visit ∷ looked.visits)) =
           subst (λ (s : ChainState). StandsFor new s) (sym (after-visit begun.plan looked.visits visit))
           (subst (λ (p : CorePlan). StandsFor new (visited p now visit)) looked.fits.plan_is (visited_is now given works-length looked.by.numbers)) in

@@ -17,7 +17,7 @@ use Rattle.chain_core.specs.declared.stage_end.StageEnd.TheVariants.{WriteFault}
 use Rattle.chain_core.specs.declared.stage_word.StageWord.{StageWord}
 use Rattle.chain_core.specs.Stages.{stages_of}
 use Rattle.chain_core.specs.Numbers.{written_of, limit_of, news_of}
-use Rattle.chain_core.specs.Machine.{ChainState, StageState, Visit, marks_of, visit_of, Allowed}
+use Rattle.chain_core.specs.Machine.{ChainState, StageState, Visit, progress_of_stages, visit_of, Allowed}
 use Rattle.chain_core.specs.ChainRun.{ChainRun, state_after, took}
 use Rattle.chain_core.specs.CoreNumbers.{CoreNumbers, IsLawfulPlan, StandsFor}
 use Rattle.chain_core.specs.Keeps.{Keeps, StageKeeps}
@@ -33,7 +33,7 @@ use Rattle.stage_run.specs.Telling.{below_limit}
 use Rattle.stage_run.specs.Works.{Works, WorksByKind, OutputTells, KeepsRule, read_for}
 use Rattle.chain_run.specs.RunOf.{MayRead}
 use Rattle.chain_run.specs.Slots.{slot, HoldsFrom}
-use Rattle.chain_run.specs.Runs.{between, Begun, PartAt, InputAt, PluginAt, FailedAt, OutputAt, KeptFor, RunsBy}
+use Rattle.chain_run.specs.Runs.{between, RunStart, PartAt, InputAt, PluginAt, FailedAt, OutputAt, KeptFor, RunsBy}
 use Rattle.chain_run.specs.Working.{PartWorks}
 use Rattle.chain_run.proofs.MachineLaws.{MachineLaws, change, stage-other, written-grows, given-falls, given-taken, taken-given, taken-falls, written-given, taken-ahead}
 use Rattle.chain_run.proofs.SlotLemmas.{holds-append, holds-take, holds-drop, holds-same, over_row, row-reads, row-written, row-other}
@@ -85,13 +85,13 @@ below-both : (limit : Option ℕ) (at' len' at len done : ℕ) → at' ≡ at �
 below-both None at' len' at len done a b lt = (omega arith, λ l is. cc)
 below-both (Some m) at' len' at len done a b lt = (omega arith, λ l is. let same : m ≡ l = cc in omega arith)
 
-module _ {S K P : Type 0} (in_seen : S → SourceView) (out_seen : K → SinkView) (rule : P → PluginRule) (stands : P → List Cell → ℕ → Type 0) (begun : Begun S K)
+module _ {S K P : Type 0} (in_seen : S → SourceView) (out_seen : K → SinkView) (rule : P → PluginRule) (stands : P → List Cell → ℕ → Type 0) (begun : RunStart S K)
     (laws : MachineLaws) (lawful : IsLawfulPlan begun.plan) (rules_are : length begun.rules ≡ begun.plan.plugins)
     (so_far : (input : StageList) (visits : List Visit) → KeptFor in_seen out_seen rule stands begun visits input → ChainRun begun.plan visits → SoFar begun.plan begun.rules input (state_after begun.plan visits))
     (core new_core : CoreNumbers) (parts : List (StagePart S K P)) (cells : List Cell) (visits : List Visit) (part : ℕ → StagePart S K P) (lists : ℕ → PartLists)
     (by : RunsBy in_seen out_seen rule stands begun core parts cells visits part lists)
     (k : ℕ) (is_stage : k ≤ suc begun.plan.plugins) (ended : ((state_after begun.plan visits).stages k).ended ≡ None)
-    (news : News) (told : news ≡ news_of begun.plan (marks_of (state_after begun.plan visits)) k) where
+    (news : News) (told : news ≡ news_of begun.plan (progress_of_stages (state_after begun.plan visits)) k) where
   abbrev old : ChainState
   old = state_after begun.plan visits
 
@@ -99,7 +99,7 @@ module _ {S K P : Type 0} (in_seen : S → SourceView) (out_seen : K → SinkVie
   at = length (old.stages k).given
 
   abbrev low : ℕ
-  low = written_of begun.plan (marks_of old)
+  low = written_of begun.plan (progress_of_stages old)
 
   part-at : (i : ℕ) → i ≤ suc begun.plan.plugins → PartAt in_seen out_seen rule stands begun (part i) i (lists i) old
   part-at zero le = by.input.at
@@ -193,7 +193,7 @@ module _ {S K P : Type 0} (in_seen : S → SourceView) (out_seen : K → SinkVie
       given_same : (j : ℕ) → j ≢ k → (new.stages j).given ≡ (old.stages j).given
       given_same j apart = ap (λ (s : StageState). s.given) (other j apart)
 
-      grows : low ≤ written_of begun.plan (marks_of new)
+      grows : low ≤ written_of begun.plan (progress_of_stages new)
       grows = written-grows laws begun.plan lawful.users visits (visit_of k given word) run
 
       taken-within : (old.stages k).taken ≤ low + begun.plan.buffer
@@ -220,12 +220,12 @@ module _ {S K P : Type 0} (in_seen : S → SourceView) (out_seen : K → SinkVie
         own-less : (input : StageList) → PartGives in_seen new_part after input → PartGives in_seen (part 0) (lists 0) input
         own-less input gives = subst (λ i. PartGives in_seen (part i) (lists i) input) (sym first) (did.gives input gives)
 
-        reads-within : MayRead begun.plan.buffer (written_of begun.plan (marks_of new)) (length after.read)
+        reads-within : MayRead begun.plan.buffer (written_of begun.plan (progress_of_stages new)) (length after.read)
         reads-within =
             let lists-length : length (lists k).given ≡ at = ap (λ (l : List Cell). length l) (part-at k is_stage).given in
             let reads : length after.read ≤ 188 * read_for at len =
             subst (λ n. length after.read ≤ 188 * read_for at n) window-length (subst (λ n. length after.read ≤ 188 * read_for n (length window)) lists-length did.reads) in
-            may_read begun.plan.buffer (written_of begun.plan (marks_of new)) at len (length after.read) reads (let a = taken-within in let b = in_taken in let c = grows in omega arith)
+            may_read begun.plan.buffer (written_of begun.plan (progress_of_stages new)) at len (length after.read) reads (let a = taken-within in let b = in_taken in let c = grows in omega arith)
 
         own-input : InputAt in_seen out_seen rule stands begun new_part after new
         own-input = record {
@@ -357,7 +357,7 @@ module _ {S K P : Type 0} (in_seen : S → SourceView) (out_seen : K → SinkVie
                 | inl before ↦ before
                 | inr due ↦ (let far = so_far input visits (by.kept input (less input gives)) by.run in
                     let few = cut-before.0 in
-                    let known : limit_of begun.plan (marks_of old) ≡ Some joint = far.limit_when_due joint is (λ i below. let a = taken-falls laws begun.plan lawful.users visits by.run k i (omega (arith, e)) in let b = in_taken in omega arith) in
+                    let known : limit_of begun.plan (progress_of_stages old) ≡ Some joint = far.limit_when_due joint is (λ i below. let a = taken-falls laws begun.plan lawful.users visits by.run k i (omega (arith, e)) in let b = in_taken in omega arith) in
                     cut-before.1 joint (ap (λ (n : News). n.limit) told ∙ known))
               ]
 

@@ -11,12 +11,12 @@ use Rattle.chain_model.specs.Joint.{joint_position}
 use Rattle.chain_model.specs.Stuffed.{position_limit}
 use Rattle.chain_model.specs.Stuffed as model
 use Rattle.chain_core.specs.declared.core_plan.CorePlan.{CorePlan}
-use Rattle.chain_core.specs.declared.mark.Mark.{Mark}
+use Rattle.chain_core.specs.declared.progress.Progress.{Progress}
 use Rattle.chain_core.specs.declared.stage_end.StageEnd.TheVariants.{WriteFault}
 use Rattle.chain_core.specs.declared.stage_word.StageWord.{StageWord}
 use Rattle.chain_core.specs.Stages.{stages_of}
-use Rattle.chain_core.specs.Numbers.{Marks, written_of, reach_of, MayFollow}
-use Rattle.chain_core.specs.Machine.{ChainState, Visit, marks_of}
+use Rattle.chain_core.specs.Numbers.{StagesProgress, written_of, reach_of, MayFollow}
+use Rattle.chain_core.specs.Machine.{ChainState, Visit, progress_of_stages}
 use Rattle.chain_core.specs.ChainRun.{ChainRun, state_after, took}
 use Rattle.chain_core.specs.CoreNumbers.{CoreNumbers, IsLawfulPlan, StandsFor}
 use Rattle.chain_core.specs.Keeps.{AllKeep, StageKeeps}
@@ -39,7 +39,7 @@ abbrev pub between : ChainState → ℕ → List Cell
 between state k = drop (length (state.stages (suc k)).given) (state.stages k).given
 
 -- what a run began with: its ends, its stuffing, the rules of its plugins and its plan
-pub record Begun (S K : Type 0) : Type 0 where
+pub record RunStart (S K : Type 0) : Type 0 where
   pub from : InputPart S
   pub to : OutputPart K
   pub stuffing : model.Stuffing
@@ -47,7 +47,7 @@ pub record Begun (S K : Type 0) : Type 0 where
   pub plan : CorePlan
 
 -- the numbers of a run go together
-pub record Fits {S K : Type 0} (begun : Begun S K) (core : CoreNumbers) (stages slots : ℕ) : Type 0 where
+pub record NumbersFit {S K : Type 0} (begun : RunStart S K) (core : CoreNumbers) (stages slots : ℕ) : Type 0 where
   pub plan_is : core.plan ≡ begun.plan
   pub lawful : IsLawfulPlan begun.plan
   pub stages_are : stages ≡ begun.plan.plugins + 2
@@ -55,12 +55,12 @@ pub record Fits {S K : Type 0} (begun : Begun S K) (core : CoreNumbers) (stages 
   pub rules_are : length begun.rules ≡ begun.plan.plugins
   pub agree_late : All (λ rule. rule.agrees [] ≡ false) begun.rules
 
-module _ {S K P : Type 0} (in_seen : S → SourceView) (out_seen : K → SinkView) (rule : P → PluginRule) (stands : P → List Cell → ℕ → Type 0) (begun : Begun S K) where
+module _ {S K P : Type 0} (in_seen : S → SourceView) (out_seen : K → SinkView) (rule : P → PluginRule) (stands : P → List Cell → ℕ → Type 0) (begun : RunStart S K) where
   -- a part stands for these lists, which are those of stage `k`
   pub record PartAt (part : StagePart S K P) (k : ℕ) (lists : PartLists) (state : ChainState) : Type 0 where
     pub stands_for : PartStands in_seen out_seen rule stands part lists (state.stages k).ended
     pub given : lists.given ≡ (state.stages k).given
-    pub mark : lists.mark ≤ written_of begun.plan (marks_of state)
+    pub mark : lists.mark ≤ written_of begun.plan (progress_of_stages state)
 
   -- the input's stage
   pub record InputAt (part : StagePart S K P) (lists : PartLists) (state : ChainState) : Type 0 where
@@ -69,7 +69,7 @@ module _ {S K P : Type 0} (in_seen : S → SourceView) (out_seen : K → SinkVie
     pub stuffing_is : stuffing_in part ≡ Some begun.stuffing
     pub stream : has_stream part ≡ has_source begun.from
     pub source : IsSourceOf in_seen begun.from lists.source
-    pub within : MayRead begun.plan.buffer (written_of begun.plan (marks_of state)) (length lists.read)
+    pub within : MayRead begun.plan.buffer (written_of begun.plan (progress_of_stages state)) (length lists.read)
 
   -- the stage of the plugin behind `j` others
   pub record PluginAt (part : StagePart S K P) (j : ℕ) (lists : PartLists) (state : ChainState) : Type 0 where
@@ -123,20 +123,20 @@ module _ {S K P : Type 0} (in_seen : S → SourceView) (out_seen : K → SinkVie
     pub by : RunsBy core parts cells visits part lists
 
 -- how much a stage can still do: cells to give, and its end
-abbrev pub still_of : Mark → ℕ
+abbrev pub still_of : Progress → ℕ
 still_of mark = (2 ^ 60 - mark.given) + (if is_some mark.ended then 0 else 1)
 
 -- how much the stages below a number can still do
-abbrev pub still_below : Marks → ℕ → ℕ
-still_below marks zero = 0
-still_below marks (suc n) = still_below marks n + still_of (marks n)
+abbrev pub remaining_work : StagesProgress → ℕ → ℕ
+remaining_work progress zero = 0
+remaining_work progress (suc n) = remaining_work progress n + still_of (progress n)
 
 -- a stage that goes on has nothing to do
-pub record IsIdle (plan : CorePlan) (marks : Marks) (k : ℕ) : Type 0 where
-  pub took_all : reach_of plan marks k ≤ (marks k).taken
-  pub gave_all : (marks k).taken ≤ (marks k).given
-  pub not_following : MayFollow plan marks k (marks k).given → ⊥
-  pub input_below : k ≡ 0 → (marks k).given < position_limit
+pub record IsIdle (plan : CorePlan) (progress : StagesProgress) (k : ℕ) : Type 0 where
+  pub took_all : reach_of plan progress k ≤ (progress k).taken
+  pub gave_all : (progress k).taken ≤ (progress k).given
+  pub not_following : MayFollow plan progress k (progress k).given → ⊥
+  pub input_below : k ≡ 0 → (progress k).given < position_limit
 
-abbrev pub IsIdleOrOver : CorePlan → Marks → ℕ → Type 0
-IsIdleOrOver plan marks k = (marks k).ended ≡ None → IsIdle plan marks k
+abbrev pub IsIdleOrOver : CorePlan → StagesProgress → ℕ → Type 0
+IsIdleOrOver plan progress k = (progress k).ended ≡ None → IsIdle plan progress k

@@ -12,17 +12,17 @@ use Rattle.stage_run.specs.PartLists.{PartLists}
 use Rattle.stage_run.specs.PartStands.{PartStands, MayWork, rule_of, kind_of, stuffing_in, has_stream}
 use Rattle.stage_run.specs.Telling.{FollowsNews}
 use Rattle.stage_run.specs.Works.{Works, WorksByKind}
-use Rattle.chain_run.specs.Runs.{Begun, Fits, Runs}
+use Rattle.chain_run.specs.Runs.{RunStart, NumbersFit, Runs}
 
 module _ {S K P : Type 0} (in_seen : S → SourceView) (out_seen : K → SinkView) (rule : P → PluginRule) (stands : P → List Cell → ℕ → Type 0) where
   -- a chain that runs, as it began
-  pub record Goes (begun : Begun S K) (core : CoreNumbers) (parts : List (StagePart S K P)) (cells : List Cell) : Type 0 where
-    pub fits : Fits begun core (length parts) (length cells)
+  pub record IsRunning (begun : RunStart S K) (core : CoreNumbers) (parts : List (StagePart S K P)) (cells : List Cell) : Type 0 where
+    pub fits : NumbersFit begun core (length parts) (length cells)
     pub runs : Runs in_seen out_seen rule stands begun core parts cells
 
   -- a chain that runs, however it began
-  abbrev pub RunsSomehow : CoreNumbers → List (StagePart S K P) → List Cell → Type 0
-  RunsSomehow core parts cells = (begun : Begun S K) × Goes begun core parts cells
+  abbrev pub IsRunningSomehow : CoreNumbers → List (StagePart S K P) → List Cell → Type 0
+  IsRunningSomehow core parts cells = (begun : RunStart S K) × IsRunning begun core parts cells
 
   -- a part worked on a window that begins at a position
   pub record PartWorks (old new : StagePart S K P) (at : ℕ) (news : News) (window window_new : List Cell) (work : Work) : Type 0 where

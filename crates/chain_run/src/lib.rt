@@ -5,7 +5,7 @@
 
 mod parts;
 mod run_end;
-mod serial;
+mod serial_chain;
 mod serial_run;
 mod stages;
 

@@ -6,27 +6,27 @@ ghost use Rattle.chain_run.specs.Fresh.{AreFresh};
 ghost use Rattle.chain_run.specs.RunOf.{RunOf, NeverBegan};
 
 use crate::parts::{add_plugins, take_plugins};
-use crate::serial::Serial;
+use crate::serial_chain::SerialChain;
 use crate::{RunEnd, Stages};
 use chain_core::{Core, CorePlan, every_order, more_cells, news_promises, one_visit};
 use plugin_trait::Plugin;
-use stage_run::{Room, StagePart};
+use stage_run::{IoBuffer, StagePart};
 use std::alloc::{AllocError, Global};
 use ts_outside::{Gate, Sink, Source};
 use ts_packet::Cell;
 
 /// The memory of a run, but for its stages.
 #[derive(Drop)]
-struct Store {
+struct RunMemory {
     core: Core,
     cells: Vec<Cell>,
-    input_room: Room,
-    output_room: Room,
+    input_room: IoBuffer,
+    output_room: IoBuffer,
 }
 
-impl Store {
+impl RunMemory {
     /// Takes the memory for a chain with this plan. After an `AllocError` nothing is taken.
-    fn new(alloc: Global, plan: &CorePlan) -> Result<Store, AllocError>
+    fn new(alloc: Global, plan: &CorePlan) -> Result<RunMemory, AllocError>
         requires { IsLawfulPlan plan.now }
         ensures plan { IfOk result (λ store. store.core.plan ≡ plan.now) }
         ensures fresh { IfOk result (λ store. StandsFor store.core start) }
@@ -35,9 +35,9 @@ impl Store {
         let window = plan.most.min(plan.buffer);
         let core = Core::new(alloc, plan)?;
         let cells = vec![in alloc; Cell::Dropped; plan.buffer]?;
-        let input_room = Room::new(alloc, window)?;
-        let output_room = Room::new(alloc, window)?;
-        Ok(Store {
+        let input_room = IoBuffer::new(alloc, window)?;
+        let output_room = IoBuffer::new(alloc, window)?;
+        Ok(RunMemory {
             core,
             cells,
             input_room,
@@ -72,7 +72,7 @@ pub fn run_serial<S: Source, K: Sink, P: Plugin, G: Gate>(
         mut plugins,
         output,
     } = stages;
-    let Ok(store) = Store::new(alloc, plan) else {
+    let Ok(store) = RunMemory::new(alloc, plan) else {
         return RunEnd {
             input,
             plugins,
@@ -88,7 +88,7 @@ pub fn run_serial<S: Source, K: Sink, P: Plugin, G: Gate>(
             closed: Err(AllocError),
         };
     };
-    let Store {
+    let RunMemory {
         core,
         cells,
         input_room,
@@ -101,9 +101,9 @@ pub fn run_serial<S: Source, K: Sink, P: Plugin, G: Gate>(
     news_promises();
     more_cells();
     every_order();
-    let mut serial = Serial { core, parts, cells };
+    let mut serial = SerialChain { core, parts, cells };
     serial.run(sizes, gate);
-    let Serial {
+    let SerialChain {
         core,
         mut parts,
         cells: _,

@@ -4,7 +4,7 @@ use Rattle.ts_packet.specs.declared.cell.Cell.{Cell}
 use Rattle.ts_packet.specs.declared.cell.Cell.TheVariants.{Live}
 use Rattle.ts_packet.specs.Cells.{live_packets}
 use Rattle.ts_packet.specs.Header.{unit_start_of}
-use Rattle.chain_model.specs.PluginRule.{PluginRule, Fate, passes, lasts, stops}
+use Rattle.chain_model.specs.PluginRule.{PluginRule, RuleOutcome, passes, lasts, stops}
 use Rattle.plugin_trait.specs.LiveCount.{live_count}
 use Rattle.plug_conf.specs.declared.until_conf.UntilConf.{UntilConf}
 
@@ -24,15 +24,15 @@ is_reached conf cells = reaches (live_count cells) conf.packets
 
 -- what becomes of a packet with which the number is reached: it passes like any other where the end is
 -- a joint one, and else it is the last, or is left out
-abbrev pub fate_at_end : UntilConf → List ℕ → Fate
-fate_at_end conf packet =
+abbrev pub outcome_at_end : UntilConf → List ℕ → RuleOutcome
+outcome_at_end conf packet =
     if conf.joint_termination then passes packet else if conf.exclude_last then stops else lasts packet
 
 -- packets pass until the number is reached with one; where the end is a joint one, every packet passes,
 -- and the plugin agrees to end wherever the number is reached
 abbrev pub until_rule : UntilConf → PluginRule
 until_rule conf = record {
-  outcome_of = λ history packet. if is_reached conf (history ++ Live packet ∷ []) then fate_at_end conf packet else passes packet;
+  outcome_of = λ history packet. if is_reached conf (history ++ Live packet ∷ []) then outcome_at_end conf packet else passes packet;
   lines_of = λ _ _. [];
   summary_of = λ _. [];
   agrees = λ history. conf.joint_termination && is_reached conf history;

@@ -3,7 +3,7 @@ use Rattle.std.specs.Prelude.{◌≡◌, ◌<◌, ℕ, List, [], ◌∷◌, leng
 use Rattle.std.specs.List.{slice_index_or}
 use Rattle.ts_packet.specs.Header.{pid_of, with_pid}
 use Rattle.chain_model.specs.declared.reason.Reason.TheVariants.{Pid}
-use Rattle.chain_model.specs.PluginRule.{PluginRule, Fate, passes, refuses}
+use Rattle.chain_model.specs.PluginRule.{PluginRule, RuleOutcome, passes, refuses}
 use Rattle.plug_conf.specs.Limits.{pid_bound}
 use Rattle.plug_conf.specs.Remap.{is_target}
 use Rattle.plug_conf.specs.declared.remap_conf.RemapConf.{RemapConf}
@@ -25,15 +25,15 @@ abbrev pub move_of : List (ℕ × ℕ) → Bool → ℕ → Move
 move_of pairs unchecked pid = move_by (target_of pairs pid) (not unchecked && is_target pid pairs)
 
 -- what a move makes of a packet
-abbrev pub fate_of_move : Move → List ℕ → Fate
-fate_of_move Keep packet = passes packet
-fate_of_move (To target) packet = passes (with_pid packet target)
-fate_of_move Refuse packet = refuses (Pid (pid_of packet))
+abbrev pub outcome_of_move : Move → List ℕ → RuleOutcome
+outcome_of_move Keep packet = passes packet
+outcome_of_move (To target) packet = passes (with_pid packet target)
+outcome_of_move Refuse packet = refuses (Pid (pid_of packet))
 
 -- each packet is moved by its PID; tables are left as they are
 abbrev pub remap_rule : RemapConf → PluginRule
 remap_rule conf = record {
-  outcome_of = λ _ packet. fate_of_move (move_of conf.operand conf.unchecked (pid_of packet)) packet;
+  outcome_of = λ _ packet. outcome_of_move (move_of conf.operand conf.unchecked (pid_of packet)) packet;
   lines_of = λ _ _. [];
   summary_of = λ _. [];
   agrees = λ _. false;

@@ -3,7 +3,7 @@ use Rattle.std.specs.Prelude.{ℕ, List, [], Bool, false, not, is_some, ◌==◌
 use Rattle.ts_packet.specs.Packet.{null_packet}
 use Rattle.ts_packet.specs.Header.{pid_of, unit_start_of, scrambling_of}
 use Rattle.ts_packet.specs.Pcr.{pcr_of}
-use Rattle.chain_model.specs.PluginRule.{PluginRule, Fate, passes, drops}
+use Rattle.chain_model.specs.PluginRule.{PluginRule, RuleOutcome, passes, drops}
 use Rattle.plug_conf.specs.NumberSet.{has_number}
 use Rattle.plug_conf.specs.declared.filter_conf.FilterConf.{FilterConf}
 
@@ -19,7 +19,7 @@ abbrev pub is_kept : FilterConf → List ℕ → Bool
 is_kept conf packet = if conf.negate then not (meets_condition conf packet) else meets_condition conf packet
 
 -- what becomes of a packet that does not pass: it is dropped, or becomes a null packet
-abbrev pub left_out : Bool → Fate
+abbrev pub left_out : Bool → RuleOutcome
 left_out stuffing = if stuffing then passes null_packet else drops
 
 -- a packet that meets a condition passes, or with `negate` one that meets none; the others are left out

@@ -1,52 +1,52 @@
 -- The rule of `slice`. This project's own rule.
 use Rattle.std.specs.Prelude.{ℕ, List, [], ◌∷◌, Option, None, Some, false, nat_le, filter, if◌then◌else◌}
 use Rattle.ts_packet.specs.Packet.{null_packet}
-use Rattle.chain_model.specs.PluginRule.{PluginRule, Fate, passes, drops, stops}
+use Rattle.chain_model.specs.PluginRule.{PluginRule, RuleOutcome, passes, drops, stops}
 use Rattle.plug_conf.specs.declared.slice_conf.SliceConf.{SliceConf}
 use Rattle.plugin_trait.specs.LiveCount.{live_count}
-use Rattle.plug_pass.specs.declared.deed.Deed.{Deed}
-use Rattle.plug_pass.specs.declared.deed.Deed.TheVariants.{Drop, Null, Pass, Stop}
-use Rattle.plug_pass.specs.declared.deed.Turn.{Turn}
+use Rattle.plug_pass.specs.declared.slice_action.SliceAction.{SliceAction}
+use Rattle.plug_pass.specs.declared.slice_action.SliceAction.TheVariants.{Drop, Null, Pass, Stop}
+use Rattle.plug_pass.specs.declared.slice_action.SliceStart.{SliceStart}
 
--- an option that is given is a turn in front of the others
-abbrev pub with_turn : Option ℕ → Deed → List Turn → List Turn
-with_turn None deed turns = turns
-with_turn (Some n) deed turns = record { from = n; deed = deed } ∷ turns
+-- an option that is given is a start in front of the others
+abbrev pub with_start : Option ℕ → SliceAction → List SliceStart → List SliceStart
+with_start None action starts = starts
+with_start (Some n) action starts = record { from = n; action = action } ∷ starts
 
--- the turns that the options give
-abbrev pub turns_of : SliceConf → List Turn
-turns_of conf = with_turn conf.drop Drop (with_turn conf.null Null (with_turn conf.pass Pass (with_turn conf.stop Stop [])))
+-- the starts that the options give
+abbrev pub starts_of : SliceConf → List SliceStart
+starts_of conf = with_start conf.drop Drop (with_start conf.null Null (with_start conf.pass Pass (with_start conf.stop Stop [])))
 
--- the later of a turn and one that may be wanting
-abbrev pub later_turn : Turn → Option Turn → Option Turn
-later_turn turn None = Some turn
-later_turn turn (Some other) = if nat_le turn.from other.from then Some other else Some turn
+-- the later of a start and one that may be wanting
+abbrev pub later_start : SliceStart → Option SliceStart → Option SliceStart
+later_start start None = Some start
+later_start start (Some other) = if nat_le start.from other.from then Some other else Some start
 
--- the turn with the greatest number
-abbrev pub last_turn : List Turn → Option Turn
-last_turn [] = None
-last_turn (turn ∷ turns) = later_turn turn (last_turn turns)
+-- the start with the greatest number
+abbrev pub last_start : List SliceStart → Option SliceStart
+last_start [] = None
+last_start (start ∷ starts) = later_start start (last_start starts)
 
--- the turns that have come at a live index: those with no greater number
-abbrev pub turns_come : ℕ → List Turn → List Turn
-turns_come index turns = filter (λ turn. nat_le turn.from index) turns
+-- the starts that have come at a live index: those with no greater number
+abbrev pub starts_come : ℕ → List SliceStart → List SliceStart
+starts_come index starts = filter (λ start. nat_le start.from index) starts
 
--- what the last turn says; before any, packets pass
-abbrev pub deed_of : Option Turn → Deed
-deed_of None = Pass
-deed_of (Some turn) = turn.deed
+-- what the last start says; before any, packets pass
+abbrev pub action_of : Option SliceStart → SliceAction
+action_of None = Pass
+action_of (Some start) = start.action
 
--- what a deed makes of a packet
-abbrev pub fate_by : Deed → List ℕ → Fate
-fate_by Drop packet = drops
-fate_by Null packet = passes null_packet
-fate_by Pass packet = passes packet
-fate_by Stop packet = stops
+-- what a action makes of a packet
+abbrev pub outcome_by : SliceAction → List ℕ → RuleOutcome
+outcome_by Drop packet = drops
+outcome_by Null packet = passes null_packet
+outcome_by Pass packet = passes packet
+outcome_by Stop packet = stops
 
--- of the turns that have come at the packet's live index, the last one decides
+-- of the starts that have come at the packet's live index, the last one decides
 abbrev pub slice_rule : SliceConf → PluginRule
 slice_rule conf = record {
-  outcome_of = λ history packet. fate_by (deed_of (last_turn (turns_come (live_count history) (turns_of conf)))) packet;
+  outcome_of = λ history packet. outcome_by (action_of (last_start (starts_come (live_count history) (starts_of conf)))) packet;
   lines_of = λ _ _. [];
   summary_of = λ _. [];
   agrees = λ _. false;

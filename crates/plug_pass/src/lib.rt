@@ -2,11 +2,11 @@
 //! The layer above makes each of its settings, and uses it by the clauses of `Plugin` alone.
 #![tactic(auto)]
 
-mod deed;
 mod filter;
 mod pattern;
 mod skip;
 mod slice;
+mod slice_action;
 
 pub use filter::Filter;
 pub use pattern::Pattern;

@@ -1,14 +1,14 @@
 ghost use Rattle.std.specs.Prelude.{◌≡◌, IfOk, List, [], Option, Some};
-ghost use Rattle.plug_pass.specs.declared.deed.Turn.{Turn as GivenTurn};
-ghost use Rattle.plug_pass.specs.SliceRule.{slice_rule, with_turn, last_turn, turns_come};
+ghost use Rattle.plug_pass.specs.declared.slice_action.SliceStart.{SliceStart as GivenStart};
+ghost use Rattle.plug_pass.specs.SliceRule.{slice_rule, with_start, last_start, starts_come};
 
-use crate::deed::{Deed, Turn};
+use crate::slice_action::{SliceAction, SliceStart};
 use plug_conf::SliceConf;
 use plugin_trait::{Line, Outcome, Plugin, silent_report};
 use std::alloc::{AllocError, Global};
 use ts_packet::{Cell, Packet};
 
-/// Drops, passes or overwrites packets by turns, or stops: of its options the one with the greatest
+/// Drops, passes or overwrites packets by starts, or stops: of its options the one with the greatest
 /// number that is not above the number of packets met before decides.
 #[derive(Drop, Debug)]
 pub struct Slice {
@@ -25,7 +25,7 @@ pub struct Slice {
 impl Slice {
     ghost use Rattle.std.specs.Prelude.{◌≡◌, [], Some, IfOk, ℕ};
     ghost use Rattle.plug_conf.specs.Slice.{IsLawfulSlice};
-    ghost use Rattle.plug_pass.specs.SliceRule.{slice_rule, deed_of, last_turn, turns_come, turns_of};
+    ghost use Rattle.plug_pass.specs.SliceRule.{slice_rule, action_of, last_start, starts_come, starts_of};
     ghost use Rattle.plug_pass.specs.SliceState.{conf_of};
 
     /// A plugin that met no cell yet. It takes no memory, here and in its steps.
@@ -47,36 +47,41 @@ impl Slice {
     }
 
     // What is done with the next packet.
-    fn deed(&self) -> Deed
-        ensures { result ≡ deed_of (last_turn (turns_come self.now.met (turns_of (conf_of self.now)))) }
+    fn action(&self) -> SliceAction
+        ensures { result ≡ action_of (last_start (starts_come self.now.met (starts_of (conf_of self.now)))) }
     {
-        match self.last_turn() {
-            Some(turn) => turn.deed,
-            None => Deed::Pass,
+        match self.last_start() {
+            Some(start) => start.action,
+            None => SliceAction::Pass,
         }
     }
 
-    // The turn that decides about the next packet.
-    fn last_turn(&self) -> Option<Turn>
-        ensures { result ≡ last_turn (turns_come self.now.met (turns_of (conf_of self.now))) }
+    // The start that decides about the next packet.
+    fn last_start(&self) -> Option<SliceStart>
+        ensures { result ≡ last_start (starts_come self.now.met (starts_of (conf_of self.now))) }
     {
-        let stop = turn_come(self.stop, Deed::Stop, self.met, None);
-        let pass = turn_come(self.pass, Deed::Pass, self.met, stop);
-        let null = turn_come(self.null, Deed::Null, self.met, pass);
-        turn_come(self.drop, Deed::Drop, self.met, null)
+        let stop = start_come(self.stop, SliceAction::Stop, self.met, None);
+        let pass = start_come(self.pass, SliceAction::Pass, self.met, stop);
+        let null = start_come(self.null, SliceAction::Null, self.met, pass);
+        start_come(self.drop, SliceAction::Drop, self.met, null)
     }
 }
 
-// The last turn that has come, where an option stands before those whose last turn is `last`.
-fn turn_come(from: Option<u64>, deed: Deed, index: u64, last: Option<Turn>) -> Option<Turn>
-    ensures { (turns : List GivenTurn) → last_turn (turns_come index turns) ≡ last
-        → last_turn (turns_come index (with_turn from deed turns)) ≡ result }
+// The last start that has come, where an option stands before those whose last start is `last`.
+fn start_come(
+    from: Option<u64>,
+    action: SliceAction,
+    index: u64,
+    last: Option<SliceStart>,
+) -> Option<SliceStart>
+    ensures { (starts : List GivenStart) → last_start (starts_come index starts) ≡ last
+        → last_start (starts_come index (with_start from action starts)) ≡ result }
 {
     match (from, last) {
-        (Some(from), None) if from <= index => Some(Turn { from, deed }),
-        (Some(from), Some(other)) if from <= index && other.from < from => Some(Turn {
+        (Some(from), None) if from <= index => Some(SliceStart { from, action }),
+        (Some(from), Some(other)) if from <= index && other.from < from => Some(SliceStart {
             from,
-            deed,
+            action,
         }),
         (_, last) => last,
     }
@@ -98,17 +103,17 @@ impl Plugin for Slice {
         let Cell::Live(packet) = cell else {
             return Outcome::Pass;
         };
-        let deed = self.deed();
-        if deed == Deed::Stop {
+        let action = self.action();
+        if action == SliceAction::Stop {
             return Outcome::Stop;
         }
         self.met += 1;
-        match deed {
-            Deed::Drop => {
+        match action {
+            SliceAction::Drop => {
                 *cell = Cell::Dropped;
                 Outcome::Drop
             }
-            Deed::Null => {
+            SliceAction::Null => {
                 *packet = Packet::null();
                 Outcome::Pass
             }

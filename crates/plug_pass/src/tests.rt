@@ -80,7 +80,7 @@ fn skip_drops_the_first(rt: HostRuntime) -> Result<(), Fail> {
 }
 
 #[test]
-fn slice_goes_by_turns(rt: HostRuntime) -> Result<(), Fail> {
+fn slice_goes_by_starts(rt: HostRuntime) -> Result<(), Fail> {
     let conf = SliceConf {
         drop: Some(1),
         null: Some(4),

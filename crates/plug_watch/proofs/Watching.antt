@@ -14,8 +14,8 @@ use Rattle.ts_packet.specs.declared.cell.Cell.TheVariants.{Live, Dropped}
 use Rattle.ts_packet.specs.Header.{pid_of, counter_of, has_payload_of}
 use Rattle.ts_packet.specs.Cells.{live_packets, packet_in}
 use Rattle.plug_conf.specs.declared.continuity_conf.ContinuityConf.{ContinuityConf}
-use Rattle.plug_watch.specs.declared.fault.Fault.{Fault}
-use Rattle.plug_watch.specs.declared.seen.Seen.{Seen}
+use Rattle.plug_watch.specs.declared.continuity_error.ContinuityError.{ContinuityError}
+use Rattle.plug_watch.specs.declared.last_packet.LastPacket.{LastPacket}
 use Rattle.plug_watch.specs.ContinuityRule.{is_watched, is_duplicate, is_fault, wanted_behind, packets_of, last_behind, last_in, last_of, step_behind, steps_behind, right_counter, fault_behind, fault_on, faults_in, fault_text, faults_text, line_of_fault, continuity_rule}
 use Rattle.plug_watch.specs.ContinuitySeen.{seen_in, seen_with, right_after, fault_after, HasCounters, Watches}
 
@@ -51,12 +51,12 @@ right_counter-append (first ∷ rest) packet small =
 pub seen_in-append : (packets : List (List ℕ)) (packet : List ℕ) → counter_of packet < 16
     → seen_in (packets ++ packet ∷ []) ≡ Some (seen_with (seen_in packets) packet)
 seen_in-append [] packet small =
-    ap (λ (n : ℕ). let s : Option Seen = Some (record { counter = counter_of packet; has_payload = has_payload_of packet; right = n }) in s)
+    ap (λ (n : ℕ). let s : Option LastPacket = Some (record { counter = counter_of packet; has_payload = has_payload_of packet; right = n }) in s)
     (right_counter-append [] packet small)
 seen_in-append (first ∷ rest) packet small =
-    ap (λ (last : List ℕ). let s : Option Seen = Some (record { counter = counter_of last; has_payload = has_payload_of last; right = right_counter (first ∷ (rest ++ packet ∷ [])) }) in s)
+    ap (λ (last : List ℕ). let s : Option LastPacket = Some (record { counter = counter_of last; has_payload = has_payload_of last; right = right_counter (first ∷ (rest ++ packet ∷ [])) }) in s)
     (last_behind-append first rest packet)
-    ∙ ap (λ (n : ℕ). let s : Option Seen = Some (record { counter = counter_of packet; has_payload = has_payload_of packet; right = n }) in s)
+    ∙ ap (λ (n : ℕ). let s : Option LastPacket = Some (record { counter = counter_of packet; has_payload = has_payload_of packet; right = n }) in s)
     (right_counter-append (first ∷ rest) packet small)
 
 -- a fault is known from what is kept
@@ -76,18 +76,18 @@ packets_of-dropped pid history =
     ap (filter (λ p. pid_of p == pid)) (flat_map-append packet_in history (Dropped ∷ []) ∙ append-nil (live_packets history))
 
 -- one fault at most
-one_fault_behind : (at : ℕ) (before : Option (List ℕ)) (packet : List ℕ) → IsNoteAt (λ (f : Fault). f.at) at (fault_behind at before packet)
+one_fault_behind : (at : ℕ) (before : Option (List ℕ)) (packet : List ℕ) → IsNoteAt (λ (f : ContinuityError). f.at) at (fault_behind at before packet)
 one_fault_behind at None packet = record { one = inl refl }
 one_fault_behind at (Some before) packet =
-    let fault : Fault = record { at = at; pid = pid_of packet; counter = counter_of packet; wanted = wanted_behind before packet } in
-    elim (is_fault before packet) as (λ b. IsNoteAt (λ (f : Fault). f.at) at (if b then fault ∷ [] else [])) [
+    let fault : ContinuityError = record { at = at; pid = pid_of packet; counter = counter_of packet; wanted = wanted_behind before packet } in
+    elim (is_fault before packet) as (λ b. IsNoteAt (λ (f : ContinuityError). f.at) at (if b then fault ∷ [] else [])) [
       | true ↦ record { one = inr (fault, refl, refl) }
       | false ↦ record { one = inl refl }
     ]
 
-pub one_fault : (conf : ContinuityConf) (history : List Cell) (packet : List ℕ) → IsNoteAt (λ (f : Fault). f.at) (length history) (fault_on conf history packet)
+pub one_fault : (conf : ContinuityConf) (history : List Cell) (packet : List ℕ) → IsNoteAt (λ (f : ContinuityError). f.at) (length history) (fault_on conf history packet)
 one_fault conf history packet =
-    elim (is_watched conf (pid_of packet)) as (λ b. IsNoteAt (λ (f : Fault). f.at) (length history) (if b then fault_behind (length history) (last_of (pid_of packet) history) packet else [])) [
+    elim (is_watched conf (pid_of packet)) as (λ b. IsNoteAt (λ (f : ContinuityError). f.at) (length history) (if b then fault_behind (length history) (last_of (pid_of packet) history) packet else [])) [
       | true ↦ one_fault_behind (length history) (last_of (pid_of packet) history) packet
       | false ↦ record { one = inl refl }
     ]
@@ -95,18 +95,18 @@ one_fault conf history packet =
 -- the faults with one packet more
 faults_in-live : (conf : ContinuityConf) (history : List Cell) (packet : List ℕ) → faults_in conf (history ++ Live packet ∷ []) ≡ faults_in conf history ++ fault_on conf history packet
 faults_in-live conf history packet =
-    notes_after-append (fault_on conf) (λ (f : Fault). f.at) (one_fault conf) [] history (Live packet ∷ [])
-    ∙ ap (λ (fs : List Fault). faults_in conf history ++ fs) (append-nil (fault_on conf history packet))
+    notes_after-append (fault_on conf) (λ (f : ContinuityError). f.at) (one_fault conf) [] history (Live packet ∷ [])
+    ∙ ap (λ (fs : List ContinuityError). faults_in conf history ++ fs) (append-nil (fault_on conf history packet))
 
 faults_in-dropped : (conf : ContinuityConf) (history : List Cell) → faults_in conf (history ++ Dropped ∷ []) ≡ faults_in conf history
 faults_in-dropped conf history =
-    notes_after-append (fault_on conf) (λ (f : Fault). f.at) (one_fault conf) [] history (Dropped ∷ []) ∙ append-nil (faults_in conf history)
+    notes_after-append (fault_on conf) (λ (f : ContinuityError). f.at) (one_fault conf) [] history (Dropped ∷ []) ∙ append-nil (faults_in conf history)
 
 -- a cell more is a cell more
 longer : (history : List Cell) (cell : Cell) (mark : ℕ) → mark ≤ length history → mark ≤ length (history ++ cell ∷ [])
 longer history cell mark le = omega (arith, length-append history (cell ∷ []))
 
-module _ (conf : ContinuityConf) (seen : List (Option Seen)) (faults : List Fault) (history : List Cell) (mark : ℕ)
+module _ (conf : ContinuityConf) (seen : List (Option LastPacket)) (faults : List ContinuityError) (history : List Cell) (mark : ℕ)
     (w : Watches conf seen faults history mark) where
   -- a dropped cell changes nothing of what is kept
   pub watches_dropped : Watches conf seen faults (history ++ Dropped ∷ []) mark
@@ -136,7 +136,7 @@ module _ (conf : ContinuityConf) (seen : List (Option Seen)) (faults : List Faul
     marked = longer history (Live packet) mark w.marked;
   }
 
-  module _ (packet : List ℕ) (before : Option Seen) (below : pid_of packet < pid_bound) (watched : is_watched conf (pid_of packet) ≡ true)
+  module _ (packet : List ℕ) (before : Option LastPacket) (below : pid_of packet < pid_bound) (watched : is_watched conf (pid_of packet) ≡ true)
       (is : before ≡ get_or seen (pid_of packet) None) where
     -- what was kept is that of the packets on the PID
     pub before_is : before ≡ seen_in (packets_of (pid_of packet) history)
@@ -151,7 +151,7 @@ module _ (conf : ContinuityConf) (seen : List (Option Seen)) (faults : List Faul
     -- the counter that the packet is to have
     pub right_is : counter_of packet < 16 → right_after before packet ≡ right_counter (packets_of (pid_of packet) history ++ packet ∷ [])
     right_is few =
-        ap (λ (s : Option Seen). right_after s packet) before_is ∙ sym (right_counter-append (packets_of (pid_of packet) history) packet few)
+        ap (λ (s : Option LastPacket). right_after s packet) before_is ∙ sym (right_counter-append (packets_of (pid_of packet) history) packet few)
 
     -- a packet that is looked at is kept
     pub watches_live : counter_of packet < 16 → right_after before packet < 16
@@ -161,7 +161,7 @@ module _ (conf : ContinuityConf) (seen : List (Option Seen)) (faults : List Faul
       each = λ pid pid_below pid_watched. elim (cases_eq pid (pid_of packet)) [
         | inl same ↦ subst (λ (q : ℕ). get_or (set seen (pid_of packet) (Some (seen_with before packet))) q None ≡ seen_in (packets_of q (history ++ Live packet ∷ []))) (sym same)
             (get_or-set_same seen (pid_of packet) (Some (seen_with before packet)) None (omega (arith, w.whole))
-            ∙ (ap (λ (s : Option Seen). let t : Option Seen = Some (seen_with s packet) in t) before_is
+            ∙ (ap (λ (s : Option LastPacket). let t : Option LastPacket = Some (seen_with s packet) in t) before_is
             ∙ (sym (seen_in-append (packets_of (pid_of packet) history) packet few)
             ∙ ap seen_in (sym packets_with))))
         | inr other ↦
@@ -178,9 +178,9 @@ module _ (conf : ContinuityConf) (seen : List (Option Seen)) (faults : List Faul
         | inr other ↦ subst HasCounters (sym (get_or-set_other seen (pid_of packet) pid (Some (seen_with before packet)) None other)) (w.small pid)
       ];
       all =
-          ap (λ (fs : List Fault). fs ++ fault_after (length history) before packet) w.all
-          ∙ (ap (λ (fs : List Fault). faults_in conf history ++ fs)
-          (ap (λ (s : Option Seen). fault_after (length history) s packet) before_is
+          ap (λ (fs : List ContinuityError). fs ++ fault_after (length history) before packet) w.all
+          ∙ (ap (λ (fs : List ContinuityError). faults_in conf history ++ fs)
+          (ap (λ (s : Option LastPacket). fault_after (length history) s packet) before_is
           ∙ (fault_after-seen (length history) (packets_of (pid_of packet) history) packet
           ∙ sym (ap (λ (b : Bool). if b then fault_behind (length history) (last_of (pid_of packet) history) packet else []) watched)))
           ∙ sym (faults_in-live conf history packet));
@@ -188,31 +188,31 @@ module _ (conf : ContinuityConf) (seen : List (Option Seen)) (faults : List Faul
     }
 
     -- the same, in the words of a step that looks the place up, keeps the packet and notes its fault
-    pub watches_kept : (place at : ℕ) (next : Seen) (faults_new : List Fault) → counter_of packet < 16 → next.right < 16
+    pub watches_kept : (place at : ℕ) (next : LastPacket) (faults_new : List ContinuityError) → counter_of packet < 16 → next.right < 16
         → place ≡ pid_of packet → next ≡ seen_with before packet → length history ≡ at → faults_new ≡ faults ++ fault_after at before packet
         → Watches conf (set seen place (Some next)) faults_new (history ++ Live packet ∷ []) mark
     watches_kept place at next faults_new few right_few place_is next_is count faults_are =
-        let stands = watches_live few (subst (λ (s : Seen). s.right < 16) next_is right_few) in
-        let with_next = subst (λ (s : Seen). Watches conf (set seen (pid_of packet) (Some s)) (faults ++ fault_after (length history) before packet) (history ++ Live packet ∷ []) mark) (sym next_is) stands in
+        let stands = watches_live few (subst (λ (s : LastPacket). s.right < 16) next_is right_few) in
+        let with_next = subst (λ (s : LastPacket). Watches conf (set seen (pid_of packet) (Some s)) (faults ++ fault_after (length history) before packet) (history ++ Live packet ∷ []) mark) (sym next_is) stands in
         let with_place = subst (λ (q : ℕ). Watches conf (set seen q (Some next)) (faults ++ fault_after (length history) before packet) (history ++ Live packet ∷ []) mark) (sym place_is) with_next in
         let with_count = subst (λ (n : ℕ). Watches conf (set seen place (Some next)) (faults ++ fault_after n before packet) (history ++ Live packet ∷ []) mark) count with_place in
-        subst (λ (fs : List Fault). Watches conf (set seen place (Some next)) fs (history ++ Live packet ∷ []) mark) (sym faults_are) with_count
+        subst (λ (fs : List ContinuityError). Watches conf (set seen place (Some next)) fs (history ++ Live packet ∷ []) mark) (sym faults_are) with_count
 
 -- the report over the cells before a position
 pub report_is : (conf : ContinuityConf) (history : List Cell) (cut : ℕ) → cut ≤ length history
-    → let lines : List Line = map line_of_fault (take_while (λ (f : Fault). nat_lt f.at cut) (faults_in conf history)) in
+    → let lines : List Line = map line_of_fault (take_while (λ (f : ContinuityError). nat_lt f.at cut) (faults_in conf history)) in
     lines ++ record { at = cut; text = faults_text (length lines) } ∷ [] ≡ placed_of (continuity_rule conf) (take cut history)
 report_is conf history cut within =
     let cells = take cut history in
     let all : cut - 0 ≡ cut = omega arith in
-    let front : take_while (λ (f : Fault). nat_lt f.at cut) (faults_in conf history) ≡ faults_in conf cells =
-    take_while-notes_after (fault_on conf) (λ (f : Fault). f.at) (one_fault conf) cut [] history
+    let front : take_while (λ (f : ContinuityError). nat_lt f.at cut) (faults_in conf history) ≡ faults_in conf cells =
+    take_while-notes_after (fault_on conf) (λ (f : ContinuityError). f.at) (one_fault conf) cut [] history
     ∙ ap (λ (k : ℕ). faults_in conf (take k history)) all in
     let count : length (map line_of_fault (faults_in conf cells)) ≡ length (faults_in conf cells) = length-map (faults_in conf cells) line_of_fault in
     let lines : placed_after (continuity_rule conf) [] cells ≡ map line_of_fault (faults_in conf cells) =
-    placed_after-notes (fault_on conf) (λ (f : Fault). f.at) (one_fault conf) (continuity_rule conf) line_of_fault
-    (λ h packet. placed_at-notes (λ (f : Fault). f.at) fault_text (length h) (fault_on conf h packet) (one_fault conf h packet)) [] cells in
-    ap (λ (fs : List Fault). map line_of_fault fs ++ (let l : Line = record { at = cut; text = faults_text (length (map line_of_fault fs)) } in l) ∷ []) front
+    placed_after-notes (fault_on conf) (λ (f : ContinuityError). f.at) (one_fault conf) (continuity_rule conf) line_of_fault
+    (λ h packet. placed_at-notes (λ (f : ContinuityError). f.at) fault_text (length h) (fault_on conf h packet) (one_fault conf h packet)) [] cells in
+    ap (λ (fs : List ContinuityError). map line_of_fault fs ++ (let l : Line = record { at = cut; text = faults_text (length (map line_of_fault fs)) } in l) ∷ []) front
     ∙ (ap (λ (n : ℕ). map line_of_fault (faults_in conf cells) ++ (let l : Line = record { at = cut; text = faults_text n } in l) ∷ []) count
     ∙ (ap (λ (n : ℕ). map line_of_fault (faults_in conf cells) ++ (let l : Line = record { at = n; text = faults_text (length (faults_in conf cells)) } in l) ∷ []) (sym (length-take-le cut history within))
     ∙ ap (λ (ls : List Line). ls ++ placed_at (length cells) (faults_text (length (faults_in conf cells)) ∷ [])) (sym lines)))

@@ -11,7 +11,7 @@ use Rattle.plug_conf.specs.Limits.{null_pid}
 use Rattle.plug_conf.specs.declared.continuity_conf.ContinuityConf.{ContinuityConf}
 use Rattle.pid_set.specs.Selection.{is_selected}
 use Rattle.plug_watch.specs.Notes.{notes_after}
-use Rattle.plug_watch.specs.declared.fault.Fault.{Fault}
+use Rattle.plug_watch.specs.declared.continuity_error.ContinuityError.{ContinuityError}
 
 -- the packets of the PID are looked at; those of 8191 never are
 abbrev pub is_watched : ContinuityConf → ℕ → Bool
@@ -36,7 +36,7 @@ is_fault before packet = not (counter_of packet == wanted_behind before packet)
     && (not (is_duplicate before packet) && not (discontinuity_of packet))
 
 -- the fault of a packet at a position, behind the packet before it on its PID
-abbrev pub fault_behind : ℕ → Option (List ℕ) → List ℕ → List Fault
+abbrev pub fault_behind : ℕ → Option (List ℕ) → List ℕ → List ContinuityError
 fault_behind at None packet = []
 fault_behind at (Some before) packet =
     if is_fault before packet
@@ -58,12 +58,12 @@ abbrev pub last_of : ℕ → List Cell → Option (List ℕ)
 last_of pid history = last_in (packets_of pid history)
 
 -- the fault of a packet behind a history, where its PID is looked at
-abbrev pub fault_on : ContinuityConf → List Cell → List ℕ → List Fault
+abbrev pub fault_on : ContinuityConf → List Cell → List ℕ → List ContinuityError
 fault_on conf history packet =
     if is_watched conf (pid_of packet) then fault_behind (length history) (last_of (pid_of packet) history) packet else []
 
 -- the faults in a list of cells
-abbrev pub faults_in : ContinuityConf → List Cell → List Fault
+abbrev pub faults_in : ContinuityConf → List Cell → List ContinuityError
 faults_in conf cells = notes_after (fault_on conf) [] cells
 
 -- 1 for a packet whose counter goes on: one with payload that repeats none
@@ -85,12 +85,12 @@ abbrev pub fixed : List Cell → List ℕ → List ℕ
 fixed history packet = with_counter packet (right_counter (packets_of (pid_of packet) history ++ packet ∷ []))
 
 -- `packet <position> pid <pid> counter <c> wanted <w>`
-abbrev pub fault_text : Fault → List ℕ
+abbrev pub fault_text : ContinuityError → List ℕ
 fault_text fault = codes "packet " ++ (decimal fault.at ++ (codes " pid " ++ (decimal fault.pid
     ++ (codes " counter " ++ (decimal fault.counter ++ (codes " wanted " ++ decimal fault.wanted))))))
 
 -- the line of a fault
-abbrev pub line_of_fault : Fault → Line
+abbrev pub line_of_fault : ContinuityError → Line
 line_of_fault fault = record { at = fault.at; text = fault_text fault }
 
 -- `faults <n>`

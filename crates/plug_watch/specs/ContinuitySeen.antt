@@ -7,11 +7,11 @@ use Rattle.ts_packet.specs.Adaptation.{discontinuity_of}
 use Rattle.plug_conf.specs.Limits.{pid_bound}
 use Rattle.plug_conf.specs.declared.continuity_conf.ContinuityConf.{ContinuityConf}
 use Rattle.plug_watch.specs.ContinuityRule.{is_watched, packets_of, last_behind, right_counter, faults_in}
-use Rattle.plug_watch.specs.declared.fault.Fault.{Fault}
-use Rattle.plug_watch.specs.declared.seen.Seen.{Seen}
+use Rattle.plug_watch.specs.declared.continuity_error.ContinuityError.{ContinuityError}
+use Rattle.plug_watch.specs.declared.last_packet.LastPacket.{LastPacket}
 
 -- of the packets on a PID the last one's counter and payload, and the counter that it was to have
-abbrev pub seen_in : List (List ℕ) → Option Seen
+abbrev pub seen_in : List (List ℕ) → Option LastPacket
 seen_in [] = None
 seen_in (first ∷ rest) = Some (record {
   counter = counter_of (last_behind first rest);
@@ -20,21 +20,21 @@ seen_in (first ∷ rest) = Some (record {
 })
 
 -- a packet repeats the one that was seen
-abbrev pub repeats : Seen → List ℕ → Bool
+abbrev pub repeats : LastPacket → List ℕ → Bool
 repeats seen packet = seen.has_payload && (has_payload_of packet
     && (counter_of packet == seen.counter && not (discontinuity_of packet)))
 
 -- the counter that is to follow
-abbrev pub wanted_after : Seen → List ℕ → ℕ
+abbrev pub wanted_after : LastPacket → List ℕ → ℕ
 wanted_after seen packet = if has_payload_of packet then (seen.counter + 1) % 16 else seen.counter
 
 -- the packet's counter is a fault
-abbrev pub is_wrong : Seen → List ℕ → Bool
+abbrev pub is_wrong : LastPacket → List ℕ → Bool
 is_wrong seen packet = not (counter_of packet == wanted_after seen packet)
     && (not (repeats seen packet) && not (discontinuity_of packet))
 
 -- the fault of a packet at a position
-abbrev pub fault_after : ℕ → Option Seen → List ℕ → List Fault
+abbrev pub fault_after : ℕ → Option LastPacket → List ℕ → List ContinuityError
 fault_after at None packet = []
 fault_after at (Some seen) packet =
     if is_wrong seen packet
@@ -42,13 +42,13 @@ fault_after at (Some seen) packet =
     else []
 
 -- the counter that the packet is to have
-abbrev pub right_after : Option Seen → List ℕ → ℕ
+abbrev pub right_after : Option LastPacket → List ℕ → ℕ
 right_after None packet = counter_of packet
 right_after (Some seen) packet =
     if has_payload_of packet && not (repeats seen packet) then (seen.right + 1) % 16 else seen.right
 
 -- what is kept with one packet more
-abbrev pub seen_with : Option Seen → List ℕ → Seen
+abbrev pub seen_with : Option LastPacket → List ℕ → LastPacket
 seen_with seen packet = record {
   counter = counter_of packet;
   has_payload = has_payload_of packet;
@@ -56,12 +56,12 @@ seen_with seen packet = record {
 }
 
 -- counters are below 16
-abbrev pub HasCounters : Option Seen → Type 0
+abbrev pub HasCounters : Option LastPacket → Type 0
 HasCounters None = Unit {0}
 HasCounters (Some seen) = (seen.counter < 16) × (seen.right < 16)
 
 -- what is kept is that of a history
-pub record Watches (conf : ContinuityConf) (seen : List (Option Seen)) (faults : List Fault) (history : List Cell) (mark : ℕ) : Type 0 where
+pub record Watches (conf : ContinuityConf) (seen : List (Option LastPacket)) (faults : List ContinuityError) (history : List Cell) (mark : ℕ) : Type 0 where
   pub whole : length seen ≡ pid_bound
   pub each : (pid : ℕ) → pid < pid_bound → is_watched conf pid ≡ true → slice_index_or seen pid None ≡ seen_in (packets_of pid history)
   pub small : (pid : ℕ) → HasCounters (slice_index_or seen pid None)
@@ -69,7 +69,7 @@ pub record Watches (conf : ContinuityConf) (seen : List (Option Seen)) (faults :
   pub marked : mark ≤ length history
 
 -- what is kept is that of some history of so many cells
-pub record WatchesSome (conf : ContinuityConf) (seen : List (Option Seen)) (faults : List Fault) (at : ℕ) : Type 0 where
+pub record WatchesSome (conf : ContinuityConf) (seen : List (Option LastPacket)) (faults : List ContinuityError) (at : ℕ) : Type 0 where
   pub history : List Cell
   pub mark : ℕ
   pub watches : Watches conf seen faults history mark

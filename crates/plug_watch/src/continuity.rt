@@ -1,12 +1,12 @@
 ghost use Rattle.std.specs.Prelude.{◌≡◌, ◌<◌, ◌≤◌, ◌==◌, ◌&&◌, not, false, IfOk, OnOk, OnErr, ℕ, List, Option, None, [], Some, length, map, nat_lt, if◌then◌else◌};
 ghost use Rattle.std.specs.List.{take_while, slice_index_or};
 ghost use Rattle.ts_packet.specs.declared.cell.Cell.{Cell as GivenCell};
-ghost use Rattle.plug_watch.specs.declared.fault.Fault.{Fault as GivenFault};
+ghost use Rattle.plug_watch.specs.declared.continuity_error.ContinuityError.{ContinuityError as GivenError};
 ghost use Rattle.plug_watch.specs.ContinuityRule.{continuity_rule, line_of_fault};
 
-use crate::fault::Fault;
+use crate::continuity_error::ContinuityError;
+use crate::last_packet::{LastPacket, push_fault, seen_with};
 use crate::lines::push_line;
-use crate::seen::{Seen, push_fault, seen_with};
 use pid_set::PidSet;
 use plug_conf::ContinuityConf;
 use plugin_trait::{Line, Outcome, Plugin};
@@ -24,9 +24,9 @@ pub struct Continuity {
     pids: PidSet,
     fix: bool,
     /// The last packet on each PID.
-    seen: Vec<Option<Seen>>,
+    seen: Vec<Option<LastPacket>>,
     /// The faults so far, in order.
-    faults: Vec<Fault>,
+    faults: Vec<ContinuityError>,
     alloc: Global,
 }
 
@@ -94,7 +94,7 @@ impl Continuity {
 }
 
 // No packet on any PID.
-fn no_packets(alloc: Global) -> Result<Vec<Option<Seen>>, AllocError>
+fn no_packets(alloc: Global) -> Result<Vec<Option<LastPacket>>, AllocError>
     ensures { IfOk result (λ seen. (length seen.items ≡ 8192) × ((pid : ℕ) → slice_index_or seen.items pid None ≡ None)) }
 {
     let mut seen = Vec::with_capacity(alloc, PID_BOUND)?;
@@ -105,7 +105,7 @@ fn no_packets(alloc: Global) -> Result<Vec<Option<Seen>>, AllocError>
 }
 
 // The lines of the faults below a position.
-fn lines_below(alloc: Global, faults: &[Fault], cut: u64) -> Result<Vec<Line>, AllocError>
+fn lines_below(alloc: Global, faults: &[ContinuityError], cut: u64) -> Result<Vec<Line>, AllocError>
     ensures { IfOk result (λ lines. lines.items ≡ map line_of_fault (take_while (λ fault. nat_lt fault.at cut) faults.now)) }
 {
     let mut lines = Vec::new(alloc);

@@ -3,20 +3,20 @@
 #![tactic(auto)]
 
 mod continuity;
+mod continuity_error;
 mod count;
-mod fault;
 mod folding;
+mod last_packet;
 mod lines;
 mod note;
-mod seen;
 mod summary;
 mod tally;
 
 pub use continuity::Continuity;
+pub use continuity_error::ContinuityError;
 pub use count::Count;
-pub use fault::Fault;
+pub use last_packet::LastPacket;
 pub use note::Note;
-pub use seen::Seen;
 
 #[cfg(test)]
 mod tests;

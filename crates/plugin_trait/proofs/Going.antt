@@ -6,7 +6,7 @@ use Rattle.plugin_trait.specs.declared.outcome.Outcome.{Outcome}
 use Rattle.plugin_trait.specs.declared.outcome.Outcome.TheVariants.{Pass, Drop}
 use Rattle.plugin_trait.specs.Steps.{StepTells, met_after}
 use Rattle.chain_model.specs.PluginRule.{PluginRule}
-use Rattle.chain_model.specs.Apply.{StageList, OwnEnd, CellFate, goes_on, ends_after, ends_before, last_passed, became, onto, apply_after}
+use Rattle.chain_model.specs.Apply.{StageList, OwnEnd, CellOutcome, goes_on, ends_after, ends_before, last_passed, became, onto, apply_after}
 
 -- the list that begins with what was made already
 abbrev pub behind : List Cell → StageList → StageList
@@ -34,12 +34,12 @@ module _ (rule : PluginRule) (history given made : List Cell) (i : ℕ) (cell : 
     (within : i < length given) (is : get_or given i cell ≡ cell)
     (half : all ≡ behind (take i made) (apply_after rule (history ++ take i given) (drop i given))) where
   -- what is known of the whole list where the fate of its next cell is known
-  pub half_known : (fate : CellFate) → became rule (history ++ take i given) cell ≡ fate
+  pub half_known : (fate : CellOutcome) → became rule (history ++ take i given) cell ≡ fate
       → all ≡ behind (take i made) (onto fate (apply_after rule (history ++ take (i + 1) given) (drop (i + 1) given)))
   half_known fate e =
       half
       ∙ ap (behind (take i made)) (apply_after-drop rule (history ++ take i given) given i cell within is)
-      ∙ ap (λ (f : CellFate). behind (take i made) (onto f (apply_after rule ((history ++ take i given) ++ cell ∷ []) (drop (i + 1) given)))) e
+      ∙ ap (λ (f : CellOutcome). behind (take i made) (onto f (apply_after rule ((history ++ take i given) ++ cell ∷ []) (drop (i + 1) given)))) e
       ∙ ap (λ (h : List Cell). behind (take i made) (onto fate (apply_after rule h (drop (i + 1) given)))) (sym (met-more history given i cell within is))
 
   -- the list goes on

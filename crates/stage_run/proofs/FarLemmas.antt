@@ -5,11 +5,11 @@ use Rattle.ts_packet.specs.declared.cell.Cell.{Cell}
 use Rattle.plugin_trait.specs.declared.list_end.ListEnd.TheVariants.{Through}
 use Rattle.plugin_trait.specs.declared.list_end.ListEnd.TheVariants as window
 use Rattle.chain_model.specs.PluginRule.{PluginRule}
-use Rattle.chain_model.specs.Apply.{StageList, CellFate, goes_on, ends_after, ends_before, became, onto, apply_after}
+use Rattle.chain_model.specs.Apply.{StageList, CellOutcome, goes_on, ends_after, ends_before, became, onto, apply_after}
 use Rattle.plugin_trait.proofs.Going.{behind}
 use Rattle.stage_run.specs.PluginSteps.{made_so_far}
 
-onto-behind : (fate : CellFate) (a b c : StageList) → (a.ended ≡ None → b ≡ behind a.cells c) → (onto fate a).ended ≡ None → onto fate b ≡ behind (onto fate a).cells c
+onto-behind : (fate : CellOutcome) (a b c : StageList) → (a.ended ≡ None → b ≡ behind a.cells c) → (onto fate a).ended ≡ None → onto fate b ≡ behind (onto fate a).cells c
 onto-behind (goes_on cell) a b c step open_ = ap (onto (goes_on cell)) (step open_)
 onto-behind (ends_after cell) a b c step open_ = cc
 onto-behind (ends_before how) a b c step open_ = cc
@@ -26,7 +26,7 @@ apply_after-append rule history (x ∷ xs) ys open_ =
     open_
 
 -- as many cells were made as were met
-onto-same_length : (fate : CellFate) (a : StageList) (n : ℕ) → (a.ended ≡ None → length a.cells ≡ n) → (onto fate a).ended ≡ None → length (onto fate a).cells ≡ n + 1
+onto-same_length : (fate : CellOutcome) (a : StageList) (n : ℕ) → (a.ended ≡ None → length a.cells ≡ n) → (onto fate a).ended ≡ None → length (onto fate a).cells ≡ n + 1
 onto-same_length (goes_on cell) a n step open_ = let same : length a.cells ≡ n = step open_ in omega arith
 onto-same_length (ends_after cell) a n step open_ = cc
 onto-same_length (ends_before how) a n step open_ = cc
@@ -41,7 +41,7 @@ apply_after-same_length rule history (x ∷ xs) open_ =
 module _ (rule : PluginRule) (history cells made : List Cell) (i : ℕ) (cell left : Cell) (within : i < length cells) (room : i < length made)
     (is : get_or cells i cell ≡ cell)
     (far : apply_after rule history (take i cells) ≡ made_so_far (take i made) Through) where
-  far_step : (fate : CellFate) → became rule (history ++ take i cells) cell ≡ fate
+  far_step : (fate : CellOutcome) → became rule (history ++ take i cells) cell ≡ fate
       → apply_after rule history (take (i + 1) cells) ≡ behind (take i made) (onto fate (record { cells = []; ended = None }))
   far_step fate e =
       let next : take (i + 1) cells ≡ take i cells ++ cell ∷ [] = take_more cells i cell within ∙ ap (λ (x : Cell). take i cells ++ x ∷ []) is in
@@ -49,7 +49,7 @@ module _ (rule : PluginRule) (history cells made : List Cell) (i : ℕ) (cell le
       ap (apply_after rule history) next
       ∙ apply_after-append rule history (take i cells) (cell ∷ []) open_
       ∙ ap (λ (l : StageList). behind l.cells (apply_after rule (history ++ take i cells) (cell ∷ []))) far
-      ∙ ap (λ (f : CellFate). behind (take i made) (onto f (record { cells = []; ended = None }))) e
+      ∙ ap (λ (f : CellOutcome). behind (take i made) (onto f (record { cells = []; ended = None }))) e
 
   -- the list goes on with one cell more
   pub far_goes_on : became rule (history ++ take i cells) cell ≡ goes_on left

@@ -106,11 +106,11 @@ module _ {S : Type 0} (seen : S → SourceView) where
       gives ∙ ap (λ (n : ℕ). stuffed stuffing (input_of_nulls n)) same
 
   -- an input of which it is now known what comes next
-  pub InputGoes-look : (old : InputStage S) (feed : PacketFeed S) (nulls : ℕ) (ended : Option InputEnd) (lists : PartLists) (lack : ℕ)
+  pub InputGoes-look : (old : InputStage S) (feed : PacketFeed S) (nulls : ℕ) (ended : Option InputEnd) (lists : PartLists) (wanted : ℕ)
       → old.nulls ≡ 0 → old.ended ≡ None → nulls ≡ stop_count ended old.stuffing.stop → InputHolds seen old lists
-      → ((first : SourceView) (read : List ℕ) (rows : List (List ℕ)) → FeedStands seen old.feed first read rows None → FeedLooks seen old.feed feed lack first read rows ended)
-      → InputGoes seen old (record { feed = feed; stuffing = old.stuffing; nulls = nulls; ended = ended }) lists lack []
-  InputGoes-look old feed nulls ended lists lack no_nulls unknown due holds looks =
+      → ((first : SourceView) (read : List ℕ) (rows : List (List ℕ)) → FeedStands seen old.feed first read rows None → FeedLooks seen old.feed feed wanted first read rows ended)
+      → InputGoes seen old (record { feed = feed; stuffing = old.stuffing; nulls = nulls; ended = ended }) lists wanted []
+  InputGoes-look old feed nulls ended lists wanted no_nulls unknown due holds looks =
       let was : FeedStands seen old.feed lists.source lists.read holds.rows None =
       subst (λ (e : Option InputEnd). FeedStands seen old.feed lists.source lists.read holds.rows e) unknown holds.feed in
       let found = looks lists.source lists.read holds.rows was in
@@ -138,9 +138,9 @@ module _ {S : Type 0} (seen : S → SourceView) where
       }
 
   -- one null packet of those that are due
-  pub InputGoes-null : (old : InputStage S) (nulls : ℕ) (lists : PartLists) (lack : ℕ) → old.nulls ≡ nulls + 1 → InputHolds seen old lists
-      → InputGoes seen old (record { feed = old.feed; stuffing = old.stuffing; nulls = nulls; ended = old.ended }) lists lack (Live null_packet ∷ [])
-  InputGoes-null old nulls lists lack some holds =
+  pub InputGoes-null : (old : InputStage S) (nulls : ℕ) (lists : PartLists) (wanted : ℕ) → old.nulls ≡ nulls + 1 → InputHolds seen old lists
+      → InputGoes seen old (record { feed = old.feed; stuffing = old.stuffing; nulls = nulls; ended = old.ended }) lists wanted (Live null_packet ∷ [])
+  InputGoes-null old nulls lists wanted some holds =
       let read_same : lists.read ++ [] ≡ lists.read = append-nil lists.read in
       record {
         same = SameFeed-same old.feed;
@@ -159,11 +159,11 @@ module _ {S : Type 0} (seen : S → SourceView) where
       }
 
   -- one packet, with which the null packets behind it are due
-  pub InputGoes-put : (old : InputStage S) (feed : PacketFeed S) (nulls : ℕ) (lists : PartLists) (lack : ℕ) (cell : Cell)
+  pub InputGoes-put : (old : InputStage S) (feed : PacketFeed S) (nulls : ℕ) (lists : PartLists) (wanted : ℕ) (cell : Cell)
       → old.nulls ≡ 0 → old.ended ≡ None → nulls ≡ null_count (stuffing_of old.stuffing) (packets_put feed) → InputHolds seen old lists
       → ((first : SourceView) (read : List ℕ) (rows : List (List ℕ)) → FeedStands seen old.feed first read rows None → FeedPuts seen old.feed feed first read rows cell)
-      → InputGoes seen old (record { feed = feed; stuffing = old.stuffing; nulls = nulls; ended = old.ended }) lists lack (cell ∷ [])
-  InputGoes-put old feed nulls lists lack cell no_nulls unknown due holds puts =
+      → InputGoes seen old (record { feed = feed; stuffing = old.stuffing; nulls = nulls; ended = old.ended }) lists wanted (cell ∷ [])
+  InputGoes-put old feed nulls lists wanted cell no_nulls unknown due holds puts =
       let was : FeedStands seen old.feed lists.source lists.read holds.rows None =
       subst (λ (e : Option InputEnd). FeedStands seen old.feed lists.source lists.read holds.rows e) unknown holds.feed in
       let found = puts lists.source lists.read holds.rows was in
@@ -206,8 +206,8 @@ module _ {S : Type 0} (seen : S → SourceView) where
       }
 
   -- an input as it was
-  abbrev pub InputGoes-none : (old : InputStage S) (lists : PartLists) (lack : ℕ) → InputHolds seen old lists → InputGoes seen old old lists lack []
-  InputGoes-none old lists lack holds =
+  abbrev pub InputGoes-none : (old : InputStage S) (lists : PartLists) (wanted : ℕ) → InputHolds seen old lists → InputGoes seen old old lists wanted []
+  InputGoes-none old lists wanted holds =
       let read_same : lists.read ++ [] ≡ lists.read = append-nil lists.read in
       let given_same : lists.given ++ [] ≡ lists.given = append-nil lists.given in
       record {
@@ -232,10 +232,10 @@ with_more-more lists a b xs ys =
 
 module _ {S : Type 0} (seen : S → SourceView) where
   -- one step after another
-  pub InputGoes-trans : (a b c : InputStage S) (lists : PartLists) (lack first second : ℕ) (xs ys : List Cell)
-      → first ≤ lack → length xs + second ≤ lack → (one : InputGoes seen a b lists first xs)
-      → InputGoes seen b c (with_more lists one.bytes xs) second ys → InputGoes seen a c lists lack (xs ++ ys)
-  InputGoes-trans a b c lists lack first second xs ys few_first few_second one two =
+  pub InputGoes-trans : (a b c : InputStage S) (lists : PartLists) (wanted first second : ℕ) (xs ys : List Cell)
+      → first ≤ wanted → length xs + second ≤ wanted → (one : InputGoes seen a b lists first xs)
+      → InputGoes seen b c (with_more lists one.bytes xs) second ys → InputGoes seen a c lists wanted (xs ++ ys)
+  InputGoes-trans a b c lists wanted first second xs ys few_first few_second one two =
       let same : with_more (with_more lists one.bytes xs) two.bytes ys ≡ with_more lists (one.bytes ++ two.bytes) (xs ++ ys) =
       with_more-more lists one.bytes two.bytes xs ys in
       record {
@@ -250,16 +250,16 @@ module _ {S : Type 0} (seen : S → SourceView) where
       }
 
   -- the list is over
-  pub InputGoes-over : (old new : InputStage S) (lists : PartLists) (lack : ℕ) (cell : Cell) (ended : Option InputEnd)
-      → is_some ended ≡ true → InputGoes seen old new lists lack [] → InputGoes seen old new lists lack (cell_put ended cell)
-  InputGoes-over old new lists lack cell None some goes = cc
-  InputGoes-over old new lists lack cell (Some how) some goes = goes
+  pub InputGoes-over : (old new : InputStage S) (lists : PartLists) (wanted : ℕ) (cell : Cell) (ended : Option InputEnd)
+      → is_some ended ≡ true → InputGoes seen old new lists wanted [] → InputGoes seen old new lists wanted (cell_put ended cell)
+  InputGoes-over old new lists wanted cell None some goes = cc
+  InputGoes-over old new lists wanted cell (Some how) some goes = goes
 
   -- and of that nothing was put
-  pub InputGoes-stop : (old new : InputStage S) (lists : PartLists) (lack : ℕ) (cell : Cell) (ended : Option InputEnd)
-      → is_some ended ≡ true → InputGoes seen old new lists lack (cell_put ended cell) → InputGoes seen old new lists lack []
-  InputGoes-stop old new lists lack cell None some goes = cc
-  InputGoes-stop old new lists lack cell (Some how) some goes = goes
+  pub InputGoes-stop : (old new : InputStage S) (lists : PartLists) (wanted : ℕ) (cell : Cell) (ended : Option InputEnd)
+      → is_some ended ≡ true → InputGoes seen old new lists wanted (cell_put ended cell) → InputGoes seen old new lists wanted []
+  InputGoes-stop old new lists wanted cell None some goes = cc
+  InputGoes-stop old new lists wanted cell (Some how) some goes = goes
 
 -- the end of the packets is known, and no null packets are due behind it
 pub IsOver-some : {S : Type 0} (stage : InputStage S) (ended : Option InputEnd) → stage.ended ≡ ended → stage.nulls ≡ 0

@@ -196,16 +196,16 @@ module _ {S : Type 0} (seen : S → SourceView) where
   feed_faults (Nulls old) (Nulls new) first read read' rows rows' before (Some TooLong) same was can is = refl
 
   -- the work of an input, from what it read and gave
-  pub works_of : (old new : InputStage S) (lists : PartLists) (news : News) (cells cells_new : List Cell) (written lack done : ℕ) (told : Option StageEnd)
+  pub works_of : (old new : InputStage S) (lists : PartLists) (news : News) (cells cells_new : List Cell) (written wanted done : ℕ) (told : Option StageEnd)
       → InputStands seen old lists None → lists.mark ≤ written
-      → (goes : InputGoes seen old new lists lack (take done cells_new))
-      → length lists.given + lack ≤ read_for (length lists.given) (length cells)
+      → (goes : InputGoes seen old new lists wanted (take done cells_new))
+      → length lists.given + wanted ≤ read_for (length lists.given) (length cells)
       → length (lists.given ++ take done cells_new) ≤ 2 ^ 60
       → FitsTold new.ended new.nulls (lists_behind lists goes.bytes (take done cells) (take done cells_new)) told
       → ((input : StageList) (continues : Continues (stuffing_of new.stuffing) goes.holds.rows new.ended (IsReady new.feed) input) → IsLonger told new.nulls (length continues.rest))
       → InputTells news (length lists.given) (length cells) done (lists.read ++ goes.bytes ≡ lists.read) told
       → Works (InputStands seen new) (InputWorks seen old new lists news cells cells_new (plain_work done told)) lists written cells cells_new (plain_work done told)
-  works_of old new lists news cells cells_new written lack done told was mark goes room fits fit longer tells =
+  works_of old new lists news cells cells_new written wanted done told was mark goes room fits fit longer tells =
       let after : PartLists = lists_behind lists goes.bytes (take done cells) (take done cells_new) in
       let holds : InputHolds seen new after = record {
         rows = goes.holds.rows;

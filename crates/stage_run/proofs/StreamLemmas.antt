@@ -93,19 +93,19 @@ length-hand stream room =
 
 module _ {S : Type 0} (seen : S → SourceView) where
   -- nothing was read yet
-  pub StreamLooks-start : (stream : PacketStream S) (lack : ℕ) (first : SourceView) (read : List ℕ) (rows : List (List ℕ))
-      → StreamStands seen stream first read rows None → StreamLooks seen stream lack first read rows None
-  StreamLooks-start stream lack first read rows stands = record {
+  pub StreamLooks-start : (stream : PacketStream S) (wanted : ℕ) (first : SourceView) (read : List ℕ) (rows : List (List ℕ))
+      → StreamStands seen stream first read rows None → StreamLooks seen stream wanted first read rows None
+  StreamLooks-start stream wanted first read rows stands = record {
     bytes = [];
     stands = subst (λ (r : List ℕ). StreamStands seen stream first r rows None) (sym (append-nil read)) stands;
     reads = λ most before after. subst (λ (r : List ℕ). length r ≤ 188 * most) (sym (append-nil read)) before;
   }
 
   -- more was read
-  pub StreamLooks-more : (mid new : PacketStream S) (lack count : ℕ) (first : SourceView) (read : List ℕ) (rows : List (List ℕ))
-      → StreamLooks seen mid lack first read rows None → ReadsMore seen mid new count → HasRoom new → new.packets ≡ mid.packets → new.have ≤ 188 * lack
-      → StreamLooks seen new lack first read rows None
-  StreamLooks-more mid new lack count first read rows looks more room same few =
+  pub StreamLooks-more : (mid new : PacketStream S) (wanted count : ℕ) (first : SourceView) (read : List ℕ) (rows : List (List ℕ))
+      → StreamLooks seen mid wanted first read rows None → ReadsMore seen mid new count → HasRoom new → new.packets ≡ mid.packets → new.have ≤ 188 * wanted
+      → StreamLooks seen new wanted first read rows None
+  StreamLooks-more mid new wanted count first read rows looks more room same few =
       let is : read ++ (looks.bytes ++ more.bytes) ≡ concat rows ++ hand_of new =
       sym (append_assoc read looks.bytes more.bytes)
       ∙ ap (λ (l : List ℕ). l ++ more.bytes) looks.stands.read_is
@@ -130,10 +130,10 @@ module _ {S : Type 0} (seen : S → SourceView) where
       }
 
   -- the bytes in hand are no packet
-  pub StreamLooks-lost : (stream : PacketStream S) (lack : ℕ) (first : SourceView) (read : List ℕ) (rows : List (List ℕ))
-      → StreamLooks seen stream lack first read rows None → IsOutOfSync (hand_of stream)
-      → StreamLooks seen stream lack first read rows (Some (Sync stream.packets))
-  StreamLooks-lost stream lack first read rows looks lost = record {
+  pub StreamLooks-lost : (stream : PacketStream S) (wanted : ℕ) (first : SourceView) (read : List ℕ) (rows : List (List ℕ))
+      → StreamLooks seen stream wanted first read rows None → IsOutOfSync (hand_of stream)
+      → StreamLooks seen stream wanted first read rows (Some (Sync stream.packets))
+  StreamLooks-lost stream wanted first read rows looks lost = record {
     bytes = looks.bytes;
     stands = record {
       packets = looks.stands.packets;
@@ -146,11 +146,11 @@ module _ {S : Type 0} (seen : S → SourceView) where
   }
 
   -- the source is at its end
-  pub StreamLooks-end : (mid new : PacketStream S) (lack : ℕ) (first : SourceView) (read : List ℕ) (rows : List (List ℕ))
-      → StreamLooks seen mid lack first read rows None → ReadsMore seen mid new 0 → HasRoom new → new.packets ≡ mid.packets
+  pub StreamLooks-end : (mid new : PacketStream S) (wanted : ℕ) (first : SourceView) (read : List ℕ) (rows : List (List ℕ))
+      → StreamLooks seen mid wanted first read rows None → ReadsMore seen mid new 0 → HasRoom new → new.packets ≡ mid.packets
       → IsInSync (hand_of mid) → mid.have < 188
-      → StreamLooks seen new lack first read rows (Some (End new.have))
-  StreamLooks-end mid new lack first read rows looks more room same sync few =
+      → StreamLooks seen new wanted first read rows (Some (End new.have))
+  StreamLooks-end mid new wanted first read rows looks more room same sync few =
       let none : more.bytes ≡ [] = nil_from_length more.bytes more.length_is in
       let hand : hand_of new ≡ hand_of mid = more.hand ∙ ap (λ (l : List ℕ). hand_of mid ++ l) none ∙ append-nil (hand_of mid) in
       let source : seen mid.source ≡ seen new.source =
@@ -175,11 +175,11 @@ module _ {S : Type 0} (seen : S → SourceView) where
       }
 
   -- the read failed
-  pub StreamLooks-failed : (mid new : PacketStream S) (lack : ℕ) (first : SourceView) (read : List ℕ) (rows : List (List ℕ))
-      → StreamLooks seen mid lack first read rows None → FailsToRead seen mid new → HasRoom new → new.packets ≡ mid.packets
+  pub StreamLooks-failed : (mid new : PacketStream S) (wanted : ℕ) (first : SourceView) (read : List ℕ) (rows : List (List ℕ))
+      → StreamLooks seen mid wanted first read rows None → FailsToRead seen mid new → HasRoom new → new.packets ≡ mid.packets
       → IsInSync (hand_of mid) → mid.have < 188
-      → StreamLooks seen new lack first read rows (Some ReadFault)
-  StreamLooks-failed mid new lack first read rows looks fails room same sync few =
+      → StreamLooks seen new wanted first read rows (Some ReadFault)
+  StreamLooks-failed mid new wanted first read rows looks fails room same sync few =
       let long : length (hand_of new) ≡ new.have = length-hand new room in
       let have : new.have ≡ mid.have = fails.have in
       record {

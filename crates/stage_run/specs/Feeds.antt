@@ -64,11 +64,11 @@ pub record FailsToRead {S : Type 0} (seen : S → SourceView) (old new : PacketS
   pub have : new.have ≡ old.have
   pub source : seen new.source ≡ read_failed (seen old.source)
 
--- some bytes were read so that a packet is ready or the end is known; no more than `lack` packets want
-pub record StreamLooks {S : Type 0} (seen : S → SourceView) (new : PacketStream S) (lack : ℕ) (first : SourceView) (read : List ℕ) (rows : List (List ℕ)) (ended : Option InputEnd) : Type 0 where
+-- some bytes were read so that a packet is ready or the end is known; no more than `wanted` packets want
+pub record StreamLooks {S : Type 0} (seen : S → SourceView) (new : PacketStream S) (wanted : ℕ) (first : SourceView) (read : List ℕ) (rows : List (List ℕ)) (ended : Option InputEnd) : Type 0 where
   pub bytes : List ℕ
   pub stands : StreamStands seen new first (read ++ bytes) rows ended
-  pub reads : (most : ℕ) → length read ≤ 188 * most → length rows + lack ≤ most → length (read ++ bytes) ≤ 188 * most
+  pub reads : (most : ℕ) → length read ≤ 188 * most → length rows + wanted ≤ most → length (read ++ bytes) ≤ 188 * most
 
 -- the next packet was put into a cell
 pub record StreamPuts {S : Type 0} (seen : S → SourceView) (new : PacketStream S) (first : SourceView) (read : List ℕ) (rows : List (List ℕ)) (cell : Cell) : Type 0 where
@@ -123,11 +123,11 @@ FeedStands seen (Nulls feed) first read rows ended =
     (read ≡ []) × (rows ≡ replicate feed.packets null_packet) × NullsEnd feed.all feed.packets ended
 
 -- a packet is ready or the end is known
-pub record FeedLooks {S : Type 0} (seen : S → SourceView) (old new : PacketFeed S) (lack : ℕ) (first : SourceView) (read : List ℕ) (rows : List (List ℕ)) (ended : Option InputEnd) : Type 0 where
+pub record FeedLooks {S : Type 0} (seen : S → SourceView) (old new : PacketFeed S) (wanted : ℕ) (first : SourceView) (read : List ℕ) (rows : List (List ℕ)) (ended : Option InputEnd) : Type 0 where
   pub same : SameFeed old new
   pub bytes : List ℕ
   pub stands : FeedStands seen new first (read ++ bytes) rows ended
-  pub reads : (most : ℕ) → length read ≤ 188 * most → length rows + lack ≤ most → length (read ++ bytes) ≤ 188 * most
+  pub reads : (most : ℕ) → length read ≤ 188 * most → length rows + wanted ≤ most → length (read ++ bytes) ≤ 188 * most
 
 -- the next packet was put into a cell
 pub record FeedPuts {S : Type 0} (seen : S → SourceView) (old new : PacketFeed S) (first : SourceView) (read : List ℕ) (rows : List (List ℕ)) (cell : Cell) : Type 0 where

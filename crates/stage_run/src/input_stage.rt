@@ -4,7 +4,7 @@ ghost use Rattle.stage_run.specs.InputSteps.{stop_count, null_count};
 
 use crate::packet_feed::PacketFeed;
 use crate::telling::{followed, may_follow};
-use crate::{InputPart, Room, Stuffing, Work};
+use crate::{InputPart, IoBuffer, Stuffing, Work};
 use chain_core::{InputEnd, News, StageEnd};
 use ts_outside::Source;
 use ts_packet::{Cell, Packet};
@@ -69,7 +69,7 @@ impl<S: Source> InputStage<S> {
     ghost use Rattle.stage_run.specs.Works.{Works, InputWorks};
 
     /// An input that has neither read nor given anything.
-    pub(crate) fn of(part: InputPart<S>, stuffing: Stuffing, room: Room) -> Self
+    pub(crate) fn of(part: InputPart<S>, stuffing: Stuffing, room: IoBuffer) -> Self
         requires { 1 ≤ stuffing.every }
         ensures stuffing { result.stuffing ≡ stuffing }
         ensures stream { feeds_stream result.feed ≡ has_source part }
@@ -105,52 +105,52 @@ impl<S: Source> InputStage<S> {
     }
 
     /// Sees to it that the next cell can be put, where no null packet is due: a packet is ready, or the end is known.
-    fn look(&mut self, lack: usize)
-        requires some { 1 ≤ lack }
+    fn ensure_packet(&mut self, wanted: usize)
+        requires some { 1 ≤ wanted }
         requires fits { InputFits self.old }
         ensures fits { InputFits self.new }
-        ensures goes { (lists : PartLists) → InputHolds S.seen self.old lists → InputGoes S.seen self.old self.new lists lack [] }
+        ensures goes { (lists : PartLists) → InputHolds S.seen self.old lists → InputGoes S.seen self.old self.new lists wanted [] }
         ensures ready { self.new.nulls ≡ 0 → self.new.ended ≡ None → IsReady self.new.feed }
         ensures packets { packets_put self.new.feed ≡ packets_put self.old.feed }
         ensures stays_open { 0 < self.new.nulls → IsOpen self.old.ended → IsOpen self.new.ended }
         ensures same_stuffing { self.new.stuffing ≡ self.old.stuffing }
     {
         if self.nulls == 0 && self.ended.is_none() {
-            self.look_further(lack);
+            self.ensure_packet_further(wanted);
         }
     }
 
     /// Sees to it that a packet is ready, or notes how the packets ended.
-    fn look_further(&mut self, lack: usize)
-        requires some { 1 ≤ lack }
+    fn ensure_packet_further(&mut self, wanted: usize)
+        requires some { 1 ≤ wanted }
         requires fits { InputFits self.old }
         requires no_nulls { self.old.nulls ≡ 0 }
         requires goes_on { self.old.ended ≡ None }
         ensures fits { InputFits self.new }
-        ensures goes { (lists : PartLists) → InputHolds S.seen self.old lists → InputGoes S.seen self.old self.new lists lack [] }
+        ensures goes { (lists : PartLists) → InputHolds S.seen self.old lists → InputGoes S.seen self.old self.new lists wanted [] }
         ensures ready { self.new.ended ≡ None → IsReady self.new.feed }
         ensures packets { packets_put self.new.feed ≡ packets_put self.old.feed }
         ensures stays_open { 0 < self.new.nulls → IsOpen self.new.ended }
         ensures same_stuffing { self.new.stuffing ≡ self.old.stuffing }
     {
-        self.ended = self.feed.look(lack);
+        self.ended = self.feed.ensure_packet(wanted);
         self.nulls = stop_count(self.ended, self.stuffing.stop);
     }
 
-    /// Puts the next cell of the list, or answers how the list ends. `lack` cells are wanted, with this one.
-    fn next_cell(&mut self, cell: &mut Cell, lack: usize) -> Option<InputEnd>
-        requires some { 1 ≤ lack }
+    /// Puts the next cell of the list, or answers how the list ends. `wanted` cells are wanted, with this one.
+    fn next_cell(&mut self, cell: &mut Cell, wanted: usize) -> Option<InputEnd>
+        requires some { 1 ≤ wanted }
         requires fits { InputFits self.old }
         requires in_range { packets_put self.old.feed < 2 ^ 62 }
         ensures fits { InputFits self.new }
-        ensures goes { (lists : PartLists) → InputHolds S.seen self.old lists → InputGoes S.seen self.old self.new lists lack (cell_put result cell.new) }
+        ensures goes { (lists : PartLists) → InputHolds S.seen self.old lists → InputGoes S.seen self.old self.new lists wanted (cell_put result cell.new) }
         ensures over { IfSome result (λ how. IsOver self.new how) }
         ensures kept { IsSome result → cell.new ≡ cell.old }
         ensures packets { packets_put self.new.feed ≤ packets_put self.old.feed + 1 }
         ensures stays_open { result ≡ None → IsOpen self.old.ended → IsOpen self.new.ended }
         ensures same_stuffing { self.new.stuffing ≡ self.old.stuffing }
     {
-        self.look(lack);
+        self.ensure_packet(wanted);
         if self.nulls > 0 {
             self.nulls -= 1;
             *cell = Cell::Live(Packet::null());
@@ -159,7 +159,7 @@ impl<S: Source> InputStage<S> {
         if self.ended.is_some() {
             return self.ended;
         }
-        self.feed.put(cell);
+        self.feed.next_packet(cell);
         self.nulls = null_count(self.feed.packets(), &self.stuffing);
         None
     }
@@ -198,7 +198,7 @@ impl<S: Source> InputStage<S> {
         ensures stays_open { 0 < self.new.nulls → IsOpen self.old.ended → IsOpen self.new.ended }
         ensures same_stuffing { self.new.stuffing ≡ self.old.stuffing }
     {
-        self.look(1);
+        self.ensure_packet(1);
         match self.ended {
             Some(how) if self.nulls == 0 => how,
             _ => InputEnd::TooLong,

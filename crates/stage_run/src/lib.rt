@@ -4,6 +4,7 @@
 
 mod input_part;
 mod input_stage;
+mod io_buffer;
 mod null_feed;
 mod output_part;
 mod output_stage;
@@ -11,7 +12,6 @@ mod packet_feed;
 mod packet_row;
 mod packet_stream;
 mod plugin_stage;
-mod room;
 mod stage_part;
 mod stuffing;
 mod telling;
@@ -20,10 +20,10 @@ mod writing;
 
 pub use input_part::InputPart;
 pub use input_stage::InputStage;
+pub use io_buffer::IoBuffer;
 pub use output_part::OutputPart;
 pub use output_stage::OutputStage;
 pub use plugin_stage::PluginStage;
-pub use room::Room;
 pub use stage_part::StagePart;
 pub use stuffing::Stuffing;
 pub use work::Work;

@@ -17,7 +17,7 @@ impl NullFeed {
     ghost use Rattle.chain_model.specs.declared.input_end.InputEnd.TheVariants.{End};
 
     /// Whether a packet is left, or how they end.
-    pub(crate) fn look(&self) -> Option<InputEnd>
+    pub(crate) fn ensure_packet(&self) -> Option<InputEnd>
         ensures { result ≡ (if nat_lt self.now.packets self.now.all then None else Some (End 0)) }
     {
         if self.packets < self.all {

@@ -1,6 +1,6 @@
 use crate::telling::{below_limit, followed};
 use crate::writing::write_cells;
-use crate::{OutputPart, Room, Work};
+use crate::{IoBuffer, OutputPart, Work};
 use chain_core::{News, StageEnd};
 use ts_outside::Sink;
 use ts_packet::Cell;
@@ -8,7 +8,7 @@ use ts_packet::Cell;
 /// An output with its room.
 pub struct OutputStage<K> {
     pub(crate) part: OutputPart<K>,
-    pub(crate) room: Room,
+    pub(crate) room: IoBuffer,
 }
 
 impl<K: Sink> OutputStage<K> {
@@ -25,7 +25,7 @@ impl<K: Sink> OutputStage<K> {
     ghost use Rattle.stage_run.specs.Works.{Works, OutputWorks};
 
     /// An output that has written nothing.
-    pub(crate) fn of(part: OutputPart<K>, room: Room) -> Self
+    pub(crate) fn of(part: OutputPart<K>, room: IoBuffer) -> Self
         ensures stream { has_sink result.part ≡ has_sink part }
         ensures stands { (source : SourceView) (sink : SinkView) (mark : ℕ) → IsSinkOf K.seen part sink
             → OutputStands K.seen result (fresh_lists source sink mark) None }

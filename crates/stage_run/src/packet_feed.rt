@@ -1,6 +1,6 @@
 use crate::null_feed::NullFeed;
 use crate::packet_stream::PacketStream;
-use crate::{InputPart, Room};
+use crate::{InputPart, IoBuffer};
 use chain_core::InputEnd;
 use ts_outside::Source;
 use ts_packet::{Cell, Packet};
@@ -17,7 +17,7 @@ impl<S: Source> PacketFeed<S> {
     ghost use Rattle.stage_run.specs.Feeds.{FeedStands, FeedHasRoom, FeedLooks, FeedPuts, IsFeedOf, IsReady, packets_put, part_of_feed};
 
     /// The packets of an input of which nothing was read yet; what is read goes into the room.
-    pub(crate) fn of(part: InputPart<S>, room: Room) -> Self
+    pub(crate) fn of(part: InputPart<S>, room: IoBuffer) -> Self
         ensures { IsFeedOf part result }
     {
         match part {
@@ -53,23 +53,23 @@ impl<S: Source> PacketFeed<S> {
     }
 
     /// Sees to it that a packet can be put, or answers how the packets ended.
-    pub(crate) fn look(&mut self, lack: usize) -> Option<InputEnd>
-        requires some { 1 ≤ lack }
+    pub(crate) fn ensure_packet(&mut self, wanted: usize) -> Option<InputEnd>
+        requires some { 1 ≤ wanted }
         requires room { FeedHasRoom self.old }
         ensures looks { (first : SourceView) (read : List ℕ) (rows : List (List ℕ)) → FeedStands S.seen self.old first read rows None
-            → FeedLooks S.seen self.old self.new lack first read rows result }
+            → FeedLooks S.seen self.old self.new wanted first read rows result }
         ensures ready { IfNone result (IsReady self.new) }
         ensures room { FeedHasRoom self.new }
         ensures packets { packets_put self.new ≡ packets_put self.old }
     {
         match self {
-            PacketFeed::Stream(stream) => stream.look(lack),
-            PacketFeed::Nulls(nulls) => nulls.look(),
+            PacketFeed::Stream(stream) => stream.ensure_packet(wanted),
+            PacketFeed::Nulls(nulls) => nulls.ensure_packet(),
         }
     }
 
     /// Puts the next packet into a cell.
-    pub(crate) fn put(&mut self, cell: &mut Cell)
+    pub(crate) fn next_packet(&mut self, cell: &mut Cell)
         requires ready { IsReady self.old }
         requires room { FeedHasRoom self.old }
         requires in_range { packets_put self.old < 2 ^ 62 }
@@ -79,7 +79,7 @@ impl<S: Source> PacketFeed<S> {
         ensures packets { packets_put self.new ≡ packets_put self.old + 1 }
     {
         match self {
-            PacketFeed::Stream(stream) => stream.put(cell),
+            PacketFeed::Stream(stream) => stream.next_packet(cell),
             PacketFeed::Nulls(nulls) => {
                 nulls.packets += 1;
                 *cell = Cell::Live(Packet::null());

@@ -1,4 +1,4 @@
-use crate::Room;
+use crate::IoBuffer;
 use crate::packet_row::{PACKET_SIZE, packet_at};
 use chain_core::InputEnd;
 use ts_outside::{Failed, Source};
@@ -9,7 +9,7 @@ const SYNC_BYTE: u8 = 0x47;
 /// The packets of a source, read in large pieces.
 pub(crate) struct PacketStream<S> {
     pub(crate) source: S,
-    pub(crate) room: Room,
+    pub(crate) room: IoBuffer,
     /// Where the bytes stand in the room that were read and are in no packet yet.
     pub(crate) from: usize,
     /// How many they are.
@@ -59,19 +59,19 @@ impl<S: Source> PacketStream<S> {
         self.from = 0;
     }
 
-    /// Reads once, for as much as `lack` packets want beside the bytes in hand, if there is room for it.
-    fn read_more(&mut self, lack: usize) -> Result<usize, Failed>
-        requires some { 1 ≤ lack }
+    /// Reads once, for as much as `wanted` packets want beside the bytes in hand, if there is room for it.
+    fn read_more(&mut self, wanted: usize) -> Result<usize, Failed>
+        requires some { 1 ≤ wanted }
         requires few { self.old.have < 188 }
         requires room { HasRoom self.old }
         ensures read { MatchResult result (ReadsMore S.seen self.old self.new) (λ _. FailsToRead S.seen self.old self.new) }
-        ensures asked { self.new.have ≤ 188 * lack }
+        ensures asked { self.new.have ≤ 188 * wanted }
         ensures room { HasRoom self.new }
         ensures packets { self.new.packets ≡ self.old.packets }
     {
         self.to_front();
         let bytes = self.room.bytes.as_mut_slice();
-        let want = lack.min(bytes.len() / PACKET_SIZE) * PACKET_SIZE;
+        let want = wanted.min(bytes.len() / PACKET_SIZE) * PACKET_SIZE;
         let count = self.source.read(&mut bytes[self.have..want])?;
         self.have += count;
         Ok(count)
@@ -80,12 +80,12 @@ impl<S: Source> PacketStream<S> {
     /// Reads until a whole packet stands in front of the bytes in hand, or answers how the packets ended.
     ///
     /// The first byte of a packet that was read decides before any further read. Of the source no more is asked than
-    /// `lack` packets want behind those that were put.
-    pub(crate) fn look(&mut self, lack: usize) -> Option<InputEnd>
-        requires some { 1 ≤ lack }
+    /// `wanted` packets want behind those that were put.
+    pub(crate) fn ensure_packet(&mut self, wanted: usize) -> Option<InputEnd>
+        requires some { 1 ≤ wanted }
         requires room { HasRoom self.old }
         ensures looks { (first : SourceView) (read : List ℕ) (rows : List (List ℕ)) → StreamStands S.seen self.old first read rows None
-            → StreamLooks S.seen self.new lack first read rows result }
+            → StreamLooks S.seen self.new wanted first read rows result }
         ensures ready { IfNone result (BeginsPacket (hand_of self.new)) }
         ensures room { HasRoom self.new }
         ensures packets { self.new.packets ≡ self.old.packets }
@@ -99,7 +99,7 @@ impl<S: Source> PacketStream<S> {
             if self.have >= PACKET_SIZE {
                 return None;
             }
-            match self.read_more(lack) {
+            match self.read_more(wanted) {
                 Ok(0) => {
                     return Some(InputEnd::End {
                         left: self.have as u8,
@@ -112,7 +112,7 @@ impl<S: Source> PacketStream<S> {
     }
 
     /// Puts the packet in front into a cell.
-    pub(crate) fn put(&mut self, cell: &mut Cell)
+    pub(crate) fn next_packet(&mut self, cell: &mut Cell)
         requires ready { BeginsPacket (hand_of self.old) }
         requires room { HasRoom self.old }
         requires in_range { self.old.packets < 2 ^ 62 }

@@ -1,4 +1,6 @@
-use crate::{InputPart, InputStage, OutputPart, OutputStage, PluginStage, Room, Stuffing, Work};
+use crate::{
+    InputPart, InputStage, IoBuffer, OutputPart, OutputStage, PluginStage, Stuffing, Work,
+};
 use chain_core::News;
 use plugin_trait::Plugin;
 use ts_outside::{Gate, Sink, Source};
@@ -30,7 +32,7 @@ impl<S: Source, K: Sink, P: Plugin> StagePart<S, K, P> {
     ghost use Rattle.stage_run.specs.Works.{Works, WorksByKind};
 
     /// The input's stage. It reads into the room. Nothing was read or given yet.
-    pub fn of_input(part: InputPart<S>, stuffing: Stuffing, room: Room) -> Self
+    pub fn of_input(part: InputPart<S>, stuffing: Stuffing, room: IoBuffer) -> Self
         requires { 1 ≤ stuffing.every }
         ensures kind { kind_of result ≡ an_input }
         ensures stream { has_stream result ≡ has_source part }
@@ -55,7 +57,7 @@ impl<S: Source, K: Sink, P: Plugin> StagePart<S, K, P> {
     }
 
     /// The output's stage. It gathers in the room what it writes. Nothing was written yet.
-    pub fn of_output(part: OutputPart<K>, room: Room) -> Self
+    pub fn of_output(part: OutputPart<K>, room: IoBuffer) -> Self
         ensures kind { kind_of result ≡ an_output }
         ensures stream { has_stream result ≡ has_sink part }
         ensures stands { (source : SourceView) (sink : SinkView) (mark : ℕ) → IsSinkOf K.seen part sink

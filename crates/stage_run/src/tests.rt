@@ -116,7 +116,7 @@ fn news(limit: Option<u64>) -> News
 fn input<S: Source, K: Sink, P: Plugin>(
     part: InputPart<S>,
     start: u64,
-    room: Room,
+    room: IoBuffer,
 ) -> StagePart<S, K, P>
     ensures may { MayWorkOnSome (PartStands S.seen K.seen P.rule P.stands_for result) 0 0 }
     ensures kind { kind_of result ≡ an_input }
@@ -131,7 +131,7 @@ fn input<S: Source, K: Sink, P: Plugin>(
 }
 
 /// A new output, which may work.
-fn output<S: Source, K: Sink, P: Plugin>(part: OutputPart<K>, room: Room) -> StagePart<S, K, P>
+fn output<S: Source, K: Sink, P: Plugin>(part: OutputPart<K>, room: IoBuffer) -> StagePart<S, K, P>
     ensures may { MayWorkOnSome (PartStands S.seen K.seen P.rule P.stands_for result) 0 0 }
     ensures kind { kind_of result ≡ an_output }
 {
@@ -219,7 +219,7 @@ fn gives<S: Source, K: Sink, P: Plugin>(
 fn gives_and_ends<S: Source, K: Sink, P: Plugin>(
     part: InputPart<S>,
     start: u64,
-    room: Room,
+    room: IoBuffer,
     first: &mut [Cell; 2],
     second: &mut [Cell; 2],
 ) -> (InputPart<S>, Gave) {
@@ -238,7 +238,7 @@ fn read_file(
     second: &mut [Cell; 2],
 ) -> Result<Gave, Fail> {
     let mut desk = desk(alloc, packets, read, 0)?;
-    let room = Room::new(alloc, 2)?;
+    let room = IoBuffer::new(alloc, 2)?;
     let source = match desk.open_in(Some("in")) {
         Ok(source) => source,
         Err(_) => return Err("no source".into()),
@@ -312,7 +312,7 @@ fn an_input_of_null_packets_ends(rt: HostRuntime) -> Result<(), Fail> {
     let mut first = [Cell::Dropped; 2];
     let mut second = [Cell::Dropped; 2];
     let mut desk = desk(rt.alloc(), 0, 0, 0)?;
-    let room = Room::new(rt.alloc(), 1)?;
+    let room = IoBuffer::new(rt.alloc(), 1)?;
     let (part, gave) = gives_and_ends::<MemorySource, MemorySink, StopsAt>(
         InputPart::Nulls(1),
         0,
@@ -365,7 +365,7 @@ fn a_plugin_passes_and_stops(rt: HostRuntime) -> Result<(), Fail> {
 /// Works on four cells with an output, and gives the output back.
 fn writes<S: Source, K: Sink, P: Plugin>(
     part: OutputPart<K>,
-    room: Room,
+    room: IoBuffer,
     limit: Option<u64>,
 ) -> (OutputPart<K>, Work) {
     let mut part: StagePart<S, K, P> = output(part, room);
@@ -377,7 +377,7 @@ fn writes<S: Source, K: Sink, P: Plugin>(
 /// Writes four cells, and tells how many bytes the sink took. A write of this number fails.
 fn written(alloc: Global, limit: Option<u64>, write: u64) -> Result<(usize, Work), Fail> {
     let mut desk = desk(alloc, 0, 0, write)?;
-    let room = Room::new(alloc, 4)?;
+    let room = IoBuffer::new(alloc, 4)?;
     let sink = match desk.open_out(None) {
         Ok(sink) => sink,
         Err(_) => return Err("no sink".into()),
@@ -422,7 +422,7 @@ fn a_write_fails_within_a_packet(rt: HostRuntime) -> Result<(), Fail> {
 #[test]
 fn a_discarding_output_counts_cells(rt: HostRuntime) -> Result<(), Fail> {
     let mut desk = desk(rt.alloc(), 0, 0, 0)?;
-    let room = Room::new(rt.alloc(), 1)?;
+    let room = IoBuffer::new(rt.alloc(), 1)?;
     let (part, work) = writes::<MemorySource, MemorySink, StopsAt>(OutputPart::Discard, room, None);
     assert!(rt; !close_output(&mut desk, part));
     did(&rt, work, 4, None);

@@ -67,7 +67,7 @@ impl StretchReader {
             self.go_on(payload, waiting)?;
             return Ok(());
         }
-        let Some((before, after)) = around_pointed_place(payload) else {
+        let Some((before, after)) = split_at_pointer_field(payload) else {
             self.close();
             return Ok(());
         };
@@ -152,7 +152,7 @@ fn goes_on_behind(last: Option<u8>, counter: u8) -> bool
 }
 
 /// The bytes of a payload with unit start before and behind its pointed place; none for a lawless pointer.
-fn around_pointed_place(payload: &[u8]) -> Option<(&[u8], &[u8])>
+fn split_at_pointer_field(payload: &[u8]) -> Option<(&[u8], &[u8])>
     ensures lawless { IfNone result (length payload.now ≤ slice_index payload.now 0) }
     ensures lawful { IfSome result (λ _. slice_index payload.now 0 < length payload.now) }
     ensures before { IfSome result (λ around. around.0.now ≡ take (slice_index payload.now 0) (drop 1 payload.now)) }

@@ -5,11 +5,11 @@ ghost use Rattle.chain_core.specs.declared.stage_end.StageEnd.TheVariants.{Follo
 ghost use Rattle.chain_core.specs.Stages.{stages_of};
 ghost use Rattle.chain_core.specs.Numbers.{IsAgreement, MayVisit};
 ghost use Rattle.chain_core.specs.ChainRun.{AllEnded};
-ghost use Rattle.chain_core.specs.CoreNumbers.{marks_in};
+ghost use Rattle.chain_core.specs.CoreNumbers.{progress_of_core};
 
 use crate::limit::limit_of;
 use crate::{
-    Cause, Closed, Core, CorePlan, InputEnd, Mark, News, Reason, StageEnd, StageSet, StageWord,
+    Cause, Closed, Core, CorePlan, InputEnd, News, Progress, Reason, StageEnd, StageSet, StageWord,
 };
 use std::alloc::{AllocError, Global};
 use std::process::Abort;
@@ -49,28 +49,28 @@ fn ends(stage: usize, done: usize, end: StageEnd) -> Step {
 
 /// Whether the core allows the visit.
 fn allows(core: &Core, step: Step) -> bool
-    ensures { IsTrue result → MayVisit core.now.plan (marks_in core.now) core.now.told step.stage step.done step.word }
+    ensures { IsTrue result → MayVisit core.now.plan (progress_of_core core.now) core.now.told step.stage step.done step.word }
 {
     if step.stage > core.plan.plugins + 1 {
         return false;
     }
-    let limit = limit_of(core.plan.users, &core.marks);
+    let limit = limit_of(core.plan.users, &core.progress);
     let news = core.news(step.stage, limit);
-    let mark = core.marks[step.stage];
-    if mark.ended.is_some() || !holds(mark, step.done) {
+    let progress = core.progress[step.stage];
+    if progress.ended.is_some() || !holds(progress, step.done) {
         return false;
     }
-    let now = mark.given + step.done as u64;
+    let now = progress.given + step.done as u64;
     let is_output = step.stage == core.plan.plugins + 1;
-    is_agreement(step.word.agreed, mark.given, now)
+    is_agreement(step.word.agreed, progress.given, now)
         && is_below(is_output, core.told, step.done, now)
         && may_follow(step.word.ended, &news, now)
 }
 
-fn holds(mark: Mark, done: usize) -> bool
-    ensures { IsTrue result → mark.given + done ≤ mark.taken }
+fn holds(progress: Progress, done: usize) -> bool
+    ensures { IsTrue result → progress.given + done ≤ progress.taken }
 {
-    mark.given <= mark.taken && done as u64 <= mark.taken - mark.given
+    progress.given <= progress.taken && done as u64 <= progress.taken - progress.given
 }
 
 fn is_agreement(agreed: Option<u64>, before: u64, now: u64) -> bool
@@ -114,10 +114,12 @@ fn reaches(limit: Option<u64>, now: u64) -> bool
 }
 
 fn all_ended(core: &Core) -> bool
-    ensures { IsTrue result → AllEnded core.now.plan (marks_in core.now) }
+    ensures { IsTrue result → AllEnded core.now.plan (progress_of_core core.now) }
 {
     let _ = &core.plan;
-    core.marks.iter().all(|mark| mark.ended.is_some())
+    core.progress
+        .iter()
+        .all(|progress| progress.ended.is_some())
 }
 
 /// Runs a core of two plugins over the visits, and compares its close.

@@ -2,7 +2,7 @@ use Rattle.std.proofs.Common.{◌∙◌, ap, length, map, sym, Some, subst}
 use Rattle.std.specs.String.{string_bytes}
 use Rattle.std.proofs.lemmas.List.{length-map}
 use Rattle.chain_args.specs.General.{general}
-use Rattle.chain_args.specs.Parts.{StandsFor}
+use Rattle.chain_args.specs.PlanBuilder.{StandsFor}
 use Rattle.chain_args.specs.WordsFault.{FaultsBy, IsFirstFault}
 use Rattle.chain_args.proofs.PlanLemmas.{general_fault, handed_on, plan_from, reads_refuses, refused_here, segments_fault}
 use Rattle.chain_args.proofs.plan_of_words.plan.Goals as goal

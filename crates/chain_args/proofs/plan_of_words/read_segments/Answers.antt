@@ -1,7 +1,7 @@
 use Rattle.std.proofs.Common.{◌∙◌, ◌+◌, ◌++◌, ◌∷◌, [], List, ap, map, sym, subst, arith, append-nil}
 use Rattle.std.specs.String.{string_bytes}
 use Rattle.std.proofs.lemmas.List.{length-map}
-use Rattle.chain_args.specs.Parts.{StandsFor, segment}
+use Rattle.chain_args.specs.PlanBuilder.{StandsFor, segment}
 use Rattle.chain_args.specs.Rules.{first_fault}
 use Rattle.chain_args.specs.Segments.{Segment, segments}
 use Rattle.chain_args.proofs.PlanLemmas.{ended, fault_passed, fault_step, first_begins, next_begins, no_fault_left, no_words, refused_here, whole_step}

@@ -1,6 +1,6 @@
 use Rattle.std.proofs.Common.{◌≡◌, ◌+◌, ◌<◌, ◌^◌, ◌++◌, List, [], length, map}
 use Rattle.std.specs.String.{string_bytes}
-use Rattle.chain_args.specs.Parts.{StandsFor}
+use Rattle.chain_args.specs.PlanBuilder.{StandsFor}
 use Rattle.chain_args.specs.Rules.{first_fault}
 use Rattle.chain_args.specs.Segments.{Segment, general_words, segments}
 use Rattle.chain_args.proofs.plan_of_words.read_segments.Given as goal

@@ -1,7 +1,7 @@
 use Rattle.std.proofs.Common.{◌≡◌, ◌<◌, ℕ, None, Bool, get_or, if◌then◌else◌, ap, sym, subst, ◌∙◌, arith}
 use Rattle.std.proofs.lemmas.List.{get_or_read}
 use Rattle.ts_packet.specs.Header.{pid_of, with_counter}
-use Rattle.plug_watch.specs.declared.seen.Seen.{Seen}
+use Rattle.plug_watch.specs.declared.last_packet.LastPacket.{LastPacket}
 use Rattle.plug_watch.specs.ContinuityRule.{fixed}
 use Rattle.plug_watch.specs.ContinuitySeen.{HasCounters}
 use Rattle.plug_watch.proofs.Watching.{right_is, watches_kept}
@@ -36,7 +36,7 @@ returns-then-self-clause-edited c = λ history mark w.
     let d = (goal.at.returns-then-self-clause-edited c).After-index-before in
     c.set_counter.ensures.row
     ∙ (ap (with_counter c.args.packet.now)
-    (ap (λ (s : Seen). s.right) c.seen_with-next.ensures.with
+    (ap (λ (s : LastPacket). s.right) c.seen_with-next.ensures.with
     ∙ right_is _ _ _ history mark w c.args.packet.now c.index-before.result.now (below d) c.requires.watched (before_is d) c.seen_with-next.ensures.counter)
     ∙ sym (ap (λ (b : Bool). if b then fixed history c.args.packet.now else c.args.packet.now) c.if-self.true))
 

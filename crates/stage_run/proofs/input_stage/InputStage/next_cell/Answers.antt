@@ -9,29 +9,29 @@ use Rattle.stage_run.proofs.input_stage.InputStage.next_cell.Goals as goal
 pub returns-then-self-gt0-clause-goes : goal.returns-then-self-gt0-clause-goes
 returns-then-self-gt0-clause-goes g c = λ lists holds.
     let seen = g.S.Source.seen in
-    let mid = c.look.new.self in
-    let one = c.look.ensures.goes lists holds in
+    let mid = c.ensure_packet.new.self in
+    let one = c.ensure_packet.ensures.goes lists holds in
     let new : InputStage g.row.S.Denot = record { feed = mid.feed; stuffing = mid.stuffing; nulls = mid.nulls - 1; ended = mid.ended } in
-    let two = InputGoes-null seen mid (mid.nulls - 1) (with_more lists one.bytes []) c.args.lack (omega arith) one.holds in
-    subst (λ (p : List ℕ). InputGoes seen c.args.self.now new lists c.args.lack (Live p ∷ [])) (sym c.null.ensures.bytes)
-    (InputGoes-trans seen c.args.self.now mid new lists c.args.lack c.args.lack c.args.lack [] (Live _ ∷ []) (omega arith) (omega arith) one two)
+    let two = InputGoes-null seen mid (mid.nulls - 1) (with_more lists one.bytes []) c.args.wanted (omega arith) one.holds in
+    subst (λ (p : List ℕ). InputGoes seen c.args.self.now new lists c.args.wanted (Live p ∷ [])) (sym c.null.ensures.bytes)
+    (InputGoes-trans seen c.args.self.now mid new lists c.args.wanted c.args.wanted c.args.wanted [] (Live _ ∷ []) (omega arith) (omega arith) one two)
 
 pub returns-then-is_some-clause-goes : goal.returns-then-is_some-clause-goes
 returns-then-is_some-clause-goes g c = λ lists holds.
-    let mid = c.look.new.self in
-    InputGoes-over g.S.Source.seen c.args.self.now mid lists c.args.lack c.args.cell.now mid.ended
-    (sym c.is_some.ensures ∙ c.if-is_some.true) (c.look.ensures.goes lists holds)
+    let mid = c.ensure_packet.new.self in
+    InputGoes-over g.S.Source.seen c.args.self.now mid lists c.args.wanted c.args.cell.now mid.ended
+    (sym c.is_some.ensures ∙ c.if-is_some.true) (c.ensure_packet.ensures.goes lists holds)
 
 pub returns-then-is_some-clause-over : goal.returns-then-is_some-clause-over
-returns-then-is_some-clause-over g c = IsOver-some c.look.new.self c.look.new.self.ended refl (omega arith)
+returns-then-is_some-clause-over g c = IsOver-some c.ensure_packet.new.self c.ensure_packet.new.self.ended refl (omega arith)
 
 pub returns-clause-goes : goal.returns-clause-goes
 returns-clause-goes g c = λ lists holds.
     let seen = g.S.Source.seen in
-    let mid = c.look.new.self in
-    let one = c.look.ensures.goes lists holds in
-    let new : InputStage g.row.S.Denot = record { feed = c.put.new.self; stuffing = mid.stuffing; nulls = c.null_count-self.result; ended = mid.ended } in
-    let two = InputGoes-put seen mid c.put.new.self c.null_count-self.result (with_more lists one.bytes []) c.args.lack c.put.new.cell
+    let mid = c.ensure_packet.new.self in
+    let one = c.ensure_packet.ensures.goes lists holds in
+    let new : InputStage g.row.S.Denot = record { feed = c.next_packet.new.self; stuffing = mid.stuffing; nulls = c.null_count-self.result; ended = mid.ended } in
+    let two = InputGoes-put seen mid c.next_packet.new.self c.null_count-self.result (with_more lists one.bytes []) c.args.wanted c.next_packet.new.cell
     (omega arith) (None-from_is_some mid.ended (sym c.is_some.ensures ∙ c.if-is_some.false))
-    (c.null_count-self.ensures ∙ ap (null_count (stuffing_of mid.stuffing)) c.packets.ensures) one.holds c.put.ensures.puts in
-    InputGoes-trans seen c.args.self.now mid new lists c.args.lack c.args.lack c.args.lack [] (c.put.new.cell ∷ []) (omega arith) (omega arith) one two
+    (c.null_count-self.ensures ∙ ap (null_count (stuffing_of mid.stuffing)) c.packets.ensures) one.holds c.next_packet.ensures.puts in
+    InputGoes-trans seen c.args.self.now mid new lists c.args.wanted c.args.wanted c.args.wanted [] (c.next_packet.new.cell ∷ []) (omega arith) (omega arith) one two

@@ -1,0 +1,47 @@
+-- What the segments read so far make, while a command line is read.
+-- This project's own rule.
+use Rattle.std.specs.Prelude.{◌≡◌, ◌≤◌, ℕ, List, [], Option, Some, IfSome, count_by, is_some, length, slice_get, unwrap_or}
+use Rattle.std.specs.List.{All, list_any}
+use Rattle.plug_conf.specs.Lawful.{IsLawful}
+use Rattle.chain_args.specs.LawfulPlan.{IsLawfulInput}
+use Rattle.chain_args.specs.PlanOf.{inputs_of, outputs_of, plugins_of}
+use Rattle.chain_args.specs.Rules.{most_plugins}
+use Rattle.chain_args.specs.Segments.{Segment, is_input, is_output, is_plugin}
+use Rattle.chain_args.specs.declared.general_conf.GeneralConf.{GeneralConf}
+use Rattle.chain_args.specs.declared.input_conf.InputConf.TheVariants.{File}
+use Rattle.chain_args.specs.declared.output_conf.OutputConf.TheVariants as output
+use Rattle.chain_args.specs.declared.plan_builder.PlanBuilder.{PlanBuilder}
+use Rattle.chain_args.specs.declared.plan_type.Plan.{Plan}
+use Rattle.chain_args.specs.declared.refusal.Refusal.{Refusal}
+use Rattle.chain_args.specs.declared.refusal.Refusal.TheVariants.{Broken, NoMemory}
+use Rattle.chain_args.specs.declared.words_rule.WordsRule.{WordsRule}
+
+-- a segment of a first word and the others
+abbrev pub segment : List ℕ → List (List ℕ) → Segment
+segment first others = record { first = first; others = others }
+
+-- memory ran out, or the rule is the one that is broken
+abbrev pub RefusesBy : Option WordsRule → Refusal → Type 0
+RefusesBy broken (Broken rule) = broken ≡ Some rule
+RefusesBy broken NoMemory = Unit {0}
+
+-- the parts are what these segments make, none of which breaks a rule
+pub record StandsFor (p : PlanBuilder) (before : List Segment) : Type 0 where
+  pub input : p.input ≡ slice_get (inputs_of before) 0
+  pub has_input : is_some p.input ≡ list_any is_input before
+  pub plugins : p.plugins.items ≡ plugins_of before
+  pub plugin_count : length p.plugins.items ≡ count_by is_plugin before
+  pub output : p.output ≡ slice_get (outputs_of before) 0
+  pub has_output : is_some p.output ≡ list_any is_output before
+  pub lawful_input : IfSome p.input IsLawfulInput
+  pub lawful_plugins : All IsLawful p.plugins.items
+  pub few : length p.plugins.items ≤ most_plugins
+
+-- the plan of the parts, with the standard streams where nothing was named
+abbrev pub parts_plan : GeneralConf → PlanBuilder → Plan
+parts_plan general p = record {
+  general = general;
+  input = unwrap_or p.input (File []);
+  plugins = p.plugins.items;
+  output = unwrap_or p.output (output.File []);
+}

@@ -1,0 +1,16 @@
+use Rattle.std.proofs.Common.{◌<◌, ◌≡◌, ◌+◌, length}
+use Rattle.chain_core.specs.CoreNumbers.{progress_of_core}
+use Rattle.chain_run.specs.Runs.{RunStart, remaining_work}
+use Rattle.chain_run.specs.Working.{IsRunning}
+use Rattle.chain_run.proofs.serial_chain.SerialChain.run.Given as goal
+
+abbrev pub invariant-loop : goal.invariant-loop
+invariant-loop g l = record {
+  runs : (begun : RunStart g.row.S.Denot g.row.K.Denot) → IsRunning g.S.Source.seen g.K.Sink.seen g.P.Plugin.rule g.P.Plugin.stands_for begun l.fn.self.core l.fn.self.parts.items l.fn.self.cells.items
+      → IsRunning g.S.Source.seen g.K.Sink.seen g.P.Plugin.rule g.P.Plugin.stands_for begun l.self.core l.self.parts.items l.self.cells.items;
+  plan : l.self.core.plan ≡ l.fn.self.core.plan;
+  next : l.next < length l.sizes;
+}
+
+abbrev pub decreases-loop : goal.decreases-loop
+decreases-loop g l = remaining_work (progress_of_core l.self.core) (l.fn.self.core.plan.plugins + 2)

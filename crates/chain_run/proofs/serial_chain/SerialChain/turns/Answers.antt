@@ -1,0 +1,44 @@
+use Rattle.std.proofs.Common.{◌≡◌, ◌⊎◌, ◌+◌, ◌<◌, ℕ, Bool, true, false, length, refl, ap, sym, ◌∙◌, subst, arith, inl, inr}
+use Rattle.std.specs.Prelude.{◌||◌}
+use Rattle.std.proofs.lemmas.Bool.{cases_Bool}
+use Rattle.chain_core.specs.declared.core_plan.CorePlan.{CorePlan}
+use Rattle.chain_core.specs.Numbers.{StagesProgress}
+use Rattle.chain_core.specs.CoreNumbers.{progress_of_core}
+use Rattle.chain_run.specs.Runs.{IsIdleOrOver, remaining_work}
+use Rattle.chain_run.proofs.ProgressLemmas.{Turned, one-more}
+use Rattle.chain_run.proofs.serial_chain.SerialChain.turns.Goals as goal
+
+pub loop-stage-preserved : goal.loop-stage-preserved
+loop-stage-preserved g c =
+    let plan : CorePlan = c.args.self.now.core.plan in
+    let n : ℕ = plan.plugins + 2 in
+    let start : StagesProgress = progress_of_core c.args.self.now.core in
+    let old : StagesProgress = progress_of_core c.loop-stage.self.core in
+    let new : StagesProgress = progress_of_core c.turn-turned.new.self.core in
+    let branch : ((c.turn-turned.result ≡ true) × (c.either-moved.result ≡ true)) ⊎ ((c.turn-turned.result ≡ false) × (c.either-moved.result ≡ c.loop-stage.moved)) =
+    elim (cases_Bool c.turn-turned.result) [
+      | inl yes_ ↦ inl (yes_, c.either-moved.ensures ∙ ap (λ (b : Bool). b || c.loop-stage.moved) yes_)
+      | inr no_ ↦ inr (no_, c.either-moved.ensures ∙ ap (λ (b : Bool). b || c.loop-stage.moved) no_)
+    ] in
+    let turned : Turned plan start new n (c.loop-stage.stage + 1) c.either-moved.result =
+    one-more plan start old new n c.loop-stage.stage c.loop-stage.moved c.turn-turned.result c.either-moved.result branch
+    (record { moves = c.loop-stage.invariant.moved; rests = c.loop-stage.invariant.rests; idle = c.loop-stage.invariant.idle })
+    (subst (λ (p : CorePlan). c.turn-turned.result ≡ true → remaining_work new (p.plugins + 2) < remaining_work old (p.plugins + 2)) c.loop-stage.invariant.plan c.turn-turned.ensures.moved)
+    c.turn-turned.ensures.rests
+    (subst (λ (p : CorePlan). c.turn-turned.result ≡ false → IsIdleOrOver p new c.loop-stage.stage) c.loop-stage.invariant.plan c.turn-turned.ensures.idle) in
+    record {
+      runs = λ begun goes. c.turn-turned.ensures.runs begun (c.loop-stage.invariant.runs begun goes);
+      plan = c.turn-turned.ensures.plan ∙ c.loop-stage.invariant.plan;
+      parts = c.turn-turned.ensures.parts ∙ c.loop-stage.invariant.parts;
+      next = c.after.ensures;
+      moved = turned.moves;
+      rests = turned.rests;
+      idle = turned.idle;
+    }
+
+pub returns-clause-idle : goal.returns-clause-idle
+returns-clause-idle g c = λ rests stage le.
+    let stages : length c.args.self.now.parts.items ≡ c.args.self.now.core.plan.plugins + 2 =
+    c.requires.runs.1.fits.stages_are ∙ (let e = c.requires.runs.1.fits.plan_is in subst (λ (p : CorePlan). c.requires.runs.0.plan.plugins + 2 ≡ p.plugins + 2) (sym e) refl) in
+    subst (λ (m : StagesProgress). IsIdleOrOver c.args.self.now.core.plan m stage) (sym (c.loop-stage.invariant.rests rests))
+    (c.loop-stage.invariant.idle rests stage (omega (arith, stages)))

@@ -1,0 +1,28 @@
+ghost use Rattle.std.specs.Prelude.{◌≤◌, vec_len};
+
+use std::alloc::{AllocError, Global};
+
+const PACKET_SIZE: usize = 188;
+
+/// IoBuffer for the bytes of packets, taken before the run: an input reads into it, and an output gathers there what it
+/// writes. One call of the outside moves as much as fits, at most.
+#[derive(Drop)]
+pub struct IoBuffer {
+    pub(crate) bytes: Vec<u8>,
+    ghost some_packet: { 188 ≤ vec_len bytes },
+}
+
+impl IoBuffer {
+    ghost use Rattle.std.specs.Prelude.{◌≡◌, ◌≤◌, ◌*◌, IfOk};
+    ghost use Rattle.stage_run.specs.RoomSize.{bytes_of_room};
+
+    /// IoBuffer for so many packets. After an `AllocError` there is none.
+    pub fn new(alloc: Global, packets: usize) -> Result<IoBuffer, AllocError>
+        requires some { 1 ≤ packets }
+        requires few { packets ≤ 1000000 }
+        ensures { IfOk result (λ room. bytes_of_room room ≡ 188 * packets) }
+    {
+        let bytes = vec![in alloc; 0; PACKET_SIZE * packets]?;
+        Ok(IoBuffer { bytes })
+    }
+}
