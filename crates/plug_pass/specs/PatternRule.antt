@@ -19,7 +19,7 @@ offset_for conf packet =
 
 -- the packet with the pattern from a place to its end; behind the end there is no place
 abbrev pub patterned_from : List ℕ → ℕ → List ℕ → List ℕ
-patterned_from pattern at packet = 
+patterned_from pattern at packet =
     if nat_lt at PACKET_SIZE then with_piece packet at (repeated pattern (PACKET_SIZE - at)) else packet
 
 -- the pattern begins in the payload, at the offset; a packet without payload stays as it is
