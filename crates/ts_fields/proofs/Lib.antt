@@ -1,0 +1,7 @@
+mod BitLemmas
+mod ReadLemmas
+mod WriteLemmas
+mod AgainLemmas
+mod TakesLemmas
+mod SizeLemmas
+mod BodyLemmas
