@@ -1,24 +1,21 @@
 -- What is spelled is read again.
-use Rattle.std.proofs.Common.{◌≡◌, ℕ, zero, suc, ◌+◌, ◌-◌, ◌*◌, ◌/◌, ◌%◌, ◌^◌, ◌<◌, ◌≤◌, Bool, true, false, List, [], ◌∷◌, ◌++◌, length, take, drop, refl, sym, ap, ◌∙◌, arith, append_assoc, append-nil, pow-suc, length-append, mod-lt, mul-le-mul_right}
+use Rattle.std.proofs.Common.{◌≡◌, ℕ, zero, suc, ◌+◌, ◌-◌, ◌*◌, ◌/◌, ◌%◌, ◌^◌, ◌<◌, ◌≤◌, Bool, true, false, List, [], ◌∷◌, ◌++◌, length, take, drop, refl, sym, ap, ◌∙◌, arith, append_assoc, append-nil, pow-suc, length-append}
 use Rattle.std.specs.Prelude.{nat_eq, nat_le, nat_lt, ◌&&◌, ◌||◌, Option, Some, None, option_to_list, slice_get, if◌then◌else◌}
-use Rattle.std.proofs.lemmas.Bool.{le-leb, leb-true, ltb-true, lt-leb, eqb-true, eq-eqb, lt-ltb}
+use Rattle.std.proofs.lemmas.Bool.{le-leb, leb-true, ltb-true, eqb-true, eq-eqb, lt-ltb}
 use Rattle.std.proofs.Math.Arith.{mod-mul}
-use Rattle.std.proofs.Math.Nat.{mod-eq_of_lt, add-mul-mod_self_left}
-use Rattle.std.proofs.lemmas.Nat.{pow_pos, div-mul-add, pow-add}
-use Rattle.std.proofs.lemmas.Grind.{common_steps, flat_map-append}
-use Rattle.std.proofs.lemmas.List.{take-append-drop, length-take-le}
-use Rattle.std.proofs.lemmas.Option.{cond_some, same_Some}
+use Rattle.std.proofs.Math.Nat.{mod-eq_of_lt}
+use Rattle.std.proofs.lemmas.Nat.{pow_pos}
 use Rattle.std.proofs.Math.Seq.{take-append_seam, drop-append_seam}
 use Rattle.ts_fields.specs.declared.field.Kind.{Kind}
 use Rattle.ts_fields.specs.declared.field.Kind.TheVariants.{Number, Ones, Free, Flag, Start, Duration, Decimal, Language, CountedText, Text, Hex}
-use Rattle.ts_fields.specs.Bits.{bits, bits_of, number_of}
+use Rattle.ts_fields.specs.Bits.{bits, bits_of}
 use Rattle.ts_fields.specs.Layout.{Row, Held, number, bytes}
-use Rattle.ts_fields.specs.Reading.{read_number, read_bytes, read_decimal, read_rest, read_field, read_rows, are_printable, is_printable, ◌>>=◌}
+use Rattle.ts_fields.specs.Reading.{read_number, read_bytes, read_decimal, read_rest, read_field, read_rows, are_printable, is_printable}
 use Rattle.ts_fields.specs.Spelling.{spell_decimal, spell_field, spell_rows, holds}
-use Rattle.ts_fields.specs.SoundRows.{is_exact, are_exact, goes_to_end, is_open, is_nil, ends_last}
+use Rattle.ts_fields.specs.SoundRows.{goes_to_end, is_open, is_nil, ends_last}
 use Rattle.ts_fields.specs.Fitting.{fits, field_fits, are_bytes}
 use Rattle.ts_fields.specs.Times.{is_start, is_time}
-use Rattle.ts_fields.proofs.BitLemmas.{length-bits, length-bits_of, number_of-bits, bits-number_of, number_of-lt}
+use Rattle.ts_fields.proofs.BitLemmas.{length-bits, length-bits_of, number_of-bits}
 use Rattle.ts_fields.proofs.WriteLemmas.{ten_pos}
 
 -- both halves of a test
@@ -43,7 +40,8 @@ number_again n v rest =
     let back : drop n (bits n v ++ rest) ≡ rest = ap (λ k. drop k (bits n v ++ rest)) (sym (length-bits n v)) ∙ drop-append_seam (bits n v) rest in
     rw (test, front, back, number_of-bits) refl
 
-pub bytes_again : (b : List ℕ) (rest : List Bool) → are_bytes b ≡ true → read_bytes (length b) (bits_of b ++ rest) ≡ Some (b, rest)
+pub bytes_again : (b : List ℕ) (rest : List Bool) → are_bytes b ≡ true
+    → read_bytes (length b) (bits_of b ++ rest) ≡ Some (b, rest)
 unfolding read_bytes
 bytes_again [] rest fit = refl
 bytes_again (b ∷ bs) rest fit =
@@ -58,7 +56,8 @@ digits_join v d =
     let ten : zero < 10 = omega arith in
     sym (mod-mul v ten (ten_pos d)) ∙ ap (λ m. v % m) (sym power)
 
-decimal_again : (d v : ℕ) (rest : List Bool) → read_decimal d (spell_decimal d v ++ rest) ≡ Some (v % 10 ^ d, rest)
+decimal_again : (d v : ℕ) (rest : List Bool)
+    → read_decimal d (spell_decimal d v ++ rest) ≡ Some (v % 10 ^ d, rest)
 unfolding read_decimal spell_decimal
 decimal_again zero v rest = ap (λ n. Some (n, rest)) (omega arith)
 decimal_again (suc d) v rest =
@@ -96,7 +95,9 @@ kept CountedText value = value
 kept Text value = value
 kept Hex value = value
 
-field_again : (k : Kind) (value : Option Held) (rest : List Bool) → field_fits k value ≡ true → (goes_to_end k ≡ true → rest ≡ []) → read_field k (spell_field k value ++ rest) ≡ Some (kept k value, rest)
+field_again : (k : Kind) (value : Option Held) (rest : List Bool) → field_fits k value ≡ true
+    → (goes_to_end k ≡ true → rest ≡ [])
+    → read_field k (spell_field k value ++ rest) ≡ Some (kept k value, rest)
 unfolding read_field spell_field
 field_again (Number count) None rest fit end = cc
 field_again (Number count) (Some (bytes b)) rest fit end = cc
@@ -154,7 +155,8 @@ field_again Hex (Some (number n)) rest fit end = cc
 field_again Hex (Some (bytes b)) rest fit end = rw (end refl, append-nil (bits_of b), rest_again b fit) refl
 
 -- a list by its first part, which is there where a field wants one
-pub first_and_rest : (k : Kind) (values : List Held) → field_fits k (slice_get values 0) ≡ true → option_to_list (kept k (slice_get values 0)) ++ drop (holds k) values ≡ values
+pub first_and_rest : (k : Kind) (values : List Held) → field_fits k (slice_get values 0) ≡ true
+    → option_to_list (kept k (slice_get values 0)) ++ drop (holds k) values ≡ values
 first_and_rest (Ones count) values fit = refl
 first_and_rest (Number count) [] fit = cc
 first_and_rest (Number count) (v ∷ vs) fit = refl
@@ -176,19 +178,24 @@ first_and_rest Text (v ∷ vs) fit = refl
 first_and_rest Hex [] fit = cc
 first_and_rest Hex (v ∷ vs) fit = refl
 
-last_row : (k : Kind) (rs : List Row) (values : List Held) (rest : List Bool) → goes_to_end k ≡ true → (if goes_to_end k then is_nil rs else ends_last rs) ≡ true → (goes_to_end k || is_open rs ≡ true → rest ≡ []) → spell_rows rs values ++ rest ≡ []
+last_row : (k : Kind) (rs : List Row) (values : List Held) (rest : List Bool) → goes_to_end k ≡ true
+    → (if goes_to_end k then is_nil rs else ends_last rs) ≡ true
+    → (goes_to_end k || is_open rs ≡ true → rest ≡ []) → spell_rows rs values ++ rest ≡ []
 unfolding spell_rows
 last_row k [] values rest goes last end = end (rw goes refl)
 last_row k (r ∷ rs) values rest goes last end = let e = rw goes at last in cc
 
-others_last : (k : Kind) (rs : List Row) → (if goes_to_end k then is_nil rs else ends_last rs) ≡ true → ends_last rs ≡ true
+others_last : (k : Kind) (rs : List Row) → (if goes_to_end k then is_nil rs else ends_last rs) ≡ true
+    → ends_last rs ≡ true
 others_last k [] last = refl
 others_last k (r ∷ rs) last = by_test (goes_to_end k) (ends_last (r ∷ rs)) last
 
 others_open : (k : Kind) (rs : List Row) → is_open rs ≡ true → (goes_to_end k || is_open rs) ≡ true
 others_open k rs goes = either_true (goes_to_end k) (is_open rs) goes
 
-pub rows_again : (rs : List Row) (values : List Held) (rest : List Bool) → fits rs values ≡ true → ends_last rs ≡ true → (is_open rs ≡ true → rest ≡ []) → read_rows rs (spell_rows rs values ++ rest) ≡ Some (values, rest)
+pub rows_again : (rs : List Row) (values : List Held) (rest : List Bool) → fits rs values ≡ true
+    → ends_last rs ≡ true → (is_open rs ≡ true → rest ≡ [])
+    → read_rows rs (spell_rows rs values ++ rest) ≡ Some (values, rest)
 unfolding read_rows spell_rows fits
 rows_again [] [] rest fit last end = refl
 rows_again [] (v ∷ vs) rest fit last end = cc

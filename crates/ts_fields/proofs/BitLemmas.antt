@@ -1,14 +1,12 @@
 -- Rows of bytes as lists of bits: lengths, single bits, fields.
-use Rattle.std.proofs.Common.{◌≡◌, ℕ, zero, suc, ◌+◌, ◌-◌, ◌*◌, ◌/◌, ◌%◌, ◌^◌, ◌<◌, ◌≤◌, Bool, true, false, List, [], ◌∷◌, ◌++◌, length, get_or, take, drop, inl, inr, ◌⊎◌, refl, sym, ap, ◌∙◌, arith, pow-suc, length-append, add-suc, add-zero, add-one, append-nil}
+use Rattle.std.proofs.Common.{◌≡◌, ℕ, zero, suc, ◌+◌, ◌-◌, ◌*◌, ◌/◌, ◌%◌, ◌^◌, ◌<◌, ◌≤◌, Bool, true, false, List, [], ◌∷◌, ◌++◌, length, get_or, take, drop, inl, inr, ◌⊎◌, refl, sym, ap, ◌∙◌, arith, pow-suc, length-append, append-nil}
 use Rattle.std.specs.Prelude.{nat_eq}
-use Rattle.std.proofs.lemmas.Grind.{common_steps, flat_map-append}
+use Rattle.std.proofs.lemmas.Grind.{flat_map-append}
 use Rattle.std.proofs.Math.ListN.{get_or-append}
 use Rattle.std.proofs.lemmas.List.{get_or-append-add, get_or-drop, length-drop}
-use Rattle.std.specs.List.{flat_map}
 use Rattle.bit_rows.specs.BitRow.{bit_of, field}
 use Rattle.std.proofs.Math.Seq.{take-suc}
 use Rattle.std.proofs.lemmas.Nat.{mod-pow-add, shr_high, shr-shr}
-use Rattle.std.proofs.lemmas.List.{take_more}
 use Rattle.std.proofs.lemmas.Nat.Bits.{bit_at_cat_low}
 use Rattle.ts_fields.specs.Bits.{bits, bit_value, number_of, bits_of}
 
@@ -25,7 +23,8 @@ pub number_of-nil : number_of [] ≡ 0
 unfolding number_of
 number_of-nil = refl
 
-pub number_of-cons : (b : Bool) (bs : List Bool) → number_of (b ∷ bs) ≡ bit_value b * 2 ^ length bs + number_of bs
+pub number_of-cons : (b : Bool) (bs : List Bool)
+    → number_of (b ∷ bs) ≡ bit_value b * 2 ^ length bs + number_of bs
 unfolding number_of
 number_of-cons b bs = refl
 
@@ -66,7 +65,8 @@ near (suc k) (suc i) = elim (near k i) [
   | inr h ↦ inr (omega arith)
 ]
 
-pub get_or-bits_of : (row : List ℕ) (i : ℕ) → i < 8 * length row → get_or (bits_of row) i false ≡ nat_eq (bit_of row i) 1
+pub get_or-bits_of : (row : List ℕ) (i : ℕ) → i < 8 * length row
+    → get_or (bits_of row) i false ≡ nat_eq (bit_of row i) 1
 unfolding bit_of
 get_or-bits_of [] i h = absurd (omega arith)
 get_or-bits_of (b ∷ bs) i h = elim (near 8 i) [
@@ -88,7 +88,8 @@ unfolding bit_of
 bit_of-below row i = omega arith
 
 -- a field is the number that its bits give
-pub field-number_of : (row : List ℕ) (at n : ℕ) → at + n ≤ 8 * length row → field row at n ≡ number_of (take n (drop at (bits_of row)))
+pub field-number_of : (row : List ℕ) (at n : ℕ) → at + n ≤ 8 * length row
+    → field row at n ≡ number_of (take n (drop at (bits_of row)))
 unfolding field
 field-number_of row at zero h = sym number_of-nil
 field-number_of row at (suc n) h =
@@ -155,7 +156,8 @@ unfolding bits
 bits-zero v = refl
 
 -- the next bit of a number that is written from its highest
-pub bits_next : (n v k : ℕ) → bits (suc n) (v / 2 ^ k) ≡ bits n (v / 2 ^ (k + 1)) ++ nat_eq (v / 2 ^ k % 2) 1 ∷ []
+pub bits_next : (n v k : ℕ)
+    → bits (suc n) (v / 2 ^ k) ≡ bits n (v / 2 ^ (k + 1)) ++ nat_eq (v / 2 ^ k % 2) 1 ∷ []
 bits_next n v k =
     let x = v / 2 ^ k in
     let half : v / 2 ^ (k + 1) ≡ x / 2 = sym (shr-shr v k 1) in
@@ -163,9 +165,6 @@ bits_next n v k =
     let whole : x ≡ 2 * (x / 2) + bit_value (nat_eq (x % 2) 1) = omega arith in
     rw half (ap (bits (suc n)) whole ∙ bits_snoc n (x / 2) (nat_eq (x % 2) 1))
 
--- one byte more
-pub bits_of_more : (row : List ℕ) (i d : ℕ) → i < length row → bits_of (take (i + 1) row) ≡ bits_of (take i row) ++ bits 8 (get_or row i d)
-bits_of_more row i d inside = ap bits_of (take_more row i d inside) ∙ flat_map-append (bits 8) (take i row) (get_or row i d ∷ []) ∙ ap (λ l. bits_of (take i row) ++ l) (append-nil (bits 8 (get_or row i d)))
-
-pub bits_of_push : (row new : List ℕ) (byte : ℕ) → new ≡ row ++ byte ∷ [] → bits_of new ≡ bits_of row ++ bits 8 byte
+pub bits_of_push : (row new : List ℕ) (byte : ℕ) → new ≡ row ++ byte ∷ []
+    → bits_of new ≡ bits_of row ++ bits 8 byte
 bits_of_push row new byte is = ap bits_of is ∙ flat_map-append (bits 8) row (byte ∷ []) ∙ ap (λ l. bits_of row ++ l) (append-nil (bits 8 byte))

@@ -1,33 +1,32 @@
 -- What is read is spelled so.
-use Rattle.std.proofs.Common.{◌≡◌, ℕ, zero, suc, ◌+◌, ◌-◌, ◌*◌, ◌/◌, ◌%◌, ◌^◌, ◌<◌, ◌≤◌, Bool, true, false, List, [], ◌∷◌, ◌++◌, length, take, drop, refl, sym, ap, ◌∙◌, arith, append_assoc, append-nil, pow-suc, length-append, mod-lt, mul-le-mul_right}
-use Rattle.std.specs.Prelude.{nat_eq, nat_le, nat_lt, ◌&&◌, ◌||◌, Option, Some, None, option_to_list, slice_get, if◌then◌else◌}
-use Rattle.std.proofs.lemmas.Bool.{le-leb, leb-true, ltb-true, lt-leb, eqb-true, eq-eqb, lt-ltb}
-use Rattle.std.proofs.Math.Arith.{mod-mul}
-use Rattle.std.proofs.Math.Nat.{mod-eq_of_lt, add-mul-mod_self_left}
-use Rattle.std.proofs.lemmas.Nat.{pow_pos, div-mul-add, pow-add}
-use Rattle.std.proofs.lemmas.Grind.{common_steps, flat_map-append}
+use Rattle.std.proofs.Common.{◌≡◌, ℕ, zero, suc, ◌+◌, ◌-◌, ◌*◌, ◌/◌, ◌%◌, ◌^◌, ◌<◌, ◌≤◌, Bool, true, false, List, [], ◌∷◌, ◌++◌, length, take, drop, refl, sym, ap, ◌∙◌, arith, append_assoc, pow-suc, length-append, mod-lt, mul-le-mul_right}
+use Rattle.std.specs.Prelude.{nat_eq, nat_le, nat_lt, Option, Some, None, option_to_list, slice_get, if◌then◌else◌}
+use Rattle.std.proofs.lemmas.Bool.{leb-true, eqb-true, eq-eqb, lt-ltb}
+use Rattle.std.proofs.Math.Nat.{add-mul-mod_self_left}
+use Rattle.std.proofs.lemmas.Nat.{div-mul-add, pow-add}
 use Rattle.std.proofs.lemmas.List.{take-append-drop, length-take-le}
 use Rattle.std.proofs.lemmas.Option.{cond_some, same_Some}
-use Rattle.std.proofs.Math.Seq.{take-append_seam, drop-append_seam}
 use Rattle.ts_fields.specs.declared.field.Kind.{Kind}
 use Rattle.ts_fields.specs.declared.field.Kind.TheVariants.{Number, Ones, Free, Flag, Start, Duration, Decimal, Language, CountedText, Text, Hex}
 use Rattle.ts_fields.specs.Bits.{bits, bits_of, number_of}
 use Rattle.ts_fields.specs.Layout.{Row, Held, number, bytes}
-use Rattle.ts_fields.specs.Reading.{read_number, read_bytes, read_decimal, read_rest, read_field, read_rows, are_printable, is_printable, ◌>>=◌}
+use Rattle.ts_fields.specs.Reading.{read_number, read_bytes, read_decimal, read_rest, read_field, read_rows, are_printable, ◌>>=◌}
 use Rattle.ts_fields.specs.Spelling.{spell_decimal, spell_field, spell_rows, holds}
-use Rattle.ts_fields.specs.SoundRows.{is_exact, are_exact, goes_to_end, is_open, is_nil, ends_last}
+use Rattle.ts_fields.specs.SoundRows.{is_exact, are_exact}
 use Rattle.ts_fields.specs.Fitting.{fits, field_fits, are_bytes}
 use Rattle.ts_fields.specs.Times.{is_start, is_time}
-use Rattle.ts_fields.proofs.BitLemmas.{length-bits, length-bits_of, number_of-bits, bits-number_of, number_of-lt}
+use Rattle.ts_fields.proofs.BitLemmas.{length-bits, bits-number_of, number_of-lt}
 use Rattle.ts_fields.proofs.WriteLemmas.{ten_pos}
-use Rattle.ts_fields.proofs.AgainLemmas.{both, number_again, bytes_again, digits_join, kept}
+use Rattle.ts_fields.proofs.AgainLemmas.{both, digits_join, kept}
 
 -- a read that went on
-pub then_some : {A B P : Type 0} (r : Option A) (next : A → Option B) (y : B) → (r >>= next) ≡ Some y → ((x : A) → r ≡ Some x → next x ≡ Some y → P) → P
+pub then_some : {A B P : Type 0} (r : Option A) (next : A → Option B) (y : B) → (r >>= next) ≡ Some y
+    → ((x : A) → r ≡ Some x → next x ≡ Some y → P) → P
 then_some None next y is goal = cc
 then_some (Some x) next y is goal = goal x refl is
 
-pub number_takes : (n : ℕ) (from : List Bool) (v : ℕ) (rest : List Bool) → read_number n from ≡ Some (v, rest) → (from ≡ bits n v ++ rest) × (v < 2 ^ n)
+pub number_takes : (n : ℕ) (from : List Bool) (v : ℕ) (rest : List Bool)
+    → read_number n from ≡ Some (v, rest) → (from ≡ bits n v ++ rest) × (v < 2 ^ n)
 unfolding read_number
 number_takes n from v rest is =
     let parts = cond_some (nat_le n (length from)) (number_of (take n from), drop n from) (v, rest) is in
@@ -40,7 +39,9 @@ number_takes n from v rest is =
       rw (v_is, long) at small,
     )
 
-pub bytes_takes : (n : ℕ) (from : List Bool) (b : List ℕ) (rest : List Bool) → read_bytes n from ≡ Some (b, rest) → (from ≡ bits_of b ++ rest) × (length b ≡ n) × (are_bytes b ≡ true)
+pub bytes_takes : (n : ℕ) (from : List Bool) (b : List ℕ) (rest : List Bool)
+    → read_bytes n from ≡ Some (b, rest)
+    → (from ≡ bits_of b ++ rest) × (length b ≡ n) × (are_bytes b ≡ true)
 unfolding read_bytes
 bytes_takes zero from b rest is =
     let b_is : [] ≡ b = ap (λ x. x.0) (same_Some _ _ is) in
@@ -67,12 +68,14 @@ digit_of_low v n = ap (λ x. x / 10 ^ n) (sym (digits_join v n)) ∙ div-mul-add
 turned : (x low a b : ℕ) → x * (a * b) + low ≡ low + a * (b * x)
 turned x low a b = grind arith
 
-digits_below : (first more power next : ℕ) → first ≤ 9 → more < power → next ≡ power * 10 → first * power + more < next
+digits_below : (first more power next : ℕ) → first ≤ 9 → more < power → next ≡ power * 10
+    → first * power + more < next
 digits_below first more power next nine small is =
     let most : first * power ≤ 9 * power = mul-le-mul_right power nine in
     omega arith
 
-cond_some_by : {A : Type 0} (b : Bool) (x : Option A) (y : A) → (if b then x else None) ≡ Some y → (b ≡ true) × (x ≡ Some y)
+cond_some_by : {A : Type 0} (b : Bool) (x : Option A) (y : A) → (if b then x else None) ≡ Some y
+    → (b ≡ true) × (x ≡ Some y)
 cond_some_by true x y is = (refl, is)
 cond_some_by false x y is = cc
 
@@ -93,7 +96,8 @@ unfolding spell_decimal
 decimal_low zero x low m inside = refl
 decimal_low (suc d) x low m inside = rw (digit_low x low d m (omega arith), decimal_low d x low m (omega arith)) refl
 
-decimal_takes : (d : ℕ) (from : List Bool) (v : ℕ) (rest : List Bool) → read_decimal d from ≡ Some (v, rest) → (from ≡ spell_decimal d v ++ rest) × (v < 10 ^ d)
+decimal_takes : (d : ℕ) (from : List Bool) (v : ℕ) (rest : List Bool)
+    → read_decimal d from ≡ Some (v, rest) → (from ≡ spell_decimal d v ++ rest) × (v < 10 ^ d)
 unfolding read_decimal spell_decimal
 decimal_takes zero from v rest is =
     let v_is : 0 ≡ v = ap (λ x. x.0) (same_Some _ _ is) in
@@ -114,7 +118,8 @@ decimal_takes (suc d) from v rest is =
       digits_below first.0 more.0 (10 ^ d) (10 ^ suc d) nine others.1 (pow-suc 10 d),
     )))
 
-rest_takes : (from : List Bool) (b : List ℕ) (rest : List Bool) → read_rest from ≡ Some (b, rest) → (from ≡ bits_of b ++ rest) × (rest ≡ []) × (are_bytes b ≡ true)
+rest_takes : (from : List Bool) (b : List ℕ) (rest : List Bool) → read_rest from ≡ Some (b, rest)
+    → (from ≡ bits_of b ++ rest) × (rest ≡ []) × (are_bytes b ≡ true)
 unfolding read_rest
 rest_takes from b rest is =
     then_some (read_bytes (length from / 8) from) _ (b, rest) is (λ all was tested.
@@ -124,7 +129,9 @@ rest_takes from b rest is =
     let took = bytes_takes (length from / 8) from all.0 all.1 was in
     rw (← b_is, ← rest_is) (took.0, empty all.1 (eqb-true (length all.1) 0 parts.0), took.2))
 
-field_takes : (k : Kind) (from : List Bool) (value : Option Held) (rest : List Bool) → is_exact k ≡ true → read_field k from ≡ Some (value, rest) → (from ≡ spell_field k value ++ rest) × (field_fits k value ≡ true) × (kept k value ≡ value)
+field_takes : (k : Kind) (from : List Bool) (value : Option Held) (rest : List Bool) → is_exact k ≡ true
+    → read_field k from ≡ Some (value, rest)
+    → (from ≡ spell_field k value ++ rest) × (field_fits k value ≡ true) × (kept k value ≡ value)
 unfolding read_field spell_field
 field_takes (Number count) from value rest exact is =
     then_some (read_number count from) (λ x. Some (Some (number x.0), x.1)) (value, rest) is (λ x was joins.
@@ -202,13 +209,17 @@ field_takes Hex from value rest exact is =
     let took = rest_takes from x.0 x.1 was in
     rw (← value_is, ← rest_is) (took.0, took.2, refl))
 
-exact_length : (k : Kind) (from : List Bool) (value : Option Held) (rest : List Bool) → is_exact k ≡ true → read_field k from ≡ Some (value, rest) → (length from ≡ length (spell_field k value) + length rest) × (field_fits k value ≡ true) × (kept k value ≡ value)
+exact_length : (k : Kind) (from : List Bool) (value : Option Held) (rest : List Bool) → is_exact k ≡ true
+    → read_field k from ≡ Some (value, rest)
+    → (length from ≡ length (spell_field k value) + length rest) × (field_fits k value ≡ true) × (kept k value ≡ value)
 exact_length k from value rest exact is =
     let took = field_takes k from value rest exact is in
     (ap length took.0 ∙ length-append (spell_field k value) rest, took.1, took.2)
 
 -- the same of bits that are read as anything, but for their values
-field_length : (k : Kind) (from : List Bool) (value : Option Held) (rest : List Bool) → read_field k from ≡ Some (value, rest) → (length from ≡ length (spell_field k value) + length rest) × (field_fits k value ≡ true) × (kept k value ≡ value)
+field_length : (k : Kind) (from : List Bool) (value : Option Held) (rest : List Bool)
+    → read_field k from ≡ Some (value, rest)
+    → (length from ≡ length (spell_field k value) + length rest) × (field_fits k value ≡ true) × (kept k value ≡ value)
 unfolding read_field spell_field
 field_length (Free count) from value rest is =
     then_some (read_number count from) _ (value, rest) is (λ x was joins.
@@ -230,7 +241,8 @@ field_length Text from value rest is = exact_length Text from value rest refl is
 field_length Hex from value rest is = exact_length Hex from value rest refl is
 
 -- a value that was read stands first among those that are spelled
-first_of : (k : Kind) (value : Option Held) (more : List Held) → field_fits k value ≡ true → kept k value ≡ value
+first_of : (k : Kind) (value : Option Held) (more : List Held) → field_fits k value ≡ true
+    → kept k value ≡ value
     → (spell_field k (slice_get (option_to_list value ++ more) 0) ≡ spell_field k value) × (field_fits k (slice_get (option_to_list value ++ more) 0) ≡ true) × (drop (holds k) (option_to_list value ++ more) ≡ more)
 unfolding spell_field
 first_of (Ones count) None more fit keeps = (refl, refl, refl)
@@ -256,7 +268,9 @@ first_of Text (Some v) more fit keeps = (refl, fit, refl)
 first_of Hex None more fit keeps = cc
 first_of Hex (Some v) more fit keeps = (refl, fit, refl)
 
-pub rows_takes : (rs : List Row) (from : List Bool) (values : List Held) (rest : List Bool) → are_exact rs ≡ true → read_rows rs from ≡ Some (values, rest) → (from ≡ spell_rows rs values ++ rest) × (fits rs values ≡ true)
+pub rows_takes : (rs : List Row) (from : List Bool) (values : List Held) (rest : List Bool)
+    → are_exact rs ≡ true → read_rows rs from ≡ Some (values, rest)
+    → (from ≡ spell_rows rs values ++ rest) × (fits rs values ≡ true)
 unfolding read_rows spell_rows fits
 rows_takes [] from values rest exact is =
     let values_is : [] ≡ values = ap (λ x. x.0) (same_Some _ _ is) in
@@ -277,7 +291,9 @@ rows_takes (r ∷ rs) from values rest exact is =
     )))
 
 -- the same of rows some bits of which are read as anything
-pub rows_length : (rs : List Row) (from : List Bool) (values : List Held) (rest : List Bool) → read_rows rs from ≡ Some (values, rest) → (length from ≡ length (spell_rows rs values) + length rest) × (fits rs values ≡ true)
+pub rows_length : (rs : List Row) (from : List Bool) (values : List Held) (rest : List Bool)
+    → read_rows rs from ≡ Some (values, rest)
+    → (length from ≡ length (spell_rows rs values) + length rest) × (fits rs values ≡ true)
 unfolding read_rows spell_rows fits
 rows_length [] from values rest is =
     let values_is : [] ≡ values = ap (λ x. x.0) (same_Some _ _ is) in

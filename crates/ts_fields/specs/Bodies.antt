@@ -1,6 +1,6 @@
 -- Whole bodies: fields, and behind them items up to the end.
 -- ISO/IEC 13818-1, 2.6, and ETSI EN 300 468, 6.2: the loops of descriptors go on to the end of the body.
-use Rattle.std.specs.Prelude.{◌≡◌, ℕ, suc, zero, ◌&&◌, ◌||◌, List, [], ◌∷◌, ◌++◌, length, map, Bool, true, false, nat_lt, not, is_none, Option, Some, None, option_map}
+use Rattle.std.specs.Prelude.{ℕ, suc, zero, ◌&&◌, ◌||◌, List, [], ◌∷◌, ◌++◌, length, map, Bool, true, false, nat_lt, not, is_none, Option, Some, None, option_map}
 use Rattle.std.specs.List.{flat_map, list_all}
 use Rattle.ts_fields.specs.declared.layout.Layout.{Layout}
 use Rattle.ts_fields.specs.declared.layout.ItemLayout.{ItemLayout}
@@ -12,7 +12,7 @@ use Rattle.ts_fields.specs.Spelling.{spell_rows}
 use Rattle.ts_fields.specs.Fitting.{fits, fits_uncounted, shaped}
 use Rattle.ts_fields.specs.SoundRows.{rows_sound, are_exact, is_open, widths}
 
--- a page of the standard: the tag, the name, the rows, and the item's name with its rows where there are items
+-- a page of the standard: the tag, the name, the rows, and where there are items their name and rows
 pub record Page : Type 0 where
   pub tag : ℕ
   pub name : List ℕ

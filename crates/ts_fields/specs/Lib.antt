@@ -3,6 +3,7 @@ pub mod Layout
 pub mod Times
 pub mod Reading
 pub mod Spelling
+pub mod Texts
 pub mod Fitting
 pub mod SoundRows
 pub mod Bodies

@@ -1,6 +1,7 @@
 -- How fields are spelled, one after another.
--- ISO/IEC 13818-1, 2.6, and ETSI EN 300 468, 6.2: fields follow one another without a gap. Reserved bits are ones.
-use Rattle.std.specs.Prelude.{ℕ, suc, zero, ◌+◌, ◌-◌, ◌/◌, ◌%◌, ◌^◌, List, [], ◌∷◌, ◌++◌, length, drop, slice_get, Bool, Option, Some, None}
+-- ISO/IEC 13818-1, 2.6, and ETSI EN 300 468, 6.2: fields follow one another without a gap.
+-- This project's own rule: reserved bits are written as ones.
+use Rattle.std.specs.Prelude.{ℕ, suc, zero, ◌-◌, ◌/◌, ◌%◌, ◌^◌, List, [], ◌∷◌, ◌++◌, length, drop, slice_get, Bool, Option, Some, None}
 use Rattle.ts_fields.specs.declared.field.Kind.{Kind}
 use Rattle.ts_fields.specs.declared.field.Kind.TheVariants.{Number, Ones, Free, Flag, Start, Duration, Decimal, Language, CountedText, Text, Hex}
 use Rattle.ts_fields.specs.Bits.{bits, bits_of}

@@ -18,20 +18,24 @@ pub fn length_of_bits()
 
 /// A number that is spelled is read again, by its low bits.
 pub fn spelled_number_is_read()
-    ensures { (count value : ℕ) (rest : List Bool) → read_number count (bits count value ++ rest) ≡ Some (value % 2 ^ count, rest) }
+    ensures { (count value : ℕ) (rest : List Bool)
+        → read_number count (bits count value ++ rest) ≡ Some (value % 2 ^ count, rest) }
 {}
 
 /// A number that is read is spelled so, and is below its width's bound.
 pub fn read_number_is_spelled()
-    ensures { (count value : ℕ) (from rest : List Bool) → read_number count from ≡ Some (value, rest) → (from ≡ bits count value ++ rest) × (value < 2 ^ count) }
+    ensures { (count value : ℕ) (from rest : List Bool) → read_number count from ≡ Some (value, rest)
+        → (from ≡ bits count value ++ rest) × (value < 2 ^ count) }
 {}
 
 /// Bytes that are spelled are read again.
 pub fn spelled_bytes_are_read()
-    ensures { (row : List ℕ) (rest : List Bool) → are_bytes row ≡ true → read_bytes (length row) (bits_of row ++ rest) ≡ Some (row, rest) }
+    ensures { (row : List ℕ) (rest : List Bool) → are_bytes row ≡ true
+        → read_bytes (length row) (bits_of row ++ rest) ≡ Some (row, rest) }
 {}
 
 /// Bytes that are read are spelled so.
 pub fn read_bytes_are_spelled()
-    ensures { (count : ℕ) (row : List ℕ) (from rest : List Bool) → read_bytes count from ≡ Some (row, rest) → (from ≡ bits_of row ++ rest) × (length row ≡ count) × (are_bytes row ≡ true) }
+    ensures { (count : ℕ) (row : List ℕ) (from rest : List Bool) → read_bytes count from ≡ Some (row, rest)
+        → (from ≡ bits_of row ++ rest) × (length row ≡ count) × (are_bytes row ≡ true) }
 {}

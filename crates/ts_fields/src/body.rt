@@ -37,7 +37,8 @@ fn read_behind<'a>(
     from: BitReader<'a>,
 ) -> Result<Vec<Item>, NotRead>
     requires { IsTrue (items_sound (option_map item_page items)) }
-    ensures { Gives (λ v. map item_held v.items) result (Bodies.read_behind (option_map item_page items) from.entry) }
+    ensures { Gives (λ v. map item_held v.items) result
+        (Bodies.read_behind (option_map item_page items) from.entry) }
 {
     match items {
         Some(layout) => read_items(alloc, layout.rows, from),
@@ -49,7 +50,8 @@ fn read_behind<'a>(
 /// Items up to the end.
 fn read_items<'a>(alloc: Global, rows: &[Field], from: BitReader<'a>) -> Result<Vec<Item>, NotRead>
     requires { IsTrue (items_sound (Some ([], rows_of rows.now))) }
-    ensures { Gives (λ v. map item_held v.items) result (Bodies.read_items (length from.entry) (rows_of rows.now) from.entry) }
+    ensures { Gives (λ v. map item_held v.items) result
+        (Bodies.read_items (length from.entry) (rows_of rows.now) from.entry) }
 {
     let mut items = Vec::new(alloc);
     let mut rest = from;
@@ -80,7 +82,8 @@ fn write_behind(
     items: &[Item],
 ) -> Result<(), AllocError>
     requires { IsTrue (items_sound (option_map item_page layout)) }
-    ensures { OnOk result (out.new ≡ out.old ++ spell_items (option_map item_page layout) (map item_held items.now)) }
+    ensures { OnOk result (out.new
+        ≡ out.old ++ spell_items (option_map item_page layout) (map item_held items.now)) }
 {
     match layout {
         Some(layout) => write_items(out, layout.rows, items),
@@ -91,7 +94,8 @@ fn write_behind(
 /// Writes items one after another.
 fn write_items(out: &mut BitWriter, rows: &[Field], items: &[Item]) -> Result<(), AllocError>
     requires { IsTrue (are_sound (rows_of rows.now)) }
-    ensures { OnOk result (out.new ≡ out.old ++ flat_map (spell_rows (rows_of rows.now)) (map item_held items.now)) }
+    ensures { OnOk result (out.new
+        ≡ out.old ++ flat_map (spell_rows (rows_of rows.now)) (map item_held items.now)) }
 {
     for item in items {
         write_rows(out, rows, &item.values)?;

@@ -1,5 +1,5 @@
-//! Layouts, which are the standard's tables row by row, come in, with bytes or with values; values or bytes go out.
-//! The layer above rests on `read_body` and `write_body`, which agree with one grammar, `read_page` and `spell_page`.
+//! Layouts, the standard's tables row by row, come in with bytes or with values; values or bytes go out.
+//! The layer above rests on `read_body` and `write_body`, which agree with one grammar (`specs/Bodies.antt`).
 #![tactic(auto)]
 
 mod bits_laws;
@@ -9,6 +9,9 @@ mod layout;
 mod pages_laws;
 mod reader;
 mod rows_laws;
+#[cfg(test)]
+mod tests;
+mod texts;
 mod times;
 mod writer;
 
@@ -25,5 +28,6 @@ pub use rows_laws::{
     fit_rows_are_shaped, length_of_read_rows, length_of_spelled_rows, read_rows_are_spelled,
     spelled_rows_are_read,
 };
+pub use texts::{are_printable, text_bytes, text_of, texts_tell_bytes};
 pub use times::{is_start, is_time};
 pub use writer::{BitWriter, write_rows};

@@ -15,9 +15,10 @@ pub fn read_is_written()
         → (from ≡ spell_page p h) × (page_fits p h ≡ true) }
 {}
 
-/// What fits a page has numbers where numbers are wanted.
+/// What fits a page has numbers where numbers are wanted, whatever the length of its counted texts.
 pub fn fit_page_is_shaped()
-    ensures { (p : Page) (h : Holding) → page_fits_uncounted p h ≡ true → page_shaped p h ≡ true }
+    ensures fit { (p : Page) (h : Holding) → page_fits p h ≡ true → page_shaped p h ≡ true }
+    ensures uncounted { (p : Page) (h : Holding) → page_fits_uncounted p h ≡ true → page_shaped p h ≡ true }
 {}
 
 /// In a body of at most 255 bytes every counted text has at most 255 bytes.

@@ -2,13 +2,13 @@
 
 ghost use Rattle.std.specs.Prelude.{◌≡◌, ◌≤◌, ◌++◌, map, length, option_map, option_to_list, IsTrue, OnOk};
 ghost use Rattle.ts_fields.specs.Bits.{bits_of};
-ghost use Rattle.ts_fields.specs.Reading;
 ghost use Rattle.ts_fields.specs.Reading.{Gives, read_number, read_bytes, read_decimal, read_rest, read_field, read_rows};
 ghost use Rattle.ts_fields.specs.Layout.{held, rows_of};
 ghost use Rattle.ts_fields.specs.SoundRows.{is_sound, are_sound};
 ghost use Rattle.ts_fields.specs.declared.reader.NotRead.TheVariants.{NoMemory};
 
 use crate::field::{Field, FieldValue, Kind};
+use crate::texts::are_printable;
 use crate::times::{is_start, is_time};
 use std::alloc::{AllocError, AllocFailed, Global};
 use std::marker::Model;
@@ -135,13 +135,6 @@ impl<'a> BitReader<'a> {
         }
         Ok((bytes, rest))
     }
-}
-
-/// Whether each byte is one that ASCII prints, 0x20 to 0x7E.
-fn are_printable(bytes: &[u8]) -> bool
-    ensures { result ≡ Reading.are_printable bytes.now }
-{
-    bytes.iter().all(|byte| 0x20 <= *byte && *byte <= 0x7E)
 }
 
 /// Reads one field, and adds what it holds to `values` if it is not reserved.

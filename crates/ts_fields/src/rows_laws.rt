@@ -9,19 +9,22 @@ ghost use Rattle.ts_fields.specs.Spelling.{spell_rows};
 
 /// Values that are spelled are read again, whatever stands behind rows none of which goes to the end.
 pub fn spelled_rows_are_read()
-    ensures { (rs : List Row) (values : List Held) (rest : List Bool) → fits rs values ≡ true → ends_last rs ≡ true
-        → (is_open rs ≡ true → rest ≡ []) → read_rows rs (spell_rows rs values ++ rest) ≡ Some (values, rest) }
+    ensures { (rs : List Row) (values : List Held) (rest : List Bool)
+        → fits rs values ≡ true → ends_last rs ≡ true → (is_open rs ≡ true → rest ≡ [])
+        → read_rows rs (spell_rows rs values ++ rest) ≡ Some (values, rest) }
 {}
 
 /// Values that are read by rows none of whose bits are free are spelled so.
 pub fn read_rows_are_spelled()
     ensures { (rs : List Row) (from : List Bool) (values : List Held) (rest : List Bool) → are_exact rs ≡ true
-        → read_rows rs from ≡ Some (values, rest) → (from ≡ spell_rows rs values ++ rest) × (fits rs values ≡ true) }
+        → read_rows rs from ≡ Some (values, rest)
+        → (from ≡ spell_rows rs values ++ rest) × (fits rs values ≡ true) }
 {}
 
 /// Values that are read fit, and are spelled by as many bits, free bits too.
 pub fn length_of_read_rows()
-    ensures { (rs : List Row) (from : List Bool) (values : List Held) (rest : List Bool) → read_rows rs from ≡ Some (values, rest)
+    ensures { (rs : List Row) (from : List Bool) (values : List Held) (rest : List Bool)
+        → read_rows rs from ≡ Some (values, rest)
         → (length from ≡ length (spell_rows rs values) + length rest) × (fits rs values ≡ true) }
 {}
 

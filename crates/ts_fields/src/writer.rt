@@ -96,7 +96,8 @@ impl BitWriter {
     #[tactic(auto, unfolding(crate::specs::Spelling::spell_field))]
     pub fn field(&mut self, kind: Kind, value: Option<&FieldValue>) -> Result<(), AllocError>
         requires { IsTrue (is_sound kind) }
-        ensures { OnOk result (self.new ≡ self.old ++ spell_field kind (option_map (λ v. held v.now) value.entry)) }
+        ensures { OnOk result (self.new
+            ≡ self.old ++ spell_field kind (option_map (λ v. held v.now) value.entry)) }
     {
         match (kind, value) {
             (Kind::Ones(count) | Kind::Free(count), _) => self.put(count, (1 << count) - 1),

@@ -1,4 +1,3 @@
-use Rattle.std.proofs.Common.{◌≡◌}
 use Rattle.ts_fields.specs.Bodies.{page}
 use Rattle.ts_fields.proofs.BodyLemmas.{read_fits}
 use Rattle.ts_fields.proofs.body.read_body.Goals as goal

@@ -1,9 +1,10 @@
-use Rattle.std.proofs.Common.{◌≡◌, ◌++◌, ◌∷◌, [], ◌<◌, length, map, sym, ap, ◌∙◌, arith}
+use Rattle.std.proofs.Common.{◌≡◌, ◌++◌, ◌∷◌, [], map, sym, ◌∙◌}
 use Rattle.std.proofs.lemmas.Result.{err_from_is_err_and}
 use Rattle.std.proofs.lemmas.List.{map_push}
-use Rattle.ts_fields.specs.Bodies.{item_held, read_items}
+use Rattle.ts_fields.specs.Bodies.{item_held}
 use Rattle.ts_fields.specs.Layout.{rows_of, held}
-use Rattle.ts_fields.proofs.BodyLemmas.{items_go_on, items_stop, items_done, item_takes, takes_bits, with_items}
+use Rattle.ts_fields.proofs.ItemLemmas.{items_go_on, items_stop, items_done, item_takes}
+use Rattle.ts_fields.proofs.LengthLemmas.{takes_bits}
 use Rattle.ts_fields.proofs.body.read_items.Goals as goal
 
 pub returns-in_err-values : goal.returns-in_err-values

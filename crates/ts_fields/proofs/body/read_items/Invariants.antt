@@ -1,7 +1,7 @@
 use Rattle.std.proofs.Common.{◌≡◌, length, map}
 use Rattle.ts_fields.specs.Bodies.{item_held, read_items}
 use Rattle.ts_fields.specs.Layout.{rows_of}
-use Rattle.ts_fields.proofs.BodyLemmas.{with_items}
+use Rattle.ts_fields.proofs.ItemLemmas.{with_items}
 use Rattle.ts_fields.proofs.body.read_items.Given as goal
 
 abbrev pub invariant-loop-rest : goal.invariant-loop-rest

@@ -1,6 +1,7 @@
-use Rattle.std.proofs.Common.{◌≡◌, ◌%◌, length, sym, ap, ◌∙◌}
+use Rattle.std.proofs.Common.{◌%◌, length, ap, ◌∙◌}
 use Rattle.ts_fields.specs.Bodies.{page, body_held}
-use Rattle.ts_fields.proofs.BodyLemmas.{length-page, spelled_so}
+use Rattle.ts_fields.proofs.BodyLemmas.{spelled_so}
+use Rattle.ts_fields.proofs.LengthLemmas.{length-page}
 use Rattle.ts_fields.proofs.body.write_body.Goals as goal
 
 pub into_bytes-requires : goal.into_bytes-requires

@@ -1,7 +1,7 @@
-use Rattle.std.proofs.Common.{◌≡◌, ◌++◌, ◌∷◌, [], ◌+◌, drop, map, sym, ap, ◌∙◌}
+use Rattle.std.proofs.Common.{◌≡◌, [], drop, map, sym, ap, ◌∙◌}
 use Rattle.std.proofs.lemmas.Result.{err_from_is_err_and}
 use Rattle.ts_fields.specs.Layout.{row, held}
-use Rattle.ts_fields.proofs.ReadLemmas.{rows_more, rows_none, rows_stop, rows_left, held_more, with_front, rows_go_on, rows_stop_at, sound_more}
+use Rattle.ts_fields.proofs.ReadLemmas.{rows_none, held_more, with_front, rows_go_on, rows_stop_at, sound_more}
 use Rattle.std.specs.Prelude.{option_map}
 use Rattle.ts_fields.specs.Reading.{read_rows}
 use Rattle.std.proofs.lemmas.List.{drop_all}

@@ -1,4 +1,4 @@
-use Rattle.ts_fields.proofs.BodyLemmas.{length-shaped}
+use Rattle.ts_fields.proofs.LengthLemmas.{length-shaped}
 use Rattle.ts_fields.proofs.rows_laws.length_of_spelled_rows.Goals as goal
 
 pub returns : goal.returns

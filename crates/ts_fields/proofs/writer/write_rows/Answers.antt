@@ -1,6 +1,6 @@
-use Rattle.std.proofs.Common.{◌≡◌, ◌++◌, ◌+◌, ◌≤◌, drop, map, sym, ap, ◌∙◌, arith}
+use Rattle.std.proofs.Common.{◌++◌, ◌+◌, drop, map, ap, ◌∙◌, arith}
 use Rattle.ts_fields.specs.Layout.{row, held}
-use Rattle.ts_fields.specs.Spelling.{spell_field, spell_rows}
+use Rattle.ts_fields.specs.Spelling.{spell_rows}
 use Rattle.ts_fields.proofs.ReadLemmas.{sound_more}
 use Rattle.ts_fields.proofs.WriteLemmas.{spelled_more, spelled_done, held_at}
 use Rattle.ts_fields.proofs.writer.write_rows.Goals as goal

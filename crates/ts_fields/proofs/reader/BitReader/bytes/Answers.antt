@@ -1,6 +1,5 @@
-use Rattle.std.proofs.Common.{◌≡◌, ◌++◌, ◌∷◌, [], ◌-◌, ◌<◌, ◌^◌, sym, arith, ap, ◌∙◌}
+use Rattle.std.proofs.Common.{◌≡◌, ◌++◌, ◌∷◌, [], sym, arith}
 use Rattle.ts_fields.proofs.ReadLemmas.{bytes_goes_on, bytes_ends, bytes_done, read_small}
-use Rattle.ts_fields.specs.Reading.{read_bytes}
 use Rattle.ts_fields.proofs.reader.BitReader.bytes.Goals as goal
 
 pub returns-in_default : goal.returns-in_default

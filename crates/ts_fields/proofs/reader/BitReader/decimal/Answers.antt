@@ -1,4 +1,4 @@
-use Rattle.std.proofs.Common.{◌≡◌, ◌-◌, ◌<◌, ◌^◌, ◌+◌, sym, arith, ap, ◌∙◌, pow-suc, suc, add-one}
+use Rattle.std.proofs.Common.{arith, pow-suc, add-one}
 use Rattle.ts_fields.proofs.ReadLemmas.{digits_go_on, digits_end, digits_break, digits_done}
 use Rattle.ts_fields.proofs.reader.BitReader.decimal.Goals as goal
 

@@ -1,4 +1,4 @@
-use Rattle.std.proofs.Common.{◌≡◌, ◌%◌, length, sym, ◌∙◌}
+use Rattle.std.proofs.Common.{sym, ◌∙◌}
 use Rattle.ts_fields.proofs.WriteLemmas.{no_rest}
 use Rattle.ts_fields.proofs.writer.BitWriter.into_bytes.Goals as goal
 

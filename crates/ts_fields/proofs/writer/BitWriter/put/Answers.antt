@@ -1,4 +1,4 @@
-use Rattle.std.proofs.Common.{◌≡◌, ◌-◌, ◌/◌, ◌^◌, ◌++◌, ◌∷◌, [], refl, sym, ap, ◌∙◌, append-nil, suc}
+use Rattle.std.proofs.Common.{◌-◌, ◌/◌, ◌^◌, ◌++◌, ◌∷◌, [], sym, ap, ◌∙◌, append-nil}
 use Rattle.std.specs.Prelude.{nat_eq}
 use Rattle.std.proofs.lemmas.Nat.Bits.{shr_and_one}
 use Rattle.ts_fields.proofs.WriteLemmas.{put_more}

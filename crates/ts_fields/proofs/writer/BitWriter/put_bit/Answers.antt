@@ -1,4 +1,4 @@
-use Rattle.std.proofs.Common.{◌≡◌, ◌+◌, ◌*◌, ◌++◌, ◌∷◌, [], Bool, true, false, refl, sym, ap, ◌∙◌}
+use Rattle.std.proofs.Common.{◌≡◌, ◌+◌, ◌*◌, ◌++◌, ◌∷◌, [], Bool, true, false, refl, ap, ◌∙◌}
 use mir.Val.{bool_byte}
 use Rattle.ts_fields.specs.Bits.{bit_value}
 use Rattle.ts_fields.proofs.WriteLemmas.{bit_kept, bit_completes}

@@ -1,4 +1,4 @@
-use Rattle.std.proofs.Common.{◌≡◌, ◌<◌, ◌^◌, ◌-◌, arith}
+use Rattle.std.proofs.Common.{◌-◌}
 use Rattle.ts_fields.proofs.WriteLemmas.{decimal_more, decimal_done, ten_pos}
 use Rattle.ts_fields.proofs.writer.BitWriter.put_decimal.Goals as goal
 
