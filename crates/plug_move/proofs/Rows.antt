@@ -65,8 +65,8 @@ other-stays : move_of ((256, 512) ∷ (512, 8191) ∷ []) false 257 ≡ Keep
 other-stays = refl
 
 -- a target that repeats, checked and unchecked
-target-twice : pairs_agree (record { operand = (1, 3) ∷ (2, 3) ∷ []; no_psi = true; unchecked = false }) ≡ false
-target-twice = refl
+agree-target_twice : pairs_agree (record { operand = (1, 3) ∷ (2, 3) ∷ []; no_psi = true; unchecked = false }) ≡ false
+agree-target_twice = refl
 
-target-unchecked : pairs_agree (record { operand = (1, 3) ∷ (2, 3) ∷ []; no_psi = true; unchecked = true }) ≡ true
-target-unchecked = refl
+agree-unchecked : pairs_agree (record { operand = (1, 3) ∷ (2, 3) ∷ []; no_psi = true; unchecked = true }) ≡ true
+agree-unchecked = refl
