@@ -3,8 +3,12 @@
 #![tactic(auto)]
 
 mod until;
+mod until_conf;
+mod until_words;
 
 pub use until::Until;
+pub use until_conf::UntilConf;
+pub use until_words::read_until;
 
 #[cfg(test)]
 mod tests;

@@ -2,7 +2,7 @@
 use Rattle.std.proofs.Common.{ℕ, List, [], ◌∷◌, Bool, true, false, ◌==◌, if◌then◌else◌, Some}
 use Rattle.std.specs.List.{All}
 use Rattle.std.proofs.lemmas.List.Elements.{All-head, All-tail}
-use Rattle.plug_conf.specs.Remap.{IsPidPair}
+use Rattle.plug_move.specs.RemapSettings.{IsPidPair}
 use Rattle.plug_move.specs.RemapRule.{target_of, move_by, LeadsToPid}
 
 -- pairs of PIDs lead to PIDs

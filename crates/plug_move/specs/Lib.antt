@@ -1,2 +1,4 @@
 pub mod RemapRule
 pub mod RemapState
+pub mod RemapSettings
+pub mod RemapWords

@@ -1,12 +1,13 @@
 -- The rule of `remap`. This project's own rule, over the PID of ISO/IEC 13818-1, 2.4.3.2.
-use Rattle.std.specs.Prelude.{◌≡◌, ◌<◌, ℕ, List, [], ◌∷◌, length, Bool, false, not, Option, None, Some, ◌==◌, ◌&&◌, if◌then◌else◌}
+use Rattle.std.specs.Prelude.{◌≡◌, ◌<◌, ℕ, List, [], ◌∷◌, length, Bool, not, Option, None, Some, ◌==◌, ◌&&◌, if◌then◌else◌}
 use Rattle.std.specs.List.{slice_index_or}
 use Rattle.ts_packet.specs.Header.{pid_of, with_pid}
 use Rattle.chain_model.specs.declared.reason.Reason.TheVariants.{Pid}
+use Rattle.plugin_trait.specs.SilentRule.{silent_rule}
 use Rattle.chain_model.specs.PluginRule.{PluginRule, RuleOutcome, passes, refuses}
 use Rattle.ts_packet.specs.declared.numbers.TheConstants.{PID_COUNT}
-use Rattle.plug_conf.specs.Remap.{is_target}
-use Rattle.plug_conf.specs.declared.remap_conf.RemapConf.{RemapConf}
+use Rattle.plug_move.specs.RemapSettings.{is_target}
+use Rattle.plug_move.specs.declared.remap_conf.RemapConf.{RemapConf}
 use Rattle.plug_move.specs.declared.move_table.Move.{Move}
 use Rattle.plug_move.specs.declared.move_table.Move.TheVariants.{Keep, To, Refuse}
 
@@ -32,12 +33,8 @@ outcome_of_move Refuse packet = refuses (Pid (pid_of packet))
 
 -- each packet is moved by its PID; tables are left as they are
 abbrev pub remap_rule : RemapConf → PluginRule
-remap_rule conf = record {
-  outcome_of = λ _ packet. outcome_of_move (move_of conf.operand conf.unchecked (pid_of packet)) packet;
-  lines_of = λ _ _. [];
-  summary_of = λ _. [];
-  agrees = λ _. false;
-}
+remap_rule conf = silent_rule (
+    λ _ packet. outcome_of_move (move_of conf.operand conf.unchecked (pid_of packet)) packet)
 
 -- where a move leads to a PID, it is one
 abbrev pub LeadsToPid : Move → Type 0

@@ -4,9 +4,13 @@
 
 mod move_table;
 mod remap;
+mod remap_conf;
+mod remap_words;
 
 pub use move_table::{Move, MoveTable};
 pub use remap::Remap;
+pub use remap_conf::RemapConf;
+pub use remap_words::read_remap;
 
 #[cfg(test)]
 mod tests;

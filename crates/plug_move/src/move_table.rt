@@ -1,6 +1,6 @@
 ghost use Rattle.std.specs.Prelude.{◌≡◌, ◌<◌, ◌&&◌, not, IfOk, IfSome, List, ℕ};
 ghost use Rattle.std.specs.List.{All};
-ghost use Rattle.plug_conf.specs.Remap.{IsPidPair, is_target};
+ghost use Rattle.plug_move.specs.RemapSettings.{IsPidPair, is_target};
 ghost use Rattle.plug_move.specs.RemapRule.{IsMoveTable, LeadsToPid, move_of, target_of};
 
 use plug_conf::PairList;

@@ -1,8 +1,9 @@
 -- The rule of `slice`. This project's own rule.
-use Rattle.std.specs.Prelude.{ℕ, List, [], ◌∷◌, Option, None, Some, false, nat_le, filter, if◌then◌else◌}
+use Rattle.std.specs.Prelude.{ℕ, List, [], ◌∷◌, Option, None, Some, nat_le, filter, if◌then◌else◌}
 use Rattle.ts_packet.specs.Packet.{null_packet}
+use Rattle.plugin_trait.specs.SilentRule.{silent_rule}
 use Rattle.chain_model.specs.PluginRule.{PluginRule, RuleOutcome, passes, drops, stops}
-use Rattle.plug_conf.specs.declared.slice_conf.SliceConf.{SliceConf}
+use Rattle.plug_pass.specs.declared.slice_conf.SliceConf.{SliceConf}
 use Rattle.plugin_trait.specs.LiveCount.{live_count}
 use Rattle.plug_pass.specs.declared.slice_action.SliceAction.{SliceAction}
 use Rattle.plug_pass.specs.declared.slice_action.SliceAction.TheVariants.{Drop, Null, Pass, Stop}
@@ -45,9 +46,5 @@ outcome_by Stop packet = stops
 
 -- of the starts that have come at the packet's live index, the last one decides
 abbrev pub slice_rule : SliceConf → PluginRule
-slice_rule conf = record {
-  outcome_of = λ history packet. outcome_by (action_of (last_start (starts_come (live_count history) (starts_of conf)))) packet;
-  lines_of = λ _ _. [];
-  summary_of = λ _. [];
-  agrees = λ _. false;
-}
+slice_rule conf = silent_rule (
+    λ history packet. outcome_by (action_of (last_start (starts_come (live_count history) (starts_of conf)))) packet)

@@ -3,7 +3,7 @@ ghost use Rattle.plug_pass.specs.declared.slice_action.SliceStart.{SliceStart as
 ghost use Rattle.plug_pass.specs.SliceRule.{slice_rule, with_start, last_start, starts_come};
 
 use crate::slice_action::{SliceAction, SliceStart};
-use plug_conf::SliceConf;
+use crate::slice_conf::SliceConf;
 use plugin_trait::{Line, Outcome, Plugin, silent_report};
 use std::alloc::{AllocError, Global};
 use ts_packet::{Cell, Packet};
@@ -24,7 +24,7 @@ pub struct Slice {
 
 impl Slice {
     ghost use Rattle.std.specs.Prelude.{◌≡◌, [], Some, IfOk, ℕ};
-    ghost use Rattle.plug_conf.specs.Slice.{IsLawfulSlice};
+    ghost use Rattle.plug_pass.specs.SliceSettings.{IsLawfulSlice};
     ghost use Rattle.plug_pass.specs.SliceRule.{slice_rule, action_of, last_start, starts_come, starts_of};
     ghost use Rattle.plug_pass.specs.SliceState.{conf_of};
 

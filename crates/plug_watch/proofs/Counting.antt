@@ -9,7 +9,7 @@ use Rattle.ts_packet.specs.declared.cell.Cell.{Cell}
 use Rattle.ts_packet.specs.declared.cell.Cell.TheVariants.{Live, Dropped}
 use Rattle.ts_packet.specs.Header.{pid_of}
 use Rattle.ts_packet.specs.Cells.{live_packets, packet_in}
-use Rattle.plug_conf.specs.declared.count_conf.CountConf.{CountConf}
+use Rattle.plug_watch.specs.declared.count_conf.CountConf.{CountConf}
 use Rattle.plug_watch.specs.declared.note.Note.{Note}
 use Rattle.plug_watch.specs.Notes.{notes_after}
 use Rattle.plug_watch.specs.CountRule.{is_counted, counted, packets_on, note_on}

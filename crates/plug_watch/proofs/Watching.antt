@@ -13,7 +13,7 @@ use Rattle.ts_packet.specs.declared.cell.Cell.{Cell}
 use Rattle.ts_packet.specs.declared.cell.Cell.TheVariants.{Live, Dropped}
 use Rattle.ts_packet.specs.Header.{pid_of, counter_of, has_payload_of}
 use Rattle.ts_packet.specs.Cells.{live_packets, packet_in}
-use Rattle.plug_conf.specs.declared.continuity_conf.ContinuityConf.{ContinuityConf}
+use Rattle.plug_watch.specs.declared.continuity_conf.ContinuityConf.{ContinuityConf}
 use Rattle.plug_watch.specs.declared.continuity_error.ContinuityError.{ContinuityError}
 use Rattle.plug_watch.specs.declared.last_packet.LastPacket.{LastPacket}
 use Rattle.plug_watch.specs.ContinuityRule.{is_watched, is_duplicate, is_fault, wanted_behind, packets_of, last_behind, last_in, last_of, step_behind, steps_behind, right_counter, fault_behind, fault_on, faults_in, fault_text, faults_text, line_of_fault, continuity_rule}

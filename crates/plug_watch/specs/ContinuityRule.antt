@@ -8,8 +8,8 @@ use Rattle.ts_packet.specs.Adaptation.{discontinuity_of}
 use Rattle.plugin_trait.specs.declared.line.Line.{Line}
 use Rattle.chain_model.specs.PluginRule.{PluginRule, passes}
 use Rattle.ts_packet.specs.declared.numbers.TheConstants.{NULL_PID}
-use Rattle.plug_conf.specs.declared.continuity_conf.ContinuityConf.{ContinuityConf}
-use Rattle.pid_set.specs.Selection.{is_selected}
+use Rattle.plug_watch.specs.declared.continuity_conf.ContinuityConf.{ContinuityConf}
+use Rattle.plug_conf.specs.Selection.{is_selected}
 use Rattle.plug_watch.specs.Notes.{notes_after}
 use Rattle.plug_watch.specs.declared.continuity_error.ContinuityError.{ContinuityError}
 

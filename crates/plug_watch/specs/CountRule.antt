@@ -7,8 +7,8 @@ use Rattle.ts_packet.specs.Cells.{live_packets}
 use Rattle.ts_packet.specs.Header.{pid_of}
 use Rattle.chain_model.specs.PluginRule.{PluginRule, passes}
 use Rattle.ts_packet.specs.declared.numbers.TheConstants.{PID_COUNT}
-use Rattle.plug_conf.specs.declared.count_conf.CountConf.{CountConf}
-use Rattle.pid_set.specs.Selection.{is_selected}
+use Rattle.plug_watch.specs.declared.count_conf.CountConf.{CountConf}
+use Rattle.plug_conf.specs.Selection.{is_selected}
 use Rattle.plug_watch.specs.declared.note.Note.{Note}
 
 -- the packet is one of those that are counted

@@ -7,3 +7,7 @@ pub mod Tallies
 pub mod ContinuityRule
 pub mod ContinuitySeen
 pub mod ContinuityConfOf
+pub mod CountSettings
+pub mod CountWords
+pub mod ContinuitySettings
+pub mod ContinuityWords

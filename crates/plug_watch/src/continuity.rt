@@ -7,8 +7,8 @@ ghost use Rattle.plug_watch.specs.ContinuityRule.{continuity_rule, line_of_fault
 use crate::continuity_error::ContinuityError;
 use crate::last_packet::{LastPacket, push_fault, seen_with};
 use crate::lines::push_line;
-use pid_set::PidSet;
-use plug_conf::ContinuityConf;
+use crate::continuity_conf::ContinuityConf;
+use plug_conf::PidSet;
 use plugin_trait::{Line, Outcome, Plugin};
 use std::alloc::{AllocError, Global};
 use ts_packet::{Cell, NULL_PID, PID_COUNT, Packet};
@@ -30,7 +30,7 @@ impl Continuity {
     ghost use Rattle.ts_packet.specs.declared.cell.Cell.{Cell as GivenCell};
     ghost use Rattle.ts_packet.specs.declared.cell.Cell.TheVariants.{Live};
     ghost use Rattle.ts_packet.specs.Header.{pid_of};
-    ghost use Rattle.plug_conf.specs.Continuity.{IsLawfulContinuity};
+    ghost use Rattle.plug_watch.specs.ContinuitySettings.{IsLawfulContinuity};
     ghost use Rattle.plug_watch.specs.ContinuityRule.{continuity_rule, is_watched, fixed};
     ghost use Rattle.plug_watch.specs.ContinuitySeen.{Watches, WatchesSome};
     ghost use Rattle.plug_watch.specs.ContinuityConfOf.{conf_of};

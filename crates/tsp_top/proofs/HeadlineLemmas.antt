@@ -10,7 +10,7 @@ use Rattle.chain_model.specs.PureRun.{Chain, written_to, reported_at}
 use Rattle.chain_args.specs.PlanOf.{plan_of}
 use Rattle.chain_args.specs.WordsFault.{IsFirstFault}
 use Rattle.chain_args.specs.declared.plan_type.Plan.{Plan}
-use Rattle.chain_args.specs.declared.words_rule.WordsRule.{WordsRule}
+use Rattle.option_words.specs.declared.words_rule.WordsRule.{WordsRule}
 use Rattle.chain_args.specs.declared.words_fault.WordsFault.TheVariants.{At}
 use Rattle.ts_outside.specs.Count.{HasCause, IsQuiet}
 use Rattle.ts_outside.specs.Told.{grown}

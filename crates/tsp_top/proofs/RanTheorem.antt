@@ -29,11 +29,11 @@ use Rattle.ts_outside.specs.Sink.{SinkView}
 use Rattle.ts_outside.specs.Told.{grown}
 use Rattle.ts_outside.specs.Desk.{DeskView}
 use Rattle.chain_run.specs.RunOf.{LeftInput, LeftOutput, RunOf}
-use Rattle.plug_set.specs.Rules.{rule_of}
+use Rattle.plug_set.specs.Plugins.{rule_of}
 use Rattle.tsp_top.specs.CallEnd.{CallEnd, ran, unreported, out_of_memory, status_of, status_when_late, FaultRose, LateRose}
 use Rattle.tsp_top.specs.Openings.{asked_input, asked_output, input_closed_as, output_closed_as, OpensInput, OpensOutput, WasOpened}
 use Rattle.tsp_top.specs.PlannedChain.{chain_of, input_of, stuffing_of, input_name, output_name}
-use Rattle.tsp_top.specs.PluginNames.{name_of}
+use Rattle.plug_set.specs.Plugins.{name_of}
 use Rattle.tsp_top.specs.Ran.{IsPlanned, RanEnds, RanOpened, closed_desk}
 use Rattle.tsp_top.specs.Readings.{ReadsTo}
 use Rattle.tsp_top.specs.Reported.{ReportsRun}

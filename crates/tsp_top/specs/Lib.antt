@@ -1,7 +1,6 @@
 pub mod CallEnd
 pub mod ExitNumber
 pub mod Openings
-pub mod PluginNames
 pub mod PlannedChain
 pub mod Ran
 pub mod Readings

@@ -16,7 +16,7 @@ use Rattle.stage_run.specs.declared.output_part.OutputPart.{OutputPart}
 use Rattle.stage_run.specs.declared.stuffing.Stuffing.{Stuffing}
 use Rattle.stage_run.specs.InputStands as stage
 use Rattle.chain_run.specs.RunOf.{RunOf}
-use Rattle.tsp_top.specs.PluginNames.{name_of}
+use Rattle.plug_set.specs.Plugins.{name_of}
 use Rattle.tsp_top.specs.PlannedChain.{stuffing_of, users_of}
 use Rattle.tsp_top.specs.Openings.{input_closed_as, output_closed_as, WasOpened}
 use Rattle.tsp_top.specs.Reported.{ReportsRun}

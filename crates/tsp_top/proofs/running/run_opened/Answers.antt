@@ -1,8 +1,8 @@
 use Rattle.std.proofs.Common.{is_err, ap, map, List, sym, ◌∙◌, refl, inl, inr}
-use Rattle.plug_conf.specs.declared.plugin_conf.PluginConf.{PluginConf}
+use Rattle.plug_set.specs.declared.plugin_conf.PluginConf.{PluginConf}
 use Rattle.chain_model.specs.Reports.{reports}
 use Rattle.ts_outside.specs.Desk.{DeskView}
-use Rattle.tsp_top.specs.PluginNames.{name_of}
+use Rattle.plug_set.specs.Plugins.{name_of}
 use Rattle.tsp_top.specs.Openings.{output_closed_as}
 use Rattle.tsp_top.proofs.RunLemmas.{run-reaches, if-ok, on-err, on-true-is_err, reports-run-same}
 use Rattle.tsp_top.proofs.running.run_opened.Goals as goal
