@@ -5,7 +5,7 @@ pub struct GeneralConf {
     pub add_start_stuffing: u64,
     /// Null packets after the last one, 0 to 1,000,000, else 0.
     pub add_stop_stuffing: u64,
-    /// So many null packets, 0 to 1,000, before each so many packets of the input, 1 to 1,000,000;
+    /// So many null packets, 0 to 1,000, behind each so many packets of the input, 1 to 1,000,000;
     /// else 0 and 1.
     pub add_input_stuffing: (u64, u64),
     /// How many packets the buffer of the chain holds, 1 to 1,000,000, else 89,240.

@@ -6,7 +6,8 @@ use Rattle.ts_packet.specs.Header.{with_pid}
 use Rattle.chain_model.specs.declared.reason.Reason.TheVariants.{Pid}
 use Rattle.chain_model.specs.Apply.{apply, refused}
 use Rattle.plug_move.specs.declared.remap_conf.RemapConf.{RemapConf}
-use Rattle.plug_move.specs.RemapRule.{move_of, remap_rule}
+use Rattle.plug_move.specs.MoveTables.{move_of}
+use Rattle.plug_move.specs.RemapRule.{remap_rule}
 use Rattle.plug_move.specs.declared.move_table.Move.TheVariants.{Keep, To, Refuse}
 use Rattle.plug_move.specs.RemapSettings.{pairs_agree}
 

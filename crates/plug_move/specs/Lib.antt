@@ -2,3 +2,4 @@ pub mod RemapRule
 pub mod RemapState
 pub mod RemapSettings
 pub mod RemapWords
+pub mod MoveTables

@@ -1,5 +1,5 @@
-//! The plugin that moves packets to other PIDs: `remap`.
-//! The layer above makes it of its settings, and uses it by the clauses of `Plugin` alone.
+//! The plugin that moves packets to other PIDs, with its options: `remap`.
+//! The layer above reads settings of words, makes it of its settings, and uses it by the clauses of `Plugin`.
 #![tactic(auto)]
 
 mod move_table;

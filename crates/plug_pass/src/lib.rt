@@ -1,5 +1,5 @@
-//! The plugins that pass, drop or overwrite packets: `filter`, `skip`, `slice`, `pattern`.
-//! The layer above makes each of its settings, and uses it by the clauses of `Plugin` alone.
+//! The plugins that pass, drop or overwrite packets: `filter`, `skip`, `slice`, `pattern`, each with its options.
+//! The layer above reads settings of words, makes each of its settings, and uses it by the clauses of `Plugin`.
 #![tactic(auto)]
 
 mod filter;
@@ -14,7 +14,6 @@ mod skip_words;
 mod slice;
 mod slice_conf;
 mod slice_words;
-mod slice_action;
 
 pub use filter::Filter;
 pub use filter_conf::FilterConf;

@@ -103,8 +103,8 @@ unfolding digits field bit_of adaptation_length_of discontinuity_of
 counter-fault = refl
 
 -- a packet without payload whose counter goes on
-bare-fault : faults_in watches (Live (numbered 3) ∷ Live (bare 4) ∷ []) ≡ record { at = 1; pid = 256; counter = 4; wanted = 3 } ∷ []
-unfolding field bit_of adaptation_length_of discontinuity_of
+bare-fault : faults_in watches (Live (numbered 3) ∷ Live (bare 4) ∷ []) ≡ codes "packet 1 pid 256 counter 4 wanted 3" ∷ []
+unfolding digits field bit_of adaptation_length_of discontinuity_of
 bare-fault = refl
 
 -- null packets are not looked at, nor are other PIDs where some are listed

@@ -1,5 +1,7 @@
 pub mod Notes
 pub mod CountRule
+pub mod CountNotes
+pub mod ContinuityErrors
 pub mod CountState
 pub mod CountConfOf
 pub mod Folding

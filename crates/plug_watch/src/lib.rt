@@ -1,5 +1,5 @@
 //! The plugins that look at packets: `count` counts them by PID, `continuity` checks their counters.
-//! The layer above makes each of its settings, and uses it by the clauses of `Plugin` alone.
+//! The layer above reads settings of words, makes each of its settings, and uses it by the clauses of `Plugin`.
 #![tactic(auto)]
 
 mod continuity;

@@ -82,16 +82,10 @@ fn files(alloc: Global, packets: usize) -> Result<FileList, AllocError> {
 fn plan(alloc: Global, read: u64, write: u64) -> Result<FailPlan, AllocError>
     ensures { IfOk result (λ p. (p.read_piece ≡ 1000) × (p.write_piece ≡ 300)) }
 {
-    Ok(FailPlan {
-        opens: NumberList::of(Vec::new(alloc)),
-        reads: NumberList::of(vec![in alloc; read]?),
-        writes: NumberList::of(vec![in alloc; write]?),
-        reports: NumberList::of(Vec::new(alloc)),
-        closes: NumberList::of(Vec::new(alloc)),
-        read_piece: 1000,
-        write_piece: 300,
-        room: 1000,
-    })
+    let mut plan = FailPlan::none(alloc, 1000, 300, 1000);
+    plan.reads = NumberList::of(vec![in alloc; read]?);
+    plan.writes = NumberList::of(vec![in alloc; write]?);
+    Ok(plan)
 }
 
 /// A desk with a file `in` of so many packets. Calls are numbered from 1, so that with 0 none fails.
