@@ -7,8 +7,8 @@ ghost use Rattle.option_words.specs.Options.{command_of};
 ghost use Rattle.option_words.specs.Refusal.{Reads, ReadsParsed};
 
 use crate::general_conf::GeneralConf;
-use option_words::{ParsedOptions, Refusal, new_command, with_flag, with_value};
 use clap::Command;
+use option_words::{ParsedOptions, Refusal, new_command, with_flag, with_value};
 use std::alloc::{AllocError, Global};
 
 /// The most packets of one stuffing, of the buffer, and of one turn of a stage.

@@ -15,9 +15,9 @@ mod plugin_list;
 mod segments;
 mod words_fault;
 
-pub use option_words::WordsRule;
 pub use general_conf::GeneralConf;
 pub use input_conf::InputConf;
+pub use option_words::WordsRule;
 pub use output_conf::OutputConf;
 pub use plan_of_words::plan;
 pub use plan_type::Plan;

@@ -45,10 +45,7 @@ impl<'a> Model for ParsedOptions<'a> {
 
 impl<'a> ParsedOptions<'a> {
     /// What the command finds in the words, where it takes them.
-    pub fn of(
-        command: Command<'a>,
-        words: &'a [String],
-    ) -> Result<ParsedOptions<'a>, Refusal>
+    pub fn of(command: Command<'a>, words: &'a [String]) -> Result<ParsedOptions<'a>, Refusal>
         requires { is_simple_and_free (app_of command) ≡ true }
         ensures { MatchResult result
             (λ found. (is_taken (app_of command.entry) (map string_bytes words.entry.now) ≡ true)
@@ -104,13 +101,7 @@ impl<'a> ParsedOptions<'a> {
     }
 
     /// The same, with the number that holds where none is given.
-    pub fn number_or(
-        &self,
-        name: &str,
-        least: u64,
-        most: u64,
-        default: u64,
-    ) -> Result<u64, Refusal>
+    pub fn number_or(&self, name: &str, least: u64, most: u64, default: u64) -> Result<u64, Refusal>
         requires low { least ≤ default }
         requires high { default ≤ most }
         ensures reads { MatchResult result

@@ -23,11 +23,7 @@ fn read_range(text: &str, most: u64) -> Option<(u64, u64)>
 }
 
 /// The numbers and ranges of a text, joined by commas, none of them above a most.
-pub fn read_ranges(
-    alloc: Global,
-    text: &str,
-    most: u64,
-) -> Result<Option<NumberSet>, AllocError>
+pub fn read_ranges(alloc: Global, text: &str, most: u64) -> Result<Option<NumberSet>, AllocError>
     ensures value { IfOk result (λ set. set ≡ ranges_of most text.now) }
     ensures some { IfOk result (λ set. IfSome set (λ pairs. 1 ≤ length pairs)) }
     ensures range { IfOk result (λ set. IfSome set (AllBelow (most + 1))) }

@@ -1,6 +1,5 @@
 -- The rule of `slice`. This project's own rule.
 use Rattle.std.specs.Prelude.{ℕ, List, Bool, false, Option, None, Some, not, nat_le, nat_lt, ◌&&◌, ◌||◌, if◌then◌else◌}
-use Rattle.ts_packet.specs.declared.cell.Cell.{Cell}
 use Rattle.ts_packet.specs.Packet.{null_packet}
 use Rattle.plugin_trait.specs.SilentRule.{silent_rule}
 use Rattle.chain_model.specs.PluginRule.{PluginRule, RuleOutcome, passes, drops, stops}

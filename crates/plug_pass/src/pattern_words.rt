@@ -8,7 +8,9 @@ ghost use Rattle.option_words.specs.Refusal.{Reads, ReadsParsed};
 
 use crate::pattern_conf::PatternConf;
 use clap::Command;
-use option_words::{ParsedOptions, Refusal, WordsRule, new_command, with_flag, with_operand, with_value};
+use option_words::{
+    ParsedOptions, Refusal, WordsRule, new_command, with_flag, with_operand, with_value,
+};
 use plug_conf::{LAST_OFFSET, LAST_PID};
 use std::alloc::{AllocError, Global};
 use ts_packet::PAYLOAD_SIZE;

@@ -5,10 +5,10 @@ ghost use Rattle.plug_watch.specs.declared.continuity_error.ContinuityError.{Con
 ghost use Rattle.plug_watch.specs.ContinuityErrors.{line_of_error};
 ghost use Rattle.plug_watch.specs.ContinuityRule.{continuity_rule};
 
+use crate::continuity_conf::ContinuityConf;
 use crate::continuity_error::ContinuityError;
 use crate::last_packet::{LastPacket, push_fault, seen_with};
 use crate::lines::push_line;
-use crate::continuity_conf::ContinuityConf;
 use plug_conf::PidSet;
 use plugin_trait::{Line, Outcome, Plugin};
 use std::alloc::{AllocError, Global};

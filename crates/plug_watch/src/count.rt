@@ -1,11 +1,11 @@
 ghost use Rattle.std.specs.Prelude.{◌≡◌, IfOk, [], None, Some, if◌then◌else◌};
 ghost use Rattle.plug_watch.specs.CountRule.{count_rule};
 
+use crate::count_conf::CountConf;
 use crate::folding::{fold_below, fold_for};
 use crate::note::Note;
 use crate::summary::push_summary;
 use crate::tally::Tally;
-use crate::count_conf::CountConf;
 use plug_conf::PidSet;
 use plugin_trait::{Line, Outcome, Plugin};
 use std::alloc::{AllocError, Global};

@@ -4,8 +4,8 @@
 
 mod continuity;
 mod continuity_conf;
-mod continuity_words;
 mod continuity_error;
+mod continuity_words;
 mod count;
 mod count_conf;
 mod count_words;
@@ -18,8 +18,8 @@ mod tally;
 
 pub use continuity::Continuity;
 pub use continuity_conf::ContinuityConf;
-pub use continuity_words::read_continuity;
 pub use continuity_error::ContinuityError;
+pub use continuity_words::read_continuity;
 pub use count::Count;
 pub use count_conf::CountConf;
 pub use count_words::read_count;

@@ -26,8 +26,7 @@ impl FailPlan {
     /// A plan by which no call fails: one read moves so many bytes at most, one write or report so many, and an
     /// output and the reports hold so many. It takes no memory.
     pub fn none(alloc: Global, read_piece: usize, write_piece: usize, room: usize) -> FailPlan
-        ensures {
-            result
+        ensures { result
             ≡ record {
               opens = [];
               reads = [];
