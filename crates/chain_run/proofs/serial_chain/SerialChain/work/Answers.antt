@@ -10,19 +10,19 @@ use Rattle.chain_run.proofs.serial_chain.SerialChain.work.Goals as goal
 pub work-requires-clause-stands : goal.work-requires-clause-stands
 work-requires-clause-stands g c κs within =
     let part = c.index_mut.result.now in
-    subst (λ (p : StagePart g.row.S.Denot g.row.K.Denot g.row.P.Denot). MayWorkOnSome (PartStands g.S.Source.seen g.K.Sink.seen g.P.Plugin.rule g.P.Plugin.stands_for p) c.mark-at.result.given c.args.news.now.written)
+    subst (λ (p : StagePart g.row.S.Denot g.row.K.Denot g.row.P.Denot). MayWorkOnSome (PartStands g.S.Source.seen g.K.Sink.seen g.P.Plugin.rule g.P.Plugin.stands_for p) c.progress-at.result.given c.args.news.now.written)
     (sym c.index_mut.ensures.value)
     (subst (λ (m : Progress). MayWorkOnSome (PartStands g.S.Source.seen g.K.Sink.seen g.P.Plugin.rule g.P.Plugin.stands_for (slice_index_or c.args.self.now.parts.items c.args.stage part)) m.given c.args.news.now.written)
-    (sym c.mark-at.ensures) (c.requires.stands part))
+    (sym c.progress-at.ensures) (c.requires.stands part))
 
 pub returns-clause-works : goal.returns-clause-works
 returns-clause-works g c =
     stage-works g.S.Source.seen g.K.Sink.seen g.P.Plugin.rule g.P.Plugin.stands_for c.args.self.now.cells
-    c.args.self.now.parts.items (slice_set c.args.self.now.parts.items c.args.stage c.work.new.self) c.args.stage c.len-slots.result c.mark-at.result.given (progress_of_core c.args.self.now.core c.args.stage).given c.min-len.result
+    c.args.self.now.parts.items (slice_set c.args.self.now.parts.items c.args.stage c.work.new.self) c.args.stage c.len-slots.result c.progress-at.result.given (progress_of_core c.args.self.now.core c.args.stage).given c.min-len.result
     c.deref_mut.result.now c.work.new.cells c.index_mut.result.now c.work.new.self c.args.news.now c.work.result
-    c.index_mut.ensures.value refl c.deref_mut.ensures.value c.deref_mut.ensures.len (omega arith) (ap (λ (m : Progress). m.given) c.mark-at.ensures)
-    (omega arith) (omega arith) (let at-is : c.mark-at.result.given ≡ (progress_of_core c.args.self.now.core c.args.stage).given = ap (λ (m : Progress). m.given) c.mark-at.ensures in omega arith)
-    (λ lt. let inside : c.mark-at.result.given % c.len-slots.result < c.len-slots.result = mod-lt c.mark-at.result.given (omega arith) in omega arith)
+    c.index_mut.ensures.value refl c.deref_mut.ensures.value c.deref_mut.ensures.len (omega arith) (ap (λ (m : Progress). m.given) c.progress-at.ensures)
+    (omega arith) (omega arith) (let at-is : c.progress-at.result.given ≡ (progress_of_core c.args.self.now.core c.args.stage).given = ap (λ (m : Progress). m.given) c.progress-at.ensures in omega arith)
+    (λ lt. let inside : c.progress-at.result.given % c.len-slots.result < c.len-slots.result = mod-lt c.progress-at.result.given (omega arith) in omega arith)
     (record {
       done = c.work.ensures.done;
       rest = c.work.ensures.rest;
