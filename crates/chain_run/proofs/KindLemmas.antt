@@ -7,6 +7,7 @@ use Rattle.chain_model.specs.PluginRule.{PluginRule, passing_rule}
 use Rattle.chain_model.specs.Apply.{StageList}
 use Rattle.chain_core.specs.declared.news.News.{News}
 use Rattle.chain_core.specs.Keeps.{StageKeeps}
+use Rattle.stage_run.specs.Seeing.{Seeing}
 use Rattle.stage_run.specs.declared.stage_part.StagePart.{StagePart}
 use Rattle.stage_run.specs.declared.stage_part.StagePart.TheVariants.{Input, Plugin, Output}
 use Rattle.stage_run.specs.declared.work.Work.{Work}
@@ -14,15 +15,15 @@ use Rattle.stage_run.specs.PartLists.{PartLists}
 use Rattle.stage_run.specs.PartStands.{PartGives, kind_of, rule_of, an_input, a_plugin, an_output}
 use Rattle.stage_run.specs.Works.{WorksByKind, InputTells, OutputTells, KeepsRule, read_for}
 
-module _ {S K P : Type 0} (in_seen : S → SourceView) (out_seen : K → SinkView) (rule : P → PluginRule) where
+module _ {S K P : Type 0} (see : Seeing S K P) where
   pub record InputDid (old new : StagePart S K P) (before : PartLists) (news : News) (cells cells_new : List Cell) (work : Work) (after : PartLists) : Type 0 where
     pub tells : InputTells news (length before.given) (length cells) work.done (after.read ≡ before.read) work.word.ended
     pub reads : length after.read ≤ 188 * read_for (length before.given) (length cells)
-    pub gives : (input : StageList) → PartGives in_seen new after input → PartGives in_seen old before input
-    pub keeps : (input : StageList) → PartGives in_seen new after input → (rules : List PluginRule) (plugins : ℕ) → StageKeeps rules input plugins 0 [] before.given (take work.done cells_new) work.word
+    pub gives : (input : StageList) → PartGives see new after input → PartGives see old before input
+    pub keeps : (input : StageList) → PartGives see new after input → (rules : List PluginRule) (plugins : ℕ) → StageKeeps rules input plugins 0 [] before.given (take work.done cells_new) work.word
 
   pub input-did : (old new : StagePart S K P) (before : PartLists) (news : News) (cells cells_new : List Cell) (work : Work) (after : PartLists)
-      → kind_of old ≡ an_input → WorksByKind in_seen out_seen rule old new before news cells cells_new work after → InputDid old new before news cells cells_new work after
+      → kind_of old ≡ an_input → WorksByKind see old new before news cells cells_new work after → InputDid old new before news cells cells_new work after
   input-did (Input old) (Input new) before news cells cells_new work after kind works = record {
     tells = works.tells;
     reads = works.reads;
@@ -35,10 +36,10 @@ module _ {S K P : Type 0} (in_seen : S → SourceView) (out_seen : K → SinkVie
   input-did (Output old) new before news cells cells_new work after kind works = absurd cc
 
   pub record PluginDid (old : StagePart S K P) (before : PartLists) (cells cells_new : List Cell) (work : Work) : Type 0 where
-    pub keeps : (plugins j : ℕ) → KeepsRule (rule_of rule old) before cells (take work.done cells_new) work.word plugins j
+    pub keeps : (plugins j : ℕ) → KeepsRule (rule_of see old) before cells (take work.done cells_new) work.word plugins j
 
   pub plugin-did : (old new : StagePart S K P) (before : PartLists) (news : News) (cells cells_new : List Cell) (work : Work) (after : PartLists)
-      → kind_of old ≡ a_plugin → WorksByKind in_seen out_seen rule old new before news cells cells_new work after → PluginDid old before cells cells_new work
+      → kind_of old ≡ a_plugin → WorksByKind see old new before news cells cells_new work after → PluginDid old before cells cells_new work
   plugin-did (Plugin old) (Plugin new) before news cells cells_new work after kind works = record { keeps = works.keeps }
   plugin-did (Plugin old) (Input new) before news cells cells_new work after kind works = absurd works
   plugin-did (Plugin old) (Output new) before news cells cells_new work after kind works = absurd works
@@ -52,7 +53,7 @@ module _ {S K P : Type 0} (in_seen : S → SourceView) (out_seen : K → SinkVie
     pub keeps : (plugins : ℕ) → KeepsRule passing_rule before cells (take work.done cells_new) work.word plugins plugins
 
   pub output-did : (old new : StagePart S K P) (before : PartLists) (news : News) (cells cells_new : List Cell) (work : Work) (after : PartLists)
-      → kind_of old ≡ an_output → WorksByKind in_seen out_seen rule old new before news cells cells_new work after → OutputDid before news cells cells_new work after
+      → kind_of old ≡ an_output → WorksByKind see old new before news cells cells_new work after → OutputDid before news cells cells_new work after
   output-did (Output old) (Output new) before news cells cells_new work after kind works = record {
     unchanged = works.unchanged;
     tells = works.tells;

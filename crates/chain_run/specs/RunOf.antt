@@ -19,6 +19,7 @@ use Rattle.chain_core.specs.declared.closed.Closed.{Closed}
 use Rattle.chain_core.specs.declared.core_plan.CorePlan.{CorePlan}
 use Rattle.chain_core.specs.Stages.{stages_of}
 use Rattle.chain_core.specs.EveryOrder.{IsPureClose}
+use Rattle.stage_run.specs.Seeing.{Seeing}
 use Rattle.stage_run.specs.declared.input_part.InputPart.{InputPart}
 use Rattle.stage_run.specs.declared.input_part.InputPart.TheVariants.{Stream, Nulls}
 use Rattle.stage_run.specs.declared.output_part.OutputPart.{OutputPart}
@@ -73,17 +74,17 @@ ClosesRight rules list users closed =
     IsPureClose rules list users closed.cut closed.cause ⊎ IsLawfulFault rules list users closed.cut closed.cause
 
 -- a run that was closed
-pub record RunOf {S K P : Type 0} (in_seen : S → SourceView) (out_seen : K → SinkView) (rule : P → PluginRule) (stands : P → List Cell → ℕ → Type 0)
+pub record RunOf {S K P : Type 0} (see : Seeing S K P)
     (from made_from : InputPart S) (stuffing : Stuffing) (plugins made : List P) (to made_to : OutputPart K) (plan : CorePlan) (closed : Closed) : Type 0 where
   -- the list of the input with its stuffing: that of the bytes of its source, as far as it tells them
   pub list : StageList
-  pub is_list : IsListOf in_seen from (stuffing_of stuffing) list
-  pub closes : ClosesRight (map rule plugins) list (stages_of plan.users) closed
-  pub input : LeftInput in_seen (stuffing_of stuffing) plan.buffer from made_from closed.cut closed.cause
-  pub output : LeftOutput out_seen to made_to (end_list (map rule plugins) list).cells closed.cut closed.cause
+  pub is_list : IsListOf see.source from (stuffing_of stuffing) list
+  pub closes : ClosesRight (map see.rule plugins) list (stages_of plan.users) closed
+  pub input : LeftInput see.source (stuffing_of stuffing) plan.buffer from made_from closed.cut closed.cause
+  pub output : LeftOutput see.sink to made_to (end_list (map see.rule plugins) list).cells closed.cut closed.cause
   -- each plugin met the cells before the cut, and was told no mark above it
-  pub met : AllMetTo stands (map rule plugins) list closed.cut 0 made
-  pub rules : map rule made ≡ map rule plugins
+  pub met : AllMetTo see.stands (map see.rule plugins) list closed.cut 0 made
+  pub rules : map see.rule made ≡ map see.rule plugins
 
 -- where there was no memory for a run, nothing was read, met or written
 pub record NeverBegan {S K P : Type 0} (from made_from : InputPart S) (plugins made : List P) (to made_to : OutputPart K) : Type 0 where

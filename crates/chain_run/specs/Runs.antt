@@ -20,6 +20,7 @@ use Rattle.chain_core.specs.Machine.{ChainState, Visit, progress_of_stages}
 use Rattle.chain_core.specs.ChainRun.{ChainRun, state_after, took}
 use Rattle.chain_core.specs.CoreNumbers.{CoreNumbers, IsLawfulPlan, StandsFor}
 use Rattle.chain_core.specs.Keeps.{AllKeep, StageKeeps}
+use Rattle.stage_run.specs.Seeing.{Seeing}
 use Rattle.stage_run.specs.declared.input_part.InputPart.{InputPart}
 use Rattle.stage_run.specs.declared.output_part.OutputPart.{OutputPart}
 use Rattle.stage_run.specs.declared.stage_part.StagePart.{StagePart}
@@ -55,10 +56,10 @@ pub record NumbersFit {S K : Type 0} (begun : RunStart S K) (core : CoreNumbers)
   pub rules_are : length begun.rules ≡ begun.plan.plugins
   pub agree_late : All (λ rule. rule.agrees [] ≡ false) begun.rules
 
-module _ {S K P : Type 0} (in_seen : S → SourceView) (out_seen : K → SinkView) (rule : P → PluginRule) (stands : P → List Cell → ℕ → Type 0) (begun : RunStart S K) where
+module _ {S K P : Type 0} (see : Seeing S K P) (begun : RunStart S K) where
   -- a part stands for these lists, which are those of stage `k`
   pub record PartAt (part : StagePart S K P) (k : ℕ) (lists : PartLists) (state : ChainState) : Type 0 where
-    pub stands_for : PartStands in_seen out_seen rule stands part lists (state.stages k).ended
+    pub stands_for : PartStands see part lists (state.stages k).ended
     pub given : lists.given ≡ (state.stages k).given
     pub mark : lists.mark ≤ written_of begun.plan (progress_of_stages state)
 
@@ -68,14 +69,14 @@ module _ {S K P : Type 0} (in_seen : S → SourceView) (out_seen : K → SinkVie
     pub kind : kind_of part ≡ an_input
     pub stuffing_is : stuffing_in part ≡ Some begun.stuffing
     pub stream : has_stream part ≡ has_source begun.from
-    pub source : IsSourceOf in_seen begun.from lists.source
+    pub source : IsSourceOf see.source begun.from lists.source
     pub within : MayRead begun.plan.buffer (written_of begun.plan (progress_of_stages state)) (length lists.read)
 
   -- the stage of the plugin behind `j` others
   pub record PluginAt (part : StagePart S K P) (j : ℕ) (lists : PartLists) (state : ChainState) : Type 0 where
     pub at : PartAt part (suc j) lists state
     pub kind : kind_of part ≡ a_plugin
-    pub rule_is : rule_of rule part ≡ rule_behind begun.rules j
+    pub rule_is : rule_of see part ≡ rule_behind begun.rules j
     pub met : lists.met ≡ take (length (state.stages (suc j)).given) (state.stages j).given
 
   -- a write failed in the packet of the next cell, and no joint position is so near
@@ -91,12 +92,12 @@ module _ {S K P : Type 0} (in_seen : S → SourceView) (out_seen : K → SinkVie
     pub kind : kind_of part ≡ an_output
     pub stream : has_stream part ≡ has_sink begun.to
     pub met : lists.met ≡ take (length (state.stages (suc begun.plan.plugins)).given) (state.stages begun.plan.plugins).given
-    pub sink : IsSinkOf out_seen begun.to lists.sink
+    pub sink : IsSinkOf see.sink begun.to lists.sink
     pub failed : (state.stages (suc begun.plan.plugins)).ended ≡ Some WriteFault → FailedAt lists state Gives
 
   -- the input's list may be this one, and each visit is made as the lists say; a stage that goes on may tell nothing, too
   pub record KeptFor (visits : List Visit) (input : StageList) : Type 0 where
-    pub is_list : IsListOf in_seen begun.from begun.stuffing input
+    pub is_list : IsListOf see.source begun.from begun.stuffing input
     pub kept : AllKeep begun.plan begun.rules input visits
     pub going : (k : ℕ) → ((state_after begun.plan visits).stages k).ended ≡ None
         → StageKeeps begun.rules input begun.plan.plugins k (took (state_after begun.plan visits) k) ((state_after begun.plan visits).stages k).given [] nothing_told
@@ -106,11 +107,11 @@ module _ {S K P : Type 0} (in_seen : S → SourceView) (out_seen : K → SinkVie
     pub parts_are : (k : ℕ) (d : StagePart S K P) → k ≤ suc begun.plan.plugins → slice_index_or parts k d ≡ part k
     pub numbers : StandsFor core (state_after begun.plan visits)
     pub run : ChainRun begun.plan visits
-    pub kept : (input : StageList) → PartGives in_seen (part 0) (lists 0) input → KeptFor visits input
+    pub kept : (input : StageList) → PartGives see (part 0) (lists 0) input → KeptFor visits input
     pub input : InputAt (part 0) (lists 0) (state_after begun.plan visits)
     pub plugin : (j : ℕ) → j < begun.plan.plugins → PluginAt (part (suc j)) j (lists (suc j)) (state_after begun.plan visits)
     pub output : OutputAt (part (suc begun.plan.plugins)) (lists (suc begun.plan.plugins)) (state_after begun.plan visits)
-        (PartGives in_seen (part 0) (lists 0))
+        (PartGives see (part 0) (lists 0))
     -- what a stage gave and the next one has not stands in the buffer
     pub buffer : (k : ℕ) → k ≤ begun.plan.plugins
         → HoldsFrom (slot cells) (length ((state_after begun.plan visits).stages (suc k)).given) (between (state_after begun.plan visits) k)
