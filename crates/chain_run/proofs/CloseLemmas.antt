@@ -1,8 +1,8 @@
 -- A chain whose stages have all ended: what it comes to.
-use Rattle.std.proofs.Common.{◌≡◌, ◌≢◌, ◌⊎◌, ℕ, suc, ◌+◌, ◌<◌, ◌≤◌, List, [], ◌∷◌, ◌++◌, length, map, take, drop, true, false, Option, Some, None, refl, ap, sym, ◌∙◌, subst, arith, inl, inr}
+use Rattle.std.proofs.Common.{◌≡◌, ◌≢◌, ◌⊎◌, ℕ, zero, suc, ◌+◌, ◌-◌, ◌<◌, ◌≤◌, List, [], ◌∷◌, ◌++◌, length, map, take, drop, true, false, Option, Some, None, refl, ap, sym, ◌∙◌, subst, arith, inl, inr, length-append}
 use Rattle.std.specs.Prelude.{slice_index_or}
 use Rattle.std.proofs.lemmas.Bool.{cases_eq, cases_lt}
-use Rattle.std.proofs.lemmas.List.{take-take, length-take}
+use Rattle.std.proofs.lemmas.List.{take-append-le, length-take}
 use Rattle.std.proofs.Math.Seq.{drop-append-le}
 use Rattle.ts_packet.specs.declared.cell.Cell.{Cell}
 use Rattle.ts_outside.specs.Source.{SourceView, unread, read_failed}
@@ -33,16 +33,19 @@ use Rattle.stage_run.specs.declared.output_part.OutputPart.{OutputPart}
 use Rattle.stage_run.specs.declared.output_part.OutputPart.TheVariants as output
 use Rattle.stage_run.specs.declared.stage_part.StagePart.{StagePart}
 use Rattle.stage_run.specs.PartLists.{PartLists}
-use Rattle.stage_run.specs.PartStands.{PartStands, PartGives, rule_of, has_source, has_sink}
+use Rattle.stage_run.specs.PartStands.{PartStands, PartGives, rule_of, has_source, has_sink, an_input, a_plugin, an_output}
 use Rattle.stage_run.specs.OutputStands.{IsPartOfFirst, SinkTook}
 use Rattle.stage_run.specs.Parts.{IsSourceOf, IsSinkOf, FailedReading, LeavesSource, LeavesInput, LeavesOutput}
-use Rattle.chain_run.specs.Met.{AllMetTo}
+use Rattle.plugin_trait.specs.Steps.{IsSteadyFor}
+use Rattle.chain_run.specs.Met.{AllMetFirst}
+use Rattle.chain_run.specs.Rooms.{WantsMemory}
 use Rattle.chain_run.specs.Parts.{AreTakenFrom}
-use Rattle.chain_run.specs.RunOf.{MayRead, LeftInput, TakesTo, LeftOutput}
+use Rattle.chain_run.specs.RunOf.{MayRead, LeftInput, TakesTo, LeftOutput, Gave}
 use Rattle.chain_run.specs.Runs.{between, RunStart, KeptFor, RunsBy}
 use Rattle.chain_run.specs.Working.{IsRunning}
-use Rattle.chain_run.proofs.MachineLaws.{MachineLaws, taken-falls, written-given}
+use Rattle.chain_run.proofs.MachineLaws.{MachineLaws, given-falls, taken-falls, written-given}
 use Rattle.chain_run.proofs.ProgressLemmas.{as-progress}
+use Rattle.chain_run.proofs.KindLemmas.{wants-kind}
 use Rattle.chain_run.proofs.StepLemmas.{may_read-more, part-more}
 use Rattle.chain_run.proofs.TurnWorks.{kept-run, far}
 
@@ -56,6 +59,15 @@ end-of-read_fault k (Refuse reason) e = cc
 end-of-read_fault k WriteFault e = cc
 end-of-read_fault k NoMemory e = cc
 end-of-read_fault k Followed e = cc
+
+end-of-no_memory : (k : ℕ) (end : StageEnd) (j : ℕ) → cause_of_stage k end ≡ Some (cause.NoMemory j) → (end ≡ NoMemory) × (k ≡ j)
+end-of-no_memory k (Input how) j e = cc
+end-of-no_memory k Last j e = cc
+end-of-no_memory k Stop j e = cc
+end-of-no_memory k (Refuse reason) j e = cc
+end-of-no_memory k WriteFault j e = cc
+end-of-no_memory k NoMemory j e = (refl, cc)
+end-of-no_memory k Followed j e = cc
 
 end-of-write_fault : (k : ℕ) (end : StageEnd) → cause_of_stage k end ≡ Some cause.WriteFault → end ≡ WriteFault
 end-of-write_fault k (Input how) e = cc
@@ -120,6 +132,10 @@ module _ {S K P : Type 0} (see : Seeing S K P)
 
   abbrev out : ℕ
   out = suc begun.plan.plugins
+
+  -- how many cells each stage gave
+  abbrev pub gave-of : ℕ → ℕ
+  gave-of k = length (state.stages k).given
 
   over-state : AllEnded begun.plan (progress_of_stages state)
   over-state =
@@ -263,8 +279,18 @@ module _ {S K P : Type 0} (see : Seeing S K P)
 
     -- ---- the plugins
 
+    pub gave-to : Gave begun.plan.plugins begun.plan.buffer cut gave-of
+    gave-to = record {
+      input = at-close.made;
+      falls = λ k le. given-falls laws begun.plan goes.fits.lawful.users goes.runs.visits by.run (suc k) k (omega arith);
+      output = given-cut;
+    }
+
+    pub made-input : gave-of 0 ≤ length list.cells
+    made-input = let first = so-far.lists 0 (omega arith) in omega (arith, ap (λ (l : List Cell). length l) first.1, length-append (state.stages 0).given first.0)
+
     pub met-all : (j : ℕ) (rest : List (StagePart S K P)) (made : List P) → AreTakenFrom see rest made → j + length made ≡ begun.plan.plugins
-        → ((i : ℕ) (d : StagePart S K P) → i < length made → slice_index_or rest i d ≡ goes.runs.part (suc (j + i))) → AllMetTo see.stands begun.rules list cut j made
+        → ((i : ℕ) (d : StagePart S K P) → i < length made → slice_index_or rest i d ≡ goes.runs.part (suc (j + i))) → AllMetFirst see.stands begun.rules list gave-of cut j made
     met-all j [] [] taken number same = tt
     met-all j [] (plugin ∷ made) taken number same = absurd taken
     met-all j (part ∷ []) [] taken number same = tt
@@ -276,17 +302,54 @@ module _ {S K P : Type 0} (see : Seeing S K P)
         let holds : see.stands plugin (goes.runs.lists (suc j)).met (goes.runs.lists (suc j)).mark =
         taken.0.holds (goes.runs.lists (suc j)) (state.stages (suc j)).ended (subst (λ p. PartStands see p (goes.runs.lists (suc j)) (state.stages (suc j)).ended) (sym is) here.at.stands_for) in
         let reached : cut ≤ length (state.stages (suc j)).given = at-close.reached (suc j) (omega arith) in
-        let before : cut ≤ length (state.stages j).given = at-close.reached j (omega arith) in (
+        let falls : length (state.stages (suc j)).given ≤ length (state.stages j).given = given-falls laws begun.plan goes.fits.lawful.users goes.runs.visits by.run (suc j) j (omega arith) in
+        let prefix : IsPrefix (state.stages j).given (stage_list begun.rules list j).cells = so-far.lists j (omega arith) in
+        let first-of : take (gave-of (suc j)) (state.stages j).given ≡ take (gave-of (suc j)) (stage_list begun.rules list j).cells =
+        sym (ap (take (gave-of (suc j))) prefix.1 ∙ take-append-le (gave-of (suc j)) (state.stages j).given prefix.0 falls) in (
           record {
-            history = (goes.runs.lists (suc j)).met;
             mark = (goes.runs.lists (suc j)).mark;
-            holds = holds;
+            holds = subst (λ (h : List Cell). see.stands plugin h (goes.runs.lists (suc j)).mark) (here.met ∙ first-of) holds;
             told = (let a = here.at.mark in let b = written-cut in omega arith);
-            reach = (let size : length (goes.runs.lists (suc j)).met ≡ length (take (length (state.stages (suc j)).given) (state.stages j).given) = ap (λ (l : List Cell). length l) here.met in omega (arith, length-take (length (state.stages (suc j)).given) (state.stages j).given));
-            same = ap (take cut) here.met ∙ (take-take cut (length (state.stages (suc j)).given) (state.stages j).given reached ∙ at-close.counted j (omega arith));
+            reach = reached;
+            within = (let a = falls in omega (arith, ap (λ (l : List Cell). length l) prefix.1, length-append (state.stages j).given prefix.0));
           },
           met-all (suc j) rest made taken.1 (omega arith) (λ i d below. same (suc i) d (omega arith) ∙ ap (λ n. goes.runs.part (suc n)) (omega arith)),
         )
+
+    -- ---- memory
+
+    pub wants-of : (k : ℕ) → why ≡ cause.NoMemory k → WantsMemory begun.rooms begun.plan.buffer k
+    wants-of k is =
+        elim at-close.told [
+          | inl joint ↦ (let e = joint.0 in let f : cause.Joint ≡ cause.NoMemory k = sym e ∙ is in cc)
+          | inr told ↦ (let ends = told.1 in
+              let same = end-of-no_memory told.0 ends.end k (ends.gives ∙ ap (λ c. Some c) is) in
+              let ended : (state.stages told.0).ended ≡ Some NoMemory = ends.ended ∙ ap (λ e. Some e) same.0 in
+              at-stage k (subst (λ i. i ≤ out) same.1 told.2) (subst (λ i. (state.stages i).ended ≡ Some NoMemory) same.1 ended))
+        ]
+      where
+        at-plugin : (j : ℕ) → j < begun.plan.plugins → (state.stages (suc j)).ended ≡ Some NoMemory → WantsMemory begun.rooms begun.plan.buffer (suc j)
+        at-plugin j lt ended =
+            let here = by.plugin j lt in
+            let wants = wants-kind see (goes.runs.part (suc j)) begun.plan.buffer (here.at.memory ended) in
+            record {
+              behind_input = omega arith;
+              there_is = (let a = goes.fits.rooms_are in omega arith);
+              no_room = λ has. wants.1 (subst (λ (room : Option ℕ). IsSteadyFor room begun.plan.buffer)
+                  (ap (λ n. slice_index_or begun.rooms n None) (let e : suc j - 1 ≡ j = omega arith in e) ∙ sym here.room_is) has);
+            }
+
+        at-stage : (k' : ℕ) → k' ≤ out → (state.stages k').ended ≡ Some NoMemory → WantsMemory begun.rooms begun.plan.buffer k'
+        at-stage zero le ended =
+            let wants = wants-kind see (goes.runs.part 0) begun.plan.buffer (by.input.at.memory ended) in
+            let e : an_input ≡ a_plugin = sym by.input.kind ∙ wants.0 in cc
+        at-stage (suc j) le ended =
+            elim (cases_lt j begun.plan.plugins) [
+              | inl lt ↦ at-plugin j lt ended
+              | inr far' ↦ (let same : suc j ≡ out = omega arith in
+                  let wants = wants-kind see (goes.runs.part out) begun.plan.buffer (by.output.at.memory (subst (λ i. (state.stages i).ended ≡ Some NoMemory) same ended)) in
+                  let e : an_output ≡ a_plugin = sym by.output.kind ∙ wants.0 in cc)
+            ]
 
   -- the rules are those of the plugins that went in
   pub rules-all : (j : ℕ) (rules : List PluginRule) (rest : List (StagePart S K P)) (made : List P) → AreTakenFrom see rest made → length made ≡ length rules → j + length made ≡ begun.plan.plugins

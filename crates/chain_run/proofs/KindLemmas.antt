@@ -1,10 +1,12 @@
 -- What the work of a part says, by its kind.
-use Rattle.std.proofs.Common.{◌≡◌, ℕ, ◌+◌, ◌*◌, ◌<◌, ◌≤◌, List, [], length, take, Some}
+use Rattle.std.proofs.Common.{◌≡◌, ℕ, ◌+◌, ◌-◌, ◌*◌, ◌<◌, ◌≤◌, List, [], length, take, Option, Some, refl, subst}
 use Rattle.ts_packet.specs.declared.cell.Cell.{Cell}
 use Rattle.ts_outside.specs.Source.{SourceView}
 use Rattle.ts_outside.specs.Sink.{SinkView}
 use Rattle.chain_model.specs.PluginRule.{PluginRule, passing_rule}
 use Rattle.chain_model.specs.Apply.{StageList}
+use Rattle.plugin_trait.specs.Steps.{IsSteadyFor}
+use Rattle.stage_run.proofs.PluginWorking.{steady_less}
 use Rattle.chain_core.specs.declared.news.News.{News}
 use Rattle.chain_core.specs.Keeps.{StageKeeps}
 use Rattle.stage_run.specs.Seeing.{Seeing}
@@ -12,7 +14,7 @@ use Rattle.stage_run.specs.declared.stage_part.StagePart.{StagePart}
 use Rattle.stage_run.specs.declared.stage_part.StagePart.TheVariants.{Input, Plugin, Output}
 use Rattle.stage_run.specs.declared.work.Work.{Work}
 use Rattle.stage_run.specs.PartLists.{PartLists}
-use Rattle.stage_run.specs.PartStands.{PartGives, kind_of, rule_of, an_input, a_plugin, an_output}
+use Rattle.stage_run.specs.PartStands.{PartGives, MayWantMemory, kind_of, rule_of, steady_of, an_input, a_plugin, an_output}
 use Rattle.stage_run.specs.Works.{WorksByKind, InputTells, OutputTells, KeepsRule, read_for}
 
 module _ {S K P : Type 0} (see : Seeing S K P) where
@@ -64,3 +66,20 @@ module _ {S K P : Type 0} (see : Seeing S K P) where
   output-did (Output old) (Plugin new) before news cells cells_new work after kind works = absurd works
   output-did (Input old) new before news cells cells_new work after kind works = absurd cc
   output-did (Plugin old) new before news cells cells_new work after kind works = absurd cc
+
+  -- ---- memory
+
+  -- a stage that may want memory is a plugin's that made no room
+  pub wants-kind : (part : StagePart S K P) (ahead : ℕ) → MayWantMemory see part ahead → (kind_of part ≡ a_plugin) × (IsSteadyFor (steady_of see part) ahead → ⊥)
+  wants-kind (Input stage) ahead wants = absurd wants
+  wants-kind (Plugin stage) ahead wants = (refl, wants)
+  wants-kind (Output stage) ahead wants = absurd wants
+
+  -- it may want it for more positions too, behind a visit
+  pub wants-more : (old new : StagePart S K P) (less more : ℕ) → kind_of new ≡ kind_of old → steady_of see new ≡ steady_of see old → less ≤ more → MayWantMemory see old less → MayWantMemory see new more
+  wants-more (Input old) new less more kind same le wants = absurd wants
+  wants-more (Output old) new less more kind same le wants = absurd wants
+  wants-more (Plugin old) (Input new) less more kind same le wants = cc
+  wants-more (Plugin old) (Output new) less more kind same le wants = cc
+  wants-more (Plugin old) (Plugin new) less more kind same le wants =
+      λ has. wants (steady_less (see.steady old.plugin) more less le (subst (λ (s : Option ℕ). IsSteadyFor s more) same has))

@@ -34,12 +34,12 @@ use Rattle.chain_run.specs.Runs.{RunStart}
 use Rattle.chain_run.specs.Working.{IsRunning}
 use Rattle.chain_run.proofs.MachineLaws.{MachineLaws}
 use Rattle.chain_run.proofs.StartLemmas.{starts}
-use Rattle.chain_run.proofs.CloseLemmas.{at-close, left-input, left-output, met-all, rules-all}
+use Rattle.chain_run.proofs.CloseLemmas.{at-close, left-input, left-output, gave-of, gave-to, made-input, met-all, wants-of, rules-all}
 
 module _ {S K P : Type 0} (see : Seeing S K P) where
   -- the chain that a run began with
   abbrev pub began_with : InputPart S → Stuffing → List P → OutputPart K → CorePlan → RunStart S K
-  began_with from stuffing plugins to plan = record { from = from; to = to; stuffing = stuffing_of stuffing; rules = map see.rule plugins; plan = plan }
+  began_with from stuffing plugins to plan = record { from = from; to = to; stuffing = stuffing_of stuffing; rules = map see.rule plugins; rooms = map see.steady plugins; plan = plan }
 
   -- the stages before the first turn
   pub record Laid (from : InputPart S) (stuffing : Stuffing) (plugins : List P) (to : OutputPart K) (plan : CorePlan) (core : CoreNumbers) (parts : List (StagePart S K P)) (cells : List Cell) : Type 0 where
@@ -168,7 +168,11 @@ module _ {S K P : Type 0} (see : Seeing S K P) where
           output = left-output see laws every close begun core parts cells goes over chosen.list gives made_to
               (out_stream ∙ (ap has_stream is-last ∙ by.output.stream))
               (left (goes.runs.lists (suc plan.plugins)) (state.stages (suc plan.plugins)).ended last-stands);
+          gave = gave-of see laws every close begun core parts cells goes over;
+          gave_to = gave-to see laws every close begun core parts cells goes over chosen.list gives;
+          input_gave = made-input see laws every close begun core parts cells goes over chosen.list gives;
           met = met-all see laws every close begun core parts cells goes over chosen.list gives 0 rest made taken (omega arith) same;
+          memory = wants-of see laws every close begun core parts cells goes over chosen.list gives;
           rules = rules-all see laws every close begun core parts cells goes over 0 (map see.rule plugins) rest made taken (many ∙ sym rules-length) (omega arith) same
               (λ i lt. ap (rule_behind (map see.rule plugins)) (let e : 0 + i ≡ i = omega arith in e));
         } in

@@ -1,5 +1,5 @@
 -- A chain before its first turn.
-use Rattle.std.proofs.Common.{◌≡◌, ◌≢◌, ℕ, zero, suc, ◌+◌, ◌<◌, ◌↔◌, List, [], ◌∷◌, ◌++◌, length, map, false, Some, None, refl, ap, sym, ◌∙◌, subst, arith, inl}
+use Rattle.std.proofs.Common.{◌≡◌, ◌≢◌, ℕ, zero, suc, ◌+◌, ◌<◌, ◌↔◌, List, [], ◌∷◌, ◌++◌, length, map, false, Option, Some, None, refl, ap, sym, ◌∙◌, subst, arith, inl}
 use Rattle.std.specs.Prelude.{slice_index_or}
 use Rattle.std.specs.List.{All}
 use Rattle.std.proofs.lemmas.List.{length-map}
@@ -79,17 +79,18 @@ module _ {S K P : Type 0} (see : Seeing S K P) where
   made-length (part ∷ made) (plugin ∷ plugins) are = omega (arith, made-length made plugins are.1)
 
   -- the stage at a place, its plugin and its rule
-  pub record MadeAt (part : StagePart S K P) (r : PluginRule) : Type 0 where
+  pub record MadeAt (part : StagePart S K P) (r : PluginRule) (room : Option ℕ) : Type 0 where
     pub plugin : P
     pub is : MadeOf see part plugin
     pub rule_is : r ≡ see.rule plugin
+    pub room_is : room ≡ see.steady plugin
     pub fresh : see.stands plugin [] 0
 
-  made-at : (made rest : List (StagePart S K P)) (plugins : List P) (j : ℕ) (d : StagePart S K P) → AreMadeOf see made plugins → AreFresh see.stands plugins → j < length plugins → MadeAt (slice_index_or (made ++ rest) j d) (rule_behind (map see.rule plugins) j)
+  made-at : (made rest : List (StagePart S K P)) (plugins : List P) (j : ℕ) (d : StagePart S K P) → AreMadeOf see made plugins → AreFresh see.stands plugins → j < length plugins → MadeAt (slice_index_or (made ++ rest) j d) (rule_behind (map see.rule plugins) j) (slice_index_or (map see.steady plugins) j None)
   made-at [] rest [] j d are fresh lt = absurd (omega arith)
   made-at [] rest (plugin ∷ plugins) j d are fresh lt = absurd are
   made-at (part ∷ made) rest [] j d are fresh lt = absurd are
-  made-at (part ∷ made) rest (plugin ∷ plugins) zero d are fresh lt = record { plugin = plugin; is = are.0; rule_is = refl; fresh = fresh.0 }
+  made-at (part ∷ made) rest (plugin ∷ plugins) zero d are fresh lt = record { plugin = plugin; is = are.0; rule_is = refl; room_is = refl; fresh = fresh.0 }
   made-at (part ∷ made) rest (plugin ∷ plugins) (suc j) d are fresh lt = made-at made rest plugins j d are.1 fresh.1 (omega arith)
 
   module _ (plan : CorePlan) (lawful : IsLawfulPlan plan) (core : CoreNumbers) (plan_is : core.plan ≡ plan) (numbers : StandsFor core start)
@@ -103,7 +104,7 @@ module _ {S K P : Type 0} (see : Seeing S K P) where
       (out_stands : (source : SourceView) (sink : SinkView) (mark : ℕ) → IsSinkOf see.sink to sink → PartStands see out (fresh_lists source sink mark) None)
       (cells : List Cell) (slots : length cells ≡ plan.buffer) where
     abbrev pub began : RunStart S K
-    began = record { from = from; to = to; stuffing = stuffing_of stuffing; rules = map see.rule plugins; plan = plan }
+    began = record { from = from; to = to; stuffing = stuffing_of stuffing; rules = map see.rule plugins; rooms = map see.steady plugins; plan = plan }
 
     abbrev parts : List (StagePart S K P)
     parts = first ∷ (made ++ out ∷ [])
@@ -132,13 +133,14 @@ module _ {S K P : Type 0} (see : Seeing S K P) where
       lawful = lawful;
       stages_are = parts-length;
       slots_are = slots;
-      rules_are = length-map plugins rule ∙ sym number;
+      rules_are = length-map plugins see.rule ∙ sym number;
+      rooms_are = length-map plugins see.steady ∙ sym number;
       agree_late = rules-open see.rule see.stands plugins fresh opens;
     }
 
     at-start : (p : StagePart S K P) (k : ℕ) → PartStands see p (lists k) None → PartAt see began p k (lists k) (state_after plan [])
     unfolding state_after
-    at-start p k is = record { stands_for = is; given = refl; mark = omega arith }
+    at-start p k is = record { stands_for = is; given = refl; mark = omega arith; memory = λ e. cc }
 
     input-start : InputAt see began first (lists 0) (state_after plan [])
     input-start = record {
@@ -158,6 +160,7 @@ module _ {S K P : Type 0} (see : Seeing S K P) where
           at = at-start (part (suc j)) (suc j) (here.is.fresh (view-of-source see.source from).0 (view-of-sink see.sink to).0 0 here.fresh);
           kind = here.is.kind;
           rule_is = here.is.same_rule ∙ sym here.rule_is;
+          room_is = here.is.same_steady ∙ sym here.room_is;
           met = refl;
         }
 

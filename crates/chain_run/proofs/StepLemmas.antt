@@ -75,6 +75,7 @@ module _ {S K P : Type 0} (see : Seeing S K P) (begun : RunStart S K) where
       stands_for = subst (λ (e : Option StageEnd). PartStands see part lists e) (sym ended) at.stands_for;
       given = at.given ∙ sym same;
       mark = le_trans at.mark grown;
+      memory = λ e. at.memory (sym ended ∙ e);
     }
 
     pub input-frame : (part : StagePart S K P) (lists : PartLists) → (new.stages 0).given ≡ (old.stages 0).given → (new.stages 0).ended ≡ (old.stages 0).ended
@@ -95,6 +96,7 @@ module _ {S K P : Type 0} (see : Seeing S K P) (begun : RunStart S K) where
       at = part-frame part (suc j) lists same ended is.at;
       kind = is.kind;
       rule_is = is.rule_is;
+      room_is = is.room_is;
       met = is.met ∙ take-frame (length (old.stages (suc j)).given) (length (new.stages (suc j)).given) (old.stages j).given (new.stages j).given more (ap (λ (l : List Cell). length l) same) is_more le;
     }
 

@@ -127,6 +127,7 @@ module _ {S K P : Type 0} (see : Seeing S K P)
           stages_are = goes.fits.stages_are;
           slots_are = goes.fits.slots_are;
           rules_are = goes.fits.rules_are;
+          rooms_are = goes.fits.rooms_are;
           agree_late = goes.fits.agree_late;
         };
         visits = quiet ∷ goes.runs.visits;
@@ -252,6 +253,7 @@ module _ {S K P : Type 0} (see : Seeing S K P)
               stages_are = ap (λ (l : List (StagePart S K P)). length l) here.is_new ∙ (length-set parts k here.new ∙ looked.fits.stages_are);
               slots_are = ap (λ (l : List Cell). length l) cells-are ∙ (length-over_row cells (at % length cells) row (let a = here.in_row in let b = here.same_length in omega arith) ∙ looked.fits.slots_are);
               rules_are = looked.fits.rules_are;
+              rooms_are = looked.fits.rooms_are;
               agree_late = looked.fits.agree_late;
             };
             runs = subst (λ (ps : List (StagePart S K P)). Runs see begun new ps cells_new) (sym here.is_new)

@@ -1,6 +1,6 @@
 -- A visit that tells what a stage has done: what the stage stands for then.
 use Rattle.std.proofs.Common.{◌≡◌, ◌≢◌, ◌⊎◌, ℕ, zero, suc, ◌+◌, ◌-◌, ◌*◌, ◌%◌, ◌^◌, ◌<◌, ◌≤◌, List, [], ◌∷◌, ◌++◌, length, take, drop, Option, Some, None, refl, ap, sym, ◌∙◌, subst, arith, inl, inr, length-append}
-use Rattle.std.specs.Prelude.{slice_set}
+use Rattle.std.specs.Prelude.{slice_set, slice_index_or}
 use Rattle.std.proofs.lemmas.Bool.{cases_eq, cases_lt}
 use Rattle.std.proofs.lemmas.List.{take-take, take-append-drop, drop-drop, length-take, length-drop}
 use Rattle.std.proofs.Math.Seq.{take-add, drop-append-le}
@@ -26,7 +26,7 @@ use Rattle.stage_run.specs.Seeing.{Seeing}
 use Rattle.stage_run.specs.declared.stage_part.StagePart.{StagePart}
 use Rattle.stage_run.specs.declared.work.Work.{Work}
 use Rattle.stage_run.specs.PartLists.{PartLists}
-use Rattle.stage_run.specs.PartStands.{PartStands, PartGives, MayWork, rule_of, kind_of, stuffing_in, has_source, has_sink, has_stream, an_input, a_plugin, an_output}
+use Rattle.stage_run.specs.PartStands.{PartStands, PartGives, MayWork, rule_of, steady_of, kind_of, stuffing_in, has_source, has_sink, has_stream, an_input, a_plugin, an_output}
 use Rattle.stage_run.specs.Parts.{IsSourceOf, IsSinkOf}
 use Rattle.stage_run.proofs.InputWorking.{read_for-full, read_for-free}
 use Rattle.stage_run.specs.OutputStands.{IsPartOfFirst}
@@ -40,7 +40,7 @@ use Rattle.chain_run.proofs.MachineLaws.{MachineLaws, change, stage-other, writt
 use Rattle.chain_run.proofs.SlotLemmas.{holds-append, holds-take, holds-drop, holds-same, over_row, row-reads, row-written, row-other}
 use Rattle.chain_run.proofs.StepLemmas.{set_at, set_at-same, pick, part-more, Own, stepped}
 use Rattle.chain_run.proofs.QuietVisit.{going-own}
-use Rattle.chain_run.proofs.KindLemmas.{InputDid, input-did, plugin-did, OutputDid, output-did}
+use Rattle.chain_run.proofs.KindLemmas.{InputDid, input-did, plugin-did, OutputDid, output-did, wants-more}
 
 -- ---- pieces of a list
 
@@ -206,6 +206,8 @@ module _ {S K P : Type 0} (see : Seeing S K P) (begun : RunStart S K)
         stands_for = subst (λ (e : Option StageEnd). PartStands see new_part after e) (sym ended-is) w.stands;
         given = w.behind.given ∙ (ap (λ (l : List Cell). l ++ given) (part-at k is_stage).given ∙ sym changed);
         mark = (let a = w.behind.mark in let b = written-is in let c = grows in omega arith);
+        memory = λ e. wants-more see (part k) new_part (news.taken - news.written) begun.plan.buffer worked.same_kind worked.same_steady
+            (let a = taken-within in let b = taken-is in let c = written-is in omega arith) (worked.memory (sym ended-is ∙ e));
       }
 
       -- ---- the input
@@ -302,11 +304,15 @@ module _ {S K P : Type 0} (see : Seeing S K P) (begun : RunStart S K)
         plugin-rule : rule_of see (part k) ≡ rule_behind begun.rules j
         plugin-rule = subst (λ i. rule_of see (part i) ≡ rule_behind begun.rules j) e (by.plugin j lt).rule_is
 
+        plugin-room : steady_of see (part k) ≡ slice_index_or begun.rooms j None
+        plugin-room = subst (λ i. steady_of see (part i) ≡ slice_index_or begun.rooms j None) e (by.plugin j lt).room_is
+
         own-plugin : PluginAt see begun new_part j after new
         own-plugin = record {
           at = subst (λ i. PartAt see begun new_part i after new) (sym e) part-new;
           kind = worked.same_kind ∙ plugin-kind;
           rule_is = worked.same_rule ∙ plugin-rule;
+          room_is = worked.same_steady ∙ plugin-room;
           met = met-new j e (omega arith) plugin-met;
         }
 

@@ -8,13 +8,14 @@ use Rattle.chain_core.specs.declared.stage_end.StageEnd.{StageEnd}
 use Rattle.stage_run.specs.Seeing.{Seeing}
 use Rattle.stage_run.specs.declared.stage_part.StagePart.{StagePart}
 use Rattle.stage_run.specs.PartLists.{PartLists, fresh_lists}
-use Rattle.stage_run.specs.PartStands.{PartStands, kind_of, rule_of, a_plugin}
+use Rattle.stage_run.specs.PartStands.{PartStands, kind_of, rule_of, steady_of, a_plugin}
 
 module _ {S K P : Type 0} (see : Seeing S K P) where
   -- the stage of a plugin that has met nothing
   pub record MadeOf (part : StagePart S K P) (plugin : P) : Type 0 where
     pub kind : kind_of part ≡ a_plugin
     pub same_rule : rule_of see part ≡ see.rule plugin
+    pub same_steady : steady_of see part ≡ see.steady plugin
     pub fresh : (source : SourceView) (sink : SinkView) (mark : ℕ) → see.stands plugin [] mark → PartStands see part (fresh_lists source sink mark) None
 
   -- each is the stage of the plugin at its place

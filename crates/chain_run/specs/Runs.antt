@@ -1,5 +1,5 @@
 -- A run in one thread, between the turns of its stages. This project's own rule.
-use Rattle.std.specs.Prelude.{◌≡◌, ℕ, zero, suc, ◌+◌, ◌-◌, ◌^◌, ◌<◌, ◌≤◌, List, [], length, take, drop, slice_index_or, false, if◌then◌else◌, None, Some, is_some}
+use Rattle.std.specs.Prelude.{◌≡◌, ℕ, zero, suc, ◌+◌, ◌-◌, ◌^◌, ◌<◌, ◌≤◌, List, [], length, take, drop, slice_index_or, false, if◌then◌else◌, Option, None, Some, is_some}
 use Rattle.std.specs.List.{All}
 use Rattle.ts_packet.specs.declared.cell.Cell.{Cell}
 use Rattle.ts_outside.specs.Source.{SourceView}
@@ -12,7 +12,7 @@ use Rattle.chain_model.specs.Stuffed.{position_limit}
 use Rattle.chain_model.specs.Stuffed as model
 use Rattle.chain_core.specs.declared.core_plan.CorePlan.{CorePlan}
 use Rattle.chain_core.specs.declared.progress.Progress.{Progress}
-use Rattle.chain_core.specs.declared.stage_end.StageEnd.TheVariants.{WriteFault}
+use Rattle.chain_core.specs.declared.stage_end.StageEnd.TheVariants.{WriteFault, NoMemory}
 use Rattle.chain_core.specs.declared.stage_word.StageWord.{StageWord}
 use Rattle.chain_core.specs.Stages.{stages_of}
 use Rattle.chain_core.specs.Numbers.{StagesProgress, written_of, reach_of, MayFollow}
@@ -25,7 +25,7 @@ use Rattle.stage_run.specs.declared.input_part.InputPart.{InputPart}
 use Rattle.stage_run.specs.declared.output_part.OutputPart.{OutputPart}
 use Rattle.stage_run.specs.declared.stage_part.StagePart.{StagePart}
 use Rattle.stage_run.specs.PartLists.{PartLists}
-use Rattle.stage_run.specs.PartStands.{PartStands, PartGives, rule_of, kind_of, stuffing_in, has_source, has_sink, has_stream, an_input, a_plugin, an_output}
+use Rattle.stage_run.specs.PartStands.{PartStands, PartGives, MayWantMemory, rule_of, steady_of, kind_of, stuffing_in, has_source, has_sink, has_stream, an_input, a_plugin, an_output}
 use Rattle.stage_run.specs.OutputStands.{IsPartOfFirst}
 use Rattle.stage_run.specs.Parts.{IsListOf, IsSourceOf, IsSinkOf}
 use Rattle.chain_run.specs.RunOf.{MayRead}
@@ -39,12 +39,14 @@ nothing_told = record { agreed = None; ended = None }
 abbrev pub between : ChainState → ℕ → List Cell
 between state k = drop (length (state.stages (suc k)).given) (state.stages k).given
 
--- what a run began with: its ends, its stuffing, the rules of its plugins and its plan
+-- what a run began with: its ends, its stuffing, the rules and the rooms of its plugins, and its plan
 pub record RunStart (S K : Type 0) : Type 0 where
   pub from : InputPart S
   pub to : OutputPart K
   pub stuffing : model.Stuffing
   pub rules : List PluginRule
+  -- for how many positions behind its mark each plugin made room, where it did
+  pub rooms : List (Option ℕ)
   pub plan : CorePlan
 
 -- the numbers of a run go together
@@ -54,6 +56,7 @@ pub record NumbersFit {S K : Type 0} (begun : RunStart S K) (core : CoreNumbers)
   pub stages_are : stages ≡ begun.plan.plugins + 2
   pub slots_are : slots ≡ begun.plan.buffer
   pub rules_are : length begun.rules ≡ begun.plan.plugins
+  pub rooms_are : length begun.rooms ≡ begun.plan.plugins
   pub agree_late : All (λ rule. rule.agrees [] ≡ false) begun.rules
 
 module _ {S K P : Type 0} (see : Seeing S K P) (begun : RunStart S K) where
@@ -62,6 +65,8 @@ module _ {S K P : Type 0} (see : Seeing S K P) (begun : RunStart S K) where
     pub stands_for : PartStands see part lists (state.stages k).ended
     pub given : lists.given ≡ (state.stages k).given
     pub mark : lists.mark ≤ written_of begun.plan (progress_of_stages state)
+    -- no stage takes more than the buffer ahead of the mark, so memory may be wanted only where there is no room for that
+    pub memory : (state.stages k).ended ≡ Some NoMemory → MayWantMemory see part begun.plan.buffer
 
   -- the input's stage
   pub record InputAt (part : StagePart S K P) (lists : PartLists) (state : ChainState) : Type 0 where
@@ -77,6 +82,7 @@ module _ {S K P : Type 0} (see : Seeing S K P) (begun : RunStart S K) where
     pub at : PartAt part (suc j) lists state
     pub kind : kind_of part ≡ a_plugin
     pub rule_is : rule_of see part ≡ rule_behind begun.rules j
+    pub room_is : steady_of see part ≡ slice_index_or begun.rooms j None
     pub met : lists.met ≡ take (length (state.stages (suc j)).given) (state.stages j).given
 
   -- a write failed in the packet of the next cell, and no joint position is so near
