@@ -5,8 +5,10 @@
 
 mod cause;
 mod input_end;
+mod positions;
 mod reason;
 
 pub use cause::Cause;
 pub use input_end::InputEnd;
+pub use positions::POSITION_LIMIT;
 pub use reason::Reason;
