@@ -8,6 +8,7 @@ pub mod KeepingLemmas
 pub mod FarLemmas
 pub mod AgreeingLemmas
 pub mod InputWorking
+pub mod WorkLemmas
 pub mod PartLemmas
 pub mod PluginWorking
 pub mod OutputWorking

@@ -52,8 +52,7 @@ impl<P: Plugin> PluginStage<P> {
     ghost use Rattle.stage_run.specs.PartLists.{PartLists, fresh_lists};
     ghost use Rattle.stage_run.specs.PluginStands.{PluginStands};
     ghost use Rattle.stage_run.specs.PartStands.{MayWork, MayWorkOnSome};
-    ghost use Rattle.stage_run.specs.Telling.{FollowsNews};
-    ghost use Rattle.stage_run.specs.Works.{Works, PluginWorks};
+    ghost use Rattle.stage_run.specs.Works.{PluginWork};
 
     /// A plugin that met no cell yet.
     pub(crate) fn of(plugin: P) -> Self
@@ -185,18 +184,9 @@ impl<P: Plugin> PluginStage<P> {
         requires written { news.now.written ≤ at }
         requires in_hand { at + length cells.old ≤ news.now.taken }
         requires in_range { at + length cells.old ≤ 2 ^ 60 }
-        ensures done { result.done ≤ length cells.old }
-        ensures rest { drop result.done cells.new ≡ drop result.done cells.old }
-        ensures goes_on { result.word.ended ≡ None → result.done ≡ length cells.old }
-        ensures follows { FollowsNews news.now (at + result.done) result.word.ended }
-        ensures agreed { (agreed : ℕ) → result.word.agreed ≡ Some agreed → (at < agreed) × (agreed ≤ at + result.done) }
         ensures same_rule { P.rule self.new.plugin ≡ P.rule self.old.plugin }
         ensures same_steady { P.steady self.new.plugin ≡ P.steady self.old.plugin }
-        ensures memory { result.word.ended ≡ Some StageEnd.NoMemory
-            → IsSteadyFor (P.steady self.old.plugin) (news.now.taken - news.now.written) → ⊥ }
-        ensures works { (lists : PartLists) → MayWork (PluginStands P.rule P.stands_for self.old) at news.now.written lists
-            → Works (PluginStands P.rule P.stands_for self.new) (PluginWorks (P.rule self.old.plugin) lists news.now cells.old cells.new result)
-            lists news.now.written cells.old cells.new result }
+        ensures work { PluginWork P.rule P.stands_for P.steady self.old self.new at news.now cells.old cells.new result }
     {
         if cells.is_empty() {
             return Work::ending(0, followed(news, at));

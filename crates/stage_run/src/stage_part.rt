@@ -28,9 +28,8 @@ impl<S: Source, K: Sink, P: Plugin> StagePart<S, K, P> {
     ghost use Rattle.stage_run.specs.PartLists.{PartLists, fresh_lists};
     ghost use Rattle.stage_run.specs.InputStands.{stuffing_of};
     ghost use Rattle.stage_run.specs.Parts.{IsListOf, IsSourceOf, IsSinkOf, LeavesInput, LeavesOutput, SomeList};
-    ghost use Rattle.stage_run.specs.PartStands.{PartStands, PartGives, MayWork, MayWorkOnSome, MayWantMemory, rule_of, steady_of, kind_of, stuffing_in, has_source, has_sink, has_stream, an_input, a_plugin, an_output};
-    ghost use Rattle.stage_run.specs.Telling.{FollowsNews};
-    ghost use Rattle.stage_run.specs.Works.{Works, WorksByKind};
+    ghost use Rattle.stage_run.specs.PartStands.{PartStands, PartGives, MayWork, MayWorkOnSome, rule_of, steady_of, kind_of, stuffing_in, has_source, has_sink, has_stream, an_input, a_plugin, an_output};
+    ghost use Rattle.stage_run.specs.Works.{PartWork};
 
     /// The input's stage. It reads into the room. Nothing was read or given yet.
     pub fn of_input(part: InputPart<S>, stuffing: Stuffing, room: IoBuffer) -> Self
@@ -127,21 +126,8 @@ impl<S: Source, K: Sink, P: Plugin> StagePart<S, K, P> {
         requires written { news.now.written ≤ at }
         requires in_hand { at + length cells.old ≤ news.now.taken }
         requires in_range { news.now.taken ≤ 2 ^ 60 }
-        ensures done { result.done ≤ length cells.old }
-        ensures rest { drop result.done cells.new ≡ drop result.done cells.old }
-        ensures goes_on { result.word.ended ≡ None → result.done ≡ length cells.old }
-        ensures follows { FollowsNews news.now (at + result.done) result.word.ended }
-        ensures agreed { (agreed : ℕ) → result.word.agreed ≡ Some agreed → (at < agreed) × (agreed ≤ at + result.done) }
-        ensures memory { result.word.ended ≡ Some StageEnd.NoMemory
-            → MayWantMemory (seeing S.seen K.seen P.rule P.stands_for P.steady) self.old (news.now.taken - news.now.written) }
-        ensures same_kind { kind_of self.new ≡ kind_of self.old }
-        ensures same_stream { has_stream self.new ≡ has_stream self.old }
-        ensures same_rule { rule_of (seeing S.seen K.seen P.rule P.stands_for P.steady) self.new ≡ rule_of (seeing S.seen K.seen P.rule P.stands_for P.steady) self.old }
-        ensures same_steady { steady_of (seeing S.seen K.seen P.rule P.stands_for P.steady) self.new ≡ steady_of (seeing S.seen K.seen P.rule P.stands_for P.steady) self.old }
-        ensures same_stuffing { stuffing_in self.new ≡ stuffing_in self.old }
-        ensures works { (lists : PartLists) → MayWork (PartStands (seeing S.seen K.seen P.rule P.stands_for P.steady) self.old) at news.now.written lists
-            → Works (PartStands (seeing S.seen K.seen P.rule P.stands_for P.steady) self.new) (WorksByKind (seeing S.seen K.seen P.rule P.stands_for P.steady) self.old self.new lists news.now cells.old cells.new result)
-            lists news.now.written cells.old cells.new result }
+        ensures { PartWork (seeing S.seen K.seen P.rule P.stands_for P.steady) self.old self.new
+            at news.now cells.old cells.new result }
     {
         match self {
             StagePart::Input(input) => input.work(at, cells, news),
