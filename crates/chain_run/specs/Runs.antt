@@ -1,5 +1,5 @@
 -- A run in one thread, between the turns of its stages. This project's own rule.
-use Rattle.std.specs.Prelude.{◌≡◌, ℕ, zero, suc, ◌+◌, ◌-◌, ◌^◌, ◌<◌, ◌≤◌, List, [], length, take, drop, slice_index_or, false, if◌then◌else◌, Option, None, Some, is_some}
+use Rattle.std.specs.Prelude.{◌≡◌, ℕ, zero, suc, ◌+◌, ◌-◌, ◌^◌, ◌<◌, ◌≤◌, List, [], length, map, take, drop, slice_index_or, false, if◌then◌else◌, Option, None, Some, is_some}
 use Rattle.std.specs.List.{All}
 use Rattle.ts_packet.specs.declared.cell.Cell.{Cell}
 use Rattle.ts_outside.specs.Source.{SourceView}
@@ -24,6 +24,8 @@ use Rattle.stage_run.specs.Seeing.{Seeing}
 use Rattle.stage_run.specs.declared.input_part.InputPart.{InputPart}
 use Rattle.stage_run.specs.declared.output_part.OutputPart.{OutputPart}
 use Rattle.stage_run.specs.declared.stage_part.StagePart.{StagePart}
+use Rattle.stage_run.specs.declared.stuffing.Stuffing.{Stuffing}
+use Rattle.stage_run.specs.InputStands.{stuffing_of}
 use Rattle.stage_run.specs.PartLists.{PartLists}
 use Rattle.stage_run.specs.PartStands.{PartStands, PartGives, MayWantMemory, rule_of, steady_of, kind_of, stuffing_in, has_source, has_sink, has_stream, an_input, a_plugin, an_output}
 use Rattle.stage_run.specs.OutputStands.{IsPartOfFirst}
@@ -48,6 +50,17 @@ pub record RunStart (S K : Type 0) : Type 0 where
   -- for how many positions behind its mark each plugin made room, where it did
   pub rooms : List (Option ℕ)
   pub plan : CorePlan
+
+-- the chain that these ends and plugins begin
+abbrev pub began_with : {S K P : Type 0} → Seeing S K P → InputPart S → Stuffing → List P → OutputPart K → CorePlan → RunStart S K
+began_with see from stuffing plugins to plan = record {
+  from = from;
+  to = to;
+  stuffing = stuffing_of stuffing;
+  rules = map see.rule plugins;
+  rooms = map see.steady plugins;
+  plan = plan;
+}
 
 -- the numbers of a run go together
 pub record NumbersFit {S K : Type 0} (begun : RunStart S K) (core : CoreNumbers) (stages slots : ℕ) : Type 0 where
