@@ -264,7 +264,7 @@ module _ {S K P : Type 0} (see : Seeing S K P)
         takes old new left' =
             elim (sink-left old new (goes.runs.lists out).given (goes.runs.lists out).cut (state.stages out).ended left') [
               | inl failed ↦ subst (λ c. TakesTo old new (end_list begun.rules list).cells cut c) (sym (told-write failed.0))
-                  ((goes.runs.lists out).cut, failed.1 ∙ ap (λ (l : List Cell). write_failed (took old (written l ++ (goes.runs.lists out).cut))) given-is, part-left failed.0)
+                  (record { part = (goes.runs.lists out).cut; taken = failed.1 ∙ ap (λ (l : List Cell). write_failed (took old (written l ++ (goes.runs.lists out).cut))) given-is; cut = part-left failed.0 })
               | inr whole ↦ takes-other old new (end_list begun.rules list).cells cut why (λ is. whole.0 (write-told is)) (whole.1 ∙ ap (λ (l : List Cell). took old (written l)) given-is)
             ]
 

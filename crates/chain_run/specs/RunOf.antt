@@ -3,15 +3,13 @@
 use Rattle.std.specs.Prelude.{◌≡◌, ◌≢◌, ◌⊎◌, ℕ, suc, ◌+◌, ◌*◌, ◌^◌, ◌≤◌, List, ◌++◌, length, map, take, drop}
 use Rattle.ts_packet.specs.declared.cell.Cell.{Cell}
 use Rattle.ts_outside.specs.Source.{SourceView, unread, read_failed}
-use Rattle.ts_outside.specs.Sink.{SinkView, took, write_failed}
-use Rattle.chain_model.specs.declared.input_end.InputEnd.TheVariants.{End, ReadFault}
+use Rattle.ts_outside.specs.Sink.{SinkView, took}
+use Rattle.chain_model.specs.declared.input_end.InputEnd.TheVariants.{ReadFault}
 use Rattle.chain_model.specs.declared.cause.Cause.{Cause}
 use Rattle.chain_model.specs.declared.cause.Cause.TheVariants.{Input, WriteFault, NoMemory}
 use Rattle.chain_model.specs.PluginRule.{PluginRule}
 use Rattle.chain_model.specs.Apply.{StageList}
 use Rattle.chain_model.specs.StageLists.{end_list}
-use Rattle.chain_model.specs.InputList.{input_of_bytes, packets_of}
-use Rattle.chain_model.specs.Stuffed.{stuffed}
 use Rattle.chain_model.specs.Stuffed as model
 use Rattle.chain_model.specs.Cut.{IsLawfulFault}
 use Rattle.chain_model.specs.Written.{written}
@@ -26,8 +24,8 @@ use Rattle.stage_run.specs.declared.output_part.OutputPart.{OutputPart}
 use Rattle.stage_run.specs.declared.output_part.OutputPart.TheVariants as out
 use Rattle.stage_run.specs.declared.stuffing.Stuffing.{Stuffing}
 use Rattle.stage_run.specs.InputStands.{stuffing_of}
-use Rattle.stage_run.specs.OutputStands.{IsPartOfFirst}
-use Rattle.stage_run.specs.Parts.{IsListOf}
+use Rattle.stage_run.specs.Writing.{CutsAt}
+use Rattle.stage_run.specs.Parts.{IsListOf, list_at_fault, IsInSyncSoFar}
 use Rattle.chain_run.specs.Met.{AllMetFirst}
 use Rattle.chain_run.specs.Rooms.{WantsMemory}
 
@@ -36,11 +34,11 @@ use Rattle.chain_run.specs.Rooms.{WantsMemory}
 abbrev pub MayRead : ℕ → ℕ → ℕ → Type 0
 MayRead buffer cut bytes = (bytes ≤ 188 * (cut + buffer)) ⊎ ((2 ^ 60 ≤ cut + buffer) × (bytes ≤ 188 * (2 ^ 60 + 1)))
 
--- behind a failed read the cut is where the stuffed list of the whole packets that were read ends; they show no lost sync
+-- behind a failed read the cut is where the list up to the fault ends
 pub record CutsAtFault (stuffing : model.Stuffing) (old new : SourceView) (read : List ℕ) (cut : ℕ) : Type 0 where
   pub failed : read_failed old ≡ unread read new
-  pub in_sync : (left : ℕ) × ((input_of_bytes read).ended ≡ End left)
-  pub cut_is : cut ≡ length (stuffed stuffing (record { packets = packets_of read; ended = ReadFault })).cells
+  pub in_sync : IsInSyncSoFar read
+  pub cut_is : cut ≡ length (list_at_fault stuffing read).cells
 
 -- what a run read of its source
 pub record ReadsSource (stuffing : model.Stuffing) (buffer : ℕ) (old new : SourceView) (cut : ℕ) (cause : Cause) : Type 0 where
@@ -59,8 +57,7 @@ LeftInput seen stuffing buffer _ _ cut cause = ⊥
 -- the sink took the live packets of the cells before the cut; where the run ended by a failed write, and that is the last
 -- call, a part of the packet behind them too
 abbrev pub TakesTo : SinkView → SinkView → List Cell → ℕ → Cause → Type 0
-TakesTo old new cells cut WriteFault =
-    (part : List ℕ) × (new ≡ write_failed (took old (written (take cut cells) ++ part))) × IsPartOfFirst (drop cut cells) part
+TakesTo old new cells cut WriteFault = CutsAt old new cells cut
 TakesTo old new cells cut _ = new ≡ took old (written (take cut cells))
 
 -- the output that a run leaves; what goes nowhere is always written

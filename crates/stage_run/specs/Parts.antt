@@ -33,12 +33,19 @@ abbrev pub IsSinkOf : {K : Type 0} → (K → SinkView) → OutputPart K → Sin
 IsSinkOf seen (out.Stream sink) view = view ≡ seen sink
 IsSinkOf seen out.Discard view = Unit {0}
 
--- an input whose reading failed: the bytes that were read show no lost sync, and it gave the stuffed list of the whole
--- packets among them
+-- the list of an input of which a read failed behind these bytes: the whole packets among them, with the stuffing
+abbrev pub list_at_fault : model.Stuffing → List ℕ → StageList
+list_at_fault stuffing read = stuffed stuffing (record { packets = packets_of read; ended = ReadFault })
+
+-- these bytes show no lost sync: an input that had no more of them would end plainly
+abbrev pub IsInSyncSoFar : List ℕ → Type 0
+IsInSyncSoFar read = (left : ℕ) × ((input_of_bytes read).ended ≡ End left)
+
+-- an input whose reading failed: it gave the list up to the fault
 pub record FailedReading (stuffing : model.Stuffing) (first now : SourceView) (lists : PartLists) : Type 0 where
   pub source : read_failed first ≡ unread lists.read now
-  pub in_sync : (left : ℕ) × ((input_of_bytes lists.read).ended ≡ End left)
-  pub given : lists.given ≡ (stuffed stuffing (record { packets = packets_of lists.read; ended = ReadFault })).cells
+  pub in_sync : IsInSyncSoFar lists.read
+  pub given : lists.given ≡ (list_at_fault stuffing lists.read).cells
 
 -- the source that an input leaves: what was read was read from it, and only where a read fault was told a call failed
 abbrev pub LeavesSource : model.Stuffing → SourceView → SourceView → PartLists → Option StageEnd → Type 0

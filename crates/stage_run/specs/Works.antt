@@ -26,6 +26,7 @@ use Rattle.stage_run.specs.declared.output_stage.OutputStage.{OutputStage}
 use Rattle.stage_run.specs.declared.stage_part.StagePart.{StagePart}
 use Rattle.stage_run.specs.declared.stage_part.StagePart.TheVariants as part
 use Rattle.plugin_trait.specs.Steps.{IsSteadyFor}
+use Rattle.plugin_trait.specs.Driving.{newly_agreed}
 use Rattle.stage_run.specs.Seeing.{Seeing}
 use Rattle.stage_run.specs.PartLists.{PartLists}
 use Rattle.stage_run.specs.Feeds.{SameFeed}
@@ -33,7 +34,7 @@ use Rattle.stage_run.specs.InputStands.{InputStands, MayGive}
 use Rattle.stage_run.specs.PluginStands.{PluginStands}
 use Rattle.stage_run.specs.OutputStands.{OutputStands, IsPartOfFirst, SamePart}
 use Rattle.stage_run.specs.PartStands.{PartStands, MayWork, MayWantMemory, rule_of, kind_of, steady_of, stuffing_in}
-use Rattle.stage_run.specs.Telling.{FollowsNews, may_follow, newly_agreed, told_of, below_limit}
+use Rattle.stage_run.specs.Telling.{FollowsNews, may_follow, told_of, below_limit}
 
 -- the lists behind a visit: more was met and given; what was read and written and the mark are a part's own
 pub record Behind (old new : PartLists) (cells cells_given : List Cell) (written : ℕ) : Type 0 where

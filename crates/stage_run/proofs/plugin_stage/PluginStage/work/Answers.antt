@@ -10,7 +10,7 @@ use Rattle.chain_model.specs.Apply.{apply_after}
 use Rattle.stage_run.specs.PartLists.{PartLists}
 use Rattle.stage_run.specs.Telling.{followed, FollowsNews}
 use Rattle.stage_run.proofs.InputWorking.{plain_work}
-use Rattle.stage_run.proofs.AgreeingLemmas.{newly_agreed-within}
+use Rattle.plugin_trait.proofs.AgreeingLemmas.{newly_agreed-within}
 use Rattle.std.proofs.lemmas.List.{nil_from_length}
 use Rattle.ts_packet.specs.declared.cell.Cell.{Cell}
 use Rattle.chain_model.specs.Joint.{agreement_of}
@@ -45,32 +45,32 @@ returns-clause-work g c =
     let may = c.requires.stands.may in
     let allows = allowed rule stands old some c.args.at news.written may c.requires.written in
     record {
-      done = c.pass-stepped.ensures.done;
+      done = c.pass-stepped.ensures.count;
       rest = c.pass-stepped.ensures.rest;
       goes_on = λ none.
-          let all = through_all stepped.end news (c.args.at + stepped.done) (rule old.plugin) some.met cells (take stepped.done cells_new)
+          let all = through_all stepped.end news (c.args.at + stepped.count) (rule old.plugin) some.met cells (take stepped.count cells_new)
           (c.pass-stepped.ensures.makes some.met some.mark allows) (sym c.told.ensures ∙ none) in
-          omega (arith, length-take stepped.done cells_new);
-      follows = subst (λ (e : Option StageEnd). FollowsNews news (c.args.at + stepped.done) e) (sym c.told.ensures) (FollowsNews-told stepped.end news (c.args.at + stepped.done));
+          omega (arith, length-take stepped.count cells_new);
+      follows = subst (λ (e : Option StageEnd). FollowsNews news (c.args.at + stepped.count) e) (sym c.told.ensures) (FollowsNews-told stepped.end news (c.args.at + stepped.count));
       agreed = λ agreed told.
-          let met : List Cell = some.met ++ take stepped.done cells in
+          let met : List Cell = some.met ++ take stepped.count cells in
           let tells = c.pass-stepped.ensures.agreed some.met some.mark allows may.goes_on.agreed in
           let known = newly_agreed-Some c.args.at (agreement_of (rule old.plugin) met) agreed (sym tells.tells ∙ told) in
           let few : agreed ≤ length met = agreement_of-within (rule old.plugin) met agreed known.1 in
           let count : length some.met ≡ c.args.at = allows.count in
-          (known.0, omega (arith, length-append some.met (take stepped.done cells), length-take stepped.done cells, c.pass-stepped.ensures.done));
+          (known.0, omega (arith, length-append some.met (take stepped.count cells), length-take stepped.count cells, c.pass-stepped.ensures.count));
       memory = λ told.
-          let ended : told_by stepped.end news (c.args.at + stepped.done) ≡ Some NoMemory = sym c.told.ensures ∙ told in
-          let end : stepped.end ≡ window.NoMemory = no_memory_told stepped.end news (c.args.at + stepped.done) ended in
+          let ended : told_by stepped.end news (c.args.at + stepped.count) ≡ Some NoMemory = sym c.told.ensures ∙ told in
+          let end : stepped.end ≡ window.NoMemory = no_memory_told stepped.end news (c.args.at + stepped.count) ended in
           λ steady. c.pass-stepped.ensures.room (steady_less (g.P.Plugin.steady old.plugin) (news.taken - news.written)
           (c.args.at + length cells - news.written) (let a = c.requires.in_hand in omega arith) steady) end;
       works = λ lists may'.
           let fine = allowed rule stands old lists c.args.at news.written may' c.requires.written in
           let met = c.pass-stepped.ensures.met lists.met lists.mark fine in
-          subst (λ (e : Option StageEnd). Works (PluginStands rule stands new) (PluginWorks (rule old.plugin) lists news cells cells_new (record { done = stepped.done; word = record { agreed = stepped.agreed; ended = e } })) lists news.written cells cells_new (record { done = stepped.done; word = record { agreed = stepped.agreed; ended = e } }))
+          subst (λ (e : Option StageEnd). Works (PluginStands rule stands new) (PluginWorks (rule old.plugin) lists news cells cells_new (record { done = stepped.count; word = record { agreed = stepped.agreed; ended = e } })) lists news.written cells cells_new (record { done = stepped.count; word = record { agreed = stepped.agreed; ended = e } }))
           (sym c.told.ensures)
-          (plugin_works rule stands old new lists news cells cells_new c.args.at news.written stepped.done stepped.agreed stepped.end may'
-          c.pass-stepped.ensures.same_rule (omega arith) c.pass-stepped.ensures.done (c.pass-stepped.ensures.makes lists.met lists.mark fine) (c.pass-stepped.ensures.far lists.met lists.mark fine)
+          (plugin_works rule stands old new lists news cells cells_new c.args.at news.written stepped.count stepped.agreed stepped.end may'
+          c.pass-stepped.ensures.same_rule (omega arith) c.pass-stepped.ensures.count (c.pass-stepped.ensures.makes lists.met lists.mark fine) (c.pass-stepped.ensures.far lists.met lists.mark fine)
           met.mark met.holds met.below (λ some_. met.told) (c.pass-stepped.ensures.agreed lists.met lists.mark fine may'.goes_on.agreed));
     }
 
