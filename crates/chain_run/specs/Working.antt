@@ -16,7 +16,8 @@ use Rattle.chain_run.specs.Runs.{nothing_told, RunStart, NumbersFit, Runs, remai
 
 module _ {S K P : Type 0} (see : Seeing S K P) where
   -- a chain that runs, as it began
-  pub record IsRunning (begun : RunStart S K) (core : CoreNumbers) (parts : List (StagePart S K P)) (cells : List Cell) : Type 0 where
+  pub record IsRunning (begun : RunStart S K) (core : CoreNumbers) (parts : List (StagePart S K P))
+      (cells : List Cell) : Type 0 where
     pub fits : NumbersFit begun core (length parts) (length cells)
     pub runs : Runs see begun core parts cells
 
@@ -25,7 +26,8 @@ module _ {S K P : Type 0} (see : Seeing S K P) where
   IsRunningSomehow core parts cells = (begun : RunStart S K) × IsRunning begun core parts cells
 
   -- the stage of this number worked on cells that stand in one row of the buffer
-  pub record StageWorks (parts parts_new : List (StagePart S K P)) (cells cells_new : List Cell) (stage at : ℕ) (news : News) (work : Work) : Type 0 where
+  pub record StageWorks (parts parts_new : List (StagePart S K P)) (cells cells_new : List Cell)
+      (stage at : ℕ) (news : News) (work : Work) : Type 0 where
     pub old : StagePart S K P
     pub new : StagePart S K P
     pub is_old : old ≡ slice_index_or parts stage old
@@ -36,7 +38,8 @@ module _ {S K P : Type 0} (see : Seeing S K P) where
     pub in_row : at % length cells + len ≤ length cells
     pub window_new : List Cell
     pub same_length : length window_new ≡ len
-    pub cells_are : cells_new ≡ take (at % length cells) cells ++ (window_new ++ drop (at % length cells + len) cells)
+    pub cells_are : cells_new
+        ≡ take (at % length cells) cells ++ (window_new ++ drop (at % length cells + len) cells)
     pub worked : PartWork see old new at news (take len (drop (at % length cells) cells)) window_new work
 
   -- ---- the same of a chain as a whole

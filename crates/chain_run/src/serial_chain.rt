@@ -82,7 +82,8 @@ impl<S: Source, K: Sink, P: Plugin> SerialChain<S, K, P> {
             MayWorkOnSome (PartStands (seeing S.seen K.seen P.rule P.stands_for P.steady) part)
             (progress_of_core self.old.core stage).given news.now.written }
         ensures core { self.new.core ≡ self.old.core }
-        ensures works { WorksOn (seeing S.seen K.seen P.rule P.stands_for P.steady) self.old self.new stage news.now result }
+        ensures works { WorksOn (seeing S.seen K.seen P.rule P.stands_for P.steady)
+            self.old self.new stage news.now result }
     {
         let at = self.core.progress(stage).given;
         let slots = self.cells.len();
@@ -99,7 +100,8 @@ impl<S: Source, K: Sink, P: Plugin> SerialChain<S, K, P> {
         ensures runs { RunsOn (seeing S.seen K.seen P.rule P.stands_for P.steady) self.old self.new }
         ensures moved { result ≡ true → LeavesLess self.old self.new }
         ensures rests { result ≡ false → progress_of_core self.new.core ≡ progress_of_core self.old.core }
-        ensures idle { result ≡ false → IsIdleOrOver self.old.core.plan (progress_of_core self.new.core) stage }
+        ensures idle { result ≡ false
+            → IsIdleOrOver self.old.core.plan (progress_of_core self.new.core) stage }
         ensures plan { self.new.core.plan ≡ self.old.core.plan }
         ensures parts { length self.new.parts.items ≡ length self.old.parts.items }
     {

@@ -107,9 +107,11 @@ fn run_laid<S: Source, K: Sink, P: Plugin, G: Gate>(
     requires room { length chain.parts.items ≤ vec_capacity plugins + 2 }
     requires sizes { All (λ size. 1 ≤ size) sizes.now }
     requires some_size { 0 < length sizes.now }
-    ensures runs { (from : InputPart S) (stuffing : Stuffing) (met_none : List P) (to : OutputPart K) (plan : CorePlan)
+    ensures runs { (from : InputPart S) (stuffing : Stuffing) (met_none : List P) (to : OutputPart K)
+        (plan : CorePlan)
         → let see = seeing S.seen K.seen P.rule P.stands_for P.steady in
-        IsRunning see (began_with see from stuffing met_none to plan) chain.core chain.parts.items chain.cells.items
+        IsRunning see (began_with see from stuffing met_none to plan)
+        chain.core chain.parts.items chain.cells.items
         → IfOk result.closed
         (RunOf see from result.input stuffing met_none result.plugins.items to result.output plan) }
     ensures ran { IsOk result.closed }

@@ -38,7 +38,8 @@ AgreesNow false true now told after = (told ≡ Some now) × (after ≡ true)
 AgreesNow false false now told after = (told ≡ None) × (after ≡ false)
 
 -- what is told of the agreement, and what is noted, are those of the cells that were met
-pub record TellsAgreement (rule : PluginRule) (met : List Cell) (before : ℕ) (told : Option ℕ) (noted : Bool) : Type 0 where
+pub record TellsAgreement (rule : PluginRule) (met : List Cell) (before : ℕ) (told : Option ℕ)
+    (noted : Bool) : Type 0 where
   pub tells : told ≡ newly_agreed before (agreement_of rule met)
   pub notes : noted ≡ is_some (agreement_of rule met)
 

@@ -27,21 +27,31 @@ fn agree<P: Plugin>(plugin: &P, agreed: &mut bool, now: u64) -> Option<u64>
 /// The cells behind the plugin's own list are as they were. `noted` says whether the plugin agreed before; where it did
 /// not, it is asked behind each cell, and its agreement is answered and noted. Memory is wanted only where the plugin
 /// made no room for the notes on all these cells.
-pub fn apply_from<P: Plugin>(plugin: &mut P, at: u64, cells: &mut [Cell], noted: &mut bool) -> Applied
+pub fn apply_from<P: Plugin>(
+    plugin: &mut P,
+    at: u64,
+    cells: &mut [Cell],
+    noted: &mut bool,
+) -> Applied
     requires met { MeetsCells (P.stands_for plugin.old) at }
     requires in_range { at + length cells.old ≤ 2 ^ 60 }
     ensures count { result.count ≤ length cells.old }
     ensures rest { drop result.count cells.new ≡ drop result.count cells.old }
-    ensures makes { (history : List Cell) (mark : ℕ) → P.stands_for plugin.old history mark → length history ≡ at
+    ensures makes { (history : List Cell) (mark : ℕ) → P.stands_for plugin.old history mark
+        → length history ≡ at
         → Makes (apply_after (P.rule plugin.old) history cells.old) (take result.count cells.new) result.end }
-    ensures far { (history : List Cell) (mark : ℕ) → P.stands_for plugin.old history mark → length history ≡ at
+    ensures far { (history : List Cell) (mark : ℕ) → P.stands_for plugin.old history mark
+        → length history ≡ at
         → apply_after (P.rule plugin.old) history (take result.count cells.old)
         ≡ made_so_far (take result.count cells.new) result.end }
-    ensures met { (history : List Cell) (mark : ℕ) → P.stands_for plugin.old history mark → length history ≡ at
+    ensures met { (history : List Cell) (mark : ℕ) → P.stands_for plugin.old history mark
+        → length history ≡ at
         → P.stands_for plugin.new (history ++ take result.count cells.old) mark }
-    ensures agreed { (history : List Cell) (mark : ℕ) → P.stands_for plugin.old history mark → length history ≡ at
+    ensures agreed { (history : List Cell) (mark : ℕ) → P.stands_for plugin.old history mark
+        → length history ≡ at
         → noted.old ≡ is_some (agreement_of (P.rule plugin.old) history)
-        → TellsAgreement (P.rule plugin.old) (history ++ take result.count cells.old) at result.agreed noted.new }
+        → TellsAgreement (P.rule plugin.old) (history ++ take result.count cells.old)
+        at result.agreed noted.new }
     ensures same_rule { P.rule plugin.new ≡ P.rule plugin.old }
     ensures same_steady { P.steady plugin.new ≡ P.steady plugin.old }
     ensures room { HasRoomFor (P.steady plugin.old) (P.stands_for plugin.old) at (length cells.old)

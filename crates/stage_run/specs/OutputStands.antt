@@ -39,7 +39,8 @@ PartTook seen (Stream sink) lists told = SinkTook lists.sink (seen sink) lists.g
 PartTook seen Discard lists told = told ≢ Some WriteFault
 
 -- the output met and gave these lists, and told this end
-pub record OutputStands {K : Type 0} (seen : K → SinkView) (stage : OutputStage K) (lists : PartLists) (told : Option StageEnd) : Type 0 where
+pub record OutputStands {K : Type 0} (seen : K → SinkView) (stage : OutputStage K) (lists : PartLists)
+    (told : Option StageEnd) : Type 0 where
   -- it gives its cells unchanged
   pub same : lists.given ≡ lists.met
   pub took : PartTook seen stage.part lists told

@@ -18,7 +18,8 @@ told_by (left.Refuse reason) news now = Some (Refuse reason)
 told_by left.NoMemory news now = Some NoMemory
 
 -- a plugin that stands for these cells, so many, may be told this mark
-pub record Allows (stands : List Cell → ℕ → Type 0) (at written : ℕ) (history : List Cell) (mark : ℕ) : Type 0 where
+pub record Allows (stands : List Cell → ℕ → Type 0) (at written : ℕ) (history : List Cell)
+    (mark : ℕ) : Type 0 where
   pub holds : stands history mark
   pub count : length history ≡ at
   pub not_below : mark ≤ written
@@ -31,7 +32,8 @@ pub record MayPass (stands : List Cell → ℕ → Type 0) (at written : ℕ) : 
   pub allows : Allows stands at written history mark
 
 -- the plugin stands for these cells; it was told this mark, but where memory was wanted, and no greater one
-pub record StandsTold (stands : List Cell → ℕ → Type 0) (history : List Cell) (written : ℕ) (end : ListEnd) : Type 0 where
+pub record StandsTold (stands : List Cell → ℕ → Type 0) (history : List Cell) (written : ℕ)
+    (end : ListEnd) : Type 0 where
   pub mark : ℕ
   pub holds : stands history mark
   pub below : mark ≤ written

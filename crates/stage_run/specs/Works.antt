@@ -68,17 +68,21 @@ abbrev pub source_faults : {S : Type 0} → (S → SourceView) → PacketFeed S 
 source_faults seen (feed.Stream stream) = (seen stream.source).faults
 source_faults seen (feed.Nulls nulls) = 0
 
-pub record InputWorks {S : Type 0} (seen : S → SourceView) (old new : InputStage S) (before : PartLists) (news : News) (cells cells_new : List Cell) (work : Work) (after : PartLists) : Type 0 where
-  pub tells : InputTells news (length before.given) (length cells) work.done (after.read ≡ before.read) work.word.ended
+pub record InputWorks {S : Type 0} (seen : S → SourceView) (old new : InputStage S) (before : PartLists)
+    (news : News) (cells cells_new : List Cell) (work : Work) (after : PartLists) : Type 0 where
+  pub tells : InputTells news (length before.given) (length cells) work.done
+      (after.read ≡ before.read) work.word.ended
   pub agreed : work.word.agreed ≡ None
   -- it stays an input from a source, or of so many null packets
   pub same : SameFeed old.feed new.feed
-  pub faults : FaultsTold (source_faults seen old.feed) (source_faults seen new.feed) work.word.ended (Input ReadFault)
+  pub faults : FaultsTold (source_faults seen old.feed) (source_faults seen new.feed) work.word.ended
+      (Input ReadFault)
   -- no more is read than the cells want
   pub reads : length after.read ≤ 188 * read_for (length before.given) (length cells)
   -- what may follow now might have followed before, and of each such list the visit is a stage's
   pub keeps : (input : StageList) → MayGive seen new after input → MayGive seen old before input
-      × ((rules : List PluginRule) (plugins : ℕ) → StageKeeps rules input plugins 0 [] before.given (take work.done cells_new) work.word)
+      × ((rules : List PluginRule) (plugins : ℕ)
+      → StageKeeps rules input plugins 0 [] before.given (take work.done cells_new) work.word)
 
 -- a plugin's stage gives the image of all its cells and tells how that ends, but for want of memory
 abbrev pub PluginTells : StageList → List Cell → News → Option StageEnd → Type 0
@@ -92,7 +96,8 @@ KeepsRule rule before cells given word plugins j =
     (rules : List PluginRule) (input : StageList) (rest : List Cell) → rule_behind rules j ≡ rule
     → StageKeeps rules input plugins (suc j) (before.met ++ (cells ++ rest)) before.given given word
 
-pub record PluginWorks (rule : PluginRule) (before : PartLists) (news : News) (cells cells_new : List Cell) (work : Work) (after : PartLists) : Type 0 where
+pub record PluginWorks (rule : PluginRule) (before : PartLists) (news : News) (cells cells_new : List Cell)
+    (work : Work) (after : PartLists) : Type 0 where
   pub tells : PluginTells (apply rule (before.met ++ cells)) after.given news work.word.ended
   pub agreed : work.word.agreed ≡ newly_agreed (length before.given) (agreement_of rule after.met)
   -- where there is a cell to work on the plugin was told what is written, but for want of memory
@@ -113,7 +118,8 @@ abbrev pub sink_faults : {K : Type 0} → (K → SinkView) → OutputPart K → 
 sink_faults seen (out.Stream sink) = (seen sink).faults
 sink_faults seen out.Discard = 0
 
-pub record OutputWorks {K : Type 0} (seen : K → SinkView) (old new : OutputStage K) (before : PartLists) (news : News) (cells cells_new : List Cell) (work : Work) (after : PartLists) : Type 0 where
+pub record OutputWorks {K : Type 0} (seen : K → SinkView) (old new : OutputStage K) (before : PartLists)
+    (news : News) (cells cells_new : List Cell) (work : Work) (after : PartLists) : Type 0 where
   pub unchanged : cells_new ≡ cells
   pub tells : OutputTells news (length before.given) cells work.done after.cut work.word.ended
   pub agreed : work.word.agreed ≡ None
@@ -121,7 +127,8 @@ pub record OutputWorks {K : Type 0} (seen : K → SinkView) (old new : OutputSta
   pub same : SamePart old.part new.part
   pub faults : FaultsTold (sink_faults seen old.part) (sink_faults seen new.part) work.word.ended WriteFault
   pub below : (limit : ℕ) → news.limit ≡ Some limit → 0 < work.done → length before.given + work.done ≤ limit
-  pub keeps : (plugins : ℕ) → KeepsRule passing_rule before cells (take work.done cells_new) work.word plugins plugins
+  pub keeps : (plugins : ℕ)
+      → KeepsRule passing_rule before cells (take work.done cells_new) work.word plugins plugins
 
 -- what a part does, by its kind; no part changes its kind
 abbrev pub WorksByKind : {S K P : Type 0} → Seeing S K P → StagePart S K P → StagePart S K P
@@ -135,7 +142,8 @@ WorksByKind see (part.Output old) (part.Output new) before news cells cells_new 
 WorksByKind see _ _ before news cells cells_new work after = ⊥
 
 -- a stage that stood for the lists `before` stands for the lists `after` now, and did what is to be done
-pub record Works (Stands : PartLists → Option StageEnd → Type 0) (Does : PartLists → Type 0) (before : PartLists) (written : ℕ) (cells cells_new : List Cell) (work : Work) : Type 0 where
+pub record Works (Stands : PartLists → Option StageEnd → Type 0) (Does : PartLists → Type 0)
+    (before : PartLists) (written : ℕ) (cells cells_new : List Cell) (work : Work) : Type 0 where
   pub after : PartLists
   pub behind : Behind before after (take work.done cells) (take work.done cells_new) written
   pub stands : Stands after work.word.ended
@@ -144,7 +152,8 @@ pub record Works (Stands : PartLists → Option StageEnd → Type 0) (Does : Par
 -- the work of a stage, of whatever kind: `Old` and `New` are what it stood for and stands for, `Wants` says whether it may
 -- want memory that works so far ahead of the mark, and `Does` what its kind does
 pub record StageWork (Old New : PartLists → Option StageEnd → Type 0) (Wants : ℕ → Type 0)
-    (Does : PartLists → PartLists → Type 0) (at : ℕ) (news : News) (cells cells_new : List Cell) (work : Work) : Type 0 where
+    (Does : PartLists → PartLists → Type 0) (at : ℕ) (news : News)
+    (cells cells_new : List Cell) (work : Work) : Type 0 where
   -- so many cells are done, the others are as they were, and a stage that goes on has done all
   pub done : work.done ≤ length cells
   pub rest : drop work.done cells_new ≡ drop work.done cells

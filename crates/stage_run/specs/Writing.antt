@@ -22,7 +22,8 @@ pub record CutsAt (old new : SinkView) (cells : List Cell) (place : ℕ) : Type 
 -- the sink took what all cells write, or a write failed in the packet of the cell at the place
 abbrev pub WritesCells : SinkView → SinkView → List Cell → ℕ → Type 0
 WritesCells old new cells place =
-    ((place ≡ length cells) × (new ≡ took old (written cells))) ⊎ ((place < length cells) × CutsAt old new cells place)
+    ((place ≡ length cells) × (new ≡ took old (written cells)))
+    ⊎ ((place < length cells) × CutsAt old new cells place)
 
 -- an output wrote cells; what goes nowhere is always written
 abbrev pub PartWrites : {K : Type 0} → (K → SinkView) → OutputPart K → OutputPart K → List Cell → ℕ → Type 0

@@ -75,7 +75,8 @@ impl<S: Source> InputStage<S> {
         ensures stands { (source : SourceView) (sink : SinkView) (mark : ℕ) → IsSourceOf S.seen part source
             → InputStands S.seen result (fresh_lists source sink mark) None }
         ensures gives { (source : SourceView) (sink : SinkView) (mark : ℕ) (input : StageList)
-            → MayGive S.seen result (fresh_lists source sink mark) input ↔ IsListOf S.seen part (stuffing_of stuffing) input }
+            → MayGive S.seen result (fresh_lists source sink mark) input ↔ IsListOf S.seen part
+            (stuffing_of stuffing) input }
     {
         let feed = PacketFeed::of(part, room);
         InputStage {
@@ -131,7 +132,8 @@ impl<S: Source> InputStage<S> {
         requires fits { InputFits self.old }
         requires in_range { packets_put self.old.feed < 2 ^ 62 }
         ensures fits { InputFits self.new }
-        ensures goes { (lists : PartLists) → InputHolds S.seen self.old lists → InputGoes S.seen self.old self.new lists wanted (cell_put result cell.new) }
+        ensures goes { (lists : PartLists) → InputHolds S.seen self.old lists
+            → InputGoes S.seen self.old self.new lists wanted (cell_put result cell.new) }
         ensures over { IfSome result (λ how. IsOver self.new how) }
         ensures kept { IsSome result → cell.new ≡ cell.old }
         ensures packets { packets_put self.new.feed ≤ packets_put self.old.feed + 1 }
@@ -181,7 +183,8 @@ impl<S: Source> InputStage<S> {
     /// How the list ends at the last position: any cell more would stand at the limit.
     fn end_at_limit(&mut self) -> InputEnd
         requires { InputFits self.old }
-        ensures goes { (lists : PartLists) → InputHolds S.seen self.old lists → InputGoes S.seen self.old self.new lists 1 [] }
+        ensures goes { (lists : PartLists) → InputHolds S.seen self.old lists
+            → InputGoes S.seen self.old self.new lists 1 [] }
         ensures ends { EndsAtLimit self.new result }
         ensures stays_open { 0 < self.new.nulls → IsOpen self.old.ended → IsOpen self.new.ended }
         ensures same_stuffing { self.new.stuffing ≡ self.old.stuffing }

@@ -71,18 +71,27 @@ impl<P: Plugin> PluginStage<P> {
         requires in_range { at + length cells.old ≤ 2 ^ 60 }
         ensures count { result.count ≤ length cells.old }
         ensures rest { drop result.count cells.new ≡ drop result.count cells.old }
-        ensures makes { (history : List Cell) (mark : ℕ) → Allows (P.stands_for self.old.plugin) at written history mark
-            → Makes (apply_after (P.rule self.old.plugin) history cells.old) (take result.count cells.new) result.end }
-        ensures far { (history : List Cell) (mark : ℕ) → Allows (P.stands_for self.old.plugin) at written history mark
-            → apply_after (P.rule self.old.plugin) history (take result.count cells.old) ≡ made_so_far (take result.count cells.new) result.end }
-        ensures met { (history : List Cell) (mark : ℕ) → Allows (P.stands_for self.old.plugin) at written history mark
-            → StandsTold (P.stands_for self.new.plugin) (history ++ take result.count cells.old) written result.end }
-        ensures agreed { (history : List Cell) (mark : ℕ) → Allows (P.stands_for self.old.plugin) at written history mark
+        ensures makes { (history : List Cell) (mark : ℕ)
+            → Allows (P.stands_for self.old.plugin) at written history mark
+            → Makes (apply_after (P.rule self.old.plugin) history cells.old)
+            (take result.count cells.new) result.end }
+        ensures far { (history : List Cell) (mark : ℕ)
+            → Allows (P.stands_for self.old.plugin) at written history mark
+            → apply_after (P.rule self.old.plugin) history (take result.count cells.old)
+            ≡ made_so_far (take result.count cells.new) result.end }
+        ensures met { (history : List Cell) (mark : ℕ)
+            → Allows (P.stands_for self.old.plugin) at written history mark
+            → StandsTold (P.stands_for self.new.plugin) (history ++ take result.count cells.old)
+            written result.end }
+        ensures agreed { (history : List Cell) (mark : ℕ)
+            → Allows (P.stands_for self.old.plugin) at written history mark
             → self.old.agreed ≡ is_some (agreement_of (P.rule self.old.plugin) history)
-            → TellsAgreement (P.rule self.old.plugin) (history ++ take result.count cells.old) at result.agreed self.new.agreed }
+            → TellsAgreement (P.rule self.old.plugin) (history ++ take result.count cells.old)
+            at result.agreed self.new.agreed }
         ensures same_rule { P.rule self.new.plugin ≡ P.rule self.old.plugin }
         ensures same_steady { P.steady self.new.plugin ≡ P.steady self.old.plugin }
-        ensures room { IsSteadyFor (P.steady self.old.plugin) (at + length cells.old - written) → result.end ≢ ListEnd.NoMemory }
+        ensures room { IsSteadyFor (P.steady self.old.plugin) (at + length cells.old - written)
+            → result.end ≢ ListEnd.NoMemory }
     {
         if self.plugin.note(written).is_err() {
             return Applied {
@@ -109,7 +118,8 @@ impl<P: Plugin> PluginStage<P> {
         requires in_range { at + length cells.old ≤ 2 ^ 60 }
         ensures same_rule { P.rule self.new.plugin ≡ P.rule self.old.plugin }
         ensures same_steady { P.steady self.new.plugin ≡ P.steady self.old.plugin }
-        ensures work { PluginWork P.rule P.stands_for P.steady self.old self.new at news.now cells.old cells.new result }
+        ensures work { PluginWork P.rule P.stands_for P.steady self.old self.new
+            at news.now cells.old cells.new result }
     {
         if cells.is_empty() {
             return Work::ending(0, followed(news, at));

@@ -89,15 +89,15 @@ returns-then-is_empty-clause-work g c =
     c.args.at news cells cells c.ending.result 0 (followed news (c.args.at + 0)) told (omega arith) refl
     (λ e. omega (arith, ap (λ (l : List Cell). length l) none)) (FollowsNews-followed news (c.args.at + 0)) (followed-memory news (c.args.at + 0))
     (λ lists may.
-        let count : length lists.met ≡ c.args.at = sym may.goes_on.length_same ∙ may.given in
-        let same : lists.met ++ [] ≡ lists.met = append-nil lists.met in
-        plugin_works rule stands old old lists news cells cells c.args.at news.written 0 None Through may refl refl (omega arith)
-        (ap (λ (l : List Cell). (apply_after (rule old.plugin) lists.met l).cells) (sym none), ap (λ (l : List Cell). (apply_after (rule old.plugin) lists.met l).ended) none)
-        refl
-        lists.mark (subst (λ (h : List Cell). stands old.plugin h lists.mark) (sym same) may.goes_on.plugin) may.mark
-        (λ some fine. absurd (omega (arith, some, ap (λ (l : List Cell). length l) none)))
-        (record {
-          tells = sym (newly_agreed-within c.args.at (agreement_of (rule old.plugin) (lists.met ++ []))
-              (λ m is. let few = agreement_of-within (rule old.plugin) (lists.met ++ []) m is in omega (arith, length-append lists.met [])));
-          notes = may.goes_on.agreed ∙ ap (λ (h : List Cell). is_some (agreement_of (rule old.plugin) h)) (sym same);
-        }))
+    let count : length lists.met ≡ c.args.at = sym may.goes_on.length_same ∙ may.given in
+    let same : lists.met ++ [] ≡ lists.met = append-nil lists.met in
+    plugin_works rule stands old old lists news cells cells c.args.at news.written 0 None Through may refl refl (omega arith)
+    (ap (λ (l : List Cell). (apply_after (rule old.plugin) lists.met l).cells) (sym none), ap (λ (l : List Cell). (apply_after (rule old.plugin) lists.met l).ended) none)
+    refl
+    lists.mark (subst (λ (h : List Cell). stands old.plugin h lists.mark) (sym same) may.goes_on.plugin) may.mark
+    (λ some fine. absurd (omega (arith, some, ap (λ (l : List Cell). length l) none)))
+    (record {
+      tells = sym (newly_agreed-within c.args.at (agreement_of (rule old.plugin) (lists.met ++ []))
+          (λ m is. let few = agreement_of-within (rule old.plugin) (lists.met ++ []) m is in omega (arith, length-append lists.met [])));
+      notes = may.goes_on.agreed ∙ ap (λ (h : List Cell). is_some (agreement_of (rule old.plugin) h)) (sym same);
+    }))
