@@ -17,6 +17,7 @@ use Rattle.chain_core.specs.Stages.{stages_of}
 use Rattle.chain_core.specs.declared.closed.Closed.{Closed}
 use Rattle.chain_core.specs.declared.core_plan.CorePlan.{CorePlan}
 use Rattle.chain_args.specs.declared.plan_type.Plan.{Plan}
+use Rattle.stage_run.specs.Seeing.{Seeing}
 use Rattle.stage_run.specs.declared.input_part.InputPart.{InputPart}
 use Rattle.stage_run.specs.declared.output_part.OutputPart.{OutputPart}
 use Rattle.stage_run.specs.InputStands as stage
@@ -236,32 +237,32 @@ lates-rose in_seen out_seen plan old made new from made_from to made_to failed s
     ))
 
 -- what holds of a run
-ran-facts : {S K P : Type 0} (in_seen : S → SourceView) (out_seen : K → SinkView) (rule : P → PluginRule) (stands : P → List Cell → ℕ → Type 0)
+ran-facts : {S K P : Type 0} (see : Seeing S K P)
     (plan : Plan) (old made new : DeskView) (from made_from : InputPart S) (stuffing : Stuffing) (plugins plugins_made : List P) (to made_to : OutputPart K) (failed : Bool) (core : CorePlan) (closed : Closed)
-    → Opened in_seen out_seen plan old made from to → map rule plugins ≡ map rule_of plan.plugins → IsPlanned plan stuffing core
-    → (run : RunOf in_seen out_seen rule stands from made_from stuffing plugins plugins_made to made_to core closed)
-    → LeavesAll (closed_desk in_seen out_seen made made_from made_to failed) new
-    → RanFacts plan old new (run_chain plan (map rule plugins) run.list (stages_of core.users)) closed.cut closed.cause
-ran-facts in_seen out_seen rule stands plan old made new from made_from stuffing plugins plugins_made to made_to failed core closed opened rules planned run leaves =
-    let d2 : DeskView = input_closed_as in_seen made made_from in
-    let own : List PluginRule = map rule plugins in
+    → Opened see.source see.sink plan old made from to → map see.rule plugins ≡ map rule_of plan.plugins → IsPlanned plan stuffing core
+    → (run : RunOf see from made_from stuffing plugins plugins_made to made_to core closed)
+    → LeavesAll (closed_desk see.source see.sink made made_from made_to failed) new
+    → RanFacts plan old new (run_chain plan (map see.rule plugins) run.list (stages_of core.users)) closed.cut closed.cause
+ran-facts see plan old made new from made_from stuffing plugins plugins_made to made_to failed core closed opened rules planned run leaves =
+    let d2 : DeskView = input_closed_as see.source made made_from in
+    let own : List PluginRule = map see.rule plugins in
     let users : List ℕ = stages_of core.users in
-    let desks = desks in_seen out_seen plan old made made_from made_to failed opened.asked in
+    let desks = desks see.source see.sink plan old made made_from made_to failed opened.asked in
     let cells : List Cell = (end_list own run.list).cells in
-    let took : TookBytes cells closed.cut closed.cause (asked_input old plan.input).outputs (output_closed_as out_seen d2 made_to failed).outputs (output_name plan.output) =
-    outputs-took out_seen (asked_input old plan.input) d2 plan.output to made_to cells closed.cut closed.cause failed opened.output run.output desks.outputs in
+    let took : TookBytes cells closed.cut closed.cause (asked_input old plan.input).outputs (output_closed_as see.sink d2 made_to failed).outputs (output_name plan.output) =
+    outputs-took see.sink (asked_input old plan.input) d2 plan.output to made_to cells closed.cut closed.cause failed opened.output run.output desks.outputs in
     let bytes : List ℕ = written (take closed.cut cells) ++ took.part in
     record {
       own_is = λ files told.
           let list : run.list ≡ stuffed (stuffing_of plan.general) (input_of plan.input files) =
-          opened-list in_seen old files plan.input from (stage.stuffing_of stuffing) run.list told opened.input run.is_list
+          opened-list see.source old files plan.input from (stage.stuffing_of stuffing) run.list told opened.input run.is_list
           ∙ ap (λ (s : model.Stuffing). stuffed s (input_of plan.input files)) planned.stuffing_is in
           ap (λ (rs : List PluginRule). run_chain plan rs run.list users) rules
           ∙ ap (λ (l : StageList). run_chain plan (map rule_of plan.plugins) l users) list
           ∙ ap (λ (us : List ℕ). run_chain plan (map rule_of plan.plugins) (stuffed (stuffing_of plan.general) (input_of plan.input files)) us) planned.users_are;
-      rose = faults-rose in_seen out_seen plan old made new from made_from to made_to failed (stage.stuffing_of stuffing) core.buffer cells closed.cut closed.cause opened run.input run.output leaves;
+      rose = faults-rose see.source see.sink plan old made new from made_from to made_to failed (stage.stuffing_of stuffing) core.buffer cells closed.cut closed.cause opened run.input run.output leaves;
       closes = run.closes;
-      reads = λ files told. reads-to in_seen old made new files plan.general plan.input from made_from (stage.stuffing_of stuffing) core.buffer closed.cut closed.cause
+      reads = λ files told. reads-to see.source old made new files plan.general plan.input from made_from (stage.stuffing_of stuffing) core.buffer closed.cut closed.cause
           planned.stuffing_is planned.buffer_within told opened.input desks.made_inputs (leaves.closed_in ∙ desks.inputs) run.input;
       written = (
         bytes,
@@ -274,49 +275,49 @@ ran-facts in_seen out_seen rule stands plan old made new from made_from stuffing
     }
 
 -- a run that was closed, and then reported, or not where there was no memory for that
-ran-closed : {S K P : Type 0} (in_seen : S → SourceView) (out_seen : K → SinkView) (rule : P → PluginRule) (stands : P → List Cell → ℕ → Type 0)
+ran-closed : {S K P : Type 0} (see : Seeing S K P)
     (plan : Plan) (old made new : DeskView) (from made_from : InputPart S) (stuffing : Stuffing) (plugins plugins_made : List P) (to made_to : OutputPart K) (failed : Bool) (core : CorePlan) (closed : Closed) (st : Status)
-    → Opened in_seen out_seen plan old made from to → map rule plugins ≡ map rule_of plan.plugins → IsPlanned plan stuffing core → OnTrue failed (WasOpened made_to)
-    → (run : RunOf in_seen out_seen rule stands from made_from stuffing plugins plugins_made to made_to core closed)
-    → ReportsRun (reports (map rule plugins) (map name_of plan.plugins) run.list closed.cut closed.cause) closed.cause failed
-    (closed_desk in_seen out_seen made made_from made_to failed) new st
+    → Opened see.source see.sink plan old made from to → map see.rule plugins ≡ map rule_of plan.plugins → IsPlanned plan stuffing core → OnTrue failed (WasOpened made_to)
+    → (run : RunOf see from made_from stuffing plugins plugins_made to made_to core closed)
+    → ReportsRun (reports (map see.rule plugins) (map name_of plan.plugins) run.list closed.cut closed.cause) closed.cause failed
+    (closed_desk see.source see.sink made made_from made_to failed) new st
     → StreamTheorem plan old new st
-ran-closed in_seen out_seen rule stands plan old made new from made_from stuffing plugins plugins_made to made_to failed core closed st opened rules planned closing run (inl report) =
-    let d3 : DeskView = closed_desk in_seen out_seen made made_from made_to failed in
-    let desks = desks in_seen out_seen plan old made made_from made_to failed opened.asked in
-    let own : Chain = run_chain plan (map rule plugins) run.list (stages_of core.users) in
+ran-closed see plan old made new from made_from stuffing plugins plugins_made to made_to failed core closed st opened rules planned closing run (inl report) =
+    let d3 : DeskView = closed_desk see.source see.sink made made_from made_to failed in
+    let desks = desks see.source see.sink plan old made made_from made_to failed opened.asked in
+    let own : Chain = run_chain plan (map see.rule plugins) run.list (stages_of core.users) in
     let text : List ℕ = reported_at own closed.cut closed.cause in
-    let facts = ran-facts in_seen out_seen rule stands plan old made new from made_from stuffing plugins plugins_made to made_to failed core closed opened rules planned run (leaves-says d3 new text report.0 report.1) in
-    let late = lates-rose in_seen out_seen plan old made new from made_from to made_to failed report.0 text (end_list (map rule plugins) run.list).cells closed.cut closed.cause opened closing run.output report.1 in
+    let facts = ran-facts see plan old made new from made_from stuffing plugins plugins_made to made_to failed core closed opened rules planned run (leaves-says d3 new text report.0 report.1) in
+    let late = lates-rose see.source see.sink plan old made new from made_from to made_to failed report.0 text (end_list (map see.rule plugins) run.list).cells closed.cut closed.cause opened closing run.output report.1 in
     reported-theorem plan old d3 new own closed.cut closed.cause (failed || report.0) report.0 st facts late report.2 desks.reported desks.report_faults report.1
-ran-closed in_seen out_seen rule stands plan old made new from made_from stuffing plugins plugins_made to made_to failed core closed st opened rules planned closing run (inr none) =
-    let d3 : DeskView = closed_desk in_seen out_seen made made_from made_to failed in
-    let desks = desks in_seen out_seen plan old made made_from made_to failed opened.asked in
-    let own : Chain = run_chain plan (map rule plugins) run.list (stages_of core.users) in
-    let facts = ran-facts in_seen out_seen rule stands plan old made new from made_from stuffing plugins plugins_made to made_to failed core closed opened rules planned run (leaves-all d3 new none.1) in
+ran-closed see plan old made new from made_from stuffing plugins plugins_made to made_to failed core closed st opened rules planned closing run (inr none) =
+    let d3 : DeskView = closed_desk see.source see.sink made made_from made_to failed in
+    let desks = desks see.source see.sink plan old made made_from made_to failed opened.asked in
+    let own : Chain = run_chain plan (map see.rule plugins) run.list (stages_of core.users) in
+    let facts = ran-facts see plan old made new from made_from stuffing plugins plugins_made to made_to failed core closed opened rules planned run (leaves-all d3 new none.1) in
     unreported-theorem plan old new own closed.cut closed.cause st facts none.0
     (ap (λ (v : DeskView). v.reported) none.1 ∙ desks.reported) (ap (λ (v : DeskView). v.report_faults) none.1 ∙ desks.report_faults)
 
 -- a run between two opened ends
-pub ran-theorem : {S K P : Type 0} (in_seen : S → SourceView) (out_seen : K → SinkView) (rule : P → PluginRule) (stands : P → List Cell → ℕ → Type 0)
+pub ran-theorem : {S K P : Type 0} (see : Seeing S K P)
     (plan : Plan) (old made new : DeskView) (from : InputPart S) (plugins : List P) (to : OutputPart K) (st : Status)
     → made ≡ asked_output (asked_input old plan.input) plan.output
-    → OpensInput in_seen old plan.input from → OpensOutput out_seen (asked_input old plan.input) plan.output to
-    → map rule plugins ≡ map rule_of plan.plugins
-    → RanOpened in_seen out_seen rule stands plan made new from plugins to st
+    → OpensInput see.source old plan.input from → OpensOutput see.sink (asked_input old plan.input) plan.output to
+    → map see.rule plugins ≡ map rule_of plan.plugins
+    → RanOpened see plan made new from plugins to st
     → StreamTheorem plan old new st
-ran-theorem {S} {K} {P} in_seen out_seen rule stands plan old made new from plugins to st is opens_in opens_out rules run =
+ran-theorem {S} {K} {P} see plan old made new from plugins to st is opens_in opens_out rules run =
     ran-ends run.made_from run.made_to run.failed run.failed_opened run.ends
   where
     ran-ends : (made_from : InputPart S) (made_to : OutputPart K) (failed : Bool) → OnTrue failed (WasOpened made_to)
-        → RanEnds in_seen out_seen rule stands plan made new from made_from plugins to made_to failed st → StreamTheorem plan old new st
+        → RanEnds see plan made new from made_from plugins to made_to failed st → StreamTheorem plan old new st
     ran-ends made_from made_to failed closing (inl closed) =
-        let opened : Opened in_seen out_seen plan old made from to = record { asked = is; input = opens_in; output = opens_out } in
-        ran-closed in_seen out_seen rule stands plan old made new from made_from closed.1.stuffing plugins closed.1.made to made_to failed closed.1.core closed.0 st
+        let opened : Opened see.source see.sink plan old made from to = record { asked = is; input = opens_in; output = opens_out } in
+        ran-closed see plan old made new from made_from closed.1.stuffing plugins closed.1.made to made_to failed closed.1.core closed.0 st
         opened rules closed.1.planned closing closed.1.run closed.1.reported
     ran-ends made_from made_to failed closing (inr none) =
-        let opened : Opened in_seen out_seen plan old made from to = record { asked = is; input = opens_in; output = opens_out } in
-        let F : InputPart S → Type 0 = λ p. new ≡ closed_desk in_seen out_seen made p made_to failed in
-        let T : OutputPart K → Type 0 = λ p. new ≡ closed_desk in_seen out_seen made from p failed in
-        not-run in_seen out_seen plan old made new from to failed st opened none.status_is
+        let opened : Opened see.source see.sink plan old made from to = record { asked = is; input = opens_in; output = opens_out } in
+        let F : InputPart S → Type 0 = λ p. new ≡ closed_desk see.source see.sink made p made_to failed in
+        let T : OutputPart K → Type 0 = λ p. new ≡ closed_desk see.source see.sink made from p failed in
+        not-run see.source see.sink plan old made new from to failed st opened none.status_is
         (subst T none.output_same (subst F none.input_same none.desk))

@@ -9,9 +9,11 @@ use Rattle.chain_model.specs.PluginRule.{PluginRule}
 use Rattle.chain_model.specs.declared.cause.Cause.{Cause}
 use Rattle.chain_core.specs.declared.closed.Closed.{Closed}
 use Rattle.chain_core.specs.declared.core_plan.CorePlan.{CorePlan}
+use Rattle.stage_run.specs.Seeing.{Seeing}
 use Rattle.stage_run.specs.declared.input_part.InputPart.{InputPart}
 use Rattle.stage_run.specs.declared.output_part.OutputPart.{OutputPart}
 use Rattle.stage_run.specs.declared.stuffing.Stuffing.{Stuffing}
+use Rattle.chain_run.proofs.RunUses.{met-to}
 use Rattle.chain_run.specs.RunOf.{RunOf}
 use Rattle.tsp_top.specs.Reported.{ReachesCut, ReportsRun}
 use Rattle.tsp_top.specs.declared.status.Status.{Status}
@@ -38,8 +40,8 @@ reports-run-same text said why f failed a old new status e1 e2 e3 h =
     subst C e3 (subst B e2 (subst A e1 h))
 
 -- the plugins of a closed run reach its cut
-pub run-reaches : {S K P : Type 0} (in_seen : S → SourceView) (out_seen : K → SinkView) (rule : P → PluginRule) (stands : P → List Cell → ℕ → Type 0)
+pub run-reaches : {S K P : Type 0} (see : Seeing S K P)
     (from made_from : InputPart S) (stuffing : Stuffing) (plugins made : List P) (to made_to : OutputPart K) (core : CorePlan) (closed : Closed)
-    → RunOf in_seen out_seen rule stands from made_from stuffing plugins made to made_to core closed → ReachesCut stands made closed.cut 0
-run-reaches in_seen out_seen rule stands from made_from stuffing plugins made to made_to core closed run =
-    record { rules = map rule plugins; input = run.list; met = run.met }
+    → RunOf see from made_from stuffing plugins made to made_to core closed → ReachesCut see.stands made closed.cut 0
+run-reaches see from made_from stuffing plugins made to made_to core closed run =
+    record { rules = map see.rule plugins; input = run.list; met = met-to see.stands (map see.rule plugins) run.list run.gave closed.cut 0 made run.met }

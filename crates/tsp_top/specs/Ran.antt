@@ -11,6 +11,7 @@ use Rattle.chain_core.specs.declared.core_plan.CorePlan.{CorePlan}
 use Rattle.chain_core.specs.Stages.{stages_of}
 use Rattle.chain_model.specs.PluginRule.{PluginRule}
 use Rattle.chain_model.specs.Reports.{reports}
+use Rattle.stage_run.specs.Seeing.{Seeing}
 use Rattle.stage_run.specs.declared.input_part.InputPart.{InputPart}
 use Rattle.stage_run.specs.declared.output_part.OutputPart.{OutputPart}
 use Rattle.stage_run.specs.declared.stuffing.Stuffing.{Stuffing}
@@ -34,15 +35,15 @@ pub record IsPlanned (plan : Plan) (stuffing : Stuffing) (core : CorePlan) : Typ
   pub users_are : stages_of core.users ≡ users_of plan
 
 -- a run that was closed and reported, or closed only, where there was no memory for its report
-pub record RanClosed {S K P : Type 0} (in_seen : S → SourceView) (out_seen : K → SinkView) (rule : P → PluginRule) (stands : P → List Cell → ℕ → Type 0)
+pub record RanClosed {S K P : Type 0} (see : Seeing S K P)
     (plan : Plan) (old new : DeskView) (from made_from : InputPart S) (plugins : List P) (to made_to : OutputPart K) (failed : Bool) (status : Status) (closed : Closed) : Type 0 where
   pub stuffing : Stuffing
   pub core : CorePlan
   pub planned : IsPlanned plan stuffing core
   pub made : List P
-  pub run : RunOf in_seen out_seen rule stands from made_from stuffing plugins made to made_to core closed
-  pub reported : ReportsRun (reports (map rule plugins) (map name_of plan.plugins) run.list closed.cut closed.cause) closed.cause failed
-      (closed_desk in_seen out_seen old made_from made_to failed) new status
+  pub run : RunOf see from made_from stuffing plugins made to made_to core closed
+  pub reported : ReportsRun (reports (map see.rule plugins) (map name_of plan.plugins) run.list closed.cut closed.cause) closed.cause failed
+      (closed_desk see.source see.sink old made_from made_to failed) new status
 
 -- there was no memory for the run: the ends were closed as they were opened
 pub record NotRun {S K : Type 0} (in_seen : S → SourceView) (out_seen : K → SinkView) (old new : DeskView)
@@ -53,18 +54,18 @@ pub record NotRun {S K : Type 0} (in_seen : S → SourceView) (out_seen : K → 
   pub desk : new ≡ closed_desk in_seen out_seen old made_from made_to failed
 
 -- one of the two
-abbrev pub RanEnds : {S K P : Type 0} → (S → SourceView) → (K → SinkView) → (P → PluginRule) → (P → List Cell → ℕ → Type 0)
+abbrev pub RanEnds : {S K P : Type 0} → Seeing S K P
     → Plan → DeskView → DeskView → InputPart S → InputPart S → List P → OutputPart K → OutputPart K → Bool → Status → Type 0
-RanEnds in_seen out_seen rule stands plan old new from made_from plugins to made_to failed status =
-    ((closed : Closed) × RanClosed in_seen out_seen rule stands plan old new from made_from plugins to made_to failed status closed)
-    ⊎ NotRun in_seen out_seen old new from made_from to made_to failed status
+RanEnds see plan old new from made_from plugins to made_to failed status =
+    ((closed : Closed) × RanClosed see plan old new from made_from plugins to made_to failed status closed)
+    ⊎ NotRun see.source see.sink old new from made_from to made_to failed status
 
 -- the chain ran, both ends were closed, and the run was reported; or there was no memory for the run
-pub record RanOpened {S K P : Type 0} (in_seen : S → SourceView) (out_seen : K → SinkView) (rule : P → PluginRule) (stands : P → List Cell → ℕ → Type 0)
+pub record RanOpened {S K P : Type 0} (see : Seeing S K P)
     (plan : Plan) (old new : DeskView) (from : InputPart S) (plugins : List P) (to : OutputPart K) (status : Status) : Type 0 where
   pub made_from : InputPart S
   pub made_to : OutputPart K
   -- whether the closing of the output failed
   pub failed : Bool
   pub failed_opened : OnTrue failed (WasOpened made_to)
-  pub ends : RanEnds in_seen out_seen rule stands plan old new from made_from plugins to made_to failed status
+  pub ends : RanEnds see plan old new from made_from plugins to made_to failed status

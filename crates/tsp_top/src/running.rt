@@ -2,6 +2,7 @@
 ghost use Rattle.std.specs.Prelude.{◌≡◌, length, vec_len};
 ghost use Rattle.chain_run.specs.Fresh.{AreFresh};
 ghost use Rattle.chain_args.specs.LawfulPlan.{IsLawfulPlan};
+ghost use Rattle.stage_run.specs.Seeing.{seeing};
 ghost use Rattle.tsp_top.specs.Ran.{RanOpened};
 
 use crate::opening::{close_input, close_output};
@@ -28,7 +29,7 @@ pub(crate) fn run_opened<P: Plugin + Drop, D: Desk, G: Gate>(
     requires lawful { IsLawfulPlan plan.now }
     requires one_each { length plan.now.plugins ≡ vec_len plugins }
     requires fresh { AreFresh P.stands_for plugins.items }
-    ensures { RanOpened D.In.seen D.Out.seen P.rule P.stands_for plan.now (D.seen desk.old) (D.seen desk.new) input plugins.items output result }
+    ensures { RanOpened (seeing D.In.seen D.Out.seen P.rule P.stands_for P.steady) plan.now (D.seen desk.old) (D.seen desk.new) input plugins.items output result }
 {
     let stuffing = planned_stuffing(&plan.general);
     let core = planned_core(plan);

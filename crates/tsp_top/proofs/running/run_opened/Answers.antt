@@ -2,6 +2,8 @@ use Rattle.std.proofs.Common.{is_err, ap, map, List, sym, ◌∙◌, refl, inl, 
 use Rattle.plug_set.specs.declared.plugin_conf.PluginConf.{PluginConf}
 use Rattle.chain_model.specs.Reports.{reports}
 use Rattle.ts_outside.specs.Desk.{DeskView}
+use Rattle.chain_run.proofs.RunUses.{met-to}
+use Rattle.stage_run.specs.Seeing.{seeing}
 use Rattle.plug_set.specs.Plugins.{name_of}
 use Rattle.tsp_top.specs.Openings.{output_closed_as}
 use Rattle.tsp_top.proofs.RunLemmas.{run-reaches, if-ok, on-err, on-true-is_err, reports-run-same}
@@ -10,7 +12,7 @@ use Rattle.tsp_top.proofs.running.run_opened.Goals as goal
 pub report_run-requires-clause-reach : goal.report_run-requires-clause-reach
 report_run-requires-clause-reach g c κs within =
     rw c.deref_mut.ensures.value
-    (run-reaches g.D.In.Source.seen g.D.Out.Sink.seen g.P.Plugin.rule g.P.Plugin.stands_for _ _ _ _ _ _ _ _ c.in-Ok.closed
+    (run-reaches (seeing g.D.In.Source.seen g.D.Out.Sink.seen g.P.Plugin.rule g.P.Plugin.stands_for g.P.Plugin.steady) _ _ _ _ _ _ _ _ c.in-Ok.closed
     (if-ok c.run_serial-input.result.closed c.in-Ok.closed _ c.in-Ok.is c.run_serial-input.ensures.closed))
 
 pub returns-in-Ok : goal.returns-in-Ok
@@ -38,7 +40,7 @@ returns-in-Ok g c =
               c.is_err.ensures.value
               (c.close_output-closing.ensures.closed
               ∙ ap (λ (d : DeskView). output_closed_as g.D.Out.Sink.seen d c.run_serial-input.result.output (is_err c.close_output-closing.result)) c.close_input.ensures)
-              (c.report_run.ensures (map g.P.Plugin.rule c.args.plugins.items) run.list (rw c.deref_mut.ensures.value run.met) (rw c.deref_mut.ensures.value (sym run.rules)));
+              (c.report_run.ensures (map g.P.Plugin.rule c.args.plugins.items) run.list (rw c.deref_mut.ensures.value (met-to g.P.Plugin.stands_for (map g.P.Plugin.rule c.args.plugins.items) run.list run.gave c.in-Ok.closed.cut 0 c.run_serial-input.result.plugins.items run.met)) (rw c.deref_mut.ensures.value (sym run.rules)));
         },
       );
     }

@@ -7,8 +7,7 @@ use Rattle.chain_model.specs.PluginRule.{PluginRule}
 use Rattle.chain_model.specs.Joint.{agreement_after, agreement_of}
 use Rattle.chain_model.proofs.AgreementLaws.{agreement_of-more}
 use Rattle.plugin_trait.proofs.Going.{met-more}
-use Rattle.stage_run.specs.Telling.{newly_agreed}
-use Rattle.stage_run.specs.PluginSteps.{AgreesNow, TellsAgreement}
+use Rattle.plugin_trait.specs.Driving.{newly_agreed, AgreesNow, TellsAgreement}
 
 agreement_after-here : (rule : PluginRule) (history xs : List Cell) → rule.agrees history ≡ true → agreement_after rule history xs ≡ Some (length history)
 agreement_after-here rule history [] yes_ = cond-true (rule.agrees history) (Some (length history)) None yes_

@@ -7,7 +7,7 @@ use Rattle.plugin_trait.specs.declared.list_end.ListEnd.TheVariants as window
 use Rattle.chain_model.specs.PluginRule.{PluginRule}
 use Rattle.chain_model.specs.Apply.{StageList, CellOutcome, goes_on, ends_after, ends_before, became, onto, apply_after}
 use Rattle.plugin_trait.proofs.Going.{behind}
-use Rattle.stage_run.specs.PluginSteps.{made_so_far}
+use Rattle.plugin_trait.specs.Driving.{made_so_far}
 
 onto-behind : (fate : CellOutcome) (a b c : StageList) → (a.ended ≡ None → b ≡ behind a.cells c) → (onto fate a).ended ≡ None → onto fate b ≡ behind (onto fate a).cells c
 onto-behind (goes_on cell) a b c step open_ = ap (onto (goes_on cell)) (step open_)

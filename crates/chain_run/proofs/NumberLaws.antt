@@ -1,4 +1,4 @@
--- The machine's laws as one record, and what follows from them for the numbers of a run.
+-- What follows from the machine's laws for the numbers of a run.
 use Rattle.std.proofs.Common.{◌≡◌, ◌≢◌, ℕ, zero, suc, ◌+◌, ◌^◌, ◌<◌, ◌≤◌, List, [], ◌∷◌, ◌++◌, length, Option, refl, ap, sym, ◌∙◌, subst, arith, inl, inr, append-nil}
 use Rattle.std.proofs.lemmas.Bool.{cases_eq}
 use Rattle.ts_packet.specs.declared.cell.Cell.{Cell}
@@ -12,13 +12,7 @@ use Rattle.chain_core.specs.Machine.{ChainState, Visit, StageState, progress_of_
 use Rattle.chain_core.specs.ChainRun.{ChainRun, state_after}
 use Rattle.chain_core.specs.Keeps.{KeepsList}
 use Rattle.chain_core.specs.Laws.{ChangesOneStage, LeavesOthers, NewsHold, NewsGrow}
-
-pub record MachineLaws : Type 0 where
-  pub changes : (plan : CorePlan) (state : ChainState) (visit : Visit) → ChangesOneStage plan state (visited plan state visit) visit
-  pub leaves : (plan : CorePlan) (visits : List Visit) (visit : Visit) → UsersArePlugins plan → ChainRun plan (visit ∷ visits) → LeavesOthers plan (state_after plan visits) (state_after plan (visit ∷ visits)) visit
-  pub hold : (plan : CorePlan) (visits : List Visit) (k : ℕ) → UsersArePlugins plan → ChainRun plan visits → NewsHold plan (state_after plan visits) k
-  pub grow : (plan : CorePlan) (visits : List Visit) (visit : Visit) → UsersArePlugins plan → ChainRun plan (visit ∷ visits) → NewsGrow plan (state_after plan visits) (state_after plan (visit ∷ visits))
-  pub keeps : (rule : PluginRule) (met all given : List Cell) (plugins k : ℕ) (ended : Option StageEnd) → IsPrefix met all → KeepsList plugins k (apply rule met) given ended → KeepsList plugins k (apply rule all) given ended
+use Rattle.chain_run.specs.Laws.{MachineLaws}
 
 -- the state behind one visit more
 pub after-visit : (plan : CorePlan) (visits : List Visit) (visit : Visit) → state_after plan (visit ∷ visits) ≡ visited plan (state_after plan visits) visit
