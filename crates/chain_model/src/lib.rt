@@ -5,8 +5,10 @@
 
 mod cause;
 mod input_end;
+mod laws;
 mod reason;
 
 pub use cause::Cause;
 pub use input_end::InputEnd;
+pub use laws::joint_is_at_the_cut;
 pub use reason::Reason;
