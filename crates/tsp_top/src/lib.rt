@@ -3,18 +3,22 @@
 #![tactic(auto)]
 
 mod call;
+mod driver;
 mod end_line;
 mod opening;
 mod planning;
+mod ready_chain;
 mod report;
 mod reporting;
 mod running;
 mod saying;
 mod status;
+mod steady_call;
 mod stream_law;
 mod words;
 
 pub use call::{serial_call, tsp_call};
 pub use chain_args::{WordsFault, WordsRule};
 pub use status::Status;
-pub use stream_law::headline;
+pub use steady_call::steady_call;
+pub use stream_law::{completeness, headline, memory_first, sizes_change_nothing};

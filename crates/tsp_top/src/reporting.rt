@@ -6,6 +6,8 @@ ghost use Rattle.chain_model.specs.Reports.{plugin_line, reports_from};
 ghost use Rattle.chain_model.specs.PluginRule.{PluginRule};
 ghost use Rattle.chain_model.specs.Apply.{StageList};
 ghost use Rattle.chain_run.specs.Met.{AllMetTo};
+ghost use Rattle.plug_set.specs.Rules.{rule_of};
+ghost use Rattle.tsp_top.specs.PlannedChain.{named_rule_of};
 ghost use Rattle.tsp_top.specs.PluginNames.{name_of};
 ghost use Rattle.tsp_top.specs.Reported.{ReachesCut};
 
@@ -54,11 +56,11 @@ pub(crate) fn push_reports<P: Plugin>(
     j: usize,
     cut: u64,
 ) -> Result<(), AllocError>
-    requires one_each { length confs.now ≡ length plugins.old }
+    requires same_rules { map P.rule plugins.old ≡ map rule_of confs.now }
     requires numbers { j + length plugins.old < 2 ^ 63 }
     requires reach { ReachesCut P.stands_for plugins.old cut j }
     ensures { (rules : List PluginRule) (input : StageList) → AllMetTo P.stands_for rules input cut j plugins.old
-        → OnOk result (string_bytes text.new ≡ string_bytes text.old ++ reports_from rules input cut j (map P.rule plugins.old) (map name_of confs.now)) }
+        → OnOk result (string_bytes text.new ≡ string_bytes text.old ++ reports_from rules input cut j (map named_rule_of confs.now)) }
 {
     let Some((first, rest)) = plugins.split_first_mut() else {
         return Ok(());

@@ -1,5 +1,6 @@
 use Rattle.std.proofs.Common.{ap, subst, ◌≡◌, ◌∙◌}
 use Rattle.ts_outside.specs.Desk.{DeskView}
+use Rattle.stage_run.specs.Seeing.{seeing}
 use Rattle.tsp_top.specs.Openings.{asked_input, asked_output, asked_output_in_vain, OpensOutput, input_closed_as}
 use Rattle.tsp_top.proofs.CallLemmas.{no-output-theorem, no-memory-theorem, open-failed, open-no-memory}
 use Rattle.tsp_top.proofs.RanTheorem.{ran-theorem}
@@ -11,9 +12,9 @@ returns-in-Ok g c = λ old asked opens.
     c.in-Ok.ensures.asked ∙ ap (λ (d : DeskView). asked_output d c.args.plan.now.output) asked in
     let opens_out : OpensOutput g.D.Out.Sink.seen (asked_input old c.args.plan.now.input) c.args.plan.now.output c.in-Ok.output =
     subst (λ (d : DeskView). OpensOutput g.D.Out.Sink.seen d c.args.plan.now.output c.in-Ok.output) asked c.in-Ok.ensures.part in
-    ran-theorem g.D.In.Source.seen g.D.Out.Sink.seen g.P.Plugin.rule g.P.Plugin.stands_for c.args.plan.now old
-    (g.D.Desk.seen c.open_output.new.desk) (g.D.Desk.seen c.run_opened.new.desk) c.args.input c.args.plugins.items c.in-Ok.output c.run_opened.result
-    made opens opens_out c.requires.rules c.run_opened.ensures
+    ran-theorem (seeing g.D.In.Source.seen g.D.Out.Sink.seen g.P.Plugin.rule g.P.Plugin.stands_for g.P.Plugin.steady) c.args.plan.now
+    c.args.ready.stuffing c.args.ready.core old (g.D.Desk.seen c.open_output.new.desk) (g.D.Desk.seen c.run_opened.new.desk)
+    c.args.input c.args.ready.plugins.items c.in-Ok.output c.run_opened.result made opens opens_out c.requires.ready c.run_opened.ensures
 
 pub returns-in-Err-Failed : goal.returns-in-Err-Failed
 returns-in-Err-Failed g c = λ old asked opens.
