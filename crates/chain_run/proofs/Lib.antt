@@ -13,4 +13,5 @@ pub mod TurnLaws
 pub mod StartLemmas
 pub mod CloseLemmas
 pub mod RunLemmas
+pub mod RunUses
 pub mod PartLemmas

@@ -1,5 +1,6 @@
 pub mod Fresh
 pub mod Met
+pub mod Rooms
 pub mod RunOf
 pub mod Slots
 pub mod Runs

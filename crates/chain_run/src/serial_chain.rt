@@ -43,6 +43,7 @@ impl<S: Source, K: Sink, P: Plugin> SerialChain<S, K, P> {
     ghost use Rattle.std.specs.List.{All};
     ghost use Rattle.chain_core.specs.CoreNumbers.{progress_of_core};
     ghost use Rattle.chain_core.specs.ChainRun.{AllEnded};
+    ghost use Rattle.stage_run.specs.Seeing.{seeing};
     ghost use Rattle.stage_run.specs.declared.stage_part.StagePart.{StagePart};
     ghost use Rattle.stage_run.specs.PartStands.{PartStands, MayWorkOnSome};
     ghost use Rattle.chain_run.specs.Runs.{RunStart, IsIdleOrOver, remaining_work};
@@ -57,9 +58,9 @@ impl<S: Source, K: Sink, P: Plugin> SerialChain<S, K, P> {
         requires written { news.now.written ≤ (progress_of_core self.old.core stage).given }
         requires given { (progress_of_core self.old.core stage).given ≤ news.now.taken }
         requires taken { news.now.taken ≤ 2 ^ 60 }
-        requires stands { (d : StagePart S K P) → MayWorkOnSome (PartStands S.seen K.seen P.rule P.stands_for (slice_index_or self.old.parts.items stage d)) (progress_of_core self.old.core stage).given news.now.written }
+        requires stands { (d : StagePart S K P) → MayWorkOnSome (PartStands (seeing S.seen K.seen P.rule P.stands_for P.steady) (slice_index_or self.old.parts.items stage d)) (progress_of_core self.old.core stage).given news.now.written }
         ensures core { self.new.core ≡ self.old.core }
-        ensures works { StageWorks S.seen K.seen P.rule P.stands_for self.old.parts.items self.new.parts.items self.old.cells.items self.new.cells.items
+        ensures works { StageWorks (seeing S.seen K.seen P.rule P.stands_for P.steady) self.old.parts.items self.new.parts.items self.old.cells.items self.new.cells.items
             stage (progress_of_core self.old.core stage).given news.now result }
     {
         let at = self.core.progress(stage).given;
@@ -71,11 +72,11 @@ impl<S: Source, K: Sink, P: Plugin> SerialChain<S, K, P> {
 
     /// The turn of a stage: it takes of the cells that wait, works, and gives on what it has done. Whether anything moved.
     fn turn<G: Gate>(&mut self, stage: usize, most: usize, gate: &G) -> bool
-        requires runs { IsRunningSomehow S.seen K.seen P.rule P.stands_for self.old.core self.old.parts.items self.old.cells.items }
+        requires runs { IsRunningSomehow (seeing S.seen K.seen P.rule P.stands_for P.steady) self.old.core self.old.parts.items self.old.cells.items }
         requires is_stage { stage ≤ suc self.old.core.plan.plugins }
         requires some { 1 ≤ most }
-        ensures runs { (begun : RunStart S K) → IsRunning S.seen K.seen P.rule P.stands_for begun self.old.core self.old.parts.items self.old.cells.items
-            → IsRunning S.seen K.seen P.rule P.stands_for begun self.new.core self.new.parts.items self.new.cells.items }
+        ensures runs { (begun : RunStart S K) → IsRunning (seeing S.seen K.seen P.rule P.stands_for P.steady) begun self.old.core self.old.parts.items self.old.cells.items
+            → IsRunning (seeing S.seen K.seen P.rule P.stands_for P.steady) begun self.new.core self.new.parts.items self.new.cells.items }
         ensures moved { result ≡ true → remaining_work (progress_of_core self.new.core) (self.old.core.plan.plugins + 2) < remaining_work (progress_of_core self.old.core) (self.old.core.plan.plugins + 2) }
         ensures rests { result ≡ false → progress_of_core self.new.core ≡ progress_of_core self.old.core }
         ensures idle { result ≡ false → IsIdleOrOver self.old.core.plan (progress_of_core self.new.core) stage }
@@ -97,11 +98,11 @@ impl<S: Source, K: Sink, P: Plugin> SerialChain<S, K, P> {
 
     /// The turns of all stages. Whether anything moved.
     fn turns<G: Gate>(&mut self, sizes: &[u32], next: &mut usize, gate: &G) -> bool
-        requires runs { IsRunningSomehow S.seen K.seen P.rule P.stands_for self.old.core self.old.parts.items self.old.cells.items }
+        requires runs { IsRunningSomehow (seeing S.seen K.seen P.rule P.stands_for P.steady) self.old.core self.old.parts.items self.old.cells.items }
         requires sizes { All (λ size. 1 ≤ size) sizes.now }
         requires next { next.old < length sizes.now }
-        ensures runs { (begun : RunStart S K) → IsRunning S.seen K.seen P.rule P.stands_for begun self.old.core self.old.parts.items self.old.cells.items
-            → IsRunning S.seen K.seen P.rule P.stands_for begun self.new.core self.new.parts.items self.new.cells.items }
+        ensures runs { (begun : RunStart S K) → IsRunning (seeing S.seen K.seen P.rule P.stands_for P.steady) begun self.old.core self.old.parts.items self.old.cells.items
+            → IsRunning (seeing S.seen K.seen P.rule P.stands_for P.steady) begun self.new.core self.new.parts.items self.new.cells.items }
         ensures moved { result ≡ true → remaining_work (progress_of_core self.new.core) (self.old.core.plan.plugins + 2) < remaining_work (progress_of_core self.old.core) (self.old.core.plan.plugins + 2) }
         ensures idle { result ≡ false → (stage : ℕ) → stage ≤ suc self.old.core.plan.plugins → IsIdleOrOver self.old.core.plan (progress_of_core self.new.core) stage }
         ensures plan { self.new.core.plan ≡ self.old.core.plan }
@@ -119,11 +120,11 @@ impl<S: Source, K: Sink, P: Plugin> SerialChain<S, K, P> {
 
     /// The turns of all stages. Whether anything moved: if nothing did, all stages have ended.
     fn round<G: Gate>(&mut self, sizes: &[u32], next: &mut usize, gate: &G) -> bool
-        requires runs { IsRunningSomehow S.seen K.seen P.rule P.stands_for self.old.core self.old.parts.items self.old.cells.items }
+        requires runs { IsRunningSomehow (seeing S.seen K.seen P.rule P.stands_for P.steady) self.old.core self.old.parts.items self.old.cells.items }
         requires sizes { All (λ size. 1 ≤ size) sizes.now }
         requires next { next.old < length sizes.now }
-        ensures runs { (begun : RunStart S K) → IsRunning S.seen K.seen P.rule P.stands_for begun self.old.core self.old.parts.items self.old.cells.items
-            → IsRunning S.seen K.seen P.rule P.stands_for begun self.new.core self.new.parts.items self.new.cells.items }
+        ensures runs { (begun : RunStart S K) → IsRunning (seeing S.seen K.seen P.rule P.stands_for P.steady) begun self.old.core self.old.parts.items self.old.cells.items
+            → IsRunning (seeing S.seen K.seen P.rule P.stands_for P.steady) begun self.new.core self.new.parts.items self.new.cells.items }
         ensures moved { result ≡ true → remaining_work (progress_of_core self.new.core) (self.old.core.plan.plugins + 2) < remaining_work (progress_of_core self.old.core) (self.old.core.plan.plugins + 2) }
         ensures over { result ≡ false → AllEnded self.new.core.plan (progress_of_core self.new.core) }
         ensures plan { self.new.core.plan ≡ self.old.core.plan }
@@ -135,11 +136,11 @@ impl<S: Source, K: Sink, P: Plugin> SerialChain<S, K, P> {
 
     /// Lets the stages take their turns until all of them have ended.
     pub(crate) fn run<G: Gate>(&mut self, sizes: &[u32], gate: &G)
-        requires runs { IsRunningSomehow S.seen K.seen P.rule P.stands_for self.old.core self.old.parts.items self.old.cells.items }
+        requires runs { IsRunningSomehow (seeing S.seen K.seen P.rule P.stands_for P.steady) self.old.core self.old.parts.items self.old.cells.items }
         requires sizes { All (λ size. 1 ≤ size) sizes.now }
         requires some { 0 < length sizes.now }
-        ensures runs { (begun : RunStart S K) → IsRunning S.seen K.seen P.rule P.stands_for begun self.old.core self.old.parts.items self.old.cells.items
-            → IsRunning S.seen K.seen P.rule P.stands_for begun self.new.core self.new.parts.items self.new.cells.items }
+        ensures runs { (begun : RunStart S K) → IsRunning (seeing S.seen K.seen P.rule P.stands_for P.steady) begun self.old.core self.old.parts.items self.old.cells.items
+            → IsRunning (seeing S.seen K.seen P.rule P.stands_for P.steady) begun self.new.core self.new.parts.items self.new.cells.items }
         ensures over { AllEnded self.new.core.plan (progress_of_core self.new.core) }
     {
         let mut next = 0;

@@ -2,6 +2,7 @@ ghost use Rattle.std.specs.Prelude.{◌≡◌, ◌≤◌, ◌<◌, length, vec_l
 ghost use Rattle.std.specs.List.{All};
 ghost use Rattle.chain_core.specs.CoreNumbers.{IsLawfulPlan, StandsFor};
 ghost use Rattle.chain_core.specs.Machine.{start};
+ghost use Rattle.stage_run.specs.Seeing.{seeing};
 ghost use Rattle.chain_run.specs.Fresh.{AreFresh};
 ghost use Rattle.chain_run.specs.RunOf.{RunOf, NeverBegan};
 
@@ -63,7 +64,7 @@ pub fn run_serial<S: Source, K: Sink, P: Plugin, G: Gate>(
     requires sizes { All (λ size. 1 ≤ size) sizes.now }
     requires some_size { 0 < length sizes.now }
     requires fresh { AreFresh P.stands_for stages.plugins.items }
-    ensures closed { IfOk result.closed (λ closed. RunOf S.seen K.seen P.rule P.stands_for stages.input result.input stages.stuffing stages.plugins.items result.plugins.items stages.output result.output plan.now closed) }
+    ensures closed { IfOk result.closed (λ closed. RunOf (seeing S.seen K.seen P.rule P.stands_for P.steady) stages.input result.input stages.stuffing stages.plugins.items result.plugins.items stages.output result.output plan.now closed) }
     ensures never_began { OnErr result.closed (NeverBegan stages.input result.input stages.plugins.items result.plugins.items stages.output result.output) }
 {
     let Stages {

@@ -1,5 +1,5 @@
 -- What one step of a plugin gives. This project's own rule.
-use Rattle.std.specs.Prelude.{◌≡◌, ℕ, ◌+◌, ◌<◌, List, [], ◌∷◌, ◌++◌, length, Option, Some}
+use Rattle.std.specs.Prelude.{◌≡◌, ℕ, ◌+◌, ◌<◌, ◌≤◌, List, [], ◌∷◌, ◌++◌, length, Option, None, Some}
 use Rattle.ts_packet.specs.declared.cell.Cell.{Cell}
 use Rattle.ts_packet.specs.declared.cell.Cell.TheVariants.{Live, Dropped}
 use Rattle.chain_model.specs.PluginRule.{PluginRule}
@@ -68,3 +68,8 @@ pub record HasRoom (steady : Option ℕ) (stands : List Cell → ℕ → Type 0)
   pub holds : stands history mark
   pub count : length history ≡ at
   pub within : at < mark + room
+
+-- room was made before the run for notes on so many positions behind the mark
+abbrev pub IsSteadyFor : Option ℕ → ℕ → Type 0
+IsSteadyFor None count = ⊥
+IsSteadyFor (Some room) count = count ≤ room

@@ -1,9 +1,10 @@
 -- What the steps of a plugin's stage do to what it stands for. This project's own rule.
-use Rattle.std.specs.Prelude.{◌≡◌, ℕ, ◌≤◌, List, length, Bool, true, false, Option, None, Some, is_some}
+use Rattle.std.specs.Prelude.{◌≡◌, ℕ, ◌≤◌, ◌+◌, ◌-◌, List, length, Bool, true, false, Option, None, Some, is_some}
 use Rattle.ts_packet.specs.declared.cell.Cell.{Cell}
 use Rattle.chain_model.specs.PluginRule.{PluginRule}
 use Rattle.chain_model.specs.Apply.{OwnEnd, last_passed, StageList}
 use Rattle.chain_model.specs.Joint.{agreement_of}
+use Rattle.plugin_trait.specs.Steps.{IsSteadyFor}
 use Rattle.plugin_trait.specs.declared.list_end.ListEnd.{ListEnd}
 use Rattle.plugin_trait.specs.declared.list_end.ListEnd.TheVariants.{Through}
 use Rattle.plugin_trait.specs.declared.list_end.ListEnd.TheVariants as left
@@ -53,8 +54,17 @@ pub record MayPass (stands : List Cell → ℕ → Type 0) (at written : ℕ) : 
   pub mark : ℕ
   pub allows : Allows stands at written history mark
 
--- the plugin stands for these cells, with a mark that is no more than this
-pub record StandsBelow (stands : List Cell → ℕ → Type 0) (history : List Cell) (written : ℕ) : Type 0 where
+-- the plugin stands for these cells; it was told this mark, but where memory was wanted, and no greater one
+pub record StandsTold (stands : List Cell → ℕ → Type 0) (history : List Cell) (written : ℕ) (end : ListEnd) : Type 0 where
   pub mark : ℕ
   pub holds : stands history mark
   pub below : mark ≤ written
+  pub told : (end ≡ left.NoMemory → ⊥) → mark ≡ written
+
+-- a plugin that stands for so many cells has room for the notes on `len` more, behind its mark
+pub record HasRoomFor (steady : Option ℕ) (stands : List Cell → ℕ → Type 0) (at len : ℕ) : Type 0 where
+  pub history : List Cell
+  pub mark : ℕ
+  pub holds : stands history mark
+  pub count : length history ≡ at
+  pub within : IsSteadyFor steady (at + len - mark)

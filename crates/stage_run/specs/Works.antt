@@ -24,6 +24,7 @@ use Rattle.stage_run.specs.declared.input_stage.InputStage.{InputStage}
 use Rattle.stage_run.specs.declared.output_stage.OutputStage.{OutputStage}
 use Rattle.stage_run.specs.declared.stage_part.StagePart.{StagePart}
 use Rattle.stage_run.specs.declared.stage_part.StagePart.TheVariants as part
+use Rattle.stage_run.specs.Seeing.{Seeing}
 use Rattle.stage_run.specs.PartLists.{PartLists}
 use Rattle.stage_run.specs.Feeds.{SameFeed}
 use Rattle.stage_run.specs.InputStands.{MayGive}
@@ -89,6 +90,8 @@ KeepsRule rule before cells given word plugins j =
 pub record PluginWorks (rule : PluginRule) (before : PartLists) (news : News) (cells cells_new : List Cell) (work : Work) (after : PartLists) : Type 0 where
   pub tells : PluginTells (apply rule (before.met ++ cells)) after.given news work.word.ended
   pub agreed : work.word.agreed ≡ newly_agreed (length before.given) (agreement_of rule after.met)
+  -- where there is a cell to work on the plugin was told what is written, but for want of memory
+  pub told : 0 < length cells → (work.word.ended ≡ Some NoMemory → ⊥) → after.mark ≡ news.written
   pub keeps : (plugins j : ℕ) → KeepsRule rule before cells (take work.done cells_new) work.word plugins j
 
 -- an output gives all its cells below the limit, but for a write fault: it ends before the cell whose packet was not
@@ -116,14 +119,15 @@ pub record OutputWorks {K : Type 0} (seen : K → SinkView) (old new : OutputSta
   pub keeps : (plugins : ℕ) → KeepsRule passing_rule before cells (take work.done cells_new) work.word plugins plugins
 
 -- what a part does, by its kind; no part changes its kind
-abbrev pub WorksByKind : {S K P : Type 0} → (S → SourceView) → (K → SinkView) → (P → PluginRule) → StagePart S K P → StagePart S K P → PartLists → News → List Cell → List Cell → Work → PartLists → Type 0
-WorksByKind source sink rule (part.Input old) (part.Input new) before news cells cells_new work after =
-    InputWorks source old new before news cells cells_new work after
-WorksByKind source sink rule (part.Plugin old) (part.Plugin new) before news cells cells_new work after =
-    PluginWorks (rule old.plugin) before news cells cells_new work after
-WorksByKind source sink rule (part.Output old) (part.Output new) before news cells cells_new work after =
-    OutputWorks sink old new before news cells cells_new work after
-WorksByKind source sink rule _ _ before news cells cells_new work after = ⊥
+abbrev pub WorksByKind : {S K P : Type 0} → Seeing S K P → StagePart S K P → StagePart S K P
+    → PartLists → News → List Cell → List Cell → Work → PartLists → Type 0
+WorksByKind see (part.Input old) (part.Input new) before news cells cells_new work after =
+    InputWorks see.source old new before news cells cells_new work after
+WorksByKind see (part.Plugin old) (part.Plugin new) before news cells cells_new work after =
+    PluginWorks (see.rule old.plugin) before news cells cells_new work after
+WorksByKind see (part.Output old) (part.Output new) before news cells cells_new work after =
+    OutputWorks see.sink old new before news cells cells_new work after
+WorksByKind see _ _ before news cells cells_new work after = ⊥
 
 -- a stage that stood for the lists `before` stands for the lists `after` now, and did what is to be done
 pub record Works (Stands : PartLists → Option StageEnd → Type 0) (Does : PartLists → Type 0) (before : PartLists) (written : ℕ) (cells cells_new : List Cell) (work : Work) : Type 0 where

@@ -214,6 +214,7 @@ impl<S: Source> InputStage<S> {
         ensures goes_on { result.word.ended ≡ None → result.done ≡ length cells.old }
         ensures follows { FollowsNews news.now (at + result.done) result.word.ended }
         ensures agreed { result.word.agreed ≡ None }
+        ensures memory { result.word.ended ≢ Some StageEnd.NoMemory }
         ensures same_stuffing { self.new.stuffing ≡ self.old.stuffing }
         ensures works { (lists : PartLists) → MayWork (InputStands S.seen self.old) at news.now.written lists
             → Works (InputStands S.seen self.new) (InputWorks S.seen self.old self.new lists news.now cells.old cells.new result)

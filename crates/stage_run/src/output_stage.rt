@@ -12,7 +12,7 @@ pub struct OutputStage<K> {
 }
 
 impl<K: Sink> OutputStage<K> {
-    ghost use Rattle.std.specs.Prelude.{◌≡◌, ℕ, ◌+◌, ◌^◌, ◌<◌, ◌≤◌, [], length, take, drop, Option, None, Some};
+    ghost use Rattle.std.specs.Prelude.{◌≡◌, ◌≢◌, ℕ, ◌+◌, ◌^◌, ◌<◌, ◌≤◌, [], length, take, drop, Option, None, Some};
     ghost use Rattle.chain_core.specs.declared.stage_end.StageEnd.{StageEnd};
     ghost use Rattle.ts_outside.specs.Source.{SourceView};
     ghost use Rattle.ts_outside.specs.Sink.{SinkView};
@@ -63,6 +63,7 @@ impl<K: Sink> OutputStage<K> {
         ensures goes_on { result.word.ended ≡ None → result.done ≡ length cells.old }
         ensures follows { FollowsNews news.now (at + result.done) result.word.ended }
         ensures agreed { result.word.agreed ≡ None }
+        ensures memory { result.word.ended ≢ Some StageEnd.NoMemory }
         ensures works { (lists : PartLists) → MayWork (OutputStands K.seen self.old) at news.now.written lists
             → Works (OutputStands K.seen self.new) (OutputWorks K.seen self.old self.new lists news.now cells.old cells.new result)
             lists news.now.written cells.old cells.new result }

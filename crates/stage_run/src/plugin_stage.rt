@@ -39,16 +39,16 @@ fn told(end: ListEnd, news: &News, now: u64) -> Option<StageEnd>
 }
 
 impl<P: Plugin> PluginStage<P> {
-    ghost use Rattle.std.specs.Prelude.{◌≡◌, ℕ, ◌+◌, ◌^◌, ◌<◌, ◌≤◌, List, [], ◌++◌, length, take, drop, Option, None, Some, is_some};
+    ghost use Rattle.std.specs.Prelude.{◌≡◌, ◌≢◌, ℕ, ◌+◌, ◌-◌, ◌^◌, ◌<◌, ◌≤◌, List, [], ◌++◌, length, take, drop, Option, None, Some, is_some};
     ghost use Rattle.ts_packet.specs.declared.cell.Cell.{Cell};
     ghost use Rattle.chain_model.specs.Apply.{apply_after};
     ghost use Rattle.chain_model.specs.Joint.{agreement_of};
     ghost use Rattle.chain_core.specs.declared.stage_end.StageEnd.{StageEnd};
     ghost use Rattle.ts_outside.specs.Source.{SourceView};
     ghost use Rattle.ts_outside.specs.Sink.{SinkView};
-    ghost use Rattle.plugin_trait.specs.Steps.{MeetsCells, MeetsSome};
+    ghost use Rattle.plugin_trait.specs.Steps.{MeetsCells, MeetsSome, IsSteadyFor};
     ghost use Rattle.plugin_trait.specs.Driving.{Makes};
-    ghost use Rattle.stage_run.specs.PluginSteps.{made_so_far, AgreesNow, TellsAgreement, Allows, MayPass, StandsBelow};
+    ghost use Rattle.stage_run.specs.PluginSteps.{made_so_far, AgreesNow, TellsAgreement, Allows, MayPass, StandsTold, HasRoomFor};
     ghost use Rattle.stage_run.specs.PartLists.{PartLists, fresh_lists};
     ghost use Rattle.stage_run.specs.PluginStands.{PluginStands};
     ghost use Rattle.stage_run.specs.PartStands.{MayWork, MayWorkOnSome};
@@ -59,6 +59,7 @@ impl<P: Plugin> PluginStage<P> {
     pub(crate) fn of(plugin: P) -> Self
         requires { MeetsCells (P.stands_for plugin) 0 }
         ensures rule { P.rule result.plugin ≡ P.rule plugin }
+        ensures steady { P.steady result.plugin ≡ P.steady plugin }
         ensures stands { (source : SourceView) (sink : SinkView) (mark : ℕ) → P.stands_for plugin [] mark
             → PluginStands P.rule P.stands_for result (fresh_lists source sink mark) None }
     {
@@ -106,6 +107,9 @@ impl<P: Plugin> PluginStage<P> {
             → self.old.agreed ≡ is_some (agreement_of (P.rule self.old.plugin) history)
             → TellsAgreement (P.rule self.old.plugin) (history ++ take result.done cells.old) at result.agreed self.new.agreed }
         ensures same_rule { P.rule self.new.plugin ≡ P.rule self.old.plugin }
+        ensures same_steady { P.steady self.new.plugin ≡ P.steady self.old.plugin }
+        ensures room { HasRoomFor (P.steady self.old.plugin) (P.stands_for self.old.plugin) at (length cells.old)
+            → result.end ≢ ListEnd.NoMemory }
     {
         let mut agreed = None;
         for (i, cell) in cells.iter_mut().enumerate() {
@@ -150,11 +154,13 @@ impl<P: Plugin> PluginStage<P> {
         ensures far { (history : List Cell) (mark : ℕ) → Allows (P.stands_for self.old.plugin) at written history mark
             → apply_after (P.rule self.old.plugin) history (take result.done cells.old) ≡ made_so_far (take result.done cells.new) result.end }
         ensures met { (history : List Cell) (mark : ℕ) → Allows (P.stands_for self.old.plugin) at written history mark
-            → StandsBelow (P.stands_for self.new.plugin) (history ++ take result.done cells.old) written }
+            → StandsTold (P.stands_for self.new.plugin) (history ++ take result.done cells.old) written result.end }
         ensures agreed { (history : List Cell) (mark : ℕ) → Allows (P.stands_for self.old.plugin) at written history mark
             → self.old.agreed ≡ is_some (agreement_of (P.rule self.old.plugin) history)
             → TellsAgreement (P.rule self.old.plugin) (history ++ take result.done cells.old) at result.agreed self.new.agreed }
         ensures same_rule { P.rule self.new.plugin ≡ P.rule self.old.plugin }
+        ensures same_steady { P.steady self.new.plugin ≡ P.steady self.old.plugin }
+        ensures room { IsSteadyFor (P.steady self.old.plugin) (at + length cells.old - written) → result.end ≢ ListEnd.NoMemory }
     {
         if self.plugin.note(written).is_err() {
             return Stepped {
@@ -177,6 +183,7 @@ impl<P: Plugin> PluginStage<P> {
     ) -> Work
         requires stands { MayWorkOnSome (PluginStands P.rule P.stands_for self.old) at news.now.written }
         requires written { news.now.written ≤ at }
+        requires in_hand { at + length cells.old ≤ news.now.taken }
         requires in_range { at + length cells.old ≤ 2 ^ 60 }
         ensures done { result.done ≤ length cells.old }
         ensures rest { drop result.done cells.new ≡ drop result.done cells.old }
@@ -184,6 +191,9 @@ impl<P: Plugin> PluginStage<P> {
         ensures follows { FollowsNews news.now (at + result.done) result.word.ended }
         ensures agreed { (agreed : ℕ) → result.word.agreed ≡ Some agreed → (at < agreed) × (agreed ≤ at + result.done) }
         ensures same_rule { P.rule self.new.plugin ≡ P.rule self.old.plugin }
+        ensures same_steady { P.steady self.new.plugin ≡ P.steady self.old.plugin }
+        ensures memory { result.word.ended ≡ Some StageEnd.NoMemory
+            → IsSteadyFor (P.steady self.old.plugin) (news.now.taken - news.now.written) → ⊥ }
         ensures works { (lists : PartLists) → MayWork (PluginStands P.rule P.stands_for self.old) at news.now.written lists
             → Works (PluginStands P.rule P.stands_for self.new) (PluginWorks (P.rule self.old.plugin) lists news.now cells.old cells.new result)
             lists news.now.written cells.old cells.new result }

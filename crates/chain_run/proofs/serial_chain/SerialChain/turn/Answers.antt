@@ -1,6 +1,7 @@
 use Rattle.std.proofs.Common.{◌≡◌, Option, None, Some, false, is_some, sym, ap, ◌∙◌, arith, inl, inr, refl}
 use Rattle.chain_core.specs.declared.progress.Progress.{Progress}
 use Rattle.chain_core.specs.CoreNumbers.{progress_of_core}
+use Rattle.stage_run.specs.Seeing.{seeing}
 use Rattle.chain_run.proofs.TurnLaws.{turn-written, turn-given, turn-taken, turn-stands, turn-may, turn-goes, turn-moves, turn-rests, turn-idle}
 use Rattle.chain_run.proofs.serial_chain.SerialChain.turn.Goals as goal
 
@@ -10,7 +11,7 @@ still-open (Some x) no_ = cc
 
 pub work-work-requires-clause-written : goal.work-work-requires-clause-written
 work-work-requires-clause-written g c κs within =
-    turn-written g.S.Source.seen g.K.Sink.seen g.P.Plugin.rule g.P.Plugin.stands_for c.args.self.now.core c.visit-news.new.self c.args.self.now.parts.items c.args.self.now.cells.items c.args.stage c.visit-news.result
+    turn-written (seeing g.S.Source.seen g.K.Sink.seen g.P.Plugin.rule g.P.Plugin.stands_for g.P.Plugin.steady) c.args.self.now.core c.visit-news.new.self c.args.self.now.parts.items c.args.self.now.cells.items c.args.stage c.visit-news.result
     (record {
       laws = record { changes = c.one_visit.ensures.changes; leaves = c.one_visit.ensures.leaves; hold = c.news_promises.ensures.hold; grow = c.news_promises.ensures.grow; keeps = c.more_cells.ensures.keeps };
       every = c.every_order.ensures.so_far;
@@ -24,7 +25,7 @@ work-work-requires-clause-written g c κs within =
 
 pub work-work-requires-clause-given : goal.work-work-requires-clause-given
 work-work-requires-clause-given g c κs within =
-    turn-given g.S.Source.seen g.K.Sink.seen g.P.Plugin.rule g.P.Plugin.stands_for c.args.self.now.core c.visit-news.new.self c.args.self.now.parts.items c.args.self.now.cells.items c.args.stage c.visit-news.result
+    turn-given (seeing g.S.Source.seen g.K.Sink.seen g.P.Plugin.rule g.P.Plugin.stands_for g.P.Plugin.steady) c.args.self.now.core c.visit-news.new.self c.args.self.now.parts.items c.args.self.now.cells.items c.args.stage c.visit-news.result
     (record {
       laws = record { changes = c.one_visit.ensures.changes; leaves = c.one_visit.ensures.leaves; hold = c.news_promises.ensures.hold; grow = c.news_promises.ensures.grow; keeps = c.more_cells.ensures.keeps };
       every = c.every_order.ensures.so_far;
@@ -38,7 +39,7 @@ work-work-requires-clause-given g c κs within =
 
 pub work-work-requires-clause-taken : goal.work-work-requires-clause-taken
 work-work-requires-clause-taken g c κs within =
-    turn-taken g.S.Source.seen g.K.Sink.seen g.P.Plugin.rule g.P.Plugin.stands_for c.args.self.now.core c.visit-news.new.self c.args.self.now.parts.items c.args.self.now.cells.items c.args.stage c.visit-news.result
+    turn-taken (seeing g.S.Source.seen g.K.Sink.seen g.P.Plugin.rule g.P.Plugin.stands_for g.P.Plugin.steady) c.args.self.now.core c.visit-news.new.self c.args.self.now.parts.items c.args.self.now.cells.items c.args.stage c.visit-news.result
     (record {
       laws = record { changes = c.one_visit.ensures.changes; leaves = c.one_visit.ensures.leaves; hold = c.news_promises.ensures.hold; grow = c.news_promises.ensures.grow; keeps = c.more_cells.ensures.keeps };
       every = c.every_order.ensures.so_far;
@@ -52,7 +53,7 @@ work-work-requires-clause-taken g c κs within =
 
 pub work-work-requires-clause-stands : goal.work-work-requires-clause-stands
 work-work-requires-clause-stands g c κs within =
-    turn-stands g.S.Source.seen g.K.Sink.seen g.P.Plugin.rule g.P.Plugin.stands_for c.args.self.now.core c.visit-news.new.self c.args.self.now.parts.items c.args.self.now.cells.items c.args.stage c.visit-news.result
+    turn-stands (seeing g.S.Source.seen g.K.Sink.seen g.P.Plugin.rule g.P.Plugin.stands_for g.P.Plugin.steady) c.args.self.now.core c.visit-news.new.self c.args.self.now.parts.items c.args.self.now.cells.items c.args.stage c.visit-news.result
     (record {
       laws = record { changes = c.one_visit.ensures.changes; leaves = c.one_visit.ensures.leaves; hold = c.news_promises.ensures.hold; grow = c.news_promises.ensures.grow; keeps = c.more_cells.ensures.keeps };
       every = c.every_order.ensures.so_far;
@@ -66,7 +67,7 @@ work-work-requires-clause-stands g c κs within =
 
 pub visit-requires : goal.visit-requires
 visit-requires g c =
-    turn-may g.S.Source.seen g.K.Sink.seen g.P.Plugin.rule g.P.Plugin.stands_for c.args.self.now.core c.visit-news.new.self c.args.self.now.parts.items c.args.self.now.cells.items c.args.stage c.visit-news.result
+    turn-may (seeing g.S.Source.seen g.K.Sink.seen g.P.Plugin.rule g.P.Plugin.stands_for g.P.Plugin.steady) c.args.self.now.core c.visit-news.new.self c.args.self.now.parts.items c.args.self.now.cells.items c.args.stage c.visit-news.result
     (record {
       laws = record { changes = c.one_visit.ensures.changes; leaves = c.one_visit.ensures.leaves; hold = c.news_promises.ensures.hold; grow = c.news_promises.ensures.grow; keeps = c.more_cells.ensures.keeps };
       every = c.every_order.ensures.so_far;
@@ -81,7 +82,7 @@ visit-requires g c =
 
 pub returns-then-work-gt0-clause-runs : goal.returns-then-work-gt0-clause-runs
 returns-then-work-gt0-clause-runs g c =
-    turn-goes g.S.Source.seen g.K.Sink.seen g.P.Plugin.rule g.P.Plugin.stands_for c.args.self.now.core c.visit-news.new.self c.args.self.now.parts.items c.args.self.now.cells.items c.args.stage c.visit-news.result
+    turn-goes (seeing g.S.Source.seen g.K.Sink.seen g.P.Plugin.rule g.P.Plugin.stands_for g.P.Plugin.steady) c.args.self.now.core c.visit-news.new.self c.args.self.now.parts.items c.args.self.now.cells.items c.args.stage c.visit-news.result
     (record {
       laws = record { changes = c.one_visit.ensures.changes; leaves = c.one_visit.ensures.leaves; hold = c.news_promises.ensures.hold; grow = c.news_promises.ensures.grow; keeps = c.more_cells.ensures.keeps };
       every = c.every_order.ensures.so_far;
@@ -96,7 +97,7 @@ returns-then-work-gt0-clause-runs g c =
 
 pub returns-then-work-gt0-clause-moved : goal.returns-then-work-gt0-clause-moved
 returns-then-work-gt0-clause-moved g c = λ moved.
-    turn-moves g.S.Source.seen g.K.Sink.seen g.P.Plugin.rule g.P.Plugin.stands_for c.args.self.now.core c.visit-news.new.self c.args.self.now.parts.items c.args.self.now.cells.items c.args.stage c.visit-news.result
+    turn-moves (seeing g.S.Source.seen g.K.Sink.seen g.P.Plugin.rule g.P.Plugin.stands_for g.P.Plugin.steady) c.args.self.now.core c.visit-news.new.self c.args.self.now.parts.items c.args.self.now.cells.items c.args.stage c.visit-news.result
     (record {
       laws = record { changes = c.one_visit.ensures.changes; leaves = c.one_visit.ensures.leaves; hold = c.news_promises.ensures.hold; grow = c.news_promises.ensures.grow; keeps = c.more_cells.ensures.keeps };
       every = c.every_order.ensures.so_far;
@@ -111,7 +112,7 @@ returns-then-work-gt0-clause-moved g c = λ moved.
 
 pub returns-else-work-gt0-clause-runs : goal.returns-else-work-gt0-clause-runs
 returns-else-work-gt0-clause-runs g c =
-    turn-goes g.S.Source.seen g.K.Sink.seen g.P.Plugin.rule g.P.Plugin.stands_for c.args.self.now.core c.visit-news.new.self c.args.self.now.parts.items c.args.self.now.cells.items c.args.stage c.visit-news.result
+    turn-goes (seeing g.S.Source.seen g.K.Sink.seen g.P.Plugin.rule g.P.Plugin.stands_for g.P.Plugin.steady) c.args.self.now.core c.visit-news.new.self c.args.self.now.parts.items c.args.self.now.cells.items c.args.stage c.visit-news.result
     (record {
       laws = record { changes = c.one_visit.ensures.changes; leaves = c.one_visit.ensures.leaves; hold = c.news_promises.ensures.hold; grow = c.news_promises.ensures.grow; keeps = c.more_cells.ensures.keeps };
       every = c.every_order.ensures.so_far;
@@ -126,7 +127,7 @@ returns-else-work-gt0-clause-runs g c =
 
 pub returns-else-work-gt0-clause-moved : goal.returns-else-work-gt0-clause-moved
 returns-else-work-gt0-clause-moved g c = λ moved.
-    turn-moves g.S.Source.seen g.K.Sink.seen g.P.Plugin.rule g.P.Plugin.stands_for c.args.self.now.core c.visit-news.new.self c.args.self.now.parts.items c.args.self.now.cells.items c.args.stage c.visit-news.result
+    turn-moves (seeing g.S.Source.seen g.K.Sink.seen g.P.Plugin.rule g.P.Plugin.stands_for g.P.Plugin.steady) c.args.self.now.core c.visit-news.new.self c.args.self.now.parts.items c.args.self.now.cells.items c.args.stage c.visit-news.result
     (record {
       laws = record { changes = c.one_visit.ensures.changes; leaves = c.one_visit.ensures.leaves; hold = c.news_promises.ensures.hold; grow = c.news_promises.ensures.grow; keeps = c.more_cells.ensures.keeps };
       every = c.every_order.ensures.so_far;
@@ -141,7 +142,7 @@ returns-else-work-gt0-clause-moved g c = λ moved.
 
 pub returns-else-work-gt0-clause-rests : goal.returns-else-work-gt0-clause-rests
 returns-else-work-gt0-clause-rests g c = λ rests.
-    turn-rests g.S.Source.seen g.K.Sink.seen g.P.Plugin.rule g.P.Plugin.stands_for c.args.self.now.core c.visit-news.new.self c.args.self.now.parts.items c.args.self.now.cells.items c.args.stage c.visit-news.result
+    turn-rests (seeing g.S.Source.seen g.K.Sink.seen g.P.Plugin.rule g.P.Plugin.stands_for g.P.Plugin.steady) c.args.self.now.core c.visit-news.new.self c.args.self.now.parts.items c.args.self.now.cells.items c.args.stage c.visit-news.result
     (record {
       laws = record { changes = c.one_visit.ensures.changes; leaves = c.one_visit.ensures.leaves; hold = c.news_promises.ensures.hold; grow = c.news_promises.ensures.grow; keeps = c.more_cells.ensures.keeps };
       every = c.every_order.ensures.so_far;
@@ -156,7 +157,7 @@ returns-else-work-gt0-clause-rests g c = λ rests.
 
 pub returns-else-work-gt0-clause-idle : goal.returns-else-work-gt0-clause-idle
 returns-else-work-gt0-clause-idle g c = λ rests open_.
-    turn-idle g.S.Source.seen g.K.Sink.seen g.P.Plugin.rule g.P.Plugin.stands_for c.args.self.now.core c.visit-news.new.self c.args.self.now.parts.items c.args.self.now.cells.items c.args.stage c.visit-news.result
+    turn-idle (seeing g.S.Source.seen g.K.Sink.seen g.P.Plugin.rule g.P.Plugin.stands_for g.P.Plugin.steady) c.args.self.now.core c.visit-news.new.self c.args.self.now.parts.items c.args.self.now.cells.items c.args.stage c.visit-news.result
     (record {
       laws = record { changes = c.one_visit.ensures.changes; leaves = c.one_visit.ensures.leaves; hold = c.news_promises.ensures.hold; grow = c.news_promises.ensures.grow; keeps = c.more_cells.ensures.keeps };
       every = c.every_order.ensures.so_far;

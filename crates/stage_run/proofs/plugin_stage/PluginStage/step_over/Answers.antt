@@ -1,15 +1,21 @@
-use Rattle.std.proofs.Common.{◌≡◌, ℕ, ◌<◌, ◌+◌, List, [], ◌∷◌, ◌++◌, length, take, drop, get_or, ap, refl, sym, subst, ◌∙◌, arith, length-append, length-take, append-nil, is_some}
+use Rattle.std.proofs.Common.{◌≡◌, ℕ, ◌<◌, ◌+◌, ◌-◌, List, Option, None, Some, [], ◌∷◌, ◌++◌, length, take, drop, get_or, ap, refl, sym, subst, ◌∙◌, arith, length-append, length-take, append-nil, is_some}
 use Rattle.std.proofs.lemmas.List.{take-set}
 use Rattle.ts_packet.specs.declared.cell.Cell.{Cell}
 use Rattle.chain_model.specs.PluginRule.{PluginRule}
 use Rattle.chain_model.specs.Apply.{StageList, became, apply_after}
 use Rattle.chain_model.specs.Joint.{agreement_of}
 use Rattle.chain_model.proofs.AgreementLaws.{agreement_of-within}
-use Rattle.plugin_trait.specs.Steps.{StepTells}
+use Rattle.plugin_trait.specs.Steps.{StepTells, HasRoom, IsSteadyFor}
 use Rattle.plugin_trait.proofs.Going.{half_goes_on, met-more, met_goes_on, tells_goes_on, read_at, same_behind}
 use Rattle.stage_run.proofs.FarLemmas.{far_goes_on, far_ends_after}
 use Rattle.stage_run.proofs.AgreeingLemmas.{agreed_step, newly_agreed-within}
 use Rattle.stage_run.proofs.plugin_stage.PluginStage.step_over.Goals as goal
+
+-- where room was made for more positions than this one, there is room for it
+room_at : (steady : Option ℕ) (stands : List Cell → ℕ → Type 0) (history : List Cell) (mark at end : ℕ) → stands history mark → length history ≡ at → at < end → IsSteadyFor steady (end - mark) → HasRoom steady stands at
+room_at None stands history mark at end holds count lt is = absurd is
+room_at (Some room) stands history mark at end holds count lt is =
+    record { room = room; is_steady = refl; history = history; mark = mark; holds = holds; count = count; within = omega arith }
 
 -- so many cells were met where the loop stands
 met_count : (history given : List Cell) (i at : ℕ) → length history ≡ at → i < length given → length (history ++ take i given) ≡ at + i
@@ -22,6 +28,7 @@ loop-i-init g c = record {
   far = λ history mark holds count. refl;
   rest = refl;
   same_rule = refl;
+  same_steady = refl;
   agreed = λ history mark holds count notes. record {
     tells = sym (newly_agreed-within c.args.at (agreement_of (g.P.Plugin.rule c.args.self.now.plugin) (history ++ []))
         (λ m is. let few = agreement_of-within (g.P.Plugin.rule c.args.self.now.plugin) (history ++ []) m is in omega (arith, length-append history [])));
@@ -71,6 +78,7 @@ loop-i-preserved g c =
           (c.loop-i.invariant.far history mark holds count) (tells_goes_on rule before cell c.step.new.cell c.step.result c.in-Pass.is goes);
       rest = same_behind _ _ i c.step.new.cell c.loop-i.invariant.rest;
       same_rule = ap g.P.Plugin.rule c.agree.ensures.plugin ∙ c.step.ensures.same_rule ∙ c.loop-i.invariant.same_rule;
+      same_steady = ap g.P.Plugin.steady c.agree.ensures.plugin ∙ c.step.ensures.same_steady ∙ c.loop-i.invariant.same_steady;
       agreed = λ history mark holds count notes.
           let before = history ++ take i cells in
           let n = met_count history cells i c.args.at count c.loop-i-test.true in
@@ -128,3 +136,13 @@ returns-in-Last-clause-far g c = λ history mark holds count.
     let fate = ap (λ (r : PluginRule). became r before cell) (sym c.loop-i.invariant.same_rule) ∙ told in
     far_ends_after rule history cells c.loop-i.cells i cell c.step.new.cell c.loop-i-test.true (omega arith) is
     (c.loop-i.invariant.far history mark holds count) fate
+
+pub returns-in-NoMemory-clause-room : goal.returns-in-NoMemory-clause-room
+returns-in-NoMemory-clause-room g c = λ has.
+    let cells : List Cell = c.args.cells.now in
+    let i : ℕ = c.loop-i.i in
+    let stands = c.loop-i.invariant.met has.history has.mark has.holds has.count in
+    let n = met_count has.history cells i c.args.at has.count c.loop-i-test.true in
+    let steady = subst (λ (s : Option ℕ). IsSteadyFor s (c.args.at + length cells - has.mark)) (sym c.loop-i.invariant.same_steady) has.within in
+    absurd (c.step.ensures.room (room_at (g.P.Plugin.steady c.loop-i.self.plugin) (g.P.Plugin.stands_for c.loop-i.self.plugin) (has.history ++ take i cells) has.mark (c.args.at + i)
+    (c.args.at + length cells) stands n (omega (arith, c.loop-i-test.true)) steady) c.in-NoMemory.is)

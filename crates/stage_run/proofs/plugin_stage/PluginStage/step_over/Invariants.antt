@@ -18,6 +18,7 @@ invariant-loop-i g l = record {
       → apply_after (g.P.Plugin.rule l.fn.self.plugin) history (take l.i l.fn.cells) ≡ made_so_far (take l.i l.cells) Through;
   rest : drop l.i l.cells ≡ drop l.i l.fn.cells;
   same_rule : g.P.Plugin.rule l.self.plugin ≡ g.P.Plugin.rule l.fn.self.plugin;
+  same_steady : g.P.Plugin.steady l.self.plugin ≡ g.P.Plugin.steady l.fn.self.plugin;
   agreed : (history : List Cell) (mark : ℕ) → g.P.Plugin.stands_for l.fn.self.plugin history mark → length history ≡ l.at
       → l.fn.self.agreed ≡ is_some (agreement_of (g.P.Plugin.rule l.fn.self.plugin) history)
       → TellsAgreement (g.P.Plugin.rule l.fn.self.plugin) (history ++ take l.i l.fn.cells) l.at l.agreed l.self.agreed;
