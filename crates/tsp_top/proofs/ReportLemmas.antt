@@ -54,6 +54,9 @@ report-of-cons rule stands rules input rest plugin conf later j cut lines met sa
       met = subst B (sym (add-one j)) met.1;
     }
 
+first-same : (a b : PluginRule) (as bs : List PluginRule) → a ∷ as ≡ b ∷ bs → a ≡ b
+first-same a b as bs e = cc
+
 pub report-split : {P : Type 0} (rule : P → PluginRule) (stands : P → List Cell → ℕ → Type 0) (rules : List PluginRule) (input : StageList)
     (plugins rest : List P) (plugin : P) (confs later : List PluginConf) (conf : PluginConf) (j cut : ℕ) (lines : List (List ℕ))
     → plugins ≡ plugin ∷ rest → confs ≡ conf ∷ later → map rule plugins ≡ map rule_of confs → AllMetTo stands rules input cut j plugins
@@ -64,7 +67,7 @@ report-split {P} rule stands rules input plugins rest plugin confs later conf j 
     let own : rule plugin ∷ map rule rest ≡ rule_of conf ∷ map rule_of later =
     sym (ap (λ (l : List P). map rule l) e) ∙ same ∙ ap (λ (l : List PluginConf). map rule_of l) f in
     let B : List PluginConf → Type 0 = λ l. ReportSplit stands rules input rest l later (name_of conf) j cut lines in
-    subst B (sym f) (report-of-cons rule stands rules input rest plugin conf later j cut lines (subst M e met) cc says)
+    subst B (sym f) (report-of-cons rule stands rules input rest plugin conf later j cut lines (subst M e met) (first-same (rule plugin) (rule_of conf) (map rule rest) (map rule_of later) own) says)
 
 -- the plugins behind the first have the rules of the settings behind the first
 pub rest-rules : {P : Type 0} (rule : P → PluginRule) (plugins rest : List P) (plugin : P) (confs later : List PluginConf) (conf : PluginConf)

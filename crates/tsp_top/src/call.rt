@@ -11,12 +11,13 @@ ghost use Rattle.tsp_top.specs.declared.status.Status.TheVariants.{NoMemory};
 
 use crate::driver::{Driver, OneThread};
 use crate::opening::{close_input, open_input, open_output};
-use crate::ready_chain::{ReadyChain, ready_chain};
+use crate::ready::{ReadyChain, ready_chain};
 use crate::running::run_opened;
 use crate::saying::say;
 use crate::status::Status;
 use crate::words::refuse_words;
 use chain_args::{Plan, WordsFault, plan};
+use plug_set::AnyPlugin;
 use plugin_trait::Plugin;
 use stage_run::InputPart;
 use std::alloc::{AllocError, Global};
@@ -61,45 +62,43 @@ pub fn serial_call<D: Desk, G: Gate>(
     ensures { CallsTsp (map string_bytes words.now) (D.seen desk.old) (D.seen desk.new) result }
 {
     match plan(alloc, words) {
-        Ok(plan) => call_plan(alloc, &OneThread, desk, &plan, gate),
+        Ok(plan) => call_plan(alloc, &OneThread { gate }, desk, &plan),
         Err(WordsFault::At { word, rule }) => refuse_words(alloc, desk, word, rule),
         Err(WordsFault::NoMemory) => Status::NoMemory,
     }
 }
 
 /// Does what a plan asks for.
-fn call_plan<X: Driver, D: Desk, G: Gate>(
+fn call_plan<D: Desk, X: Driver<D::In, D::Out, AnyPlugin>>(
     alloc: Global,
     driver: &X,
     desk: &mut D,
     plan: &Plan,
-    gate: &G,
 ) -> Status
     requires { IsLawfulPlan plan.now }
     ensures { StreamTheorem plan.now (D.seen desk.old) (D.seen desk.new) result
         ⊎ ((result ≡ NoMemory) × (D.seen desk.new ≡ D.seen desk.old)) }
 {
     match ready_chain(alloc, plan) {
-        Ok(ready) => open_and_run(alloc, driver, desk, plan, ready, gate),
+        Ok(ready) => open_and_run(alloc, driver, desk, plan, ready),
         Err(AllocError) => Status::NoMemory,
     }
 }
 
 /// Opens the input, and runs the chain behind it.
-fn open_and_run<X: Driver, P: Plugin + Drop + Send, D: Desk, G: Gate>(
+fn open_and_run<P: Plugin + Drop, D: Desk, X: Driver<D::In, D::Out, P>>(
     alloc: Global,
     driver: &X,
     desk: &mut D,
     plan: &Plan,
     ready: ReadyChain<P>,
-    gate: &G,
 ) -> Status
     requires { IsReady P.rule P.stands_for P.steady plan.now ready.stuffing ready.core ready.plugins.items }
     ensures { StreamTheorem plan.now (D.seen desk.old) (D.seen desk.new) result
         ⊎ ((result ≡ NoMemory) × (D.seen desk.new ≡ D.seen desk.old)) }
 {
     match open_input(desk, &plan.input) {
-        Ok(input) => run_behind(alloc, driver, desk, plan, input, ready, gate),
+        Ok(input) => run_behind(alloc, driver, desk, plan, input, ready),
         Err(OpenFault::Failed) => {
             say(desk, "tsp: cannot open input\n");
             Status::ReadFault
@@ -109,14 +108,13 @@ fn open_and_run<X: Driver, P: Plugin + Drop + Send, D: Desk, G: Gate>(
 }
 
 /// Opens the output, and runs the chain between the input and it.
-fn run_behind<X: Driver, P: Plugin + Drop + Send, D: Desk, G: Gate>(
+fn run_behind<P: Plugin + Drop, D: Desk, X: Driver<D::In, D::Out, P>>(
     alloc: Global,
     driver: &X,
     desk: &mut D,
     plan: &Plan,
     input: InputPart<D::In>,
     ready: ReadyChain<P>,
-    gate: &G,
 ) -> Status
     requires opened { ((old : DeskView) × OpensInput D.In.seen old plan.now.input input) }
     requires ready { IsReady P.rule P.stands_for P.steady plan.now ready.stuffing ready.core ready.plugins.items }
@@ -124,7 +122,7 @@ fn run_behind<X: Driver, P: Plugin + Drop + Send, D: Desk, G: Gate>(
         → OpensInput D.In.seen old plan.now.input input → StreamTheorem plan.now old (D.seen desk.new) result }
 {
     match open_output(desk, &plan.output) {
-        Ok(output) => run_opened(alloc, driver, desk, plan, input, ready, output, gate),
+        Ok(output) => run_opened(alloc, driver, desk, plan, input, ready, output),
         Err(OpenFault::Failed) => {
             close_input(desk, input);
             say(desk, "tsp: cannot open output\n");

@@ -4,7 +4,7 @@ ghost use Rattle.tsp_top.specs.Ran.{IsReady, RanOpened};
 
 use crate::driver::Driver;
 use crate::opening::{close_input, close_output};
-use crate::ready_chain::ReadyChain;
+use crate::ready::ReadyChain;
 use crate::report::report_run;
 use crate::status::Status;
 use chain_args::Plan;
@@ -12,10 +12,10 @@ use chain_run::{RunEnd, Stages};
 use plugin_trait::Plugin;
 use stage_run::{InputPart, OutputPart};
 use std::alloc::{AllocError, Global};
-use ts_outside::{Desk, Gate};
+use ts_outside::Desk;
 
 /// Runs the chain, closes both ends, and reports.
-pub(crate) fn run_opened<X: Driver, P: Plugin + Drop + Send, D: Desk, G: Gate>(
+pub(crate) fn run_opened<P: Plugin + Drop, D: Desk, X: Driver<D::In, D::Out, P>>(
     alloc: Global,
     driver: &X,
     desk: &mut D,
@@ -23,7 +23,6 @@ pub(crate) fn run_opened<X: Driver, P: Plugin + Drop + Send, D: Desk, G: Gate>(
     input: InputPart<D::In>,
     ready: ReadyChain<P>,
     output: OutputPart<D::Out>,
-    gate: &G,
 ) -> Status
     requires { IsReady P.rule P.stands_for P.steady plan.now ready.stuffing ready.core ready.plugins.items }
     ensures { RanOpened (seeing D.In.seen D.Out.seen P.rule P.stands_for P.steady) plan.now ready.stuffing ready.core (D.seen desk.old) (D.seen desk.new) input ready.plugins.items output result }
@@ -44,7 +43,7 @@ pub(crate) fn run_opened<X: Driver, P: Plugin + Drop + Send, D: Desk, G: Gate>(
         mut plugins,
         output,
         closed,
-    } = driver.run(alloc, stages, &core, gate);
+    } = driver.run(alloc, stages, &core);
     close_input(desk, input);
     let closing = close_output(desk, output);
     match closed {

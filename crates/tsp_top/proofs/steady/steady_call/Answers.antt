@@ -1,7 +1,7 @@
 use Rattle.std.proofs.Common.{inl, inr}
 use Rattle.ts_outside.specs.Steady.{steady_desk}
 use Rattle.tsp_top.proofs.SteadyLemmas.{steady-fails_not, steady-tells}
-use Rattle.tsp_top.proofs.steady_call.steady_call.Goals as goal
+use Rattle.tsp_top.proofs.steady.steady_call.Goals as goal
 
 pub returns : goal.returns
 returns c = λ plan is.
