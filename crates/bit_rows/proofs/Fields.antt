@@ -1,10 +1,24 @@
 -- Fields cut in two, fields inside one byte, and writes to them.
 use Rattle.std.proofs.Common.{◌≡◌, ℕ, zero, suc, ◌+◌, ◌-◌, ◌*◌, ◌/◌, ◌%◌, ◌^◌, ◌<◌, ◌≤◌, List, length, set, slice_index, refl, sym, ◌∙◌, ap, arith, inl, inr, add-zero, add-suc, length-set, get_or-set_same, get_or-set_other}
 use Rattle.std.proofs.Math.Nat.{pow-suc}
-use Rattle.std.proofs.lemmas.Nat.{shr-shr, mod-pow-add, shr_split}
-use Rattle.std.proofs.lemmas.Nat.Bits.{bit_at_cat_low}
+use Rattle.std.proofs.lemmas.Nat.{shr-shr, mod-pow-add, shr_split, shr_high, mod_low}
+use Rattle.std.proofs.lemmas.Nat.Bits.{bit_at_cat_low, bit_at-lt}
 use Rattle.std.proofs.lemmas.Bool.{cases_eq}
 use Rattle.bit_rows.specs.BitRow.{bit_of, field, SetsField}
+
+-- a bit is 0 or 1
+pub bit_of-below : (row : List ℕ) (i : ℕ) → bit_of row i < 2
+unfolding bit_of
+bit_of-below row i = bit_at-lt (slice_index row (i / 8)) (7 - i % 8)
+
+-- a field of no bits, and one of one bit more
+pub field-zero : (row : List ℕ) (at : ℕ) → field row at 0 ≡ 0
+unfolding field
+field-zero row at = refl
+
+pub field-suc : (row : List ℕ) (at n : ℕ) → field row at (suc n) ≡ 2 * field row at n + bit_of row (at + n)
+unfolding field
+field-suc row at n = refl
 
 -- a bit by its byte and its place there
 pub bit_of-in_byte : (row : List ℕ) (k r : ℕ) → r < 8 → bit_of row (8 * k + r) ≡ slice_index row k / 2 ^ (7 - r) % 2
@@ -55,14 +69,21 @@ field-below row at (suc n) =
     let bit : slice_index row ((at + n) / 8) / 2 ^ (7 - (at + n) % 8) % 2 < 2 = omega arith in
     rw pow-suc (omega arith)
 
+-- the middle of a field
+pub field-part : (row : List ℕ) (at a b c : ℕ) → field row at (a + b + c) / 2 ^ c % 2 ^ b ≡ field row (at + a) b
+field-part row at a b c =
+    rw (field-split row at (a + b) c, shr_high (field row at (a + b)) c (field row (at + (a + b)) c) (field-below _ _ _), field-split row at a b)
+    (mod_low (field row at a) b (field row (at + a) b) (field-below _ _ _))
+
+-- rows that agree on the bits of a field, each from a place of its own on, agree on the field
+pub field-moved : (row other : List ℕ) (at shift n : ℕ) → ((i : ℕ) → i < n → bit_of row (at + i) ≡ bit_of other (shift + i)) → field row at n ≡ field other shift n
+field-moved row other at shift zero same = field-zero row at ∙ sym (field-zero other shift)
+field-moved row other at shift (suc n) same =
+    rw (field-suc row at n, field-suc other shift n, field-moved row other at shift n (λ i h. same i (omega arith)), same n (omega arith)) refl
+
 -- two rows with the same bits there have the same field there
 pub field-same : (old new : List ℕ) (at n : ℕ) → ((i : ℕ) → at ≤ i → i < at + n → bit_of new i ≡ bit_of old i) → field new at n ≡ field old at n
-unfolding field
-field-same old new at zero h = refl
-field-same old new at (suc n) h =
-    let ih = field-same old new at n (λ i low high. h i low (omega arith)) in
-    let last = h (at + n) (omega arith) (omega arith) in
-    omega arith
+field-same old new at n h = field-moved new old at at n (λ i inside. h (at + i) (omega arith) (omega arith))
 
 -- to set a field and then the one behind it is to set both as one
 pub SetsField-join : (a b c : List ℕ) (at m n u w : ℕ) → SetsField a b at m u → SetsField b c (at + m) n w → SetsField a c at (m + n) (u * 2 ^ n + w)

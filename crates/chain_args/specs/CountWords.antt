@@ -4,13 +4,14 @@ use Rattle.std.specs.Prelude.{List, [], ◌∷◌, codes, true, unwrap_or}
 use Rattle.plug_conf.specs.Lawful.{go_together}
 use Rattle.plug_conf.specs.declared.plugin_conf.PluginConf.{PluginConf}
 use Rattle.plug_conf.specs.declared.plugin_conf.PluginConf.TheVariants.{Count}
+use Rattle.plug_conf.specs.declared.limits.TheConstants.{LAST_PID}
 use Rattle.chain_args.specs.Forms.{ranges}
 use Rattle.chain_args.specs.Options.{OptionRow, flag, has_flag, read_value, value}
 use Rattle.chain_args.specs.OptionTable.{OptionTable}
 use Rattle.chain_args.specs.Ranges.{ranges_of}
 
 abbrev pub count_rows : List OptionRow
-count_rows = record { name = codes "pid"; kind = value (ranges 8191) }
+count_rows = record { name = codes "pid"; kind = value (ranges LAST_PID) }
     ∷ record { name = codes "negate"; kind = flag }
     ∷ record { name = codes "all"; kind = flag }
     ∷ record { name = codes "total"; kind = flag }
@@ -22,7 +23,7 @@ count = record {
   rows = count_rows;
   has_needed = λ found. true;
   settings = λ found. Count (record {
-    pid = unwrap_or (read_value (ranges_of 8191) (codes "pid") found) [];
+    pid = unwrap_or (read_value (ranges_of LAST_PID) (codes "pid") found) [];
     negate = has_flag (codes "negate") found;
     all = has_flag (codes "all") found;
     total = has_flag (codes "total") found;

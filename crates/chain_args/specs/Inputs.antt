@@ -2,6 +2,7 @@
 -- This project's own rule.
 use Rattle.std.specs.Prelude.{ℕ, List, [], ◌∷◌, None, Option, Some, codes, if◌then◌else◌, true, unwrap_or}
 use Rattle.std.specs.Str.{bytes_eq}
+use Rattle.plug_conf.specs.declared.limits.TheConstants.{MOST_PACKETS}
 use Rattle.chain_args.specs.Forms.{number, text}
 use Rattle.chain_args.specs.Number.{number_within}
 use Rattle.chain_args.specs.Options.{has_value, operand, read_value, value_of}
@@ -23,10 +24,10 @@ file_input = record {
 -- `null`: so many packets, 0 to 2^40
 abbrev pub null_input : OptionTable InputConf
 null_input = record {
-  rows = record { name = codes "count"; kind = operand (number 0 1099511627776) } ∷ [];
+  rows = record { name = codes "count"; kind = operand (number 0 MOST_PACKETS) } ∷ [];
   has_needed = has_value (codes "count");
   settings = λ found.
-      Null (unwrap_or (read_value (number_within 0 1099511627776) (codes "count") found) 0);
+      Null (unwrap_or (read_value (number_within 0 MOST_PACKETS) (codes "count") found) 0);
   go_together = λ conf. true;
 }
 

@@ -3,6 +3,7 @@
 use Rattle.std.specs.Prelude.{ℕ, ◌≤◌, length, IfSome}
 use Rattle.std.specs.List.{All}
 use Rattle.plug_conf.specs.Lawful.{IsLawful}
+use Rattle.plug_conf.specs.declared.limits.TheConstants.{MOST_PACKETS}
 use Rattle.chain_args.specs.Rules.{most_plugins}
 use Rattle.chain_args.specs.declared.general_conf.GeneralConf.{GeneralConf}
 use Rattle.chain_args.specs.declared.input_conf.InputConf.{InputConf}
@@ -27,7 +28,7 @@ pub record IsLawfulGeneral (c : GeneralConf) : Type 0 where
 -- `null` has at most 2^40 packets
 abbrev pub IsLawfulInput : InputConf → Type 0
 IsLawfulInput (File name) = Unit {0}
-IsLawfulInput (Null count) = count ≤ 1099511627776
+IsLawfulInput (Null count) = count ≤ MOST_PACKETS
 
 pub record IsLawfulPlan (p : Plan) : Type 0 where
   pub general : IsLawfulGeneral p.general

@@ -4,6 +4,8 @@ use Rattle.std.specs.Prelude.{List, [], ◌∷◌, codes, unwrap_or}
 use Rattle.plug_conf.specs.Lawful.{go_together}
 use Rattle.plug_conf.specs.declared.plugin_conf.PluginConf.{PluginConf}
 use Rattle.plug_conf.specs.declared.plugin_conf.PluginConf.TheVariants.{Pattern}
+use Rattle.ts_packet.specs.declared.numbers.TheConstants.{PAYLOAD_SIZE}
+use Rattle.plug_conf.specs.declared.limits.TheConstants.{LAST_OFFSET, LAST_PID}
 use Rattle.chain_args.specs.Forms.{bytes, number, ranges}
 use Rattle.chain_args.specs.Options.{OptionRow, flag, has_flag, has_value, operand, read_value, value}
 use Rattle.chain_args.specs.OptionTable.{OptionTable}
@@ -12,10 +14,10 @@ use Rattle.chain_args.specs.Number.{number_within}
 use Rattle.chain_args.specs.Ranges.{ranges_of}
 
 abbrev pub pattern_rows : List OptionRow
-pattern_rows = record { name = codes "operand"; kind = operand (bytes 1 184) }
-    ∷ record { name = codes "pid"; kind = value (ranges 8191) }
-    ∷ record { name = codes "offset-pusi"; kind = value (number 0 183) }
-    ∷ record { name = codes "offset-non-pusi"; kind = value (number 0 183) }
+pattern_rows = record { name = codes "operand"; kind = operand (bytes 1 PAYLOAD_SIZE) }
+    ∷ record { name = codes "pid"; kind = value (ranges LAST_PID) }
+    ∷ record { name = codes "offset-pusi"; kind = value (number 0 LAST_OFFSET) }
+    ∷ record { name = codes "offset-non-pusi"; kind = value (number 0 LAST_OFFSET) }
     ∷ record { name = codes "negate"; kind = flag }
     ∷ []
 
@@ -25,11 +27,11 @@ pattern = record {
   rows = pattern_rows;
   has_needed = has_value (codes "operand");
   settings = λ found. Pattern (record {
-    operand = unwrap_or (read_value (bytes_of 1 184) (codes "operand") found) [];
-    pid = unwrap_or (read_value (ranges_of 8191) (codes "pid") found) [];
+    operand = unwrap_or (read_value (bytes_of 1 PAYLOAD_SIZE) (codes "operand") found) [];
+    pid = unwrap_or (read_value (ranges_of LAST_PID) (codes "pid") found) [];
     negate = has_flag (codes "negate") found;
-    offset_pusi = read_value (number_within 0 183) (codes "offset-pusi") found;
-    offset_non_pusi = read_value (number_within 0 183) (codes "offset-non-pusi") found;
+    offset_pusi = read_value (number_within 0 LAST_OFFSET) (codes "offset-pusi") found;
+    offset_non_pusi = read_value (number_within 0 LAST_OFFSET) (codes "offset-non-pusi") found;
   });
   go_together = go_together;
 }

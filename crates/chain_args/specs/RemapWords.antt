@@ -4,6 +4,7 @@ use Rattle.std.specs.Prelude.{ℕ, ◌==◌, ◌&&◌, List, [], ◌∷◌, Opti
 use Rattle.plug_conf.specs.Lawful.{go_together}
 use Rattle.plug_conf.specs.declared.plugin_conf.PluginConf.{PluginConf}
 use Rattle.plug_conf.specs.declared.plugin_conf.PluginConf.TheVariants.{Remap}
+use Rattle.plug_conf.specs.declared.limits.TheConstants.{LAST_PID}
 use Rattle.chain_args.specs.Forms.{pair}
 use Rattle.chain_args.specs.Options.{OptionRow, flag, has_flag, operands, values_of}
 use Rattle.chain_args.specs.OptionTable.{OptionTable}
@@ -15,12 +16,12 @@ equals_sign = 61
 
 -- a source and a target
 abbrev pub pid_pair_of : List ℕ → Option (ℕ × ℕ)
-pid_pair_of = pair_of equals_sign (0, 8191) (0, 8191)
+pid_pair_of = pair_of equals_sign (0, LAST_PID) (0, LAST_PID)
 
 abbrev pub remap_rows : List OptionRow
 remap_rows = record {
   name = codes "operand";
-  kind = operands (pair equals_sign (0, 8191) (0, 8191));
+  kind = operands (pair equals_sign (0, LAST_PID) (0, LAST_PID));
 }
     ∷ record { name = codes "no-psi"; kind = flag }
     ∷ record { name = codes "unchecked"; kind = flag }

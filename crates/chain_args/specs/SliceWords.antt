@@ -5,6 +5,7 @@ use Rattle.clap.specs.Walk.{Row}
 use Rattle.plug_conf.specs.Lawful.{go_together}
 use Rattle.plug_conf.specs.declared.plugin_conf.PluginConf.{PluginConf}
 use Rattle.plug_conf.specs.declared.plugin_conf.PluginConf.TheVariants.{Slice}
+use Rattle.plug_conf.specs.declared.limits.TheConstants.{MOST_NUMBER}
 use Rattle.chain_args.specs.Forms.{Form, number}
 use Rattle.chain_args.specs.Options.{OptionRow, has_value, read_value, value}
 use Rattle.chain_args.specs.OptionTable.{OptionTable}
@@ -12,7 +13,7 @@ use Rattle.chain_args.specs.Number.{number_within}
 
 -- a number of packets, 0 to 2^60
 abbrev pub slice_form : Form
-slice_form = number 0 1152921504606846976
+slice_form = number 0 MOST_NUMBER
 
 abbrev pub slice_rows : List OptionRow
 slice_rows = record { name = codes "drop"; kind = value slice_form }
@@ -22,7 +23,7 @@ slice_rows = record { name = codes "drop"; kind = value slice_form }
     ∷ []
 
 abbrev pub slice_number : List ℕ → List Row → Option ℕ
-slice_number = read_value (number_within 0 1152921504606846976)
+slice_number = read_value (number_within 0 MOST_NUMBER)
 
 -- one of the four has to be given
 abbrev pub slice : OptionTable PluginConf

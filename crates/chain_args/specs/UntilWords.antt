@@ -5,6 +5,7 @@ use Rattle.clap.specs.Walk.{Row}
 use Rattle.plug_conf.specs.Lawful.{go_together}
 use Rattle.plug_conf.specs.declared.plugin_conf.PluginConf.{PluginConf}
 use Rattle.plug_conf.specs.declared.plugin_conf.PluginConf.TheVariants.{Until}
+use Rattle.plug_conf.specs.declared.limits.TheConstants.{MOST_NUMBER}
 use Rattle.chain_args.specs.Forms.{Form, number}
 use Rattle.chain_args.specs.Options.{OptionRow, flag, has_flag, has_value, read_value, value}
 use Rattle.chain_args.specs.OptionTable.{OptionTable}
@@ -12,7 +13,7 @@ use Rattle.chain_args.specs.Number.{number_within}
 
 -- a count, 1 to 2^60
 abbrev pub until_form : Form
-until_form = number 1 1152921504606846976
+until_form = number 1 MOST_NUMBER
 
 abbrev pub until_rows : List OptionRow
 until_rows = record { name = codes "packets"; kind = value until_form }
@@ -23,7 +24,7 @@ until_rows = record { name = codes "packets"; kind = value until_form }
     ∷ []
 
 abbrev pub until_number : List ℕ → List Row → Option ℕ
-until_number = read_value (number_within 1 1152921504606846976)
+until_number = read_value (number_within 1 MOST_NUMBER)
 
 -- one of the three counts has to be given
 abbrev pub until : OptionTable PluginConf

@@ -10,11 +10,8 @@ use crate::commands::{new_command, with_flag, with_value};
 use crate::parsed_options::ParsedOptions;
 use crate::refusal::Refusal;
 use clap::Command;
-use plug_conf::{ContinuityConf, PluginConf};
+use plug_conf::{ContinuityConf, PluginConf, LAST_PID};
 use std::alloc::{AllocError, Global};
-
-/// The greatest PID.
-const LAST_PID: u64 = 8191;
 
 fn continuity_command<'a>(alloc: Global) -> Result<Command<'a>, AllocError>
     ensures { IfOk result (λ c. app_of c ≡ command_of continuity_rows) }

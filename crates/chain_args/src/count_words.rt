@@ -10,11 +10,8 @@ use crate::commands::{new_command, with_flag, with_value};
 use crate::parsed_options::ParsedOptions;
 use crate::refusal::Refusal;
 use clap::Command;
-use plug_conf::{CountConf, PluginConf};
+use plug_conf::{CountConf, PluginConf, LAST_PID};
 use std::alloc::{AllocError, Global};
-
-/// The greatest PID.
-const LAST_PID: u64 = 8191;
 
 fn count_command<'a>(alloc: Global) -> Result<Command<'a>, AllocError>
     ensures { IfOk result (λ c. app_of c ≡ command_of count_rows) }

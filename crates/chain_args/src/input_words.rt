@@ -12,10 +12,8 @@ use crate::input_conf::InputConf;
 use crate::parsed_options::ParsedOptions;
 use crate::refusal::Refusal;
 use crate::words_rule::WordsRule;
+use plug_conf::MOST_PACKETS;
 use std::alloc::Global;
-
-/// The most packets of `null`, 2^40.
-const MOST_NULLS: u64 = 1 << 40;
 
 /// The inputs by name.
 #[derive(Clone, Copy)]
@@ -73,6 +71,6 @@ fn null_settings(found: &ParsedOptions) -> Result<InputConf, Refusal>
     if !found.has_value("count") {
         return Err(Refusal::Broken(WordsRule::Missing));
     }
-    let count = found.number("count", 0, MOST_NULLS)?;
+    let count = found.number("count", 0, MOST_PACKETS)?;
     Ok(InputConf::Null(count.unwrap_or(0)))
 }

@@ -11,17 +11,9 @@ use crate::parsed_options::ParsedOptions;
 use crate::refusal::Refusal;
 use crate::words_rule::WordsRule;
 use clap::Command;
-use plug_conf::{PatternConf, PluginConf};
+use plug_conf::{LAST_OFFSET, LAST_PID, PatternConf, PluginConf};
 use std::alloc::{AllocError, Global};
-
-/// The greatest PID.
-const LAST_PID: u64 = 8191;
-
-/// The most bytes of a payload.
-const MOST_BYTES: usize = 184;
-
-/// The greatest offset in a payload.
-const LAST_OFFSET: u64 = 183;
+use ts_packet::PAYLOAD_SIZE;
 
 fn pattern_command<'a>(alloc: Global) -> Result<Command<'a>, AllocError>
     ensures { IfOk result (λ c. app_of c ≡ command_of pattern_rows) }
@@ -40,7 +32,7 @@ fn pattern_settings(alloc: Global, found: &ParsedOptions) -> Result<PluginConf, 
     if !found.has_value("operand") {
         return Err(Refusal::Broken(WordsRule::Missing));
     }
-    let operand = found.bytes(alloc, "operand", 1, MOST_BYTES)?;
+    let operand = found.bytes(alloc, "operand", 1, PAYLOAD_SIZE)?;
     let pid = found.ranges(alloc, "pid", LAST_PID)?;
     let offset_pusi = found.number("offset-pusi", 0, LAST_OFFSET)?;
     let offset_non_pusi = found.number("offset-non-pusi", 0, LAST_OFFSET)?;

@@ -11,11 +11,8 @@ use crate::parsed_options::ParsedOptions;
 use crate::refusal::Refusal;
 use crate::words_rule::WordsRule;
 use clap::Command;
-use plug_conf::{PluginConf, RemapConf};
+use plug_conf::{PluginConf, RemapConf, LAST_PID};
 use std::alloc::{AllocError, Global};
-
-/// The greatest PID.
-const LAST_PID: u64 = 8191;
 
 fn remap_command<'a>(alloc: Global) -> Result<Command<'a>, AllocError>
     ensures { IfOk result (λ c. app_of c ≡ command_of remap_rows) }

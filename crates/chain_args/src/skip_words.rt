@@ -11,11 +11,8 @@ use crate::parsed_options::ParsedOptions;
 use crate::refusal::Refusal;
 use crate::words_rule::WordsRule;
 use clap::Command;
-use plug_conf::{PluginConf, SkipConf};
+use plug_conf::{PluginConf, SkipConf, MOST_PACKETS};
 use std::alloc::{AllocError, Global};
-
-/// The most packets, 2^40.
-const MOST_PACKETS: u64 = 1 << 40;
 
 fn skip_command<'a>(alloc: Global) -> Result<Command<'a>, AllocError>
     ensures { IfOk result (λ c. app_of c ≡ command_of skip_rows) }

@@ -11,11 +11,8 @@ use crate::parsed_options::ParsedOptions;
 use crate::refusal::Refusal;
 use crate::words_rule::WordsRule;
 use clap::Command;
-use plug_conf::{PluginConf, SliceConf};
+use plug_conf::{PluginConf, SliceConf, MOST_NUMBER};
 use std::alloc::{AllocError, Global};
-
-/// The greatest number, 2^60.
-const MOST_NUMBER: u64 = 1 << 60;
 
 fn slice_command<'a>(alloc: Global) -> Result<Command<'a>, AllocError>
     ensures { IfOk result (λ c. app_of c ≡ command_of slice_rows) }

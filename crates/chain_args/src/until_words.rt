@@ -11,11 +11,8 @@ use crate::parsed_options::ParsedOptions;
 use crate::refusal::Refusal;
 use crate::words_rule::WordsRule;
 use clap::Command;
-use plug_conf::{PluginConf, UntilConf};
+use plug_conf::{PluginConf, UntilConf, MOST_NUMBER};
 use std::alloc::{AllocError, Global};
-
-/// The greatest count, 2^60.
-const MOST_COUNT: u64 = 1 << 60;
 
 fn until_command<'a>(alloc: Global) -> Result<Command<'a>, AllocError>
     ensures { IfOk result (λ c. app_of c ≡ command_of until_rows) }
@@ -38,9 +35,9 @@ fn until_settings(found: &ParsedOptions) -> Result<PluginConf, Refusal>
         return Err(Refusal::Broken(WordsRule::Missing));
     }
     let conf = UntilConf {
-        packets: found.number("packets", 1, MOST_COUNT)?,
-        bytes: found.number("bytes", 1, MOST_COUNT)?,
-        unit_start_count: found.number("unit-start-count", 1, MOST_COUNT)?,
+        packets: found.number("packets", 1, MOST_NUMBER)?,
+        bytes: found.number("bytes", 1, MOST_NUMBER)?,
+        unit_start_count: found.number("unit-start-count", 1, MOST_NUMBER)?,
         exclude_last: found.has_flag("exclude-last"),
         joint_termination: found.has_flag("joint-termination"),
     };

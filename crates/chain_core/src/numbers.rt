@@ -1,14 +1,12 @@
 use crate::ending::{cause_at, least_end};
 use crate::limit::{limit_of, within_limit};
 use crate::{Closed, CorePlan, News, Progress, StageWord};
+use chain_model::POSITION_LIMIT;
 use std::alloc::{AllocError, Global};
 use std::marker::Model;
 
 #[cfg(test)]
 mod tests;
-
-/// Positions are below this number.
-const POSITION_LIMIT: u64 = 1 << 60;
 
 /// The chain's core: how much each stage has given and taken, what it agreed to and how it ended.
 /// It stands for the machine's state with the same numbers, whatever the cells are.

@@ -1,6 +1,7 @@
 -- The packets of an input. ISO/IEC 13818-1, 2.4.3.2 (a packet is 188 bytes and begins with 0x47);
 -- where the list ends is this project's own rule.
 use Rattle.std.specs.Prelude.{ℕ, zero, suc, ◌*◌, ◌==◌, nat_le, ◌&&◌, List, [], ◌∷◌, length, take, drop, replicate, slice_index, if◌then◌else◌, Bool}
+use Rattle.ts_packet.specs.declared.numbers.TheConstants.{PACKET_SIZE, SYNC_BYTE}
 use Rattle.chain_model.specs.declared.input_end.InputEnd.{InputEnd}
 use Rattle.chain_model.specs.declared.input_end.InputEnd.TheVariants.{End, Sync}
 use Rattle.ts_packet.specs.Packet.{null_packet}
@@ -12,13 +13,13 @@ pub record InputList : Type 0 where
 
 -- a whole packet stands at the front of the bytes
 abbrev pub is_packet_in_front : List ℕ → Bool
-is_packet_in_front bytes = nat_le 188 (length bytes) && slice_index bytes 0 == 0x47
+is_packet_in_front bytes = nat_le PACKET_SIZE (length bytes) && slice_index bytes 0 == SYNC_BYTE
 
 -- the packets at the front of the bytes, one after another, at most so many
 abbrev pub packets_within : ℕ → List ℕ → List (List ℕ)
 packets_within zero bytes = []
 packets_within (suc most) bytes =
-    if is_packet_in_front bytes then take 188 bytes ∷ packets_within most (drop 188 bytes) else []
+    if is_packet_in_front bytes then take PACKET_SIZE bytes ∷ packets_within most (drop PACKET_SIZE bytes) else []
 
 -- the packets at the front of the bytes: packet n is the bytes from 188 n on
 abbrev pub packets_of : List ℕ → List (List ℕ)
@@ -28,13 +29,13 @@ packets_of bytes = packets_within (length bytes) bytes
 abbrev pub end_behind : ℕ → List ℕ → InputEnd
 end_behind n [] = End 0
 end_behind n (first ∷ rest) =
-    if first == 0x47 then End (length (first ∷ rest)) else Sync n
+    if first == SYNC_BYTE then End (length (first ∷ rest)) else Sync n
 
 -- the input that bytes give
 abbrev pub input_of_bytes : List ℕ → InputList
 input_of_bytes bytes = record {
   packets = packets_of bytes;
-  ended = end_behind (length (packets_of bytes)) (drop (188 * length (packets_of bytes)) bytes);
+  ended = end_behind (length (packets_of bytes)) (drop (PACKET_SIZE * length (packets_of bytes)) bytes);
 }
 
 -- the input of so many null packets

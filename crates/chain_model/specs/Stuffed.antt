@@ -3,6 +3,7 @@ use Rattle.std.specs.Prelude.{ℕ, ◌+◌, ◌%◌, ◌^◌, ◌==◌, nat_le, 
 use Rattle.ts_packet.specs.declared.cell.Cell.{Cell}
 use Rattle.ts_packet.specs.declared.cell.Cell.TheVariants.{Live}
 use Rattle.ts_packet.specs.Packet.{null_packet}
+use Rattle.chain_model.specs.declared.positions.TheConstants.{POSITION_LIMIT}
 use Rattle.chain_model.specs.declared.input_end.InputEnd.{InputEnd}
 use Rattle.chain_model.specs.declared.input_end.InputEnd.TheVariants.{End, TooLong}
 use Rattle.chain_model.specs.Apply.{StageList, input_over}
@@ -39,7 +40,7 @@ stop_nulls stuffing _ = []
 
 -- positions are below this number
 abbrev pub position_limit : ℕ
-position_limit = 2 ^ 60
+position_limit = POSITION_LIMIT
 
 -- a list that would have a position at the limit ends before it
 abbrev pub within_limit : List Cell → InputEnd → StageList

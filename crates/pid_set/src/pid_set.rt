@@ -1,15 +1,12 @@
 ghost use Rattle.std.specs.Prelude.{◌≡◌, ◌==◌, ◌<◌, IfOk, length};
 ghost use Rattle.pid_set.specs.PidTable.{IsTableOf};
 ghost use Rattle.pid_set.specs.Selection.{is_selected};
-ghost use Rattle.plug_conf.specs.Limits.{pid_bound};
 ghost use Rattle.plug_conf.specs.NumberSet.{has_number};
 
 use plug_conf::NumberSet;
 use std::alloc::{AllocError, Global};
 use std::marker::Model;
-
-/// PIDs are below this number.
-const PID_BOUND: u16 = 8192;
+use ts_packet::PID_COUNT;
 
 /// A set of PIDs, seen as its ranges. Whether a PID is in it is looked up, and not searched.
 #[derive(Drop, Debug)]
@@ -42,7 +39,7 @@ impl PidSet {
     /// Whether the PID is in one of the ranges.
     #[inline]
     pub fn has(&self, pid: u16) -> bool
-        requires { pid < pid_bound }
+        requires { pid < PID_COUNT }
         ensures { result ≡ has_number self.now pid }
     {
         self.table[usize::from(pid)]
@@ -52,7 +49,7 @@ impl PidSet {
     /// `negate` one that is not.
     #[inline]
     pub fn selects(&self, negate: bool, pid: u16) -> bool
-        requires { pid < pid_bound }
+        requires { pid < PID_COUNT }
         ensures { result ≡ is_selected self.now negate pid }
     {
         self.is_empty() || self.has(pid) != negate
@@ -70,8 +67,8 @@ impl PidSet {
 fn table_of(alloc: Global, ranges: &NumberSet) -> Result<Vec<bool>, AllocError>
     ensures { IfOk result (λ table. IsTableOf ranges.now table.items) }
 {
-    let mut table = Vec::with_capacity(alloc, usize::from(PID_BOUND))?;
-    for pid in 0..PID_BOUND {
+    let mut table = Vec::with_capacity(alloc, usize::from(PID_COUNT))?;
+    for pid in 0..PID_COUNT {
         table.push(ranges.has(u64::from(pid)))?;
     }
     Ok(table)

@@ -1,7 +1,7 @@
 -- Lawful settings of `filter`.
 -- This project's own rule.
 use Rattle.std.specs.Prelude.{◌==◌, ◌||◌, Bool, IsTrue, length, not}
-use Rattle.plug_conf.specs.Limits.{pid_bound}
+use Rattle.ts_packet.specs.declared.numbers.TheConstants.{PID_COUNT}
 use Rattle.plug_conf.specs.NumberSet.{AllBelow}
 use Rattle.plug_conf.specs.declared.filter_conf.FilterConf.{FilterConf}
 
@@ -10,5 +10,5 @@ abbrev pub has_condition : FilterConf → Bool
 has_condition c = not (length c.pid == 0) || (c.pcr || (c.unit_start || c.scrambled))
 
 pub record IsLawfulFilter (c : FilterConf) : Type 0 where
-  pub pids : AllBelow pid_bound c.pid
+  pub pids : AllBelow PID_COUNT c.pid
   pub conditions : IsTrue (has_condition c)

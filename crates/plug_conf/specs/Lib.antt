@@ -3,7 +3,6 @@ pub mod Count
 pub mod Filter
 pub mod JointUse
 pub mod Lawful
-pub mod Limits
 pub mod NumberSet
 pub mod Pattern
 pub mod Remap

@@ -2,7 +2,8 @@
 -- This project's own rule.
 use Rattle.std.specs.Prelude.{◌==◌, ◌<◌, ◌≤◌, ◌&&◌, ◌||◌, ℕ, Bool, IsTrue, List, [], ◌∷◌, length, nat_le, not, true}
 use Rattle.std.specs.List.{All, list_any}
-use Rattle.plug_conf.specs.Limits.{most_pairs, null_pid, pid_bound}
+use Rattle.plug_conf.specs.declared.limits.TheConstants.{MOST_PAIRS}
+use Rattle.ts_packet.specs.declared.numbers.TheConstants.{NULL_PID, PID_COUNT}
 use Rattle.plug_conf.specs.declared.remap_conf.RemapConf.{RemapConf}
 
 -- the PID is one of those that are given others
@@ -25,14 +26,14 @@ targets_differ (pair ∷ rest) = not (is_target pair.1 rest) && targets_differ r
 
 -- at most 1,000 pairs; the sources differ and 8191 is none; the targets differ, unless unchecked
 abbrev pub pairs_agree : RemapConf → Bool
-pairs_agree c = nat_le (length c.operand) most_pairs
+pairs_agree c = nat_le (length c.operand) MOST_PAIRS
     && (sources_differ c.operand
-    && (not (is_source null_pid c.operand)
+    && (not (is_source NULL_PID c.operand)
     && (c.unchecked || targets_differ c.operand)))
 
 -- a pair of two PIDs
 abbrev pub IsPidPair : ℕ × ℕ → Type 0
-IsPidPair pair = (pair.0 < pid_bound) × (pair.1 < pid_bound)
+IsPidPair pair = (pair.0 < PID_COUNT) × (pair.1 < PID_COUNT)
 
 pub record IsLawfulRemap (c : RemapConf) : Type 0 where
   pub some_pair : 1 ≤ length c.operand

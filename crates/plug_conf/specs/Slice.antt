@@ -1,7 +1,7 @@
 -- Lawful settings of `slice`.
 -- This project's own rule.
 use Rattle.std.specs.Prelude.{◌==◌, ◌≤◌, ◌&&◌, ◌||◌, ℕ, Bool, IfSome, IsTrue, Option, Some, false, is_some, not}
-use Rattle.plug_conf.specs.Limits.{most_number}
+use Rattle.plug_conf.specs.declared.limits.TheConstants.{MOST_NUMBER}
 use Rattle.plug_conf.specs.declared.slice_conf.SliceConf.{SliceConf}
 
 -- one of the options is given
@@ -21,7 +21,7 @@ slices_differ c = not (same_numbers c.drop c.null) && (not (same_numbers c.drop 
 
 -- a number that is given is at most 2^60
 abbrev pub IsBounded : Option ℕ → Type 0
-IsBounded n = IfSome n (λ k. k ≤ most_number)
+IsBounded n = IfSome n (λ k. k ≤ MOST_NUMBER)
 
 pub record IsLawfulSlice (c : SliceConf) : Type 0 where
   pub dropped : IsBounded c.drop

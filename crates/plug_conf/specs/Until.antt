@@ -1,7 +1,7 @@
 -- Lawful settings of `until`.
 -- This project's own rule.
 use Rattle.std.specs.Prelude.{◌==◌, ◌+◌, ◌≤◌, ◌&&◌, not, ℕ, Bool, IfSome, IsTrue, Option, if◌then◌else◌, is_some}
-use Rattle.plug_conf.specs.Limits.{most_number}
+use Rattle.plug_conf.specs.declared.limits.TheConstants.{MOST_NUMBER}
 use Rattle.plug_conf.specs.declared.until_conf.UntilConf.{UntilConf}
 
 -- 1 for a number that is given, else 0
@@ -14,7 +14,7 @@ counts_given c = one_if_given c.packets + one_if_given c.bytes + one_if_given c.
 
 -- a count that is given is from 1 to 2^60
 abbrev pub IsCount : Option ℕ → Type 0
-IsCount n = IfSome n (λ k. (1 ≤ k) × (k ≤ most_number))
+IsCount n = IfSome n (λ k. (1 ≤ k) × (k ≤ MOST_NUMBER))
 
 -- one number is given, and not both flags
 abbrev pub until_together : UntilConf → Bool

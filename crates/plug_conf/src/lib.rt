@@ -5,6 +5,7 @@
 mod continuity_conf;
 mod count_conf;
 mod filter_conf;
+mod limits;
 mod number_set;
 mod pair_list;
 mod pattern_conf;
@@ -17,6 +18,7 @@ mod until_conf;
 pub use continuity_conf::ContinuityConf;
 pub use count_conf::CountConf;
 pub use filter_conf::FilterConf;
+pub use limits::{LAST_OFFSET, LAST_PID, MOST_NUMBER, MOST_PACKETS, MOST_PAIRS};
 pub use number_set::NumberSet;
 pub use pair_list::PairList;
 pub use pattern_conf::PatternConf;

@@ -1,7 +1,9 @@
 ghost use Rattle.std.specs.Prelude.{◌≡◌};
 ghost use Rattle.plug_conf.specs.Remap.{is_source, is_target, pairs_agree, sources_differ, targets_differ};
 
+use crate::limits::MOST_PAIRS;
 use crate::pair_list::PairList;
+use ts_packet::NULL_PID;
 
 /// Settings of `remap`, which gives packets other PIDs.
 ///
@@ -16,12 +18,6 @@ pub struct RemapConf {
     pub unchecked: bool,
 }
 
-/// The most pairs that `remap` takes.
-const MOST_PAIRS: usize = 1000;
-
-/// The PID of null packets, which cannot be given another.
-const NULL_PID: u64 = 8191;
-
 impl RemapConf {
     /// Whether there are at most 1,000 pairs, whose sources differ and are not 8191, and whose
     /// targets differ where they are checked.
@@ -31,7 +27,7 @@ impl RemapConf {
         let pairs = self.operand.as_slice();
         pairs.len() <= MOST_PAIRS
             && has_distinct_sources(pairs)
-            && !has_source(pairs, NULL_PID)
+            && !has_source(pairs, u64::from(NULL_PID))
             && (self.unchecked || has_distinct_targets(pairs))
     }
 }

@@ -2,6 +2,7 @@
 use Rattle.std.specs.Prelude.{ℕ, ◌*◌, List, [], ◌∷◌, ◌++◌, Bool, false, Option, None, Some, ◌&&◌, ◌||◌, nat_le, count_by, if◌then◌else◌}
 use Rattle.ts_packet.specs.declared.cell.Cell.{Cell}
 use Rattle.ts_packet.specs.declared.cell.Cell.TheVariants.{Live}
+use Rattle.ts_packet.specs.declared.numbers.TheConstants.{PACKET_SIZE}
 use Rattle.ts_packet.specs.Cells.{live_packets}
 use Rattle.ts_packet.specs.Header.{unit_start_of}
 use Rattle.chain_model.specs.PluginRule.{PluginRule, RuleOutcome, passes, lasts, stops}
@@ -20,7 +21,7 @@ reaches count (Some least) = nat_le least count
 -- the packets, their bytes or their unit starts are as many as is given
 abbrev pub is_reached : UntilConf → List Cell → Bool
 is_reached conf cells = reaches (live_count cells) conf.packets
-    || (reaches (188 * live_count cells) conf.bytes || reaches (unit_starts cells) conf.unit_start_count)
+    || (reaches (PACKET_SIZE * live_count cells) conf.bytes || reaches (unit_starts cells) conf.unit_start_count)
 
 -- what becomes of a packet with which the number is reached: it passes like any other where the end is
 -- a joint one, and else it is the last, or is left out

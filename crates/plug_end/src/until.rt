@@ -4,10 +4,7 @@ ghost use Rattle.plug_end.specs.UntilRule.{until_rule, reaches};
 use plug_conf::UntilConf;
 use plugin_trait::{Line, Outcome, Plugin, silent_report};
 use std::alloc::{AllocError, Global};
-use ts_packet::Cell;
-
-/// The bytes of a packet.
-const PACKET_SIZE: u128 = 188;
+use ts_packet::{Cell, PACKET_SIZE};
 
 /// Passes packets until a number of packets, of their bytes or of unit starts is reached. The packet
 /// with which it is reached is the last one, or is left out. With joint termination every packet
@@ -55,10 +52,10 @@ impl Until {
     // Whether the number is reached by so many packets with so many unit starts.
     fn is_reached(&self, met: u64, starts: u64) -> bool
         ensures { result ≡ (reaches met self.now.packets
-            || (reaches (188 * met) self.now.bytes || reaches starts self.now.unit_start_count)) }
+            || (reaches (PACKET_SIZE * met) self.now.bytes || reaches starts self.now.unit_start_count)) }
     {
         reaches(u128::from(met), self.packets)
-            || reaches(PACKET_SIZE * u128::from(met), self.bytes)
+            || reaches(PACKET_SIZE as u128 * u128::from(met), self.bytes)
             || reaches(u128::from(starts), self.unit_start_count)
     }
 }

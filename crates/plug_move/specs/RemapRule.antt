@@ -4,7 +4,7 @@ use Rattle.std.specs.List.{slice_index_or}
 use Rattle.ts_packet.specs.Header.{pid_of, with_pid}
 use Rattle.chain_model.specs.declared.reason.Reason.TheVariants.{Pid}
 use Rattle.chain_model.specs.PluginRule.{PluginRule, RuleOutcome, passes, refuses}
-use Rattle.plug_conf.specs.Limits.{pid_bound}
+use Rattle.ts_packet.specs.declared.numbers.TheConstants.{PID_COUNT}
 use Rattle.plug_conf.specs.Remap.{is_target}
 use Rattle.plug_conf.specs.declared.remap_conf.RemapConf.{RemapConf}
 use Rattle.plug_move.specs.declared.move_table.Move.{Move}
@@ -42,11 +42,11 @@ remap_rule conf = record {
 -- where a move leads to a PID, it is one
 abbrev pub LeadsToPid : Move → Type 0
 LeadsToPid Keep = Unit {0}
-LeadsToPid (To target) = target < pid_bound
+LeadsToPid (To target) = target < PID_COUNT
 LeadsToPid Refuse = Unit {0}
 
 -- the table tells of each PID what is done with its packets
 pub record IsMoveTable (pairs : List (ℕ × ℕ)) (unchecked : Bool) (moves : List Move) : Type 0 where
-  pub whole : length moves ≡ pid_bound
-  pub tells : (pid : ℕ) → pid < pid_bound → slice_index_or moves pid Keep ≡ move_of pairs unchecked pid
+  pub whole : length moves ≡ PID_COUNT
+  pub tells : (pid : ℕ) → pid < PID_COUNT → slice_index_or moves pid Keep ≡ move_of pairs unchecked pid
   pub leads : (pid : ℕ) → LeadsToPid (move_of pairs unchecked pid)

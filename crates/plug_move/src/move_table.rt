@@ -1,15 +1,12 @@
 ghost use Rattle.std.specs.Prelude.{◌≡◌, ◌<◌, ◌&&◌, not, IfOk, IfSome, List, ℕ};
 ghost use Rattle.std.specs.List.{All};
-ghost use Rattle.plug_conf.specs.Limits.{pid_bound};
 ghost use Rattle.plug_conf.specs.Remap.{IsPidPair, is_target};
 ghost use Rattle.plug_move.specs.RemapRule.{IsMoveTable, LeadsToPid, move_of, target_of};
 
 use plug_conf::PairList;
 use std::alloc::{AllocError, Global};
 use std::marker::Model;
-
-/// PIDs are below this number.
-const PID_BOUND: u16 = 8192;
+use ts_packet::PID_COUNT;
 
 /// What `remap` does with the packets on a PID.
 #[derive(Debug, Clone, Copy, PartialEq, Eq)]
@@ -61,7 +58,7 @@ impl MoveTable {
     /// What is done with the packets on a PID.
     #[inline]
     pub fn look_up(&self, pid: u16) -> Move
-        requires { pid < pid_bound }
+        requires { pid < PID_COUNT }
         ensures tells { result ≡ move_of self.now.0 self.now.1 pid }
         ensures leads { LeadsToPid result }
     {
@@ -74,8 +71,8 @@ fn moves_of(alloc: Global, pairs: &[(u64, u64)], unchecked: bool) -> Result<Vec<
     requires { All IsPidPair pairs.now }
     ensures { IfOk result (λ moves. IsMoveTable pairs.now unchecked moves.items) }
 {
-    let mut moves = Vec::with_capacity(alloc, usize::from(PID_BOUND))?;
-    for pid in 0..PID_BOUND {
+    let mut moves = Vec::with_capacity(alloc, usize::from(PID_COUNT))?;
+    for pid in 0..PID_COUNT {
         moves.push(move_of(pairs, unchecked, pid))?;
     }
     Ok(moves)

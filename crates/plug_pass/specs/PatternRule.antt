@@ -1,5 +1,6 @@
 -- The rule of `pattern`. This project's own rule, over the payload of ISO/IEC 13818-1, 2.4.3.3.
 use Rattle.std.specs.Prelude.{ℕ, zero, suc, ◌+◌, ◌-◌, ◌%◌, List, [], ◌∷◌, ◌++◌, length, Option, None, Some, false, nat_lt, unwrap_or, slice_index, if◌then◌else◌}
+use Rattle.ts_packet.specs.declared.numbers.TheConstants.{PACKET_SIZE}
 use Rattle.ts_packet.specs.Header.{pid_of, unit_start_of}
 use Rattle.ts_packet.specs.Payload.{payload_start_of, with_piece}
 use Rattle.chain_model.specs.PluginRule.{PluginRule, passes}
@@ -18,7 +19,8 @@ offset_for conf packet =
 
 -- the packet with the pattern from a place to its end; behind the end there is no place
 abbrev pub patterned_from : List ℕ → ℕ → List ℕ → List ℕ
-patterned_from pattern at packet = if nat_lt at 188 then with_piece packet at (repeated pattern (188 - at)) else packet
+patterned_from pattern at packet = 
+    if nat_lt at PACKET_SIZE then with_piece packet at (repeated pattern (PACKET_SIZE - at)) else packet
 
 -- the pattern begins in the payload, at the offset; a packet without payload stays as it is
 abbrev pub patterned : PatternConf → Option ℕ → List ℕ → List ℕ

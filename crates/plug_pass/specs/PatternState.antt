@@ -1,6 +1,7 @@
 -- The settings that a value of `pattern` has. This project's own rule.
 use Rattle.std.specs.Prelude.{◌≡◌, ℕ, List, Option}
 use Rattle.plug_conf.specs.Pattern.{IsOffset}
+use Rattle.ts_packet.specs.declared.numbers.TheConstants.{PAYLOAD_SIZE}
 use Rattle.plug_pass.specs.PatternRule.{repeated}
 use Rattle.plug_conf.specs.declared.pattern_conf.PatternConf.{PatternConf}
 use Rattle.plug_pass.specs.declared.pattern.Pattern.{Pattern}
@@ -17,6 +18,6 @@ conf_of s = record {
 
 -- the row of bytes is the pattern over and over, and the offsets lie in a payload
 pub record IsMade (filled pattern : List ℕ) (with_start without_start : Option ℕ) : Type 0 where
-  pub is_filled : filled ≡ repeated pattern 184
+  pub is_filled : filled ≡ repeated pattern PAYLOAD_SIZE
   pub first : IsOffset with_start
   pub second : IsOffset without_start

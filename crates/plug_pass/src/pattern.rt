@@ -6,12 +6,7 @@ use plug_conf::PatternConf;
 use plugin_trait::{Line, Outcome, Plugin, silent_report};
 use std::alloc::{AllocError, Global};
 use ts_outside::FileBytes;
-use ts_packet::{Cell, Packet};
-
-/// The bytes of the longest payload.
-const MOST_PAYLOAD: usize = 184;
-/// The bytes of a packet.
-const PACKET_SIZE: usize = 188;
+use ts_packet::{Cell, PACKET_SIZE, PAYLOAD_SIZE, Packet};
 
 /// Writes a pattern over the payloads of packets on selected PIDs.
 #[derive(Drop, Debug)]
@@ -22,7 +17,7 @@ pub struct Pattern {
     offset_pusi: Option<u64>,
     offset_non_pusi: Option<u64>,
     /// The pattern over and over, as long as the longest payload.
-    filled: [u8; MOST_PAYLOAD],
+    filled: [u8; PAYLOAD_SIZE],
     buffer: usize,
     alloc: Global,
 }
@@ -57,7 +52,7 @@ impl Pattern {
     fn offset_for(&self, packet: &Packet) -> u64
         requires { IsMade self.now.filled self.now.pattern self.now.offset_pusi self.now.offset_non_pusi }
         ensures offset { result ≡ offset_for (conf_of self.now) packet.now }
-        ensures range { result < 184 }
+        ensures range { result < PAYLOAD_SIZE }
     {
         let offset = if packet.unit_start() {
             self.offset_pusi
@@ -86,11 +81,11 @@ impl Pattern {
 }
 
 // The pattern over and over.
-fn filled_with(pattern: &[u8]) -> [u8; MOST_PAYLOAD]
+fn filled_with(pattern: &[u8]) -> [u8; PAYLOAD_SIZE]
     requires { 1 ≤ length pattern.now }
-    ensures { result ≡ repeated pattern.now 184 }
+    ensures { result ≡ repeated pattern.now PAYLOAD_SIZE }
 {
-    let mut filled = [0; MOST_PAYLOAD];
+    let mut filled = [0; PAYLOAD_SIZE];
     for (k, byte) in filled.iter_mut().enumerate() {
         *byte = pattern[k % pattern.len()];
     }
@@ -132,9 +127,9 @@ impl Plugin for Pattern {
 }
 
 // Writes a pattern from a place to the packet's end, where the place is in the packet.
-fn write_from(packet: &mut Packet, at: u64, filled: &[u8; MOST_PAYLOAD])
+fn write_from(packet: &mut Packet, at: u64, filled: &[u8; PAYLOAD_SIZE])
     requires behind_header { 4 ≤ at }
-    ensures { (pattern : List ℕ) → filled.now ≡ repeated pattern 184 → packet.new ≡ patterned_from pattern at packet.old }
+    ensures { (pattern : List ℕ) → filled.now ≡ repeated pattern PAYLOAD_SIZE → packet.new ≡ patterned_from pattern at packet.old }
 {
     if at < PACKET_SIZE as u64 {
         packet.put_payload(at as u8, &filled[..PACKET_SIZE - at as usize]);

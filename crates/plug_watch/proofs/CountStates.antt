@@ -10,7 +10,7 @@ use Rattle.ts_packet.specs.Header.{pid_of}
 use Rattle.chain_model.specs.PluginRule.{PluginRule}
 use Rattle.plugin_trait.specs.declared.line.Line.{Line}
 use Rattle.plugin_trait.specs.PlacedLines.{placed_at, placed_after, placed_of}
-use Rattle.plug_conf.specs.Limits.{pid_bound}
+use Rattle.ts_packet.specs.declared.numbers.TheConstants.{PID_COUNT}
 use Rattle.plug_conf.specs.declared.count_conf.CountConf.{CountConf}
 use Rattle.plug_watch.specs.declared.note.Note.{Note}
 use Rattle.plug_watch.specs.Notes.{notes_after}
@@ -42,7 +42,7 @@ module _ (conf : CountConf) (notes : List Note) (counts : List ℕ) (total : ℕ
   }
 
   -- one cell more, whose notes stand behind the others
-  pub counts_cell : (cell : Cell) (notes_new : List Note) → length history < 2 ^ 60 → All (λ (n : Note). n.pid < pid_bound) notes_new
+  pub counts_cell : (cell : Cell) (notes_new : List Note) → length history < 2 ^ 60 → All (λ (n : Note). n.pid < PID_COUNT) notes_new
       → notes_new ≡ notes ++ notes_after (note_on conf) history (cell ∷ []) → CountsFrom conf notes_new counts total (history ++ cell ∷ []) from
   counts_cell cell notes_new few on_pids is = record {
     tally = subst (λ (cells : List Cell). IsTally counts total (map pid_of (counted conf cells))) (sym (take-append-le from history (cell ∷ []) w.within)) w.tally;
@@ -66,8 +66,8 @@ module _ (conf : CountConf) (notes : List Note) (counts : List ℕ) (total : ℕ
         tally = subst (IsTally counts_new total_new) (taken_pids conf history from to folds.taken notes_new le within split folds.below folds.left)
             (folds.counted (map pid_of (counted conf (take from history))) w.tally);
         kept = rest_is conf history from to folds.taken notes_new le within split folds.below folds.left;
-        on_pids = subst (All (λ (n : Note). n.pid < pid_bound)) (ap (drop (length folds.taken)) folds.split ∙ drop-append_seam folds.taken notes_new)
-            (All-drop (λ (n : Note). n.pid < pid_bound) (length folds.taken) notes w.on_pids);
+        on_pids = subst (All (λ (n : Note). n.pid < PID_COUNT)) (ap (drop (length folds.taken)) folds.split ∙ drop-append_seam folds.taken notes_new)
+            (All-drop (λ (n : Note). n.pid < PID_COUNT) (length folds.taken) notes w.on_pids);
         within = within;
         short = w.short;
       }
@@ -131,7 +131,7 @@ report_is conf notes notes_new counts total counts_new total_new history mark cu
 module _ (conf : CountConf) (notes : List Note) (counts : List ℕ) (total : ℕ) (history : List Cell) (mark : ℕ)
     (w : Counts conf notes counts total history mark) where
   -- one cell more
-  counts_more : (cell : Cell) (notes_new : List Note) → length history < 2 ^ 60 → All (λ (n : Note). n.pid < pid_bound) notes_new
+  counts_more : (cell : Cell) (notes_new : List Note) → length history < 2 ^ 60 → All (λ (n : Note). n.pid < PID_COUNT) notes_new
       → notes_new ≡ notes ++ notes_after (note_on conf) history (cell ∷ []) → Counts conf notes_new counts total (history ++ cell ∷ []) mark
   counts_more cell notes_new few on_pids is = record {
     from = counts_cell conf notes counts total history (tallied_to conf.all mark) w.from cell notes_new few on_pids is;
@@ -151,13 +151,13 @@ module _ (conf : CountConf) (notes : List Note) (counts : List ℕ) (total : ℕ
 
   -- a packet that is counted has one
   pub counts_live : (packet : List ℕ) (note : Note) (notes_new : List Note) → length history < 2 ^ 60 → is_counted conf packet ≡ true
-      → pid_of packet < pid_bound → note ≡ record { at = length history; pid = pid_of packet } → notes_new ≡ notes ++ note ∷ []
+      → pid_of packet < PID_COUNT → note ≡ record { at = length history; pid = pid_of packet } → notes_new ≡ notes ++ note ∷ []
       → Counts conf notes_new counts total (history ++ Live packet ∷ []) mark
   counts_live packet note notes_new few is_one below note_is pushed =
       let this : Note = record { at = length history; pid = pid_of packet } in
       let is : notes_new ≡ notes ++ this ∷ [] = pushed ∙ ap (λ (n : Note). notes ++ n ∷ []) note_is in
       counts_more (Live packet) notes_new few
-      (subst (All (λ (n : Note). n.pid < pid_bound)) (sym is) (All-push (λ (n : Note). n.pid < pid_bound) notes this w.from.on_pids below))
+      (subst (All (λ (n : Note). n.pid < PID_COUNT)) (sym is) (All-push (λ (n : Note). n.pid < PID_COUNT) notes this w.from.on_pids below))
       (is ∙ sym (ap (λ (b : Bool). notes ++ ((if b then this ∷ [] else []) ++ [])) is_one))
 
   -- without `all` the notes below a later mark are counted

@@ -6,7 +6,7 @@ use Rattle.std.proofs.lemmas.List.Folds.{list_all-append}
 use Rattle.std.proofs.lemmas.List.Elements.{All-drop, All-head}
 use Rattle.std.proofs.Math.Seq.{drop-append_seam}
 use Rattle.plugin_trait.specs.declared.line.Line.{Line}
-use Rattle.plug_conf.specs.Limits.{pid_bound}
+use Rattle.ts_packet.specs.declared.numbers.TheConstants.{PID_COUNT}
 use Rattle.plug_watch.specs.declared.note.Note.{Note}
 use Rattle.plug_watch.specs.Tallies.{IsTally, HasRoomFor}
 use Rattle.plug_watch.specs.Folding.{pids_of, line_of_note, CanFold, FoldsWith, StartsFrom}
@@ -43,11 +43,11 @@ module _ (mark : ℕ) (old new : List Note) (counts : List ℕ) (total : ℕ) (c
   }
 
   -- it is on a PID
-  pub on_pid : (note : Note) (rest : List Note) → CanFold old counts total → new ≡ note ∷ rest → note.pid < pid_bound
+  pub on_pid : (note : Note) (rest : List Note) → CanFold old counts total → new ≡ note ∷ rest → note.pid < PID_COUNT
   on_pid note rest can is =
-      All-head (λ (n : Note). n.pid < pid_bound) note rest
-      (subst (All (λ (n : Note). n.pid < pid_bound)) (ap (λ (ns : List Note). drop (length so_far.taken) ns) so_far.split ∙ (drop-append_seam so_far.taken new ∙ is))
-      (All-drop (λ (n : Note). n.pid < pid_bound) (length so_far.taken) old can.on_pids))
+      All-head (λ (n : Note). n.pid < PID_COUNT) note rest
+      (subst (All (λ (n : Note). n.pid < PID_COUNT)) (ap (λ (ns : List Note). drop (length so_far.taken) ns) so_far.split ∙ (drop-append_seam so_far.taken new ∙ is))
+      (All-drop (λ (n : Note). n.pid < PID_COUNT) (length so_far.taken) old can.on_pids))
 
   module _ (note : Note) (rest : List Note) (counts_next : List ℕ) (total_next : ℕ) (is : new ≡ note ∷ rest) (below : note.at < mark)
       (adds : (pids : List ℕ) → IsTally counts_new total_new pids → IsTally counts_next total_next (pids ++ note.pid ∷ [])) where

@@ -6,7 +6,7 @@ use Rattle.std.proofs.lemmas.List.{map-append}
 use Rattle.ts_packet.specs.Header.{pid_of}
 use Rattle.plugin_trait.specs.declared.line.Line.{Line}
 use Rattle.plugin_trait.specs.PlacedLines.{placed_at}
-use Rattle.plug_conf.specs.Limits.{pid_bound}
+use Rattle.ts_packet.specs.declared.numbers.TheConstants.{PID_COUNT}
 use Rattle.plug_watch.specs.Tallies.{IsTally}
 use Rattle.plug_watch.specs.CountRule.{numbers_below, pid_lines, pid_text, packets_on}
 use Rattle.plug_watch.proofs.Counting.{packets_on-pids}
@@ -22,7 +22,7 @@ placed_at-append cut xs ys = map-append (λ (text : List ℕ). let line : Line =
 
 -- the lines with those of one PID more
 pub pid_lines_more : (packets : List (List ℕ)) (counts : List ℕ) (total cut pid count : ℕ) (before lines lines_new : List Line)
-    → IsTally counts total (map pid_of packets) → pid < pid_bound → count ≡ get_or counts pid 0
+    → IsTally counts total (map pid_of packets) → pid < PID_COUNT → count ≡ get_or counts pid 0
     → lines ≡ before ++ placed_at cut (flat_map (pid_lines packets) (numbers_below pid))
     → lines_new ≡ lines ++ placed_at cut (if count == 0 then [] else pid_text pid count ∷ [])
     → lines_new ≡ before ++ placed_at cut (flat_map (pid_lines packets) (numbers_below (pid + 1)))

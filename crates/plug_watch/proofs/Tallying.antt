@@ -3,7 +3,7 @@ use Rattle.std.proofs.Common.{◌≡◌, ℕ, ◌+◌, ◌<◌, ◌≤◌, List,
 use Rattle.std.specs.List.{count_by}
 use Rattle.std.proofs.lemmas.Bool.{cases_eq, ne_eqb}
 use Rattle.std.proofs.lemmas.List.Sums.{count_by-le-length, fold-append}
-use Rattle.plug_conf.specs.Limits.{pid_bound}
+use Rattle.ts_packet.specs.declared.numbers.TheConstants.{PID_COUNT}
 use Rattle.plug_watch.specs.Tallies.{IsTally}
 
 -- a count with one member more
@@ -11,11 +11,11 @@ count_by-last : (p : ℕ → Bool) (xs : List ℕ) (x : ℕ) → count_by p (xs 
 count_by-last p xs x = fold-append (λ (n : ℕ) (y : ℕ). n + (if p y then 1 else 0)) 0 xs (x ∷ [])
 
 -- no count is above the number of all
-pub small_count : (counts pids : List ℕ) (total pid : ℕ) → IsTally counts total pids → pid < pid_bound → get_or counts pid 0 ≤ length pids
+pub small_count : (counts pids : List ℕ) (total pid : ℕ) → IsTally counts total pids → pid < PID_COUNT → get_or counts pid 0 ≤ length pids
 small_count counts pids total pid tally below = subst (λ (n : ℕ). n ≤ length pids) (sym (tally.each pid below)) (count_by-le-length (λ q. q == pid) pids)
 
 -- one packet more on a PID
-pub adds : (counts pids : List ℕ) (total pid : ℕ) → IsTally counts total pids → pid < pid_bound
+pub adds : (counts pids : List ℕ) (total pid : ℕ) → IsTally counts total pids → pid < PID_COUNT
     → IsTally (set counts pid (get_or counts pid 0 + 1)) (total + 1) (pids ++ pid ∷ [])
 adds counts pids total pid tally below = record {
   whole = length-set counts pid (get_or counts pid 0 + 1) ∙ tally.whole;

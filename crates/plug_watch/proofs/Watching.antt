@@ -7,7 +7,7 @@ use Rattle.plugin_trait.specs.PlacedLines.{placed_at, placed_after, placed_of}
 use Rattle.std.proofs.lemmas.Grind.{flat_map-append}
 use Rattle.std.proofs.lemmas.List.Elements.{filter-append}
 use Rattle.std.proofs.lemmas.Bool.{cases_eq, ne_eqb, false≢true}
-use Rattle.plug_conf.specs.Limits.{pid_bound}
+use Rattle.ts_packet.specs.declared.numbers.TheConstants.{PID_COUNT}
 use Rattle.plug_watch.proofs.Noting.{IsNoteAt, notes_after-append, take_while-notes_after, placed_at-notes, placed_after-notes}
 use Rattle.ts_packet.specs.declared.cell.Cell.{Cell}
 use Rattle.ts_packet.specs.declared.cell.Cell.TheVariants.{Live, Dropped}
@@ -136,7 +136,7 @@ module _ (conf : ContinuityConf) (seen : List (Option LastPacket)) (faults : Lis
     marked = longer history (Live packet) mark w.marked;
   }
 
-  module _ (packet : List ℕ) (before : Option LastPacket) (below : pid_of packet < pid_bound) (watched : is_watched conf (pid_of packet) ≡ true)
+  module _ (packet : List ℕ) (before : Option LastPacket) (below : pid_of packet < PID_COUNT) (watched : is_watched conf (pid_of packet) ≡ true)
       (is : before ≡ get_or seen (pid_of packet) None) where
     -- what was kept is that of the packets on the PID
     pub before_is : before ≡ seen_in (packets_of (pid_of packet) history)

@@ -7,7 +7,7 @@ use Rattle.ts_packet.specs.Header.{pid_of, counter_of, has_payload_of, with_coun
 use Rattle.ts_packet.specs.Adaptation.{discontinuity_of}
 use Rattle.plugin_trait.specs.declared.line.Line.{Line}
 use Rattle.chain_model.specs.PluginRule.{PluginRule, passes}
-use Rattle.plug_conf.specs.Limits.{null_pid}
+use Rattle.ts_packet.specs.declared.numbers.TheConstants.{NULL_PID}
 use Rattle.plug_conf.specs.declared.continuity_conf.ContinuityConf.{ContinuityConf}
 use Rattle.pid_set.specs.Selection.{is_selected}
 use Rattle.plug_watch.specs.Notes.{notes_after}
@@ -15,7 +15,7 @@ use Rattle.plug_watch.specs.declared.continuity_error.ContinuityError.{Continuit
 
 -- the packets of the PID are looked at; those of 8191 never are
 abbrev pub is_watched : ContinuityConf → ℕ → Bool
-is_watched conf pid = is_selected conf.pid false pid && not (pid == null_pid)
+is_watched conf pid = is_selected conf.pid false pid && not (pid == NULL_PID)
 
 -- the packets on a PID, of a list of cells
 abbrev pub packets_of : ℕ → List Cell → List (List ℕ)

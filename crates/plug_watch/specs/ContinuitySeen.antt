@@ -4,7 +4,7 @@ use Rattle.std.specs.List.{slice_index_or}
 use Rattle.ts_packet.specs.declared.cell.Cell.{Cell}
 use Rattle.ts_packet.specs.Header.{pid_of, counter_of, has_payload_of}
 use Rattle.ts_packet.specs.Adaptation.{discontinuity_of}
-use Rattle.plug_conf.specs.Limits.{pid_bound}
+use Rattle.ts_packet.specs.declared.numbers.TheConstants.{PID_COUNT}
 use Rattle.plug_conf.specs.declared.continuity_conf.ContinuityConf.{ContinuityConf}
 use Rattle.plug_watch.specs.ContinuityRule.{is_watched, packets_of, last_behind, right_counter, faults_in}
 use Rattle.plug_watch.specs.declared.continuity_error.ContinuityError.{ContinuityError}
@@ -62,8 +62,8 @@ HasCounters (Some seen) = (seen.counter < 16) × (seen.right < 16)
 
 -- what is kept is that of a history
 pub record Watches (conf : ContinuityConf) (seen : List (Option LastPacket)) (faults : List ContinuityError) (history : List Cell) (mark : ℕ) : Type 0 where
-  pub whole : length seen ≡ pid_bound
-  pub each : (pid : ℕ) → pid < pid_bound → is_watched conf pid ≡ true → slice_index_or seen pid None ≡ seen_in (packets_of pid history)
+  pub whole : length seen ≡ PID_COUNT
+  pub each : (pid : ℕ) → pid < PID_COUNT → is_watched conf pid ≡ true → slice_index_or seen pid None ≡ seen_in (packets_of pid history)
   pub small : (pid : ℕ) → HasCounters (slice_index_or seen pid None)
   pub all : faults ≡ faults_in conf history
   pub marked : mark ≤ length history

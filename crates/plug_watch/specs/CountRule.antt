@@ -6,7 +6,7 @@ use Rattle.ts_packet.specs.declared.cell.Cell.{Cell}
 use Rattle.ts_packet.specs.Cells.{live_packets}
 use Rattle.ts_packet.specs.Header.{pid_of}
 use Rattle.chain_model.specs.PluginRule.{PluginRule, passes}
-use Rattle.plug_conf.specs.Limits.{pid_bound}
+use Rattle.ts_packet.specs.declared.numbers.TheConstants.{PID_COUNT}
 use Rattle.plug_conf.specs.declared.count_conf.CountConf.{CountConf}
 use Rattle.pid_set.specs.Selection.{is_selected}
 use Rattle.plug_watch.specs.declared.note.Note.{Note}
@@ -47,7 +47,7 @@ numbers_below (suc n) = numbers_below n ++ n ∷ []
 -- the PIDs with their packets, ascending, and then the total; with `total` that alone
 abbrev pub summary_on : Bool → List (List ℕ) → List (List ℕ)
 summary_on total packets =
-    (if total then [] else flat_map (pid_lines packets) (numbers_below pid_bound)) ++ total_text (length packets) ∷ []
+    (if total then [] else flat_map (pid_lines packets) (numbers_below PID_COUNT)) ++ total_text (length packets) ∷ []
 
 -- a packet that is counted is noted with its position and its PID
 abbrev pub note_on : CountConf → List Cell → List ℕ → List Note

@@ -3,7 +3,7 @@ use Rattle.std.specs.Prelude.{◌≡◌, ◌<◌, ◌≤◌, ◌^◌, ℕ, List,
 use Rattle.std.specs.List.{All}
 use Rattle.ts_packet.specs.declared.cell.Cell.{Cell}
 use Rattle.ts_packet.specs.Header.{pid_of}
-use Rattle.plug_conf.specs.Limits.{pid_bound}
+use Rattle.ts_packet.specs.declared.numbers.TheConstants.{PID_COUNT}
 use Rattle.plug_conf.specs.declared.count_conf.CountConf.{CountConf}
 use Rattle.plug_watch.specs.Notes.{notes_after}
 use Rattle.plug_watch.specs.CountRule.{counted, note_on}
@@ -14,7 +14,7 @@ use Rattle.plug_watch.specs.declared.note.Note.{Note}
 pub record CountsFrom (conf : CountConf) (notes : List Note) (counts : List ℕ) (total : ℕ) (history : List Cell) (from : ℕ) : Type 0 where
   pub tally : IsTally counts total (map pid_of (counted conf (take from history)))
   pub kept : notes ≡ notes_after (note_on conf) (take from history) (drop from history)
-  pub on_pids : All (λ note. note.pid < pid_bound) notes
+  pub on_pids : All (λ note. note.pid < PID_COUNT) notes
   pub within : from ≤ length history
   pub short : length history ≤ 2 ^ 60
 

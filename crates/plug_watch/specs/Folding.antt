@@ -2,7 +2,7 @@
 use Rattle.std.specs.Prelude.{◌≡◌, ◌<◌, ◌≤◌, ◌+◌, ◌^◌, ℕ, List, [], ◌∷◌, ◌++◌, length, map, nat_lt, Bool, true, if◌then◌else◌}
 use Rattle.std.specs.List.{All, list_all}
 use Rattle.plugin_trait.specs.declared.line.Line.{Line}
-use Rattle.plug_conf.specs.Limits.{pid_bound}
+use Rattle.ts_packet.specs.declared.numbers.TheConstants.{PID_COUNT}
 use Rattle.plug_watch.specs.CountRule.{text_on}
 use Rattle.plug_watch.specs.Tallies.{IsTally}
 use Rattle.plug_watch.specs.declared.note.Note.{Note}
@@ -21,7 +21,7 @@ pub record CanFold (notes : List Note) (counts : List ℕ) (total : ℕ) : Type 
   pub pids : List ℕ
   pub tally : IsTally counts total pids
   pub few : length pids + length notes < 2 ^ 63
-  pub on_pids : All (λ note. note.pid < pid_bound) notes
+  pub on_pids : All (λ note. note.pid < PID_COUNT) notes
 
 -- the notes below a position were taken off the front, and counted
 pub record Folds (mark : ℕ) (old new : List Note) (counts : List ℕ) (total : ℕ) (counts_new : List ℕ) (total_new : ℕ) : Type 0 where

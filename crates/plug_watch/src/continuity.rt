@@ -11,12 +11,7 @@ use pid_set::PidSet;
 use plug_conf::ContinuityConf;
 use plugin_trait::{Line, Outcome, Plugin};
 use std::alloc::{AllocError, Global};
-use ts_packet::{Cell, Packet};
-
-/// PIDs are below this number.
-const PID_BOUND: usize = 8192;
-/// The PID of null packets, whose counters mean nothing.
-const NULL_PID: u16 = 8191;
+use ts_packet::{Cell, NULL_PID, PID_COUNT, Packet};
 
 /// Reports packets whose continuity counter is not the one wanted, and with `fix` puts counters right.
 #[derive(Drop, Debug)]
@@ -36,7 +31,6 @@ impl Continuity {
     ghost use Rattle.ts_packet.specs.declared.cell.Cell.TheVariants.{Live};
     ghost use Rattle.ts_packet.specs.Header.{pid_of};
     ghost use Rattle.plug_conf.specs.Continuity.{IsLawfulContinuity};
-    ghost use Rattle.plug_conf.specs.Limits.{pid_bound};
     ghost use Rattle.plug_watch.specs.ContinuityRule.{continuity_rule, is_watched, fixed};
     ghost use Rattle.plug_watch.specs.ContinuitySeen.{Watches, WatchesSome};
     ghost use Rattle.plug_watch.specs.ContinuityConfOf.{conf_of};
@@ -64,7 +58,7 @@ impl Continuity {
 
     // Whether the packets of a PID are looked at.
     fn watches(&self, pid: u16) -> bool
-        requires { pid < pid_bound }
+        requires { pid < PID_COUNT }
         ensures { result ≡ is_watched (conf_of self.now) pid }
     {
         self.pids.selects(false, pid) && pid != NULL_PID
@@ -95,10 +89,10 @@ impl Continuity {
 
 // No packet on any PID.
 fn no_packets(alloc: Global) -> Result<Vec<Option<LastPacket>>, AllocError>
-    ensures { IfOk result (λ seen. (length seen.items ≡ 8192) × ((pid : ℕ) → slice_index_or seen.items pid None ≡ None)) }
+    ensures { IfOk result (λ seen. (length seen.items ≡ PID_COUNT) × ((pid : ℕ) → slice_index_or seen.items pid None ≡ None)) }
 {
-    let mut seen = Vec::with_capacity(alloc, PID_BOUND)?;
-    for _ in 0..PID_BOUND {
+    let mut seen = Vec::with_capacity(alloc, usize::from(PID_COUNT))?;
+    for _ in 0..PID_COUNT {
         seen.push(None)?;
     }
     Ok(seen)

@@ -3,7 +3,6 @@ ghost use Rattle.std.specs.Prelude.{◌≡◌, ◌==◌, ◌++◌, ◌∷◌, []
 ghost use Rattle.std.specs.List.{flat_map};
 ghost use Rattle.ts_packet.specs.Header.{pid_of};
 ghost use Rattle.plugin_trait.specs.PlacedLines.{placed_at};
-ghost use Rattle.plug_conf.specs.Limits.{pid_bound};
 ghost use Rattle.plug_watch.specs.Tallies.{IsTally};
 ghost use Rattle.plug_watch.specs.CountRule.{numbers_below, pid_lines, pid_text, summary_on};
 
@@ -11,9 +10,7 @@ use crate::lines::push_line;
 use crate::tally::Tally;
 use plugin_trait::Line;
 use std::alloc::AllocError;
-
-/// PIDs are below this number.
-const PID_BOUND: u16 = 8192;
+use ts_packet::PID_COUNT;
 
 /// Puts the summary behind other lines: a line for each PID that has packets, unless the total alone is
 /// wanted, and then the total.
@@ -23,7 +20,7 @@ pub fn push_summary(
     tally: &Tally,
     total: bool,
 ) -> Result<(), AllocError>
-    requires { length tally.now.counts.items ≡ pid_bound }
+    requires { length tally.now.counts.items ≡ PID_COUNT }
     ensures { OnOk result ((packets : List (List ℕ)) → IsTally tally.now.counts.items tally.now.total (map pid_of packets)
         → lines.new.items ≡ lines.old.items ++ placed_at cut (summary_on total packets)) }
 {
@@ -36,11 +33,11 @@ pub fn push_summary(
 
 // Puts a line for each PID that has packets behind other lines.
 fn push_pid_lines(lines: &mut Vec<Line>, cut: u64, tally: &Tally) -> Result<(), AllocError>
-    requires { length tally.now.counts.items ≡ pid_bound }
+    requires { length tally.now.counts.items ≡ PID_COUNT }
     ensures { OnOk result ((packets : List (List ℕ)) → IsTally tally.now.counts.items tally.now.total (map pid_of packets)
-        → lines.new.items ≡ lines.old.items ++ placed_at cut (flat_map (pid_lines packets) (numbers_below pid_bound))) }
+        → lines.new.items ≡ lines.old.items ++ placed_at cut (flat_map (pid_lines packets) (numbers_below PID_COUNT))) }
 {
-    for pid in 0..PID_BOUND {
+    for pid in 0..PID_COUNT {
         push_pid_line(lines, cut, pid, tally.count_on(pid))?;
     }
     Ok(())

@@ -1,11 +1,8 @@
 ghost use Rattle.std.specs.Prelude.{◌≡◌, ◌<◌, ◌^◌, ◌++◌, ◌∷◌, [], ℕ, List, IfOk, length, slice_index};
-ghost use Rattle.plug_conf.specs.Limits.{pid_bound};
 ghost use Rattle.plug_watch.specs.Tallies.{IsTally, HasRoomFor};
 
 use std::alloc::{AllocError, Global};
-
-/// PIDs are below this number.
-const PID_BOUND: usize = 8192;
+use ts_packet::PID_COUNT;
 
 /// How many packets were counted on each PID, and in all.
 #[derive(Drop, Debug)]
@@ -19,8 +16,8 @@ impl Tally {
     pub fn new(alloc: Global) -> Result<Tally, AllocError>
         ensures { IfOk result (λ tally. IsTally tally.counts.items tally.total []) }
     {
-        let mut counts = Vec::with_capacity(alloc, PID_BOUND)?;
-        for _ in 0..PID_BOUND {
+        let mut counts = Vec::with_capacity(alloc, usize::from(PID_COUNT))?;
+        for _ in 0..PID_COUNT {
             counts.push(0)?;
         }
         Ok(Tally { counts, total: 0 })
@@ -28,7 +25,7 @@ impl Tally {
 
     /// Counts one packet more on a PID.
     pub fn add(&mut self, pid: u16)
-        requires on_pid { pid < pid_bound }
+        requires on_pid { pid < PID_COUNT }
         requires room { HasRoomFor self.old.counts.items self.old.total }
         ensures { (pids : List ℕ) → IsTally self.old.counts.items self.old.total pids
             → IsTally self.new.counts.items self.new.total (pids ++ pid ∷ []) }
@@ -39,8 +36,8 @@ impl Tally {
 
     /// How many packets were counted on a PID.
     pub fn count_on(&self, pid: u16) -> u64
-        requires on_pid { pid < pid_bound }
-        requires whole { length self.now.counts.items ≡ pid_bound }
+        requires on_pid { pid < PID_COUNT }
+        requires whole { length self.now.counts.items ≡ PID_COUNT }
         ensures { result ≡ slice_index self.now.counts.items pid }
     {
         self.counts[usize::from(pid)]

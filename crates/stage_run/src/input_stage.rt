@@ -10,7 +10,7 @@ use ts_outside::Source;
 use ts_packet::{Cell, Packet};
 
 /// Positions are below this number.
-const POSITION_LIMIT: u64 = 1 << 60;
+const POSITION_LIMIT: u64 = chain_model::POSITION_LIMIT;
 
 /// An input with its stuffing.
 pub struct InputStage<S> {

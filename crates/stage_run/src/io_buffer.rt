@@ -2,7 +2,7 @@ ghost use Rattle.std.specs.Prelude.{◌≤◌, vec_len};
 
 use std::alloc::{AllocError, Global};
 
-const PACKET_SIZE: usize = 188;
+const PACKET_SIZE: usize = ts_packet::PACKET_SIZE;
 
 /// IoBuffer for the bytes of packets, taken before the run: an input reads into it, and an output gathers there what it
 /// writes. One call of the outside moves as much as fits, at most.

@@ -4,7 +4,7 @@ ghost use Rattle.ts_packet.specs.Packet.{IsPacket};
 
 use ts_packet::Packet;
 
-pub(crate) const PACKET_SIZE: usize = 188;
+pub(crate) const PACKET_SIZE: usize = ts_packet::PACKET_SIZE;
 
 /// The packet that stands at a place of a row of bytes.
 pub(crate) fn packet_at(bytes: &[u8], from: usize) -> Packet

@@ -4,7 +4,7 @@ use chain_core::InputEnd;
 use ts_outside::{Failed, Source};
 use ts_packet::Cell;
 
-const SYNC_BYTE: u8 = 0x47;
+const SYNC_BYTE: u8 = ts_packet::SYNC_BYTE;
 
 /// The packets of a source, read in large pieces.
 pub(crate) struct PacketStream<S> {

@@ -5,7 +5,7 @@
 use anyhow::Result;
 use std::fs;
 use ts_demux::{Assembly, Demux};
-use ts_packet::Packet;
+use ts_packet::{NULL_PID, PACKET_SIZE, Packet};
 use ts_section::Section;
 
 /// A stream, and its PIDs that carry sections.
@@ -42,13 +42,13 @@ fn main(rt: HostRuntime) -> Result<()> {
 
 /// Prints the sections and tables of one PID.
 fn print_pid(rt: &(impl Print + AllocGlobal), pid: u16, stream: &[u8]) -> Result<()> {
-    if pid > 8191 {
+    if pid > NULL_PID {
         return Ok(());
     }
     let mut demux = Demux::new(rt.alloc(), pid)?;
     let mut assembly = Assembly::new(rt.alloc())?;
     let mut left = stream;
-    while let Some((row, rest)) = left.split_first_chunk::<188>() {
+    while let Some((row, rest)) = left.split_first_chunk::<PACKET_SIZE>() {
         if let Ok(packet) = Packet::of(row) {
             for _ in 0..demux.feed(&packet)? {
                 if let Some(section) = demux.next_section() {

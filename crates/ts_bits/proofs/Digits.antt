@@ -7,7 +7,7 @@ use Rattle.std.specs.Prelude.{Result, Ok, Err, OnOk}
 use Rattle.bit_rows.specs.BitRow.{field, SetsField}
 use Rattle.ts_bits.specs.declared.row.ShortInput.{ShortInput}
 use Rattle.ts_bits.specs.Decimal.{packed, decimal, AreDigits, half_byte, SetsDecimal}
-use Rattle.ts_bits.proofs.Fields.{field-cat, field-lt, field-part}
+use Rattle.bit_rows.proofs.Fields.{field-split, field-below, field-part}
 
 pub packed-zero : (value : ℕ) → packed 0 value ≡ 0
 unfolding packed
@@ -44,8 +44,8 @@ decimal-packed row at zero value same small = (rw decimal-zero (omega arith), λ
 decimal-packed row at (suc digits) value same small =
     let four_more : 4 * suc digits ≡ 4 * digits + 4 = omega arith in
     let both : field row at (4 * digits) * 2 ^ 4 + half_byte row at digits ≡ 16 * packed digits (value / 10) + value % 10 =
-    sym (field-cat row at (4 * digits) 4) ∙ ap (field row at) (sym four_more) ∙ same ∙ packed-suc digits value in
-    let half_small : half_byte row at digits < 2 ^ 4 = field-lt row (at + 4 * digits) 4 in
+    sym (field-split row at (4 * digits) 4) ∙ ap (field row at) (sym four_more) ∙ same ∙ packed-suc digits value in
+    let half_small : half_byte row at digits < 2 ^ 4 = field-below row (at + 4 * digits) 4 in
     let front : field row at (4 * digits) ≡ packed digits (value / 10) = omega arith in
     let last : half_byte row at digits ≡ value % 10 = omega arith in
     let power : 10 ^ suc digits ≡ 10 ^ digits * 10 = pow-suc 10 digits in

@@ -1,4 +1,4 @@
-pub mod Fields
+mod MaskedBits
 mod Writes
 mod Digits
 mod Loops

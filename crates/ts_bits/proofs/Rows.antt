@@ -1,7 +1,8 @@
 -- Worked rows: the definitions computed.
-use Rattle.std.proofs.Common.{◌≡◌, ◌∷◌, [], refl}
+use Rattle.std.proofs.Common.{◌≡◌, ◌∷◌, [], Ok, Err, refl}
 use Rattle.bit_rows.specs.BitRow.{bit_of, field}
 use Rattle.ts_bits.specs.Decimal.{decimal, packed}
+use Rattle.ts_bits.specs.DescriptorLoop.{descriptors_from, descriptors_of}
 use Rattle.ts_bits.specs.TaggedBody.{loop_bytes}
 
 -- the duration 01 45 30 is one hour, 45 minutes and 30 seconds
@@ -17,3 +18,13 @@ half-bytes = refl
 -- a CA descriptor and an empty one
 two-descriptors : loop_bytes (record { tag = 9; body = 0x0B ∷ 0x00 ∷ 0xE1 ∷ 0x00 ∷ [] } ∷ record { tag = 10; body = [] } ∷ []) ≡ 0x09 ∷ 0x04 ∷ 0x0B ∷ 0x00 ∷ 0xE1 ∷ 0x00 ∷ 0x0A ∷ 0x00 ∷ []
 two-descriptors = refl
+
+-- read as two descriptors
+read-two : descriptors_of (0x09 ∷ 0x02 ∷ 0x0B ∷ 0x00 ∷ 0x0A ∷ 0x00 ∷ []) ≡ Ok (record { tag = 9; body = 0x0B ∷ 0x00 ∷ [] } ∷ record { tag = 10; body = [] } ∷ [])
+unfolding descriptors_from
+read-two = refl
+
+-- the second one passes the end by a byte
+second-cut : descriptors_of (0x0A ∷ 0x00 ∷ 0x52 ∷ 0x02 ∷ 0x00 ∷ []) ≡ Err 2
+unfolding descriptors_from
+second-cut = refl

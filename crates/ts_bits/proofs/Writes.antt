@@ -7,7 +7,7 @@ use Rattle.std.proofs.lemmas.Nat.{div_below, one_shl, pow_pos, shr-shr}
 use Rattle.std.proofs.lemmas.Nat.Bits.{bit_at_or, bit_at-zero, bit_at-pow_same, bit_at-pow_other, bit_at_clear_same, bit_at_clear_other}
 use Rattle.std.specs.Int.{bit_at, w8}
 use Rattle.bit_rows.specs.BitRow.{bit_of, field, SetsField}
-use Rattle.ts_bits.proofs.Fields.{bit_of-byte, field-zero, field-suc, field-same}
+use Rattle.bit_rows.proofs.Fields.{bit_of-in_byte, field-zero, field-suc, field-moved}
 
 -- a byte whose bit at `shift` becomes `bit`
 abbrev with_bit : ℕ → ℕ → ℕ → ℕ
@@ -37,7 +37,7 @@ with_bit_other byte shift bit i small one_bit within other =
 -- the bits of a row with one byte written
 set_here : (row : List ℕ) (index value place : ℕ) → index < length row → place < 8 → bit_of (set row index value) (8 * index + place) ≡ bit_at value (7 - place)
 set_here row index value place there small =
-    bit_of-byte (set row index value) index place small ∙ ap (λ byte. bit_at byte (7 - place)) (get_or-set_same row index value 0 there)
+    bit_of-in_byte (set row index value) index place small ∙ ap (λ byte. bit_at byte (7 - place)) (get_or-set_same row index value 0 there)
 
 set_elsewhere : (row : List ℕ) (index value i : ℕ) → i / 8 ≢ index → bit_of (set row index value) i ≡ bit_of row i
 unfolding bit_of
@@ -53,7 +53,7 @@ set_bit-other row index place bit i there small one_bit other =
           let here : bit_of (set row index (with_bit (get_or row index 0) (7 - place) bit)) (8 * index + i % 8) ≡ bit_of row (8 * index + i % 8) =
           set_here row index (with_bit (get_or row index 0) (7 - place) bit) (i % 8) there (omega arith)
           ∙ with_bit_other (get_or row index 0) (7 - place) bit (7 - i % 8) (omega arith) one_bit (omega arith) apart
-          ∙ sym (bit_of-byte row index (i % 8) (omega arith)) in
+          ∙ sym (bit_of-in_byte row index (i % 8) (omega arith)) in
           rw parts at here
       | inr away ↦ set_elsewhere row index (with_bit (get_or row index 0) (7 - place) bit) i away
     ]
@@ -80,7 +80,7 @@ sets_more old mid new at count i value inside front one =
     let one_less : count - (i + 1) ≡ count - 1 - i = omega arith in
     let one_more : count - 1 - i + 1 ≡ count - i = omega arith in
     let halved : value / 2 ^ (count - 1 - i) / 2 ≡ value / 2 ^ (count - i) = shr-shr value (count - 1 - i) 1 ∙ ap (λ n. value / 2 ^ n) one_more in
-    let kept : field new at i ≡ field mid at i = field-same new mid at at i (λ j h. one.before (at + j) (omega arith)) in
+    let kept : field new at i ≡ field mid at i = field-moved new mid at at i (λ j h. one.before (at + j) (omega arith)) in
     let front_read : field mid at i ≡ value / 2 ^ (count - i) = front.reads_back in
     let last : bit_of new (at + i) ≡ value / 2 ^ (count - 1 - i) % 2 =
     (let one_read : field new (at + i) 1 ≡ value / 2 ^ (count - 1 - i) % 2 = one.reads_back in

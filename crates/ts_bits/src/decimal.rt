@@ -20,7 +20,9 @@ pub enum BcdFault {
 pub fn bcd(from: &[u8], at: usize, digits: u32) -> Result<u64, BcdFault>
     requires { digits ≤ 8 }
     ensures read { IfOk result (λ number. number ≡ decimal from.now at digits) }
+    ensures there { OnOk result (at + 4 * digits ≤ 8 * length from.now) }
     ensures digits { OnOk result (AreDigits from.now at digits) }
+    ensures below { IfOk result (λ number. number < 10 ^ digits) }
     ensures refused { IfErr result (IsBcdFault from.now at digits) }
 {
     let Ok(packed) = bits(from, at, 4 * digits) else {

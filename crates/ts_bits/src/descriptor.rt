@@ -1,6 +1,7 @@
 //! One descriptor.
 
 ghost use Rattle.std.specs.Prelude.{◌≡◌, ◌≤◌, length, IfOk};
+ghost use Rattle.ts_bits.specs.TaggedBody.{IsDescriptor};
 
 use std::alloc::{AllocError, Global};
 use std::marker::Model;
@@ -15,14 +16,13 @@ pub struct Descriptor {
 
 // Clauses see a descriptor as its tag and the list of its body's bytes.
 impl Model for Descriptor {
-    ghost use Rattle.std.specs.Prelude.{◌≤◌, length};
-    ghost use Rattle.ts_bits.specs.TaggedBody.{TaggedBody};
+    ghost use Rattle.ts_bits.specs.TaggedBody.{TaggedBody, IsDescriptor};
 
     ghost Value = { TaggedBody };
 
     ghost view = { λ d. record { tag = d.tag; body = d.body.items } };
 
-    ghost invariant = { λ d. length d.body.items ≤ 255 };
+    ghost invariant = { λ d. IsDescriptor (record { tag = d.tag; body = d.body.items }) };
 }
 
 impl Descriptor {
@@ -45,7 +45,7 @@ impl Descriptor {
     /// The bytes behind the length.
     pub fn body(&self) -> &[u8]
         ensures body { result.now ≡ self.now.body }
-        ensures room { length self.now.body ≤ 255 }
+        ensures fits { IsDescriptor self.now }
     {
         &self.body
     }

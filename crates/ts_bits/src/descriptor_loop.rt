@@ -1,9 +1,9 @@
 //! Loops of descriptors.
 
-ghost use Rattle.std.specs.Prelude.{◌≡◌, ◌+◌, ◌<◌, ◌≤◌, length, slice_index, IfOk, IfErr, IfNone, IfSome};
+ghost use Rattle.std.specs.Prelude.{◌≡◌, ◌+◌, ◌++◌, ◌<◌, ◌≤◌, length, take, drop, slice_index, All, IfOk, IfNone, IfSome, OnOk, OnSome};
 ghost use Rattle.ts_bits.specs.declared.descriptor_loop.LoopFault.TheVariants.{NoMemory};
-ghost use Rattle.ts_bits.specs.DescriptorLoop.{IsFirstBody, IsLoopFault};
-ghost use Rattle.ts_bits.specs.TaggedBody.{loop_bytes};
+ghost use Rattle.ts_bits.specs.DescriptorLoop.{IsLoopOf};
+ghost use Rattle.ts_bits.specs.TaggedBody.{IsDescriptor, descriptor_bytes, loop_bytes};
 
 use crate::descriptor::Descriptor;
 use std::alloc::{AllocError, AllocFailed, Global};
@@ -65,6 +65,18 @@ impl DescriptorList {
         &self.descriptors
     }
 
+    /// An equal list.
+    pub fn copy(&self) -> Result<DescriptorList, AllocError>
+        ensures { IfOk result (λ list. list ≡ self.now) }
+    {
+        let mut descriptors = Vec::new(*self.descriptors.allocator());
+        let held = self.as_slice();
+        for descriptor in held {
+            descriptors.push(descriptor.copy()?)?;
+        }
+        Ok(DescriptorList { descriptors })
+    }
+
     /// The `Vec` of the descriptors.
     pub fn into_vec(self) -> Vec<Descriptor>
         ensures { result.items ≡ self }
@@ -75,8 +87,7 @@ impl DescriptorList {
 
 /// Reads descriptors one after another, up to the end of `from` (ISO/IEC 13818-1, 2.6).
 pub fn read_loop(alloc: Global, from: &[u8]) -> Result<DescriptorList, LoopFault>
-    ensures read { IfOk result (λ list. loop_bytes list ≡ from.now) }
-    ensures refused { IfErr result (IsLoopFault from.now) }
+    ensures { IsLoopOf from.now (λ list. list) result }
 {
     let mut descriptors = Vec::new(alloc);
     let mut offset = 0;
@@ -95,9 +106,33 @@ pub fn read_loop(alloc: Global, from: &[u8]) -> Result<DescriptorList, LoopFault
 /// The body of the descriptor that begins `rest`; none where the descriptor passes the end.
 fn first_body(rest: &[u8]) -> Option<&[u8]>
     ensures passes { IfNone result (length rest.now < 2 + slice_index rest.now 1) }
-    ensures within { IfSome result (λ body. 2 + length body.now ≤ length rest.now) }
-    ensures begins { IfSome result (λ body. IsFirstBody rest.now body.now) }
+    ensures within { OnSome result (2 + slice_index rest.now 1 ≤ length rest.now) }
+    ensures begins { IfSome result (λ body. body.now ≡ take (slice_index rest.now 1) (drop 2 rest.now)) }
 {
     let size = usize::from(*rest.get(1)?);
     rest.get(2..2 + size)
+}
+
+/// The bytes of descriptors one after another, as `read_loop` reads them.
+pub fn write_loop(alloc: Global, descriptors: &[Descriptor]) -> Result<Vec<u8>, AllocError>
+    ensures written { IfOk result (λ bytes. bytes.items ≡ loop_bytes descriptors.now) }
+    ensures fit { OnOk result (All (λ d. IsDescriptor d) descriptors.now) }
+{
+    let mut bytes = Vec::new(alloc);
+    for descriptor in descriptors {
+        put_descriptor(&mut bytes, descriptor)?;
+    }
+    Ok(bytes)
+}
+
+/// Adds the bytes of one descriptor.
+fn put_descriptor(bytes: &mut Vec<u8>, descriptor: &Descriptor) -> Result<(), AllocError>
+    ensures written { OnOk result (bytes.new.items ≡ bytes.old.items ++ descriptor_bytes descriptor.now) }
+    ensures fits { IsDescriptor descriptor.now }
+{
+    let body = descriptor.body();
+    bytes.push(descriptor.tag())?;
+    bytes.push(body.len() as u8)?;
+    bytes.extend_from_slice(body)?;
+    Ok(())
 }

@@ -5,11 +5,13 @@
 mod decimal;
 mod descriptor;
 mod descriptor_loop;
+mod loop_laws;
 mod row;
 
 pub use decimal::{BcdFault, bcd, put_bcd};
 pub use descriptor::Descriptor;
-pub use descriptor_loop::{DescriptorList, LoopFault, read_loop};
+pub use descriptor_loop::{DescriptorList, LoopFault, read_loop, write_loop};
+pub use loop_laws::loops_are_whole_or_cut;
 pub use row::{ShortInput, bits, put_bits};
 
 #[cfg(test)]

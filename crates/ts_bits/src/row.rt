@@ -13,6 +13,7 @@ pub fn bits(from: &[u8], at: usize, count: u32) -> Result<u64, ShortInput>
     requires { count ≤ 64 }
     ensures read { IfOk result (λ number. number ≡ field from.now at count) }
     ensures there { IsOk result ↔ (at + count ≤ 8 * length from.now) }
+    ensures below { IfOk result (λ number. number < 2 ^ count) }
 {
     if !has_bits(from, at, count) {
         return Err(ShortInput);

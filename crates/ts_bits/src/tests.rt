@@ -2,7 +2,7 @@
 
 use crate::{
     BcdFault, Descriptor, DescriptorList, LoopFault, ShortInput, bcd, bits, put_bcd, put_bits,
-    read_loop,
+    read_loop, write_loop,
 };
 use std::alloc::Global;
 use std::test::Fail;
@@ -63,6 +63,9 @@ fn two_descriptors(rt: HostRuntime) -> Result<(), Fail> {
     assert_eq!(rt; descriptors[0].body(), [0x0B, 0x00, 0xE1, 0x00].as_slice());
     assert_eq!(rt; descriptors[1].tag(), 10);
     assert_eq!(rt; descriptors[1].body().len(), 0);
+    let copied = list.copy()?;
+    let written = write_loop(rt.alloc(), copied.as_slice())?;
+    assert_eq!(rt; written.as_slice(), bytes.as_slice());
     Ok(())
 }
 

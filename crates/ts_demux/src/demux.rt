@@ -9,7 +9,7 @@ use crate::reader::StretchReader;
 use std::alloc::{AllocError, Global};
 use std::collections::VecDeque;
 use std::marker::Model;
-use ts_packet::Packet;
+use ts_packet::{PID_COUNT, Packet};
 use ts_section::Section;
 
 /// Collects the sections of one PID (ISO/IEC 13818-1, 2.4.3.3 and 2.4.4), fed packet by packet.
@@ -38,7 +38,7 @@ impl Model for Demux {
 impl Demux {
     /// A demultiplexer that was fed nothing.
     pub fn new(alloc: Global, pid: u16) -> Result<Demux, AllocError>
-        requires { pid < 8192 }
+        requires { pid < PID_COUNT }
         ensures { IfOk result (λ demux. StandsFor demux pid [] []) }
     {
         Ok(Demux {

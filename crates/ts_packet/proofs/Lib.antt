@@ -1,4 +1,5 @@
 pub mod Packets
 pub mod Bytes
 pub mod Clocks
+pub mod HeaderLaws
 mod Rows

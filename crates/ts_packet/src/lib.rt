@@ -4,10 +4,12 @@
 
 mod cell;
 mod no_sync;
+mod numbers;
 mod packet;
 #[cfg(test)]
 mod tests;
 
 pub use cell::Cell;
 pub use no_sync::NoSync;
+pub use numbers::{NULL_PID, PACKET_SIZE, PAYLOAD_SIZE, PID_COUNT, SYNC_BYTE};
 pub use packet::Packet;

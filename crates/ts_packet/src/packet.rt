@@ -10,14 +10,13 @@ mod clock;
 mod payload;
 
 use crate::no_sync::NoSync;
+use crate::numbers::{PACKET_SIZE, PID_COUNT, SYNC_BYTE};
 use std::marker::Model;
-
-const SYNC_BYTE: u8 = 0x47;
 
 /// A transport stream packet. Contracts see it as its 188 bytes, and `IsPacket` holds of them.
 #[derive(Clone, Copy, Debug, PartialEq, Eq)]
 pub struct Packet {
-    row: [u8; 188],
+    row: [u8; PACKET_SIZE],
 }
 
 impl Model for Packet {
@@ -35,8 +34,8 @@ impl Model for Packet {
 
 impl Packet {
     /// The packet of these bytes, which have to begin with the sync byte.
-    pub fn of(bytes: &[u8; 188]) -> Result<Self, NoSync>
-        ensures accepted { IsOk result ↔ (slice_index bytes.now 0 ≡ 0x47) }
+    pub fn of(bytes: &[u8; PACKET_SIZE]) -> Result<Self, NoSync>
+        ensures accepted { IsOk result ↔ (slice_index bytes.now 0 ≡ SYNC_BYTE) }
         ensures bytes { IfOk result (λ packet. packet ≡ bytes.now) }
         ensures packet { IfOk result (λ packet. IsPacket packet) }
         ensures found { IfErr result (λ fault. fault.found ≡ slice_index bytes.now 0) }
@@ -53,7 +52,7 @@ impl Packet {
         ensures bytes { result ≡ null_packet }
         ensures packet { IsPacket result }
     {
-        let mut row = [0xFF; 188];
+        let mut row = [0xFF; PACKET_SIZE];
         row[0] = SYNC_BYTE;
         row[1] = 0x1F;
         row[3] = 0x10;
@@ -61,7 +60,7 @@ impl Packet {
     }
 
     /// All bytes of the packet.
-    pub fn bytes(&self) -> &[u8; 188]
+    pub fn bytes(&self) -> &[u8; PACKET_SIZE]
         ensures bytes { result.now ≡ self.now }
         ensures packet { IsPacket self.now }
     {
@@ -96,7 +95,7 @@ impl Packet {
     /// The packet identifier, 0 to 8191.
     pub fn pid(&self) -> u16
         ensures field { result ≡ pid_of self.now }
-        ensures range { result < 8192 }
+        ensures range { result < PID_COUNT }
     {
         u16::from(self.row[1] & 0x1F) << 8 | u16::from(self.row[2])
     }
@@ -165,7 +164,7 @@ impl Packet {
 
     /// Sets the packet identifier.
     pub fn set_pid(&mut self, pid: u16)
-        requires { pid < 8192 }
+        requires { pid < PID_COUNT }
         ensures field { SetsField self.old self.new 11 13 pid }
         ensures row { self.new ≡ with_pid self.old pid }
         ensures packet { IsPacket self.new }

@@ -1,4 +1,4 @@
-use crate::{NoSync, Packet};
+use crate::{NoSync, PACKET_SIZE, Packet};
 use std::process::Abort;
 
 const NULL_HEAD: [u8; 12] = [
@@ -7,7 +7,7 @@ const NULL_HEAD: [u8; 12] = [
 
 /// The packet that begins with these bytes and goes on in 0xFF.
 fn packet(rt: &impl Abort, head: [u8; 12]) -> Packet {
-    let mut row = [0xFF; 188];
+    let mut row = [0xFF; PACKET_SIZE];
     row[..12].copy_from_slice(&head);
     Packet::of(&row).expect(rt, "a sync byte")
 }
@@ -182,7 +182,7 @@ fn fields_written(rt: HostRuntime) {
 
 #[test]
 fn sync_byte(rt: HostRuntime) {
-    let refused = Packet::of(&[0xFF; 188]);
+    let refused = Packet::of(&[0xFF; PACKET_SIZE]);
     assert_eq!(rt; refused, Err(NoSync { found: 0xFF }));
     assert_eq!(rt; Packet::null(), packet(&rt, NULL_HEAD));
 }

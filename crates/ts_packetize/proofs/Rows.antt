@@ -2,7 +2,8 @@
 use Rattle.std.proofs.Common.{◌≡◌, ℕ, true, List, [], ◌∷◌, ◌++◌, replicate, Some, None, refl}
 use Rattle.ts_packetize.specs.Packing.{loads_behind, loads_of}
 use Rattle.ts_packetize.specs.Packets.{packets_of}
-use Rattle.ts_packetize.specs.Cycle.{with_counter, cycle_packets}
+use Rattle.ts_packet.specs.Header.{with_counter}
+use Rattle.ts_packetize.specs.Cycle.{cycle_packets}
 
 -- the short section 70 30 01 AA on PID 32: unit start, pointer 0, and 179 fill bytes
 one_packet :
@@ -21,6 +22,6 @@ b = 0x47 ∷ 0x00 ∷ 0x20 ∷ 0x10 ∷ 0xBB ∷ []
 -- with no contents at first, then the cycle a a, and b known from its second packet on
 cycle_goes_on :
     cycle_packets [] 0 ([] ∷ (a ∷ a ∷ []) ∷ (b ∷ []) ∷ (b ∷ []) ∷ [])
-    ≡ None ∷ Some (with_counter 0 a) ∷ Some (with_counter 1 a) ∷ Some (with_counter 2 b) ∷ []
+    ≡ None ∷ Some (with_counter a 0) ∷ Some (with_counter a 1) ∷ Some (with_counter b 2) ∷ []
 unfolding cycle_packets
 cycle_goes_on = refl

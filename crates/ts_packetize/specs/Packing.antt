@@ -3,6 +3,7 @@
 -- That each section begins a packet of its own is this project's own rule.
 use Rattle.std.specs.Prelude.{ℕ, ◌-◌, Bool, true, false, List, [], ◌∷◌, ◌++◌, length, take, drop, replicate, zero, suc}
 use Rattle.std.specs.List.{flat_map}
+use Rattle.ts_packet.specs.declared.numbers.TheConstants.{PAYLOAD_SIZE}
 
 -- the payload of one packet, and whether it has a unit start
 pub record Load : Type 0 where
@@ -11,14 +12,14 @@ pub record Load : Type 0 where
 
 -- the first 184 bytes, filled up with 0xFF
 abbrev pub filled : List ℕ → List ℕ
-filled bytes = take 184 bytes ++ replicate (184 - length bytes) 0xFF
+filled bytes = take PAYLOAD_SIZE bytes ++ replicate (PAYLOAD_SIZE - length bytes) 0xFF
 
 -- the loads without unit start in which some bytes go on, at most so many
 unfoldable pub loads_behind : ℕ → List ℕ → List Load
 loads_behind zero bytes = []
 loads_behind (suc more) [] = []
 loads_behind (suc more) (b ∷ bytes) =
-    record { unit_start = false; payload = filled (b ∷ bytes) } ∷ loads_behind more (drop 184 (b ∷ bytes))
+    record { unit_start = false; payload = filled (b ∷ bytes) } ∷ loads_behind more (drop PAYLOAD_SIZE (b ∷ bytes))
 
 -- the loads of one section: it begins one with pointer 0 and goes on in others
 unfoldable pub loads_of : List ℕ → List Load

@@ -1,15 +1,15 @@
 //! Packets given in cycles.
 
 ghost use Rattle.std.specs.Prelude.{◌≡◌, ◌<◌, [], IfOk, IfNone, OnOk, OnErr};
+ghost use Rattle.ts_packet.specs.Header.{with_counter};
 ghost use Rattle.ts_packetize.specs.Packets.{packets_of};
 ghost use Rattle.ts_packetize.specs.Cycle.{due, GivesNext};
-ghost use Rattle.ts_packetize.specs.Cycle as cycling;
 
 use crate::packet_list::PacketList;
 use crate::packing::packets;
 use std::alloc::{AllocError, Global};
 use std::marker::Model;
-use ts_packet::Packet;
+use ts_packet::{NULL_PID, Packet};
 use ts_section::Section;
 
 /// The packets of contents, given one by one and over again. New contents come with the next cycle.
@@ -25,19 +25,20 @@ pub struct Cycle {
 
 impl Model for Cycle {
     ghost use Rattle.std.specs.Prelude.{◌<◌, ◌≤◌, length, drop, unwrap_or};
+    ghost use Rattle.ts_packet.specs.declared.numbers.TheConstants.{NULL_PID};
     ghost use Rattle.ts_packetize.specs.Cycle.{CycleState};
 
     ghost Value = { CycleState };
 
     ghost view = { λ c. record { pid = c.pid; left = drop c.place c.current; contents = unwrap_or c.renewed c.current } };
 
-    ghost invariant = { λ c. c.pid < 8191 };
+    ghost invariant = { λ c. c.pid < NULL_PID };
 }
 
 impl Cycle {
     /// A cycle of the PID, below 8191, with no contents.
     pub fn new(alloc: Global, pid: u16) -> Result<Cycle, AllocError>
-        requires { pid < 8191 }
+        requires { pid < NULL_PID }
         ensures { IfOk result (λ cycle. cycle ≡ record { pid = pid; left = []; contents = [] }) }
     {
         Ok(Cycle {
@@ -95,12 +96,9 @@ impl Cycle {
 /// The packet with another counter.
 fn with_counter(packet: &Packet, counter: u8) -> Packet
     requires { counter < 16 }
-    ensures { result ≡ cycling.with_counter counter packet.now }
+    ensures { result ≡ with_counter packet.now counter }
 {
-    let mut row = *packet.bytes();
-    row[3] = row[3] / 16 * 16 + counter;
-    match Packet::of(&row) {
-        Ok(packet) => packet,
-        Err(_) => unreachable!(),
-    }
+    let mut copy = *packet;
+    copy.set_counter(counter);
+    copy
 }

@@ -7,19 +7,16 @@ ghost use Rattle.ts_packetize.specs.Packets.{packets_of, packet_with, counted_fr
 
 use crate::packet_list::PacketList;
 use std::alloc::{AllocError, Global};
-use ts_packet::Packet;
+use ts_packet::{NULL_PID, PACKET_SIZE, PAYLOAD_SIZE, Packet, SYNC_BYTE};
 use ts_section::Section;
 
 /// The bytes of a packet's header.
 const HEADER: u8 = 4;
 
-/// The payload bytes of a packet without adaptation field.
-const PAYLOAD: usize = 184;
-
 /// The packets of the PID, below 8191, that carry the sections: each section begins a packet of its own with
 /// unit start and pointer 0, and its last packet is filled up with 0xFF. Counters run from 0, modulo 16.
 pub fn packets(alloc: Global, pid: u16, sections: &[Section]) -> Result<PacketList, AllocError>
-    requires { pid < 8191 }
+    requires { pid < NULL_PID }
     ensures packed { IfOk result (λ list. list ≡ packets_of pid sections.now) }
     ensures again { IfOk result (λ list. sections_of_pid pid list ≡ sections.now) }
 {
@@ -32,14 +29,14 @@ pub fn packets(alloc: Global, pid: u16, sections: &[Section]) -> Result<PacketLi
 
 /// Adds the packets of one section.
 fn pack(pid: u16, section: &[u8], packets: &mut Vec<Packet>) -> Result<(), AllocError>
-    requires { pid < 8191 }
+    requires { pid < NULL_PID }
     ensures { OnOk result (packets.new.items
         ≡ packets.old.items ++ counted_from pid (length packets.old.items % 16) (loads_of section.now)) }
 {
-    let (first, mut rest) = section.split_at(section.len().min(PAYLOAD - 1));
+    let (first, mut rest) = section.split_at(section.len().min(PAYLOAD_SIZE - 1));
     packets.push(packet(pid, next_counter(packets), true, first))?;
     while !rest.is_empty() {
-        let (piece, behind) = rest.split_at(rest.len().min(PAYLOAD));
+        let (piece, behind) = rest.split_at(rest.len().min(PAYLOAD_SIZE));
         packets.push(packet(pid, next_counter(packets), false, piece))?;
         rest = behind;
     }
@@ -56,9 +53,9 @@ fn next_counter(packets: &Vec<Packet>) -> u8
 
 /// The packet with this counter that carries the bytes, behind a pointer 0 where it has a unit start.
 fn packet(pid: u16, counter: u8, unit_start: bool, bytes: &[u8]) -> Packet
-    requires pid { pid < 8191 }
+    requires pid { pid < NULL_PID }
     requires counter { counter < 16 }
-    requires room { length bytes.now + (if unit_start then 1 else 0) ≤ 184 }
+    requires room { length bytes.now + (if unit_start then 1 else 0) ≤ PAYLOAD_SIZE }
     ensures { result ≡ packet_with pid counter
         (record { unit_start = unit_start; payload = filled (if unit_start then 0 ∷ bytes.now else bytes.now) }) }
 {
@@ -74,13 +71,13 @@ fn packet(pid: u16, counter: u8, unit_start: bool, bytes: &[u8]) -> Packet
 
 /// The packet with this header and a payload of 0xFF alone.
 fn blank(pid: u16, counter: u8, unit_start: bool) -> Packet
-    requires pid { pid < 8191 }
+    requires pid { pid < NULL_PID }
     requires counter { counter < 16 }
     ensures { result ≡ packet_with pid counter
-        (record { unit_start = unit_start; payload = replicate 184 0xFF }) }
+        (record { unit_start = unit_start; payload = replicate PAYLOAD_SIZE 0xFF }) }
 {
-    let mut row = [0xFF; 188];
-    row[0] = 0x47;
+    let mut row = [0xFF; PACKET_SIZE];
+    row[0] = SYNC_BYTE;
     row[1] = u8::from(unit_start) << 6 | (pid >> 8) as u8;
     row[2] = (pid & 0xFF) as u8;
     row[3] = 0x10 | counter;

@@ -7,7 +7,8 @@ use Rattle.std.proofs.Math.Nat.{mul_comm, add_comm}
 use Rattle.std.proofs.lemmas.Nat.{pow_pos, pow-add, xor_comm, xor_lt, xor_mod, xor_block, shl_below}
 use Rattle.std.proofs.lemmas.Nat.Bits.{bit_at-lt}
 use Rattle.bit_rows.specs.BitRow.{field}
-use Rattle.ts_bits.proofs.Fields.{field-lt, field-cat, field-append_left, field-append_right, field-byte}
+use Rattle.bit_rows.proofs.Fields.{field-below, field-split, field-whole_byte}
+use Rattle.bit_rows.proofs.RowParts.{field-append_left, field-append_right}
 use Rattle.ts_section.specs.Crc.{polynomial, remainder, divided_row, crc_of}
 use Rattle.ts_section.proofs.Division.{reduced, remainder-zero, remainder-suc, remainder-xor, remainder-front, remainder-small, remainder-lt, remainder-shift, xor-shift}
 
@@ -21,7 +22,7 @@ crc_of-is a = refl
 
 divided_row-lt : (a : List ℕ) → divided_row a < 2 ^ (8 * length a + 32)
 divided_row-lt a =
-    let bits : field a 0 (8 * length a) * 2 ^ 32 < 2 ^ (8 * length a + 32) = shl_below (field a 0 (8 * length a)) (8 * length a) 32 (field-lt a 0 (8 * length a)) in
+    let bits : field a 0 (8 * length a) * 2 ^ 32 < 2 ^ (8 * length a + 32) = shl_below (field a 0 (8 * length a)) (8 * length a) 32 (field-below a 0 (8 * length a)) in
     let ones : (2 ^ 32 - 1) * 2 ^ (8 * length a) < 2 ^ (8 * length a + 32) =
     rw (add_comm (8 * length a) 32) (shl_below (2 ^ 32 - 1) 32 (8 * length a) (omega arith)) in
     rw (divided_row-is a) (xor_lt (8 * length a + 32) (field a 0 (8 * length a) * 2 ^ 32) ((2 ^ 32 - 1) * 2 ^ (8 * length a)) bits ones)
@@ -41,11 +42,11 @@ cat-xor k a b small =
 -- the bits of two rows one after another
 field-append : (a b : List ℕ) → field (a ++ b) 0 (8 * length a + 8 * length b) ≡ bit_xor (field a 0 (8 * length a) * 2 ^ (8 * length b)) (field b 0 (8 * length b))
 field-append a b =
-    field-cat (a ++ b) 0 (8 * length a) (8 * length b)
+    field-split (a ++ b) 0 (8 * length a) (8 * length b)
     ∙ ap (λ n. n * 2 ^ (8 * length b) + field (a ++ b) (0 + 8 * length a) (8 * length b)) (field-append_left a b 0 (8 * length a) (omega arith))
     ∙ ap (λ n. field a 0 (8 * length a) * 2 ^ (8 * length b) + field (a ++ b) n (8 * length b)) (zero-add (8 * length a) ∙ sym (add-zero (8 * length a)))
     ∙ ap (λ n. field a 0 (8 * length a) * 2 ^ (8 * length b) + n) (field-append_right a b 0 (8 * length b))
-    ∙ cat-xor (8 * length b) (field a 0 (8 * length a)) (field b 0 (8 * length b)) (field-lt b 0 (8 * length b))
+    ∙ cat-xor (8 * length b) (field a 0 (8 * length a)) (field b 0 (8 * length b)) (field-below b 0 (8 * length b))
 
 -- factors in another order
 turned : (a b c : ℕ) → a * b * c ≡ a * c * b
@@ -72,7 +73,7 @@ divided_row-append a b =
 pub crc_of-append : (a b : List ℕ) → crc_of (a ++ b) ≡ remainder (8 * length b) (bit_xor (crc_of a * 2 ^ (8 * length b)) (field b 0 (8 * length b) * 2 ^ 32))
 crc_of-append a b =
     let both : 8 * length (a ++ b) ≡ 8 * length a + 8 * length b = omega (arith, length-append a b) in
-    let small : field b 0 (8 * length b) * 2 ^ 32 < 2 ^ (8 * length b + 32) = shl_below (field b 0 (8 * length b)) (8 * length b) 32 (field-lt b 0 (8 * length b)) in
+    let small : field b 0 (8 * length b) * 2 ^ 32 < 2 ^ (8 * length b + 32) = shl_below (field b 0 (8 * length b)) (8 * length b) 32 (field-below b 0 (8 * length b)) in
     crc_of-is (a ++ b)
     ∙ ap (λ n. remainder n (divided_row (a ++ b))) both
     ∙ ap (remainder (8 * length a + 8 * length b)) (divided_row-append a b)
@@ -100,7 +101,7 @@ crc_of-byte a x byte =
     let moved : crc_of a % 2 ^ 24 * 2 ^ 8 ≡ crc_of a * 256 % 2 ^ 32 = omega arith in
     let low : crc_of a % 2 ^ 24 * 2 ^ 8 < 2 ^ 32 = omega arith in
     crc_of-append a (x ∷ [])
-    ∙ ap (λ n. remainder 8 (bit_xor (crc_of a * 2 ^ 8) (n * 2 ^ 32))) (field-byte (x ∷ []) 0 byte)
+    ∙ ap (λ n. remainder 8 (bit_xor (crc_of a * 2 ^ 8) (n * 2 ^ 32))) (field-whole_byte (x ∷ []) 0 byte)
     ∙ ap (remainder 8) (byte_step (crc_of a) x (crc_of-lt a) byte)
     ∙ remainder-xor 8 (bit_xor (crc_of a / 2 ^ 24) x * 2 ^ 32) (crc_of a % 2 ^ 24 * 2 ^ 8)
     ∙ ap (bit_xor (remainder 8 (bit_xor (crc_of a / 2 ^ 24) x * 2 ^ 32))) (remainder-small 8 (crc_of a % 2 ^ 24 * 2 ^ 8) low ∙ moved)
@@ -152,5 +153,5 @@ crc_of-own a b four same =
 pub crc_of-zero : (a b : List ℕ) → length b ≡ 4 → crc_of (a ++ b) ≡ 0 → field b 0 32 ≡ crc_of a
 crc_of-zero a b four none =
     sym (same_from_xor (crc_of a) (field b 0 32)
-    (remainder-none 32 (bit_xor (crc_of a) (field b 0 32)) (xor_lt 32 (crc_of a) (field b 0 32) (crc_of-lt a) (field-lt b 0 32))
+    (remainder-none 32 (bit_xor (crc_of a) (field b 0 32)) (xor_lt 32 (crc_of a) (field b 0 32) (crc_of-lt a) (field-below b 0 32))
     (sym (crc_of-four a b four) ∙ none)))

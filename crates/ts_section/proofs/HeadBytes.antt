@@ -7,7 +7,8 @@ use Rattle.std.proofs.lemmas.Bool.{cases_lt}
 use Rattle.std.proofs.lemmas.List.{get_or-drop, get_or_past, drop-take}
 use Rattle.std.proofs.lemmas.List.Elements.{All-get_or}
 use Rattle.bit_rows.specs.BitRow.{bit_of, field}
-use Rattle.ts_bits.proofs.Fields.{bit_of-byte, field-byte, field-byte_part, field-cat}
+use Rattle.bit_rows.proofs.Fields as rows
+use Rattle.bit_rows.proofs.Fields.{field-split, field-whole_byte}
 use Rattle.ts_section.specs.SectionFields.{is_long, head_fields, head_of, body_of}
 use Rattle.ts_section.specs.declared.long_head.LongHead.{LongHead}
 use Rattle.ts_section.specs.LawfulSection.{IsSection}
@@ -17,34 +18,35 @@ abbrev pub IsBytes : List ℕ → Type 0
 IsBytes b = (i : ℕ) → get_or b i 0 < 256
 
 pub field-one_byte : (b : List ℕ) → IsBytes b → (at index : ℕ) → at ≡ 8 * index → field b at 8 ≡ get_or b index 0
-field-one_byte b small at index same = ap (λ n. field b n 8) same ∙ field-byte b index (small index)
+field-one_byte b small at index same = ap (λ n. field b n 8) same ∙ field-whole_byte b index (small index)
 
 pub field-in_byte : (b : List ℕ) → IsBytes b → (at count index before behind : ℕ) → at ≡ 8 * index + before → before + count + behind ≡ 8 → field b at count ≡ get_or b index 0 / 2 ^ behind % 2 ^ count
 field-in_byte b small at count index before behind same whole =
-    ap (λ n. field b n count) same ∙ field-byte_part b index before count behind (small index) whole
+    ap (λ n. field b n count) same ∙ rows.field-in_byte b index before count (omega arith)
+    ∙ ap (λ n. get_or b index 0 / 2 ^ n % 2 ^ count) (omega arith)
 
 pub bit_of-in_byte : (b : List ℕ) (at index place behind : ℕ) → at ≡ 8 * index + place → place + behind ≡ 7 → bit_of b at ≡ get_or b index 0 / 2 ^ behind % 2
 bit_of-in_byte b at index place behind same whole =
-    ap (bit_of b) same ∙ bit_of-byte b index place (omega arith) ∙ ap (λ n. get_or b index 0 / 2 ^ n % 2) (omega arith)
+    ap (bit_of b) same ∙ rows.bit_of-in_byte b index place (omega arith) ∙ ap (λ n. get_or b index 0 / 2 ^ n % 2) (omega arith)
 
 -- section_length
 pub length-bytes : (b : List ℕ) → IsBytes b → field b 12 12 ≡ get_or b 1 0 % 16 * 256 + get_or b 2 0
 length-bytes b small =
-    field-cat b 12 4 8
+    field-split b 12 4 8
     ∙ ap (λ n. n * 2 ^ 8 + field b 16 8) (field-in_byte b small 12 4 1 4 0 refl refl ∙ ap (λ n. n % 2 ^ 4) (omega arith))
     ∙ ap (λ n. get_or b 1 0 % 16 * 256 + n) (field-one_byte b small 16 2 refl)
 
 -- a field of two whole bytes
 pub field-two_bytes : (b : List ℕ) → IsBytes b → (at index : ℕ) → at ≡ 8 * index → field b at 16 ≡ get_or b index 0 * 256 + get_or b (index + 1) 0
 field-two_bytes b small at index same =
-    field-cat b at 8 8
+    field-split b at 8 8
     ∙ ap (λ n. n * 2 ^ 8 + field b (at + 8) 8) (field-one_byte b small at index same)
     ∙ ap (λ n. get_or b index 0 * 256 + n) (field-one_byte b small (at + 8) (index + 1) (omega arith))
 
 -- four whole bytes
 pub field-four_bytes : (b : List ℕ) → IsBytes b → field b 0 32 ≡ ((get_or b 0 0 * 256 + get_or b 1 0) * 256 + get_or b 2 0) * 256 + get_or b 3 0
 field-four_bytes b small =
-    field-cat b 0 16 16
+    field-split b 0 16 16
     ∙ ap (λ n. n * 2 ^ 16 + field b 16 16) (field-two_bytes b small 0 0 refl)
     ∙ ap (λ n. (get_or b 0 0 * 256 + get_or b 1 0) * 2 ^ 16 + n) (field-two_bytes b small 16 2 refl)
     ∙ omega arith

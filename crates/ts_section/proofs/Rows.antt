@@ -1,7 +1,9 @@
 -- Worked rows: the definitions computed.
-use Rattle.std.proofs.Common.{◌≡◌, ℕ, List, ◌∷◌, [], Some, None, refl}
+use Rattle.std.proofs.Common.{◌≡◌, ℕ, List, ◌∷◌, [], Some, None, true, false, refl}
 use Rattle.bit_rows.specs.BitRow.{bit_of, field}
 use Rattle.ts_section.specs.Crc.{remainder, divided_row, crc_of}
+use Rattle.ts_section.specs.SectionFields.{front_of}
+use Rattle.ts_section.specs.WrittenSection.{long_section}
 use Rattle.ts_section.specs.FirstBroken.{first_broken, first_broken_long}
 use Rattle.ts_section.specs.declared.fault.SectionFault.TheVariants.{Short, Lawless, TooLong}
 use Rattle.ts_section.specs.declared.fault.SectionRule.TheVariants.{Stuffing}
@@ -38,3 +40,13 @@ stuffing = refl
 short : first_broken (0x72 ∷ 0x30 ∷ 0x02 ∷ 0xAA ∷ []) ≡ Some (Short 5 4)
 unfolding first_broken first_broken_long crc_of divided_row remainder field bit_of
 short = refl
+
+-- the CAT made of its head and no body
+cat-made : long_section (record { table_id = 1; private = false; extension = 0xFFFF; version = 0; current = true; number = 0; last = 0 }) [] ≡ cat
+unfolding cat long_section crc_of divided_row remainder field bit_of
+cat-made = refl
+
+-- a short section with a byte behind it
+front-of-two : front_of (0x72 ∷ 0x30 ∷ 0x01 ∷ 0xAA ∷ 0xFF ∷ []) ≡ 0x72 ∷ 0x30 ∷ 0x01 ∷ 0xAA ∷ []
+unfolding front_of field bit_of
+front-of-two = refl

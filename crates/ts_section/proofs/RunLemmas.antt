@@ -29,9 +29,17 @@ stops_at s rest place together inside other begins =
           other (subst (IsMember s place) same (members place early))
     ]
 
-whole_members : (s : List ℕ) (rest : List (List ℕ)) → stands_alone s ≡ false → IsTableRun (s ∷ rest) → AllMembers s (s ∷ rest) × (length (s ∷ rest) ≡ last_number_of s + 1)
+pub whole_members : (s : List ℕ) (rest : List (List ℕ)) → stands_alone s ≡ false → IsTableRun (s ∷ rest) → AllMembers s (s ∷ rest) × (length (s ∷ rest) ≡ last_number_of s + 1)
 whole_members s rest together whole =
     elim whole [ inl alone ↦ absurd (false≢true (sym together ∙ alone.0)) | inr members ↦ members ]
+
+-- a section that stands alone is the whole run
+pub alone_only : (s : List ℕ) (rest : List (List ℕ)) → IsTableRun (s ∷ rest) → stands_alone s ≡ true → rest ≡ []
+alone_only s rest whole alone =
+    elim whole [
+      | inl single ↦ single.1
+      | inr members ↦ absurd (false≢true (sym (members.0 0 (omega arith)).together ∙ alone))
+    ]
 
 -- a section that is no member
 pub fault_at : (ss : List (List ℕ)) (place : ℕ) → stands_alone (get_or ss 0 []) ≡ false → place < length ss → MembersBelow (get_or ss 0 []) ss place → (IsMember (get_or ss 0 []) place (get_or ss place []) → ⊥) → IsRunFault ss place
@@ -88,7 +96,7 @@ whole_numbered [] some all members = absurd (omega arith)
 whole_numbered (s ∷ rest) some all members = inr (members, all)
 
 -- a section that is no table by itself is of the long form
-together_long : (s : List ℕ) → stands_alone s ≡ false → is_long s ≡ true
+pub together_long : (s : List ℕ) → stands_alone s ≡ false → is_long s ≡ true
 together_long s together =
     elim (cases_Bool (is_long s)) [ inl long ↦ long | inr short ↦ absurd (false≢true (sym together ∙ rw short refl)) ]
 

@@ -1,19 +1,40 @@
 -- Sections put together from their parts.
-use Rattle.std.proofs.Common.{◌≡◌, ℕ, ◌+◌, ◌-◌, ◌*◌, ◌/◌, ◌%◌, ◌^◌, ◌<◌, ◌≤◌, List, [], ◌∷◌, ◌++◌, length, take, drop, Bool, true, false, eqb, refl, sym, ap, ◌∙◌, subst, arith, suc, zero, length-append, append_assoc}
+use Rattle.std.proofs.Common.{◌≡◌, ℕ, ◌+◌, ◌-◌, ◌*◌, ◌/◌, ◌%◌, ◌^◌, ◌<◌, ◌≤◌, List, [], ◌∷◌, ◌++◌, length, take, drop, Bool, true, false, eqb, refl, sym, ap, ◌∙◌, arith, suc, zero, length-append, append_assoc}
 use mir.Val.{bool_byte}
-use Rattle.std.specs.Prelude.{All, bit_or}
+use Rattle.std.specs.Prelude.{All, bit_or, ◌==◌}
 use Rattle.std.proofs.Math.Seq.{take-append_seam, drop-append_seam}
 use Rattle.std.proofs.lemmas.Bool.{false≢true}
 use Rattle.std.proofs.lemmas.Nat.{or_shifted}
 use Rattle.std.proofs.lemmas.List.Elements.{All-from_get_or, All-append}
 use Rattle.bit_rows.specs.BitRow.{bit_of, field}
-use Rattle.ts_bits.proofs.Fields.{bit_of-append_left, bit_of-append_right, field-append_left, field-append_right}
+use Rattle.bit_rows.proofs.RowParts.{bit_of-append_left, bit_of-append_right, field-append_left, field-append_right}
 use Rattle.ts_section.specs.Crc.{crc_of}
-use Rattle.ts_section.specs.SectionFields.{table_id_of, is_long, section_length_of, number_of, last_number_of, head_fields, body_of}
-use Rattle.ts_section.specs.WrittenSection.{AreFirstBytes, AreLongBytes, IsLongSectionOf, IsShortSectionOf}
+use Rattle.ts_section.specs.SectionFields.{table_id_of, private_of, is_long, section_length_of, number_of, last_number_of, head_fields, body_of}
+use Rattle.ts_section.specs.WrittenSection.{bit_value, first_three, next_five, four_bytes, long_section, short_section, IsLongSectionOf, IsShortSectionOf}
 use Rattle.ts_section.specs.declared.long_head.LongHead.{LongHead}
-use Rattle.ts_section.proofs.CrcLemmas.{crc_of-own}
+use Rattle.ts_section.proofs.CrcLemmas.{crc_of-own, crc_of-lt}
 use Rattle.ts_section.proofs.HeadBytes.{IsBytes, bit_of-in_byte, field-in_byte, field-one_byte, field-two_bytes, field-four_bytes, length-bytes, table_id-byte, same_head}
+
+-- the first three bytes of a section, reserved bits as ones
+pub record AreFirstBytes (table_id : ℕ) (long «private» : Bool) (section_length : ℕ) (b : List ℕ) : Type 0 where
+  pub bytes : All (λ x. x < 256) b
+  pub three : length b ≡ 3
+  pub same_id : table_id_of b ≡ table_id
+  pub same_form : is_long b ≡ long
+  pub same_private : private_of b ≡ «private»
+  pub reserved : field b 10 2 ≡ 3
+  pub same_length : section_length_of b ≡ section_length
+
+-- the five bytes that follow in the long form, reserved bits as ones
+pub record AreLongBytes (head : LongHead) (b : List ℕ) : Type 0 where
+  pub bytes : All (λ x. x < 256) b
+  pub five : length b ≡ 5
+  pub same_extension : field b 0 16 ≡ head.extension
+  pub reserved : field b 16 2 ≡ 3
+  pub same_version : field b 18 5 ≡ head.version
+  pub same_current : (bit_of b 23 == 1) ≡ head.current
+  pub same_number : field b 24 8 ≡ head.number
+  pub same_last : field b 32 8 ≡ head.last
 
 three_bytes : (x y z : ℕ) → x < 256 → y < 256 → z < 256 → IsBytes (x ∷ y ∷ z ∷ [])
 three_bytes x y z p q r zero = p
@@ -82,8 +103,8 @@ long_bytes-are head high low joined c small_high small_low small_number small_la
     }
 
 -- a short section of its two parts
-pub short_section : (id : ℕ) («private» : Bool) (len : ℕ) (a body : List ℕ) → AreFirstBytes id false «private» len a → All (λ x. x < 256) body → id < 255 → len ≡ length body → len ≤ 4093 → IsShortSectionOf id «private» body (a ++ body)
-short_section id «private» len a body first bytes lawful_id len_is range =
+parts_short : (id : ℕ) («private» : Bool) (len : ℕ) (a body : List ℕ) → AreFirstBytes id false «private» len a → All (λ x. x < 256) body → id < 255 → len ≡ length body → len ≤ 4093 → IsShortSectionOf id «private» body (a ++ body)
+parts_short id «private» len a body first bytes lawful_id len_is range =
     let three : length a ≡ 3 = first.three in
     let id_is : table_id_of (a ++ body) ≡ id = field-append_left a body 0 8 (omega arith) ∙ first.same_id in
     let length_is : section_length_of (a ++ body) ≡ len = field-append_left a body 12 12 (omega arith) ∙ first.same_length in
@@ -102,14 +123,6 @@ short_section id «private» len a body first bytes lawful_id len_is range =
       same_body = rw form (ap (λ n. drop n (a ++ body)) (sym three) ∙ drop-append_seam a body);
       reserved = field-append_left a body 10 2 (omega arith) ∙ first.reserved;
     }
-
-pub bool_byte-lt : (b : Bool) → bool_byte b < 2
-bool_byte-lt true = omega arith
-bool_byte-lt false = omega arith
-
-pub bool_byte-is : (b : Bool) → eqb (bool_byte b) 1 ≡ b
-bool_byte-is true = refl
-bool_byte-is false = refl
 
 -- the fields of a long section, from its head's two parts
 front_field : (front rest : List ℕ) (at count : ℕ) → length front ≡ 8 → at + count ≤ 64 → field (front ++ rest) at count ≡ field front at count
@@ -151,8 +164,8 @@ long_body_is front body k eight four form =
     )
 
 -- a long section of its four parts
-pub long_section : (head : LongHead) (len : ℕ) (a r body k : List ℕ) → AreFirstBytes head.table_id true head.private len a → AreLongBytes head r → All (λ x. x < 256) body → All (λ x. x < 256) k → length k ≡ 4 → field k 0 32 ≡ crc_of ((a ++ r) ++ body) → head.table_id < 255 → head.number ≤ head.last → len ≡ 9 + length body → length body ≤ 4084 → IsLongSectionOf head body (((a ++ r) ++ body) ++ k)
-long_section head len a r body k first second body_bytes k_bytes four own lawful_id numbers len_is room =
+parts_long : (head : LongHead) (len : ℕ) (a r body k : List ℕ) → AreFirstBytes head.table_id true head.private len a → AreLongBytes head r → All (λ x. x < 256) body → All (λ x. x < 256) k → length k ≡ 4 → field k 0 32 ≡ crc_of ((a ++ r) ++ body) → head.table_id < 255 → head.number ≤ head.last → len ≡ 9 + length body → length body ≤ 4084 → IsLongSectionOf head body (((a ++ r) ++ body) ++ k)
+parts_long head len a r body k first second body_bytes k_bytes four own lawful_id numbers len_is room =
     let eight : length (a ++ r) ≡ 8 = omega (arith, length-append a r, first.three, second.five) in
     let rest : ((a ++ r) ++ body) ++ k ≡ (a ++ r) ++ (body ++ k) = append_assoc (a ++ r) body k in
     let head_is : head_fields (((a ++ r) ++ body) ++ k) ≡ head = ap head_fields rest ∙ long_head_is head a r (body ++ k) len first second eight in
@@ -183,30 +196,91 @@ four_small w x y z n p q r zero = n
 four_small w x y z n p q r (suc i) = three_bytes x y z p q r i
 
 -- the four bytes of a number
-pub four_bytes : (n : ℕ) → n < 2 ^ 32 → field (n / 16777216 % 256 ∷ n / 65536 % 256 ∷ n / 256 % 256 ∷ n % 256 ∷ []) 0 32 ≡ n
-four_bytes n small =
+four_bytes-field : (n : ℕ) → n < 2 ^ 32 → field (n / 16777216 % 256 ∷ n / 65536 % 256 ∷ n / 256 % 256 ∷ n % 256 ∷ []) 0 32 ≡ n
+four_bytes-field n small =
     field-four_bytes (n / 16777216 % 256 ∷ n / 65536 % 256 ∷ n / 256 % 256 ∷ n % 256 ∷ [])
     (four_small (n / 16777216 % 256) (n / 65536 % 256) (n / 256 % 256) (n % 256) (omega arith) (omega arith) (omega arith) (omega arith))
     ∙ omega arith
 
+bit_value-lt : (b : Bool) → bit_value b < 2
+bit_value-lt true = omega arith
+bit_value-lt false = omega arith
+
+bit_value-is : (b : Bool) → eqb (bit_value b) 1 ≡ b
+bit_value-is true = refl
+bit_value-is false = refl
+
+pub bool_byte-value : (b : Bool) → bool_byte b ≡ bit_value b
+bool_byte-value true = refl
+bool_byte-value false = refl
+
+first_three-are : (id len : ℕ) (long «private» : Bool) → id < 256 → len < 4096 → AreFirstBytes id long «private» len (first_three id long «private» len)
+first_three-are id len long «private» small range =
+    first_bytes-are id _ (len % 256) (bit_value long) (bit_value «private») (len / 256) len long «private»
+    small (omega arith) refl (bit_value-lt long) (bit_value-lt «private») (omega arith) (omega arith) (bit_value-is long) (bit_value-is «private»)
+
+next_five-are : (head : LongHead) → head.extension < 65536 → head.version < 32 → head.number < 256 → head.last < 256 → AreLongBytes head (next_five head)
+next_five-are head small_extension small_version small_number small_last =
+    long_bytes-are head (head.extension / 256) (head.extension % 256) _ (bit_value head.current)
+    (omega arith) (omega arith) small_number small_last small_version (bit_value-lt head.current) refl (omega arith) (bit_value-is head.current)
+
+-- the first three bytes as the code joins them
+pub first_three-made : (id l p high low : ℕ) (len : ℕ) (long «private» : Bool) → l ≡ bool_byte long → p ≡ bool_byte «private» → high ≡ len / 256 % 256 → low ≡ len % 256 → len < 4096
+    → id ∷ bit_or (bit_or (bit_or (l * 128 % 256) (p * 64 % 256)) 48) high ∷ low ∷ [] ≡ first_three id long «private» len
+first_three-made id l p high low len long «private» l_is p_is high_is low_is range =
+    let l_value : l ≡ bit_value long = l_is ∙ bool_byte-value long in
+    let p_value : p ≡ bit_value «private» = p_is ∙ bool_byte-value «private» in
+    let one_l : l < 2 = omega (arith, l_value, bit_value-lt long) in
+    let one_p : p < 2 = omega (arith, p_value, bit_value-lt «private») in
+    let joined : bit_or (bit_or (bit_or (l * 128 % 256) (p * 64 % 256)) 48) high ≡ bit_value long * 128 + bit_value «private» * 64 + 48 + len / 256 =
+    second_byte l p high one_l one_p (omega arith) ∙ omega (arith, l_value, p_value) in
+    cc (joined, low_is)
+
+-- the five bytes that follow as the code joins them
+pub next_five-made : (head : LongHead) (high low c : ℕ) → head.version < 32 → c ≡ bool_byte head.current → high ≡ head.extension / 256 % 256 → low ≡ head.extension % 256 → head.extension < 65536
+    → high ∷ low ∷ bit_or (bit_or 192 (head.version * 2 % 256)) c ∷ head.number ∷ head.last ∷ [] ≡ next_five head
+next_five-made head high low c small c_is high_is low_is range =
+    let c_value : c ≡ bit_value head.current = c_is ∙ bool_byte-value head.current in
+    let one : c < 2 = omega (arith, c_value, bit_value-lt head.current) in
+    let joined : bit_or (bit_or 192 (head.version * 2 % 256)) c ≡ 192 + head.version * 2 + bit_value head.current = sixth_byte head.version c small one ∙ omega (arith, c_value) in
+    let first : high ≡ head.extension / 256 = omega arith in
+    cc (joined, first, low_is)
+
+-- what a short section is
+pub short_section-is : (id : ℕ) («private» : Bool) (body : List ℕ) → id < 255 → All (λ x. x < 256) body → length body ≤ 4093 → IsShortSectionOf id «private» body (short_section id «private» body)
+unfolding short_section
+short_section-is id «private» body lawful_id bytes range =
+    parts_short id «private» (length body) (first_three id false «private» (length body)) body
+    (first_three-are id (length body) false «private» (omega arith) (omega arith)) bytes lawful_id refl range
+
+-- what a long section is
+pub long_section-is : (head : LongHead) (body : List ℕ) → head.table_id < 255 → head.extension < 65536 → head.version < 32 → head.number ≤ head.last → head.last < 256 → All (λ x. x < 256) body → length body ≤ 4084 → IsLongSectionOf head body (long_section head body)
+unfolding long_section
+long_section-is head body lawful_id extension version numbers last bytes room =
+    let a = first_three head.table_id true head.private (9 + length body) in
+    let r = next_five head in
+    let register = crc_of ((a ++ r) ++ body) in
+    let small : register < 2 ^ 32 = crc_of-lt ((a ++ r) ++ body) in
+    let k_bytes : All (λ x. x < 256) (four_bytes register) =
+    all_bytes (four_bytes register)
+    (four_small (register / 16777216 % 256) (register / 65536 % 256) (register / 256 % 256) (register % 256) (omega arith) (omega arith) (omega arith) (omega arith)) in
+    parts_long head (9 + length body) a r body (four_bytes register)
+    (first_three-are head.table_id (9 + length body) true head.private (omega arith) (omega arith))
+    (next_five-are head extension version (omega arith) last) bytes k_bytes refl (four_bytes-field register small) lawful_id numbers refl room
+
 -- a short section as the code fills it
-pub short_made : (id : ℕ) («private» : Bool) (a body none one two : List ℕ) → none ≡ [] → one ≡ none ++ a → two ≡ one ++ body → AreFirstBytes id false «private» (length body) a → IsBytes body → id < 255 → length body ≤ 4093 → IsShortSectionOf id «private» body two
-short_made id «private» a body none one two begun once twice first bytes lawful_id range =
-    let joined : two ≡ a ++ body = twice ∙ ap (λ row. row ++ body) (once ∙ ap (λ row. row ++ a) begun) in
-    subst (IsShortSectionOf id «private» body) (sym joined)
-    (short_section id «private» (length body) a body first (all_bytes body bytes) lawful_id refl range)
+pub short_made : (id : ℕ) («private» : Bool) (a body none one two : List ℕ) → none ≡ [] → one ≡ none ++ a → two ≡ one ++ body → a ≡ first_three id false «private» (length body) → two ≡ short_section id «private» body
+unfolding short_section
+short_made id «private» a body none one two begun once twice first =
+    twice ∙ ap (λ row. row ++ body) (once ∙ ap (λ row. row ++ a) begun ∙ first)
 
 -- a long section as the code fills it
-pub long_made : (head : LongHead) (len : ℕ) (a r body k none one two three four read : List ℕ) (register : ℕ) → none ≡ [] → one ≡ none ++ a → two ≡ one ++ r → three ≡ two ++ body → four ≡ three ++ k → read ≡ three → register ≡ crc_of read → register < 2 ^ 32 → k ≡ register / 16777216 % 256 ∷ register / 65536 % 256 ∷ register / 256 % 256 ∷ register % 256 ∷ [] → AreFirstBytes head.table_id true head.private len a → AreLongBytes head r → IsBytes body → head.table_id < 255 → head.number ≤ head.last → len ≡ 9 + length body → length body ≤ 4084 → IsLongSectionOf head body four
-long_made head len a r body k none one two three four read register begun once twice thrice last read_is register_is small k_is first second bytes lawful_id numbers len_is room =
-    let front : three ≡ (a ++ r) ++ body =
-    thrice ∙ ap (λ row. row ++ body) (twice ∙ ap (λ row. row ++ r) (once ∙ ap (λ row. row ++ a) begun)) in
-    let joined : four ≡ ((a ++ r) ++ body) ++ k = last ∙ ap (λ row. row ++ k) front in
-    let k_bytes : All (λ x. x < 256) k =
-    subst (All (λ x. x < 256)) (sym k_is)
-    (all_bytes (register / 16777216 % 256 ∷ register / 65536 % 256 ∷ register / 256 % 256 ∷ register % 256 ∷ [])
-    (four_small (register / 16777216 % 256) (register / 65536 % 256) (register / 256 % 256) (register % 256) (omega arith) (omega arith) (omega arith) (omega arith))) in
-    let own : field k 0 32 ≡ crc_of ((a ++ r) ++ body) =
-    ap (λ row. field row 0 32) k_is ∙ four_bytes register small ∙ register_is ∙ ap crc_of (read_is ∙ front) in
-    subst (IsLongSectionOf head body) (sym joined)
-    (long_section head len a r body k first second (all_bytes body bytes) k_bytes (ap length k_is) own lawful_id numbers len_is room)
+pub long_made : (head : LongHead) (len : ℕ) (a r body k none one two three four read : List ℕ) (register : ℕ) → none ≡ [] → one ≡ none ++ a → two ≡ one ++ r → three ≡ two ++ body → four ≡ three ++ k → read ≡ three → register ≡ crc_of read
+    → k ≡ four_bytes register → a ≡ first_three head.table_id true head.private len → r ≡ next_five head → len ≡ 9 + length body → four ≡ long_section head body
+unfolding long_section
+long_made head len a r body k none one two three four read register begun once twice thrice last read_is register_is k_is first second len_is =
+    let front : three ≡ (first_three head.table_id true head.private (9 + length body) ++ next_five head) ++ body =
+    thrice ∙ ap (λ row. row ++ body) (twice ∙ ap (λ row. row ++ r) (once ∙ ap (λ row. row ++ a) begun ∙ first ∙ ap (first_three head.table_id true head.private) len_is)
+    ∙ ap (λ row. first_three head.table_id true head.private (9 + length body) ++ row) second) in
+    last ∙ ap (λ row. row ++ k) front
+    ∙ ap (λ row. ((first_three head.table_id true head.private (9 + length body) ++ next_five head) ++ body) ++ row) (k_is ∙ ap four_bytes (register_is ∙ ap crc_of (read_is ∙ front)))

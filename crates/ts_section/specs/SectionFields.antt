@@ -1,8 +1,9 @@
 -- The fields of a section.
 -- ISO/IEC 13818-1, 2.4.4.10 and 2.4.4.11 (private_section), whose head all tables share.
-use Rattle.std.specs.Prelude.{ℕ, ◌-◌, ◌==◌, Bool, List, length, take, drop, Option, Some, None, if◌then◌else◌}
+use Rattle.std.specs.Prelude.{ℕ, ◌+◌, ◌-◌, ◌==◌, Bool, List, length, take, drop, Option, Some, None, if◌then◌else◌}
 use Rattle.bit_rows.specs.BitRow.{bit_of, field}
 use Rattle.ts_section.specs.declared.long_head.LongHead.{LongHead}
+use Rattle.ts_section.specs.declared.section.TheConstants.{LONG_BODY_PLACE, SHORT_BODY_PLACE}
 
 -- table_id
 abbrev pub table_id_of : List ℕ → ℕ
@@ -60,6 +61,15 @@ head_of b = if is_long b then Some (head_fields b) else None
 -- the bytes between the head and the CRC, in the short form those behind section_length
 abbrev pub body_of : List ℕ → List ℕ
 body_of b = if is_long b then drop 8 (take (length b - 4) b) else drop 3 b
+
+-- where the body begins
+abbrev pub body_place : List ℕ → ℕ
+body_place b = if is_long b then LONG_BODY_PLACE else SHORT_BODY_PLACE
+
+-- the section that a longer row begins with: its first three bytes and section_length more, or all
+-- that is there where it is less
+unfoldable pub front_of : List ℕ → List ℕ
+front_of b = take (3 + section_length_of b) b
 
 -- the last four bytes, in the long form the CRC_32
 abbrev pub crc_field_of : List ℕ → ℕ

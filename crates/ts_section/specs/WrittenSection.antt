@@ -1,31 +1,41 @@
 -- The section of a head and a body.
 -- ISO/IEC 13818-1, 2.4.4.10; reserved bits are written as ones (2.1.64).
-use Rattle.std.specs.Prelude.{◌≡◌, ◌==◌, ℕ, ◌<◌, Bool, true, false, List, length, All}
-use Rattle.bit_rows.specs.BitRow.{bit_of, field}
-use Rattle.ts_section.specs.SectionFields.{table_id_of, private_of, is_long, section_length_of, head_fields, body_of}
+use Rattle.std.specs.Prelude.{◌≡◌, ℕ, ◌+◌, ◌*◌, ◌/◌, ◌%◌, Bool, true, false, List, [], ◌∷◌, ◌++◌, length}
+use Rattle.bit_rows.specs.BitRow.{field}
+use Rattle.ts_section.specs.Crc.{crc_of}
+use Rattle.ts_section.specs.SectionFields.{table_id_of, private_of, is_long, head_fields, body_of}
 use Rattle.ts_section.specs.LawfulSection.{IsSection}
 use Rattle.ts_section.specs.declared.long_head.LongHead.{LongHead}
 
+-- a bit as a number
+abbrev pub bit_value : Bool → ℕ
+bit_value true = 1
+bit_value false = 0
+
 -- the first three bytes of a section, reserved bits as ones
-pub record AreFirstBytes (table_id : ℕ) (long «private» : Bool) (section_length : ℕ) (b : List ℕ) : Type 0 where
-  pub bytes : All (λ x. x < 256) b
-  pub three : length b ≡ 3
-  pub same_id : table_id_of b ≡ table_id
-  pub same_form : is_long b ≡ long
-  pub same_private : private_of b ≡ «private»
-  pub reserved : field b 10 2 ≡ 3
-  pub same_length : section_length_of b ≡ section_length
+abbrev pub first_three : ℕ → Bool → Bool → ℕ → List ℕ
+first_three table_id long «private» section_length =
+    table_id ∷ (bit_value long * 128 + bit_value «private» * 64 + 48 + section_length / 256) ∷ section_length % 256 ∷ []
 
 -- the five bytes that follow in the long form, reserved bits as ones
-pub record AreLongBytes (head : LongHead) (b : List ℕ) : Type 0 where
-  pub bytes : All (λ x. x < 256) b
-  pub five : length b ≡ 5
-  pub same_extension : field b 0 16 ≡ head.extension
-  pub reserved : field b 16 2 ≡ 3
-  pub same_version : field b 18 5 ≡ head.version
-  pub same_current : (bit_of b 23 == 1) ≡ head.current
-  pub same_number : field b 24 8 ≡ head.number
-  pub same_last : field b 32 8 ≡ head.last
+abbrev pub next_five : LongHead → List ℕ
+next_five head =
+    head.extension / 256 ∷ head.extension % 256 ∷ (192 + head.version * 2 + bit_value head.current) ∷ head.number ∷ head.last ∷ []
+
+-- a number of 32 bits as four bytes, highest first
+abbrev pub four_bytes : ℕ → List ℕ
+four_bytes n = n / 16777216 % 256 ∷ n / 65536 % 256 ∷ n / 256 % 256 ∷ n % 256 ∷ []
+
+-- the section of the long form with this head and this body: the five bytes of the head, the body and
+-- the four of the CRC are counted
+unfoldable pub long_section : LongHead → List ℕ → List ℕ
+long_section head body =
+    let front = (first_three head.table_id true head.private (9 + length body) ++ next_five head) ++ body in
+    front ++ four_bytes (crc_of front)
+
+-- the section of the short form with this table_id, this private bit and this body
+unfoldable pub short_section : ℕ → Bool → List ℕ → List ℕ
+short_section table_id «private» body = first_three table_id false «private» (length body) ++ body
 
 -- `s` is the one section of the long form with this head and this body
 pub record IsLongSectionOf (head : LongHead) (body s : List ℕ) : Type 0 where

@@ -1,11 +1,11 @@
 //! One lawful section.
 
-ghost use Rattle.std.specs.Prelude.{◌≡◌, ◌≢◌, ◌<◌, ◌≤◌, ◌+◌, length, IfOk, IfSome, IfNone, IsOkUnless};
-ghost use Rattle.ts_section.specs.SectionFields.{table_id_of, head_of, body_of};
+ghost use Rattle.std.specs.Prelude.{◌≡◌, ◌≢◌, ◌<◌, ◌≤◌, ◌+◌, true, false, length, take, drop, IfOk, IfSome, IfNone, IsOkUnless};
+ghost use Rattle.ts_section.specs.SectionFields.{table_id_of, section_length_of, head_of, body_of, body_place, front_of};
 ghost use Rattle.ts_section.specs.SectionFields as fields;
 ghost use Rattle.ts_section.specs.LawfulSection.{IsSection};
 ghost use Rattle.ts_section.specs.FirstBroken.{first_broken, first_broken_long};
-ghost use Rattle.ts_section.specs.WrittenSection.{AreFirstBytes, AreLongBytes, IsLongSectionOf, IsShortSectionOf};
+ghost use Rattle.ts_section.specs.WrittenSection.{first_three, next_five, long_section, short_section, IsLongSectionOf, IsShortSectionOf};
 
 use crate::crc::crc_of;
 use crate::fault::{SectionFault, SectionRule};
@@ -14,13 +14,13 @@ use std::alloc::{AllocError, Global};
 use std::marker::Model;
 
 /// The most that section_length may be.
-const MOST_LENGTH: u16 = 4093;
+pub const MOST_SECTION_LENGTH: u16 = 4093;
 
-/// The bytes up to and with section_length.
-const SHORT_HEAD: usize = 3;
+/// Where the body of a section of the short form begins: behind section_length.
+pub const SHORT_BODY_PLACE: usize = 3;
 
-/// The bytes of the long form's head.
-const LONG_HEAD: usize = 8;
+/// Where the body of a section of the long form begins: behind last_section_number.
+pub const LONG_BODY_PLACE: usize = 8;
 
 /// The bytes of the CRC.
 const CRC_SIZE: usize = 4;
@@ -61,16 +61,29 @@ impl Section {
         Ok(Section { bytes })
     }
 
+    /// The section in front of a longer row of bytes: what `parse` answers for the first
+    /// 3 + section_length bytes, or for all that is there where it is less.
+    pub fn parse_front(alloc: Global, from: &[u8]) -> Result<Section, SectionFault>
+        ensures refused { IfSome (first_broken (front_of from.now)) (λ fault. result ≡ Err fault) }
+        ensures accepted { IfNone (first_broken (front_of from.now)) (IsOkUnless result SectionFault.NoMemory) }
+        ensures same { IfOk result (λ s. s ≡ front_of from.now) }
+        ensures lawful { IfOk result (λ s. IsSection s) }
+        ensures nothing_trails { first_broken (front_of from.now) ≢ Some (SectionFault.Lawless SectionRule.Trailing) }
+    {
+        Section::parse(alloc, front(from))
+    }
+
     /// The section of the long form with this head and body, reserved bits as ones, with its CRC.
     pub fn long(alloc: Global, head: LongHead, body: &[u8]) -> Result<Section, AllocError>
         requires lawful_id { head.table_id < 255 }
         requires version { head.version < 32 }
         requires numbers { head.number ≤ head.last }
         requires room { length body.now ≤ 4084 }
-        ensures { IfOk result (λ s. IsLongSectionOf head body.now s) }
+        ensures made { IfOk result (λ s. s ≡ long_section head body.now) }
+        ensures written { IfOk result (λ s. IsLongSectionOf head body.now s) }
     {
-        let length = LONG_HEAD - SHORT_HEAD + body.len() + CRC_SIZE;
-        let mut bytes = Vec::with_capacity(alloc, SHORT_HEAD + length)?;
+        let length = LONG_BODY_PLACE - SHORT_BODY_PLACE + body.len() + CRC_SIZE;
+        let mut bytes = Vec::with_capacity(alloc, SHORT_BODY_PLACE + length)?;
         bytes.extend_from_slice(&first_bytes(head.table_id, true, head.private, length as u16))?;
         bytes.extend_from_slice(&long_bytes(head))?;
         bytes.extend_from_slice(body)?;
@@ -87,10 +100,11 @@ impl Section {
         body: &[u8],
     ) -> Result<Section, AllocError>
         requires lawful_id { table_id < 255 }
-        requires room { length body.now ≤ 4093 }
-        ensures { IfOk result (λ s. IsShortSectionOf table_id «private» body.now s) }
+        requires room { length body.now ≤ MOST_SECTION_LENGTH }
+        ensures made { IfOk result (λ s. s ≡ short_section table_id «private» body.now) }
+        ensures written { IfOk result (λ s. IsShortSectionOf table_id «private» body.now s) }
     {
-        let mut bytes = Vec::with_capacity(alloc, SHORT_HEAD + body.len())?;
+        let mut bytes = Vec::with_capacity(alloc, SHORT_BODY_PLACE + body.len())?;
         bytes.extend_from_slice(&first_bytes(table_id, false, private, body.len() as u16))?;
         bytes.extend_from_slice(body)?;
         Ok(Section { bytes })
@@ -124,6 +138,8 @@ impl Section {
     /// The head of the long form; none exactly for the short form.
     pub fn head(&self) -> Option<LongHead>
         ensures head { result ≡ head_of self.now }
+        ensures version { IfSome result (λ head. head.version < 32) }
+        ensures numbers { IfSome result (λ head. head.number ≤ head.last) }
         ensures lawful { IsSection self.now }
     {
         let b = self.bytes.as_slice();
@@ -133,13 +149,16 @@ impl Section {
     /// The bytes between the head and the CRC, in the short form those behind section_length.
     pub fn body(&self) -> &[u8]
         ensures body { result.now ≡ body_of self.now }
+        ensures place { result.now ≡ take (length result.now) (drop (body_place self.now) self.now) }
+        ensures long_size { fields.is_long self.now ≡ true → length result.now + 9 ≡ section_length_of self.now }
+        ensures short_size { fields.is_long self.now ≡ false → length result.now ≡ section_length_of self.now }
         ensures lawful { IsSection self.now }
     {
         let b = self.bytes.as_slice();
         if is_long(b) {
-            &b[LONG_HEAD..b.len() - CRC_SIZE]
+            &b[LONG_BODY_PLACE..b.len() - CRC_SIZE]
         } else {
-            &b[SHORT_HEAD..]
+            &b[SHORT_BODY_PLACE..]
         }
     }
 
@@ -162,7 +181,7 @@ fn is_long(bytes: &[u8]) -> bool
 
 /// The head of a section of the long form.
 fn long_head(b: &[u8]) -> LongHead
-    requires { LONG_HEAD ≤ length b.now }
+    requires { LONG_BODY_PLACE ≤ length b.now }
     ensures { result ≡ fields.head_fields b.now }
 {
     LongHead {
@@ -173,6 +192,21 @@ fn long_head(b: &[u8]) -> LongHead
         current: b[5] & 1 == 1,
         number: b[6],
         last: b[7],
+    }
+}
+
+/// The bytes of the section that bytes begin with, or all of them where they are fewer.
+fn front(bytes: &[u8]) -> &[u8]
+    ensures { result.now ≡ front_of bytes.now }
+{
+    if bytes.len() < SHORT_BODY_PLACE {
+        return bytes;
+    }
+    let size = SHORT_BODY_PLACE + usize::from(section_length(bytes));
+    if bytes.len() < size {
+        bytes
+    } else {
+        &bytes[..size]
     }
 }
 
@@ -189,9 +223,9 @@ fn first_fault(bytes: &[u8]) -> Option<SectionFault>
     ensures { result ≡ first_broken bytes.now }
 {
     let found = bytes.len();
-    if found < SHORT_HEAD {
+    if found < SHORT_BODY_PLACE {
         return Some(SectionFault::Short {
-            wanted: SHORT_HEAD,
+            wanted: SHORT_BODY_PLACE,
             found,
         });
     }
@@ -201,10 +235,10 @@ fn first_fault(bytes: &[u8]) -> Option<SectionFault>
         });
     }
     let length = section_length(bytes);
-    if length > MOST_LENGTH {
+    if length > MOST_SECTION_LENGTH {
         return Some(SectionFault::TooLong { length });
     }
-    let wanted = SHORT_HEAD + usize::from(length);
+    let wanted = SHORT_BODY_PLACE + usize::from(length);
     if found < wanted {
         return Some(SectionFault::Short { wanted, found });
     }
@@ -225,7 +259,7 @@ fn first_fault_long(bytes: &[u8]) -> Option<SectionFault>
     requires { length bytes.now ≡ 3 + fields.section_length_of bytes.now }
     ensures { result ≡ first_broken_long bytes.now }
 {
-    if bytes.len() < LONG_HEAD + CRC_SIZE {
+    if bytes.len() < LONG_BODY_PLACE + CRC_SIZE {
         return Some(SectionFault::Lawless {
             rule: SectionRule::ShortLong,
         });
@@ -247,7 +281,7 @@ fn first_fault_long(bytes: &[u8]) -> Option<SectionFault>
 /// The first three bytes of a section; `length` is its section_length.
 fn first_bytes(table_id: u8, long: bool, private: bool, length: u16) -> [u8; 3]
     requires { length < 4096 }
-    ensures { AreFirstBytes table_id long «private» length result }
+    ensures { result ≡ first_three table_id long «private» length }
 {
     let [high, low] = length.to_be_bytes();
     [
@@ -260,7 +294,7 @@ fn first_bytes(table_id: u8, long: bool, private: bool, length: u16) -> [u8; 3]
 /// The bytes of a long head behind section_length.
 fn long_bytes(head: LongHead) -> [u8; 5]
     requires { head.version < 32 }
-    ensures { AreLongBytes head result }
+    ensures { result ≡ next_five head }
 {
     let [high, low] = head.extension.to_be_bytes();
     [

@@ -8,6 +8,7 @@ ghost use Rattle.ts_section.specs.SectionRun.{stands_alone, SharesHead, IsTableR
 use crate::fault::RunFault;
 use crate::long_head::LongHead;
 use crate::section::Section;
+use std::alloc::AllocError;
 use std::marker::Model;
 
 /// The sections of one whole table: one short section, or one EIT section (table_id 0x4E to 0x6F),
@@ -51,6 +52,18 @@ impl TableRun {
         ensures lawful { All (λ s. IsSection s) self.now }
     {
         &self.sections
+    }
+
+    /// An equal run.
+    pub fn copy(&self) -> Result<TableRun, AllocError>
+        ensures { IfOk result (λ run. run ≡ self.now) }
+    {
+        let mut sections = Vec::new(*self.sections.allocator());
+        let held = self.sections();
+        for section in held {
+            sections.push(section.copy()?)?;
+        }
+        Ok(TableRun { sections })
     }
 }
 

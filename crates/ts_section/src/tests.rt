@@ -105,6 +105,23 @@ fn a_pat(rt: HostRuntime) -> Result<(), Fail> {
 }
 
 #[test]
+fn a_section_in_front(rt: HostRuntime) -> Result<(), Fail> {
+    let mut bytes = Vec::from_slice(rt.alloc(), &TDT)?;
+    bytes.extend_from_slice(&CAT)?;
+    let section = Section::parse_front(rt.alloc(), &bytes)?;
+    assert_eq!(rt; section.bytes(), TDT.as_slice());
+    let cut = Section::parse_front(rt.alloc(), &TDT[..5]).err();
+    assert_eq!(rt;
+        cut,
+        Some(SectionFault::Short {
+            wanted: 8,
+            found: 5,
+        })
+    );
+    Ok(())
+}
+
+#[test]
 fn a_tdt(rt: HostRuntime) -> Result<(), Fail> {
     let section = Section::parse(rt.alloc(), &TDT)?;
     assert!(rt; !section.is_long());
@@ -161,7 +178,7 @@ fn runs(rt: HostRuntime) -> Result<(), Fail> {
 fn a_run_keeps_its_sections(rt: HostRuntime) -> Result<(), Fail> {
     let mut sections = Vec::new(rt.alloc());
     sections.push(Section::parse(rt.alloc(), &PAT)?)?;
-    let run = TableRun::of(sections)?;
+    let run = TableRun::of(sections)?.copy()?;
     assert_eq!(rt; run.sections().len(), 1);
     assert_eq!(rt; run.sections()[0].bytes(), PAT.as_slice());
     Ok(())

@@ -1,5 +1,5 @@
-//! Runs worked examples of the whole tool over a desk in memory, and prints what each came to.
-//! Then it runs chains with sizes of many kinds, which have to agree in bytes, report and status.
+//! Runs worked examples of the whole tool over a desk in memory, by `tsp_call` and by `serial_call`, and prints what each
+//! came to. Then it runs chains with sizes of many kinds, which have to agree in bytes, report and status.
 #![tactic(auto)]
 
 mod chain_table;
@@ -7,12 +7,15 @@ mod chains;
 mod end_rows;
 mod fault_rows;
 mod inputs;
+mod keeping_gate;
 mod mixed_stream;
 mod outcome;
 mod plugin_rows;
 mod row;
+mod tally;
 mod trial;
 mod trial_desk;
+mod windows;
 mod word_rows;
 
 use anyhow::Result;
@@ -20,16 +23,20 @@ use end_rows::END_ROWS;
 use fault_rows::{LATE_ROWS, OPENING_ROWS, RUN_ROWS};
 use plugin_rows::{JOINT_ROWS, PLUGIN_ROWS, WATCH_ROWS};
 use row::print_rows;
+use tally::Tally;
 use word_rows::WORD_ROWS;
 
 fn main(rt: HostRuntime) -> Result<()> {
-    print_rows(&rt, &END_ROWS)?;
-    print_rows(&rt, &PLUGIN_ROWS)?;
-    print_rows(&rt, &WATCH_ROWS)?;
-    print_rows(&rt, &JOINT_ROWS)?;
-    print_rows(&rt, &OPENING_ROWS)?;
-    print_rows(&rt, &RUN_ROWS)?;
-    print_rows(&rt, &LATE_ROWS)?;
-    print_rows(&rt, &WORD_ROWS)?;
+    let mut tally = Tally::empty();
+    print_rows(&rt, &END_ROWS, &mut tally)?;
+    print_rows(&rt, &PLUGIN_ROWS, &mut tally)?;
+    print_rows(&rt, &WATCH_ROWS, &mut tally)?;
+    print_rows(&rt, &JOINT_ROWS, &mut tally)?;
+    print_rows(&rt, &OPENING_ROWS, &mut tally)?;
+    print_rows(&rt, &RUN_ROWS, &mut tally)?;
+    print_rows(&rt, &LATE_ROWS, &mut tally)?;
+    print_rows(&rt, &WORD_ROWS, &mut tally)?;
+    println!(rt; "both calls agree: {} of {} rows", tally.alike, tally.runs)?;
+    windows::print_windows(&rt)?;
     chains::print_chains(&rt)
 }

@@ -2,8 +2,18 @@
 use crate::inputs::Input;
 use crate::trial_desk::{Fails, filled_desk};
 use std::alloc::{AllocError, Global};
-use ts_outside::{MemoryDesk, OpenGate};
-use tsp_top::{Status, serial_call};
+use std::sync::Wait;
+use std::thread::Threads;
+use ts_outside::{Gate, MemoryDesk, OpenGate};
+use tsp_top::{Status, serial_call, tsp_call};
+
+/// What is called: the words, what comes in, and which call of the desk fails.
+#[derive(Clone, Copy)]
+pub(crate) struct Case<'a> {
+    pub(crate) words: &'a [String],
+    pub(crate) input: Input,
+    pub(crate) fails: Fails,
+}
 
 /// What a call came to: its desk and its status.
 #[derive(Drop)]
@@ -12,15 +22,45 @@ pub(crate) struct Trial {
     pub(crate) status: Status,
 }
 
-/// Calls the tool with these words on a desk of its own.
-pub(crate) fn call_tool(
-    alloc: Global,
-    words: &[String],
-    input: Input,
-    fails: Fails,
+impl Trial {
+    /// Whether two calls came to the same status, the same report, the same names asked for and the same first output.
+    /// No row has a second output.
+    pub(crate) fn is_like(&self, other: &Trial) -> bool {
+        self.status == other.status
+            && self.desk.reported() == other.desk.reported()
+            && self.desk.asked_count() == other.desk.asked_count()
+            && self.desk.output_count() == other.desk.output_count()
+            && self.written() == other.written()
+    }
+
+    /// The bytes of the first output.
+    fn written(&self) -> &[u8] {
+        match self.desk.output(0) {
+            Some((_, bytes)) => bytes,
+            None => &[],
+        }
+    }
+}
+
+/// Calls the tool as the program does, by `tsp_call`, on a desk of its own.
+pub(crate) fn by_tsp_call<R: Threads + Wait + Sync + AllocGlobal, G: Gate>(
+    rt: &R,
+    case: Case,
+    gate: &G,
 ) -> Result<Trial, AllocError> {
-    let mut desk = filled_desk(alloc, input, fails)?;
-    let status = serial_call(alloc, words, &mut desk, &OpenGate);
+    let mut desk = filled_desk(rt.alloc(), case.input, case.fails)?;
+    let status = tsp_call(rt, rt.alloc(), case.words, &mut desk, gate);
+    Ok(Trial { desk, status })
+}
+
+/// Calls the tool by `serial_call`, on a desk of its own.
+pub(crate) fn by_serial_call<G: Gate>(
+    alloc: Global,
+    case: Case,
+    gate: &G,
+) -> Result<Trial, AllocError> {
+    let mut desk = filled_desk(alloc, case.input, case.fails)?;
+    let status = serial_call(alloc, case.words, &mut desk, gate);
     Ok(Trial { desk, status })
 }
 

@@ -1,11 +1,12 @@
 -- What plugins report, one after another.
-use Rattle.std.proofs.Common.{◌≡◌, ℕ, suc, ◌+◌, ◌≤◌, List, ◌∷◌, ◌++◌, length, take, map, ap, sym, ◌∙◌, subst, add-one}
+use Rattle.std.proofs.Common.{◌≡◌, [], refl, ℕ, suc, ◌+◌, ◌≤◌, List, ◌∷◌, ◌++◌, length, take, map, ap, sym, ◌∙◌, subst, add-one}
 use Rattle.std.specs.List.{flat_map}
 use Rattle.ts_packet.specs.declared.cell.Cell.{Cell}
 use Rattle.chain_model.specs.PluginRule.{PluginRule}
 use Rattle.chain_model.specs.Apply.{StageList}
 use Rattle.chain_model.specs.StageLists.{stage_list}
-use Rattle.chain_model.specs.Reports.{plugin_line, said_of, reports_from}
+use Rattle.chain_model.specs.declared.cause.Cause.{Cause}
+use Rattle.chain_model.specs.Reports.{plugin_line, said_of, rules_of, reports_from, reports, end_line}
 use Rattle.plugin_trait.specs.Marks.{AllowsMark}
 use Rattle.chain_run.specs.Met.{AllMetTo}
 use Rattle.plug_conf.specs.declared.plugin_conf.PluginConf.{PluginConf}
@@ -75,3 +76,13 @@ pub rest-rules : {P : Type 0} (rule : P → PluginRule) (plugins rest : List P) 
 rest-rules {P} rule plugins rest plugin confs later conf e f same =
     let own : rule plugin ∷ map rule rest ≡ rule_of conf ∷ map rule_of later =
     sym (ap (λ (l : List P). map rule l) e) ∙ same ∙ ap (λ (l : List PluginConf). map rule_of l) f in cc
+
+-- the reports of a run begin with those of its plugins, whose rules are those of the settings
+rules-named : (confs : List PluginConf) → map rule_of confs ≡ rules_of (map named_rule_of confs)
+rules-named [] = refl
+rules-named (conf ∷ confs) = ap (λ (rs : List PluginRule). rule_of conf ∷ rs) (rules-named confs)
+
+pub reports-same : (rules : List PluginRule) (confs : List PluginConf) (input : StageList) (cut : ℕ) (cause : Cause) → rules ≡ map rule_of confs
+    → reports_from rules input cut 0 (map named_rule_of confs) ++ end_line cause cut ≡ reports (map named_rule_of confs) input cut cause
+reports-same rules confs input cut cause same =
+    ap (λ (rs : List PluginRule). reports_from rs input cut 0 (map named_rule_of confs) ++ end_line cause cut) (same ∙ rules-named confs)

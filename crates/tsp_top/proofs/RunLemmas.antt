@@ -1,6 +1,6 @@
 -- A run of a chain, and what its plugins met.
-use Rattle.std.proofs.Common.{◌≡◌, ℕ, List, Result, Ok, Err, ap, sym, ◌∙◌, subst, map, length, OnErr, IfOk, is_err, Bool}
-use Rattle.std.proofs.lemmas.List.{length-map}
+use Rattle.std.proofs.Common.{◌≡◌, ℕ, List, Result, Ok, Err, ap, sym, ◌∙◌, subst, map, OnErr, IfOk, is_err, Bool}
+use Rattle.std.specs.declared.alloc.AllocError.{AllocError}
 use Rattle.std.specs.Bool.{OnTrue}
 use Rattle.plug_conf.specs.declared.plugin_conf.PluginConf.{PluginConf}
 use Rattle.plug_set.specs.Rules.{rule_of}
@@ -16,6 +16,7 @@ use Rattle.stage_run.specs.Seeing.{Seeing}
 use Rattle.chain_run.specs.Met.{AllMetTo}
 use Rattle.chain_run.specs.RunOf.{RunOf}
 use Rattle.chain_run.proofs.RunUses.{met-to}
+use Rattle.tsp_top.specs.Ran.{EndsRun}
 use Rattle.tsp_top.specs.Reported.{ReachesCut, ReportsRun}
 use Rattle.tsp_top.specs.declared.status.Status.{Status}
 
@@ -58,12 +59,17 @@ run-reaches see from made_from stuffing plugins made to made_to core closed run 
   met = run-met see from made_from stuffing plugins made to made_to core closed run;
 }
 
--- the plugins of a run have the rules of the settings still, and are no more than a plan may have
-pub made-rules : {S K P : Type 0} (see : Seeing S K P) (from made_from : InputPart S) (stuffing : Stuffing) (plugins made : List P)
-    (to made_to : OutputPart K) (core : CorePlan) (closed : Closed) (confs : List PluginConf)
-    → RunOf see from made_from stuffing plugins made to made_to core closed → map see.rule plugins ≡ map rule_of confs → map see.rule made ≡ map rule_of confs
-made-rules see from made_from stuffing plugins made to made_to core closed confs run rules = run.rules ∙ rules
+-- the plugins that a run gives back have the rules of the settings still
+pub ends-rules : {S K P : Type 0} (see : Seeing S K P) (stuffing : Stuffing) (core : CorePlan) (from made_from : InputPart S) (plugins made : List P)
+    (to made_to : OutputPart K) (closed : Result Closed AllocError) (confs : List PluginConf)
+    → EndsRun see stuffing core from made_from plugins made to made_to closed → map see.rule plugins ≡ map rule_of confs → map see.rule made ≡ map rule_of confs
+ends-rules see stuffing core from made_from plugins made to made_to (Ok closed) confs ends rules = ends.run.rules ∙ rules
+ends-rules see stuffing core from made_from plugins made to made_to (Err e) confs ends rules =
+    ap (λ (l : List _). map see.rule l) ends.never_began.plugins_same ∙ rules
 
-pub same-count : {P : Type 0} (rule : P → PluginRule) (plugins : List P) (confs : List PluginConf) → map rule plugins ≡ map rule_of confs → length plugins ≡ length confs
-same-count rule plugins confs e =
-    sym (length-map plugins rule) ∙ ap (λ (l : List PluginRule). length l) e ∙ length-map confs rule_of
+-- and they reach its cut, if it was closed
+pub ends-reach : {S K P : Type 0} (see : Seeing S K P) (stuffing : Stuffing) (core : CorePlan) (from made_from : InputPart S) (plugins made : List P)
+    (to made_to : OutputPart K) (closed : Result Closed AllocError)
+    → EndsRun see stuffing core from made_from plugins made to made_to closed → IfOk closed (λ closed. ReachesCut see.stands made closed.cut 0)
+ends-reach see stuffing core from made_from plugins made to made_to (Ok closed) ends = run-reaches see from made_from stuffing plugins made to made_to core closed ends.run
+ends-reach see stuffing core from made_from plugins made to made_to (Err e) ends = tt

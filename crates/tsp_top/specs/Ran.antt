@@ -1,5 +1,6 @@
 -- A chain that ran between its two opened ends. This project's own rule.
-use Rattle.std.specs.Prelude.{◌≡◌, ◌≤◌, ℕ, List, map, Bool, ◌⊎◌, Option}
+use Rattle.std.specs.Prelude.{◌≡◌, ◌≤◌, ℕ, List, map, Bool, ◌⊎◌, Option, Result, IfOk, OnErr}
+use Rattle.std.specs.declared.alloc.AllocError.{AllocError}
 use Rattle.std.specs.Bool.{OnTrue}
 use Rattle.ts_packet.specs.declared.cell.Cell.{Cell}
 use Rattle.ts_outside.specs.Source.{SourceView}
@@ -16,11 +17,11 @@ use Rattle.stage_run.specs.declared.stuffing.Stuffing.{Stuffing}
 use Rattle.stage_run.specs.InputStands as stage
 use Rattle.stage_run.specs.Seeing.{Seeing}
 use Rattle.chain_run.specs.Fresh.{AreFresh}
-use Rattle.chain_run.specs.RunOf.{RunOf}
+use Rattle.chain_run.specs.RunOf.{RunOf, NeverBegan}
 use Rattle.plug_set.specs.Rules.{rule_of, steady_of}
 use Rattle.tsp_top.specs.PlannedChain.{stuffing_of, named_rule_of}
 use Rattle.tsp_top.specs.Sizes.{IsPlannedCore}
-use Rattle.tsp_top.specs.Openings.{input_closed_as, output_closed_as, WasOpened}
+use Rattle.tsp_top.specs.Openings.{asked_input, asked_output, OpensInput, OpensOutput, input_closed_as, output_closed_as, WasOpened}
 use Rattle.tsp_top.specs.Reported.{ReportsRun}
 use Rattle.tsp_top.specs.declared.status.Status.{Status}
 use Rattle.tsp_top.specs.declared.status.Status.TheVariants.{NoMemory}
@@ -39,6 +40,20 @@ pub record IsReady {P : Type 0} (rule : P → PluginRule) (stands : P → List C
   -- each took its room for as many positions as the buffer has, where its settings say that it does
   pub rooms : map steady plugins ≡ map (λ conf. steady_of conf numbers.buffer) plan.plugins
   pub fresh : AreFresh stands plugins
+
+-- a call whose chain is ready and whose two ends were opened, the input first
+pub record IsOpened {S K P : Type 0} (see : Seeing S K P) (plan : Plan) (numbers : CorePlan) (old made : DeskView)
+    (from : InputPart S) (stuffing : Stuffing) (plugins : List P) (to : OutputPart K) : Type 0 where
+  pub ready : IsReady see.rule see.stands see.steady plan stuffing numbers plugins
+  pub asked : made ≡ asked_output (asked_input old plan.input) plan.output
+  pub input : OpensInput see.source old plan.input from
+  pub output : OpensOutput see.sink (asked_input old plan.input) plan.output to
+
+-- what every run owes, whoever serves the stages: it was closed, or there was no memory for it
+pub record EndsRun {S K P : Type 0} (see : Seeing S K P) (stuffing : Stuffing) (numbers : CorePlan)
+    (from made_from : InputPart S) (plugins made : List P) (to made_to : OutputPart K) (closed : Result Closed AllocError) : Type 0 where
+  pub run : IfOk closed (λ closed. RunOf see from made_from stuffing plugins made to made_to numbers closed)
+  pub never_began : OnErr closed (NeverBegan from made_from plugins made to made_to)
 
 -- a run that was closed and reported, or closed only, where there was no memory for its report
 pub record RanClosed {S K P : Type 0} (see : Seeing S K P) (plan : Plan) (stuffing : Stuffing) (numbers : CorePlan) (old new : DeskView)

@@ -12,8 +12,8 @@ use Rattle.tsp_top.specs.PlannedChain.{users_of}
 abbrev pub default_buffer : ℕ
 default_buffer = 89240
 
-abbrev pub default_turn : ℕ
-default_turn = 10000
+abbrev pub default_batch : ℕ
+default_batch = 10000
 
 -- a size that is given holds; one that is not given is some number, at most the default
 abbrev pub IsSize : Option ℕ → ℕ → ℕ → Type 0
@@ -22,11 +22,11 @@ IsSize None default size = (1 ≤ size) × (size ≤ default)
 
 -- how many packets a stage takes at a time: the lesser of the two options, one that is not given counted by its default;
 -- nothing is said where neither is given
-abbrev pub lesser_turn : Option ℕ → Option ℕ → Option ℕ
-lesser_turn None None = None
-lesser_turn (Some input) None = Some (min input default_turn)
-lesser_turn None (Some flushed) = Some (min default_turn flushed)
-lesser_turn (Some input) (Some flushed) = Some (min input flushed)
+abbrev pub lesser_batch : Option ℕ → Option ℕ → Option ℕ
+lesser_batch None None = None
+lesser_batch (Some input) None = Some (min input default_batch)
+lesser_batch None (Some flushed) = Some (min default_batch flushed)
+lesser_batch (Some input) (Some flushed) = Some (min input flushed)
 
 -- the most packets that the buffer may have
 abbrev pub most_buffer : GeneralConf → ℕ
@@ -37,5 +37,5 @@ pub record IsPlannedCore (plan : Plan) (numbers : CorePlan) : Type 0 where
   pub lawful : core.IsLawfulPlan numbers
   pub plugins : numbers.plugins ≡ length plan.plugins
   pub buffer : IsSize plan.general.buffer_packets default_buffer numbers.buffer
-  pub most : IsSize (lesser_turn plan.general.max_input_packets plan.general.max_flushed_packets) default_turn numbers.most
+  pub most : IsSize (lesser_batch plan.general.max_input_packets plan.general.max_flushed_packets) default_batch numbers.most
   pub users : stages_of numbers.users ≡ users_of plan

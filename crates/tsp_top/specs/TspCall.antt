@@ -11,6 +11,11 @@ use Rattle.tsp_top.specs.StreamTheorem.{StreamTheorem}
 use Rattle.tsp_top.specs.declared.status.Status.{Status}
 use Rattle.tsp_top.specs.declared.status.Status.TheVariants.{NoMemory}
 
+-- a call with this plan is over before its run: the stream theorem holds of it, or memory was wanting before anything was
+-- opened or reported
+abbrev pub IsOverBefore : Plan → DeskView → DeskView → Status → Type 0
+IsOverBefore plan old new status = StreamTheorem plan old new status ⊎ ((status ≡ NoMemory) × (new ≡ old))
+
 -- the words have a plan, and the stream theorem holds of it; or they have none, and the first broken rule is reported;
 -- or memory was wanted before anything was opened or reported
 abbrev pub CallsTsp : List (List ℕ) → DeskView → DeskView → Status → Type 0

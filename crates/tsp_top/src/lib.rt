@@ -2,15 +2,17 @@
 //! The program uses the clauses of `tsp_call`, the stream theorem, and nothing else.
 #![tactic(auto)]
 
+mod beginning;
 mod call;
-mod driver;
 mod end_line;
+mod finishing;
+mod one_thread;
+mod opened_call;
 mod opening;
 mod planning;
 mod ready;
 mod report;
 mod reporting;
-mod running;
 mod saying;
 mod status;
 mod steady;

@@ -5,7 +5,7 @@ ghost use Rattle.chain_args.specs.LawfulPlan as args;
 ghost use Rattle.chain_core.specs.Stages.{stages_of};
 ghost use Rattle.stage_run.specs.InputStands as stage;
 ghost use Rattle.tsp_top.specs.PlannedChain.{stuffing_of, user_at, users_from, users_of};
-ghost use Rattle.tsp_top.specs.Sizes.{default_buffer, default_turn, IsSize, lesser_turn, IsPlannedCore};
+ghost use Rattle.tsp_top.specs.Sizes.{default_buffer, default_batch, IsSize, lesser_batch, IsPlannedCore};
 
 use chain_args::{GeneralConf, Plan};
 use chain_core::{CorePlan, StageSet};
@@ -32,7 +32,7 @@ pub(crate) fn planned_stuffing(general: &GeneralConf) -> Stuffing
 const CHOSEN_SIZE: u64 = 1024;
 
 /// How many packets a stage takes at a time by an option that is not given, where the other one is.
-const DEFAULT_TURN: u64 = 10_000;
+const DEFAULT_BATCH: u64 = 10_000;
 
 /// How many packets the buffer has.
 fn planned_buffer(general: &GeneralConf) -> u64
@@ -45,16 +45,16 @@ fn planned_buffer(general: &GeneralConf) -> u64
 }
 
 /// How many packets a stage takes at a time: no more than either option allows.
-fn planned_turn(general: &GeneralConf) -> u64
+fn planned_batch(general: &GeneralConf) -> u64
     requires { IsLawfulGeneral general.now }
-    ensures size { IsSize (lesser_turn general.now.max_input_packets general.now.max_flushed_packets) default_turn result }
+    ensures size { IsSize (lesser_batch general.now.max_input_packets general.now.max_flushed_packets) default_batch result }
     ensures some { 1 ≤ result }
     ensures bound { result ≤ 1000000 }
 {
     match (general.max_input_packets, general.max_flushed_packets) {
         (None, None) => CHOSEN_SIZE,
-        (Some(input), None) => input.min(DEFAULT_TURN),
-        (None, Some(flushed)) => DEFAULT_TURN.min(flushed),
+        (Some(input), None) => input.min(DEFAULT_BATCH),
+        (None, Some(flushed)) => DEFAULT_BATCH.min(flushed),
         (Some(input), Some(flushed)) => input.min(flushed),
     }
 }
@@ -105,7 +105,7 @@ pub(crate) fn planned_core(plan: &Plan) -> CorePlan
     CorePlan {
         plugins: plan.plugins.as_slice().len(),
         buffer: planned_buffer(&plan.general) as usize,
-        most: planned_turn(&plan.general) as usize,
+        most: planned_batch(&plan.general) as usize,
         users: planned_users(plan),
     }
 }

@@ -6,6 +6,7 @@ ghost use Rattle.ts_packet.specs.Packet.{IsPacket};
 ghost use Rattle.ts_packet.specs.Payload.{with_piece};
 
 use super::Packet;
+use crate::numbers::PACKET_SIZE;
 
 /// The byte with its `count` bits from place `first` on, highest first, replaced by `value`.
 #[inline]
@@ -26,7 +27,7 @@ impl Packet {
     #[inline]
     pub(super) fn write_bits(&mut self, place: usize, first: u32, count: u32, value: u8)
         requires behind_sync { 0 < place }
-        requires place_fits { place < 188 }
+        requires place_fits { place < PACKET_SIZE }
         requires inside { first + count ≤ 8 }
         requires fits { value < 2 ^ count }
         ensures row { self.new ≡ row_with self.old place first count value }
@@ -40,7 +41,7 @@ impl Packet {
     #[inline]
     pub(super) fn write_byte(&mut self, place: usize, value: u8)
         requires behind_sync { 0 < place }
-        requires place_fits { place < 188 }
+        requires place_fits { place < PACKET_SIZE }
         ensures row { self.new ≡ slice_set self.old place value }
         ensures field { SetsField self.old self.new (8 * place) 8 value }
         ensures packet { IsPacket self.new }
@@ -52,7 +53,7 @@ impl Packet {
     #[inline]
     pub(super) fn write_bytes(&mut self, at: usize, piece: &[u8])
         requires behind_sync { 0 < at }
-        requires fits { at + length piece.now ≤ 188 }
+        requires fits { at + length piece.now ≤ PACKET_SIZE }
         ensures row { self.new ≡ with_piece self.old at piece.now }
         ensures packet { IsPacket self.new }
     {

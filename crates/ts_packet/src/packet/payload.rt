@@ -4,6 +4,7 @@ ghost use Rattle.ts_packet.specs.Packet.{IsPacket};
 ghost use Rattle.ts_packet.specs.Payload.{payload_start_of, payload_of, with_piece};
 
 use super::Packet;
+use crate::numbers::{PACKET_SIZE, PAYLOAD_SIZE};
 
 impl Packet {
     /// The place of the first payload byte, 4 to 187: 4 with no adaptation field, 5 and the field's length
@@ -25,7 +26,7 @@ impl Packet {
     #[tactic(auto, unfolding(crate::specs::Payload::payload_of))]
     pub fn payload(&self) -> &[u8]
         ensures bytes { result.now ≡ payload_of self.now }
-        ensures size { length result.now ≤ 184 }
+        ensures size { length result.now ≤ PAYLOAD_SIZE }
     {
         match self.payload_start() {
             Some(start) => &self.row[usize::from(start)..],
@@ -36,7 +37,7 @@ impl Packet {
     /// Lays a piece over the packet's bytes from `at` on; the header cannot be reached.
     pub fn put_payload(&mut self, at: u8, piece: &[u8])
         requires behind_header { 4 ≤ at }
-        requires fits { at + length piece.now ≤ 188 }
+        requires fits { at + length piece.now ≤ PACKET_SIZE }
         ensures bytes { self.new ≡ with_piece self.old at piece.now }
         ensures packet { IsPacket self.new }
     {

@@ -1,7 +1,7 @@
-use Rattle.std.proofs.Common.{◌≡◌, ◌-◌, ◌*◌, ◌/◌, ◌^◌, ◌≤◌, refl, sym, arith, below_more, add-one}
+use Rattle.std.proofs.Common.{◌≡◌, ◌-◌, ◌*◌, ◌/◌, ◌^◌, ◌≤◌, refl, sym, arith, below_more, add-one, subst, ◌<◌}
 use Rattle.std.specs.Prelude.{bit_and}
 use Rattle.ts_bits.specs.Decimal.{half_byte}
-use Rattle.ts_bits.proofs.Digits.{decimal-zero, decimal-suc, decimal-lt_eight, masked_half_byte}
+use Rattle.ts_bits.proofs.Digits.{decimal-zero, decimal-suc, decimal-lt, decimal-lt_eight, masked_half_byte}
 use Rattle.ts_bits.proofs.decimal.bcd.Goals as goal
 
 pub loop-place-init : goal.loop-place-init
@@ -29,3 +29,8 @@ loop-place-preserved c =
       number = rw add-one (rw decimal-suc (omega arith));
       digits = below_more (λ place. half_byte c.args.from.now c.args.at place ≤ 9) c.loop-place.place c.loop-place.invariant.digits (omega arith);
     }
+
+pub returns-clause-below : goal.returns-clause-below
+returns-clause-below c =
+    let all : c.loop-place.place ≡ c.args.digits = omega arith in
+    subst (λ n. c.loop-place.number < 10 ^ n) all (rw c.loop-place.invariant.number (decimal-lt c.args.from.now c.args.at c.loop-place.place c.loop-place.invariant.digits))

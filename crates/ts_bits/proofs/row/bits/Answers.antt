@@ -1,5 +1,5 @@
 use Rattle.std.proofs.Common.{arith}
-use Rattle.ts_bits.proofs.Fields.{field-masked}
+use Rattle.ts_bits.proofs.MaskedBits.{field-masked}
 use Rattle.ts_bits.proofs.row.bits.Goals as goal
 
 pub returns-clause-read : goal.returns-clause-read

@@ -11,11 +11,11 @@ returns c =
         plugins = rw count c.requires.few;
         some_buffer = c.planned_buffer.ensures.some;
         buffer = c.planned_buffer.ensures.bound;
-        most = c.planned_turn.ensures.some;
+        most = c.planned_batch.ensures.some;
         users = rw (c.planned_users.ensures, count) (users-are-plugins c.args.plan.now.general.ignore_joint_termination c.args.plan.now.plugins);
       };
       plugins = count;
       buffer = c.planned_buffer.ensures.size;
-      most = c.planned_turn.ensures.size;
+      most = c.planned_batch.ensures.size;
       users = c.planned_users.ensures;
     }

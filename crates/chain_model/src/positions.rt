@@ -1,0 +1,2 @@
+/// Positions are below this number.
+pub const POSITION_LIMIT: u64 = 1 << 60;

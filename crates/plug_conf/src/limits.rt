@@ -1,0 +1,17 @@
+//! The greatest numbers that options take, each of which has its name here alone.
+use ts_packet::{NULL_PID, PAYLOAD_SIZE};
+
+/// The greatest PID.
+pub const LAST_PID: u64 = NULL_PID as u64;
+
+/// The greatest offset in a payload.
+pub const LAST_OFFSET: u64 = PAYLOAD_SIZE as u64 - 1;
+
+/// The greatest number where an option states no other: 2^60.
+pub const MOST_NUMBER: u64 = 1 << 60;
+
+/// The greatest count of packets: as many as `skip` drops, and as the input `null` gives. It is 2^40.
+pub const MOST_PACKETS: u64 = 1 << 40;
+
+/// The most pairs of `remap`.
+pub const MOST_PAIRS: usize = 1000;
