@@ -1,5 +1,5 @@
 -- Worked rows of words, on the definitions alone.
-use Rattle.std.proofs.Common.{◌≡◌, [], ◌∷◌, Some, codes, false, refl}
+use Rattle.std.proofs.Common.{None, ◌≡◌, [], ◌∷◌, Some, codes, false, refl}
 use Rattle.clap.proofs.OnLiterals.{clap_on_literals}
 use Rattle.plug_set.specs.declared.plugin_conf.PluginConf.TheVariants.{Filter}
 use Rattle.option_words.specs.Number.{number_of, number_within}
@@ -30,9 +30,9 @@ hexadecimal-pid : plan_of (codes "-I" ∷ codes "null" ∷ codes "4" ∷ codes "
         add_start_stuffing = 0;
         add_stop_stuffing = 0;
         add_input_stuffing = (0, 1);
-        buffer_packets = 89240;
-        max_flushed_packets = 10000;
-        max_input_packets = 10000;
+        buffer_packets = None;
+        max_flushed_packets = None;
+        max_input_packets = None;
         ignore_joint_termination = false;
       };
       input = Null 4;

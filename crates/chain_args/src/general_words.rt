@@ -17,12 +17,6 @@ const MOST_PACKETS: u64 = 1_000_000;
 /// The most null packets that are put between packets of the input.
 const MOST_BETWEEN: u64 = 1_000;
 
-/// How many packets the buffer holds where nothing is said: about 17 megabytes.
-const DEFAULT_BUFFER: u64 = 89_240;
-
-/// How many packets a stage takes at a time where nothing is said.
-const DEFAULT_TURN: u64 = 10_000;
-
 fn general_command<'a>(alloc: Global) -> Result<Command<'a>, AllocError>
     ensures { IfOk result (λ c. app_of c ≡ command_of general_rows) }
 {
@@ -43,9 +37,9 @@ fn general_settings(found: &ParsedOptions) -> Result<GeneralConf, Refusal>
     let add_start_stuffing = found.number_or("add-start-stuffing", 0, most, 0)?;
     let add_stop_stuffing = found.number_or("add-stop-stuffing", 0, most, 0)?;
     let between = found.pair("add-input-stuffing", '/', (0, MOST_BETWEEN), (1, most))?;
-    let buffer_packets = found.number_or("buffer-packets", 1, most, DEFAULT_BUFFER)?;
-    let max_flushed_packets = found.number_or("max-flushed-packets", 1, most, DEFAULT_TURN)?;
-    let max_input_packets = found.number_or("max-input-packets", 1, most, DEFAULT_TURN)?;
+    let buffer_packets = found.number("buffer-packets", 1, most)?;
+    let max_flushed_packets = found.number("max-flushed-packets", 1, most)?;
+    let max_input_packets = found.number("max-input-packets", 1, most)?;
     Ok(GeneralConf {
         add_start_stuffing,
         add_stop_stuffing,
