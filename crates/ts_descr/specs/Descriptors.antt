@@ -4,7 +4,7 @@ use Rattle.std.specs.Prelude.{◌≡◌, ℕ, ◌-◌, ◌/◌, ◌^◌, ◌<◌
 use Rattle.std.specs.List.{find}
 use Rattle.ts_bits.specs.TaggedBody.{TaggedBody}
 use Rattle.ts_fields.specs.Bits.{bits_of}
-use Rattle.ts_fields.specs.Layout.{Held}
+use Rattle.ts_fields.specs.Layout.{Row, Held}
 use Rattle.ts_fields.specs.Reading.{◌>>=◌}
 use Rattle.ts_fields.specs.Bodies.{Page, Holding, read_page, spell_page}
 use Rattle.ts_descr.specs.declared.refusal.DescrRefusal.{DescrRefusal}
@@ -20,7 +20,7 @@ unfoldable pub read_typed : List Page → TaggedBody → Option Typed
 read_typed pages d = do
   p ← find (λ p. nat_eq d.tag p.tag) pages
   h ← read_page p (bits_of d.body)
-  Some (record { tag = d.tag; holding = h })
+  Some (record { tag = p.tag; holding = h })
 
 -- what a body of fields alone holds, and what a body of items alone holds
 abbrev pub fields_alone : List Held → Holding
@@ -28,6 +28,22 @@ fields_alone values = record { head = values; items = [] }
 
 abbrev pub items_alone : List (List Held) → Holding
 items_alone items = record { head = []; items = items }
+
+-- a descriptor of a page of fields alone, and of a page of items alone
+abbrev pub typed_fields : Page → List Held → Typed
+typed_fields p values = record { tag = p.tag; holding = fields_alone values }
+
+abbrev pub typed_items : Page → List (List Held) → Typed
+typed_items p items = record { tag = p.tag; holding = items_alone items }
+
+-- the rows of each item, where there are items
+abbrev pub rows_behind : Option (List ℕ × List Row) → List Row
+rows_behind None = []
+rows_behind (Some i) = i.1
+
+-- the rows of each item of a page
+abbrev pub item_rows : Page → List Row
+item_rows p = rows_behind p.items
 
 -- the descriptor of a page whose body holds this
 pub record IsWritten (p : Page) (h : Holding) (d : TaggedBody) : Type 0 where

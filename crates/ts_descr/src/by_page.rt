@@ -13,7 +13,8 @@ use ts_fields::{Body, Layout, NotRead, length_of_bits, read_body, write_body};
 /// What a descriptor's body holds by a page; none where it is not of that page. The tag is not looked at.
 pub fn read_by_page(alloc: Global, layout: &Layout, from: &Descriptor) -> Result<Option<Body>, AllocError>
     requires { IsTrue (page_sound (page layout.now)) }
-    ensures read { IfOk result (λ o. option_map body_held o ≡ read_page (page layout.now) (bits_of from.now.body)) }
+    ensures read { IfOk result (λ o. option_map body_held o
+        ≡ read_page (page layout.now) (bits_of from.now.body)) }
     ensures fits { IfOk result (λ o. IfSome o (λ b. page_fits (page layout.now) (body_held b) ≡ true)) }
 {
     match read_body(alloc, layout, from.body()) {

@@ -12,8 +12,9 @@ use ts_fields::{bits_tell_bytes, length_of_bits, read_is_written, small_page_fit
 /// A descriptor that is written is read again, if its numbers are below their widths' bounds.
 pub fn written_is_typed()
     ensures { (pages : List Page) (p : Page) (h : Holding) (d : TaggedBody)
-        → find (λ q. nat_eq p.tag q.tag) pages ≡ Some p → IsTrue (page_sound p) → page_fits_uncounted p h ≡ true
-        → IsWritten p h d → read_typed pages d ≡ Some (record { tag = p.tag; holding = h }) }
+        → find (λ q. nat_eq p.tag q.tag) pages ≡ Some p → IsTrue (page_sound p)
+        → page_fits_uncounted p h ≡ true → IsWritten p h d
+        → read_typed pages d ≡ Some (record { tag = p.tag; holding = h }) }
 {
     written_is_read();
     small_page_fits();

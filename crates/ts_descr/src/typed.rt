@@ -1,11 +1,11 @@
 //! Descriptors whose bodies are fields alone or items alone, as structs.
 
-ghost use Rattle.std.specs.Prelude.{◌≡◌, [], map, option_map, true, Some, None, IfOk, IsTrue};
-ghost use Rattle.std.specs.List.{list_all};
+ghost use Rattle.std.specs.Prelude.{◌≡◌, List, [], nat_eq, map, option_map, true, Some, None, IfOk, IsTrue};
+ghost use Rattle.std.specs.List.{find, list_all};
 ghost use Rattle.ts_fields.specs.Bits.{bits_of};
-ghost use Rattle.ts_fields.specs.Bodies.{page, page_sound, read_page, item_held};
+ghost use Rattle.ts_fields.specs.Bodies.{Page, page, page_sound, read_page, item_held};
 ghost use Rattle.ts_fields.specs.Fitting.{fits, shaped};
-ghost use Rattle.ts_descr.specs.Descriptors.{Writes, fields_alone, items_alone};
+ghost use Rattle.ts_descr.specs.Descriptors.{Writes, fields_alone, items_alone, typed_fields, typed_items, read_typed};
 
 use crate::by_page::{read_by_page, write_by_page};
 use crate::fields::Fields;
@@ -16,6 +16,19 @@ use ts_fields::{Body, Item, Layout};
 
 /// What a descriptor of a page of fields alone holds; none where its body is not of that page.
 pub fn read_fields<T: Fields + Drop>(alloc: Global, layout: &Layout, from: &Descriptor) -> Result<Option<T>, AllocError>
+    requires sound { IsTrue (page_sound (page layout.now)) }
+    requires rows { (page layout.now).head ≡ T.rows }
+    requires alone { (page layout.now).items ≡ None }
+    ensures { (pages : List Page) → find (λ p. nat_eq from.now.tag p.tag) pages ≡ Some (page layout.now)
+        → IfOk result (λ o. option_map (λ x. typed_fields (page layout.now) (T.fields x)) o
+        ≡ read_typed pages from.now) }
+{
+    let value = fields_by_page(alloc, layout, from)?;
+    Ok(value)
+}
+
+/// The same, whatever the descriptor's tag.
+fn fields_by_page<T: Fields + Drop>(alloc: Global, layout: &Layout, from: &Descriptor) -> Result<Option<T>, AllocError>
     requires sound { IsTrue (page_sound (page layout.now)) }
     requires rows { (page layout.now).head ≡ T.rows }
     requires alone { (page layout.now).items ≡ None }
@@ -44,6 +57,19 @@ pub fn write_fields<T: Fields>(alloc: Global, layout: &Layout, value: &T) -> Res
 
 /// The items of a descriptor of a page of items alone; none where its body is not of that page.
 pub fn read_items<T: Fields + Drop>(alloc: Global, layout: &Layout, from: &Descriptor) -> Result<Option<Vec<T>>, AllocError>
+    requires sound { IsTrue (page_sound (page layout.now)) }
+    requires alone { (page layout.now).head ≡ [] }
+    requires rows { option_map (λ i. i.1) (page layout.now).items ≡ Some T.rows }
+    ensures { (pages : List Page) → find (λ p. nat_eq from.now.tag p.tag) pages ≡ Some (page layout.now)
+        → IfOk result (λ o. option_map (λ v. typed_items (page layout.now) (map T.fields v.items)) o
+        ≡ read_typed pages from.now) }
+{
+    let values = items_by_page(alloc, layout, from)?;
+    Ok(values)
+}
+
+/// The same, whatever the descriptor's tag.
+fn items_by_page<T: Fields + Drop>(alloc: Global, layout: &Layout, from: &Descriptor) -> Result<Option<Vec<T>>, AllocError>
     requires sound { IsTrue (page_sound (page layout.now)) }
     requires alone { (page layout.now).head ≡ [] }
     requires rows { option_map (λ i. i.1) (page layout.now).items ≡ Some T.rows }
