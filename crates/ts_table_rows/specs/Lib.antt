@@ -1,0 +1,4 @@
+pub mod TablePages
+pub mod TableValues
+pub mod BodyReading
+pub mod RunReading
