@@ -1,3 +1,5 @@
 mod ReadLemmas
 mod ItemLemmas
 mod RunLemmas
+mod WriteLemmas
+mod SizeLemmas

@@ -74,25 +74,31 @@ abbrev pub items_sound : Option ItemPage → Bool
 items_sound None = true
 items_sound (Some i) = item_sound i
 
--- a table that can be read and written: rows of whole bytes with its lengths, items that are sound, and a section
--- that has at most 4093 bytes behind section_length
+-- how many bits the fields take that stand in no item
 abbrev pub heading_bits : TablePage → ℕ
 heading_bits p = widths p.common + widths p.head
 
-abbrev pub length_bits : LoopForm → Option ItemPage → ℕ
-length_bits Absent None = 0
-length_bits Absent (Some i) = if i.counted then 16 else 0
-length_bits Counted None = 12
-length_bits Counted (Some i) = if i.counted then 28 else 12
-length_bits ToEnd items = 0
+-- and the numbers of bytes that stand before descriptors and items
+abbrev pub own_bits : LoopForm → ℕ
+own_bits Absent = 0
+own_bits Counted = 12
+own_bits ToEnd = 0
 
+abbrev pub items_bits : Option ItemPage → ℕ
+items_bits None = 0
+items_bits (Some i) = if i.counted then 16 else 0
+
+-- nothing stands behind descriptors that go to the end
 abbrev pub ends_once : LoopForm → Option ItemPage → Bool
-ends_once ToEnd None = true
-ends_once ToEnd (Some i) = false
 ends_once Absent items = true
 ends_once Counted items = true
+ends_once ToEnd None = true
+ends_once ToEnd (Some i) = false
 
+-- a table that can be read and written: sound rows and items, whole bytes, at most 4093 bytes behind section_length,
+-- and numbers kept in one section alone
 abbrev pub page_sound : TablePage → Bool
 page_sound p =
     closed_rows p.common && (closed_rows p.head && (items_sound p.items && (ends_once p.loop_form p.items
-    && (nat_eq ((heading_bits p + length_bits p.loop_form p.items) % 8) 0 && nat_le p.most 4093))))
+    && (nat_eq ((heading_bits p + (own_bits p.loop_form + items_bits p.items)) % 8) 0 && (nat_le p.most 4093
+    && (not p.keeps_numbers || p.single))))))

@@ -12,6 +12,8 @@ mod read_loop;
 mod read_run;
 
 mod table;
+mod write_laws;
+mod write_rows;
 
 pub use fault::{TableFault, TableRefusal, TableRule};
 pub use layout::{ItemForm, LoopForm, TableLayout};
