@@ -3,3 +3,4 @@ mod ItemLemmas
 mod RunLemmas
 mod WriteLemmas
 mod SizeLemmas
+mod FillLemmas

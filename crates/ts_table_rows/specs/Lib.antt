@@ -6,3 +6,4 @@ pub mod Filling
 pub mod BodySpelling
 pub mod TableFitting
 pub mod TableSections
+pub mod FilledRows

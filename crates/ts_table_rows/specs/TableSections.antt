@@ -102,28 +102,40 @@ head_with p h last number = record {
 }
 
 -- the sections of some bodies, numbered from a number on
-unfoldable pub numbered : TablePage → TableHead → ℕ → ℕ → List BodyHolding → List (List ℕ)
+unfoldable pub numbered : TablePage → TableHead → ℕ → ℕ → List (List ℕ) → List (List ℕ)
 numbered p h last number [] = []
-numbered p h last number (b ∷ bs) =
-    long_section (head_with p h last number) (body_row p b) ∷ numbered p h last (number + 1) bs
+numbered p h last number (row ∷ rows) = long_section (head_with p h last number) row ∷ numbered p h last (number + 1) rows
 
 -- the first number and the last: the table's own, or from 0
 abbrev pub numbers_of : Option (ℕ × ℕ) → ℕ → ℕ × ℕ
 numbers_of None count = (0, count - 1)
 numbers_of (Some kept) count = kept
 
-abbrev pub within_256 : TablePage → TableHolding → List BodyHolding → Result (List (List ℕ)) TableRefusal
-within_256 p h bodies =
-    if nat_lt 256 (length bodies) then Err TooMany
-    else Ok (numbered p h.head (numbers_of h.head.numbers (length bodies)).1 (numbers_of h.head.numbers (length bodies)).0 bodies)
+-- the sections of some bodies, which are at most 256
+abbrev pub sections_with : TablePage → TableHead → List (List ℕ) → Result (List (List ℕ)) TableRefusal
+sections_with p h rows =
+    if nat_lt 256 (length rows) then Err TooMany
+    else Ok (numbered p h (numbers_of h.numbers (length rows)).1 (numbers_of h.numbers (length rows)).0 rows)
 
-abbrev pub unless_large : Option ℕ → Result (List (List ℕ)) TableRefusal → Result (List (List ℕ)) TableRefusal
-unless_large None sections = sections
-unless_large (Some n) sections = Err (TooLarge (told_length n))
+-- a length that is needed and is above the most, or else the bodies
+abbrev pub unless_large : Option ℕ → List (List ℕ) → Result (List (List ℕ)) TableRefusal
+unless_large None rows = Ok rows
+unless_large (Some n) rows = Err (TooLarge (told_length n))
+
+-- the bodies of the sections as bytes, or why there are none
+unfoldable pub body_rows : TablePage → BodyHolding → Result (List (List ℕ)) TableRefusal
+body_rows p b = unless_large (needed_length p b) (map (body_row p) (section_bodies p b))
+
+infixl 10 ◌>>=◌
+abbrev pub ◌>>=◌ : {A B : Type 0} → Result A TableRefusal → (A → Result B TableRefusal) → Result B TableRefusal
+(Ok x) >>= next = next x
+(Err refusal) >>= next = Err refusal
 
 -- the sections of a table, or why it has none
 unfoldable pub sections_of : TablePage → TableHolding → Result (List (List ℕ)) TableRefusal
-sections_of p h = unless_large (needed_length p h.body) (within_256 p h (section_bodies p h.body))
+sections_of p h = do
+  rows ← body_rows p h.body
+  sections_with p h.head rows
 
 -- a call refused as the rule says; want of memory says nothing of the table
 abbrev pub IsRefusal : TableRefusal → Result (List (List ℕ)) TableRefusal → Type 0
