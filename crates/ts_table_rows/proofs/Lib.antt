@@ -4,3 +4,4 @@ mod RunLemmas
 mod WriteLemmas
 mod SizeLemmas
 mod FillLemmas
+mod NumberLemmas

@@ -15,6 +15,7 @@ mod read_run;
 mod table;
 mod write_laws;
 mod write_rows;
+mod write_table;
 
 pub use fault::{TableFault, TableRefusal, TableRule};
 pub use layout::{ItemForm, LoopForm, TableLayout};
