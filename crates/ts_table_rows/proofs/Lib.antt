@@ -5,3 +5,5 @@ mod WriteLemmas
 mod SizeLemmas
 mod FillLemmas
 mod NumberLemmas
+mod GreedyLemmas
+mod BodyLemmas

@@ -1,6 +1,6 @@
 -- Descriptors and items as bytes, put into the bodies of sections.
 -- This project's own rule, that of `TableSections`, told of the bytes alone.
-use Rattle.std.specs.Prelude.{◌≡◌, ℕ, ◌+◌, ◌-◌, ◌≤◌, List, [], ◌∷◌, ◌++◌, length, map, Bool, true, false, nat_lt, nat_le, if◌then◌else◌, Option, Some, None, Result, Ok, Err, All}
+use Rattle.std.specs.Prelude.{◌≡◌, ℕ, ◌+◌, ◌-◌, ◌<◌, ◌≤◌, List, [], ◌∷◌, ◌++◌, length, map, Bool, true, false, nat_lt, nat_le, if◌then◌else◌, Option, Some, None, Result, Ok, Err, All}
 use Rattle.ts_bits.specs.TaggedBody.{TaggedBody, descriptor_bytes}
 use Rattle.ts_fields.specs.Layout.{Held}
 use Rattle.ts_table_rows.specs.declared.filling.ThingRow.{ThingRow}
@@ -94,3 +94,9 @@ rows_by p values xs = if p.single then single_row p values xs else filled_rows p
 -- each body leaves room for the head and the CRC
 abbrev pub AreSmall : List (List ℕ) → Type 0
 AreSmall rows = All (λ row. length row ≤ 4084) rows
+
+-- the bodies of a table's sections: small, at least one, and one alone where the table has one section
+pub record AreFilled (p : TablePage) (rows : List (List ℕ)) : Type 0 where
+  pub small : AreSmall rows
+  pub some : 0 < length rows
+  pub one : p.single ≡ true → length rows ≡ 1

@@ -4,6 +4,7 @@
 
 mod fault;
 mod filling;
+mod filling_laws;
 mod layout;
 
 mod read_body;
@@ -15,10 +16,12 @@ mod read_run;
 mod table;
 mod write_laws;
 mod write_rows;
-mod write_table;
+mod write_run;
 
 pub use fault::{TableFault, TableRefusal, TableRule};
+pub use filling_laws::filled_greedily;
 pub use layout::{ItemForm, LoopForm, TableLayout};
 
 pub use read_run::read_table;
+pub use write_run::write_table;
 pub use table::{Table, TableBody, TableHead, TableItem};

@@ -3,7 +3,7 @@ use Rattle.ts_section.specs.WrittenSection.{long_section}
 use Rattle.ts_table_rows.specs.TablePages.{table_page}
 use Rattle.ts_table_rows.specs.TableSections.{head_with, numbered}
 use Rattle.ts_table_rows.proofs.NumberLemmas.{rows_in, numbers_go_on, numbers_end, number_room, head_parts, small_at, sections_made, sections_many}
-use Rattle.ts_table_rows.proofs.write_table.number_sections.Goals as goal
+use Rattle.ts_table_rows.proofs.write_run.number_sections.Goals as goal
 
 pub loop-body-init : goal.loop-body-init
 loop-body-init c =

@@ -5,7 +5,7 @@ use Rattle.ts_table_rows.specs.TableValues.{body_held, item_held}
 use Rattle.ts_table_rows.specs.FilledRows.{item_kind_row}
 use Rattle.ts_table_rows.specs.TableFitting.{items_fit}
 use Rattle.ts_table_rows.proofs.NumberLemmas.{things_joined, body_parts}
-use Rattle.ts_table_rows.proofs.write_table.thing_rows.Goals as goal
+use Rattle.ts_table_rows.proofs.write_run.thing_rows.Goals as goal
 
 pub item_rows-requires-clause-fits : goal.item_rows-requires-clause-fits
 item_rows-requires-clause-fits c =

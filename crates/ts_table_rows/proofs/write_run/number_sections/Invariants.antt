@@ -2,7 +2,7 @@ use Rattle.std.proofs.Common.{◌≡◌, ◌≤◌, ◌+◌, ◌++◌, length, d
 use Rattle.ts_table_rows.specs.TablePages.{table_page}
 use Rattle.ts_table_rows.specs.TableSections.{numbered}
 use Rattle.ts_table_rows.proofs.NumberLemmas.{rows_in}
-use Rattle.ts_table_rows.proofs.write_table.number_sections.Given as goal
+use Rattle.ts_table_rows.proofs.write_run.number_sections.Given as goal
 
 abbrev pub invariant-loop-body : goal.invariant-loop-body
 invariant-loop-body l = record {

@@ -13,6 +13,7 @@ ghost use Rattle.ts_table_rows.specs.TableValues.{body_held, table_held};
 ghost use Rattle.ts_table_rows.specs.declared.fault.TableRefusal.TheVariants.{TooLarge};
 
 use crate::fault::TableRefusal;
+use crate::filling_laws::bodies_are_filled;
 use crate::filling::{ThingRow, fill, first_large, gather, item_rows, own_rows, piece_bytes, pieces_bytes};
 use crate::layout::TableLayout;
 use crate::table::{Table, TableBody, TableHead};
@@ -184,4 +185,25 @@ fn thing_rows(alloc: Global, layout: &TableLayout, body: &TableBody) -> Result<V
     let mut items = item_rows(alloc, layout.items, &body.items)?;
     rows.append(&mut items)?;
     Ok(rows)
+}
+
+/// The sections of a table. `TooLarge` tells the section_length that the table's one section, or a
+/// section with one descriptor or one item alone, would need; `TooMany` comes where each is within the
+/// most and more than 256 sections would be needed. Reading the sections gives the table again.
+pub fn write_table(
+    alloc: Global,
+    layout: &TableLayout,
+    table: &Table,
+) -> Result<Vec<Section>, TableRefusal>
+    requires sound { IsTrue (page_sound (table_page layout.now)) }
+    requires fits { table_fits (table_page layout.now) (table_held table.now) ≡ true }
+    ensures written { Writes (λ v. v.items) result (sections_of (table_page layout.now) (table_held table.now)) }
+    ensures fit { OnOk result (DescriptorsFit (body_held table.now.body)) }
+{
+    // A law, which runs nothing.
+    bodies_are_filled();
+    let rows = thing_rows(alloc, layout, &table.body)?;
+    let bodies = table_bodies(alloc, layout, &table.body.values, &rows)?;
+    let sections = number_sections(alloc, layout, table.head, &bodies)?;
+    Ok(sections)
 }
