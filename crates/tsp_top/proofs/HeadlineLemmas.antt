@@ -214,7 +214,7 @@ pub memory-first : (words : List (List ℕ)) (plan : Plan) (old new : DeskView) 
 memory-first words plan old new answer is steady calls want =
     elim (planned-call words plan old new answer is calls) [
       | inl t ↦ wants-first plan t.files old new t.files_are t.end (subst (λ (s : Status). StatusTellsCause (output_name plan.output) old new s t.end) want t.status_tells_cause)
-      (t.memory_first steady) t.pure_or_fault t.written t.reported
+          (t.memory_first steady) t.pure_or_fault t.written t.reported
       | inr wanting ↦ (
         (ap (λ (d : DeskView). d.reported) wanting.1, ap (λ (d : DeskView). d.report_faults) wanting.1),
         inl (ap (λ (d : DeskView). d.outputs) wanting.1),

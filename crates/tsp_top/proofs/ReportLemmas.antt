@@ -55,8 +55,8 @@ report-of-cons rule stands rules input rest plugin conf later j cut lines met sa
       met = subst B (sym (add-one j)) met.1;
     }
 
-first-same : (a b : PluginRule) (as bs : List PluginRule) → a ∷ as ≡ b ∷ bs → a ≡ b
-first-same a b as bs e = cc
+first-same : (a b : PluginRule) (rest later : List PluginRule) → a ∷ rest ≡ b ∷ later → a ≡ b
+first-same a b rest later e = cc
 
 pub report-split : {P : Type 0} (rule : P → PluginRule) (stands : P → List Cell → ℕ → Type 0) (rules : List PluginRule) (input : StageList)
     (plugins rest : List P) (plugin : P) (confs later : List PluginConf) (conf : PluginConf) (j cut : ℕ) (lines : List (List ℕ))

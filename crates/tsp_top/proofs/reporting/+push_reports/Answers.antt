@@ -1,4 +1,4 @@
-use Rattle.std.proofs.Common.{◌≡◌, ◌+◌, ◌++◌, map, List, ℕ, ◌∷◌, ap, sym, ◌∙◌, append_assoc}
+use Rattle.std.proofs.Common.{rules, ◌≡◌, ◌+◌, ◌++◌, map, List, ℕ, ◌∷◌, ap, sym, ◌∙◌, append_assoc}
 use Rattle.std.proofs.lemmas.Result.{on_ok_weaker}
 use Rattle.std.specs.String.{string_bytes}
 use Rattle.std.specs.List.{flat_map}
@@ -15,7 +15,20 @@ report-requires g t c =
     c.in-Some.ensures.cases.0 c.requires.reach).0
 
 pub push_reports-requires : goal.push_reports-requires
-push_reports-requires g t c = ?
+push_reports-requires g t c = λ κs within. (
+  search rules,
+  (
+    search rules,
+    (
+      rest-rules g.P.Plugin.rule c.args.plugins.now c.in-Some.rest.now c.in-Some.first.now c.args.confs.now c.in-Some-split_first.later.now c.in-Some-split_first.conf.now
+          c.in-Some.ensures.cases.0 c.in-Some-split_first.ensures.cases.0 c.requires.same_rules,
+      (
+        search rules,
+        (ReachesCut-split g.P.Plugin.stands_for c.args.plugins.now c.in-Some.rest.now c.in-Some.first.now c.args.cut c.args.j c.in-Some.ensures.cases.0 c.requires.reach).1,
+      ),
+    ),
+  ),
+)
 
 pub returns : goal.returns
 returns g t c = λ rules input met.
