@@ -2,11 +2,11 @@
 -- This project's own rule.
 use Rattle.std.specs.Prelude.{ℕ, List, [], ◌∷◌, codes, true, unwrap_or}
 use Rattle.clap.specs.Walk.{Row}
-use Rattle.chain_args.specs.Forms.{number, pair}
-use Rattle.chain_args.specs.Number.{number_within}
-use Rattle.chain_args.specs.Options.{OptionRow, flag, has_flag, read_value, value}
-use Rattle.chain_args.specs.Pairs.{pair_of}
-use Rattle.chain_args.specs.OptionTable.{OptionTable}
+use Rattle.option_words.specs.Forms.{number, pair}
+use Rattle.option_words.specs.Number.{number_within}
+use Rattle.option_words.specs.Options.{OptionRow, flag, has_flag, read_value, value}
+use Rattle.option_words.specs.Pairs.{pair_of}
+use Rattle.option_words.specs.OptionTable.{OptionTable}
 use Rattle.chain_args.specs.declared.general_conf.GeneralConf.{GeneralConf}
 
 -- the byte `/`
@@ -23,7 +23,7 @@ general_rows = record { name = codes "add-start-stuffing"; kind = value (number 
     ∷ record { name = codes "ignore-joint-termination"; kind = flag }
     ∷ []
 
--- each general option, or what holds where it is not given
+-- each general option, or what holds where it is not given; the sizes are told as they are given, or not
 abbrev pub general_settings : List Row → GeneralConf
 general_settings found = record {
   add_start_stuffing =
@@ -32,12 +32,9 @@ general_settings found = record {
       unwrap_or (read_value (number_within 0 1000000) (codes "add-stop-stuffing") found) 0;
   add_input_stuffing = unwrap_or
       (read_value (pair_of slash (0, 1000) (1, 1000000)) (codes "add-input-stuffing") found) (0, 1);
-  buffer_packets =
-      unwrap_or (read_value (number_within 1 1000000) (codes "buffer-packets") found) 89240;
-  max_flushed_packets =
-      unwrap_or (read_value (number_within 1 1000000) (codes "max-flushed-packets") found) 10000;
-  max_input_packets =
-      unwrap_or (read_value (number_within 1 1000000) (codes "max-input-packets") found) 10000;
+  buffer_packets = read_value (number_within 1 1000000) (codes "buffer-packets") found;
+  max_flushed_packets = read_value (number_within 1 1000000) (codes "max-flushed-packets") found;
+  max_input_packets = read_value (number_within 1 1000000) (codes "max-input-packets") found;
   ignore_joint_termination = has_flag (codes "ignore-joint-termination") found;
 }
 
@@ -47,5 +44,5 @@ general = record {
   rows = general_rows;
   has_needed = λ found. true;
   settings = general_settings;
-  go_together = λ conf. true;
+  go_together = λ found. true;
 }

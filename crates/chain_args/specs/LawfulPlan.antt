@@ -1,8 +1,8 @@
 -- What holds of each plan.
 -- This project's own rule.
-use Rattle.std.specs.Prelude.{◌≤◌, length}
+use Rattle.std.specs.Prelude.{ℕ, ◌≤◌, length, IfSome}
 use Rattle.std.specs.List.{All}
-use Rattle.plug_conf.specs.Lawful.{IsLawful}
+use Rattle.plug_set.specs.Plugins.{IsLawful}
 use Rattle.plug_conf.specs.declared.limits.TheConstants.{MOST_PACKETS}
 use Rattle.chain_args.specs.Rules.{most_plugins}
 use Rattle.chain_args.specs.declared.general_conf.GeneralConf.{GeneralConf}
@@ -10,19 +10,20 @@ use Rattle.chain_args.specs.declared.input_conf.InputConf.{InputConf}
 use Rattle.chain_args.specs.declared.input_conf.InputConf.TheVariants.{File, Null}
 use Rattle.chain_args.specs.declared.plan_type.Plan.{Plan}
 
--- each general number lies in its range
+-- a size of 1 to 1,000,000 packets
+abbrev pub IsLawfulSize : ℕ → Type 0
+IsLawfulSize n = (1 ≤ n) × (n ≤ 1000000)
+
+-- each general number lies in its range, where it is given
 pub record IsLawfulGeneral (c : GeneralConf) : Type 0 where
   pub start_stuffing : c.add_start_stuffing ≤ 1000000
   pub stop_stuffing : c.add_stop_stuffing ≤ 1000000
   pub nulls : c.add_input_stuffing.0 ≤ 1000
   pub every : 1 ≤ c.add_input_stuffing.1
   pub at_most_every : c.add_input_stuffing.1 ≤ 1000000
-  pub some_buffer : 1 ≤ c.buffer_packets
-  pub buffer : c.buffer_packets ≤ 1000000
-  pub some_flushed : 1 ≤ c.max_flushed_packets
-  pub flushed : c.max_flushed_packets ≤ 1000000
-  pub some_input : 1 ≤ c.max_input_packets
-  pub input : c.max_input_packets ≤ 1000000
+  pub buffer : IfSome c.buffer_packets IsLawfulSize
+  pub flushed : IfSome c.max_flushed_packets IsLawfulSize
+  pub input : IfSome c.max_input_packets IsLawfulSize
 
 -- `null` has at most 2^40 packets
 abbrev pub IsLawfulInput : InputConf → Type 0

@@ -3,14 +3,12 @@ ghost use Rattle.std.specs.String.{string_bytes};
 ghost use Rattle.clap.specs.Simple.{app_of};
 ghost use Rattle.chain_args.specs.General.{general, general_rows};
 ghost use Rattle.chain_args.specs.LawfulPlan.{IsLawfulGeneral};
-ghost use Rattle.chain_args.specs.Options.{command_of};
-ghost use Rattle.chain_args.specs.Refusal.{Reads, ReadsParsed};
+ghost use Rattle.option_words.specs.Options.{command_of};
+ghost use Rattle.option_words.specs.Refusal.{Reads, ReadsParsed};
 
-use crate::commands::{new_command, with_flag, with_value};
 use crate::general_conf::GeneralConf;
-use crate::parsed_options::ParsedOptions;
-use crate::refusal::Refusal;
 use clap::Command;
+use option_words::{ParsedOptions, Refusal, new_command, with_flag, with_value};
 use std::alloc::{AllocError, Global};
 
 /// The most packets of one stuffing, of the buffer, and of one turn of a stage.
@@ -18,12 +16,6 @@ const MOST_PACKETS: u64 = 1_000_000;
 
 /// The most null packets that are put between packets of the input.
 const MOST_BETWEEN: u64 = 1_000;
-
-/// How many packets the buffer holds where nothing is said: about 17 megabytes.
-const DEFAULT_BUFFER: u64 = 89_240;
-
-/// How many packets a stage takes at a time where nothing is said.
-const DEFAULT_TURN: u64 = 10_000;
 
 fn general_command<'a>(alloc: Global) -> Result<Command<'a>, AllocError>
     ensures { IfOk result (λ c. app_of c ≡ command_of general_rows) }
@@ -45,9 +37,9 @@ fn general_settings(found: &ParsedOptions) -> Result<GeneralConf, Refusal>
     let add_start_stuffing = found.number_or("add-start-stuffing", 0, most, 0)?;
     let add_stop_stuffing = found.number_or("add-stop-stuffing", 0, most, 0)?;
     let between = found.pair("add-input-stuffing", '/', (0, MOST_BETWEEN), (1, most))?;
-    let buffer_packets = found.number_or("buffer-packets", 1, most, DEFAULT_BUFFER)?;
-    let max_flushed_packets = found.number_or("max-flushed-packets", 1, most, DEFAULT_TURN)?;
-    let max_input_packets = found.number_or("max-input-packets", 1, most, DEFAULT_TURN)?;
+    let buffer_packets = found.number("buffer-packets", 1, most)?;
+    let max_flushed_packets = found.number("max-flushed-packets", 1, most)?;
+    let max_input_packets = found.number("max-input-packets", 1, most)?;
     Ok(GeneralConf {
         add_start_stuffing,
         add_stop_stuffing,

@@ -1,5 +1,5 @@
 use crate::{InputConf, OutputConf, Plan, WordsFault, WordsRule, plan};
-use plug_conf::PluginConf;
+use plug_set::PluginConf;
 use std::alloc::Global;
 use std::test::Fail;
 
@@ -94,7 +94,7 @@ fn a_whole_plan(rt: HostRuntime) -> Result<(), Fail> {
         return Err(Fail::from("a plan"));
     };
     assert!(rt; plan.general.add_input_stuffing == (1, 2));
-    assert!(rt; plan.general.buffer_packets == 7 && plan.general.ignore_joint_termination);
+    assert!(rt; plan.general.buffer_packets == Some(7) && plan.general.ignore_joint_termination);
     assert!(rt; matches!(plan.input, InputConf::Null(4)));
     assert!(rt; matches!(plan.output, OutputConf::Drop));
     let [PluginConf::Filter(filter)] = plan.plugins.as_slice() else {
@@ -110,9 +110,9 @@ fn what_holds_without_words(rt: HostRuntime) -> Result<(), Fail> {
     let Ok(plan) = plan_of_line(rt.alloc(), "")? else {
         return Err(Fail::from("a plan"));
     };
-    assert!(rt; plan.general.buffer_packets == 89_240);
-    assert!(rt; plan.general.max_flushed_packets == 10_000);
-    assert!(rt; plan.general.max_input_packets == 10_000);
+    assert!(rt; plan.general.buffer_packets.is_none());
+    assert!(rt; plan.general.max_flushed_packets.is_none());
+    assert!(rt; plan.general.max_input_packets.is_none());
     assert!(rt; plan.general.add_input_stuffing == (0, 1));
     assert!(rt; matches!(&plan.input, InputConf::File(name) if name.as_str().is_empty()));
     assert!(rt; matches!(&plan.output, OutputConf::File(name) if name.as_str().is_empty()));

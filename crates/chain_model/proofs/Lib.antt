@@ -4,4 +4,5 @@ pub mod LiveLemmas
 pub mod ApplyLaws
 pub mod AgreementLaws
 pub mod GreatestLaws
+pub mod JointLaws
 pub mod Rows

@@ -7,23 +7,26 @@ use Rattle.chain_model.specs.Apply.{StageList}
 use Rattle.chain_model.specs.StageLists.{end_list}
 use Rattle.chain_model.specs.Cut.{cut_of, cause_of}
 use Rattle.chain_model.specs.Written.{written}
-use Rattle.chain_model.specs.Reports.{reports}
+use Rattle.chain_model.specs.Reports.{NamedRule, rules_of, reports}
 
--- a chain over its input: the stuffed list, the rules and names of the plugins in order, and the
+-- a chain over its input: the stuffed list, the plugins in order, each with its name, and the
 -- numbers of the plugins that use joint termination
 pub record Chain : Type 0 where
   pub input : StageList
-  pub rules : List PluginRule
-  pub names : List (List ℕ)
+  pub plugins : List NamedRule
   pub users : List ℕ
+
+-- the rules of the plugins of a chain
+abbrev pub chain_rules : Chain → List PluginRule
+chain_rules chain = rules_of chain.plugins
 
 -- the bytes that are written where the chain is cut at `m`
 abbrev pub written_to : Chain → ℕ → List ℕ
-written_to chain m = written (take m (end_list chain.rules chain.input).cells)
+written_to chain m = written (take m (end_list (chain_rules chain) chain.input).cells)
 
 -- what is reported where the chain is cut at `m` for this cause
 abbrev pub reported_at : Chain → ℕ → Cause → List ℕ
-reported_at chain m cause = reports chain.rules chain.names chain.input m cause
+reported_at chain m cause = reports chain.plugins chain.input m cause
 
 -- what a run gives
 pub record PureRun : Type 0 where
@@ -32,12 +35,18 @@ pub record PureRun : Type 0 where
   pub written : List ℕ
   pub reported : List ℕ
 
+-- where a chain is cut, and why
+abbrev pub chain_cut : Chain → ℕ
+chain_cut chain = cut_of (chain_rules chain) chain.input chain.users
+
+abbrev pub chain_cause : Chain → Cause
+chain_cause chain = cause_of (chain_rules chain) chain.input chain.users
+
 -- the run without faults
 abbrev pub pure_run : Chain → PureRun
 pure_run chain = record {
-  cut = cut_of chain.rules chain.input chain.users;
-  cause = cause_of chain.rules chain.input chain.users;
-  written = written_to chain (cut_of chain.rules chain.input chain.users);
-  reported = reported_at chain (cut_of chain.rules chain.input chain.users)
-      (cause_of chain.rules chain.input chain.users);
+  cut = chain_cut chain;
+  cause = chain_cause chain;
+  written = written_to chain (chain_cut chain);
+  reported = reported_at chain (chain_cut chain) (chain_cause chain);
 }

@@ -1,6 +1,6 @@
 -- What a run reports: each plugin's lines and its summary over the cells that count, then the end line.
 -- This project's own rule.
-use Rattle.std.specs.Prelude.{ℕ, zero, suc, List, [], ◌∷◌, ◌++◌, take, codes, ◌==◌, if◌then◌else◌}
+use Rattle.std.specs.Prelude.{ℕ, suc, List, [], ◌∷◌, ◌++◌, take, map, codes, ◌==◌, if◌then◌else◌}
 use Rattle.std.specs.List.{flat_map}
 use Rattle.std.specs.Fmt.{decimal}
 use Rattle.ts_packet.specs.declared.cell.Cell.{Cell}
@@ -33,13 +33,21 @@ plugin_line j name text = codes "[" ++ (decimal j ++ (codes "] " ++ (name ++ (co
 abbrev pub plugin_report : ℕ → List ℕ → List (List ℕ) → List ℕ
 plugin_report j name texts = flat_map (plugin_line j name) texts
 
+-- a plugin of a chain: what it is, and its name in the reports
+pub record NamedRule : Type 0 where
+  pub rule : PluginRule
+  pub name : List ℕ
+
+-- what the plugins of a chain are
+abbrev pub rules_of : List NamedRule → List PluginRule
+rules_of plugins = map (λ plugin. plugin.rule) plugins
+
 -- the reports of plugin `j` and those behind it: each over the first `m` cells of the list that it meets
-abbrev pub reports_from : List PluginRule → StageList → ℕ → ℕ → List PluginRule → List (List ℕ) → List ℕ
-reports_from rules input m j [] names = []
-reports_from rules input m j (rule ∷ rest) [] = []
-reports_from rules input m j (rule ∷ rest) (name ∷ names) =
-    plugin_report (suc j) name (said_of rule (take m (stage_list rules input j).cells))
-    ++ reports_from rules input m (suc j) rest names
+abbrev pub reports_from : List PluginRule → StageList → ℕ → ℕ → List NamedRule → List ℕ
+reports_from rules input m j [] = []
+reports_from rules input m j (plugin ∷ rest) =
+    plugin_report (suc j) plugin.name (said_of plugin.rule (take m (stage_list rules input j).cells))
+    ++ reports_from rules input m (suc j) rest
 
 -- why the input ended, and then the rest of the line
 abbrev pub input_reason : InputEnd → List ℕ → List ℕ
@@ -71,5 +79,5 @@ end_line cause m =
     codes "end: " ++ reason_text cause (codes " after " ++ (decimal m ++ (codes " packets" ++ left_out cause (10 ∷ []))))
 
 -- what is reported of a run that was cut at `m` for this cause
-abbrev pub reports : List PluginRule → List (List ℕ) → StageList → ℕ → Cause → List ℕ
-reports rules names input m cause = reports_from rules input m 0 rules names ++ end_line cause m
+abbrev pub reports : List NamedRule → StageList → ℕ → Cause → List ℕ
+reports plugins input m cause = reports_from (rules_of plugins) input m 0 plugins ++ end_line cause m

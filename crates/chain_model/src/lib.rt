@@ -5,10 +5,12 @@
 
 mod cause;
 mod input_end;
+mod laws;
 mod positions;
 mod reason;
 
 pub use cause::Cause;
 pub use input_end::InputEnd;
+pub use laws::joint_is_at_the_cut;
 pub use positions::POSITION_LIMIT;
 pub use reason::Reason;

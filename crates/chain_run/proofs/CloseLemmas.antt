@@ -1,8 +1,8 @@
 -- A chain whose stages have all ended: what it comes to.
-use Rattle.std.proofs.Common.{◌≡◌, ◌≢◌, ◌⊎◌, ℕ, suc, ◌+◌, ◌<◌, ◌≤◌, List, [], ◌∷◌, ◌++◌, length, map, take, drop, true, false, Option, Some, None, refl, ap, sym, ◌∙◌, subst, arith, inl, inr}
+use Rattle.std.proofs.Common.{◌≡◌, ◌≢◌, ◌⊎◌, ℕ, zero, suc, ◌+◌, ◌-◌, ◌<◌, ◌≤◌, List, [], ◌∷◌, ◌++◌, length, map, take, drop, true, false, Option, Some, None, refl, ap, sym, ◌∙◌, subst, arith, inl, inr, length-append}
 use Rattle.std.specs.Prelude.{slice_index_or}
 use Rattle.std.proofs.lemmas.Bool.{cases_eq, cases_lt}
-use Rattle.std.proofs.lemmas.List.{take-take, length-take}
+use Rattle.std.proofs.lemmas.List.{take-append-le, length-take}
 use Rattle.std.proofs.Math.Seq.{drop-append-le}
 use Rattle.ts_packet.specs.declared.cell.Cell.{Cell}
 use Rattle.ts_outside.specs.Source.{SourceView, unread, read_failed}
@@ -26,22 +26,27 @@ use Rattle.chain_core.specs.Close.{cause_of_stage, cut_at_close, cause_at_close}
 use Rattle.chain_core.specs.CoreNumbers.{CoreNumbers, progress_of_core}
 use Rattle.chain_core.specs.Keeps.{KeptRun}
 use Rattle.chain_core.specs.EveryOrder.{SoFar, AtClose}
+use Rattle.stage_run.specs.Seeing.{Seeing}
 use Rattle.stage_run.specs.declared.input_part.InputPart.{InputPart}
 use Rattle.stage_run.specs.declared.input_part.InputPart.TheVariants as input
 use Rattle.stage_run.specs.declared.output_part.OutputPart.{OutputPart}
 use Rattle.stage_run.specs.declared.output_part.OutputPart.TheVariants as output
 use Rattle.stage_run.specs.declared.stage_part.StagePart.{StagePart}
 use Rattle.stage_run.specs.PartLists.{PartLists}
-use Rattle.stage_run.specs.PartStands.{PartStands, PartGives, rule_of, has_source, has_sink}
+use Rattle.stage_run.specs.PartStands.{PartStands, PartGives, rule_of, has_source, has_sink, an_input, a_plugin, an_output}
 use Rattle.stage_run.specs.OutputStands.{IsPartOfFirst, SinkTook}
 use Rattle.stage_run.specs.Parts.{IsSourceOf, IsSinkOf, FailedReading, LeavesSource, LeavesInput, LeavesOutput}
-use Rattle.chain_run.specs.Met.{AllMetTo}
+use Rattle.plugin_trait.specs.Steps.{IsSteadyFor}
+use Rattle.chain_run.specs.Met.{AllMetFirst}
+use Rattle.chain_run.specs.Rooms.{WantsMemory}
 use Rattle.chain_run.specs.Parts.{AreTakenFrom}
-use Rattle.chain_run.specs.RunOf.{MayRead, LeftInput, TakesTo, LeftOutput}
+use Rattle.chain_run.specs.RunOf.{MayRead, LeftInput, TakesTo, LeftOutput, Gave}
 use Rattle.chain_run.specs.Runs.{between, RunStart, KeptFor, RunsBy}
 use Rattle.chain_run.specs.Working.{IsRunning}
-use Rattle.chain_run.proofs.MachineLaws.{MachineLaws, taken-falls, written-given}
+use Rattle.chain_run.specs.Laws.{MachineLaws}
+use Rattle.chain_run.proofs.NumberLaws.{given-falls, taken-falls, written-given}
 use Rattle.chain_run.proofs.ProgressLemmas.{as-progress}
+use Rattle.chain_run.proofs.KindLemmas.{wants-kind}
 use Rattle.chain_run.proofs.StepLemmas.{may_read-more, part-more}
 use Rattle.chain_run.proofs.TurnWorks.{kept-run, far}
 
@@ -55,6 +60,15 @@ end-of-read_fault k (Refuse reason) e = cc
 end-of-read_fault k WriteFault e = cc
 end-of-read_fault k NoMemory e = cc
 end-of-read_fault k Followed e = cc
+
+end-of-no_memory : (k : ℕ) (end : StageEnd) (j : ℕ) → cause_of_stage k end ≡ Some (cause.NoMemory j) → (end ≡ NoMemory) × (k ≡ j)
+end-of-no_memory k (Input how) j e = cc
+end-of-no_memory k Last j e = cc
+end-of-no_memory k Stop j e = cc
+end-of-no_memory k (Refuse reason) j e = cc
+end-of-no_memory k WriteFault j e = cc
+end-of-no_memory k NoMemory j e = (refl, cc)
+end-of-no_memory k Followed j e = cc
 
 end-of-write_fault : (k : ℕ) (end : StageEnd) → cause_of_stage k end ≡ Some cause.WriteFault → end ≡ WriteFault
 end-of-write_fault k (Input how) e = cc
@@ -100,15 +114,13 @@ takes-other old new cells cut (cause.Refuse j reason) no_ is = is
 takes-other old new cells cut cause.WriteFault no_ is = absurd (no_ refl)
 takes-other old new cells cut (cause.NoMemory k) no_ is = is
 
-module _ {S K P : Type 0} (in_seen : S → SourceView) (out_seen : K → SinkView) (rule : P → PluginRule) (stands : P → List Cell → ℕ → Type 0)
-    (laws : MachineLaws) (every : (plan : CorePlan) (rules : List PluginRule) (input : StageList) (visits : List Visit) → KeptRun plan rules input visits → SoFar plan rules input (state_after plan visits))
-    (close : (plan : CorePlan) (rules : List PluginRule) (input : StageList) (visits : List Visit) → KeptRun plan rules input visits → AllEnded plan (progress_of_stages (state_after plan visits))
-    → AtClose plan rules input (state_after plan visits) (cut_at_close plan (progress_of_stages (state_after plan visits))) (cause_at_close plan (progress_of_stages (state_after plan visits))))
-    (begun : RunStart S K) (core : CoreNumbers) (parts : List (StagePart S K P)) (cells : List Cell) (goes : IsRunning in_seen out_seen rule stands begun core parts cells) (over : AllEnded core.plan (progress_of_core core)) where
+module _ {S K P : Type 0} (see : Seeing S K P)
+    (laws : MachineLaws)
+    (begun : RunStart S K) (core : CoreNumbers) (parts : List (StagePart S K P)) (cells : List Cell) (goes : IsRunning see begun core parts cells) (over : AllEnded core.plan (progress_of_core core)) where
   abbrev pub state : ChainState
   state = state_after begun.plan goes.runs.visits
 
-  abbrev by : RunsBy in_seen out_seen rule stands begun core parts cells goes.runs.visits goes.runs.part goes.runs.lists
+  abbrev by : RunsBy see begun core parts cells goes.runs.visits goes.runs.part goes.runs.lists
   by = goes.runs.by
 
   abbrev pub cut : ℕ
@@ -120,21 +132,25 @@ module _ {S K P : Type 0} (in_seen : S → SourceView) (out_seen : K → SinkVie
   abbrev out : ℕ
   out = suc begun.plan.plugins
 
+  -- how many cells each stage gave
+  abbrev pub gave-of : ℕ → ℕ
+  gave-of k = length (state.stages k).given
+
   over-state : AllEnded begun.plan (progress_of_stages state)
   over-state =
       subst (λ (p : CorePlan). AllEnded p (progress_of_stages state)) goes.fits.plan_is
       (subst (λ (m : StagesProgress). AllEnded core.plan m) (as-progress core state by.numbers) over)
 
-  module _ (list : StageList) (gives : PartGives in_seen (goes.runs.part 0) (goes.runs.lists 0) list) where
-    kept : KeptFor in_seen out_seen rule stands begun goes.runs.visits list
+  module _ (list : StageList) (gives : PartGives see (goes.runs.part 0) (goes.runs.lists 0) list) where
+    kept : KeptFor see begun goes.runs.visits list
     kept = by.kept list gives
 
     pub at-close : AtClose begun.plan begun.rules list state cut why
     at-close =
-        close begun.plan begun.rules list goes.runs.visits (kept-run in_seen out_seen rule stands laws every begun core (length parts) (length cells) goes.fits list goes.runs.visits kept by.run) over-state
+        laws.close begun.plan begun.rules list goes.runs.visits (kept-run see laws begun core (length parts) (length cells) goes.fits list goes.runs.visits kept by.run) over-state
 
     so-far : SoFar begun.plan begun.rules list state
-    so-far = far in_seen out_seen rule stands laws every begun core (length parts) (length cells) goes.fits list goes.runs.visits kept by.run
+    so-far = far see laws begun core (length parts) (length cells) goes.fits list goes.runs.visits kept by.run
 
     given-cut : length (state.stages out).given ≡ cut
     given-cut =
@@ -196,24 +212,24 @@ module _ {S K P : Type 0} (in_seen : S → SourceView) (out_seen : K → SinkVie
 
     -- ---- the input
 
-    pub left-input : (made_from : InputPart S) → has_source made_from ≡ has_source begun.from → LeavesInput in_seen made_from begun.stuffing (goes.runs.lists 0) (state.stages 0).ended → LeftInput in_seen begun.stuffing begun.plan.buffer begun.from made_from cut why
+    pub left-input : (made_from : InputPart S) → has_source made_from ≡ has_source begun.from → LeavesInput see.source made_from begun.stuffing (goes.runs.lists 0) (state.stages 0).ended → LeftInput see.source begun.stuffing begun.plan.buffer begun.from made_from cut why
     left-input made_from same left =
         cases begun.from made_from same by.input.source left read-told
         (may_read-more begun.plan.buffer (written_of begun.plan (progress_of_stages state)) cut (length (goes.runs.lists 0).read) written-cut by.input.within)
         (ap (λ (l : List Cell). length l) by.input.at.given)
       where
-        cases : (from made : InputPart S) → has_source made ≡ has_source from → IsSourceOf in_seen from (goes.runs.lists 0).source → LeavesInput in_seen made begun.stuffing (goes.runs.lists 0) (state.stages 0).ended
+        cases : (from made : InputPart S) → has_source made ≡ has_source from → IsSourceOf see.source from (goes.runs.lists 0).source → LeavesInput see.source made begun.stuffing (goes.runs.lists 0) (state.stages 0).ended
             → (why ≡ cause.Input ReadFault → ((state.stages 0).ended ≡ Some (Input ReadFault)) × (length (state.stages 0).given ≡ cut)) → MayRead begun.plan.buffer cut (length (goes.runs.lists 0).read) → length (goes.runs.lists 0).given ≡ length (state.stages 0).given
-            → LeftInput in_seen begun.stuffing begun.plan.buffer from made cut why
+            → LeftInput see.source begun.stuffing begun.plan.buffer from made cut why
         cases (input.Stream old) (input.Stream new) has source leaves told within given =
-            let left' : LeavesSource begun.stuffing (in_seen old) (in_seen new) (goes.runs.lists 0) (state.stages 0).ended =
-            subst (λ (v : SourceView). LeavesSource begun.stuffing v (in_seen new) (goes.runs.lists 0) (state.stages 0).ended) source leaves in
+            let left' : LeavesSource begun.stuffing (see.source old) (see.source new) (goes.runs.lists 0) (state.stages 0).ended =
+            subst (λ (v : SourceView). LeavesSource begun.stuffing v (see.source new) (goes.runs.lists 0) (state.stages 0).ended) source leaves in
             record {
               read = (goes.runs.lists 0).read;
-              source = source-left begun.stuffing (in_seen old) (in_seen new) (goes.runs.lists 0) (state.stages 0).ended left';
+              source = source-left begun.stuffing (see.source old) (see.source new) (goes.runs.lists 0) (state.stages 0).ended left';
               within = within;
               at_fault = λ is. (let t = told is in
-                  let f : FailedReading begun.stuffing (in_seen old) (in_seen new) (goes.runs.lists 0) = subst (λ e. LeavesSource begun.stuffing (in_seen old) (in_seen new) (goes.runs.lists 0) e) t.0 left' in
+                  let f : FailedReading begun.stuffing (see.source old) (see.source new) (goes.runs.lists 0) = subst (λ e. LeavesSource begun.stuffing (see.source old) (see.source new) (goes.runs.lists 0) e) t.0 left' in
                   record {
                     failed = f.source;
                     in_sync = f.in_sync;
@@ -240,7 +256,7 @@ module _ {S K P : Type 0} (in_seen : S → SourceView) (out_seen : K → SinkVie
     given-is : (goes.runs.lists out).given ≡ take cut (end_list begun.rules list).cells
     given-is = by.output.at.given ∙ at-close.written
 
-    pub left-output : (made_to : OutputPart K) → has_sink made_to ≡ has_sink begun.to → LeavesOutput out_seen made_to (goes.runs.lists out) (state.stages out).ended → LeftOutput out_seen begun.to made_to (end_list begun.rules list).cells cut why
+    pub left-output : (made_to : OutputPart K) → has_sink made_to ≡ has_sink begun.to → LeavesOutput see.sink made_to (goes.runs.lists out) (state.stages out).ended → LeftOutput see.sink begun.to made_to (end_list begun.rules list).cells cut why
     left-output made_to same left =
         cases begun.to made_to same by.output.sink left
       where
@@ -248,22 +264,32 @@ module _ {S K P : Type 0} (in_seen : S → SourceView) (out_seen : K → SinkVie
         takes old new left' =
             elim (sink-left old new (goes.runs.lists out).given (goes.runs.lists out).cut (state.stages out).ended left') [
               | inl failed ↦ subst (λ c. TakesTo old new (end_list begun.rules list).cells cut c) (sym (told-write failed.0))
-                  ((goes.runs.lists out).cut, failed.1 ∙ ap (λ (l : List Cell). write_failed (took old (written l ++ (goes.runs.lists out).cut))) given-is, part-left failed.0)
+                  (record { part = (goes.runs.lists out).cut; taken = failed.1 ∙ ap (λ (l : List Cell). write_failed (took old (written l ++ (goes.runs.lists out).cut))) given-is; cut = part-left failed.0 })
               | inr whole ↦ takes-other old new (end_list begun.rules list).cells cut why (λ is. whole.0 (write-told is)) (whole.1 ∙ ap (λ (l : List Cell). took old (written l)) given-is)
             ]
 
-        cases : (to made : OutputPart K) → has_sink made ≡ has_sink to → IsSinkOf out_seen to (goes.runs.lists out).sink → LeavesOutput out_seen made (goes.runs.lists out) (state.stages out).ended
-            → LeftOutput out_seen to made (end_list begun.rules list).cells cut why
+        cases : (to made : OutputPart K) → has_sink made ≡ has_sink to → IsSinkOf see.sink to (goes.runs.lists out).sink → LeavesOutput see.sink made (goes.runs.lists out) (state.stages out).ended
+            → LeftOutput see.sink to made (end_list begun.rules list).cells cut why
         cases (output.Stream old) (output.Stream new) has sink leaves =
-            takes (out_seen old) (out_seen new) (subst (λ (v : SinkView). SinkTook v (out_seen new) (goes.runs.lists out).given (goes.runs.lists out).cut (state.stages out).ended) sink leaves)
+            takes (see.sink old) (see.sink new) (subst (λ (v : SinkView). SinkTook v (see.sink new) (goes.runs.lists out).given (goes.runs.lists out).cut (state.stages out).ended) sink leaves)
         cases output.Discard output.Discard has sink leaves = λ is. leaves (write-told is)
         cases (output.Stream old) output.Discard has sink leaves = let e : false ≡ true = has in cc
         cases output.Discard (output.Stream new) has sink leaves = let e : true ≡ false = has in cc
 
     -- ---- the plugins
 
-    pub met-all : (j : ℕ) (rest : List (StagePart S K P)) (made : List P) → AreTakenFrom in_seen out_seen rule stands rest made → j + length made ≡ begun.plan.plugins
-        → ((i : ℕ) (d : StagePart S K P) → i < length made → slice_index_or rest i d ≡ goes.runs.part (suc (j + i))) → AllMetTo stands begun.rules list cut j made
+    pub gave-to : Gave begun.plan.plugins begun.plan.buffer cut gave-of
+    gave-to = record {
+      input = at-close.made;
+      falls = λ k le. given-falls laws begun.plan goes.fits.lawful.users goes.runs.visits by.run (suc k) k (omega arith);
+      output = given-cut;
+    }
+
+    pub made-input : gave-of 0 ≤ length list.cells
+    made-input = let first = so-far.lists 0 (omega arith) in omega (arith, ap (λ (l : List Cell). length l) first.1, length-append (state.stages 0).given first.0)
+
+    pub met-all : (j : ℕ) (rest : List (StagePart S K P)) (made : List P) → AreTakenFrom see rest made → j + length made ≡ begun.plan.plugins
+        → ((i : ℕ) (d : StagePart S K P) → i < length made → slice_index_or rest i d ≡ goes.runs.part (suc (j + i))) → AllMetFirst see.stands begun.rules list gave-of cut j made
     met-all j [] [] taken number same = tt
     met-all j [] (plugin ∷ made) taken number same = absurd taken
     met-all j (part ∷ []) [] taken number same = tt
@@ -272,25 +298,62 @@ module _ {S K P : Type 0} (in_seen : S → SourceView) (out_seen : K → SinkVie
         let lt : j < begun.plan.plugins = omega arith in
         let is : part ≡ goes.runs.part (suc j) = same 0 part (omega arith) ∙ ap (λ n. goes.runs.part (suc n)) (omega arith) in
         let here = by.plugin j lt in
-        let holds : stands plugin (goes.runs.lists (suc j)).met (goes.runs.lists (suc j)).mark =
-        taken.0.holds (goes.runs.lists (suc j)) (state.stages (suc j)).ended (subst (λ p. PartStands in_seen out_seen rule stands p (goes.runs.lists (suc j)) (state.stages (suc j)).ended) (sym is) here.at.stands_for) in
+        let holds : see.stands plugin (goes.runs.lists (suc j)).met (goes.runs.lists (suc j)).mark =
+        taken.0.holds (goes.runs.lists (suc j)) (state.stages (suc j)).ended (subst (λ p. PartStands see p (goes.runs.lists (suc j)) (state.stages (suc j)).ended) (sym is) here.at.stands_for) in
         let reached : cut ≤ length (state.stages (suc j)).given = at-close.reached (suc j) (omega arith) in
-        let before : cut ≤ length (state.stages j).given = at-close.reached j (omega arith) in (
+        let falls : length (state.stages (suc j)).given ≤ length (state.stages j).given = given-falls laws begun.plan goes.fits.lawful.users goes.runs.visits by.run (suc j) j (omega arith) in
+        let prefix : IsPrefix (state.stages j).given (stage_list begun.rules list j).cells = so-far.lists j (omega arith) in
+        let first-of : take (gave-of (suc j)) (state.stages j).given ≡ take (gave-of (suc j)) (stage_list begun.rules list j).cells =
+        sym (ap (take (gave-of (suc j))) prefix.1 ∙ take-append-le (gave-of (suc j)) (state.stages j).given prefix.0 falls) in (
           record {
-            history = (goes.runs.lists (suc j)).met;
             mark = (goes.runs.lists (suc j)).mark;
-            holds = holds;
+            holds = subst (λ (h : List Cell). see.stands plugin h (goes.runs.lists (suc j)).mark) (here.met ∙ first-of) holds;
             told = (let a = here.at.mark in let b = written-cut in omega arith);
-            reach = (let size : length (goes.runs.lists (suc j)).met ≡ length (take (length (state.stages (suc j)).given) (state.stages j).given) = ap (λ (l : List Cell). length l) here.met in omega (arith, length-take (length (state.stages (suc j)).given) (state.stages j).given));
-            same = ap (take cut) here.met ∙ (take-take cut (length (state.stages (suc j)).given) (state.stages j).given reached ∙ at-close.counted j (omega arith));
+            reach = reached;
+            within = (let a = falls in omega (arith, ap (λ (l : List Cell). length l) prefix.1, length-append (state.stages j).given prefix.0));
           },
           met-all (suc j) rest made taken.1 (omega arith) (λ i d below. same (suc i) d (omega arith) ∙ ap (λ n. goes.runs.part (suc n)) (omega arith)),
         )
 
+    -- ---- memory
+
+    pub wants-of : (k : ℕ) → why ≡ cause.NoMemory k → WantsMemory begun.rooms begun.plan.buffer k
+    wants-of k is =
+        elim at-close.told [
+          | inl joint ↦ (let e = joint.0 in let f : cause.Joint ≡ cause.NoMemory k = sym e ∙ is in cc)
+          | inr told ↦ (let ends = told.1 in
+              let same = end-of-no_memory told.0 ends.end k (ends.gives ∙ ap (λ c. Some c) is) in
+              let ended : (state.stages told.0).ended ≡ Some NoMemory = ends.ended ∙ ap (λ e. Some e) same.0 in
+              at-stage k (subst (λ i. i ≤ out) same.1 told.2) (subst (λ i. (state.stages i).ended ≡ Some NoMemory) same.1 ended))
+        ]
+      where
+        at-plugin : (j : ℕ) → j < begun.plan.plugins → (state.stages (suc j)).ended ≡ Some NoMemory → WantsMemory begun.rooms begun.plan.buffer (suc j)
+        at-plugin j lt ended =
+            let here = by.plugin j lt in
+            let wants = wants-kind see (goes.runs.part (suc j)) begun.plan.buffer (here.at.memory ended) in
+            record {
+              behind_input = omega arith;
+              there_is = (let a = goes.fits.rooms_are in omega arith);
+              no_room = λ has. wants.1 (subst (λ (room : Option ℕ). IsSteadyFor room begun.plan.buffer)
+                  (ap (λ n. slice_index_or begun.rooms n None) (let e : suc j - 1 ≡ j = omega arith in e) ∙ sym here.room_is) has);
+            }
+
+        at-stage : (k' : ℕ) → k' ≤ out → (state.stages k').ended ≡ Some NoMemory → WantsMemory begun.rooms begun.plan.buffer k'
+        at-stage zero le ended =
+            let wants = wants-kind see (goes.runs.part 0) begun.plan.buffer (by.input.at.memory ended) in
+            let e : an_input ≡ a_plugin = sym by.input.kind ∙ wants.0 in cc
+        at-stage (suc j) le ended =
+            elim (cases_lt j begun.plan.plugins) [
+              | inl lt ↦ at-plugin j lt ended
+              | inr far' ↦ (let same : suc j ≡ out = omega arith in
+                  let wants = wants-kind see (goes.runs.part out) begun.plan.buffer (by.output.at.memory (subst (λ i. (state.stages i).ended ≡ Some NoMemory) same ended)) in
+                  let e : an_output ≡ a_plugin = sym by.output.kind ∙ wants.0 in cc)
+            ]
+
   -- the rules are those of the plugins that went in
-  pub rules-all : (j : ℕ) (rules : List PluginRule) (rest : List (StagePart S K P)) (made : List P) → AreTakenFrom in_seen out_seen rule stands rest made → length made ≡ length rules → j + length made ≡ begun.plan.plugins
+  pub rules-all : (j : ℕ) (rules : List PluginRule) (rest : List (StagePart S K P)) (made : List P) → AreTakenFrom see rest made → length made ≡ length rules → j + length made ≡ begun.plan.plugins
       → ((i : ℕ) (d : StagePart S K P) → i < length made → slice_index_or rest i d ≡ goes.runs.part (suc (j + i)))
-      → ((i : ℕ) → i < length made → rule_behind begun.rules (j + i) ≡ rule_behind rules i) → map rule made ≡ rules
+      → ((i : ℕ) → i < length made → rule_behind begun.rules (j + i) ≡ rule_behind rules i) → map see.rule made ≡ rules
   rules-all j [] rest [] taken long number same are = refl
   rules-all j (r ∷ rules) rest [] taken long number same are = absurd (omega arith)
   rules-all j [] rest (plugin ∷ made) taken long number same are = absurd (omega arith)
@@ -298,7 +361,7 @@ module _ {S K P : Type 0} (in_seen : S → SourceView) (out_seen : K → SinkVie
   rules-all j (r ∷ rules) (part ∷ rest) (plugin ∷ made) taken long number same are =
       let lt : j < begun.plan.plugins = omega arith in
       let is : part ≡ goes.runs.part (suc j) = same 0 part (omega arith) ∙ ap (λ n. goes.runs.part (suc n)) (omega arith) in
-      let head : rule plugin ≡ r = taken.0.same_rule ∙ (ap (λ p. rule_of rule p) is ∙ ((by.plugin j lt).rule_is ∙ (ap (rule_behind begun.rules) (omega arith) ∙ are 0 (omega arith)))) in
-      let tail : map rule made ≡ rules = rules-all (suc j) rules rest made taken.1 (omega arith) (omega arith) (λ i d below. same (suc i) d (omega arith) ∙ ap (λ n. goes.runs.part (suc n)) (omega arith))
+      let head : see.rule plugin ≡ r = taken.0.same_rule ∙ (ap (λ p. rule_of see p) is ∙ ((by.plugin j lt).rule_is ∙ (ap (rule_behind begun.rules) (omega arith) ∙ are 0 (omega arith)))) in
+      let tail : map see.rule made ≡ rules = rules-all (suc j) rules rest made taken.1 (omega arith) (omega arith) (λ i d below. same (suc i) d (omega arith) ∙ ap (λ n. goes.runs.part (suc n)) (omega arith))
       (λ i below. ap (rule_behind begun.rules) (omega arith) ∙ are (suc i) (omega arith)) in
       λ i. head i ∷ tail i

@@ -1,28 +1,37 @@
 -- What the work of a part says, by its kind.
-use Rattle.std.proofs.Common.{◌≡◌, ℕ, ◌+◌, ◌*◌, ◌<◌, ◌≤◌, List, [], length, take, Some}
+use Rattle.std.proofs.Common.{◌≡◌, ℕ, ◌+◌, ◌-◌, ◌*◌, ◌<◌, ◌≤◌, List, [], length, take, Option, Some, refl, subst}
 use Rattle.ts_packet.specs.declared.cell.Cell.{Cell}
 use Rattle.ts_outside.specs.Source.{SourceView}
 use Rattle.ts_outside.specs.Sink.{SinkView}
 use Rattle.chain_model.specs.PluginRule.{PluginRule, passing_rule}
 use Rattle.chain_model.specs.Apply.{StageList}
+use Rattle.plugin_trait.specs.Steps.{IsSteadyFor}
+use Rattle.stage_run.proofs.PluginWorking.{steady_less}
 use Rattle.chain_core.specs.declared.news.News.{News}
 use Rattle.chain_core.specs.Keeps.{StageKeeps}
+use Rattle.stage_run.specs.Seeing.{Seeing}
 use Rattle.stage_run.specs.declared.stage_part.StagePart.{StagePart}
 use Rattle.stage_run.specs.declared.stage_part.StagePart.TheVariants.{Input, Plugin, Output}
 use Rattle.stage_run.specs.declared.work.Work.{Work}
+use Rattle.stage_run.specs.declared.output_part.OutputPart.{OutputPart}
+use Rattle.stage_run.specs.declared.output_part.OutputPart.TheVariants as out
+use Rattle.stage_run.specs.declared.packet_feed.PacketFeed.{PacketFeed}
+use Rattle.stage_run.specs.declared.packet_feed.PacketFeed.TheVariants as feed
+use Rattle.stage_run.specs.Feeds.{SameFeed}
+use Rattle.stage_run.specs.OutputStands.{SamePart}
 use Rattle.stage_run.specs.PartLists.{PartLists}
-use Rattle.stage_run.specs.PartStands.{PartGives, kind_of, rule_of, an_input, a_plugin, an_output}
+use Rattle.stage_run.specs.PartStands.{PartGives, MayWantMemory, has_sink, feeds_stream, has_stream, kind_of, rule_of, steady_of, an_input, a_plugin, an_output}
 use Rattle.stage_run.specs.Works.{WorksByKind, InputTells, OutputTells, KeepsRule, read_for}
 
-module _ {S K P : Type 0} (in_seen : S → SourceView) (out_seen : K → SinkView) (rule : P → PluginRule) where
+module _ {S K P : Type 0} (see : Seeing S K P) where
   pub record InputDid (old new : StagePart S K P) (before : PartLists) (news : News) (cells cells_new : List Cell) (work : Work) (after : PartLists) : Type 0 where
     pub tells : InputTells news (length before.given) (length cells) work.done (after.read ≡ before.read) work.word.ended
     pub reads : length after.read ≤ 188 * read_for (length before.given) (length cells)
-    pub gives : (input : StageList) → PartGives in_seen new after input → PartGives in_seen old before input
-    pub keeps : (input : StageList) → PartGives in_seen new after input → (rules : List PluginRule) (plugins : ℕ) → StageKeeps rules input plugins 0 [] before.given (take work.done cells_new) work.word
+    pub gives : (input : StageList) → PartGives see new after input → PartGives see old before input
+    pub keeps : (input : StageList) → PartGives see new after input → (rules : List PluginRule) (plugins : ℕ) → StageKeeps rules input plugins 0 [] before.given (take work.done cells_new) work.word
 
   pub input-did : (old new : StagePart S K P) (before : PartLists) (news : News) (cells cells_new : List Cell) (work : Work) (after : PartLists)
-      → kind_of old ≡ an_input → WorksByKind in_seen out_seen rule old new before news cells cells_new work after → InputDid old new before news cells cells_new work after
+      → kind_of old ≡ an_input → WorksByKind see old new before news cells cells_new work after → InputDid old new before news cells cells_new work after
   input-did (Input old) (Input new) before news cells cells_new work after kind works = record {
     tells = works.tells;
     reads = works.reads;
@@ -35,10 +44,10 @@ module _ {S K P : Type 0} (in_seen : S → SourceView) (out_seen : K → SinkVie
   input-did (Output old) new before news cells cells_new work after kind works = absurd cc
 
   pub record PluginDid (old : StagePart S K P) (before : PartLists) (cells cells_new : List Cell) (work : Work) : Type 0 where
-    pub keeps : (plugins j : ℕ) → KeepsRule (rule_of rule old) before cells (take work.done cells_new) work.word plugins j
+    pub keeps : (plugins j : ℕ) → KeepsRule (rule_of see old) before cells (take work.done cells_new) work.word plugins j
 
   pub plugin-did : (old new : StagePart S K P) (before : PartLists) (news : News) (cells cells_new : List Cell) (work : Work) (after : PartLists)
-      → kind_of old ≡ a_plugin → WorksByKind in_seen out_seen rule old new before news cells cells_new work after → PluginDid old before cells cells_new work
+      → kind_of old ≡ a_plugin → WorksByKind see old new before news cells cells_new work after → PluginDid old before cells cells_new work
   plugin-did (Plugin old) (Plugin new) before news cells cells_new work after kind works = record { keeps = works.keeps }
   plugin-did (Plugin old) (Input new) before news cells cells_new work after kind works = absurd works
   plugin-did (Plugin old) (Output new) before news cells cells_new work after kind works = absurd works
@@ -52,7 +61,7 @@ module _ {S K P : Type 0} (in_seen : S → SourceView) (out_seen : K → SinkVie
     pub keeps : (plugins : ℕ) → KeepsRule passing_rule before cells (take work.done cells_new) work.word plugins plugins
 
   pub output-did : (old new : StagePart S K P) (before : PartLists) (news : News) (cells cells_new : List Cell) (work : Work) (after : PartLists)
-      → kind_of old ≡ an_output → WorksByKind in_seen out_seen rule old new before news cells cells_new work after → OutputDid before news cells cells_new work after
+      → kind_of old ≡ an_output → WorksByKind see old new before news cells cells_new work after → OutputDid before news cells cells_new work after
   output-did (Output old) (Output new) before news cells cells_new work after kind works = record {
     unchanged = works.unchanged;
     tells = works.tells;
@@ -63,3 +72,47 @@ module _ {S K P : Type 0} (in_seen : S → SourceView) (out_seen : K → SinkVie
   output-did (Output old) (Plugin new) before news cells cells_new work after kind works = absurd works
   output-did (Input old) new before news cells cells_new work after kind works = absurd cc
   output-did (Plugin old) new before news cells cells_new work after kind works = absurd cc
+
+  -- ---- memory
+
+  -- a stage that may want memory is a plugin's that made no room
+  pub wants-kind : (part : StagePart S K P) (ahead : ℕ) → MayWantMemory see part ahead → (kind_of part ≡ a_plugin) × (IsSteadyFor (steady_of see part) ahead → ⊥)
+  wants-kind (Input stage) ahead wants = absurd wants
+  wants-kind (Plugin stage) ahead wants = (refl, wants)
+  wants-kind (Output stage) ahead wants = absurd wants
+
+  -- it may want it for more positions too, behind a visit
+  pub wants-more : (old new : StagePart S K P) (less more : ℕ) → kind_of new ≡ kind_of old → steady_of see new ≡ steady_of see old → less ≤ more → MayWantMemory see old less → MayWantMemory see new more
+  wants-more (Input old) new less more kind same le wants = absurd wants
+  wants-more (Output old) new less more kind same le wants = absurd wants
+  wants-more (Plugin old) (Input new) less more kind same le wants = cc
+  wants-more (Plugin old) (Output new) less more kind same le wants = cc
+  wants-more (Plugin old) (Plugin new) less more kind same le wants =
+      λ has. wants (steady_less (see.steady old.plugin) more less le (subst (λ (s : Option ℕ). IsSteadyFor s more) same has))
+
+  -- ---- streams
+
+  -- an input or an output that has a stream keeps it
+  pub stream-kept : (old new : StagePart S K P) (before : PartLists) (news : News) (cells cells_new : List Cell) (work : Work) (after : PartLists)
+      → WorksByKind see old new before news cells cells_new work after → has_stream new ≡ has_stream old
+  stream-kept (Input old) (Input new) before news cells cells_new work after does = feeds old.feed new.feed does.same
+    where
+      feeds : (a b : PacketFeed S) → SameFeed a b → feeds_stream b ≡ feeds_stream a
+      feeds (feed.Stream a) (feed.Stream b) same = refl
+      feeds (feed.Nulls a) (feed.Nulls b) same = refl
+      feeds (feed.Stream a) (feed.Nulls b) same = absurd same
+      feeds (feed.Nulls a) (feed.Stream b) same = absurd same
+  stream-kept (Plugin old) (Plugin new) before news cells cells_new work after does = refl
+  stream-kept (Output old) (Output new) before news cells cells_new work after does = parts old.part new.part does.same
+    where
+      parts : (a b : OutputPart K) → SamePart a b → has_sink b ≡ has_sink a
+      parts (out.Stream a) (out.Stream b) same = refl
+      parts out.Discard out.Discard same = refl
+      parts (out.Stream a) out.Discard same = absurd same
+      parts out.Discard (out.Stream b) same = absurd same
+  stream-kept (Input old) (Plugin new) before news cells cells_new work after does = absurd does
+  stream-kept (Input old) (Output new) before news cells cells_new work after does = absurd does
+  stream-kept (Plugin old) (Input new) before news cells cells_new work after does = absurd does
+  stream-kept (Plugin old) (Output new) before news cells cells_new work after does = absurd does
+  stream-kept (Output old) (Input new) before news cells cells_new work after does = absurd does
+  stream-kept (Output old) (Plugin new) before news cells cells_new work after does = absurd does

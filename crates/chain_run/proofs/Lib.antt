@@ -1,6 +1,6 @@
 pub mod SlotLemmas
 pub mod WindowLemmas
-pub mod MachineLaws
+pub mod NumberLaws
 pub mod StepLemmas
 pub mod QuietVisit
 pub mod KindLemmas
@@ -13,4 +13,5 @@ pub mod TurnLaws
 pub mod StartLemmas
 pub mod CloseLemmas
 pub mod RunLemmas
+pub mod RunUses
 pub mod PartLemmas

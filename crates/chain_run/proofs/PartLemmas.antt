@@ -5,6 +5,7 @@ use Rattle.ts_packet.specs.declared.cell.Cell.{Cell}
 use Rattle.ts_outside.specs.Source.{SourceView}
 use Rattle.ts_outside.specs.Sink.{SinkView}
 use Rattle.chain_model.specs.PluginRule.{PluginRule}
+use Rattle.stage_run.specs.Seeing.{Seeing}
 use Rattle.stage_run.specs.declared.stage_part.StagePart.{StagePart}
 use Rattle.chain_run.specs.Parts.{AreTakenFrom, ArePluginsAndOne}
 
@@ -19,9 +20,9 @@ one-is [] x one is = absurd (omega arith)
 one-is (y ∷ []) x one is = λ i. sym is i ∷ []
 one-is (y ∷ z ∷ xs) x one is = absurd (omega arith)
 
-module _ {S K P : Type 0} (in_seen : S → SourceView) (out_seen : K → SinkView) (rule : P → PluginRule) (stands : P → List Cell → ℕ → Type 0) where
+module _ {S K P : Type 0} (see : Seeing S K P) where
   -- where one stage is left, no plugin is
-  pub none-taken : (parts : List (StagePart S K P)) → length parts ≤ 1 → ArePluginsAndOne in_seen out_seen rule stands parts → AreTakenFrom in_seen out_seen rule stands parts []
+  pub none-taken : (parts : List (StagePart S K P)) → length parts ≤ 1 → ArePluginsAndOne see parts → AreTakenFrom see parts []
   none-taken [] few are = absurd are
   none-taken (part ∷ []) few are = tt
   none-taken (part ∷ next ∷ parts) few are = absurd (omega arith)

@@ -20,12 +20,14 @@ use Rattle.chain_core.specs.Machine.{ChainState, StageState, Visit, progress_of_
 use Rattle.chain_core.specs.ChainRun.{ChainRun, state_after, took}
 use Rattle.chain_core.specs.CoreNumbers.{CoreNumbers, IsLawfulPlan, StandsFor}
 use Rattle.chain_core.specs.Keeps.{Keeps, KeepsList, KeepsAgreement}
+use Rattle.stage_run.specs.Seeing.{Seeing}
 use Rattle.stage_run.specs.declared.stage_part.StagePart.{StagePart}
 use Rattle.stage_run.specs.PartLists.{PartLists}
 use Rattle.stage_run.specs.PartStands.{PartGives}
 use Rattle.chain_run.specs.Slots.{slot, HoldsFrom}
 use Rattle.chain_run.specs.Runs.{nothing_told, RunStart, InputAt, PluginAt, OutputAt, RunsBy}
-use Rattle.chain_run.proofs.MachineLaws.{MachineLaws, change, stage-other, written-grows, given-falls}
+use Rattle.chain_run.specs.Laws.{MachineLaws}
+use Rattle.chain_run.proofs.NumberLaws.{change, stage-other, written-grows, given-falls}
 use Rattle.chain_run.proofs.StepLemmas.{set_at, pick, input-frame, plugin-frame, output-frame, Own, stepped}
 
 -- ---- a stage that goes on may tell nothing
@@ -65,9 +67,9 @@ module _ (laws : MachineLaws) (plan : CorePlan) (rules : List PluginRule) (input
 
 -- ---- the visit
 
-module _ {S K P : Type 0} (in_seen : S → SourceView) (out_seen : K → SinkView) (rule : P → PluginRule) (stands : P → List Cell → ℕ → Type 0) (begun : RunStart S K)
+module _ {S K P : Type 0} (see : Seeing S K P) (begun : RunStart S K)
     (laws : MachineLaws) (lawful : IsLawfulPlan begun.plan) (core new_core : CoreNumbers) (parts : List (StagePart S K P)) (cells : List Cell) (visits : List Visit) (part : ℕ → StagePart S K P) (lists : ℕ → PartLists)
-    (by : RunsBy in_seen out_seen rule stands begun core parts cells visits part lists)
+    (by : RunsBy see begun core parts cells visits part lists)
     (k : ℕ) (is_stage : k ≤ suc begun.plan.plugins) (ended : ((state_after begun.plan visits).stages k).ended ≡ None)
     (allowed : Allowed begun.plan (state_after begun.plan visits) (visit_of k [] nothing_told))
     (numbers : StandsFor new_core (state_after begun.plan (visit_of k [] nothing_told ∷ visits))) (long : suc begun.plan.plugins < length parts) where
@@ -81,10 +83,10 @@ module _ {S K P : Type 0} (in_seen : S → SourceView) (out_seen : K → SinkVie
   run = (by.run, allowed)
 
   abbrev Gives : StageList → Type 0
-  Gives input = PartGives in_seen (set_at part k (part k) 0) (set_at lists k (lists k) 0) input
+  Gives input = PartGives see (set_at part k (part k) 0) (set_at lists k (lists k) 0) input
 
   abbrev Own_ : Type 0
-  Own_ = Own in_seen out_seen rule stands begun laws lawful core new_core parts cells cells visits part lists by k [] nothing_told is_stage allowed (part k) (lists k)
+  Own_ = Own see begun laws lawful core new_core parts cells cells visits part lists by k [] nothing_told is_stage allowed (part k) (lists k)
 
   given_same : (j : ℕ) → (new.stages j).given ≡ (old.stages j).given
   given_same j =
@@ -108,17 +110,17 @@ module _ {S K P : Type 0} (in_seen : S → SourceView) (out_seen : K → SinkVie
   no_more : (j : ℕ) → (new.stages j).given ≡ (old.stages j).given ++ []
   no_more j = given_same j ∙ sym (append-nil (old.stages j).given)
 
-  less : 0 ≡ k → (input : StageList) → PartGives in_seen (part k) (lists k) input → PartGives in_seen (part 0) (lists 0) input
-  less same input gives = subst (λ i. PartGives in_seen (part i) (lists i) input) (sym same) gives
+  less : 0 ≡ k → (input : StageList) → PartGives see (part k) (lists k) input → PartGives see (part 0) (lists 0) input
+  less same input gives = subst (λ i. PartGives see (part i) (lists i) input) (sym same) gives
 
-  less-all : (input : StageList) → Gives input → PartGives in_seen (part 0) (lists 0) input
+  less-all : (input : StageList) → Gives input → PartGives see (part 0) (lists 0) input
   less-all =
-      pick (λ p l. (input : StageList) → PartGives in_seen p l input → PartGives in_seen (part 0) (lists 0) input) part lists k (part k) (lists k) 0 less (λ apart input gives. gives)
+      pick (λ p l. (input : StageList) → PartGives see p l input → PartGives see (part 0) (lists 0) input) part lists k (part k) (lists k) 0 less (λ apart input gives. gives)
 
-  own_output : suc begun.plan.plugins ≡ k → OutputAt in_seen out_seen rule stands begun (part k) (lists k) new Gives
+  own_output : suc begun.plan.plugins ≡ k → OutputAt see begun (part k) (lists k) new Gives
   own_output same =
-      subst (λ i. OutputAt in_seen out_seen rule stands begun (part i) (lists i) new Gives) same
-      (output-frame in_seen out_seen rule stands begun old new grows (part (suc begun.plan.plugins)) (lists (suc begun.plan.plugins)) [] (PartGives in_seen (part 0) (lists 0)) Gives
+      subst (λ i. OutputAt see begun (part i) (lists i) new Gives) same
+      (output-frame see begun old new grows (part (suc begun.plan.plugins)) (lists (suc begun.plan.plugins)) [] (PartGives see (part 0) (lists 0)) Gives
       (given_same (suc begun.plan.plugins)) (subst (λ i. (new.stages i).ended ≡ (old.stages i).ended) (sym same) ended_same)
       (subst (λ i. (old.stages i).taken ≤ (new.stages i).taken) (sym same) (change laws begun.plan lawful.users visits (visit_of k [] nothing_told) run).no_less)
       (no_more begun.plan.plugins) (falls begun.plan.plugins) less-all by.output)
@@ -128,19 +130,19 @@ module _ {S K P : Type 0} (in_seen : S → SourceView) (out_seen : K → SinkVie
     less = less;
     keeps = λ input was gives. (by.kept input was).going k ended;
     going = λ input was gives none. going-own laws begun.plan begun.rules input lawful visits [] nothing_told k run refl ((by.kept input was).going k ended);
-    own_input = λ same. subst (λ i. InputAt in_seen out_seen rule stands begun (part i) (lists i) new) same
-        (input-frame in_seen out_seen rule stands begun old new grows (part 0) (lists 0) (given_same 0) (subst (λ i. (new.stages i).ended ≡ (old.stages i).ended) (sym same) ended_same) by.input);
-    own_plugin = λ j same lt. subst (λ i. PluginAt in_seen out_seen rule stands begun (part i) j (lists i) new) same
-        (plugin-frame in_seen out_seen rule stands begun old new grows (part (suc j)) j (lists (suc j)) [] (given_same (suc j)) (subst (λ i. (new.stages i).ended ≡ (old.stages i).ended) (sym same) ended_same) (no_more j) (falls j) (by.plugin j lt));
+    own_input = λ same. subst (λ i. InputAt see begun (part i) (lists i) new) same
+        (input-frame see begun old new grows (part 0) (lists 0) (given_same 0) (subst (λ i. (new.stages i).ended ≡ (old.stages i).ended) (sym same) ended_same) by.input);
+    own_plugin = λ j same lt. subst (λ i. PluginAt see begun (part i) j (lists i) new) same
+        (plugin-frame see begun old new grows (part (suc j)) j (lists (suc j)) [] (given_same (suc j)) (subst (λ i. (new.stages i).ended ≡ (old.stages i).ended) (sym same) ended_same) (no_more j) (falls j) (by.plugin j lt));
     own_output = own_output;
     buffer = λ j le. subst (λ (l : List Cell). HoldsFrom (slot cells) (length (new.stages (suc j)).given) (drop (length (new.stages (suc j)).given) l)) (sym (given_same j))
         (subst (λ (l : List Cell). HoldsFrom (slot cells) (length l) (drop (length l) (old.stages j).given)) (sym (given_same (suc j))) (by.buffer j le));
   }
 
   -- nothing has changed but the numbers
-  pub quiet-visit : RunsBy in_seen out_seen rule stands begun new_core parts cells (visit_of k [] nothing_told ∷ visits) (set_at part k (part k)) (set_at lists k (lists k))
+  pub quiet-visit : RunsBy see begun new_core parts cells (visit_of k [] nothing_told ∷ visits) (set_at part k (part k)) (set_at lists k (lists k))
   quiet-visit =
       let here : slice_index_or parts k (part k) ≡ part k = by.parts_are k (part k) is_stage in
       let same : slice_set parts k (part k) ≡ parts = ap (λ (p : StagePart S K P). slice_set parts k p) (sym here) ∙ set-get_or parts k (part k) in
-      subst (λ (ps : List (StagePart S K P)). RunsBy in_seen out_seen rule stands begun new_core ps cells (visit_of k [] nothing_told ∷ visits) (set_at part k (part k)) (set_at lists k (lists k))) same
-      (stepped in_seen out_seen rule stands begun laws lawful core new_core parts cells cells visits part lists by k [] nothing_told is_stage allowed (part k) (lists k) numbers long own)
+      subst (λ (ps : List (StagePart S K P)). RunsBy see begun new_core ps cells (visit_of k [] nothing_told ∷ visits) (set_at part k (part k)) (set_at lists k (lists k))) same
+      (stepped see begun laws lawful core new_core parts cells cells visits part lists by k [] nothing_told is_stage allowed (part k) (lists k) numbers long own)

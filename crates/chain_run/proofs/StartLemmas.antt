@@ -1,5 +1,5 @@
 -- A chain before its first turn.
-use Rattle.std.proofs.Common.{◌≡◌, ◌≢◌, ℕ, zero, suc, ◌+◌, ◌<◌, ◌↔◌, List, [], ◌∷◌, ◌++◌, length, map, false, Some, None, refl, ap, sym, ◌∙◌, subst, arith, inl}
+use Rattle.std.proofs.Common.{◌≡◌, ◌≢◌, ℕ, zero, suc, ◌+◌, ◌<◌, ◌↔◌, List, [], ◌∷◌, ◌++◌, length, map, false, Option, Some, None, refl, ap, sym, ◌∙◌, subst, arith, inl}
 use Rattle.std.specs.Prelude.{slice_index_or}
 use Rattle.std.specs.List.{All}
 use Rattle.std.proofs.lemmas.List.{length-map}
@@ -15,6 +15,7 @@ use Rattle.chain_core.specs.Machine.{start}
 use Rattle.chain_core.specs.ChainRun.{state_after, took}
 use Rattle.chain_core.specs.CoreNumbers.{CoreNumbers, IsLawfulPlan, StandsFor}
 use Rattle.chain_core.specs.Keeps.{StageKeeps}
+use Rattle.stage_run.specs.Seeing.{Seeing}
 use Rattle.stage_run.specs.declared.input_part.InputPart.{InputPart}
 use Rattle.stage_run.specs.declared.input_part.InputPart.TheVariants as input
 use Rattle.stage_run.specs.declared.output_part.OutputPart.{OutputPart}
@@ -70,39 +71,40 @@ module _ (rules : List PluginRule) (input : StageList) (plugins : ℕ) where
         agreement = silent (rule_behind rules j) [] 0 (0 + 0) (omega arith);
       })
 
-module _ {S K P : Type 0} (in_seen : S → SourceView) (out_seen : K → SinkView) (rule : P → PluginRule) (stands : P → List Cell → ℕ → Type 0) where
-  pub made-length : (made : List (StagePart S K P)) (plugins : List P) → AreMadeOf in_seen out_seen rule stands made plugins → length made ≡ length plugins
+module _ {S K P : Type 0} (see : Seeing S K P) where
+  pub made-length : (made : List (StagePart S K P)) (plugins : List P) → AreMadeOf see made plugins → length made ≡ length plugins
   made-length [] [] are = refl
   made-length [] (plugin ∷ plugins) are = absurd are
   made-length (part ∷ made) [] are = absurd are
   made-length (part ∷ made) (plugin ∷ plugins) are = omega (arith, made-length made plugins are.1)
 
   -- the stage at a place, its plugin and its rule
-  pub record MadeAt (part : StagePart S K P) (r : PluginRule) : Type 0 where
+  pub record MadeAt (part : StagePart S K P) (r : PluginRule) (room : Option ℕ) : Type 0 where
     pub plugin : P
-    pub is : MadeOf in_seen out_seen rule stands part plugin
-    pub rule_is : r ≡ rule plugin
-    pub fresh : stands plugin [] 0
+    pub is : MadeOf see part plugin
+    pub rule_is : r ≡ see.rule plugin
+    pub room_is : room ≡ see.steady plugin
+    pub fresh : see.stands plugin [] 0
 
-  made-at : (made rest : List (StagePart S K P)) (plugins : List P) (j : ℕ) (d : StagePart S K P) → AreMadeOf in_seen out_seen rule stands made plugins → AreFresh stands plugins → j < length plugins → MadeAt (slice_index_or (made ++ rest) j d) (rule_behind (map rule plugins) j)
+  made-at : (made rest : List (StagePart S K P)) (plugins : List P) (j : ℕ) (d : StagePart S K P) → AreMadeOf see made plugins → AreFresh see.stands plugins → j < length plugins → MadeAt (slice_index_or (made ++ rest) j d) (rule_behind (map see.rule plugins) j) (slice_index_or (map see.steady plugins) j None)
   made-at [] rest [] j d are fresh lt = absurd (omega arith)
   made-at [] rest (plugin ∷ plugins) j d are fresh lt = absurd are
   made-at (part ∷ made) rest [] j d are fresh lt = absurd are
-  made-at (part ∷ made) rest (plugin ∷ plugins) zero d are fresh lt = record { plugin = plugin; is = are.0; rule_is = refl; fresh = fresh.0 }
+  made-at (part ∷ made) rest (plugin ∷ plugins) zero d are fresh lt = record { plugin = plugin; is = are.0; rule_is = refl; room_is = refl; fresh = fresh.0 }
   made-at (part ∷ made) rest (plugin ∷ plugins) (suc j) d are fresh lt = made-at made rest plugins j d are.1 fresh.1 (omega arith)
 
   module _ (plan : CorePlan) (lawful : IsLawfulPlan plan) (core : CoreNumbers) (plan_is : core.plan ≡ plan) (numbers : StandsFor core start)
-      (from : InputPart S) (stuffing : Stuffing) (to : OutputPart K) (plugins : List P) (fresh : AreFresh stands plugins) (number : plan.plugins ≡ length plugins)
-      (opens : (plugin : P) (history : List Cell) (mark : ℕ) → stands plugin history mark → (rule plugin).agrees [] ≡ false)
-      (first out : StagePart S K P) (made : List (StagePart S K P)) (are : AreMadeOf in_seen out_seen rule stands made plugins)
+      (from : InputPart S) (stuffing : Stuffing) (to : OutputPart K) (plugins : List P) (fresh : AreFresh see.stands plugins) (number : plan.plugins ≡ length plugins)
+      (opens : (plugin : P) (history : List Cell) (mark : ℕ) → see.stands plugin history mark → (see.rule plugin).agrees [] ≡ false)
+      (first out : StagePart S K P) (made : List (StagePart S K P)) (are : AreMadeOf see made plugins)
       (in_kind : kind_of first ≡ an_input) (in_stream : has_stream first ≡ has_source from) (in_stuffing : stuffing_in first ≡ Some (stuffing_of stuffing))
-      (in_stands : (source : SourceView) (sink : SinkView) (mark : ℕ) → IsSourceOf in_seen from source → PartStands in_seen out_seen rule stands first (fresh_lists source sink mark) None)
-      (in_gives : (source : SourceView) (sink : SinkView) (mark : ℕ) (input : StageList) → PartGives in_seen first (fresh_lists source sink mark) input ↔ IsListOf in_seen from (stuffing_of stuffing) input)
+      (in_stands : (source : SourceView) (sink : SinkView) (mark : ℕ) → IsSourceOf see.source from source → PartStands see first (fresh_lists source sink mark) None)
+      (in_gives : (source : SourceView) (sink : SinkView) (mark : ℕ) (input : StageList) → PartGives see first (fresh_lists source sink mark) input ↔ IsListOf see.source from (stuffing_of stuffing) input)
       (out_kind : kind_of out ≡ an_output) (out_stream : has_stream out ≡ has_sink to)
-      (out_stands : (source : SourceView) (sink : SinkView) (mark : ℕ) → IsSinkOf out_seen to sink → PartStands in_seen out_seen rule stands out (fresh_lists source sink mark) None)
+      (out_stands : (source : SourceView) (sink : SinkView) (mark : ℕ) → IsSinkOf see.sink to sink → PartStands see out (fresh_lists source sink mark) None)
       (cells : List Cell) (slots : length cells ≡ plan.buffer) where
     abbrev pub began : RunStart S K
-    began = record { from = from; to = to; stuffing = stuffing_of stuffing; rules = map rule plugins; plan = plan }
+    began = record { from = from; to = to; stuffing = stuffing_of stuffing; rules = map see.rule plugins; rooms = map see.steady plugins; plan = plan }
 
     abbrev parts : List (StagePart S K P)
     parts = first ∷ (made ++ out ∷ [])
@@ -111,7 +113,7 @@ module _ {S K P : Type 0} (in_seen : S → SourceView) (out_seen : K → SinkVie
     part k = slice_index_or parts k first
 
     abbrev lists : ℕ → PartLists
-    lists k = fresh_lists (view-of-source in_seen from).0 (view-of-sink out_seen to).0 0
+    lists k = fresh_lists (view-of-source see.source from).0 (view-of-sink see.sink to).0 0
 
     parts-length : length parts ≡ plan.plugins + 2
     parts-length = let a = made-length made plugins are in omega (arith, length-snoc made out)
@@ -131,62 +133,64 @@ module _ {S K P : Type 0} (in_seen : S → SourceView) (out_seen : K → SinkVie
       lawful = lawful;
       stages_are = parts-length;
       slots_are = slots;
-      rules_are = length-map plugins rule ∙ sym number;
-      agree_late = rules-open rule stands plugins fresh opens;
+      rules_are = length-map plugins see.rule ∙ sym number;
+      rooms_are = length-map plugins see.steady ∙ sym number;
+      agree_late = rules-open see.rule see.stands plugins fresh opens;
     }
 
-    at-start : (p : StagePart S K P) (k : ℕ) → PartStands in_seen out_seen rule stands p (lists k) None → PartAt in_seen out_seen rule stands began p k (lists k) (state_after plan [])
+    at-start : (p : StagePart S K P) (k : ℕ) → PartStands see p (lists k) None → PartAt see began p k (lists k) (state_after plan [])
     unfolding state_after
-    at-start p k is = record { stands_for = is; given = refl; mark = omega arith }
+    at-start p k is = record { stands_for = is; given = refl; mark = omega arith; memory = λ e. cc }
 
-    input-start : InputAt in_seen out_seen rule stands began first (lists 0) (state_after plan [])
+    input-start : InputAt see began first (lists 0) (state_after plan [])
     input-start = record {
-      at = at-start first 0 (in_stands (view-of-source in_seen from).0 (view-of-sink out_seen to).0 0 (view-of-source in_seen from).1);
+      at = at-start first 0 (in_stands (view-of-source see.source from).0 (view-of-sink see.sink to).0 0 (view-of-source see.source from).1);
       kind = in_kind;
       stuffing_is = in_stuffing;
       stream = in_stream;
-      source = (view-of-source in_seen from).1;
+      source = (view-of-source see.source from).1;
       within = inl (omega arith);
     }
 
-    plugin-start : (j : ℕ) → j < plan.plugins → PluginAt in_seen out_seen rule stands began (part (suc j)) j (lists (suc j)) (state_after plan [])
+    plugin-start : (j : ℕ) → j < plan.plugins → PluginAt see began (part (suc j)) j (lists (suc j)) (state_after plan [])
     unfolding state_after
     plugin-start j lt =
         let here = made-at made (out ∷ []) plugins j first are fresh (omega (arith, number)) in
         record {
-          at = at-start (part (suc j)) (suc j) (here.is.fresh (view-of-source in_seen from).0 (view-of-sink out_seen to).0 0 here.fresh);
+          at = at-start (part (suc j)) (suc j) (here.is.fresh (view-of-source see.source from).0 (view-of-sink see.sink to).0 0 here.fresh);
           kind = here.is.kind;
           rule_is = here.is.same_rule ∙ sym here.rule_is;
+          room_is = here.is.same_steady ∙ sym here.room_is;
           met = refl;
         }
 
-    output-start : (Gives : StageList → Type 0) → OutputAt in_seen out_seen rule stands began out (lists (suc plan.plugins)) (state_after plan []) Gives
+    output-start : (Gives : StageList → Type 0) → OutputAt see began out (lists (suc plan.plugins)) (state_after plan []) Gives
     unfolding state_after
     output-start Gives = record {
-      at = at-start out (suc plan.plugins) (out_stands (view-of-source in_seen from).0 (view-of-sink out_seen to).0 0 (view-of-sink out_seen to).1);
+      at = at-start out (suc plan.plugins) (out_stands (view-of-source see.source from).0 (view-of-sink see.sink to).0 0 (view-of-sink see.sink to).1);
       kind = out_kind;
       stream = out_stream;
       met = refl;
-      sink = (view-of-sink out_seen to).1;
+      sink = (view-of-sink see.sink to).1;
       failed = λ e. cc;
     }
 
-    kept-start : (input : StageList) → PartGives in_seen first (lists 0) input → KeptFor in_seen out_seen rule stands began [] input
+    kept-start : (input : StageList) → PartGives see first (lists 0) input → KeptFor see began [] input
     unfolding state_after
     kept-start input gives =
-        let is : IsListOf in_seen from (stuffing_of stuffing) input = (in_gives (view-of-source in_seen from).0 (view-of-sink out_seen to).0 0 input).0 gives in
-        let ends = list-ends in_seen from (stuffing_of stuffing) input is in
+        let is : IsListOf see.source from (stuffing_of stuffing) input = (in_gives (view-of-source see.source from).0 (view-of-sink see.sink to).0 0 input).0 gives in
+        let ends = list-ends see.source from (stuffing_of stuffing) input is in
         record {
           is_list = is;
           kept = tt;
-          going = λ k e. starts-quiet (map rule plugins) input plan.plugins (λ last. (let how = ends.0 in let f = sym ends.1 ∙ last in cc)) k (took (state_after plan []) k) (nothing-taken k);
+          going = λ k e. starts-quiet (map see.rule plugins) input plan.plugins (λ last. (let how = ends.0 in let f = sym ends.1 ∙ last in cc)) k (took (state_after plan []) k) (nothing-taken k);
         }
       where
         nothing-taken : (k : ℕ) → took start k ≡ []
         nothing-taken zero = refl
         nothing-taken (suc j) = refl
 
-    by-start : RunsBy in_seen out_seen rule stands began core parts cells [] part lists
+    by-start : RunsBy see began core parts cells [] part lists
     unfolding state_after
     by-start = record {
       parts_are = λ k d le. any-default parts k d first (let a = parts-length in omega arith);
@@ -195,9 +199,9 @@ module _ {S K P : Type 0} (in_seen : S → SourceView) (out_seen : K → SinkVie
       kept = kept-start;
       input = input-start;
       plugin = plugin-start;
-      output = subst (λ p. OutputAt in_seen out_seen rule stands began p (lists (suc plan.plugins)) (state_after plan []) (PartGives in_seen (part 0) (lists 0))) (sym last-is) (output-start (PartGives in_seen (part 0) (lists 0)));
+      output = subst (λ p. OutputAt see began p (lists (suc plan.plugins)) (state_after plan []) (PartGives see (part 0) (lists 0))) (sym last-is) (output-start (PartGives see (part 0) (lists 0)));
       buffer = λ k le. tt;
     }
 
-    pub starts : IsRunning in_seen out_seen rule stands began core parts cells
+    pub starts : IsRunning see began core parts cells
     starts = record { fits = fits; runs = record { visits = []; part = part; lists = lists; by = by-start } }

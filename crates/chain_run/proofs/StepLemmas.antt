@@ -17,6 +17,7 @@ use Rattle.chain_core.specs.Machine.{ChainState, StageState, Visit, progress_of_
 use Rattle.chain_core.specs.ChainRun.{ChainRun, state_after}
 use Rattle.chain_core.specs.CoreNumbers.{CoreNumbers, IsLawfulPlan, StandsFor}
 use Rattle.chain_core.specs.Keeps.{Keeps}
+use Rattle.stage_run.specs.Seeing.{Seeing}
 use Rattle.stage_run.specs.declared.stage_part.StagePart.{StagePart}
 use Rattle.stage_run.specs.PartLists.{PartLists}
 use Rattle.stage_run.specs.PartStands.{PartStands, PartGives}
@@ -24,7 +25,8 @@ use Rattle.stage_run.specs.OutputStands.{IsPartOfFirst}
 use Rattle.chain_run.specs.RunOf.{MayRead}
 use Rattle.chain_run.specs.Slots.{slot, HoldsFrom}
 use Rattle.chain_run.specs.Runs.{nothing_told, between, RunStart, PartAt, InputAt, PluginAt, FailedAt, OutputAt, KeptFor, RunsBy}
-use Rattle.chain_run.proofs.MachineLaws.{MachineLaws, given-falls, stage-other, written-grows, given-more}
+use Rattle.chain_run.specs.Laws.{MachineLaws}
+use Rattle.chain_run.proofs.NumberLaws.{given-falls, stage-other, written-grows, given-more}
 
 -- ---- functions that are changed at one place
 
@@ -64,20 +66,21 @@ drop-frame : (m n : ℕ) (xs ys more : List Cell) → n ≡ m → ys ≡ xs ++ m
 drop-frame m n xs ys more e grown le =
     ap (λ i. drop i ys) e ∙ (ap (drop m) grown ∙ drop-append-le m xs more le)
 
-module _ {S K P : Type 0} (in_seen : S → SourceView) (out_seen : K → SinkView) (rule : P → PluginRule) (stands : P → List Cell → ℕ → Type 0) (begun : RunStart S K) where
+module _ {S K P : Type 0} (see : Seeing S K P) (begun : RunStart S K) where
   -- ---- stages that were not visited
 
   module _ (old new : ChainState) (grown : written_of begun.plan (progress_of_stages old) ≤ written_of begun.plan (progress_of_stages new)) where
     part-frame : (part : StagePart S K P) (k : ℕ) (lists : PartLists) → (new.stages k).given ≡ (old.stages k).given → (new.stages k).ended ≡ (old.stages k).ended
-        → PartAt in_seen out_seen rule stands begun part k lists old → PartAt in_seen out_seen rule stands begun part k lists new
+        → PartAt see begun part k lists old → PartAt see begun part k lists new
     part-frame part k lists same ended at = record {
-      stands_for = subst (λ (e : Option StageEnd). PartStands in_seen out_seen rule stands part lists e) (sym ended) at.stands_for;
+      stands_for = subst (λ (e : Option StageEnd). PartStands see part lists e) (sym ended) at.stands_for;
       given = at.given ∙ sym same;
       mark = le_trans at.mark grown;
+      memory = λ e. at.memory (sym ended ∙ e);
     }
 
     pub input-frame : (part : StagePart S K P) (lists : PartLists) → (new.stages 0).given ≡ (old.stages 0).given → (new.stages 0).ended ≡ (old.stages 0).ended
-        → InputAt in_seen out_seen rule stands begun part lists old → InputAt in_seen out_seen rule stands begun part lists new
+        → InputAt see begun part lists old → InputAt see begun part lists new
     input-frame part lists same ended is = record {
       at = part-frame part 0 lists same ended is.at;
       kind = is.kind;
@@ -89,18 +92,19 @@ module _ {S K P : Type 0} (in_seen : S → SourceView) (out_seen : K → SinkVie
 
     pub plugin-frame : (part : StagePart S K P) (j : ℕ) (lists : PartLists) (more : List Cell) → (new.stages (suc j)).given ≡ (old.stages (suc j)).given → (new.stages (suc j)).ended ≡ (old.stages (suc j)).ended
         → (new.stages j).given ≡ (old.stages j).given ++ more → length (old.stages (suc j)).given ≤ length (old.stages j).given
-        → PluginAt in_seen out_seen rule stands begun part j lists old → PluginAt in_seen out_seen rule stands begun part j lists new
+        → PluginAt see begun part j lists old → PluginAt see begun part j lists new
     plugin-frame part j lists more same ended is_more le is = record {
       at = part-frame part (suc j) lists same ended is.at;
       kind = is.kind;
       rule_is = is.rule_is;
+      room_is = is.room_is;
       met = is.met ∙ take-frame (length (old.stages (suc j)).given) (length (new.stages (suc j)).given) (old.stages j).given (new.stages j).given more (ap (λ (l : List Cell). length l) same) is_more le;
     }
 
     failed-frame : (lists : PartLists) (more : List Cell) (Gives Gives' : StageList → Type 0) → (new.stages (suc begun.plan.plugins)).given ≡ (old.stages (suc begun.plan.plugins)).given
         → (old.stages (suc begun.plan.plugins)).taken ≤ (new.stages (suc begun.plan.plugins)).taken → (new.stages begun.plan.plugins).given ≡ (old.stages begun.plan.plugins).given ++ more
         → length (old.stages (suc begun.plan.plugins)).given ≤ length (old.stages begun.plan.plugins).given → ((input : StageList) → Gives' input → Gives input)
-        → FailedAt in_seen out_seen rule stands begun lists old Gives → FailedAt in_seen out_seen rule stands begun lists new Gives'
+        → FailedAt see begun lists old Gives → FailedAt see begun lists new Gives'
     failed-frame lists more Gives Gives' same no_less is_more le less failed =
         let size : length (new.stages (suc begun.plan.plugins)).given ≡ length (old.stages (suc begun.plan.plugins)).given = ap (λ (l : List Cell). length l) same in
         record {
@@ -115,7 +119,7 @@ module _ {S K P : Type 0} (in_seen : S → SourceView) (out_seen : K → SinkVie
         → (new.stages (suc begun.plan.plugins)).ended ≡ (old.stages (suc begun.plan.plugins)).ended
         → (old.stages (suc begun.plan.plugins)).taken ≤ (new.stages (suc begun.plan.plugins)).taken → (new.stages begun.plan.plugins).given ≡ (old.stages begun.plan.plugins).given ++ more
         → length (old.stages (suc begun.plan.plugins)).given ≤ length (old.stages begun.plan.plugins).given → ((input : StageList) → Gives' input → Gives input)
-        → OutputAt in_seen out_seen rule stands begun part lists old Gives → OutputAt in_seen out_seen rule stands begun part lists new Gives'
+        → OutputAt see begun part lists old Gives → OutputAt see begun part lists new Gives'
     output-frame part lists more Gives Gives' same ended no_less is_more le less is = record {
       at = part-frame part (suc begun.plan.plugins) lists same ended is.at;
       kind = is.kind;
@@ -128,7 +132,7 @@ module _ {S K P : Type 0} (in_seen : S → SourceView) (out_seen : K → SinkVie
   -- ---- a visit
 
   module _ (laws : MachineLaws) (lawful : IsLawfulPlan begun.plan) (core new_core : CoreNumbers) (parts : List (StagePart S K P)) (cells new_cells : List Cell) (visits : List Visit) (part : ℕ → StagePart S K P) (lists : ℕ → PartLists)
-      (by : RunsBy in_seen out_seen rule stands begun core parts cells visits part lists)
+      (by : RunsBy see begun core parts cells visits part lists)
       (k : ℕ) (given : List Cell) (word : StageWord) (is_stage : k ≤ suc begun.plan.plugins)
       (allowed : Allowed begun.plan (state_after begun.plan visits) (visit_of k given word))
       (new_part : StagePart S K P) (after : PartLists) where
@@ -142,22 +146,22 @@ module _ {S K P : Type 0} (in_seen : S → SourceView) (out_seen : K → SinkVie
     run = (by.run, allowed)
 
     abbrev pub Gives : StageList → Type 0
-    Gives input = PartGives in_seen (set_at part k new_part 0) (set_at lists k after 0) input
+    Gives input = PartGives see (set_at part k new_part 0) (set_at lists k after 0) input
 
     -- what the visited stage stands for now
     pub record Own : Type 0 where
-      pub less : 0 ≡ k → (input : StageList) → PartGives in_seen new_part after input → PartGives in_seen (part 0) (lists 0) input
-      pub keeps : (input : StageList) → PartGives in_seen (part 0) (lists 0) input → Gives input → Keeps begun.plan begun.rules input old (visit_of k given word)
-      pub going : (input : StageList) → PartGives in_seen (part 0) (lists 0) input → Gives input → (new.stages k).ended ≡ None → Keeps begun.plan begun.rules input new (visit_of k [] nothing_told)
-      pub own_input : 0 ≡ k → InputAt in_seen out_seen rule stands begun new_part after new
-      pub own_plugin : (j : ℕ) → suc j ≡ k → j < begun.plan.plugins → PluginAt in_seen out_seen rule stands begun new_part j after new
-      pub own_output : suc begun.plan.plugins ≡ k → OutputAt in_seen out_seen rule stands begun new_part after new Gives
+      pub less : 0 ≡ k → (input : StageList) → PartGives see new_part after input → PartGives see (part 0) (lists 0) input
+      pub keeps : (input : StageList) → PartGives see (part 0) (lists 0) input → Gives input → Keeps begun.plan begun.rules input old (visit_of k given word)
+      pub going : (input : StageList) → PartGives see (part 0) (lists 0) input → Gives input → (new.stages k).ended ≡ None → Keeps begun.plan begun.rules input new (visit_of k [] nothing_told)
+      pub own_input : 0 ≡ k → InputAt see begun new_part after new
+      pub own_plugin : (j : ℕ) → suc j ≡ k → j < begun.plan.plugins → PluginAt see begun new_part j after new
+      pub own_output : suc begun.plan.plugins ≡ k → OutputAt see begun new_part after new Gives
       pub buffer : (j : ℕ) → j ≤ begun.plan.plugins → HoldsFrom (slot new_cells) (length (new.stages (suc j)).given) (between new j)
 
     module _ (numbers : StandsFor new_core new) (long : suc begun.plan.plugins < length parts) (own : Own) where
-      less-all : (input : StageList) → Gives input → PartGives in_seen (part 0) (lists 0) input
+      less-all : (input : StageList) → Gives input → PartGives see (part 0) (lists 0) input
       less-all =
-          pick (λ p l. (input : StageList) → PartGives in_seen p l input → PartGives in_seen (part 0) (lists 0) input) part lists k new_part after 0 own.less (λ apart input gives. gives)
+          pick (λ p l. (input : StageList) → PartGives see p l input → PartGives see (part 0) (lists 0) input) part lists k new_part after 0 own.less (λ apart input gives. gives)
 
       other : (j : ℕ) → j ≢ k → new.stages j ≡ old.stages j
       other = stage-other laws begun.plan lawful.users visits (visit_of k given word) run
@@ -180,7 +184,7 @@ module _ {S K P : Type 0} (in_seen : S → SourceView) (out_seen : K → SinkVie
       falls : (j : ℕ) → length (old.stages (suc j)).given ≤ length (old.stages j).given
       falls j = given-falls laws begun.plan lawful.users visits by.run (suc j) j (omega arith)
 
-      kept : (input : StageList) → Gives input → KeptFor in_seen out_seen rule stands begun (visit_of k given word ∷ visits) input
+      kept : (input : StageList) → Gives input → KeptFor see begun (visit_of k given word ∷ visits) input
       kept input gives =
           let was = by.kept input (less-all input gives) in
           record {
@@ -200,17 +204,17 @@ module _ {S K P : Type 0} (in_seen : S → SourceView) (out_seen : K → SinkVie
           ]
 
       -- what all stages stand for then
-      pub stepped : RunsBy in_seen out_seen rule stands begun new_core (slice_set parts k new_part) new_cells (visit_of k given word ∷ visits) (set_at part k new_part) (set_at lists k after)
+      pub stepped : RunsBy see begun new_core (slice_set parts k new_part) new_cells (visit_of k given word ∷ visits) (set_at part k new_part) (set_at lists k after)
       stepped = record {
         parts_are = parts_are;
         numbers = numbers;
         run = run;
         kept = kept;
-        input = pick (λ p l. InputAt in_seen out_seen rule stands begun p l new) part lists k new_part after 0 own.own_input
+        input = pick (λ p l. InputAt see begun p l new) part lists k new_part after 0 own.own_input
             (λ apart. input-frame old new grows (part 0) (lists 0) (given_same 0 apart) (ended_same 0 apart) by.input);
-        plugin = λ j lt. pick (λ p l. PluginAt in_seen out_seen rule stands begun p j l new) part lists k new_part after (suc j) (λ same. own.own_plugin j same lt)
+        plugin = λ j lt. pick (λ p l. PluginAt see begun p j l new) part lists k new_part after (suc j) (λ same. own.own_plugin j same lt)
             (λ apart. plugin-frame old new grows (part (suc j)) j (lists (suc j)) (more j).0 (given_same (suc j) apart) (ended_same (suc j) apart) (more j).1 (falls j) (by.plugin j lt));
-        output = pick (λ p l. OutputAt in_seen out_seen rule stands begun p l new Gives) part lists k new_part after (suc begun.plan.plugins) own.own_output
-            (λ apart. output-frame old new grows (part (suc begun.plan.plugins)) (lists (suc begun.plan.plugins)) (more begun.plan.plugins).0 (PartGives in_seen (part 0) (lists 0)) Gives (given_same (suc begun.plan.plugins) apart) (ended_same (suc begun.plan.plugins) apart) (taken_same (suc begun.plan.plugins) apart) (more begun.plan.plugins).1 (falls begun.plan.plugins) less-all by.output);
+        output = pick (λ p l. OutputAt see begun p l new Gives) part lists k new_part after (suc begun.plan.plugins) own.own_output
+            (λ apart. output-frame old new grows (part (suc begun.plan.plugins)) (lists (suc begun.plan.plugins)) (more begun.plan.plugins).0 (PartGives see (part 0) (lists 0)) Gives (given_same (suc begun.plan.plugins) apart) (ended_same (suc begun.plan.plugins) apart) (taken_same (suc begun.plan.plugins) apart) (more begun.plan.plugins).1 (falls begun.plan.plugins) less-all by.output);
         buffer = own.buffer;
       }

@@ -17,14 +17,17 @@ use Rattle.chain_core.specs.ChainRun.{ChainRun, state_after}
 use Rattle.chain_core.specs.CoreNumbers.{CoreNumbers, StandsFor, progress_of_core}
 use Rattle.chain_core.specs.Keeps.{KeptRun}
 use Rattle.chain_core.specs.EveryOrder.{SoFar}
+use Rattle.stage_run.specs.Seeing.{Seeing}
 use Rattle.stage_run.specs.declared.stage_part.StagePart.{StagePart}
 use Rattle.stage_run.specs.declared.work.Work.{Work}
 use Rattle.stage_run.specs.PartLists.{PartLists}
 use Rattle.stage_run.specs.PartStands.{PartStands, MayWork, MayWorkOnSome, kind_of, an_output}
 use Rattle.stage_run.specs.Telling.{may_follow, FollowsNews}
+use Rattle.stage_run.specs.Works.{PartWork}
 use Rattle.chain_run.specs.Runs.{nothing_told, RunStart, NumbersFit, KeptFor, RunsBy, Runs}
-use Rattle.chain_run.specs.Working.{IsRunning, PartWorks, StageWorks}
-use Rattle.chain_run.proofs.MachineLaws.{MachineLaws, after-visit, change, given-taken, taken-below}
+use Rattle.chain_run.specs.Working.{IsRunning, StageWorks}
+use Rattle.chain_run.specs.Laws.{MachineLaws}
+use Rattle.chain_run.proofs.NumberLaws.{after-visit, change, given-taken, taken-below}
 use Rattle.chain_run.proofs.SlotLemmas.{length-over_row}
 use Rattle.chain_run.proofs.StepLemmas.{set_at}
 use Rattle.chain_run.proofs.QuietVisit.{quiet-visit}
@@ -33,23 +36,23 @@ use Rattle.chain_run.proofs.KindLemmas.{output-did}
 use Rattle.chain_run.proofs.TurnLemmas.{list-ends, follows-news}
 use Rattle.chain_run.proofs.ProgressLemmas.{as-progress}
 
-module _ {S K P : Type 0} (in_seen : S → SourceView) (out_seen : K → SinkView) (rule : P → PluginRule) (stands : P → List Cell → ℕ → Type 0)
-    (laws : MachineLaws) (every : (plan : CorePlan) (rules : List PluginRule) (input : StageList) (visits : List Visit) → KeptRun plan rules input visits → SoFar plan rules input (state_after plan visits))
+module _ {S K P : Type 0} (see : Seeing S K P)
+    (laws : MachineLaws)
     (begun : RunStart S K) where
   -- the chain theorem of a run so far
-  pub kept-run : (core : CoreNumbers) (stages slots : ℕ) → NumbersFit begun core stages slots → (input : StageList) (visits : List Visit) → KeptFor in_seen out_seen rule stands begun visits input → ChainRun begun.plan visits → KeptRun begun.plan begun.rules input visits
+  pub kept-run : (core : CoreNumbers) (stages slots : ℕ) → NumbersFit begun core stages slots → (input : StageList) (visits : List Visit) → KeptFor see begun visits input → ChainRun begun.plan visits → KeptRun begun.plan begun.rules input visits
   kept-run core stages slots fits input visits kept run = record {
     plugins = fits.rules_are;
     users = fits.lawful.users;
     agree_late = fits.agree_late;
-    input_ends = list-ends in_seen begun.from begun.stuffing input kept.is_list;
+    input_ends = list-ends see.source begun.from begun.stuffing input kept.is_list;
     run = run;
     kept = kept.kept;
   }
 
-  pub far : (core : CoreNumbers) (stages slots : ℕ) → NumbersFit begun core stages slots → (input : StageList) (visits : List Visit) → KeptFor in_seen out_seen rule stands begun visits input → ChainRun begun.plan visits → SoFar begun.plan begun.rules input (state_after begun.plan visits)
+  pub far : (core : CoreNumbers) (stages slots : ℕ) → NumbersFit begun core stages slots → (input : StageList) (visits : List Visit) → KeptFor see begun visits input → ChainRun begun.plan visits → SoFar begun.plan begun.rules input (state_after begun.plan visits)
   far core stages slots fits input visits kept run =
-      every begun.plan begun.rules input visits (kept-run core stages slots fits input visits kept run)
+      laws.every begun.plan begun.rules input visits (kept-run core stages slots fits input visits kept run)
 
   -- a visit that the machine allows, in the words of the core
   pub to-core : (core : CoreNumbers) (state : ChainState) (k done : ℕ) (word : StageWord) → core.plan ≡ begun.plan → StandsFor core state → MayVisit begun.plan (progress_of_stages state) state.told k done word → MayVisit core.plan (progress_of_core core) core.told k done word
@@ -58,11 +61,11 @@ module _ {S K P : Type 0} (in_seen : S → SourceView) (out_seen : K → SinkVie
       (subst (λ t. MayVisit begun.plan (progress_of_core core) t k done word) (sym numbers.told)
       (subst (λ (m : StagesProgress). MayVisit begun.plan m state.told k done word) (sym (as-progress core state numbers)) may))
 
-  module _ (core : CoreNumbers) (parts : List (StagePart S K P)) (cells : List Cell) (goes : IsRunning in_seen out_seen rule stands begun core parts cells) (k : ℕ) (is_stage : k ≤ suc core.plan.plugins) (open_ : (progress_of_core core k).ended ≡ None) where
+  module _ (core : CoreNumbers) (parts : List (StagePart S K P)) (cells : List Cell) (goes : IsRunning see begun core parts cells) (k : ℕ) (is_stage : k ≤ suc core.plan.plugins) (open_ : (progress_of_core core k).ended ≡ None) where
     abbrev visits : List Visit
     visits = goes.runs.visits
 
-    abbrev by : RunsBy in_seen out_seen rule stands begun core parts cells goes.runs.visits goes.runs.part goes.runs.lists
+    abbrev by : RunsBy see begun core parts cells goes.runs.visits goes.runs.part goes.runs.lists
     by = goes.runs.by
 
     abbrev state : ChainState
@@ -94,14 +97,14 @@ module _ {S K P : Type 0} (in_seen : S → SourceView) (out_seen : K → SinkVie
     pub visits : List Visit
     pub part : ℕ → StagePart S K P
     pub lists : ℕ → PartLists
-    pub by : RunsBy in_seen out_seen rule stands begun core parts cells visits part lists
+    pub by : RunsBy see begun core parts cells visits part lists
     pub is_stage : k ≤ suc begun.plan.plugins
     pub open_ : ((state_after begun.plan visits).stages k).ended ≡ None
     pub told : news ≡ news_of begun.plan (progress_of_stages (state_after begun.plan visits)) k
     pub limit_told : k ≡ suc begun.plan.plugins → (state_after begun.plan visits).told ≡ limit_of begun.plan (progress_of_stages (state_after begun.plan visits))
 
   -- the first visit
-  pub look : (core new : CoreNumbers) (parts : List (StagePart S K P)) (cells : List Cell) (goes : IsRunning in_seen out_seen rule stands begun core parts cells) (k : ℕ) (news : News) → k ≤ suc core.plan.plugins → (progress_of_core core k).ended ≡ None
+  pub look : (core new : CoreNumbers) (parts : List (StagePart S K P)) (cells : List Cell) (goes : IsRunning see begun core parts cells) (k : ℕ) (news : News) → k ≤ suc core.plan.plugins → (progress_of_core core k).ended ≡ None
       → new.plan ≡ core.plan
       → ((state : ChainState) (gave : List Cell) → length gave ≡ 0 → StandsFor core state → StandsFor new (visited core.plan state (visit_of k gave nothing_told)))
       → ((state : ChainState) (gave : List Cell) → length gave ≡ 0 → StandsFor core state → news ≡ news_after core.plan state (visit_of k gave nothing_told))
@@ -126,12 +129,13 @@ module _ {S K P : Type 0} (in_seen : S → SourceView) (out_seen : K → SinkVie
           stages_are = goes.fits.stages_are;
           slots_are = goes.fits.slots_are;
           rules_are = goes.fits.rules_are;
+          rooms_are = goes.fits.rooms_are;
           agree_late = goes.fits.agree_late;
         };
         visits = quiet ∷ goes.runs.visits;
         part = set_at goes.runs.part k (goes.runs.part k);
         lists = set_at goes.runs.lists k (goes.runs.lists k);
-        by = quiet-visit in_seen out_seen rule stands begun laws goes.fits.lawful core new parts cells goes.runs.visits goes.runs.part goes.runs.lists by k stage
+        by = quiet-visit see begun laws goes.fits.lawful core new parts cells goes.runs.visits goes.runs.part goes.runs.lists by k stage
             (open-state core parts cells goes k is_stage open_) allowed numbers (let a = goes.fits.stages_are in omega arith);
         is_stage = stage;
         open_ = changed.ended;
@@ -150,12 +154,12 @@ module _ {S K P : Type 0} (in_seen : S → SourceView) (out_seen : K → SinkVie
 
     pub work-written : news.written ≤ (progress_of_core core k).given
     work-written =
-        let a = written-below in_seen out_seen rule stands begun laws looked.fits.lawful looked.fits.rules_are (far core (length parts) (length cells) looked.fits) core core parts cells looked.visits looked.part looked.lists looked.by k looked.is_stage looked.open_ news looked.told in
+        let a = written-below see begun laws looked.fits.lawful looked.fits.rules_are (far core (length parts) (length cells) looked.fits) core core parts cells looked.visits looked.part looked.lists looked.by k looked.is_stage looked.open_ news looked.told in
         let b : (progress_of_core core k).given ≡ length (now.stages k).given = ap (λ (m : Progress). m.given) mark-is in omega arith
 
     pub work-given : (progress_of_core core k).given ≤ news.taken
     work-given =
-        let a = given-below in_seen out_seen rule stands begun laws looked.fits.lawful looked.fits.rules_are (far core (length parts) (length cells) looked.fits) core core parts cells looked.visits looked.part looked.lists looked.by k looked.is_stage looked.open_ news looked.told in
+        let a = given-below see begun laws looked.fits.lawful looked.fits.rules_are (far core (length parts) (length cells) looked.fits) core core parts cells looked.visits looked.part looked.lists looked.by k looked.is_stage looked.open_ news looked.told in
         let b : (progress_of_core core k).given ≡ length (now.stages k).given = ap (λ (m : Progress). m.given) mark-is in omega arith
 
     pub work-taken : news.taken ≤ 2 ^ 60
@@ -163,16 +167,16 @@ module _ {S K P : Type 0} (in_seen : S → SourceView) (out_seen : K → SinkVie
         let a = taken-below laws begun.plan looked.fits.lawful.users looked.visits looked.by.run k in
         let b : news.taken ≡ (now.stages k).taken = ap (λ (n : News). n.taken) looked.told in omega arith
 
-    pub work-stands : (d : StagePart S K P) → MayWorkOnSome (PartStands in_seen out_seen rule stands (slice_index_or parts k d)) (progress_of_core core k).given news.written
+    pub work-stands : (d : StagePart S K P) → MayWorkOnSome (PartStands see (slice_index_or parts k d)) (progress_of_core core k).given news.written
     work-stands d =
         let b : (progress_of_core core k).given ≡ length (now.stages k).given = ap (λ (m : Progress). m.given) mark-is in
-        subst (λ (p : StagePart S K P). MayWorkOnSome (PartStands in_seen out_seen rule stands p) (progress_of_core core k).given news.written) (sym (looked.by.parts_are k d looked.is_stage))
-        (subst (λ n. MayWorkOnSome (PartStands in_seen out_seen rule stands (looked.part k)) n news.written) (sym b)
-        (record { lists = looked.lists k; may = may in_seen out_seen rule stands begun laws looked.fits.lawful looked.fits.rules_are (far core (length parts) (length cells) looked.fits) core core parts cells looked.visits looked.part looked.lists looked.by k looked.is_stage looked.open_ news looked.told }))
+        subst (λ (p : StagePart S K P). MayWorkOnSome (PartStands see p) (progress_of_core core k).given news.written) (sym (looked.by.parts_are k d looked.is_stage))
+        (subst (λ n. MayWorkOnSome (PartStands see (looked.part k)) n news.written) (sym b)
+        (record { lists = looked.lists k; may = may see begun laws looked.fits.lawful looked.fits.rules_are (far core (length parts) (length cells) looked.fits) core core parts cells looked.visits looked.part looked.lists looked.by k looked.is_stage looked.open_ news looked.told }))
 
     -- ---- the second visit
 
-    module _ (parts_new : List (StagePart S K P)) (cells_new : List Cell) (work : Work) (works : StageWorks in_seen out_seen rule stands parts parts_new cells cells_new k (progress_of_core core k).given news work) where
+    module _ (parts_new : List (StagePart S K P)) (cells_new : List Cell) (work : Work) (works : StageWorks see parts parts_new cells cells_new k (progress_of_core core k).given news work) where
       abbrev at : ℕ
       at = length (now.stages k).given
 
@@ -180,20 +184,20 @@ module _ {S K P : Type 0} (in_seen : S → SourceView) (out_seen : K → SinkVie
       at-is = ap (λ (m : Progress). m.given) mark-is
 
       -- the same, in the words of the state
-      pub here : StageWorks in_seen out_seen rule stands parts parts_new cells cells_new k at news work
-      here = subst (λ n. StageWorks in_seen out_seen rule stands parts parts_new cells cells_new k n news work) at-is works
+      pub here : StageWorks see parts parts_new cells cells_new k at news work
+      here = subst (λ n. StageWorks see parts parts_new cells cells_new k n news work) at-is works
 
       old-is : here.old ≡ looked.part k
       old-is = here.is_old ∙ looked.by.parts_are k here.old looked.is_stage
 
-      pub worked : PartWorks in_seen out_seen rule stands (looked.part k) here.new at news (take here.len (drop (at % length cells) cells)) here.window_new work
-      worked = subst (λ p. PartWorks in_seen out_seen rule stands p here.new at news (take here.len (drop (at % length cells) cells)) here.window_new work) old-is here.worked
+      pub worked : PartWork see (looked.part k) here.new at news (take here.len (drop (at % length cells) cells)) here.window_new work
+      worked = subst (λ p. PartWork see p here.new at news (take here.len (drop (at % length cells) cells)) here.window_new work) old-is here.worked
 
       pub taken-is : news.taken ≡ (now.stages k).taken
       taken-is = ap (λ (n : News). n.taken) looked.told
 
       done-le : work.done ≤ here.len
-      done-le = let a = worked.done in omega (arith, length-take here.len (drop (at % length cells) cells), length-drop (at % length cells) cells)
+      done-le = let a = worked.stage.done in omega (arith, length-take here.len (drop (at % length cells) cells), length-drop (at % length cells) cells)
 
       pub given-le : at + work.done ≤ news.taken
       given-le = let a = done-le in let b = here.in_hand in omega arith
@@ -201,14 +205,14 @@ module _ {S K P : Type 0} (in_seen : S → SourceView) (out_seen : K → SinkVie
       pub works-length : length (take work.done here.window_new) ≡ work.done
       works-length = let a = done-le in let b = here.same_length in omega (arith, length-take work.done here.window_new)
 
-      pub may-now : MayWork (PartStands in_seen out_seen rule stands (looked.part k)) at news.written (looked.lists k)
-      may-now = may in_seen out_seen rule stands begun laws looked.fits.lawful looked.fits.rules_are (far core (length parts) (length cells) looked.fits) core core parts cells looked.visits looked.part looked.lists looked.by k looked.is_stage looked.open_ news looked.told
+      pub may-now : MayWork (PartStands see (looked.part k)) at news.written (looked.lists k)
+      may-now = may see begun laws looked.fits.lawful looked.fits.rules_are (far core (length parts) (length cells) looked.fits) core core parts cells looked.visits looked.part looked.lists looked.by k looked.is_stage looked.open_ news looked.told
 
       below : k ≡ suc begun.plan.plugins → (limit : ℕ) → now.told ≡ Some limit → 0 < work.done → at + work.done ≤ limit
       below o limit is some =
           let kind : kind_of (looked.part k) ≡ an_output = subst (λ i. kind_of (looked.part i) ≡ an_output) (sym o) looked.by.output.kind in
-          let w = worked.works (looked.lists k) may-now in
-          let did = output-did in_seen out_seen rule (looked.part k) here.new (looked.lists k) news (take here.len (drop (at % length cells) cells)) here.window_new work w.after kind w.does in
+          let w = worked.stage.works (looked.lists k) may-now in
+          let did = output-did see (looked.part k) here.new (looked.lists k) news (take here.len (drop (at % length cells) cells)) here.window_new work w.after kind w.does in
           let known : news.limit ≡ Some limit = ap (λ (n : News). n.limit) looked.told ∙ (sym (looked.limit_told o) ∙ is) in
           subst (λ n. n + work.done ≤ limit) may-now.given (did.below limit known some)
 
@@ -217,10 +221,10 @@ module _ {S K P : Type 0} (in_seen : S → SourceView) (out_seen : K → SinkVie
         is_stage = looked.is_stage;
         goes_on = looked.open_;
         held = (let a = given-le in let b = taken-is in omega arith);
-        agreement = λ agreed e. inl (worked.agreed agreed e);
+        agreement = λ agreed e. inl (worked.stage.agreed agreed e);
         below_limit = below;
         follows = λ e. follows-news begun.plan (progress_of_stages now) k (at + work.done)
-            (subst (λ (n : News). may_follow n (at + work.done) ≡ true) looked.told (subst (λ t. FollowsNews news (at + work.done) t) e worked.follows));
+            (subst (λ (n : News). may_follow n (at + work.done) ≡ true) looked.told (subst (λ t. FollowsNews news (at + work.done) t) e worked.stage.follows));
       }
 
       -- the second visit may be made
@@ -230,7 +234,7 @@ module _ {S K P : Type 0} (in_seen : S → SourceView) (out_seen : K → SinkVie
       -- and then the chain goes on
       pub turned : (new : CoreNumbers) → new.plan ≡ core.plan
           → ((state : ChainState) (gave : List Cell) → length gave ≡ work.done → StandsFor core state → StandsFor new (visited core.plan state (visit_of k gave work.word)))
-          → IsRunning in_seen out_seen rule stands begun new parts_new cells_new
+          → IsRunning see begun new parts_new cells_new
       turned new plan_same visited_is =
           let given : List Cell = take work.done here.window_new in
           let visit : Visit = visit_of k given work.word in
@@ -241,7 +245,7 @@ module _ {S K P : Type 0} (in_seen : S → SourceView) (out_seen : K → SinkVie
           let row : List Cell = here.window_new in
           let cells-are : cells_new ≡ take (at % length cells) cells ++ (row ++ drop (at % length cells + length row) cells) =
           here.cells_are ∙ ap (λ n. take (at % length cells) cells ++ (row ++ drop (at % length cells + n) cells)) (sym here.same_length) in
-          let by = worked-visit in_seen out_seen rule stands begun laws looked.fits.lawful looked.fits.rules_are (far core (length parts) (length cells) looked.fits)
+          let by = worked-visit see begun laws looked.fits.lawful looked.fits.rules_are (far core (length parts) (length cells) looked.fits)
           core new parts cells looked.visits looked.part looked.lists looked.by k looked.is_stage looked.open_ news looked.told
           here.new here.len here.in_hand here.in_row here.window_new here.same_length work worked allowed looked.fits.slots_are numbers (let a = looked.fits.stages_are in omega arith) in
           record {
@@ -251,9 +255,10 @@ module _ {S K P : Type 0} (in_seen : S → SourceView) (out_seen : K → SinkVie
               stages_are = ap (λ (l : List (StagePart S K P)). length l) here.is_new ∙ (length-set parts k here.new ∙ looked.fits.stages_are);
               slots_are = ap (λ (l : List Cell). length l) cells-are ∙ (length-over_row cells (at % length cells) row (let a = here.in_row in let b = here.same_length in omega arith) ∙ looked.fits.slots_are);
               rules_are = looked.fits.rules_are;
+              rooms_are = looked.fits.rooms_are;
               agree_late = looked.fits.agree_late;
             };
-            runs = subst (λ (ps : List (StagePart S K P)). Runs in_seen out_seen rule stands begun new ps cells_new) (sym here.is_new)
-                (subst (λ (cs : List Cell). Runs in_seen out_seen rule stands begun new (slice_set parts k here.new) cs) (sym cells-are)
+            runs = subst (λ (ps : List (StagePart S K P)). Runs see begun new ps cells_new) (sym here.is_new)
+                (subst (λ (cs : List Cell). Runs see begun new (slice_set parts k here.new) cs) (sym cells-are)
                 (record { visits = visit ∷ looked.visits; part = set_at looked.part k here.new; lists = _; by = by }));
           }

@@ -1,6 +1,6 @@
 -- A visit that tells what a stage has done: what the stage stands for then.
 use Rattle.std.proofs.Common.{◌≡◌, ◌≢◌, ◌⊎◌, ℕ, zero, suc, ◌+◌, ◌-◌, ◌*◌, ◌%◌, ◌^◌, ◌<◌, ◌≤◌, List, [], ◌∷◌, ◌++◌, length, take, drop, Option, Some, None, refl, ap, sym, ◌∙◌, subst, arith, inl, inr, length-append}
-use Rattle.std.specs.Prelude.{slice_set}
+use Rattle.std.specs.Prelude.{slice_set, slice_index_or}
 use Rattle.std.proofs.lemmas.Bool.{cases_eq, cases_lt}
 use Rattle.std.proofs.lemmas.List.{take-take, take-append-drop, drop-drop, length-take, length-drop}
 use Rattle.std.proofs.Math.Seq.{take-add, drop-append-le}
@@ -22,10 +22,11 @@ use Rattle.chain_core.specs.ChainRun.{ChainRun, state_after, took}
 use Rattle.chain_core.specs.CoreNumbers.{CoreNumbers, IsLawfulPlan, StandsFor}
 use Rattle.chain_core.specs.Keeps.{Keeps, StageKeeps}
 use Rattle.chain_core.specs.EveryOrder.{SoFar}
+use Rattle.stage_run.specs.Seeing.{Seeing}
 use Rattle.stage_run.specs.declared.stage_part.StagePart.{StagePart}
 use Rattle.stage_run.specs.declared.work.Work.{Work}
 use Rattle.stage_run.specs.PartLists.{PartLists}
-use Rattle.stage_run.specs.PartStands.{PartStands, PartGives, MayWork, rule_of, kind_of, stuffing_in, has_source, has_sink, has_stream, an_input, a_plugin, an_output}
+use Rattle.stage_run.specs.PartStands.{PartStands, PartGives, MayWork, rule_of, steady_of, kind_of, stuffing_in, has_source, has_sink, has_stream, an_input, a_plugin, an_output}
 use Rattle.stage_run.specs.Parts.{IsSourceOf, IsSinkOf}
 use Rattle.stage_run.proofs.InputWorking.{read_for-full, read_for-free}
 use Rattle.stage_run.specs.OutputStands.{IsPartOfFirst}
@@ -34,12 +35,13 @@ use Rattle.stage_run.specs.Works.{Works, WorksByKind, OutputTells, KeepsRule, re
 use Rattle.chain_run.specs.RunOf.{MayRead}
 use Rattle.chain_run.specs.Slots.{slot, HoldsFrom}
 use Rattle.chain_run.specs.Runs.{between, RunStart, PartAt, InputAt, PluginAt, FailedAt, OutputAt, KeptFor, RunsBy}
-use Rattle.chain_run.specs.Working.{PartWorks}
-use Rattle.chain_run.proofs.MachineLaws.{MachineLaws, change, stage-other, written-grows, given-falls, given-taken, taken-given, taken-falls, written-given, taken-ahead}
+use Rattle.stage_run.specs.Works.{PartWork}
+use Rattle.chain_run.specs.Laws.{MachineLaws}
+use Rattle.chain_run.proofs.NumberLaws.{change, stage-other, written-grows, given-falls, given-taken, taken-given, taken-falls, written-given, taken-ahead}
 use Rattle.chain_run.proofs.SlotLemmas.{holds-append, holds-take, holds-drop, holds-same, over_row, row-reads, row-written, row-other}
 use Rattle.chain_run.proofs.StepLemmas.{set_at, set_at-same, pick, part-more, Own, stepped}
 use Rattle.chain_run.proofs.QuietVisit.{going-own}
-use Rattle.chain_run.proofs.KindLemmas.{InputDid, input-did, plugin-did, OutputDid, output-did}
+use Rattle.chain_run.proofs.KindLemmas.{InputDid, input-did, plugin-did, OutputDid, output-did, wants-more, stream-kept}
 
 -- ---- pieces of a list
 
@@ -85,11 +87,11 @@ below-both : (limit : Option ℕ) (at' len' at len done : ℕ) → at' ≡ at �
 below-both None at' len' at len done a b lt = (omega arith, λ l is. cc)
 below-both (Some m) at' len' at len done a b lt = (omega arith, λ l is. let same : m ≡ l = cc in omega arith)
 
-module _ {S K P : Type 0} (in_seen : S → SourceView) (out_seen : K → SinkView) (rule : P → PluginRule) (stands : P → List Cell → ℕ → Type 0) (begun : RunStart S K)
+module _ {S K P : Type 0} (see : Seeing S K P) (begun : RunStart S K)
     (laws : MachineLaws) (lawful : IsLawfulPlan begun.plan) (rules_are : length begun.rules ≡ begun.plan.plugins)
-    (so_far : (input : StageList) (visits : List Visit) → KeptFor in_seen out_seen rule stands begun visits input → ChainRun begun.plan visits → SoFar begun.plan begun.rules input (state_after begun.plan visits))
+    (so_far : (input : StageList) (visits : List Visit) → KeptFor see begun visits input → ChainRun begun.plan visits → SoFar begun.plan begun.rules input (state_after begun.plan visits))
     (core new_core : CoreNumbers) (parts : List (StagePart S K P)) (cells : List Cell) (visits : List Visit) (part : ℕ → StagePart S K P) (lists : ℕ → PartLists)
-    (by : RunsBy in_seen out_seen rule stands begun core parts cells visits part lists)
+    (by : RunsBy see begun core parts cells visits part lists)
     (k : ℕ) (is_stage : k ≤ suc begun.plan.plugins) (ended : ((state_after begun.plan visits).stages k).ended ≡ None)
     (news : News) (told : news ≡ news_of begun.plan (progress_of_stages (state_after begun.plan visits)) k) where
   abbrev old : ChainState
@@ -101,12 +103,12 @@ module _ {S K P : Type 0} (in_seen : S → SourceView) (out_seen : K → SinkVie
   abbrev low : ℕ
   low = written_of begun.plan (progress_of_stages old)
 
-  part-at : (i : ℕ) → i ≤ suc begun.plan.plugins → PartAt in_seen out_seen rule stands begun (part i) i (lists i) old
+  part-at : (i : ℕ) → i ≤ suc begun.plan.plugins → PartAt see begun (part i) i (lists i) old
   part-at zero le = by.input.at
   part-at (suc j) le =
       elim (cases_lt j begun.plan.plugins) [
         | inl lt ↦ (by.plugin j lt).at
-        | inr far ↦ subst (λ i. PartAt in_seen out_seen rule stands begun (part i) i (lists i) old) (let e : suc begun.plan.plugins ≡ suc j = omega arith in e) by.output.at
+        | inr far ↦ subst (λ i. PartAt see begun (part i) i (lists i) old) (let e : suc begun.plan.plugins ≡ suc j = omega arith in e) by.output.at
       ]
 
   written-is : news.written ≡ low
@@ -116,11 +118,11 @@ module _ {S K P : Type 0} (in_seen : S → SourceView) (out_seen : K → SinkVie
   taken-is = ap (λ (n : News). n.taken) told
 
   -- the part may work
-  pub may : MayWork (PartStands in_seen out_seen rule stands (part k)) at news.written (lists k)
+  pub may : MayWork (PartStands see (part k)) at news.written (lists k)
   may =
       let is = part-at k is_stage in
       record {
-        goes_on = subst (λ (e : Option StageEnd). PartStands in_seen out_seen rule stands (part k) (lists k) e) ended is.stands_for;
+        goes_on = subst (λ (e : Option StageEnd). PartStands see (part k) (lists k) e) ended is.stands_for;
         given = ap (λ (l : List Cell). length l) is.given;
         mark = subst (λ n. (lists k).mark ≤ n) (sym written-is) is.mark;
       }
@@ -134,7 +136,7 @@ module _ {S K P : Type 0} (in_seen : S → SourceView) (out_seen : K → SinkVie
 
   module _ (new_part : StagePart S K P) (len : ℕ) (in_hand : at + len ≤ news.taken) (in_row : at % length cells + len ≤ length cells)
       (window_new : List Cell) (same_length : length window_new ≡ len) (work : Work)
-      (worked : PartWorks in_seen out_seen rule stands (part k) new_part at news (take len (drop (at % length cells) cells)) window_new work) where
+      (worked : PartWork see (part k) new_part at news (take len (drop (at % length cells) cells)) window_new work) where
     abbrev window : List Cell
     window = take len (drop (at % length cells) cells)
 
@@ -147,8 +149,8 @@ module _ {S K P : Type 0} (in_seen : S → SourceView) (out_seen : K → SinkVie
     abbrev new_cells : List Cell
     new_cells = over_row cells (at % length cells) window_new
 
-    pub w : Works (PartStands in_seen out_seen rule stands new_part) (WorksByKind in_seen out_seen rule (part k) new_part (lists k) news window window_new work) (lists k) news.written window window_new work
-    w = worked.works (lists k) may
+    pub w : Works (PartStands see new_part) (WorksByKind see (part k) new_part (lists k) news window window_new work) (lists k) news.written window window_new work
+    w = worked.stage.works (lists k) may
 
     abbrev after : PartLists
     after = w.after
@@ -157,7 +159,7 @@ module _ {S K P : Type 0} (in_seen : S → SourceView) (out_seen : K → SinkVie
     window-length = omega (arith, length-take len (drop (at % length cells) cells), length-drop (at % length cells) cells)
 
     done-le : work.done ≤ len
-    done-le = let a = worked.done in let b = window-length in omega arith
+    done-le = let a = worked.stage.done in let b = window-length in omega arith
 
     given-length : length given ≡ work.done
     given-length = let a = done-le in omega (arith, length-take work.done window_new)
@@ -173,10 +175,10 @@ module _ {S K P : Type 0} (in_seen : S → SourceView) (out_seen : K → SinkVie
       run = (by.run, allowed)
 
       abbrev Gives : StageList → Type 0
-      Gives input = PartGives in_seen (set_at part k new_part 0) (set_at lists k after 0) input
+      Gives input = PartGives see (set_at part k new_part 0) (set_at lists k after 0) input
 
       abbrev Own_ : Type 0
-      Own_ = Own in_seen out_seen rule stands begun laws lawful core new_core parts cells new_cells visits part lists by k given word is_stage allowed new_part after
+      Own_ = Own see begun laws lawful core new_core parts cells new_cells visits part lists by k given word is_stage allowed new_part after
 
       changed : (new.stages k).given ≡ (old.stages k).given ++ given
       changed = (change laws begun.plan lawful.users visits (visit_of k given word) run).given
@@ -200,11 +202,13 @@ module _ {S K P : Type 0} (in_seen : S → SourceView) (out_seen : K → SinkVie
       taken-within = taken-ahead laws begun.plan lawful.users visits by.run k
 
       -- what the part stands for now
-      part-new : PartAt in_seen out_seen rule stands begun new_part k after new
+      part-new : PartAt see begun new_part k after new
       part-new = record {
-        stands_for = subst (λ (e : Option StageEnd). PartStands in_seen out_seen rule stands new_part after e) (sym ended-is) w.stands;
+        stands_for = subst (λ (e : Option StageEnd). PartStands see new_part after e) (sym ended-is) w.stands;
         given = w.behind.given ∙ (ap (λ (l : List Cell). l ++ given) (part-at k is_stage).given ∙ sym changed);
         mark = (let a = w.behind.mark in let b = written-is in let c = grows in omega arith);
+        memory = λ e. wants-more see (part k) new_part (news.taken - news.written) begun.plan.buffer worked.same_kind worked.same_steady
+            (let a = taken-within in let b = taken-is in let c = written-is in omega arith) (worked.stage.memory (sym ended-is ∙ e));
       }
 
       -- ---- the input
@@ -213,12 +217,12 @@ module _ {S K P : Type 0} (in_seen : S → SourceView) (out_seen : K → SinkVie
         input-kind : kind_of (part k) ≡ an_input
         input-kind = subst (λ i. kind_of (part i) ≡ an_input) first by.input.kind
 
-        pub did : InputDid in_seen out_seen rule (part k) new_part (lists k) news window window_new work after
+        pub did : InputDid see (part k) new_part (lists k) news window window_new work after
         did =
-            input-did in_seen out_seen rule (part k) new_part (lists k) news window window_new work after input-kind w.does
+            input-did see (part k) new_part (lists k) news window window_new work after input-kind w.does
 
-        own-less : (input : StageList) → PartGives in_seen new_part after input → PartGives in_seen (part 0) (lists 0) input
-        own-less input gives = subst (λ i. PartGives in_seen (part i) (lists i) input) (sym first) (did.gives input gives)
+        own-less : (input : StageList) → PartGives see new_part after input → PartGives see (part 0) (lists 0) input
+        own-less input gives = subst (λ i. PartGives see (part i) (lists i) input) (sym first) (did.gives input gives)
 
         reads-within : MayRead begun.plan.buffer (written_of begun.plan (progress_of_stages new)) (length after.read)
         reads-within =
@@ -227,21 +231,21 @@ module _ {S K P : Type 0} (in_seen : S → SourceView) (out_seen : K → SinkVie
             subst (λ n. length after.read ≤ 188 * read_for at n) window-length (subst (λ n. length after.read ≤ 188 * read_for n (length window)) lists-length did.reads) in
             may_read begun.plan.buffer (written_of begun.plan (progress_of_stages new)) at len (length after.read) reads (let a = taken-within in let b = in_taken in let c = grows in omega arith)
 
-        own-input : InputAt in_seen out_seen rule stands begun new_part after new
+        own-input : InputAt see begun new_part after new
         own-input = record {
-          at = subst (λ i. PartAt in_seen out_seen rule stands begun new_part i after new) (sym first) part-new;
+          at = subst (λ i. PartAt see begun new_part i after new) (sym first) part-new;
           kind = worked.same_kind ∙ input-kind;
           stuffing_is = worked.same_stuffing ∙ subst (λ i. stuffing_in (part i) ≡ Some begun.stuffing) first by.input.stuffing_is;
-          stream = worked.same_stream ∙ subst (λ i. has_stream (part i) ≡ has_source begun.from) first by.input.stream;
-          source = subst (λ (v : SourceView). IsSourceOf in_seen begun.from v) (sym w.behind.source) (subst (λ i. IsSourceOf in_seen begun.from (lists i).source) first by.input.source);
+          stream = stream-kept see (part k) new_part (lists k) news window window_new work after w.does ∙ subst (λ i. has_stream (part i) ≡ has_source begun.from) first by.input.stream;
+          source = subst (λ (v : SourceView). IsSourceOf see.source begun.from v) (sym w.behind.source) (subst (λ i. IsSourceOf see.source begun.from (lists i).source) first by.input.source);
           within = reads-within;
         }
 
         keeps-first : (input : StageList) → Gives input → Keeps begun.plan begun.rules input old (visit_of k given word)
         keeps-first input gives =
-            let g : PartGives in_seen new_part after input =
-            subst (λ p. PartGives in_seen p after input) (set_at-same part k new_part 0 first)
-            (subst (λ l. PartGives in_seen (set_at part k new_part 0) l input) (set_at-same lists k after 0 first) gives) in
+            let g : PartGives see new_part after input =
+            subst (λ p. PartGives see p after input) (set_at-same part k new_part 0 first)
+            (subst (λ l. PartGives see (set_at part k new_part 0) l input) (set_at-same lists k after 0 first) gives) in
             subst (λ i. StageKeeps begun.rules input begun.plan.plugins i (took old i) (old.stages k).given given word) first
             (subst (λ (l : List Cell). StageKeeps begun.rules input begun.plan.plugins 0 [] l given word) (part-at k is_stage).given (did.keeps input g begun.rules begun.plan.plugins))
 
@@ -298,21 +302,25 @@ module _ {S K P : Type 0} (in_seen : S → SourceView) (out_seen : K → SinkVie
         plugin-met : (lists k).met ≡ take at (old.stages j).given
         plugin-met = subst (λ i. (lists i).met ≡ take (length (old.stages i).given) (old.stages j).given) e (by.plugin j lt).met
 
-        plugin-rule : rule_of rule (part k) ≡ rule_behind begun.rules j
-        plugin-rule = subst (λ i. rule_of rule (part i) ≡ rule_behind begun.rules j) e (by.plugin j lt).rule_is
+        plugin-rule : rule_of see (part k) ≡ rule_behind begun.rules j
+        plugin-rule = subst (λ i. rule_of see (part i) ≡ rule_behind begun.rules j) e (by.plugin j lt).rule_is
 
-        own-plugin : PluginAt in_seen out_seen rule stands begun new_part j after new
+        plugin-room : steady_of see (part k) ≡ slice_index_or begun.rooms j None
+        plugin-room = subst (λ i. steady_of see (part i) ≡ slice_index_or begun.rooms j None) e (by.plugin j lt).room_is
+
+        own-plugin : PluginAt see begun new_part j after new
         own-plugin = record {
-          at = subst (λ i. PartAt in_seen out_seen rule stands begun new_part i after new) (sym e) part-new;
+          at = subst (λ i. PartAt see begun new_part i after new) (sym e) part-new;
           kind = worked.same_kind ∙ plugin-kind;
           rule_is = worked.same_rule ∙ plugin-rule;
+          room_is = worked.same_steady ∙ plugin-room;
           met = met-new j e (omega arith) plugin-met;
         }
 
         keeps-plugin : (input : StageList) → Keeps begun.plan begun.rules input old (visit_of k given word)
         keeps-plugin =
-            keeps-behind j e (omega arith) plugin-met (rule_of rule (part k)) (sym plugin-rule)
-            ((plugin-did in_seen out_seen rule (part k) new_part (lists k) news window window_new work after plugin-kind w.does).keeps begun.plan.plugins j)
+            keeps-behind j e (omega arith) plugin-met (rule_of see (part k)) (sym plugin-rule)
+            ((plugin-did see (part k) new_part (lists k) news window window_new work after plugin-kind w.does).keeps begun.plan.plugins j)
 
       -- ---- the output
 
@@ -323,15 +331,15 @@ module _ {S K P : Type 0} (in_seen : S → SourceView) (out_seen : K → SinkVie
         output-met : (lists k).met ≡ take at (old.stages begun.plan.plugins).given
         output-met = subst (λ i. (lists i).met ≡ take (length (old.stages i).given) (old.stages begun.plan.plugins).given) e by.output.met
 
-        pub output-done : OutputDid in_seen out_seen rule (lists k) news window window_new work after
-        output-done = output-did in_seen out_seen rule (part k) new_part (lists k) news window window_new work after output-kind w.does
+        pub output-done : OutputDid see (lists k) news window window_new work after
+        output-done = output-did see (part k) new_part (lists k) news window window_new work after output-kind w.does
 
         keeps-output : (input : StageList) → Keeps begun.plan begun.rules input old (visit_of k given word)
         keeps-output =
             keeps-behind begun.plan.plugins e (omega arith) output-met passing_rule (rule_behind-passes begun.rules begun.plan.plugins rules_are) (output-done.keeps begun.plan.plugins)
 
         -- where a write failed
-        module _ (less : (input : StageList) → Gives input → PartGives in_seen (part 0) (lists 0) input) (faulted : word.ended ≡ Some WriteFault) where
+        module _ (less : (input : StageList) → Gives input → PartGives see (part 0) (lists 0) input) (faulted : word.ended ≡ Some WriteFault) where
           cut-at : (work.done < below_limit news.limit (length (lists k).given) (length window)) × IsPartOfFirst (drop work.done window) after.cut
           cut-at = subst (λ t. OutputTells news (length (lists k).given) window work.done after.cut t) faulted output-done.tells
 
@@ -361,7 +369,7 @@ module _ {S K P : Type 0} (in_seen : S → SourceView) (out_seen : K → SinkVie
                     cut-before.1 joint (ap (λ (n : News). n.limit) told ∙ known))
               ]
 
-          failed : FailedAt in_seen out_seen rule stands begun after new Gives
+          failed : FailedAt see begun after new Gives
           failed = record {
             few = subst (λ i. length (new.stages i).given < (new.stages i).taken) (sym e)
                 (let a = (change laws begun.plan lawful.users visits (visit_of k given word) run).no_less in let b = in_taken in let c = new-length in let d = cut-before.0 in omega arith);
@@ -369,24 +377,24 @@ module _ {S K P : Type 0} (in_seen : S → SourceView) (out_seen : K → SinkVie
             late = λ input gives joint is. (let a = late input gives joint is in let b = ap (λ i. length (new.stages i).given) e ∙ new-length in omega arith);
           }
 
-        own-output : ((input : StageList) → Gives input → PartGives in_seen (part 0) (lists 0) input) → OutputAt in_seen out_seen rule stands begun new_part after new Gives
+        own-output : ((input : StageList) → Gives input → PartGives see (part 0) (lists 0) input) → OutputAt see begun new_part after new Gives
         own-output less = record {
-          at = subst (λ i. PartAt in_seen out_seen rule stands begun new_part i after new) (sym e) part-new;
+          at = subst (λ i. PartAt see begun new_part i after new) (sym e) part-new;
           kind = worked.same_kind ∙ output-kind;
-          stream = worked.same_stream ∙ subst (λ i. has_stream (part i) ≡ has_sink begun.to) e by.output.stream;
+          stream = stream-kept see (part k) new_part (lists k) news window window_new work after w.does ∙ subst (λ i. has_stream (part i) ≡ has_sink begun.to) e by.output.stream;
           met = met-new begun.plan.plugins e (omega arith) output-met;
-          sink = subst (λ (v : SinkView). IsSinkOf out_seen begun.to v) (sym w.behind.sink) (subst (λ i. IsSinkOf out_seen begun.to (lists i).sink) e by.output.sink);
+          sink = subst (λ (v : SinkView). IsSinkOf see.sink begun.to v) (sym w.behind.sink) (subst (λ i. IsSinkOf see.sink begun.to (lists i).sink) e by.output.sink);
           failed = λ is. failed less (sym (ap (λ i. (new.stages i).ended) e ∙ ended-is) ∙ is);
         }
 
       -- ---- all together
 
-      less-own : 0 ≡ k → (input : StageList) → PartGives in_seen new_part after input → PartGives in_seen (part 0) (lists 0) input
+      less-own : 0 ≡ k → (input : StageList) → PartGives see new_part after input → PartGives see (part 0) (lists 0) input
       less-own first = own-less first
 
-      less-all : (input : StageList) → Gives input → PartGives in_seen (part 0) (lists 0) input
+      less-all : (input : StageList) → Gives input → PartGives see (part 0) (lists 0) input
       less-all =
-          pick (λ p l. (input : StageList) → PartGives in_seen p l input → PartGives in_seen (part 0) (lists 0) input) part lists k new_part after 0 less-own (λ apart input gives. gives)
+          pick (λ p l. (input : StageList) → PartGives see p l input → PartGives see (part 0) (lists 0) input) part lists k new_part after 0 less-own (λ apart input gives. gives)
 
       -- a stage is the input, a plugin or the output
       by-kind : {X : Type 0} → (0 ≡ k → X) → ((j : ℕ) → suc j ≡ k → j < begun.plan.plugins → X) → (suc begun.plan.plugins ≡ k → X) → X
@@ -466,7 +474,7 @@ module _ {S K P : Type 0} (in_seen : S → SourceView) (out_seen : K → SinkVie
         -- what is left to the stage
         is-left : (j : ℕ) → suc j ≡ k → j ≤ begun.plan.plugins → HoldsFrom (slot new_cells) (length (new.stages (suc j)).given) (between new j)
         is-left j e le =
-            let rest-same : drop work.done window_new ≡ drop work.done (take len (drop at (old.stages j).given)) = worked.rest ∙ ap (drop work.done) (window-is j e le) in
+            let rest-same : drop work.done window_new ≡ drop work.done (take len (drop at (old.stages j).given)) = worked.stage.rest ∙ ap (drop work.done) (window-is j e le) in
             let front : HoldsFrom (slot new_cells) (at + work.done) (drop work.done (take len (drop at (old.stages j).given))) =
             subst (λ (l : List Cell). HoldsFrom (slot new_cells) (at + work.done) l) rest-same (holds-drop (slot new_cells) at work.done window_new (let a = done-le in omega (arith, same_length)) row-holds) in
             let far-old : HoldsFrom (slot cells) (at + len) (drop (at + len) (old.stages j).given) =
@@ -523,6 +531,6 @@ module _ {S K P : Type 0} (in_seen : S → SourceView) (out_seen : K → SinkVie
 
         -- the chain behind the visit
         pub worked-visit : StandsFor new_core new → suc begun.plan.plugins < length parts
-            → RunsBy in_seen out_seen rule stands begun new_core (slice_set parts k new_part) new_cells (visit_of k given word ∷ visits) (set_at part k new_part) (set_at lists k after)
+            → RunsBy see begun new_core (slice_set parts k new_part) new_cells (visit_of k given word ∷ visits) (set_at part k new_part) (set_at lists k after)
         worked-visit numbers long =
-            stepped in_seen out_seen rule stands begun laws lawful core new_core parts cells new_cells visits part lists by k given word is_stage allowed new_part after numbers long own
+            stepped see begun laws lawful core new_core parts cells new_cells visits part lists by k given word is_stage allowed new_part after numbers long own

@@ -1,5 +1,7 @@
 pub mod Fresh
+pub mod Laws
 pub mod Met
+pub mod Rooms
 pub mod RunOf
 pub mod Slots
 pub mod Runs

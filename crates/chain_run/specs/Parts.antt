@@ -5,16 +5,19 @@ use Rattle.ts_outside.specs.Source.{SourceView}
 use Rattle.ts_outside.specs.Sink.{SinkView}
 use Rattle.chain_model.specs.PluginRule.{PluginRule}
 use Rattle.chain_core.specs.declared.stage_end.StageEnd.{StageEnd}
+use Rattle.stage_run.specs.Seeing.{Seeing}
 use Rattle.stage_run.specs.declared.stage_part.StagePart.{StagePart}
 use Rattle.stage_run.specs.PartLists.{PartLists, fresh_lists}
-use Rattle.stage_run.specs.PartStands.{PartStands, kind_of, rule_of, a_plugin}
+use Rattle.stage_run.specs.PartStands.{PartStands, kind_of, rule_of, steady_of, a_plugin}
 
-module _ {S K P : Type 0} (in_seen : S → SourceView) (out_seen : K → SinkView) (rule : P → PluginRule) (stands : P → List Cell → ℕ → Type 0) where
+module _ {S K P : Type 0} (see : Seeing S K P) where
   -- the stage of a plugin that has met nothing
   pub record MadeOf (part : StagePart S K P) (plugin : P) : Type 0 where
     pub kind : kind_of part ≡ a_plugin
-    pub same_rule : rule_of rule part ≡ rule plugin
-    pub fresh : (source : SourceView) (sink : SinkView) (mark : ℕ) → stands plugin [] mark → PartStands in_seen out_seen rule stands part (fresh_lists source sink mark) None
+    pub same_rule : rule_of see part ≡ see.rule plugin
+    pub same_steady : steady_of see part ≡ see.steady plugin
+    pub fresh : (source : SourceView) (sink : SinkView) (mark : ℕ) → see.stands plugin [] mark
+        → PartStands see part (fresh_lists source sink mark) None
 
   -- each is the stage of the plugin at its place
   abbrev pub AreMadeOf : List (StagePart S K P) → List P → Type 0
@@ -24,8 +27,9 @@ module _ {S K P : Type 0} (in_seen : S → SourceView) (out_seen : K → SinkVie
 
   -- the plugin that a stage gives back
   pub record TakenFrom (part : StagePart S K P) (plugin : P) : Type 0 where
-    pub same_rule : rule plugin ≡ rule_of rule part
-    pub holds : (lists : PartLists) (told : Option StageEnd) → PartStands in_seen out_seen rule stands part lists told → stands plugin lists.met lists.mark
+    pub same_rule : see.rule plugin ≡ rule_of see part
+    pub holds : (lists : PartLists) (told : Option StageEnd) → PartStands see part lists told
+        → see.stands plugin lists.met lists.mark
 
   -- each is the plugin that the stage at its place gives back; behind them stands the output's stage
   abbrev pub AreTakenFrom : List (StagePart S K P) → List P → Type 0

@@ -1,5 +1,6 @@
 //! Plugins on their way into the stages of a chain and back.
 ghost use Rattle.std.specs.Prelude.{◌≡◌, ◌+◌, ◌≤◌, ◌<◌, ◌++◌, ◌∷◌, [], ℕ, List, length, vec_len, vec_capacity};
+ghost use Rattle.stage_run.specs.Seeing.{seeing};
 ghost use Rattle.stage_run.specs.declared.stage_part.StagePart.{StagePart};
 ghost use Rattle.chain_run.specs.Fresh.{AreFresh};
 ghost use Rattle.chain_run.specs.Parts.{AreMadeOf, AreTakenFrom, ArePluginsAndOne};
@@ -15,7 +16,8 @@ pub(crate) fn add_plugins<S: Source, K: Sink, P: Plugin>(
 )
     requires room { vec_len parts.old + vec_len plugins.old ≤ vec_capacity parts.old }
     requires fresh { AreFresh P.stands_for plugins.old.items }
-    ensures made { (made : List (StagePart S K P)) × (parts.new.items ≡ parts.old.items ++ made) × AreMadeOf S.seen K.seen P.rule P.stands_for made plugins.old.items }
+    ensures made { (made : List (StagePart S K P)) × (parts.new.items ≡ parts.old.items ++ made)
+        × AreMadeOf (seeing S.seen K.seen P.rule P.stands_for P.steady) made plugins.old.items }
     ensures none_left { plugins.new.items ≡ [] }
     ensures room_left { vec_capacity plugins.new ≡ vec_capacity plugins.old }
     ensures capacity { vec_capacity parts.new ≡ vec_capacity parts.old }
@@ -33,8 +35,9 @@ pub(crate) fn take_plugins<S: Source, K: Sink, P: Plugin>(
     plugins: &mut Vec<P>,
 )
     requires room { vec_len plugins.old + vec_len parts.old ≤ vec_capacity plugins.old + 1 }
-    requires kinds { ArePluginsAndOne S.seen K.seen P.rule P.stands_for parts.old.items }
-    ensures taken { (made : List P) × (plugins.new.items ≡ plugins.old.items ++ made) × AreTakenFrom S.seen K.seen P.rule P.stands_for parts.old.items made }
+    requires kinds { ArePluginsAndOne (seeing S.seen K.seen P.rule P.stands_for P.steady) parts.old.items }
+    ensures taken { (made : List P) × (plugins.new.items ≡ plugins.old.items ++ made)
+        × AreTakenFrom (seeing S.seen K.seen P.rule P.stands_for P.steady) parts.old.items made }
     ensures one_left { (first : List (StagePart S K P)) × (parts.old.items ≡ first ++ parts.new.items) }
     ensures one { vec_len parts.new ≡ 1 }
 {

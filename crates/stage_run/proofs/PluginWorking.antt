@@ -9,7 +9,8 @@ use Rattle.chain_model.specs.Apply.{StageList, OwnEnd, last_passed, stopped, ref
 use Rattle.chain_model.specs.Joint.{agreement_of}
 use Rattle.chain_model.proofs.ApplyLaws.{apply-ended, apply-last}
 use Rattle.chain_model.proofs.PrefixLemmas.{IsPrefix-apply}
-use Rattle.plugin_trait.specs.Driving.{Makes}
+use Rattle.plugin_trait.specs.Driving.{Makes, end_of_window, made_so_far, TellsAgreement, newly_agreed}
+use Rattle.plugin_trait.specs.Steps.{IsSteadyFor}
 use Rattle.plugin_trait.specs.declared.list_end.ListEnd.{ListEnd}
 use Rattle.plugin_trait.specs.declared.list_end.ListEnd.TheVariants.{Through}
 use Rattle.plugin_trait.specs.declared.list_end.ListEnd.TheVariants as window
@@ -23,11 +24,11 @@ use Rattle.stage_run.specs.declared.work.Work.{Work}
 use Rattle.stage_run.specs.declared.plugin_stage.PluginStage.{PluginStage}
 use Rattle.stage_run.specs.PartLists.{PartLists}
 use Rattle.stage_run.specs.PartStands.{MayWork}
-use Rattle.stage_run.specs.PluginSteps.{told_by, end_of_window, made_so_far, TellsAgreement, StandsBelow}
+use Rattle.stage_run.specs.PluginSteps.{told_by}
 use Rattle.stage_run.specs.PluginStands.{PluginStands, end_behind_met}
-use Rattle.stage_run.specs.Telling.{may_follow, followed, FollowsNews, newly_agreed, told_of}
+use Rattle.stage_run.specs.Telling.{may_follow, followed, FollowsNews, told_of}
 use Rattle.stage_run.specs.Works.{Works, PluginWorks, PluginTells}
-use Rattle.stage_run.proofs.FarLemmas.{apply_after-append, apply_after-same_length}
+use Rattle.plugin_trait.proofs.FarLemmas.{apply_after-append, apply_after-same_length}
 
 -- an agreement that is told is the one that holds, and is above what was given before
 pub newly_agreed-Some : (before : ℕ) (a : Option ℕ) (n : ℕ) → newly_agreed before a ≡ Some n → (before < n) × (a ≡ Some n)
@@ -149,6 +150,23 @@ last_told window.Stop news now e = cc
 last_told (window.Refuse reason) news now e = cc
 last_told window.NoMemory news now e = cc
 
+-- that memory was wanted is told where the plugin wanted it, and there alone
+pub no_memory_told : (end : ListEnd) (news : News) (now : ℕ) → told_by end news now ≡ Some NoMemory → end ≡ window.NoMemory
+no_memory_told Through news now e = absurd (by_follow (may_follow news now) e)
+  where
+    by_follow : (b : Bool) → (if b then Some Followed else None) ≡ Some NoMemory → ⊥
+    by_follow true e = cc
+    by_follow false e = cc
+no_memory_told window.Last news now e = cc
+no_memory_told window.Stop news now e = cc
+no_memory_told (window.Refuse reason) news now e = cc
+no_memory_told window.NoMemory news now e = refl
+
+-- what there is room for, there is room for less of
+pub steady_less : (steady : Option ℕ) (more less : ℕ) → less ≤ more → IsSteadyFor steady more → IsSteadyFor steady less
+steady_less None more less le is = absurd is
+steady_less (Some room) more less le is = omega arith
+
 tells_followed : (b : Bool) (list : StageList) (given : List Cell) (news : News) → given ≡ list.cells → list.ended ≡ None → may_follow news (length given) ≡ b
     → PluginTells list given news (if b then Some Followed else None)
 tells_followed true list given news all none e = (all, sym (cond-true _ _ _ e) ∙ ap (λ (o : Option OwnEnd). told_of o news (length given)) (sym none))
@@ -199,10 +217,11 @@ module _ {P : Type 0} (rule_at : P → PluginRule) (stands : P → List Cell →
       → length cells_new ≡ length cells → done ≤ length cells
       → Makes (apply_after (rule_at old.plugin) lists.met cells) (take done cells_new) end
       → apply_after (rule_at old.plugin) lists.met (take done cells) ≡ made_so_far (take done cells_new) end
-      → StandsBelow (stands new.plugin) (lists.met ++ take done cells) written
+      → (mark : ℕ) → stands new.plugin (lists.met ++ take done cells) mark → mark ≤ written
+      → (0 < length cells → (end ≡ window.NoMemory → ⊥) → mark ≡ news.written)
       → TellsAgreement (rule_at old.plugin) (lists.met ++ take done cells) at agreed new.agreed
       → Works (PluginStands rule_at stands new) (PluginWorks (rule_at old.plugin) lists news cells cells_new (plugin_work done agreed end news (at + done))) lists written cells cells_new (plugin_work done agreed end news (at + done))
-  plugin_works old new lists news cells cells_new at written done agreed end may same_rule long few makes far below tells =
+  plugin_works old new lists news cells cells_new at written done agreed end may same_rule long few makes far mark holds below marked tells =
       let rule : PluginRule = rule_at old.plugin in
       let was : PluginStands rule_at stands old lists None = may.goes_on in
       let made : List Cell = take done cells_new in
@@ -218,10 +237,10 @@ module _ {P : Type 0} (rule_at : P → PluginRule) (stands : P → List Cell →
       let told_here : told_by end news (length (lists.given ++ made)) ≡ told_by end news (at + done) = ap (told_by end news) now_is in
       let tells_here : agreed ≡ newly_agreed (length lists.given) (agreement_of rule met) = tells.tells ∙ ap (λ (n : ℕ). newly_agreed n (agreement_of rule met)) (sym given_is) in
       record {
-        after = lists_met lists (take done cells) made below.mark;
-        behind = record { met = refl; given = refl; read = ([], sym (append-nil lists.read)); source = refl; sink = refl; mark = below.below };
+        after = lists_met lists (take done cells) made mark;
+        behind = record { met = refl; given = refl; read = ([], sym (append-nil lists.read)); source = refl; sink = refl; mark = below };
         stands = record {
-          plugin = below.holds;
+          plugin = holds;
           given = sym (ap (λ (l : StageList). l.cells) all) ∙ ap (λ (r : PluginRule). (apply r met).cells) (sym same_rule);
           length_same = omega (arith, length-append lists.given made, length-append lists.met (take done cells));
           ended = ap (λ (r : PluginRule). (apply r met).ended) same_rule ∙ ap (λ (l : StageList). l.ended) all ∙ end_same end news (at + done);
@@ -231,6 +250,7 @@ module _ {P : Type 0} (rule_at : P → PluginRule) (stands : P → List Cell →
           tells = subst (λ (t : Option StageEnd). PluginTells (apply rule (lists.met ++ cells)) (lists.given ++ made) news t) told_here
               (tells_by end (apply_after rule lists.met cells) (apply rule (lists.met ++ cells)) lists.given made news whole_is makes);
           agreed = tells_here;
+          told = λ some fine. marked some (λ e. fine (ap (λ (x : ListEnd). told_by x news (at + done)) e));
           keeps = λ plugins j rules input rest e.
               let took : List Cell = lists.met ++ (cells ++ rest) in
               let now : ℕ = length lists.given + length made in

@@ -1,3 +1,4 @@
+pub mod Seeing
 pub mod PartLists
 pub mod Rows
 pub mod Feeds

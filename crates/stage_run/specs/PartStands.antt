@@ -15,6 +15,8 @@ use Rattle.stage_run.specs.declared.packet_feed.PacketFeed.{PacketFeed}
 use Rattle.stage_run.specs.declared.packet_feed.PacketFeed.TheVariants as feed
 use Rattle.stage_run.specs.declared.stage_part.StagePart.{StagePart}
 use Rattle.stage_run.specs.declared.stage_part.StagePart.TheVariants.{Input, Plugin, Output}
+use Rattle.plugin_trait.specs.Steps.{IsSteadyFor}
+use Rattle.stage_run.specs.Seeing.{Seeing}
 use Rattle.stage_run.specs.PartLists.{PartLists}
 use Rattle.stage_run.specs.InputStands.{InputStands, MayGive, stuffing_of}
 use Rattle.stage_run.specs.PluginStands.{PluginStands}
@@ -32,10 +34,16 @@ kind_of (Plugin stage) = a_plugin
 kind_of (Output stage) = an_output
 
 -- the rule by which a part makes its list of the cells that it meets: an output passes everything
-abbrev pub rule_of : {S K P : Type 0} → (P → PluginRule) → StagePart S K P → PluginRule
-rule_of rule (Input stage) = passing_rule
-rule_of rule (Plugin stage) = rule stage.plugin
-rule_of rule (Output stage) = passing_rule
+abbrev pub rule_of : {S K P : Type 0} → Seeing S K P → StagePart S K P → PluginRule
+rule_of see (Input stage) = passing_rule
+rule_of see (Plugin stage) = see.rule stage.plugin
+rule_of see (Output stage) = passing_rule
+
+-- where it is a number, a plugin made room before the run for notes on so many positions behind its mark
+abbrev pub steady_of : {S K P : Type 0} → Seeing S K P → StagePart S K P → Option ℕ
+steady_of see (Input stage) = None
+steady_of see (Plugin stage) = see.steady stage.plugin
+steady_of see (Output stage) = None
 
 -- the stuffing of an input
 abbrev pub stuffing_in : {S K P : Type 0} → StagePart S K P → Option model.Stuffing
@@ -65,19 +73,27 @@ has_stream (Plugin stage) = false
 has_stream (Output stage) = has_sink stage.part
 
 -- the part met, gave, read and wrote what these lists say, and told this end
-abbrev pub PartStands : {S K P : Type 0} → (S → SourceView) → (K → SinkView) → (P → PluginRule) → (P → List Cell → ℕ → Type 0) → StagePart S K P → PartLists → Option StageEnd → Type 0
-PartStands source sink rule stands (Input stage) lists told = InputStands source stage lists told
-PartStands source sink rule stands (Plugin stage) lists told = PluginStands rule stands stage lists told
-PartStands source sink rule stands (Output stage) lists told = OutputStands sink stage lists told
+abbrev pub PartStands : {S K P : Type 0} → Seeing S K P → StagePart S K P → PartLists → Option StageEnd
+    → Type 0
+PartStands see (Input stage) lists told = InputStands see.source stage lists told
+PartStands see (Plugin stage) lists told = PluginStands see.rule see.stands stage lists told
+PartStands see (Output stage) lists told = OutputStands see.sink stage lists told
 
 -- the list of the chain's input may be this one, as far as this part knows; only an input knows of it
-abbrev pub PartGives : {S K P : Type 0} → (S → SourceView) → StagePart S K P → PartLists → StageList → Type 0
-PartGives source (Input stage) lists input = MayGive source stage lists input
-PartGives source (Plugin stage) lists input = Unit {0}
-PartGives source (Output stage) lists input = Unit {0}
+abbrev pub PartGives : {S K P : Type 0} → Seeing S K P → StagePart S K P → PartLists → StageList → Type 0
+PartGives see (Input stage) lists input = MayGive see.source stage lists input
+PartGives see (Plugin stage) lists input = Unit {0}
+PartGives see (Output stage) lists input = Unit {0}
+
+-- a stage may want memory that works on so many positions behind the mark: a plugin's, where no room was made for them
+abbrev pub MayWantMemory : {S K P : Type 0} → Seeing S K P → StagePart S K P → ℕ → Type 0
+MayWantMemory see (Input stage) ahead = ⊥
+MayWantMemory see (Plugin stage) ahead = IsSteadyFor (see.steady stage.plugin) ahead → ⊥
+MayWantMemory see (Output stage) ahead = ⊥
 
 -- a part that stands for these lists, and has not ended, may work behind its first `at` cells with this mark
-pub record MayWork (stands : PartLists → Option StageEnd → Type 0) (at written : ℕ) (lists : PartLists) : Type 0 where
+pub record MayWork (stands : PartLists → Option StageEnd → Type 0) (at written : ℕ)
+    (lists : PartLists) : Type 0 where
   pub goes_on : stands lists None
   pub given : length lists.given ≡ at
   pub mark : lists.mark ≤ written

@@ -1,4 +1,5 @@
 ghost use Rattle.std.specs.Prelude.{◌≡◌, ◌+◌, ◌≤◌, [], None, IfOk, length, false};
+ghost use Rattle.stage_run.specs.Seeing.{seeing};
 ghost use Rattle.stage_run.specs.PartStands.{PartStands, MayWorkOnSome, kind_of, an_input, a_plugin, an_output};
 
 use super::*;
@@ -82,16 +83,10 @@ fn files(alloc: Global, packets: usize) -> Result<FileList, AllocError> {
 fn plan(alloc: Global, read: u64, write: u64) -> Result<FailPlan, AllocError>
     ensures { IfOk result (λ p. (p.read_piece ≡ 1000) × (p.write_piece ≡ 300)) }
 {
-    Ok(FailPlan {
-        opens: NumberList::of(Vec::new(alloc)),
-        reads: NumberList::of(vec![in alloc; read]?),
-        writes: NumberList::of(vec![in alloc; write]?),
-        reports: NumberList::of(Vec::new(alloc)),
-        closes: NumberList::of(Vec::new(alloc)),
-        read_piece: 1000,
-        write_piece: 300,
-        room: 1000,
-    })
+    let mut plan = FailPlan::none(alloc, 1000, 300, 1000);
+    plan.reads = NumberList::of(vec![in alloc; read]?);
+    plan.writes = NumberList::of(vec![in alloc; write]?);
+    Ok(plan)
 }
 
 /// A desk with a file `in` of so many packets. Calls are numbered from 1, so that with 0 none fails.
@@ -101,7 +96,8 @@ fn desk(alloc: Global, packets: usize, read: u64, write: u64) -> Result<MemoryDe
 
 /// News of ten cells, of which none is written.
 fn news(limit: Option<u64>) -> News
-    ensures { result ≡ record { taken = 10; limit = limit; written = 0; before_over = false; after_over = false } }
+    ensures { result
+        ≡ record { taken = 10; limit = limit; written = 0; before_over = false; after_over = false } }
 {
     News {
         taken: 10,
@@ -118,7 +114,7 @@ fn input<S: Source, K: Sink, P: Plugin>(
     start: u64,
     room: IoBuffer,
 ) -> StagePart<S, K, P>
-    ensures may { MayWorkOnSome (PartStands S.seen K.seen P.rule P.stands_for result) 0 0 }
+    ensures may { MayWorkOnSome (PartStands (seeing S.seen K.seen P.rule P.stands_for P.steady) result) 0 0 }
     ensures kind { kind_of result ≡ an_input }
 {
     let stuffing = Stuffing {
@@ -132,7 +128,7 @@ fn input<S: Source, K: Sink, P: Plugin>(
 
 /// A new output, which may work.
 fn output<S: Source, K: Sink, P: Plugin>(part: OutputPart<K>, room: IoBuffer) -> StagePart<S, K, P>
-    ensures may { MayWorkOnSome (PartStands S.seen K.seen P.rule P.stands_for result) 0 0 }
+    ensures may { MayWorkOnSome (PartStands (seeing S.seen K.seen P.rule P.stands_for P.steady) result) 0 0 }
     ensures kind { kind_of result ≡ an_output }
 {
     StagePart::of_output(part, room)
@@ -141,7 +137,7 @@ fn output<S: Source, K: Sink, P: Plugin>(part: OutputPart<K>, room: IoBuffer) ->
 /// A new plugin's stage, which may work.
 fn plugin<S: Source, K: Sink, P: Plugin>(plugin: P) -> StagePart<S, K, P>
     requires fresh { P.stands_for plugin [] 0 }
-    ensures may { MayWorkOnSome (PartStands S.seen K.seen P.rule P.stands_for result) 0 0 }
+    ensures may { MayWorkOnSome (PartStands (seeing S.seen K.seen P.rule P.stands_for P.steady) result) 0 0 }
     ensures kind { kind_of result ≡ a_plugin }
 {
     StagePart::of_plugin(plugin)
@@ -154,10 +150,12 @@ fn work<S: Source, K: Sink, P: Plugin>(
     cells: &mut [Cell],
     limit: Option<u64>,
 ) -> Work
-    requires may { MayWorkOnSome (PartStands S.seen K.seen P.rule P.stands_for part.old) at 0 }
+    requires may { MayWorkOnSome (PartStands (seeing S.seen K.seen P.rule P.stands_for P.steady) part.old) at
+        0 }
     requires few { at + length cells.old ≤ 10 }
     ensures again { result.word.ended ≡ None
-        → MayWorkOnSome (PartStands S.seen K.seen P.rule P.stands_for part.new) (at + length cells.old) 0 }
+        → MayWorkOnSome (PartStands (seeing S.seen K.seen P.rule P.stands_for P.steady) part.new)
+        (at + length cells.old) 0 }
     ensures kind { kind_of part.new ≡ kind_of part.old }
 {
     part.work(1, at, cells, &news(limit), &OpenGate)
@@ -198,7 +196,8 @@ fn gives<S: Source, K: Sink, P: Plugin>(
     first: &mut [Cell; 2],
     second: &mut [Cell; 2],
 ) -> Gave
-    requires may { MayWorkOnSome (PartStands S.seen K.seen P.rule P.stands_for part.old) 0 0 }
+    requires may { MayWorkOnSome (PartStands (seeing S.seen K.seen P.rule P.stands_for P.steady) part.old) 0 0
+        }
     ensures kind { kind_of part.new ≡ kind_of part.old }
 {
     let one = work(part, 0, first, None);

@@ -1,5 +1,6 @@
 -- The stream theorem of calls that ended before the chain ran.
 use Rattle.std.proofs.Common.{◌≡◌, ℕ, ◌≤◌, List, [], ◌∷◌, ◌++◌, Bool, true, false, Option, Err, refl, ap, sym, ◌∙◌, subst, take, length, codes, inl, arith}
+use Rattle.std.specs.Prelude.{IsSome}
 use Rattle.std.proofs.lemmas.List.{take_all, take-append-le}
 use Rattle.ts_packet.specs.declared.cell.Cell.{Cell}
 use Rattle.chain_args.specs.declared.plan_type.Plan.{Plan}
@@ -20,14 +21,14 @@ use Rattle.ts_outside.specs.Desk.{DeskView}
 use Rattle.ts_outside.proofs.Views.{HasCause-raised, grown-grown}
 use Rattle.chain_run.specs.Fresh.{AreFresh}
 use Rattle.tsp_top.specs.Saying.{Says}
-use Rattle.tsp_top.specs.PlannedChain.{chain_of, input_name, output_name}
+use Rattle.tsp_top.specs.PlannedChain.{input_name, output_name}
 use Rattle.tsp_top.specs.Openings.{asked_input, asked_input_in_vain, asked_output_in_vain, NamesInput, NamesOutput, OpensInput, input_closed_as}
 use Rattle.tsp_top.specs.CallEnd.{no_input, no_output, out_of_memory}
-use Rattle.tsp_top.specs.StreamTheorem.{StreamTheorem, EndsRight, Reads, Writes, Reports, asked_for}
+use Rattle.tsp_top.specs.StreamTheorem.{StreamTheorem, asked_for}
 use Rattle.tsp_top.specs.declared.status.Status.TheVariants.{NoMemory, ReadFault, WriteFault}
 use Rattle.tsp_top.proofs.DeskLemmas.{SameOutside, same-asked_input, asked-asked_input, leaves-input_closed, outputs-input_closed, write_faults-input_closed, leaves-says}
-use Rattle.tsp_top.proofs.SourceLemmas.{reads-nothing}
-use Rattle.tsp_top.proofs.StreamLemmas.{if-some, reports-text}
+use Rattle.tsp_top.proofs.SourceLemmas.{reads-nothing, some-files}
+use Rattle.tsp_top.proofs.StreamLemmas.{reports-text}
 
 -- an opening in vain changes what was asked and one count of faults
 in-vain-input : (d : DeskView) (conf : InputConf) → NamesInput conf
@@ -44,6 +45,15 @@ in-vain-output d (output.File name) named =
     (record { files = refl; outputs = refl; reported = refl; closed_in = refl; report_faults = refl }, HasCause-raised d.write_faults, refl)
 in-vain-output d output.Drop named = absurd named
 
+-- what is opened has a name
+input-named : (conf : InputConf) → NamesInput conf → IsSome (input_name conf)
+input-named (input.File name) named = refl
+input-named (input.Null count) named = absurd named
+
+output-named : (conf : OutputConf) → NamesOutput conf → IsSome (output_name conf)
+output-named (output.File name) named = refl
+output-named output.Drop named = absurd named
+
 -- the input was not opened
 pub no-input-theorem : (plan : Plan) (old made new : DeskView) (failed : Bool) → NamesInput plan.input → made ≡ asked_input_in_vain old plan.input
     → Says made new (codes "tsp: cannot open input" ++ 10 ∷ []) failed → StreamTheorem plan old new ReadFault
@@ -53,14 +63,18 @@ no-input-theorem plan old made new failed named asked says =
     let said : Says vain new text failed = subst (λ (d : DeskView). Says d new text failed) asked says in
     let v = in-vain-input old plan.input named in
     let l = leaves-says vain new text failed said in
+    let files = some-files old in
     record {
       end = no_input;
       status_tells_cause = (refl, subst (λ (n : ℕ). HasCause old.read_faults n) (sym l.read_faults) v.1);
-      pure_or_fault = if-some old.files (λ files. EndsRight (chain_of plan files) no_input) (λ files is. tt);
-      reads = if-some old.files (λ files. Reads plan files old new no_input) (λ files is. l.closed_in ∙ v.0.closed_in);
-      written = if-some old.files (λ files. Writes plan (chain_of plan files) old new no_input) (λ files is. l.outputs ∙ v.0.outputs);
-      reported = if-some old.files (λ files. Reports (chain_of plan files) old new no_input)
-          (λ files is. reports-text old vain new text failed v.0.reported v.0.report_faults said);
+      files = files.0;
+      files_are = files.1;
+      can_end = input-named plan.input named;
+      pure_or_fault = tt;
+      memory_first = λ steady. tt;
+      reads = l.closed_in ∙ v.0.closed_in;
+      written = l.outputs ∙ v.0.outputs;
+      reported = reports-text old vain new text failed v.0.reported v.0.report_faults said;
       opened = l.asked ∙ v.2;
       files_stay = l.files ∙ v.0.files;
     }
@@ -79,6 +93,7 @@ no-output-theorem seen plan old made new part failed opens named asked says =
     let v = in-vain-output first plan.output named in
     let c = leaves-input_closed seen vain part in
     let l = leaves-says closed new text failed said in
+    let files = some-files old in
     record {
       end = no_output;
       status_tells_cause = (
@@ -86,13 +101,14 @@ no-output-theorem seen plan old made new part failed opens named asked says =
         subst (λ (n : ℕ). HasCause n new.write_faults) a.1.write_faults
             (subst (λ (n : ℕ). HasCause first.write_faults n) (sym (l.write_faults ∙ write_faults-input_closed seen vain part)) v.1),
       );
-      pure_or_fault = if-some old.files (λ files. EndsRight (chain_of plan files) no_output) (λ files is. tt);
-      reads = if-some old.files (λ files. Reads plan files old new no_output)
-          (λ files told. reads-nothing seen old vain new files plan.input part told opens (v.0.closed_in ∙ a.0.closed_in) l.closed_in);
-      written = if-some old.files (λ files. Writes plan (chain_of plan files) old new no_output)
-          (λ files is. l.outputs ∙ outputs-input_closed seen vain part ∙ v.0.outputs ∙ a.0.outputs);
-      reported = if-some old.files (λ files. Reports (chain_of plan files) old new no_output)
-          (λ files is. reports-text old closed new text failed (c.reported ∙ v.0.reported ∙ a.0.reported) (c.report_faults ∙ v.0.report_faults ∙ a.0.report_faults) said);
+      files = files.0;
+      files_are = files.1;
+      can_end = output-named plan.output named;
+      pure_or_fault = tt;
+      memory_first = λ steady. tt;
+      reads = reads-nothing seen old vain new files.0 plan.input part files.1 opens (v.0.closed_in ∙ a.0.closed_in) l.closed_in;
+      written = l.outputs ∙ outputs-input_closed seen vain part ∙ v.0.outputs ∙ a.0.outputs;
+      reported = reports-text old closed new text failed (c.reported ∙ v.0.reported ∙ a.0.reported) (c.report_faults ∙ v.0.report_faults ∙ a.0.report_faults) said;
       opened = l.asked ∙ c.asked ∙ v.2
           ∙ ap (λ (o : Option (List Asked)). grown o (asked_for Output (output_name plan.output) false)) (asked-asked_input old plan.input)
           ∙ grown-grown old.asked (asked_for Input (input_name plan.input) true) (asked_for Output (output_name plan.output) false);
@@ -115,15 +131,18 @@ no-memory-theorem seen plan old new part opens is =
     let c = leaves-input_closed seen first part in
     let reported : new.reported ≡ old.reported = ap (λ (d : DeskView). d.reported) is ∙ c.reported ∙ a.0.reported in
     let report_faults : new.report_faults ≡ old.report_faults = ap (λ (d : DeskView). d.report_faults) is ∙ c.report_faults ∙ a.0.report_faults in
+    let files = some-files old in
     record {
       end = out_of_memory;
       status_tells_cause = refl;
-      pure_or_fault = if-some old.files (λ files. EndsRight (chain_of plan files) out_of_memory) (λ files is. tt);
-      reads = if-some old.files (λ files. Reads plan files old new out_of_memory)
-          (λ files told. reads-nothing seen old first new files plan.input part told opens a.0.closed_in (ap (λ (d : DeskView). d.closed_in) is));
-      written = if-some old.files (λ files. Writes plan (chain_of plan files) old new out_of_memory)
-          (λ files told. inl (ap (λ (d : DeskView). d.outputs) is ∙ outputs-input_closed seen first part ∙ a.0.outputs));
-      reported = if-some old.files (λ files. Reports (chain_of plan files) old new out_of_memory) (λ files told. (reported, report_faults));
+      files = files.0;
+      files_are = files.1;
+      can_end = tt;
+      pure_or_fault = tt;
+      memory_first = λ steady. tt;
+      reads = reads-nothing seen old first new files.0 plan.input part files.1 opens a.0.closed_in (ap (λ (d : DeskView). d.closed_in) is);
+      written = inl (ap (λ (d : DeskView). d.outputs) is ∙ outputs-input_closed seen first part ∙ a.0.outputs);
+      reported = (reported, report_faults);
       opened = (
         length one,
         ap (λ (d : DeskView). d.asked) is ∙ c.asked ∙ asked-asked_input old plan.input

@@ -1,27 +1,35 @@
 -- The headline, from the stream theorem.
-use Rattle.std.proofs.Common.{◌≡◌, inl, inr, ℕ, List, ◌++◌, true, false, Some, None, refl, ap, sym, ◌∙◌, subst, arith, append-nil}
+use Rattle.std.proofs.Common.{◌≡◌, ◌⊎◌, inl, inr, ℕ, List, [], ◌++◌, map, Bool, true, false, if◌then◌else◌, Option, Some, None, refl, ap, sym, ◌∙◌, subst, arith, append-nil}
 use Rattle.std.specs.Prelude.{IsTrue, IfSome, is_some}
 use Rattle.std.proofs.lemmas.Bool.{cond-true}
 use Rattle.chain_model.specs.declared.input_end.InputEnd.TheVariants.{End, Sync, ReadFault, TooLong}
 use Rattle.chain_model.specs.declared.cause.Cause.{Cause}
 use Rattle.chain_model.specs.declared.cause.Cause.TheVariants.{Input, Joint, Until, Stop, Refuse, WriteFault, NoMemory}
-use Rattle.chain_model.specs.Cut.{cut_of, is_fault}
-use Rattle.chain_model.specs.PureRun.{Chain, written_to, reported_at}
+use Rattle.chain_model.specs.Cut.{is_fault}
+use Rattle.chain_model.specs.InputList.{InputList, input_of_bytes}
+use Rattle.chain_model.specs.PureRun.{Chain, chain_cut, pure_run, written_to, reported_at}
+use Rattle.chain_model.specs.Stuffed.{Stuffing, stuffed}
+use Rattle.plug_set.specs.declared.plugin_conf.PluginConf.{PluginConf}
 use Rattle.chain_args.specs.PlanOf.{plan_of}
 use Rattle.chain_args.specs.WordsFault.{IsFirstFault}
+use Rattle.chain_args.specs.declared.input_conf.InputConf.{InputConf}
+use Rattle.chain_args.specs.declared.input_conf.InputConf.TheVariants as input
 use Rattle.chain_args.specs.declared.plan_type.Plan.{Plan}
-use Rattle.chain_args.specs.declared.words_rule.WordsRule.{WordsRule}
+use Rattle.option_words.specs.declared.words_rule.WordsRule.{WordsRule}
 use Rattle.chain_args.specs.declared.words_fault.WordsFault.TheVariants.{At}
 use Rattle.ts_outside.specs.Count.{HasCause, IsQuiet}
 use Rattle.ts_outside.specs.Told.{grown}
-use Rattle.ts_outside.specs.Desk.{DeskView}
-use Rattle.tsp_top.specs.CallEnd.{CallEnd, no_input, no_output, ran, unreported, out_of_memory, status_of, FaultRose, StatusTellsCause}
-use Rattle.tsp_top.specs.PlannedChain.{chain_of, output_name}
+use Rattle.ts_outside.specs.Desk.{DeskView, file_of}
+use Rattle.tsp_top.specs.CallEnd.{CallEnd, no_input, no_output, ran, unreported, out_of_memory, status_of, status_when_late, FaultRose, StatusTellsCause}
+use Rattle.tsp_top.specs.MemoryFirst.{AreSteady, NoStageWants, IsMemoryFirst}
+use Rattle.tsp_top.specs.PlannedChain.{chain_of, input_of, named_rule_of, output_name, stuffing_of, users_from, users_of}
 use Rattle.tsp_top.specs.StreamTheorem.{EndsRight, IsWrittenTo, outputs_with, Writes, Reports, StreamTheorem}
 use Rattle.tsp_top.specs.TspCall.{CallsTsp}
-use Rattle.tsp_top.specs.Headline.{NothingFails, IsPureOrWants}
+use Rattle.tsp_top.specs.Headline.{TellsInput, NothingFails, IsPureOrWants, IsPureOfSome, EndsWell, SameButSizes}
+use Rattle.tsp_top.specs.WantsMemory.{WantsMemoryFirst}
 use Rattle.tsp_top.specs.declared.status.Status.{Status}
 use Rattle.tsp_top.specs.declared.status.Status.TheVariants as status
+use Rattle.tsp_top.proofs.SourceLemmas.{some-files}
 
 -- where no fault happened there is none to tell
 quiet-no_cause : (old new : ℕ) → IsQuiet old new → HasCause old new → ⊥
@@ -60,12 +68,12 @@ module _ (plan : Plan) (files : List (List ℕ × List ℕ)) (old new : DeskView
   abbrev chain : Chain
   chain = chain_of plan files
 
-  by-end : (end : CallEnd) → StatusTellsCause old new answer end → EndsRight chain end → Writes plan chain old new end → Reports chain old new end → IsPureOrWants plan files old new answer
+  by-end : (end : CallEnd) → StatusTellsCause (output_name plan.output) old new answer end → EndsRight chain end → Writes plan chain old new end → Reports chain old new end → IsPureOrWants plan files old new answer
   by-end no_input tells right writes reports = absurd (quiet-no_cause old.read_faults new.read_faults fine.reads tells.1)
   by-end no_output tells right writes reports = absurd (quiet-no_cause old.write_faults new.write_faults fine.writes tells.1)
   by-end (ran cut why true) tells right writes reports =
       elim tells.2 [
-        | inl write ↦ absurd (quiet-no_cause old.write_faults new.write_faults fine.writes write)
+        | inl write ↦ absurd (quiet-no_cause old.write_faults new.write_faults fine.writes write.1)
         | inr report ↦ absurd (quiet-no_cause old.report_faults new.report_faults fine.reports report)
       ]
   by-end (ran cut why false) tells right writes reports =
@@ -74,7 +82,7 @@ module _ (plan : Plan) (files : List (List ℕ × List ℕ)) (old new : DeskView
         | inl pure ↦ inr (record {
           written = writes.1 ∙ ap (λ l. outputs_with (output_name plan.output) old.outputs l) (whole-bytes chain cut why writes.0 faults.0 writes.2 ∙ ap (written_to chain) pure.0);
           reported = elim reports [
-            | inl whole ↦ whole.0 ∙ ap (λ l. grown old.reported l) (ap (λ m. reported_at chain m why) pure.0 ∙ ap (reported_at chain (cut_of chain.rules chain.input chain.users)) pure.1)
+            | inl whole ↦ whole.0 ∙ ap (λ l. grown old.reported l) (ap (λ m. reported_at chain m why) pure.0 ∙ ap (reported_at chain (chain_cut chain)) pure.1)
             | inr part ↦ absurd (quiet-no_cause old.report_faults new.report_faults fine.reports part.3)
           ];
           answered = tells.0 ∙ ap status_of pure.1;
@@ -91,19 +99,124 @@ no-fault words plan word rule is fault =
     let none : plan_of words ≡ None = cond-true _ _ _ (ap is_some fault) in
     let e : None ≡ Some plan = sym none ∙ is in absurd cc
 
-pub headline : (words : List (List ℕ)) (plan : Plan) (files : List (List ℕ × List ℕ)) (old new : DeskView) (answer : Status)
-    → plan_of words ≡ Some plan → old.files ≡ Some files → CallsTsp words old new answer → NothingFails old new → IsPureOrWants plan files old new answer
-headline words plan files old new answer is told calls fine =
+-- a call whose words have a plan: the stream theorem of it, or memory was wanting before anything was opened
+pub planned-call : (words : List (List ℕ)) (plan : Plan) (old new : DeskView) (answer : Status) → plan_of words ≡ Some plan → CallsTsp words old new answer
+    → StreamTheorem plan old new answer ⊎ ((answer ≡ status.NoMemory) × (new ≡ old))
+planned-call words plan old new answer is calls =
     elim calls [
       | inl planned ↦ (let e : Some planned.0 ≡ Some plan = sym planned.1 ∙ is in
-          let same : planned.0 ≡ plan = cc in
-          let t : StreamTheorem plan old new answer = subst (λ p. StreamTheorem p old new answer) same planned.2 in
-          by-end plan files old new answer fine t.end t.status_tells_cause
-          (subst (λ o. IfSome o (λ fs. EndsRight (chain_of plan fs) t.end)) told t.pure_or_fault)
-          (subst (λ o. IfSome o (λ fs. Writes plan (chain_of plan fs) old new t.end)) told t.written)
-          (subst (λ o. IfSome o (λ fs. Reports (chain_of plan fs) old new t.end)) told t.reported))
+          let same : planned.0 ≡ plan = cc in inl (subst (λ p. StreamTheorem p old new answer) same planned.2))
       | inr other ↦ elim other [
         | inl refused ↦ absurd (no-fault words plan refused.0 refused.1 is refused.2)
-        | inr wanting ↦ inl wanting.0
+        | inr wanting ↦ inr wanting
       ]
+    ]
+
+-- over any desk, for the files of the theorem
+pub of-some : (words : List (List ℕ)) (plan : Plan) (old new : DeskView) (answer : Status)
+    → plan_of words ≡ Some plan → CallsTsp words old new answer → NothingFails old new → IsPureOfSome plan old new answer
+of-some words plan old new answer is calls fine =
+    elim (planned-call words plan old new answer is calls) [
+      | inl t ↦ (t.files, t.files_are, by-end plan t.files old new answer fine t.end t.status_tells_cause t.pure_or_fault t.written t.reported)
+      | inr wanting ↦ (let files = some-files old in (files.0, files.1, inl wanting.0))
+    ]
+
+-- a plan's chain over two lists of files, where the input is told, is one
+same-chain : (conf : InputConf) (desk : DeskView) (files other : List (List ℕ × List ℕ)) → TellsInput conf desk files → IfSome desk.files (λ told. other ≡ told)
+    → input_of conf other ≡ input_of conf files
+same-chain (input.File name) desk files other tells is =
+    let same : other ≡ files = subst (λ (o : Option (List (List ℕ × List ℕ))). IfSome o (λ told. other ≡ told)) tells is in
+    ap (λ (fs : List (List ℕ × List ℕ)). input_of_bytes (file_of fs name)) same
+same-chain (input.Null count) desk files other tells is = refl
+
+pub headline : (words : List (List ℕ)) (plan : Plan) (files : List (List ℕ × List ℕ)) (old new : DeskView) (answer : Status)
+    → plan_of words ≡ Some plan → TellsInput plan.input old files → CallsTsp words old new answer → NothingFails old new → IsPureOrWants plan files old new answer
+headline words plan files old new answer is tells calls fine =
+    let some = of-some words plan old new answer is calls fine in
+    let chain : InputList → Chain = λ i. record { input = stuffed (stuffing_of plan.general) i; plugins = map named_rule_of plan.plugins; users = users_of plan } in
+    elim some.2 [
+      | inl wants ↦ inl wants
+      | inr pure ↦ (let same : chain (input_of plan.input some.0) ≡ chain (input_of plan.input files) = ap chain (same-chain plan.input old files some.0 tells some.1) in inr (record {
+        written = pure.written ∙ ap (λ (c : Chain). outputs_with (output_name plan.output) old.outputs (pure_run c).written) same;
+        reported = pure.reported ∙ ap (λ (c : Chain). grown old.reported (pure_run c).reported) same;
+        answered = pure.answered ∙ ap (λ (c : Chain). status_of (pure_run c).cause) same;
+      }))
+    ]
+
+-- a cause that is no fault gives the status `Done`
+well-done : (why : Cause) → EndsWell why → status_of why ≡ status.Done
+well-done (Input (End left)) well = refl
+well-done (Input (Sync packet)) well = absurd well
+well-done (Input ReadFault) well = absurd well
+well-done (Input TooLong) well = absurd well
+well-done Joint well = refl
+well-done (Until j) well = refl
+well-done (Stop j) well = refl
+well-done (Refuse j reason) well = absurd well
+well-done WriteFault well = absurd well
+well-done (NoMemory k) well = absurd well
+
+pub completeness : (words : List (List ℕ)) (plan : Plan) (files : List (List ℕ × List ℕ)) (old new : DeskView) (answer : Status)
+    → plan_of words ≡ Some plan → TellsInput plan.input old files → CallsTsp words old new answer → NothingFails old new
+    → EndsWell (pure_run (chain_of plan files)).cause → (answer ≡ status.Done) ⊎ (answer ≡ status.NoMemory)
+completeness words plan files old new answer is tells calls fine well =
+    elim (headline words plan files old new answer is tells calls fine) [
+      | inl wants ↦ inr wants
+      | inr pure ↦ inl (pure.answered ∙ well-done (pure_run (chain_of plan files)).cause well)
+    ]
+
+-- plans that differ in their sizes alone have one chain
+pub same-but-sizes : (one other : Plan) (files : List (List ℕ × List ℕ)) → SameButSizes one other → chain_of other files ≡ chain_of one files
+same-but-sizes one other files same =
+    let S : Stuffing → InputConf → Chain = λ s i. record { input = stuffed s (input_of i files); plugins = map named_rule_of other.plugins; users = users_of other } in
+    let U : List PluginConf → Bool → Chain = λ confs ignored. record { input = stuffed (stuffing_of one.general) (input_of one.input files); plugins = map named_rule_of confs; users = if ignored then [] else users_from 1 confs } in
+    let stuffing : stuffing_of other.general ≡ stuffing_of one.general = cc (same.start, same.stop, same.between) in
+    ap (λ (s : Stuffing). S s other.input) stuffing
+    ∙ ap (λ (i : InputConf). S (stuffing_of one.general) i) same.input
+    ∙ ap (λ (confs : List PluginConf). U confs other.general.ignore_joint_termination) same.plugins
+    ∙ ap (λ (b : Bool). U one.plugins b) same.ignored
+
+-- memory first: what is left where memory was wanting
+module _ (plan : Plan) (files : List (List ℕ × List ℕ)) (old new : DeskView) (files_are : IfSome old.files (λ told. files ≡ told)) where
+  not-done : (why : Cause) (late : Bool) → NoStageWants why → status.NoMemory ≡ (if late then status_when_late (status_of why) else status_of why) → ⊥
+  not-done (Input (End left)) true none is = cc
+  not-done (Input (End left)) false none is = cc
+  not-done (Input (Sync packet)) true none is = cc
+  not-done (Input (Sync packet)) false none is = cc
+  not-done (Input ReadFault) true none is = cc
+  not-done (Input ReadFault) false none is = cc
+  not-done (Input TooLong) true none is = cc
+  not-done (Input TooLong) false none is = cc
+  not-done Joint true none is = cc
+  not-done Joint false none is = cc
+  not-done (Until j) true none is = cc
+  not-done (Until j) false none is = cc
+  not-done (Stop j) true none is = cc
+  not-done (Stop j) false none is = cc
+  not-done (Refuse j reason) true none is = cc
+  not-done (Refuse j reason) false none is = cc
+  not-done WriteFault true none is = cc
+  not-done WriteFault false none is = cc
+  not-done (NoMemory k) late none is = none k refl
+
+  wants-first : (end : CallEnd) → StatusTellsCause (output_name plan.output) old new status.NoMemory end → IsMemoryFirst end → EndsRight (chain_of plan files) end
+      → Writes plan (chain_of plan files) old new end → Reports (chain_of plan files) old new end → WantsMemoryFirst plan old new
+  wants-first no_input tells first right writes reports = absurd (let e = tells.0 in cc)
+  wants-first no_output tells first right writes reports = absurd (let e = tells.0 in cc)
+  wants-first (ran cut why late) tells first right writes reports = absurd (not-done why late first tells.0)
+  wants-first (unreported cut why) tells first right writes reports =
+      (reports, inr (inr (record { files = files; files_are = files_are; cut = cut; why = why; no_want = first; pure_or_fault = right; written = writes })))
+  wants-first out_of_memory tells first right writes reports =
+      (reports, elim writes [ inl none ↦ inl none | inr empty ↦ inr (inl empty) ])
+
+pub memory-first : (words : List (List ℕ)) (plan : Plan) (old new : DeskView) (answer : Status)
+    → plan_of words ≡ Some plan → AreSteady plan.plugins → CallsTsp words old new answer → answer ≡ status.NoMemory → WantsMemoryFirst plan old new
+memory-first words plan old new answer is steady calls want =
+    elim (planned-call words plan old new answer is calls) [
+      | inl t ↦ wants-first plan t.files old new t.files_are t.end (subst (λ (s : Status). StatusTellsCause (output_name plan.output) old new s t.end) want t.status_tells_cause)
+      (t.memory_first steady) t.pure_or_fault t.written t.reported
+      | inr wanting ↦ (
+        (ap (λ (d : DeskView). d.reported) wanting.1, ap (λ (d : DeskView). d.report_faults) wanting.1),
+        inl (ap (λ (d : DeskView). d.outputs) wanting.1),
+      )
     ]

@@ -9,3 +9,4 @@ pub mod StreamLemmas
 pub mod RanTheorem
 pub mod CallLemmas
 pub mod HeadlineLemmas
+pub mod SteadyLemmas

@@ -1,22 +1,30 @@
 -- The stream theorem of a call whose two ends were opened.
-use Rattle.std.proofs.Common.{◌≡◌, ◌≢◌, ℕ, List, [], ◌++◌, length, map, take, Bool, true, false, ◌||◌, if◌then◌else◌, Some, refl, ap, sym, ◌∙◌, subst, inl, inr, arith}
+use Rattle.std.proofs.Common.{◌≡◌, ◌≢◌, ◌⊎◌, ℕ, ◌≤◌, List, [], ◌∷◌, ◌++◌, length, map, take, Bool, true, false, ◌||◌, if◌then◌else◌, Option, Some, IfSome, refl, ap, sym, ◌∙◌, subst, inl, inr, arith}
 use Rattle.std.specs.Bool.{OnTrue}
-use Rattle.std.proofs.lemmas.List.{take_all}
+use Rattle.std.specs.List.{AllByRecursion}
+use Rattle.std.proofs.lemmas.List.{take_all, length-map}
 use Rattle.ts_packet.specs.declared.cell.Cell.{Cell}
+use Rattle.chain_model.specs.Prefix.{IsPrefix}
 use Rattle.chain_model.specs.declared.cause.Cause.{Cause}
+use Rattle.chain_model.specs.declared.cause.Cause.TheVariants as cause
 use Rattle.chain_model.specs.declared.cause.Cause.TheVariants.{WriteFault}
 use Rattle.chain_model.specs.PluginRule.{PluginRule}
 use Rattle.chain_model.specs.Apply.{StageList}
 use Rattle.chain_model.specs.StageLists.{end_list}
 use Rattle.chain_model.specs.Written.{written}
-use Rattle.chain_model.specs.PureRun.{Chain, reported_at}
-use Rattle.chain_model.specs.Reports.{reports}
+use Rattle.chain_model.specs.Cut.{cut_of, IsLawfulFault}
+use Rattle.chain_model.specs.PureRun.{chain_rules, reported_at}
+use Rattle.chain_model.specs.Reports.{rules_of, reports}
 use Rattle.chain_model.specs.Stuffed.{stuffed}
 use Rattle.chain_model.specs.Stuffed as model
 use Rattle.chain_core.specs.Stages.{stages_of}
+use Rattle.chain_core.specs.EveryOrder.{IsPureClose}
 use Rattle.chain_core.specs.declared.closed.Closed.{Closed}
 use Rattle.chain_core.specs.declared.core_plan.CorePlan.{CorePlan}
+use Rattle.plug_set.specs.declared.plugin_conf.PluginConf.{PluginConf}
 use Rattle.chain_args.specs.declared.plan_type.Plan.{Plan}
+use Rattle.plugin_trait.specs.Steps.{IsSteadyFor}
+use Rattle.stage_run.specs.Seeing.{Seeing}
 use Rattle.stage_run.specs.declared.input_part.InputPart.{InputPart}
 use Rattle.stage_run.specs.declared.output_part.OutputPart.{OutputPart}
 use Rattle.stage_run.specs.InputStands as stage
@@ -28,25 +36,30 @@ use Rattle.ts_outside.specs.Source.{SourceView}
 use Rattle.ts_outside.specs.Sink.{SinkView}
 use Rattle.ts_outside.specs.Told.{grown}
 use Rattle.ts_outside.specs.Desk.{DeskView}
+use Rattle.chain_run.specs.Rooms.{AreSteadyFor}
 use Rattle.chain_run.specs.RunOf.{LeftInput, LeftOutput, RunOf}
-use Rattle.plug_set.specs.Rules.{rule_of}
-use Rattle.tsp_top.specs.CallEnd.{CallEnd, ran, unreported, out_of_memory, status_of, status_when_late, FaultRose, LateRose}
+use Rattle.chain_run.proofs.RunUses.{steady-wants_none}
+use Rattle.chain_core.proofs.Facts.{all_by_recursion}
+use Rattle.plug_set.specs.Plugins.{rule_of, steady_of}
+use Rattle.tsp_top.specs.CallEnd.{ran, unreported, out_of_memory, status_of, status_when_late, FaultRose, LateRose}
+use Rattle.tsp_top.specs.CanEnd.{CanEndBy}
+use Rattle.tsp_top.specs.MemoryFirst.{IsSteady, AreSteady, NoStageWants}
 use Rattle.tsp_top.specs.Openings.{asked_input, asked_output, input_closed_as, output_closed_as, OpensInput, OpensOutput, WasOpened}
-use Rattle.tsp_top.specs.PlannedChain.{chain_of, input_of, stuffing_of, input_name, output_name}
-use Rattle.tsp_top.specs.PluginNames.{name_of}
-use Rattle.tsp_top.specs.Ran.{IsPlanned, RanEnds, RanOpened, closed_desk}
+use Rattle.tsp_top.specs.PlannedChain.{chain_of, input_of, stuffing_of, users_of, named_rule_of, input_name, output_name}
+use Rattle.tsp_top.specs.Ran.{IsReady, RanEnds, RanOpened, closed_desk}
 use Rattle.tsp_top.specs.Readings.{ReadsTo}
 use Rattle.tsp_top.specs.Reported.{ReportsRun}
 use Rattle.tsp_top.specs.Saying.{Says}
-use Rattle.tsp_top.specs.StreamTheorem.{StreamTheorem, IsPureOrFault, WritesTo, EndsRight, Reads, Writes, Reports, ReportsText, outputs_with, asked_for}
+use Rattle.tsp_top.specs.Sizes.{default_buffer}
+use Rattle.tsp_top.specs.StreamTheorem.{StreamTheorem, IsPureOrFault, IsCutPart, WritesTo, outputs_with, asked_for}
 use Rattle.tsp_top.specs.declared.status.Status.{Status}
 use Rattle.tsp_top.specs.declared.status.Status.TheVariants.{Done, NoMemory}
 use Rattle.tsp_top.specs.declared.status.Status.TheVariants as status
 use Rattle.tsp_top.proofs.CutLemmas.{written-begins}
 use Rattle.tsp_top.proofs.DeskLemmas.{SameOutside, SameCounts, LeavesAll, leaves-all, same-asked_input, same-both, asked-both, leaves-input_closed, outputs-input_closed, write_faults-input_closed, leaves-output_closed, read_faults-output_closed, closed_in-output_closed, leaves-says}
-use Rattle.tsp_top.proofs.SinkLemmas.{TookBytes, outputs-took, outputs-empty, write_fault-counted, closing-counted, write_faults-stay}
-use Rattle.tsp_top.proofs.SourceLemmas.{read_fault-counted, opened-list, reads-nothing, reads-to}
-use Rattle.tsp_top.proofs.StreamLemmas.{if-some, reports-text, report-rose, report-stays, fault-rose, late-rose}
+use Rattle.tsp_top.proofs.SinkLemmas.{TookBytes, outputs-took, outputs-empty, write_fault-counted, closing-counted, write_faults-stay, write-named, closing-named}
+use Rattle.tsp_top.proofs.SourceLemmas.{FilesOf, some-files, read_fault-counted, opened-list, reads-nothing, reads-to, read-named, size-within}
+use Rattle.tsp_top.proofs.StreamLemmas.{can-end, reports-text, report-rose, report-stays, fault-rose, late-rose}
 
 -- what was asked for where both ends were opened
 abbrev both_asked : Plan → List Asked
@@ -66,56 +79,55 @@ record Desks (plan : Plan) (old made closed_in closed_out : DeskView) : Type 0 w
   outputs : closed_in.outputs ≡ (asked_input old plan.input).outputs
   first_outputs : (asked_input old plan.input).outputs ≡ old.outputs
 
--- what holds of a run whose ends were opened and closed, of the desk when all is over; its chain is the plan's where the
--- files are told
-record RanFacts (plan : Plan) (old new : DeskView) (own : Chain) (cut : ℕ) (why : Cause) : Type 0 where
-  own_is : (files : List (List ℕ × List ℕ)) → old.files ≡ Some files → own ≡ chain_of plan files
+-- what holds of a run whose ends were opened and closed, of the desk when all is over
+record RanFacts (plan : Plan) (files : List (List ℕ × List ℕ)) (old new : DeskView) (cut : ℕ) (why : Cause) : Type 0 where
+  files_are : IfSome old.files (λ told. files ≡ told)
   rose : FaultRose old new why
-  closes : IsPureOrFault own cut why
-  reads : (files : List (List ℕ × List ℕ)) → old.files ≡ Some files → ReadsTo plan.general plan.input files old new cut why
-  written : WritesTo plan own old new cut why
+  can : CanEndBy plan why
+  closes : IsPureOrFault (chain_of plan files) cut why
+  first : AreSteady plan.plugins → NoStageWants why
+  reads : ReadsTo plan.general plan.input files old new cut why
+  written : WritesTo plan (chain_of plan files) old new cut why
   asked : new.asked ≡ grown old.asked (both_asked plan)
   files_stay : new.files ≡ old.files
 
 -- a run that was reported
-reported-theorem : (plan : Plan) (old made new : DeskView) (own : Chain) (cut : ℕ) (why : Cause) (late said : Bool) (st : Status)
-    → RanFacts plan old new own cut why → LateRose old new why late
+reported-theorem : (plan : Plan) (files : List (List ℕ × List ℕ)) (old made new : DeskView) (cut : ℕ) (why : Cause) (late said : Bool) (st : Status)
+    → RanFacts plan files old new cut why → LateRose (output_name plan.output) old new why late
     → st ≡ (if late then status_when_late (status_of why) else status_of why)
-    → made.reported ≡ old.reported → made.report_faults ≡ old.report_faults → Says made new (reported_at own cut why) said → StreamTheorem plan old new st
-reported-theorem plan old made new own cut why late said st facts rose told reported report_faults says =
-    let end : CallEnd = ran cut why late in
-    let E : Chain → Type 0 = λ c. IsPureOrFault c cut why in
-    let W : Chain → Type 0 = λ c. WritesTo plan c old new cut why in
-    let R : Chain → Type 0 = λ c. ReportsText old new (reported_at c cut why) in
-    record {
-      end = end;
-      status_tells_cause = (told, facts.rose, rose);
-      pure_or_fault = if-some old.files (λ files. EndsRight (chain_of plan files) end) (λ files e. subst E (facts.own_is files e) facts.closes);
-      reads = if-some old.files (λ files. Reads plan files old new end) (λ files e. facts.reads files e);
-      written = if-some old.files (λ files. Writes plan (chain_of plan files) old new end) (λ files e. subst W (facts.own_is files e) facts.written);
-      reported = if-some old.files (λ files. Reports (chain_of plan files) old new end)
-          (λ files e. subst R (facts.own_is files e) (reports-text old made new (reported_at own cut why) said reported report_faults says));
-      opened = facts.asked;
-      files_stay = facts.files_stay;
-    }
+    → made.reported ≡ old.reported → made.report_faults ≡ old.report_faults → Says made new (reported_at (chain_of plan files) cut why) said → StreamTheorem plan old new st
+reported-theorem plan files old made new cut why late said st facts rose told reported report_faults says = record {
+  end = ran cut why late;
+  files = files;
+  files_are = facts.files_are;
+  status_tells_cause = (told, facts.rose, rose);
+  can_end = facts.can;
+  pure_or_fault = facts.closes;
+  memory_first = facts.first;
+  reads = facts.reads;
+  written = facts.written;
+  reported = reports-text old made new (reported_at (chain_of plan files) cut why) said reported report_faults says;
+  opened = facts.asked;
+  files_stay = facts.files_stay;
+}
 
 -- a run for whose report there was no memory
-unreported-theorem : (plan : Plan) (old new : DeskView) (own : Chain) (cut : ℕ) (why : Cause) (st : Status)
-    → RanFacts plan old new own cut why → st ≡ NoMemory → new.reported ≡ old.reported → new.report_faults ≡ old.report_faults → StreamTheorem plan old new st
-unreported-theorem plan old new own cut why st facts told reported report_faults =
-    let end : CallEnd = unreported cut why in
-    let E : Chain → Type 0 = λ c. IsPureOrFault c cut why in
-    let W : Chain → Type 0 = λ c. WritesTo plan c old new cut why in
-    record {
-      end = end;
-      status_tells_cause = (told, facts.rose);
-      pure_or_fault = if-some old.files (λ files. EndsRight (chain_of plan files) end) (λ files e. subst E (facts.own_is files e) facts.closes);
-      reads = if-some old.files (λ files. Reads plan files old new end) (λ files e. facts.reads files e);
-      written = if-some old.files (λ files. Writes plan (chain_of plan files) old new end) (λ files e. subst W (facts.own_is files e) facts.written);
-      reported = if-some old.files (λ files. Reports (chain_of plan files) old new end) (λ files e. (reported, report_faults));
-      opened = facts.asked;
-      files_stay = facts.files_stay;
-    }
+unreported-theorem : (plan : Plan) (files : List (List ℕ × List ℕ)) (old new : DeskView) (cut : ℕ) (why : Cause) (st : Status)
+    → RanFacts plan files old new cut why → st ≡ NoMemory → new.reported ≡ old.reported → new.report_faults ≡ old.report_faults → StreamTheorem plan old new st
+unreported-theorem plan files old new cut why st facts told reported report_faults = record {
+  end = unreported cut why;
+  files = files;
+  files_are = facts.files_are;
+  status_tells_cause = (told, facts.rose);
+  can_end = facts.can;
+  pure_or_fault = facts.closes;
+  memory_first = facts.first;
+  reads = facts.reads;
+  written = facts.written;
+  reported = (reported, report_faults);
+  opened = facts.asked;
+  files_stay = facts.files_stay;
+}
 
 write-is-not-done : (why : Cause) → status_of why ≡ Done → why ≢ WriteFault
 write-is-not-done why done is = differ (sym (ap status_of is) ∙ done)
@@ -129,10 +141,6 @@ opened-of false P h e = absurd (differ e)
   where
     differ : false ≡ true → ⊥
     differ e = cc
-
--- the chain that a run took
-abbrev run_chain : Plan → List PluginRule → StageList → List ℕ → Chain
-run_chain plan rules list users = record { input = list; rules = rules; names = map name_of plan.plugins; users = users }
 
 -- two ends that were opened for a plan
 record Opened {S K : Type 0} (in_seen : S → SourceView) (out_seen : K → SinkView) (plan : Plan) (old made : DeskView) (from : InputPart S) (to : OutputPart K) : Type 0 where
@@ -171,16 +179,18 @@ not-run in_seen out_seen plan old made new from to failed st opened e is =
     let desks = desks in_seen out_seen plan old made from to failed opened.asked in
     let all : List Asked = both_asked plan in
     let empty = outputs-empty out_seen (asked_input old plan.input) (input_closed_as in_seen made from) plan.output to failed opened.output desks.outputs in
+    let files = some-files old in
     record {
       end = out_of_memory;
+      files = files.0;
+      files_are = files.1;
       status_tells_cause = e;
-      pure_or_fault = if-some old.files (λ files. EndsRight (chain_of plan files) out_of_memory) (λ files told. tt);
-      reads = if-some old.files (λ files. Reads plan files old new out_of_memory)
-          (λ files told. reads-nothing in_seen old made new files plan.input from told opened.input desks.made_inputs (ap (λ (v : DeskView). v.closed_in) is ∙ desks.inputs));
-      written = if-some old.files (λ files. Writes plan (chain_of plan files) old new out_of_memory)
-          (λ files told. inr (ap (λ (v : DeskView). v.outputs) is ∙ empty ∙ ap (λ o. outputs_with (output_name plan.output) o []) desks.first_outputs));
-      reported = if-some old.files (λ files. Reports (chain_of plan files) old new out_of_memory)
-          (λ files told. (ap (λ (v : DeskView). v.reported) is ∙ desks.reported, ap (λ (v : DeskView). v.report_faults) is ∙ desks.report_faults));
+      can_end = tt;
+      pure_or_fault = tt;
+      memory_first = λ steady. tt;
+      reads = reads-nothing in_seen old made new files.0 plan.input from files.1 opened.input desks.made_inputs (ap (λ (v : DeskView). v.closed_in) is ∙ desks.inputs);
+      written = inr (ap (λ (v : DeskView). v.outputs) is ∙ empty ∙ ap (λ o. outputs_with (output_name plan.output) o []) desks.first_outputs);
+      reported = (ap (λ (v : DeskView). v.reported) is ∙ desks.reported, ap (λ (v : DeskView). v.report_faults) is ∙ desks.report_faults);
       opened = (
         length all,
         ap (λ (v : DeskView). v.asked) is ∙ desks.asked ∙ ap (λ l. grown old.asked l) (sym (take_all (length all) all (omega arith))),
@@ -212,7 +222,7 @@ lates-rose : {S K : Type 0} (in_seen : S → SourceView) (out_seen : K → SinkV
     (text : List ℕ) (cells : List Cell) (cut : ℕ) (why : Cause)
     → Opened in_seen out_seen plan old made from to → OnTrue failed (WasOpened made_to)
     → LeftOutput out_seen to made_to cells cut why
-    → Says (closed_desk in_seen out_seen made made_from made_to failed) new text said → LateRose old new why (failed || said)
+    → Says (closed_desk in_seen out_seen made made_from made_to failed) new text said → LateRose (output_name plan.output) old new why (failed || said)
 lates-rose in_seen out_seen plan old made new from made_from to made_to failed said text cells cut why opened closing output says =
     let d2 : DeskView = input_closed_as in_seen made made_from in
     let d3 : DeskView = closed_desk in_seen out_seen made made_from made_to failed in
@@ -224,9 +234,12 @@ lates-rose in_seen out_seen plan old made new from made_from to made_to failed s
     let B : Bool → Type 0 = λ b. HasCause d2.write_faults (output_closed_as out_seen d2 made_to b).write_faults in
     let T : Bool → Type 0 = λ b. Says d3 new text b in
     let F : Bool → Type 0 = λ b. (output_closed_as out_seen d2 made_to b).write_faults ≡ d2.write_faults in
-    late-rose old new why failed said
-    (λ e. subst W2 (sym leaves.write_faults) (subst W desks.writes
-    (subst B (sym e) (closing-counted out_seen d2 made_to (opened-of failed (WasOpened made_to) closing e)))))
+    late-rose (output_name plan.output) old new why failed said
+    (λ e.
+    let is_open : WasOpened made_to = opened-of failed (WasOpened made_to) closing e in (
+      closing-named out_seen (asked_input old plan.input) plan.output to made_to cells cut why opened.output output is_open,
+      subst W2 (sym leaves.write_faults) (subst W desks.writes (subst B (sym e) (closing-counted out_seen d2 made_to is_open))),
+    ))
     (λ e. subst P desks.report_faults (report-rose d3 new text (subst T e says)))
     (λ e f. (
       (λ done. leaves.write_faults
@@ -235,88 +248,152 @@ lates-rose in_seen out_seen plan old made new from made_from to made_to failed s
       report-stays d3 new text (subst T f says) ∙ desks.report_faults,
     ))
 
--- what holds of a run
-ran-facts : {S K P : Type 0} (in_seen : S → SourceView) (out_seen : K → SinkView) (rule : P → PluginRule) (stands : P → List Cell → ℕ → Type 0)
-    (plan : Plan) (old made new : DeskView) (from made_from : InputPart S) (stuffing : Stuffing) (plugins plugins_made : List P) (to made_to : OutputPart K) (failed : Bool) (core : CorePlan) (closed : Closed)
-    → Opened in_seen out_seen plan old made from to → map rule plugins ≡ map rule_of plan.plugins → IsPlanned plan stuffing core
-    → (run : RunOf in_seen out_seen rule stands from made_from stuffing plugins plugins_made to made_to core closed)
-    → LeavesAll (closed_desk in_seen out_seen made made_from made_to failed) new
-    → RanFacts plan old new (run_chain plan (map rule plugins) run.list (stages_of core.users)) closed.cut closed.cause
-ran-facts in_seen out_seen rule stands plan old made new from made_from stuffing plugins plugins_made to made_to failed core closed opened rules planned run leaves =
-    let d2 : DeskView = input_closed_as in_seen made made_from in
-    let own : List PluginRule = map rule plugins in
-    let users : List ℕ = stages_of core.users in
-    let desks = desks in_seen out_seen plan old made made_from made_to failed opened.asked in
-    let cells : List Cell = (end_list own run.list).cells in
-    let took : TookBytes cells closed.cut closed.cause (asked_input old plan.input).outputs (output_closed_as out_seen d2 made_to failed).outputs (output_name plan.output) =
-    outputs-took out_seen (asked_input old plan.input) d2 plan.output to made_to cells closed.cut closed.cause failed opened.output run.output desks.outputs in
-    let bytes : List ℕ = written (take closed.cut cells) ++ took.part in
-    record {
-      own_is = λ files told.
-          let list : run.list ≡ stuffed (stuffing_of plan.general) (input_of plan.input files) =
-          opened-list in_seen old files plan.input from (stage.stuffing_of stuffing) run.list told opened.input run.is_list
-          ∙ ap (λ (s : model.Stuffing). stuffed s (input_of plan.input files)) planned.stuffing_is in
-          ap (λ (rs : List PluginRule). run_chain plan rs run.list users) rules
-          ∙ ap (λ (l : StageList). run_chain plan (map rule_of plan.plugins) l users) list
-          ∙ ap (λ (us : List ℕ). run_chain plan (map rule_of plan.plugins) (stuffed (stuffing_of plan.general) (input_of plan.input files)) us) planned.users_are;
-      rose = faults-rose in_seen out_seen plan old made new from made_from to made_to failed (stage.stuffing_of stuffing) core.buffer cells closed.cut closed.cause opened run.input run.output leaves;
-      closes = run.closes;
-      reads = λ files told. reads-to in_seen old made new files plan.general plan.input from made_from (stage.stuffing_of stuffing) core.buffer closed.cut closed.cause
-          planned.stuffing_is planned.buffer_within told opened.input desks.made_inputs (leaves.closed_in ∙ desks.inputs) run.input;
-      written = (
-        bytes,
-        leaves.outputs ∙ took.outputs ∙ ap (λ o. outputs_with (output_name plan.output) o bytes) desks.first_outputs,
-        (took.part, refl, took.cut_part),
-        written-begins own run.list users closed.cut closed.cause took.part run.closes took.cut_part,
-      );
-      asked = leaves.asked ∙ desks.asked;
-      files_stay = leaves.files ∙ desks.files;
+-- three equations, one after another
+subst-three : (F : List PluginRule → StageList → List ℕ → Type 0) (a b : List PluginRule) (c d : StageList) (e f : List ℕ)
+    → a ≡ b → c ≡ d → e ≡ f → F a c e → F b d f
+subst-three F a b c d e f p q r h =
+    let A : List PluginRule → Type 0 = λ x. F x c e in
+    let B : StageList → Type 0 = λ x. F b x e in
+    let C : List ℕ → Type 0 = λ x. F b d x in
+    subst C r (subst B q (subst A p h))
+
+-- the rules of a plan's plugins, with their names or without
+named-rules : (confs : List PluginConf) → map rule_of confs ≡ rules_of (map named_rule_of confs)
+named-rules [] = refl
+named-rules (conf ∷ confs) = ap (λ (rs : List PluginRule). rule_of conf ∷ rs) (named-rules confs)
+
+-- what was written of the lists of some chain
+abbrev WritesOf : Plan → DeskView → DeskView → ℕ → Cause → List PluginRule → StageList → List ℕ → Type 0
+WritesOf plan old new cut why rules list users =
+    (bytes : List ℕ) × (new.outputs ≡ outputs_with (output_name plan.output) old.outputs bytes)
+    × ((part : List ℕ) × (bytes ≡ written (take cut (end_list rules list).cells) ++ part) × IsCutPart (end_list rules list).cells cut why part)
+    × IsPrefix bytes (written (take (cut_of rules list users) (end_list rules list).cells))
+
+-- plugins that took their room for the buffer
+steady-plugins : {P : Type 0} (steady : P → Option ℕ) (buffer : ℕ) (plugins : List P) (confs : List PluginConf)
+    → map steady plugins ≡ map (λ conf. steady_of conf buffer) confs → AllByRecursion IsSteady confs → AreSteadyFor steady buffer plugins
+steady-plugins steady buffer [] confs rooms are = tt
+steady-plugins steady buffer (p ∷ plugins) [] rooms are = absurd cc
+steady-plugins steady buffer (p ∷ plugins) (conf ∷ confs) rooms are =
+    let here : steady p ≡ steady_of conf buffer = cc in
+    let later : map steady plugins ≡ map (λ c. steady_of c buffer) confs = cc in
+    let room : steady p ≡ Some buffer = here ∙ are.0 buffer in
+    let S : Option ℕ → Type 0 = λ o. IsSteadyFor o buffer in
+    let enough : S (Some buffer) = omega arith in
+    (subst S (sym room) enough, steady-plugins steady buffer plugins confs later are.1)
+
+module _ {S K P : Type 0} (see : Seeing S K P) (plan : Plan) (old made new : DeskView) (from made_from : InputPart S) (stuffing : Stuffing)
+    (plugins : List P) (to made_to : OutputPart K) (failed : Bool) (numbers : CorePlan) (closed : Closed)
+    (opened : Opened see.source see.sink plan old made from to)
+    (ready : IsReady see.rule see.stands see.steady plan stuffing numbers plugins) where
+  abbrev d2 : DeskView
+  d2 = input_closed_as see.source made made_from
+
+  abbrev d3 : DeskView
+  d3 = closed_desk see.source see.sink made made_from made_to failed
+
+  abbrev steps : Desks plan old made d2 d3
+  steps = desks see.source see.sink plan old made made_from made_to failed opened.asked
+
+  module _ (plugins_made : List P) (run : RunOf see from made_from stuffing plugins plugins_made to made_to numbers closed) where
+    abbrev own : List PluginRule
+    own = map see.rule plugins
+
+    abbrev users : List ℕ
+    users = stages_of numbers.users
+
+    abbrev cells : List Cell
+    cells = (end_list own run.list).cells
+
+    -- the files whose input the run had
+    abbrev chosen : FilesOf old plan.input (stuffing_of plan.general) run.list
+    chosen = subst (λ (s : model.Stuffing). FilesOf old plan.input s run.list) ready.stuffing_is
+        (opened-list see.source old plan.input from (stage.stuffing_of stuffing) run.list opened.input run.is_list)
+
+    -- what holds of the run's lists holds of the plan's chain
+    of-plan : (F : List PluginRule → StageList → List ℕ → Type 0) → F own run.list users
+        → F (chain_rules (chain_of plan chosen.files)) (chain_of plan chosen.files).input (chain_of plan chosen.files).users
+    of-plan F h =
+        subst-three F own (rules_of (map named_rule_of plan.plugins)) run.list (stuffed (stuffing_of plan.general) (input_of plan.input chosen.files)) users (users_of plan)
+        (ready.rules ∙ named-rules plan.plugins) chosen.list_is ready.numbers_are.users h
+
+    want : (k : ℕ) → closed.cause ≡ cause.NoMemory k → (1 ≤ k) × (k ≤ length plan.plugins)
+    want k is =
+        let wants = run.memory k is in
+        let a = wants.behind_input in
+        let b = wants.there_is in
+        let same : length (map see.steady plugins) ≡ length plan.plugins = ap (λ (l : List (Option ℕ)). length l) ready.rooms ∙ length-map plan.plugins (λ conf. steady_of conf numbers.buffer) in
+        (omega arith, omega arith)
+
+    first-memory : AreSteady plan.plugins → NoStageWants closed.cause
+    first-memory steady k is =
+        steady-wants_none see.steady numbers.buffer plugins k
+        (steady-plugins see.steady numbers.buffer plugins plan.plugins ready.rooms (all_by_recursion IsSteady plan.plugins steady)) (run.memory k is)
+
+    writes : LeavesAll d3 new → WritesOf plan old new closed.cut closed.cause own run.list users
+    writes leaves =
+        let took : TookBytes cells closed.cut closed.cause (asked_input old plan.input).outputs d3.outputs (output_name plan.output) =
+        outputs-took see.sink (asked_input old plan.input) d2 plan.output to made_to cells closed.cut closed.cause failed opened.output run.output steps.outputs in
+        let bytes : List ℕ = written (take closed.cut cells) ++ took.part in (
+          bytes,
+          leaves.outputs ∙ took.outputs ∙ ap (λ o. outputs_with (output_name plan.output) o bytes) steps.first_outputs,
+          (took.part, refl, took.cut_part),
+          written-begins own run.list users closed.cut closed.cause took.part run.closes took.cut_part,
+        )
+
+    ran-facts : LeavesAll d3 new → RanFacts plan chosen.files old new closed.cut closed.cause
+    ran-facts leaves = record {
+      files_are = chosen.files_are;
+      rose = faults-rose see.source see.sink plan old made new from made_from to made_to failed (stage.stuffing_of stuffing) numbers.buffer cells closed.cut closed.cause opened run.input run.output leaves;
+      can = can-end plan closed.cause
+          (read-named see.source old plan.input from made_from (stage.stuffing_of stuffing) numbers.buffer closed.cut closed.cause opened.input run.input)
+          (write-named see.sink (asked_input old plan.input) plan.output to made_to cells closed.cut closed.cause opened.output run.output)
+          want;
+      closes = of-plan (λ rs l us. IsPureClose rs l us closed.cut closed.cause ⊎ IsLawfulFault rs l us closed.cut closed.cause) run.closes;
+      first = first-memory;
+      reads = reads-to see.source old made new chosen.files plan.general plan.input from made_from (stage.stuffing_of stuffing) numbers.buffer closed.cut closed.cause
+          ready.stuffing_is (size-within plan.general.buffer_packets default_buffer numbers.buffer ready.numbers_are.buffer) chosen.files_are opened.input steps.made_inputs (leaves.closed_in ∙ steps.inputs) run.input;
+      written = of-plan (WritesOf plan old new closed.cut closed.cause) (writes leaves);
+      asked = leaves.asked ∙ steps.asked;
+      files_stay = leaves.files ∙ steps.files;
     }
 
--- a run that was closed, and then reported, or not where there was no memory for that
-ran-closed : {S K P : Type 0} (in_seen : S → SourceView) (out_seen : K → SinkView) (rule : P → PluginRule) (stands : P → List Cell → ℕ → Type 0)
-    (plan : Plan) (old made new : DeskView) (from made_from : InputPart S) (stuffing : Stuffing) (plugins plugins_made : List P) (to made_to : OutputPart K) (failed : Bool) (core : CorePlan) (closed : Closed) (st : Status)
-    → Opened in_seen out_seen plan old made from to → map rule plugins ≡ map rule_of plan.plugins → IsPlanned plan stuffing core → OnTrue failed (WasOpened made_to)
-    → (run : RunOf in_seen out_seen rule stands from made_from stuffing plugins plugins_made to made_to core closed)
-    → ReportsRun (reports (map rule plugins) (map name_of plan.plugins) run.list closed.cut closed.cause) closed.cause failed
-    (closed_desk in_seen out_seen made made_from made_to failed) new st
-    → StreamTheorem plan old new st
-ran-closed in_seen out_seen rule stands plan old made new from made_from stuffing plugins plugins_made to made_to failed core closed st opened rules planned closing run (inl report) =
-    let d3 : DeskView = closed_desk in_seen out_seen made made_from made_to failed in
-    let desks = desks in_seen out_seen plan old made made_from made_to failed opened.asked in
-    let own : Chain = run_chain plan (map rule plugins) run.list (stages_of core.users) in
-    let text : List ℕ = reported_at own closed.cut closed.cause in
-    let facts = ran-facts in_seen out_seen rule stands plan old made new from made_from stuffing plugins plugins_made to made_to failed core closed opened rules planned run (leaves-says d3 new text report.0 report.1) in
-    let late = lates-rose in_seen out_seen plan old made new from made_from to made_to failed report.0 text (end_list (map rule plugins) run.list).cells closed.cut closed.cause opened closing run.output report.1 in
-    reported-theorem plan old d3 new own closed.cut closed.cause (failed || report.0) report.0 st facts late report.2 desks.reported desks.report_faults report.1
-ran-closed in_seen out_seen rule stands plan old made new from made_from stuffing plugins plugins_made to made_to failed core closed st opened rules planned closing run (inr none) =
-    let d3 : DeskView = closed_desk in_seen out_seen made made_from made_to failed in
-    let desks = desks in_seen out_seen plan old made made_from made_to failed opened.asked in
-    let own : Chain = run_chain plan (map rule plugins) run.list (stages_of core.users) in
-    let facts = ran-facts in_seen out_seen rule stands plan old made new from made_from stuffing plugins plugins_made to made_to failed core closed opened rules planned run (leaves-all d3 new none.1) in
-    unreported-theorem plan old new own closed.cut closed.cause st facts none.0
-    (ap (λ (v : DeskView). v.reported) none.1 ∙ desks.reported) (ap (λ (v : DeskView). v.report_faults) none.1 ∙ desks.report_faults)
+    -- the text of the run's report is that of the plan's chain
+    report-same : reports (map named_rule_of plan.plugins) run.list closed.cut closed.cause ≡ reported_at (chain_of plan chosen.files) closed.cut closed.cause
+    report-same = ap (λ (l : StageList). reports (map named_rule_of plan.plugins) l closed.cut closed.cause) chosen.list_is
+
+    -- a run that was closed, and then reported, or not where there was no memory for that
+    ran-closed : (st : Status) → OnTrue failed (WasOpened made_to)
+        → ReportsRun (reports (map named_rule_of plan.plugins) run.list closed.cut closed.cause) closed.cause failed d3 new st → StreamTheorem plan old new st
+    ran-closed st closing (inl report) =
+        let text : List ℕ = reported_at (chain_of plan chosen.files) closed.cut closed.cause in
+        let T : List ℕ → Type 0 = λ t. Says d3 new t report.0 in
+        let says : Says d3 new text report.0 = subst T report-same report.1 in
+        let facts = ran-facts (leaves-says d3 new text report.0 says) in
+        let late = lates-rose see.source see.sink plan old made new from made_from to made_to failed report.0 text cells closed.cut closed.cause opened closing run.output says in
+        reported-theorem plan chosen.files old d3 new closed.cut closed.cause (failed || report.0) report.0 st facts late report.2 steps.reported steps.report_faults says
+    ran-closed st closing (inr none) =
+        unreported-theorem plan chosen.files old new closed.cut closed.cause st (ran-facts (leaves-all d3 new none.1)) none.0
+        (ap (λ (v : DeskView). v.reported) none.1 ∙ steps.reported) (ap (λ (v : DeskView). v.report_faults) none.1 ∙ steps.report_faults)
 
 -- a run between two opened ends
-pub ran-theorem : {S K P : Type 0} (in_seen : S → SourceView) (out_seen : K → SinkView) (rule : P → PluginRule) (stands : P → List Cell → ℕ → Type 0)
-    (plan : Plan) (old made new : DeskView) (from : InputPart S) (plugins : List P) (to : OutputPart K) (st : Status)
+pub ran-theorem : {S K P : Type 0} (see : Seeing S K P) (plan : Plan) (stuffing : Stuffing) (numbers : CorePlan) (old made new : DeskView) (from : InputPart S) (plugins : List P) (to : OutputPart K) (st : Status)
     → made ≡ asked_output (asked_input old plan.input) plan.output
-    → OpensInput in_seen old plan.input from → OpensOutput out_seen (asked_input old plan.input) plan.output to
-    → map rule plugins ≡ map rule_of plan.plugins
-    → RanOpened in_seen out_seen rule stands plan made new from plugins to st
+    → OpensInput see.source old plan.input from → OpensOutput see.sink (asked_input old plan.input) plan.output to
+    → IsReady see.rule see.stands see.steady plan stuffing numbers plugins
+    → RanOpened see plan stuffing numbers made new from plugins to st
     → StreamTheorem plan old new st
-ran-theorem {S} {K} {P} in_seen out_seen rule stands plan old made new from plugins to st is opens_in opens_out rules run =
+ran-theorem {S} {K} {P} see plan stuffing numbers old made new from plugins to st is opens_in opens_out ready run =
     ran-ends run.made_from run.made_to run.failed run.failed_opened run.ends
   where
     ran-ends : (made_from : InputPart S) (made_to : OutputPart K) (failed : Bool) → OnTrue failed (WasOpened made_to)
-        → RanEnds in_seen out_seen rule stands plan made new from made_from plugins to made_to failed st → StreamTheorem plan old new st
+        → RanEnds see plan stuffing numbers made new from made_from plugins to made_to failed st → StreamTheorem plan old new st
     ran-ends made_from made_to failed closing (inl closed) =
-        let opened : Opened in_seen out_seen plan old made from to = record { asked = is; input = opens_in; output = opens_out } in
-        ran-closed in_seen out_seen rule stands plan old made new from made_from closed.1.stuffing plugins closed.1.made to made_to failed closed.1.core closed.0 st
-        opened rules closed.1.planned closing closed.1.run closed.1.reported
+        let opened : Opened see.source see.sink plan old made from to = record { asked = is; input = opens_in; output = opens_out } in
+        ran-closed see plan old made new from made_from stuffing plugins to made_to failed numbers closed.0 opened ready closed.1.made closed.1.run st closing closed.1.reported
     ran-ends made_from made_to failed closing (inr none) =
-        let opened : Opened in_seen out_seen plan old made from to = record { asked = is; input = opens_in; output = opens_out } in
-        let F : InputPart S → Type 0 = λ p. new ≡ closed_desk in_seen out_seen made p made_to failed in
-        let T : OutputPart K → Type 0 = λ p. new ≡ closed_desk in_seen out_seen made from p failed in
-        not-run in_seen out_seen plan old made new from to failed st opened none.status_is
+        let opened : Opened see.source see.sink plan old made from to = record { asked = is; input = opens_in; output = opens_out } in
+        let F : InputPart S → Type 0 = λ p. new ≡ closed_desk see.source see.sink made p made_to failed in
+        let T : OutputPart K → Type 0 = λ p. new ≡ closed_desk see.source see.sink made from p failed in
+        not-run see.source see.sink plan old made new from to failed st opened none.status_is
         (subst T none.output_same (subst F none.input_same none.desk))

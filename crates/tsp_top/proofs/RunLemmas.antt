@@ -1,9 +1,9 @@
 -- A run of a chain, and what its plugins met.
-use Rattle.std.proofs.Common.{◌≡◌, ℕ, List, Result, Ok, Err, subst, map, OnErr, IfOk, is_err, Bool}
+use Rattle.std.proofs.Common.{◌≡◌, ℕ, List, Result, Ok, Err, ap, sym, ◌∙◌, subst, map, OnErr, IfOk, is_err, Bool}
+use Rattle.std.specs.declared.alloc.AllocError.{AllocError}
 use Rattle.std.specs.Bool.{OnTrue}
-use Rattle.ts_packet.specs.declared.cell.Cell.{Cell}
-use Rattle.ts_outside.specs.Source.{SourceView}
-use Rattle.ts_outside.specs.Sink.{SinkView}
+use Rattle.plug_set.specs.declared.plugin_conf.PluginConf.{PluginConf}
+use Rattle.plug_set.specs.Plugins.{rule_of}
 use Rattle.ts_outside.specs.Desk.{DeskView}
 use Rattle.chain_model.specs.PluginRule.{PluginRule}
 use Rattle.chain_model.specs.declared.cause.Cause.{Cause}
@@ -12,7 +12,11 @@ use Rattle.chain_core.specs.declared.core_plan.CorePlan.{CorePlan}
 use Rattle.stage_run.specs.declared.input_part.InputPart.{InputPart}
 use Rattle.stage_run.specs.declared.output_part.OutputPart.{OutputPart}
 use Rattle.stage_run.specs.declared.stuffing.Stuffing.{Stuffing}
+use Rattle.stage_run.specs.Seeing.{Seeing}
+use Rattle.chain_run.specs.Met.{AllMetTo}
 use Rattle.chain_run.specs.RunOf.{RunOf}
+use Rattle.chain_run.proofs.RunUses.{met-to}
+use Rattle.tsp_top.specs.Ran.{EndsRun}
 use Rattle.tsp_top.specs.Reported.{ReachesCut, ReportsRun}
 use Rattle.tsp_top.specs.declared.status.Status.{Status}
 
@@ -37,9 +41,35 @@ reports-run-same text said why f failed a old new status e1 e2 e3 h =
     let C : DeskView → Type 0 = λ d. ReportsRun said why failed d new status in
     subst C e3 (subst B e2 (subst A e1 h))
 
--- the plugins of a closed run reach its cut
-pub run-reaches : {S K P : Type 0} (in_seen : S → SourceView) (out_seen : K → SinkView) (rule : P → PluginRule) (stands : P → List Cell → ℕ → Type 0)
-    (from made_from : InputPart S) (stuffing : Stuffing) (plugins made : List P) (to made_to : OutputPart K) (core : CorePlan) (closed : Closed)
-    → RunOf in_seen out_seen rule stands from made_from stuffing plugins made to made_to core closed → ReachesCut stands made closed.cut 0
-run-reaches in_seen out_seen rule stands from made_from stuffing plugins made to made_to core closed run =
-    record { rules = map rule plugins; input = run.list; met = run.met }
+-- the plugins of a closed run met the cells before its cut, as plugins of their own rules
+pub run-met : {S K P : Type 0} (see : Seeing S K P) (from made_from : InputPart S) (stuffing : Stuffing) (plugins made : List P)
+    (to made_to : OutputPart K) (core : CorePlan) (closed : Closed)
+    → (run : RunOf see from made_from stuffing plugins made to made_to core closed) → AllMetTo see.stands (map see.rule made) run.list closed.cut 0 made
+run-met see from made_from stuffing plugins made to made_to core closed run =
+    let M : List PluginRule → Type 0 = λ rules. AllMetTo see.stands rules run.list closed.cut 0 made in
+    subst M (sym run.rules) (met-to see.stands (map see.rule plugins) run.list run.gave closed.cut 0 made run.met)
+
+-- so they reach it
+pub run-reaches : {S K P : Type 0} (see : Seeing S K P) (from made_from : InputPart S) (stuffing : Stuffing) (plugins made : List P)
+    (to made_to : OutputPart K) (core : CorePlan) (closed : Closed)
+    → RunOf see from made_from stuffing plugins made to made_to core closed → ReachesCut see.stands made closed.cut 0
+run-reaches see from made_from stuffing plugins made to made_to core closed run = record {
+  rules = map see.rule made;
+  input = run.list;
+  met = run-met see from made_from stuffing plugins made to made_to core closed run;
+}
+
+-- the plugins that a run gives back have the rules of the settings still
+pub ends-rules : {S K P : Type 0} (see : Seeing S K P) (stuffing : Stuffing) (core : CorePlan) (from made_from : InputPart S) (plugins made : List P)
+    (to made_to : OutputPart K) (closed : Result Closed AllocError) (confs : List PluginConf)
+    → EndsRun see stuffing core from made_from plugins made to made_to closed → map see.rule plugins ≡ map rule_of confs → map see.rule made ≡ map rule_of confs
+ends-rules see stuffing core from made_from plugins made to made_to (Ok closed) confs ends rules = ends.run.rules ∙ rules
+ends-rules see stuffing core from made_from plugins made to made_to (Err e) confs ends rules =
+    ap (λ (l : List _). map see.rule l) ends.never_began.plugins_same ∙ rules
+
+-- and they reach its cut, if it was closed
+pub ends-reach : {S K P : Type 0} (see : Seeing S K P) (stuffing : Stuffing) (core : CorePlan) (from made_from : InputPart S) (plugins made : List P)
+    (to made_to : OutputPart K) (closed : Result Closed AllocError)
+    → EndsRun see stuffing core from made_from plugins made to made_to closed → IfOk closed (λ closed. ReachesCut see.stands made closed.cut 0)
+ends-reach see stuffing core from made_from plugins made to made_to (Ok closed) ends = run-reaches see from made_from stuffing plugins made to made_to core closed ends.run
+ends-reach see stuffing core from made_from plugins made to made_to (Err e) ends = tt

@@ -1,6 +1,7 @@
 -- What the closed outputs are, and what their count is, after an output was written and closed.
 use Rattle.std.proofs.Common.{◌≡◌, ◌≢◌, ℕ, List, [], ◌∷◌, ◌++◌, Bool, true, false, ◌||◌, Option, None, Some, refl, ap, sym, ◌∙◌, append-nil, take, nat_lt}
 use Rattle.std.specs.Option.{option_map}
+use Rattle.std.specs.Prelude.{IsSome}
 use Rattle.ts_packet.specs.declared.cell.Cell.{Cell}
 use Rattle.chain_args.specs.declared.output_conf.OutputConf.{OutputConf}
 use Rattle.chain_args.specs.declared.output_conf.OutputConf.TheVariants as output
@@ -142,3 +143,18 @@ write_faults-stay seen d before (output.File name) out.Discard new cells cut why
 write_faults-stay seen d before (output.File name) (out.Stream first) out.Discard cells cut why opens left other = absurd left
 write_faults-stay seen d before output.Drop (out.Stream first) new cells cut why opens left other = absurd opens
 write_faults-stay seen d before output.Drop out.Discard (out.Stream now) cells cut why opens left other = absurd left
+
+-- a write and a closing can fail only of an output that was opened by a name
+pub write-named : {K : Type 0} (seen : K → SinkView) (d : DeskView) (conf : OutputConf) (old new : OutputPart K) (cells : List Cell) (cut : ℕ) (why : Cause)
+    → OpensOutput seen d conf old → LeftOutput seen old new cells cut why → why ≡ WriteFault → IsSome (output_name conf)
+write-named seen d (output.File name) old new cells cut why opens left is = refl
+write-named seen d output.Drop out.Discard out.Discard cells cut why opens left is = absurd (left is)
+write-named seen d output.Drop out.Discard (out.Stream now) cells cut why opens left is = absurd left
+write-named seen d output.Drop (out.Stream first) new cells cut why opens left is = absurd opens
+
+pub closing-named : {K : Type 0} (seen : K → SinkView) (d : DeskView) (conf : OutputConf) (old new : OutputPart K) (cells : List Cell) (cut : ℕ) (why : Cause)
+    → OpensOutput seen d conf old → LeftOutput seen old new cells cut why → WasOpened new → IsSome (output_name conf)
+closing-named seen d (output.File name) old new cells cut why opens left opened = refl
+closing-named seen d output.Drop out.Discard out.Discard cells cut why opens left opened = absurd opened
+closing-named seen d output.Drop out.Discard (out.Stream now) cells cut why opens left opened = absurd left
+closing-named seen d output.Drop (out.Stream first) new cells cut why opens left opened = absurd opens

@@ -1,5 +1,7 @@
 -- From what a run did to what the stream theorem says of it.
-use Rattle.std.proofs.Common.{◌≡◌, ℕ, List, Bool, true, false, ◌||◌, Option, None, Some, IfSome, refl, ap, ◌∙◌, inl, inr, take}
+use Rattle.std.proofs.Common.{◌≡◌, ◌≤◌, ℕ, List, length, Bool, true, false, ◌||◌, Option, refl, ap, ◌∙◌, inl, inr, take}
+use Rattle.std.specs.Prelude.{IsSome}
+use Rattle.chain_args.specs.declared.plan_type.Plan.{Plan}
 use Rattle.ts_outside.specs.Count.{HasCause}
 use Rattle.ts_outside.specs.Told.{grown}
 use Rattle.ts_outside.specs.Desk.{DeskView}
@@ -9,13 +11,10 @@ use Rattle.chain_model.specs.declared.cause.Cause.{Cause}
 use Rattle.chain_model.specs.declared.cause.Cause.TheVariants.{Input, Joint, Until, Stop, Refuse, WriteFault, NoMemory}
 use Rattle.tsp_top.specs.Saying.{Says}
 use Rattle.tsp_top.specs.CallEnd.{status_of, FaultRose, LateRose}
+use Rattle.tsp_top.specs.CanEnd.{CanEndBy}
+use Rattle.tsp_top.specs.PlannedChain.{input_name, output_name}
 use Rattle.tsp_top.specs.StreamTheorem.{ReportsText}
 use Rattle.tsp_top.specs.declared.status.Status.TheVariants.{Done}
-
--- a fact for the value, if there is one
-pub if-some : {X : Type 0} (o : Option X) (P : X → Type 0) → ((x : X) → o ≡ Some x → P x) → IfSome o P
-if-some None P h = tt
-if-some (Some x) P h = h x refl
 
 -- a text that was said
 pub reports-text : (old made new : DeskView) (text : List ℕ) (failed : Bool) → made.reported ≡ old.reported → made.report_faults ≡ old.report_faults
@@ -54,10 +53,24 @@ fault-rose old new WriteFault read write = write refl
 fault-rose old new (NoMemory k) read write = tt
 
 -- what failed late rose
-pub late-rose : (old new : DeskView) (why : Cause) (failed said : Bool)
-    → (failed ≡ true → HasCause old.write_faults new.write_faults) → (said ≡ true → HasCause old.report_faults new.report_faults)
+pub late-rose : (output : Option (List ℕ)) (old new : DeskView) (why : Cause) (failed said : Bool)
+    → (failed ≡ true → IsSome output × HasCause old.write_faults new.write_faults) → (said ≡ true → HasCause old.report_faults new.report_faults)
     → (failed ≡ false → said ≡ false → (status_of why ≡ Done → new.write_faults ≡ old.write_faults) × (new.report_faults ≡ old.report_faults))
-    → LateRose old new why (failed || said)
-late-rose old new why true said closing reporting stay = inl (closing refl)
-late-rose old new why false true closing reporting stay = inr (reporting refl)
-late-rose old new why false false closing reporting stay = stay refl refl
+    → LateRose output old new why (failed || said)
+late-rose output old new why true said closing reporting stay = inl (closing refl)
+late-rose output old new why false true closing reporting stay = inr (reporting refl)
+late-rose output old new why false false closing reporting stay = stay refl refl
+
+-- an end by a fault is one that the plan can come to
+pub can-end : (plan : Plan) (why : Cause) → (why ≡ Input ending.ReadFault → IsSome (input_name plan.input)) → (why ≡ WriteFault → IsSome (output_name plan.output))
+    → ((k : ℕ) → why ≡ NoMemory k → (1 ≤ k) × (k ≤ length plan.plugins)) → CanEndBy plan why
+can-end plan (Input ending.ReadFault) read write want = read refl
+can-end plan (Input (ending.End left)) read write want = tt
+can-end plan (Input (ending.Sync packet)) read write want = tt
+can-end plan (Input ending.TooLong) read write want = tt
+can-end plan Joint read write want = tt
+can-end plan (Until j) read write want = tt
+can-end plan (Stop j) read write want = tt
+can-end plan (Refuse j reason) read write want = tt
+can-end plan WriteFault read write want = write refl
+can-end plan (NoMemory k) read write want = want k refl

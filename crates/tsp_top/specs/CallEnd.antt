@@ -1,5 +1,5 @@
 -- How a call of `tsp` ends, and the status that tells it. This project's own rule.
-use Rattle.std.specs.Prelude.{◌≡◌, ◌⊎◌, ℕ, Bool, true, false, if◌then◌else◌}
+use Rattle.std.specs.Prelude.{◌≡◌, ◌⊎◌, ℕ, List, Bool, true, false, if◌then◌else◌, Option, IsSome}
 use Rattle.chain_model.specs.declared.input_end.InputEnd.{InputEnd}
 use Rattle.chain_model.specs.declared.input_end.InputEnd.TheVariants as input
 use Rattle.chain_model.specs.declared.cause.Cause.{Cause}
@@ -50,16 +50,19 @@ FaultRose old new (cause.Input input.ReadFault) = HasCause old.read_faults new.r
 FaultRose old new cause.WriteFault = HasCause old.write_faults new.write_faults
 FaultRose old new _ = Unit {0}
 
--- what failed late, or that nothing did
-abbrev pub LateRose : DeskView → DeskView → Cause → Bool → Type 0
-LateRose old new why true = HasCause old.write_faults new.write_faults ⊎ HasCause old.report_faults new.report_faults
-LateRose old new why false = (status_of why ≡ Done → new.write_faults ≡ old.write_faults) × (new.report_faults ≡ old.report_faults)
+-- what failed late, or that nothing did; the closing of an output that has a name, or a report
+abbrev pub LateRose : Option (List ℕ) → DeskView → DeskView → Cause → Bool → Type 0
+LateRose output old new why true =
+    (IsSome output × HasCause old.write_faults new.write_faults) ⊎ HasCause old.report_faults new.report_faults
+LateRose output old new why false =
+    (status_of why ≡ Done → new.write_faults ≡ old.write_faults) × (new.report_faults ≡ old.report_faults)
 
--- the status tells how the call ended, and a fault is told only where its count rose
-abbrev pub StatusTellsCause : DeskView → DeskView → Status → CallEnd → Type 0
-StatusTellsCause old new status no_input = (status ≡ ReadFault) × HasCause old.read_faults new.read_faults
-StatusTellsCause old new status no_output = (status ≡ WriteFault) × HasCause old.write_faults new.write_faults
-StatusTellsCause old new status (ran cut why late) =
-    (status ≡ (if late then status_when_late (status_of why) else status_of why)) × FaultRose old new why × LateRose old new why late
-StatusTellsCause old new status (unreported cut why) = (status ≡ NoMemory) × FaultRose old new why
-StatusTellsCause old new status out_of_memory = status ≡ NoMemory
+-- the status tells how the call ended, and a fault is told only where its count rose; the output is given by its name
+abbrev pub StatusTellsCause : Option (List ℕ) → DeskView → DeskView → Status → CallEnd → Type 0
+StatusTellsCause output old new status no_input = (status ≡ ReadFault) × HasCause old.read_faults new.read_faults
+StatusTellsCause output old new status no_output = (status ≡ WriteFault) × HasCause old.write_faults new.write_faults
+StatusTellsCause output old new status (ran cut why late) =
+    (status ≡ (if late then status_when_late (status_of why) else status_of why))
+    × FaultRose old new why × LateRose output old new why late
+StatusTellsCause output old new status (unreported cut why) = (status ≡ NoMemory) × FaultRose old new why
+StatusTellsCause output old new status out_of_memory = status ≡ NoMemory

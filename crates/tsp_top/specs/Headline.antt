@@ -1,6 +1,11 @@
 -- The headline: a call that meets no fault and no want of memory. This project's own rule.
-use Rattle.std.specs.Prelude.{◌≡◌, ◌⊎◌, ℕ, List}
+use Rattle.std.specs.Prelude.{◌≡◌, ◌⊎◌, ℕ, List, Some, IfSome}
+use Rattle.chain_model.specs.declared.input_end.InputEnd.TheVariants.{End}
+use Rattle.chain_model.specs.declared.cause.Cause.{Cause}
+use Rattle.chain_model.specs.declared.cause.Cause.TheVariants.{Input, Joint, Until, Stop}
 use Rattle.chain_model.specs.PureRun.{pure_run}
+use Rattle.chain_args.specs.declared.input_conf.InputConf.{InputConf}
+use Rattle.chain_args.specs.declared.input_conf.InputConf.TheVariants as input
 use Rattle.chain_args.specs.declared.plan_type.Plan.{Plan}
 use Rattle.ts_outside.specs.Count.{IsQuiet}
 use Rattle.ts_outside.specs.Told.{grown}
@@ -10,6 +15,11 @@ use Rattle.tsp_top.specs.PlannedChain.{chain_of, output_name}
 use Rattle.tsp_top.specs.StreamTheorem.{outputs_with}
 use Rattle.tsp_top.specs.declared.status.Status.{Status}
 use Rattle.tsp_top.specs.declared.status.Status.TheVariants.{NoMemory}
+
+-- the desk tells these files, where the input is one
+abbrev pub TellsInput : InputConf → DeskView → List (List ℕ × List ℕ) → Type 0
+TellsInput (input.File name) desk files = desk.files ≡ Some files
+TellsInput (input.Null count) desk files = Unit {0}
 
 -- nothing failed outside: no count of faults rose, and none stood at its end
 pub record NothingFails (old new : DeskView) : Type 0 where
@@ -26,3 +36,26 @@ pub record IsPureCall (plan : Plan) (files : List (List ℕ × List ℕ)) (old n
 -- the call did so, or memory was wanting
 abbrev pub IsPureOrWants : Plan → List (List ℕ × List ℕ) → DeskView → DeskView → Status → Type 0
 IsPureOrWants plan files old new status = (status ≡ NoMemory) ⊎ IsPureCall plan files old new status
+
+-- over any desk: the call did so for the files that the desk tells, and where it tells none, for some
+abbrev pub IsPureOfSome : Plan → DeskView → DeskView → Status → Type 0
+IsPureOfSome plan old new status =
+    (files : List (List ℕ × List ℕ)) × IfSome old.files (λ told. files ≡ told) × IsPureOrWants plan files old new status
+
+-- an end that is no fault, no refusal and no lost sync: the input's plain end, joint termination, `until` or a stop
+abbrev pub EndsWell : Cause → Type 0
+EndsWell (Input (End left)) = Unit {0}
+EndsWell Joint = Unit {0}
+EndsWell (Until j) = Unit {0}
+EndsWell (Stop j) = Unit {0}
+EndsWell _ = ⊥
+
+-- two plans differ in the three sizes at most
+pub record SameButSizes (one other : Plan) : Type 0 where
+  pub input : other.input ≡ one.input
+  pub plugins : other.plugins ≡ one.plugins
+  pub output : other.output ≡ one.output
+  pub start : other.general.add_start_stuffing ≡ one.general.add_start_stuffing
+  pub stop : other.general.add_stop_stuffing ≡ one.general.add_stop_stuffing
+  pub between : other.general.add_input_stuffing ≡ one.general.add_input_stuffing
+  pub ignored : other.general.ignore_joint_termination ≡ one.general.ignore_joint_termination

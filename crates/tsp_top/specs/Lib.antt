@@ -1,13 +1,16 @@
 pub mod CallEnd
+pub mod CanEnd
 pub mod ExitNumber
+pub mod MemoryFirst
 pub mod Openings
-pub mod PluginNames
 pub mod PlannedChain
 pub mod Ran
 pub mod Readings
 pub mod Refusals
 pub mod Reported
 pub mod Saying
+pub mod Sizes
 pub mod StreamTheorem
 pub mod TspCall
 pub mod Headline
+pub mod WantsMemory

@@ -1,7 +1,7 @@
--- The chain that a plan asks for, over the files that the desk tells. This project's own rule.
+-- The chain that a plan asks for, over files by name. This project's own rule.
 use Rattle.std.specs.Prelude.{ℕ, suc, List, [], ◌∷◌, ◌++◌, map, if◌then◌else◌, Option, None, Some}
-use Rattle.plug_conf.specs.declared.plugin_conf.PluginConf.{PluginConf}
-use Rattle.plug_conf.specs.JointUse.{uses_joint}
+use Rattle.plug_set.specs.declared.plugin_conf.PluginConf.{PluginConf}
+use Rattle.plug_set.specs.Plugins.{uses_joint}
 use Rattle.chain_args.specs.declared.plan_type.Plan.{Plan}
 use Rattle.chain_args.specs.declared.general_conf.GeneralConf.{GeneralConf}
 use Rattle.chain_args.specs.declared.input_conf.InputConf.{InputConf}
@@ -10,10 +10,11 @@ use Rattle.chain_args.specs.declared.output_conf.OutputConf.{OutputConf}
 use Rattle.chain_args.specs.declared.output_conf.OutputConf.TheVariants as output
 use Rattle.chain_model.specs.InputList.{InputList, input_of_bytes, input_of_nulls}
 use Rattle.chain_model.specs.Stuffed.{Stuffing, stuffed}
+use Rattle.chain_model.specs.Reports.{NamedRule}
 use Rattle.chain_model.specs.PureRun.{Chain}
 use Rattle.ts_outside.specs.Desk.{file_of}
-use Rattle.tsp_top.specs.PluginNames.{name_of}
-use Rattle.plug_set.specs.Rules.{rule_of}
+use Rattle.plug_set.specs.Plugins.{name_of}
+use Rattle.plug_set.specs.Plugins.{rule_of}
 
 -- the stuffing of the general options
 abbrev pub stuffing_of : GeneralConf → Stuffing
@@ -42,12 +43,15 @@ users_from j (conf ∷ confs) = user_at j conf ++ users_from (suc j) confs
 abbrev pub users_of : Plan → List ℕ
 users_of plan = if plan.general.ignore_joint_termination then [] else users_from 1 plan.plugins
 
+-- a plugin: the rule of its settings, and its name
+abbrev pub named_rule_of : PluginConf → NamedRule
+named_rule_of conf = record { rule = rule_of conf; name = name_of conf }
+
 -- the chain of a plan
 abbrev pub chain_of : Plan → List (List ℕ × List ℕ) → Chain
 chain_of plan files = record {
   input = stuffed (stuffing_of plan.general) (input_of plan.input files);
-  rules = map rule_of plan.plugins;
-  names = map name_of plan.plugins;
+  plugins = map named_rule_of plan.plugins;
   users = users_of plan;
 }
 

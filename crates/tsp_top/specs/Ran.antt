@@ -1,5 +1,6 @@
 -- A chain that ran between its two opened ends. This project's own rule.
-use Rattle.std.specs.Prelude.{◌≡◌, ◌≤◌, ℕ, List, map, Bool, ◌⊎◌}
+use Rattle.std.specs.Prelude.{◌≡◌, ◌≤◌, ℕ, List, map, Bool, ◌⊎◌, Option, Result, IfOk, OnErr}
+use Rattle.std.specs.declared.alloc.AllocError.{AllocError}
 use Rattle.std.specs.Bool.{OnTrue}
 use Rattle.ts_packet.specs.declared.cell.Cell.{Cell}
 use Rattle.ts_outside.specs.Source.{SourceView}
@@ -8,17 +9,19 @@ use Rattle.ts_outside.specs.Desk.{DeskView}
 use Rattle.chain_args.specs.declared.plan_type.Plan.{Plan}
 use Rattle.chain_core.specs.declared.closed.Closed.{Closed}
 use Rattle.chain_core.specs.declared.core_plan.CorePlan.{CorePlan}
-use Rattle.chain_core.specs.Stages.{stages_of}
 use Rattle.chain_model.specs.PluginRule.{PluginRule}
 use Rattle.chain_model.specs.Reports.{reports}
 use Rattle.stage_run.specs.declared.input_part.InputPart.{InputPart}
 use Rattle.stage_run.specs.declared.output_part.OutputPart.{OutputPart}
 use Rattle.stage_run.specs.declared.stuffing.Stuffing.{Stuffing}
 use Rattle.stage_run.specs.InputStands as stage
-use Rattle.chain_run.specs.RunOf.{RunOf}
-use Rattle.tsp_top.specs.PluginNames.{name_of}
-use Rattle.tsp_top.specs.PlannedChain.{stuffing_of, users_of}
-use Rattle.tsp_top.specs.Openings.{input_closed_as, output_closed_as, WasOpened}
+use Rattle.stage_run.specs.Seeing.{Seeing}
+use Rattle.chain_run.specs.Fresh.{AreFresh}
+use Rattle.chain_run.specs.RunOf.{RunOf, NeverBegan}
+use Rattle.plug_set.specs.Plugins.{rule_of, steady_of}
+use Rattle.tsp_top.specs.PlannedChain.{stuffing_of, named_rule_of}
+use Rattle.tsp_top.specs.Sizes.{IsPlannedCore}
+use Rattle.tsp_top.specs.Openings.{asked_input, asked_output, OpensInput, OpensOutput, input_closed_as, output_closed_as, WasOpened}
 use Rattle.tsp_top.specs.Reported.{ReportsRun}
 use Rattle.tsp_top.specs.declared.status.Status.{Status}
 use Rattle.tsp_top.specs.declared.status.Status.TheVariants.{NoMemory}
@@ -27,44 +30,60 @@ use Rattle.tsp_top.specs.declared.status.Status.TheVariants.{NoMemory}
 abbrev pub closed_desk : {S K : Type 0} → (S → SourceView) → (K → SinkView) → DeskView → InputPart S → OutputPart K → Bool → DeskView
 closed_desk in_seen out_seen desk input output failed = output_closed_as out_seen (input_closed_as in_seen desk input) output failed
 
--- the numbers that a run is given are the plan's
-pub record IsPlanned (plan : Plan) (stuffing : Stuffing) (core : CorePlan) : Type 0 where
+-- a chain that is ready to run: its stuffing, its numbers and its plugins are the plan's, and no plugin met a cell
+pub record IsReady {P : Type 0} (rule : P → PluginRule) (stands : P → List Cell → ℕ → Type 0) (steady : P → Option ℕ)
+    (plan : Plan) (stuffing : Stuffing) (numbers : CorePlan) (plugins : List P) : Type 0 where
   pub stuffing_is : stage.stuffing_of stuffing ≡ stuffing_of plan.general
-  pub buffer_within : core.buffer ≤ plan.general.buffer_packets
-  pub users_are : stages_of core.users ≡ users_of plan
+  pub every : 1 ≤ stuffing.every
+  pub numbers_are : IsPlannedCore plan numbers
+  pub rules : map rule plugins ≡ map rule_of plan.plugins
+  -- each took its room for as many positions as the buffer has, where its settings say that it does
+  pub rooms : map steady plugins ≡ map (λ conf. steady_of conf numbers.buffer) plan.plugins
+  pub fresh : AreFresh stands plugins
+
+-- a call whose chain is ready and whose two ends were opened, the input first
+pub record IsOpened {S K P : Type 0} (see : Seeing S K P) (plan : Plan) (numbers : CorePlan) (old made : DeskView)
+    (from : InputPart S) (stuffing : Stuffing) (plugins : List P) (to : OutputPart K) : Type 0 where
+  pub ready : IsReady see.rule see.stands see.steady plan stuffing numbers plugins
+  pub asked : made ≡ asked_output (asked_input old plan.input) plan.output
+  pub input : OpensInput see.source old plan.input from
+  pub output : OpensOutput see.sink (asked_input old plan.input) plan.output to
+
+-- what every run owes, whoever serves the stages: it was closed, or there was no memory for it
+pub record EndsRun {S K P : Type 0} (see : Seeing S K P) (stuffing : Stuffing) (numbers : CorePlan)
+    (from made_from : InputPart S) (plugins made : List P) (to made_to : OutputPart K) (closed : Result Closed AllocError) : Type 0 where
+  pub run : IfOk closed (λ closed. RunOf see from made_from stuffing plugins made to made_to numbers closed)
+  pub never_began : OnErr closed (NeverBegan from made_from plugins made to made_to)
 
 -- a run that was closed and reported, or closed only, where there was no memory for its report
-pub record RanClosed {S K P : Type 0} (in_seen : S → SourceView) (out_seen : K → SinkView) (rule : P → PluginRule) (stands : P → List Cell → ℕ → Type 0)
-    (plan : Plan) (old new : DeskView) (from made_from : InputPart S) (plugins : List P) (to made_to : OutputPart K) (failed : Bool) (status : Status) (closed : Closed) : Type 0 where
-  pub stuffing : Stuffing
-  pub core : CorePlan
-  pub planned : IsPlanned plan stuffing core
+pub record RanClosed {S K P : Type 0} (see : Seeing S K P) (plan : Plan) (stuffing : Stuffing) (numbers : CorePlan) (old new : DeskView)
+    (from made_from : InputPart S) (plugins : List P) (to made_to : OutputPart K) (failed : Bool) (status : Status) (closed : Closed) : Type 0 where
   pub made : List P
-  pub run : RunOf in_seen out_seen rule stands from made_from stuffing plugins made to made_to core closed
-  pub reported : ReportsRun (reports (map rule plugins) (map name_of plan.plugins) run.list closed.cut closed.cause) closed.cause failed
-      (closed_desk in_seen out_seen old made_from made_to failed) new status
+  pub run : RunOf see from made_from stuffing plugins made to made_to numbers closed
+  pub reported : ReportsRun (reports (map named_rule_of plan.plugins) run.list closed.cut closed.cause) closed.cause failed
+      (closed_desk see.source see.sink old made_from made_to failed) new status
 
 -- there was no memory for the run: the ends were closed as they were opened
-pub record NotRun {S K : Type 0} (in_seen : S → SourceView) (out_seen : K → SinkView) (old new : DeskView)
+pub record NotRun {S K P : Type 0} (see : Seeing S K P) (old new : DeskView)
     (from made_from : InputPart S) (to made_to : OutputPart K) (failed : Bool) (status : Status) : Type 0 where
   pub status_is : status ≡ NoMemory
   pub input_same : made_from ≡ from
   pub output_same : made_to ≡ to
-  pub desk : new ≡ closed_desk in_seen out_seen old made_from made_to failed
+  pub desk : new ≡ closed_desk see.source see.sink old made_from made_to failed
 
 -- one of the two
-abbrev pub RanEnds : {S K P : Type 0} → (S → SourceView) → (K → SinkView) → (P → PluginRule) → (P → List Cell → ℕ → Type 0)
-    → Plan → DeskView → DeskView → InputPart S → InputPart S → List P → OutputPart K → OutputPart K → Bool → Status → Type 0
-RanEnds in_seen out_seen rule stands plan old new from made_from plugins to made_to failed status =
-    ((closed : Closed) × RanClosed in_seen out_seen rule stands plan old new from made_from plugins to made_to failed status closed)
-    ⊎ NotRun in_seen out_seen old new from made_from to made_to failed status
+abbrev pub RanEnds : {S K P : Type 0} → Seeing S K P → Plan → Stuffing → CorePlan → DeskView → DeskView
+    → InputPart S → InputPart S → List P → OutputPart K → OutputPart K → Bool → Status → Type 0
+RanEnds see plan stuffing numbers old new from made_from plugins to made_to failed status =
+    ((closed : Closed) × RanClosed see plan stuffing numbers old new from made_from plugins to made_to failed status closed)
+    ⊎ NotRun see old new from made_from to made_to failed status
 
 -- the chain ran, both ends were closed, and the run was reported; or there was no memory for the run
-pub record RanOpened {S K P : Type 0} (in_seen : S → SourceView) (out_seen : K → SinkView) (rule : P → PluginRule) (stands : P → List Cell → ℕ → Type 0)
-    (plan : Plan) (old new : DeskView) (from : InputPart S) (plugins : List P) (to : OutputPart K) (status : Status) : Type 0 where
+pub record RanOpened {S K P : Type 0} (see : Seeing S K P) (plan : Plan) (stuffing : Stuffing) (numbers : CorePlan) (old new : DeskView)
+    (from : InputPart S) (plugins : List P) (to : OutputPart K) (status : Status) : Type 0 where
   pub made_from : InputPart S
   pub made_to : OutputPart K
   -- whether the closing of the output failed
   pub failed : Bool
   pub failed_opened : OnTrue failed (WasOpened made_to)
-  pub ends : RanEnds in_seen out_seen rule stands plan old new from made_from plugins to made_to failed status
+  pub ends : RanEnds see plan stuffing numbers old new from made_from plugins to made_to failed status

@@ -2,8 +2,8 @@
 use Rattle.std.specs.Prelude.{◌≡◌, ◌⊎◌, ℕ, ◌<◌, List, [], ◌∷◌, ◌++◌, length, take, drop, codes, Bool, true, false, Option, None, Some, IfSome}
 use Rattle.chain_model.specs.Prefix.{IsPrefix}
 use Rattle.chain_model.specs.StageLists.{end_list}
-use Rattle.chain_model.specs.Cut.{cut_of, IsLawfulFault}
-use Rattle.chain_model.specs.PureRun.{Chain, written_to, reported_at}
+use Rattle.chain_model.specs.Cut.{IsLawfulFault}
+use Rattle.chain_model.specs.PureRun.{Chain, chain_rules, chain_cut, written_to, reported_at}
 use Rattle.chain_model.specs.declared.cause.Cause.{Cause}
 use Rattle.chain_model.specs.declared.cause.Cause.TheVariants.{WriteFault}
 use Rattle.chain_args.specs.declared.plan_type.Plan.{Plan}
@@ -17,6 +17,8 @@ use Rattle.ts_outside.specs.declared.requests.Purpose.TheVariants.{Input, Output
 use Rattle.ts_outside.specs.Desk.{DeskView}
 use Rattle.stage_run.specs.OutputStands.{IsPartOfFirst}
 use Rattle.tsp_top.specs.CallEnd.{CallEnd, no_input, no_output, ran, unreported, out_of_memory, StatusTellsCause}
+use Rattle.tsp_top.specs.CanEnd.{CanEnd}
+use Rattle.tsp_top.specs.MemoryFirst.{AreSteady, IsMemoryFirst}
 use Rattle.tsp_top.specs.PlannedChain.{chain_of, input_name, output_name}
 use Rattle.tsp_top.specs.Readings.{ReadsNothing, ReadsTo}
 use Rattle.tsp_top.specs.declared.status.Status.{Status}
@@ -24,7 +26,8 @@ use Rattle.tsp_top.specs.declared.status.Status.{Status}
 -- cut and cause are those of the run without faults, or a fault ended the chain where it may
 abbrev pub IsPureOrFault : Chain → ℕ → Cause → Type 0
 IsPureOrFault chain cut why =
-    IsPureClose chain.rules chain.input chain.users cut why ⊎ IsLawfulFault chain.rules chain.input chain.users cut why
+    IsPureClose (chain_rules chain) chain.input chain.users cut why
+    ⊎ IsLawfulFault (chain_rules chain) chain.input chain.users cut why
 
 abbrev pub EndsRight : Chain → CallEnd → Type 0
 EndsRight chain (ran cut why late) = IsPureOrFault chain cut why
@@ -39,7 +42,7 @@ IsCutPart cells cut _ part = part ≡ []
 -- the bytes of the cells before the cut, and after a failing write alone a part of the next packet
 abbrev pub IsWrittenTo : Chain → ℕ → Cause → List ℕ → Type 0
 IsWrittenTo chain cut why bytes =
-    (part : List ℕ) × (bytes ≡ written_to chain cut ++ part) × IsCutPart (end_list chain.rules chain.input).cells cut why part
+    (part : List ℕ) × (bytes ≡ written_to chain cut ++ part) × IsCutPart (end_list (chain_rules chain) chain.input).cells cut why part
 
 -- the closed outputs with one more, unless packets are dropped
 abbrev pub outputs_with : Option (List ℕ) → Option (List (List ℕ × List ℕ)) → List ℕ → Option (List (List ℕ × List ℕ))
@@ -51,7 +54,7 @@ abbrev pub WritesTo : Plan → Chain → DeskView → DeskView → ℕ → Cause
 WritesTo plan chain old new cut why =
     (bytes : List ℕ) × (new.outputs ≡ outputs_with (output_name plan.output) old.outputs bytes)
     × IsWrittenTo chain cut why bytes
-    × IsPrefix bytes (written_to chain (cut_of chain.rules chain.input chain.users))
+    × IsPrefix bytes (written_to chain (chain_cut chain))
 
 -- what is written; nothing before the chain ran
 abbrev pub Writes : Plan → Chain → DeskView → DeskView → CallEnd → Type 0
@@ -108,16 +111,23 @@ Opens plan old new out_of_memory =
 -- a call of `tsp` whose words have this plan
 pub record StreamTheorem (plan : Plan) (old new : DeskView) (status : Status) : Type 0 where
   pub end : CallEnd
+  -- the files by name: those that the desk tells, and where it tells none, some
+  pub files : List (List ℕ × List ℕ)
+  pub files_are : IfSome old.files (λ told. files ≡ told)
   -- the status tells the cause
-  pub status_tells_cause : StatusTellsCause old new status end
+  pub status_tells_cause : StatusTellsCause (output_name plan.output) old new status end
+  -- it is an end that this plan can come to
+  pub can_end : CanEnd plan end
   -- a cause without fault is the cause of the run without faults, at its cut
-  pub pure_or_fault : IfSome old.files (λ files. EndsRight (chain_of plan files) end)
+  pub pure_or_fault : EndsRight (chain_of plan files) end
+  -- plugins that take their room before the run do not want memory in it
+  pub memory_first : AreSteady plan.plugins → IsMemoryFirst end
   -- what is read
-  pub reads : IfSome old.files (λ files. Reads plan files old new end)
+  pub reads : Reads plan files old new end
   -- what is written
-  pub written : IfSome old.files (λ files. Writes plan (chain_of plan files) old new end)
+  pub written : Writes plan (chain_of plan files) old new end
   -- what is reported
-  pub reported : IfSome old.files (λ files. Reports (chain_of plan files) old new end)
+  pub reported : Reports (chain_of plan files) old new end
   -- what is opened, in which order
   pub opened : Opens plan old new end
   pub files_stay : new.files ≡ old.files

@@ -1,31 +1,17 @@
-//! The top call: a plan of the words, plugins, two ends, and the run between them.
-ghost use Rattle.std.specs.Prelude.{◌≡◌, ◌⊎◌, ◌++◌, map, IfOk, OnOk};
-ghost use Rattle.std.specs.List.{All};
+//! The top call: the words are read and the ends opened, the chain runs, and the run is reported.
+ghost use Rattle.std.specs.Prelude.{map};
 ghost use Rattle.std.specs.String.{string_bytes};
-ghost use Rattle.plug_conf.specs.Lawful.{IsLawful};
-ghost use Rattle.plug_set.specs.Rules.{rule_of};
-ghost use Rattle.chain_args.specs.LawfulPlan.{IsLawfulPlan};
-ghost use Rattle.chain_run.specs.Fresh.{AreFresh};
-ghost use Rattle.ts_outside.specs.Desk.{DeskView};
-ghost use Rattle.tsp_top.specs.Openings.{asked_input, OpensInput};
-ghost use Rattle.tsp_top.specs.StreamTheorem.{StreamTheorem};
 ghost use Rattle.tsp_top.specs.TspCall.{CallsTsp};
-ghost use Rattle.tsp_top.specs.declared.status.Status.TheVariants.{NoMemory};
 
-use crate::opening::{close_input, open_input, open_output};
-use crate::running::run_opened;
-use crate::saying::say;
+use crate::beginning::begin;
+use crate::finishing::finish;
+use crate::one_thread::run_in_one_thread;
+use crate::opened_call::OpenedCall;
 use crate::status::Status;
-use crate::words::refuse_words;
-use chain_args::{Plan, WordsFault, plan};
-use plug_conf::PluginConf;
-use plug_set::AnyPlugin;
-use plugin_trait::Plugin;
-use stage_run::InputPart;
-use std::alloc::{AllocError, Global};
+use std::alloc::Global;
 use std::sync::Wait;
 use std::thread::Threads;
-use ts_outside::{Desk, Gate, OpenFault};
+use ts_outside::{Desk, Gate};
 
 /// Does what the words of a command line ask for, given without the program's name.
 ///
@@ -63,97 +49,11 @@ pub fn serial_call<D: Desk, G: Gate>(
 ) -> Status
     ensures { CallsTsp (map string_bytes words.now) (D.seen desk.old) (D.seen desk.new) result }
 {
-    match plan(alloc, words) {
-        Ok(plan) => call_plan(alloc, desk, &plan, gate),
-        Err(WordsFault::At { word, rule }) => refuse_words(alloc, desk, word, rule),
-        Err(WordsFault::NoMemory) => Status::NoMemory,
-    }
-}
-
-/// Does what a plan asks for.
-fn call_plan<D: Desk, G: Gate>(alloc: Global, desk: &mut D, plan: &Plan, gate: &G) -> Status
-    requires { IsLawfulPlan plan.now }
-    ensures { StreamTheorem plan.now (D.seen desk.old) (D.seen desk.new) result
-        ⊎ ((result ≡ NoMemory) × (D.seen desk.new ≡ D.seen desk.old)) }
-{
-    let mut plugins: Vec<AnyPlugin> = Vec::new(alloc);
-    let buffer = plan.general.buffer_packets as usize;
-    match add_plugins(alloc, &mut plugins, plan.plugins.as_slice(), buffer) {
-        Ok(()) => open_and_run(alloc, desk, plan, plugins, gate),
-        Err(AllocError) => Status::NoMemory,
-    }
-}
-
-/// Puts the plugins of these settings, which met no cell yet, behind others.
-#[tactic(auto, using(crate::proofs::CallLemmas::fresh_push))]
-fn add_plugins(
-    alloc: Global,
-    plugins: &mut Vec<AnyPlugin>,
-    confs: &[PluginConf],
-    buffer: usize,
-) -> Result<(), AllocError>
-    requires lawful { All IsLawful confs.now }
-    requires before { AreFresh ⟦<AnyPlugin as Plugin>⟧.stands_for plugins.old.items }
-    ensures rules { OnOk result (map ⟦<AnyPlugin as Plugin>⟧.rule plugins.new.items ≡ map ⟦<AnyPlugin as Plugin>⟧.rule plugins.old.items ++ map rule_of confs.now) }
-    ensures fresh { OnOk result (AreFresh ⟦<AnyPlugin as Plugin>⟧.stands_for plugins.new.items) }
-{
-    let Some((conf, rest)) = confs.split_first() else {
-        return Ok(());
-    };
-    plugins.push(AnyPlugin::of(alloc, conf, buffer)?)?;
-    add_plugins(alloc, plugins, rest, buffer)
-}
-
-/// Opens the input, and runs these plugins behind it.
-fn open_and_run<P: Plugin + Drop, D: Desk, G: Gate>(
-    alloc: Global,
-    desk: &mut D,
-    plan: &Plan,
-    plugins: Vec<P>,
-    gate: &G,
-) -> Status
-    requires lawful { IsLawfulPlan plan.now }
-    requires rules { map P.rule plugins.items ≡ map rule_of plan.now.plugins }
-    requires fresh { AreFresh P.stands_for plugins.items }
-    ensures { StreamTheorem plan.now (D.seen desk.old) (D.seen desk.new) result
-        ⊎ ((result ≡ NoMemory) × (D.seen desk.new ≡ D.seen desk.old)) }
-{
-    match open_input(desk, &plan.input) {
-        Ok(input) => run_behind(alloc, desk, plan, input, plugins, gate),
-        Err(OpenFault::Failed) => {
-            say(desk, "tsp: cannot open input\n");
-            Status::ReadFault
+    match begin(alloc, words, desk) {
+        Ok(OpenedCall { plan, core, stages }) => {
+            let end = run_in_one_thread(alloc, stages, &core, gate);
+            finish(alloc, desk, &plan, end)
         }
-        Err(OpenFault::NoMemory) => Status::NoMemory,
-    }
-}
-
-/// Opens the output, and runs these plugins between the input and it.
-fn run_behind<P: Plugin + Drop, D: Desk, G: Gate>(
-    alloc: Global,
-    desk: &mut D,
-    plan: &Plan,
-    input: InputPart<D::In>,
-    plugins: Vec<P>,
-    gate: &G,
-) -> Status
-    requires lawful { IsLawfulPlan plan.now }
-    requires opened { ((old : DeskView) × OpensInput D.In.seen old plan.now.input input) }
-    requires rules { map P.rule plugins.items ≡ map rule_of plan.now.plugins }
-    requires fresh { AreFresh P.stands_for plugins.items }
-    ensures { (old : DeskView) → D.seen desk.old ≡ asked_input old plan.now.input
-        → OpensInput D.In.seen old plan.now.input input → StreamTheorem plan.now old (D.seen desk.new) result }
-{
-    match open_output(desk, &plan.output) {
-        Ok(output) => run_opened(alloc, desk, plan, input, plugins, output, gate),
-        Err(OpenFault::Failed) => {
-            close_input(desk, input);
-            say(desk, "tsp: cannot open output\n");
-            Status::WriteFault
-        }
-        Err(OpenFault::NoMemory) => {
-            close_input(desk, input);
-            Status::NoMemory
-        }
+        Err(status) => status,
     }
 }

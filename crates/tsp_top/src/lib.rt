@@ -2,19 +2,25 @@
 //! The program uses the clauses of `tsp_call`, the stream theorem, and nothing else.
 #![tactic(auto)]
 
+mod beginning;
 mod call;
 mod end_line;
+mod finishing;
+mod one_thread;
+mod opened_call;
 mod opening;
 mod planning;
+mod ready;
 mod report;
 mod reporting;
-mod running;
 mod saying;
 mod status;
+mod steady;
 mod stream_law;
 mod words;
 
 pub use call::{serial_call, tsp_call};
 pub use chain_args::{WordsFault, WordsRule};
 pub use status::Status;
-pub use stream_law::headline;
+pub use steady::steady_call;
+pub use stream_law::{completeness, headline, memory_first, sizes_change_nothing};

@@ -2,14 +2,14 @@
 ghost use Rattle.std.specs.Prelude.{◌≡◌, ◌≤◌, ◌<◌, ◌+◌, ◌++◌, suc, length, All};
 ghost use Rattle.chain_args.specs.LawfulPlan.{IsLawfulGeneral};
 ghost use Rattle.chain_args.specs.LawfulPlan as args;
-ghost use Rattle.chain_core.specs.CoreNumbers as core;
 ghost use Rattle.chain_core.specs.Stages.{stages_of};
 ghost use Rattle.stage_run.specs.InputStands as stage;
 ghost use Rattle.tsp_top.specs.PlannedChain.{stuffing_of, user_at, users_from, users_of};
+ghost use Rattle.tsp_top.specs.Sizes.{default_buffer, default_batch, IsSize, lesser_batch, IsPlannedCore};
 
 use chain_args::{GeneralConf, Plan};
 use chain_core::{CorePlan, StageSet};
-use plug_conf::PluginConf;
+use plug_set::PluginConf;
 use stage_run::Stuffing;
 
 /// The stuffing of the general options.
@@ -27,19 +27,36 @@ pub(crate) fn planned_stuffing(general: &GeneralConf) -> Stuffing
     }
 }
 
-/// One thread takes no more packets at a time than this, however many the options allow: so many stay in the processor's
-/// cache from the input to the output, and each call of the outside still moves 188 KiB.
-const MOST_AT_A_TIME: u64 = 1024;
+/// How many packets the buffer has where the words do not say, and how many a stage takes at a time: so many stay in the
+/// processor's cache on their way. Where the stages take turns, a buffer of more than one turn's packets serves nothing.
+const CHOSEN_SIZE: u64 = 1024;
+
+/// How many packets a stage takes at a time by an option that is not given, where the other one is.
+const DEFAULT_BATCH: u64 = 10_000;
+
+/// How many packets the buffer has.
+fn planned_buffer(general: &GeneralConf) -> u64
+    requires { IsLawfulGeneral general.now }
+    ensures size { IsSize general.now.buffer_packets default_buffer result }
+    ensures some { 1 ≤ result }
+    ensures bound { result ≤ 1000000 }
+{
+    general.buffer_packets.unwrap_or(CHOSEN_SIZE)
+}
 
 /// How many packets a stage takes at a time: no more than either option allows.
-pub(crate) fn planned_size(general: &GeneralConf) -> u32
+fn planned_batch(general: &GeneralConf) -> u64
     requires { IsLawfulGeneral general.now }
+    ensures size { IsSize (lesser_batch general.now.max_input_packets general.now.max_flushed_packets) default_batch result }
     ensures some { 1 ≤ result }
-    ensures input { result ≤ general.now.max_input_packets }
-    ensures flushed { result ≤ general.now.max_flushed_packets }
+    ensures bound { result ≤ 1000000 }
 {
-    let most = general.max_input_packets.min(general.max_flushed_packets);
-    most.min(MOST_AT_A_TIME) as u32
+    match (general.max_input_packets, general.max_flushed_packets) {
+        (None, None) => CHOSEN_SIZE,
+        (Some(input), None) => input.min(DEFAULT_BATCH),
+        (None, Some(flushed)) => DEFAULT_BATCH.min(flushed),
+        (Some(input), Some(flushed)) => input.min(flushed),
+    }
 }
 
 /// The set with this stage too, if its plugin uses joint termination.
@@ -80,19 +97,15 @@ fn planned_users(plan: &Plan) -> StageSet
     }
 }
 
-/// The numbers of the chain's core. Where the stages take turns, a buffer of more than one turn's packets serves nothing.
+/// The numbers of the chain's core: each size is the one that the words give, or chosen where they give none.
 pub(crate) fn planned_core(plan: &Plan) -> CorePlan
     requires { args.IsLawfulPlan plan.now }
-    ensures lawful { core.IsLawfulPlan result }
-    ensures plugins { result.plugins ≡ length plan.now.plugins }
-    ensures buffer { result.buffer ≤ plan.now.general.buffer_packets }
-    ensures users { stages_of result.users ≡ users_of plan.now }
+    ensures { IsPlannedCore plan.now result }
 {
-    let most = planned_size(&plan.general) as usize;
     CorePlan {
         plugins: plan.plugins.as_slice().len(),
-        buffer: most.min(plan.general.buffer_packets as usize),
-        most,
+        buffer: planned_buffer(&plan.general) as usize,
+        most: planned_batch(&plan.general) as usize,
         users: planned_users(plan),
     }
 }

@@ -1,11 +1,11 @@
 //! The report of a run that was closed, and the status that tells it.
-ghost use Rattle.std.specs.Prelude.{◌≡◌, ◌<◌, ◌+◌, ◌^◌, ◌++◌, length, map, IfOk, List};
+ghost use Rattle.std.specs.Prelude.{◌≡◌, ◌<◌, ◌^◌, length, map, IfOk};
 ghost use Rattle.std.specs.String.{string_bytes};
-ghost use Rattle.chain_model.specs.PluginRule.{PluginRule};
 ghost use Rattle.chain_model.specs.Apply.{StageList};
 ghost use Rattle.chain_model.specs.Reports.{reports};
 ghost use Rattle.chain_run.specs.Met.{AllMetTo};
-ghost use Rattle.tsp_top.specs.PluginNames.{name_of};
+ghost use Rattle.plug_set.specs.Plugins.{rule_of};
+ghost use Rattle.tsp_top.specs.PlannedChain.{named_rule_of};
 ghost use Rattle.tsp_top.specs.Reported.{ReachesCut, ReportsRun};
 
 use crate::end_line::end_line_text;
@@ -13,7 +13,7 @@ use crate::reporting::push_reports;
 use crate::saying::say;
 use crate::status::{Status, status_if_late, status_of_cause};
 use chain_core::Closed;
-use plug_conf::PluginConf;
+use plug_set::PluginConf;
 use plugin_trait::Plugin;
 use std::alloc::{AllocError, Global};
 use ts_outside::Desk;
@@ -25,12 +25,11 @@ fn report_text<P: Plugin>(
     confs: &[PluginConf],
     closed: Closed,
 ) -> Result<String, AllocError>
-    requires one_each { length confs.now ≡ length plugins.old }
+    requires rules { map P.rule plugins.old ≡ map rule_of confs.now }
     requires numbers { length plugins.old < 2 ^ 62 }
     requires reach { ReachesCut P.stands_for plugins.old closed.cut 0 }
-    ensures { (rules : List PluginRule) (input : StageList) → AllMetTo P.stands_for rules input closed.cut 0 plugins.old
-        → rules ≡ map P.rule plugins.old
-        → IfOk result (λ text. string_bytes text ≡ reports rules (map name_of confs.now) input closed.cut closed.cause) }
+    ensures { (input : StageList) → AllMetTo P.stands_for (map P.rule plugins.old) input closed.cut 0 plugins.old
+        → IfOk result (λ text. string_bytes text ≡ reports (map named_rule_of confs.now) input closed.cut closed.cause) }
 {
     let mut text = String::new(alloc);
     push_reports(&mut text, plugins, confs, 0, closed.cut)?;
@@ -48,12 +47,11 @@ pub(crate) fn report_run<P: Plugin, D: Desk>(
     closed: Closed,
     closing_failed: bool,
 ) -> Status
-    requires one_each { length confs.now ≡ length plugins.old }
+    requires rules { map P.rule plugins.old ≡ map rule_of confs.now }
     requires numbers { length plugins.old < 2 ^ 62 }
     requires reach { ReachesCut P.stands_for plugins.old closed.cut 0 }
-    ensures { (rules : List PluginRule) (input : StageList) → AllMetTo P.stands_for rules input closed.cut 0 plugins.old
-        → rules ≡ map P.rule plugins.old
-        → ReportsRun (reports rules (map name_of confs.now) input closed.cut closed.cause) closed.cause closing_failed (D.seen desk.old) (D.seen desk.new) result }
+    ensures { (input : StageList) → AllMetTo P.stands_for (map P.rule plugins.old) input closed.cut 0 plugins.old
+        → ReportsRun (reports (map named_rule_of confs.now) input closed.cut closed.cause) closed.cause closing_failed (D.seen desk.old) (D.seen desk.new) result }
 {
     match report_text(alloc, plugins, confs, closed) {
         Ok(text) => {

@@ -1,4 +1,5 @@
 use Rattle.std.proofs.Common.{◌∷◌, [], List, sym, ap, ◌∙◌, append-nil, arith}
+use Rattle.stage_run.specs.Seeing.{seeing}
 use Rattle.stage_run.specs.declared.stage_part.StagePart.{StagePart}
 use Rattle.chain_run.proofs.PartLemmas.{first-taken, none-taken}
 use Rattle.chain_run.proofs.parts.+take_plugins.Goals as goal
@@ -7,7 +8,7 @@ pub returns-then-len-le1-clause-taken : goal.returns-then-len-le1-clause-taken
 returns-then-len-le1-clause-taken g t c = (
   [],
   sym (append-nil c.args.plugins.now.items),
-  none-taken g.S.Source.seen g.K.Sink.seen g.P.Plugin.rule g.P.Plugin.stands_for c.args.parts.now.items (omega arith) c.requires.kinds,
+  none-taken (seeing g.S.Source.seen g.K.Sink.seen g.P.Plugin.rule g.P.Plugin.stands_for g.P.Plugin.steady) c.args.parts.now.items (omega arith) c.requires.kinds,
 )
 
 pub returns-clause-one_left : goal.returns-clause-one_left

@@ -1,8 +1,9 @@
+use Rattle.stage_run.specs.Seeing.{seeing}
 use Rattle.stage_run.specs.PartStands.{PartStands}
 use Rattle.stage_run.proofs.FreshLemmas.{any-source, any-sink, fresh-works}
 use Rattle.stage_run.proofs.tests.plugin.Goals as goal
 
 pub returns-clause-may : goal.returns-clause-may
 returns-clause-may g c =
-    fresh-works (PartStands g.S.Source.seen g.K.Sink.seen g.P.Plugin.rule g.P.Plugin.stands_for c.of_plugin.result) any-source any-sink
+    fresh-works (PartStands (seeing g.S.Source.seen g.K.Sink.seen g.P.Plugin.rule g.P.Plugin.stands_for g.P.Plugin.steady) c.of_plugin.result) any-source any-sink
     (c.of_plugin.ensures.stands any-source any-sink 0 c.requires.fresh)

@@ -4,8 +4,9 @@ use Rattle.std.specs.String.{string_bytes}
 use Rattle.std.specs.List.{flat_map}
 use Rattle.chain_model.specs.Reports.{plugin_line, reports_from}
 use Rattle.plugin_trait.specs.declared.line.Line.{Line}
-use Rattle.tsp_top.specs.PluginNames.{name_of}
-use Rattle.tsp_top.proofs.ReportLemmas.{ReachesCut-split, report-split}
+use Rattle.plug_set.specs.Plugins.{name_of}
+use Rattle.tsp_top.specs.PlannedChain.{named_rule_of}
+use Rattle.tsp_top.proofs.ReportLemmas.{ReachesCut-split, report-split, rest-rules}
 use Rattle.tsp_top.proofs.reporting.+push_reports.Goals as goal
 
 pub report-requires : goal.report-requires
@@ -13,21 +14,21 @@ report-requires g t c =
     (ReachesCut-split g.P.Plugin.stands_for c.args.plugins.now c.in-Some.rest.now c.in-Some.first.now c.args.cut c.args.j
     c.in-Some.ensures.cases.0 c.requires.reach).0
 
+pub push_reports-requires : goal.push_reports-requires
+push_reports-requires g t c = ?
+
 pub returns : goal.returns
 returns g t c = λ rules input met.
     let texts : List (List ℕ) = map (λ (line : Line). line.text) c.in_ok-lines.lines.items in
-    let names : map name_of c.args.confs.now ≡ name_of c.in-Some-split_first.conf.now ∷ map name_of c.in-Some-split_first.later.now =
-    ap (map name_of) c.in-Some-split_first.ensures.cases.0 in
     let split = report-split g.P.Plugin.rule g.P.Plugin.stands_for rules input c.args.plugins.now c.in-Some.rest.now c.in-Some.first.now
-    (map name_of c.args.confs.now) (map name_of c.in-Some-split_first.later.now) (name_of c.in-Some-split_first.conf.now)
-    c.args.j c.args.cut texts c.in-Some.ensures.cases.0 names met c.in_ok-lines.ensures in
+    c.args.confs.now c.in-Some-split_first.later.now c.in-Some-split_first.conf.now
+    c.args.j c.args.cut texts c.in-Some.ensures.cases.0 c.in-Some-split_first.ensures.cases.0 c.requires.same_rules met c.in_ok-lines.ensures in
     let name : List ℕ = name_of c.in-Some-split_first.conf.now in
     let first : List ℕ = string_bytes c.args.text.now in
-    let later : List ℕ = reports_from rules input c.args.cut (c.args.j + 1) (map g.P.Plugin.rule c.in-Some.rest.now)
-    (map name_of c.in-Some-split_first.later.now) in
+    let later : List ℕ = reports_from rules input c.args.cut (c.args.j + 1) (map named_rule_of c.in-Some-split_first.later.now) in
     let pushed : string_bytes c.push_lines.new.text ≡ first ++ flat_map (plugin_line (c.args.j + 1) name) texts =
     c.in_ok-push_lines.ensures
-    ∙ ap (λ (n : List ℕ). first ++ flat_map (plugin_line (c.args.j + 1) n) (map (λ (line : Line). line.text) c.deref.result.now)) c.plugin_name.ensures
+    ∙ ap (λ (n : List ℕ). first ++ flat_map (plugin_line (c.args.j + 1) n) (map (λ (line : Line). line.text) c.deref.result.now)) c.name.ensures
     ∙ ap (λ (l : List Line). first ++ flat_map (plugin_line (c.args.j + 1) name) (map (λ (line : Line). line.text) l)) c.deref.ensures.value in
     on_ok_weaker c.push_reports.result
     (λ e. e ∙ (ap (λ (l : List ℕ). l ++ later) pushed

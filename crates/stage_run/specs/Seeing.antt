@@ -1,0 +1,19 @@
+-- How contracts see the ends and the plugins of a chain: what their traits say of them, as one. This project's own rule.
+use Rattle.std.specs.Prelude.{ℕ, List, Option}
+use Rattle.ts_packet.specs.declared.cell.Cell.{Cell}
+use Rattle.ts_outside.specs.Source.{SourceView}
+use Rattle.ts_outside.specs.Sink.{SinkView}
+use Rattle.chain_model.specs.PluginRule.{PluginRule}
+
+-- what is seen of a source and of a sink; of a plugin its rule, what it stands for, and for what it made room before the run
+pub record Seeing (S K P : Type 0) : Type 1 where
+  pub source : S → SourceView
+  pub sink : K → SinkView
+  pub rule : P → PluginRule
+  pub stands : P → List Cell → ℕ → Type 0
+  pub steady : P → Option ℕ
+
+abbrev pub seeing : {S K P : Type 0} → (S → SourceView) → (K → SinkView) → (P → PluginRule)
+    → (P → List Cell → ℕ → Type 0) → (P → Option ℕ) → Seeing S K P
+seeing source sink rule stands steady =
+    record { source = source; sink = sink; rule = rule; stands = stands; steady = steady }

@@ -1,8 +1,0 @@
-use Rattle.std.proofs.Common.{inl}
-use Rattle.tsp_top.proofs.CallLemmas.{no-input-theorem, open-failed}
-use Rattle.tsp_top.proofs.call.open_and_run.Goals as goal
-
-pub returns-in-Err-Failed : goal.returns-in-Err-Failed
-returns-in-Err-Failed g c =
-    inl (no-input-theorem c.args.plan.now (g.D.Desk.seen c.args.desk.now) (g.D.Desk.seen c.open_input.new.desk) (g.D.Desk.seen c.say.new.desk) c.say.result
-    c.in-Err-Failed.ensures.named (open-failed _ _ _ c.in-Err-Failed.field-0 c.in-Err-Failed.field-0-is c.in-Err-Failed.ensures.asked) c.say.ensures)

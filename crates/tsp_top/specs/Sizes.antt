@@ -1,0 +1,41 @@
+-- The sizes of a run. This project's own rule: a size that the words give holds as it stands; one that they do not give is
+-- the program's own choice, at most the option's default. No byte and no line depends on them.
+use Rattle.std.specs.Prelude.{◌≡◌, ◌≤◌, ℕ, min, length, Option, None, Some, unwrap_or}
+use Rattle.chain_args.specs.declared.general_conf.GeneralConf.{GeneralConf}
+use Rattle.chain_args.specs.declared.plan_type.Plan.{Plan}
+use Rattle.chain_core.specs.declared.core_plan.CorePlan.{CorePlan}
+use Rattle.chain_core.specs.CoreNumbers as core
+use Rattle.chain_core.specs.Stages.{stages_of}
+use Rattle.tsp_top.specs.PlannedChain.{users_of}
+
+-- the defaults of the options: packets of the buffer, and packets that a stage takes at a time
+abbrev pub default_buffer : ℕ
+default_buffer = 89240
+
+abbrev pub default_batch : ℕ
+default_batch = 10000
+
+-- a size that is given holds; one that is not given is some number, at most the default
+abbrev pub IsSize : Option ℕ → ℕ → ℕ → Type 0
+IsSize (Some given) default size = size ≡ given
+IsSize None default size = (1 ≤ size) × (size ≤ default)
+
+-- how many packets a stage takes at a time: the lesser of the two options, one that is not given counted by its default;
+-- nothing is said where neither is given
+abbrev pub lesser_batch : Option ℕ → Option ℕ → Option ℕ
+lesser_batch None None = None
+lesser_batch (Some input) None = Some (min input default_batch)
+lesser_batch None (Some flushed) = Some (min default_batch flushed)
+lesser_batch (Some input) (Some flushed) = Some (min input flushed)
+
+-- the most packets that the buffer may have
+abbrev pub most_buffer : GeneralConf → ℕ
+most_buffer general = unwrap_or general.buffer_packets default_buffer
+
+-- the numbers of a chain's core are the plan's
+pub record IsPlannedCore (plan : Plan) (numbers : CorePlan) : Type 0 where
+  pub lawful : core.IsLawfulPlan numbers
+  pub plugins : numbers.plugins ≡ length plan.plugins
+  pub buffer : IsSize plan.general.buffer_packets default_buffer numbers.buffer
+  pub most : IsSize (lesser_batch plan.general.max_input_packets plan.general.max_flushed_packets) default_batch numbers.most
+  pub users : stages_of numbers.users ≡ users_of plan

@@ -1,0 +1,25 @@
+-- What is left where memory was wanting, of chains whose plugins take their room before the run. This project's own rule.
+use Rattle.std.specs.Prelude.{◌≡◌, ◌⊎◌, ℕ, List, [], IfSome}
+use Rattle.chain_model.specs.declared.cause.Cause.{Cause}
+use Rattle.chain_args.specs.declared.plan_type.Plan.{Plan}
+use Rattle.ts_outside.specs.Desk.{DeskView}
+use Rattle.tsp_top.specs.MemoryFirst.{NoStageWants}
+use Rattle.tsp_top.specs.PlannedChain.{chain_of, output_name}
+use Rattle.tsp_top.specs.StreamTheorem.{IsPureOrFault, WritesTo, ReportsNothing, outputs_with}
+
+-- the run wrote all that its cut and cause say, and no stage wanted memory: only the report did
+pub record WroteUnreported (plan : Plan) (old new : DeskView) : Type 0 where
+  pub files : List (List ℕ × List ℕ)
+  pub files_are : IfSome old.files (λ told. files ≡ told)
+  pub cut : ℕ
+  pub why : Cause
+  pub no_want : NoStageWants why
+  pub pure_or_fault : IsPureOrFault (chain_of plan files) cut why
+  pub written : WritesTo plan (chain_of plan files) old new cut why
+
+-- nothing is reported; and no output was closed, or an empty one, or one with all that the run wrote
+abbrev pub WantsMemoryFirst : Plan → DeskView → DeskView → Type 0
+WantsMemoryFirst plan old new =
+    ReportsNothing old new
+    × ((new.outputs ≡ old.outputs)
+    ⊎ ((new.outputs ≡ outputs_with (output_name plan.output) old.outputs []) ⊎ WroteUnreported plan old new))

@@ -1,0 +1,128 @@
+//! A call until its run: the words are read, the chain is made ready, and its two ends are opened.
+ghost use Rattle.std.specs.Prelude.{◌≡◌, map, MatchResult, Some};
+ghost use Rattle.std.specs.String.{string_bytes};
+ghost use Rattle.chain_args.specs.LawfulPlan.{IsLawfulPlan};
+ghost use Rattle.chain_args.specs.PlanOf.{plan_of};
+ghost use Rattle.stage_run.specs.Seeing.{seeing};
+ghost use Rattle.ts_outside.specs.Desk.{DeskView};
+ghost use Rattle.tsp_top.specs.Openings.{asked_input, OpensInput};
+ghost use Rattle.tsp_top.specs.Ran.{IsReady, IsOpened};
+ghost use Rattle.tsp_top.specs.StreamTheorem.{StreamTheorem};
+ghost use Rattle.tsp_top.specs.TspCall.{CallsTsp, IsOverBefore};
+
+use crate::opened_call::OpenedCall;
+use crate::opening::{close_input, open_input, open_output};
+use crate::ready::{ReadyChain, ready_chain};
+use crate::saying::say;
+use crate::status::Status;
+use crate::words::refuse_words;
+use chain_args::{Plan, WordsFault, plan};
+use chain_run::Stages;
+use plug_set::AnyPlugin;
+use plugin_trait::Plugin;
+use stage_run::InputPart;
+use std::alloc::{AllocError, Global};
+use ts_outside::{Desk, OpenFault};
+
+/// Reads the words and opens what they name. The answer is the call that is open, or the status of one that is over.
+pub(crate) fn begin<D: Desk>(
+    alloc: Global,
+    words: &[String],
+    desk: &mut D,
+) -> Result<OpenedCall<D::In, D::Out, AnyPlugin>, Status>
+    ensures { MatchResult result
+        (λ call. (plan_of (map string_bytes words.now) ≡ Some call.plan)
+        × IsOpened (seeing D.In.seen D.Out.seen ⟦<AnyPlugin as Plugin>⟧.rule ⟦<AnyPlugin as Plugin>⟧.stands_for ⟦<AnyPlugin as Plugin>⟧.steady) call.plan call.core (D.seen desk.old) (D.seen desk.new) call.stages.input call.stages.stuffing call.stages.plugins.items call.stages.output)
+        (λ status. CallsTsp (map string_bytes words.now) (D.seen desk.old) (D.seen desk.new) status) }
+{
+    match plan(alloc, words) {
+        Ok(plan) => begin_plan(alloc, desk, plan),
+        Err(WordsFault::At { word, rule }) => Err(refuse_words(alloc, desk, word, rule)),
+        Err(WordsFault::NoMemory) => Err(Status::NoMemory),
+    }
+}
+
+/// Makes the chain of a plan ready, and opens its ends.
+fn begin_plan<D: Desk>(
+    alloc: Global,
+    desk: &mut D,
+    plan: Plan,
+) -> Result<OpenedCall<D::In, D::Out, AnyPlugin>, Status>
+    requires { IsLawfulPlan plan }
+    ensures { MatchResult result
+        (λ call. (call.plan ≡ plan)
+        × IsOpened (seeing D.In.seen D.Out.seen ⟦<AnyPlugin as Plugin>⟧.rule ⟦<AnyPlugin as Plugin>⟧.stands_for ⟦<AnyPlugin as Plugin>⟧.steady) plan call.core (D.seen desk.old) (D.seen desk.new) call.stages.input call.stages.stuffing call.stages.plugins.items call.stages.output)
+        (λ status. IsOverBefore plan (D.seen desk.old) (D.seen desk.new) status) }
+{
+    match ready_chain(alloc, &plan) {
+        Ok(ready) => open_ends(desk, plan, ready),
+        Err(AllocError) => Err(Status::NoMemory),
+    }
+}
+
+/// Opens the input and then the output.
+fn open_ends<P: Plugin + Drop, D: Desk>(
+    desk: &mut D,
+    plan: Plan,
+    ready: ReadyChain<P>,
+) -> Result<OpenedCall<D::In, D::Out, P>, Status>
+    requires { IsReady P.rule P.stands_for P.steady plan ready.stuffing ready.core ready.plugins.items }
+    ensures { MatchResult result
+        (λ call. (call.plan ≡ plan)
+        × IsOpened (seeing D.In.seen D.Out.seen P.rule P.stands_for P.steady) plan call.core (D.seen desk.old) (D.seen desk.new) call.stages.input call.stages.stuffing call.stages.plugins.items call.stages.output)
+        (λ status. IsOverBefore plan (D.seen desk.old) (D.seen desk.new) status) }
+{
+    match open_input(desk, &plan.input) {
+        Ok(input) => open_behind(desk, plan, ready, input),
+        Err(OpenFault::Failed) => {
+            say(desk, "tsp: cannot open input\n");
+            Err(Status::ReadFault)
+        }
+        Err(OpenFault::NoMemory) => Err(Status::NoMemory),
+    }
+}
+
+/// Opens the output behind an input that is open; where that fails, the input is closed.
+fn open_behind<P: Plugin + Drop, D: Desk>(
+    desk: &mut D,
+    plan: Plan,
+    ready: ReadyChain<P>,
+    input: InputPart<D::In>,
+) -> Result<OpenedCall<D::In, D::Out, P>, Status>
+    requires opened { ((old : DeskView) × OpensInput D.In.seen old plan.input input) }
+    requires ready { IsReady P.rule P.stands_for P.steady plan ready.stuffing ready.core ready.plugins.items }
+    ensures { (old : DeskView) → D.seen desk.old ≡ asked_input old plan.input → OpensInput D.In.seen old plan.input input
+        → MatchResult result
+        (λ call. (call.plan ≡ plan)
+        × IsOpened (seeing D.In.seen D.Out.seen P.rule P.stands_for P.steady) plan call.core old (D.seen desk.new) call.stages.input call.stages.stuffing call.stages.plugins.items call.stages.output)
+        (λ status. StreamTheorem plan old (D.seen desk.new) status) }
+{
+    match open_output(desk, &plan.output) {
+        Ok(output) => {
+            let ReadyChain {
+                stuffing,
+                core,
+                plugins,
+            } = ready;
+            Ok(OpenedCall {
+                plan,
+                core,
+                stages: Stages {
+                    input,
+                    stuffing,
+                    plugins,
+                    output,
+                },
+            })
+        }
+        Err(OpenFault::Failed) => {
+            close_input(desk, input);
+            say(desk, "tsp: cannot open output\n");
+            Err(Status::WriteFault)
+        }
+        Err(OpenFault::NoMemory) => {
+            close_input(desk, input);
+            Err(Status::NoMemory)
+        }
+    }
+}

@@ -1,0 +1,53 @@
+//! A call behind its run: both ends are closed, and the run is reported.
+ghost use Rattle.std.specs.Prelude.{◌≡◌, ◌≤◌, List, length, map, IfOk};
+ghost use Rattle.chain_core.specs.declared.core_plan.CorePlan.{CorePlan};
+ghost use Rattle.plug_set.specs.Plugins.{rule_of};
+ghost use Rattle.stage_run.specs.Seeing.{seeing};
+ghost use Rattle.stage_run.specs.declared.stuffing.Stuffing.{Stuffing};
+ghost use Rattle.tsp_top.specs.Ran.{EndsRun, RanOpened};
+ghost use Rattle.tsp_top.specs.Reported.{ReachesCut};
+
+use crate::opening::{close_input, close_output};
+use crate::report::report_run;
+use crate::status::Status;
+use chain_args::Plan;
+use chain_run::RunEnd;
+use plugin_trait::Plugin;
+use stage_run::{InputPart, OutputPart};
+use std::alloc::{AllocError, Global};
+use ts_outside::Desk;
+
+/// Closes both ends of a run, and reports it.
+pub(crate) fn finish<P: Plugin + Drop, D: Desk>(
+    alloc: Global,
+    desk: &mut D,
+    plan: &Plan,
+    end: RunEnd<D::In, D::Out, P>,
+) -> Status
+    requires rules { map P.rule end.plugins.items ≡ map rule_of plan.now.plugins }
+    requires few { length plan.now.plugins ≤ 62 }
+    requires reach { IfOk end.closed (λ closed. ReachesCut P.stands_for end.plugins.items closed.cut 0) }
+    ensures { (stuffing : Stuffing) (numbers : CorePlan) (from : InputPart D.In) (plugins : List P) (to : OutputPart D.Out)
+        → EndsRun (seeing D.In.seen D.Out.seen P.rule P.stands_for P.steady) stuffing numbers from end.input plugins end.plugins.items to end.output end.closed
+        → RanOpened (seeing D.In.seen D.Out.seen P.rule P.stands_for P.steady) plan.now stuffing numbers (D.seen desk.old) (D.seen desk.new) from plugins to result }
+{
+    let RunEnd {
+        input,
+        mut plugins,
+        output,
+        closed,
+    } = end;
+    close_input(desk, input);
+    let closing = close_output(desk, output);
+    match closed {
+        Ok(closed) => report_run(
+            alloc,
+            desk,
+            &mut plugins,
+            plan.plugins.as_slice(),
+            closed,
+            closing.is_err(),
+        ),
+        Err(AllocError) => Status::NoMemory,
+    }
+}

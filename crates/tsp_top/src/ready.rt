@@ -1,0 +1,61 @@
+//! A chain that is ready to run: its numbers and its plugins, before anything is opened.
+ghost use Rattle.std.specs.Prelude.{◌≡◌, ◌++◌, map, IfOk, OnOk};
+ghost use Rattle.std.specs.List.{All};
+ghost use Rattle.plug_set.specs.Plugins.{IsLawful};
+ghost use Rattle.plug_set.specs.Plugins.{rule_of, steady_of};
+ghost use Rattle.chain_args.specs.LawfulPlan.{IsLawfulPlan};
+ghost use Rattle.chain_run.specs.Fresh.{AreFresh};
+ghost use Rattle.tsp_top.specs.Ran.{IsReady};
+
+use crate::planning::{planned_core, planned_stuffing};
+use chain_args::Plan;
+use chain_core::CorePlan;
+use plug_set::PluginConf;
+use plug_set::AnyPlugin;
+use plugin_trait::Plugin;
+use stage_run::Stuffing;
+use std::alloc::{AllocError, Global};
+
+/// What a plan gives a run, but for its two ends.
+#[derive(Drop)]
+pub(crate) struct ReadyChain<P> {
+    pub(crate) stuffing: Stuffing,
+    pub(crate) core: CorePlan,
+    pub(crate) plugins: Vec<P>,
+}
+
+/// Puts the plugins of these settings, which met no cell yet, behind others.
+#[tactic(auto, using(crate::proofs::CallLemmas::fresh_push))]
+fn add_plugins(
+    alloc: Global,
+    plugins: &mut Vec<AnyPlugin>,
+    confs: &[PluginConf],
+    buffer: usize,
+) -> Result<(), AllocError>
+    requires lawful { All IsLawful confs.now }
+    requires before { AreFresh ⟦<AnyPlugin as Plugin>⟧.stands_for plugins.old.items }
+    ensures rules { OnOk result (map ⟦<AnyPlugin as Plugin>⟧.rule plugins.new.items ≡ map ⟦<AnyPlugin as Plugin>⟧.rule plugins.old.items ++ map rule_of confs.now) }
+    ensures rooms { OnOk result (map ⟦<AnyPlugin as Plugin>⟧.steady plugins.new.items ≡ map ⟦<AnyPlugin as Plugin>⟧.steady plugins.old.items ++ map (λ conf. steady_of conf buffer) confs.now) }
+    ensures fresh { OnOk result (AreFresh ⟦<AnyPlugin as Plugin>⟧.stands_for plugins.new.items) }
+{
+    let Some((conf, rest)) = confs.split_first() else {
+        return Ok(());
+    };
+    plugins.push(AnyPlugin::of(alloc, conf, buffer)?)?;
+    add_plugins(alloc, plugins, rest, buffer)
+}
+
+/// Makes ready what a plan asks for.
+pub(crate) fn ready_chain(alloc: Global, plan: &Plan) -> Result<ReadyChain<AnyPlugin>, AllocError>
+    requires { IsLawfulPlan plan.now }
+    ensures { IfOk result (λ ready. IsReady ⟦<AnyPlugin as Plugin>⟧.rule ⟦<AnyPlugin as Plugin>⟧.stands_for ⟦<AnyPlugin as Plugin>⟧.steady plan.now ready.stuffing ready.core ready.plugins.items) }
+{
+    let core = planned_core(plan);
+    let mut plugins: Vec<AnyPlugin> = Vec::new(alloc);
+    add_plugins(alloc, &mut plugins, plan.plugins.as_slice(), core.buffer)?;
+    Ok(ReadyChain {
+        stuffing: planned_stuffing(&plan.general),
+        core,
+        plugins,
+    })
+}
