@@ -2,9 +2,10 @@
 use crate::inputs::Input;
 use crate::outcome::print_outcome;
 use crate::tally::Tally;
-use crate::trial::{Case, by_serial_call, by_tsp_call, push_words};
+use crate::trial::{Case, Trial, by_serial_call, by_tsp_call, push_words};
 use crate::trial_desk::Fails;
 use anyhow::Result;
+use std::alloc::{AllocError, Global};
 use std::sync::Wait;
 use std::thread::Threads;
 use ts_outside::OpenGate;
@@ -27,12 +28,16 @@ pub(crate) fn print_rows<R: Threads + Wait + Sync + Print + AllocGlobal>(
     for row in rows {
         let is_alike = print_row(rt, row)?;
         *tally = tally.with(is_alike);
+        if !is_alike {
+            println!(rt; "  serial_call came to something else")?;
+        }
     }
     Ok(())
 }
 
-/// Runs a row by both calls, and prints what it came to by the first and, where that is something else, by the second.
+/// Runs a row, and prints what it came to by `tsp_call`; whether it came to the same by `serial_call`.
 fn print_row<R: Threads + Wait + Sync + Print + AllocGlobal>(rt: &R, row: &Row) -> Result<bool> {
+    println!(rt; "{}", row.name)?;
     let mut words = Vec::new(rt.alloc());
     push_words(rt.alloc(), &mut words, row.words)?;
     let case = Case {
@@ -40,14 +45,16 @@ fn print_row<R: Threads + Wait + Sync + Print + AllocGlobal>(rt: &R, row: &Row) 
         input: row.input,
         fails: row.fails,
     };
+    print_case(rt, case)
+}
+
+fn print_case<R: Threads + Wait + Sync + Print + AllocGlobal>(rt: &R, case: Case) -> Result<bool> {
     let outcome = by_tsp_call(rt, case, &OpenGate)?;
-    let serial = by_serial_call(rt.alloc(), case, &OpenGate)?;
-    println!(rt; "{}", row.name)?;
     print_outcome(rt, &outcome)?;
-    let is_alike = outcome.is_like(&serial);
-    if !is_alike {
-        println!(rt; "  serial_call came to something else:")?;
-        print_outcome(rt, &serial)?;
-    }
-    Ok(is_alike)
+    Ok(is_serial_like(rt.alloc(), case, &outcome)?)
+}
+
+fn is_serial_like(alloc: Global, case: Case, outcome: &Trial) -> Result<bool, AllocError> {
+    let serial = by_serial_call(alloc, case, &OpenGate)?;
+    Ok(outcome.is_like(&serial))
 }

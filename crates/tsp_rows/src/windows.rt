@@ -8,7 +8,8 @@ use anyhow::Result;
 use std::sync::Wait;
 use std::thread::Threads;
 
-/// Two cells at a time; the second plugin ends the run with its fifth live cell, the eighth of all.
+/// Two cells at a time; the second plugin ends the run with its fifth live cell, the eighth of all. The first hears of
+/// it a turn later, and has worked on one window more by then.
 const WORDS: &str =
     "--buffer-packets 4 --max-flushed-packets 2 -I file in -P skip 3 -P until --packets 5 -O file out";
 
@@ -31,14 +32,18 @@ pub(crate) fn print_windows<R: Threads + Wait + Sync + Print + AllocGlobal>(rt: 
 
 /// In one thread: each window of each plugin, in order.
 fn print_serial(rt: &(impl Print + AllocGlobal), case: Case) -> Result<()> {
-    let gate = KeepingGate::new(rt.alloc(), PLUGINS)?;
-    let trial = by_serial_call(rt.alloc(), case, &gate)?;
     println!(rt; "the windows of two plugins")?;
-    print_outcome(rt, &trial)?;
+    let gate = KeepingGate::new(rt.alloc(), PLUGINS)?;
+    print_serial_end(rt, case, &gate)?;
     for windows in gate.plugins() {
         print_plugin(rt, windows)?;
     }
     Ok(())
+}
+
+fn print_serial_end(rt: &(impl Print + AllocGlobal), case: Case, gate: &KeepingGate) -> Result<()> {
+    let trial = by_serial_call(rt.alloc(), case, gate)?;
+    print_outcome(rt, &trial)
 }
 
 fn print_plugin(rt: &impl Print, windows: &Windows) -> Result<()> {
@@ -57,16 +62,22 @@ fn print_by_tsp_call<R: Threads + Wait + Sync + Print + AllocGlobal>(
     rt: &R,
     case: Case,
 ) -> Result<()> {
-    let gate = KeepingGate::new(rt.alloc(), PLUGINS)?;
-    let trial = by_tsp_call(rt, case, &gate)?;
     println!(rt; "the same by tsp_call")?;
-    print_outcome(rt, &trial)?;
+    let gate = KeepingGate::new(rt.alloc(), PLUGINS)?;
+    print_end(rt, case, &gate)?;
     for windows in gate.plugins() {
-        println!(rt;
-            "  a plugin's windows follow one another: {}, each left: {}",
-            windows.is_one_row(),
-            windows.is_whole()
-        )?;
+        let is_row = windows.is_one_row();
+        let is_whole = windows.is_whole();
+        println!(rt; "  a plugin's windows follow one another: {is_row}, each left: {is_whole}")?;
     }
     Ok(())
+}
+
+fn print_end<R: Threads + Wait + Sync + Print + AllocGlobal>(
+    rt: &R,
+    case: Case,
+    gate: &KeepingGate,
+) -> Result<()> {
+    let trial = by_tsp_call(rt, case, gate)?;
+    print_outcome(rt, &trial)
 }
