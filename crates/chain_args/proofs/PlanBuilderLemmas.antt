@@ -6,15 +6,15 @@ use Rattle.std.proofs.lemmas.Bool.Decides.{nat_tests}
 use Rattle.std.proofs.lemmas.List.Elements.{All-push, filter_map-append}
 use Rattle.std.proofs.lemmas.List.Folds.{list_any-append}
 use Rattle.std.proofs.lemmas.List.Sums.{sum_by_push}
-use Rattle.plug_conf.specs.Lawful.{IsLawful}
-use Rattle.plug_conf.specs.declared.plugin_conf.PluginConf.{PluginConf}
+use Rattle.plug_set.specs.Plugins.{IsLawful}
+use Rattle.plug_set.specs.declared.plugin_conf.PluginConf.{PluginConf}
 use Rattle.chain_args.specs.Inputs.{input_kind_named, options_of_input}
 use Rattle.chain_args.specs.LawfulPlan.{IsLawfulInput}
 use Rattle.chain_args.specs.Outputs.{output_kind_named, options_of_output}
 use Rattle.chain_args.specs.PlanBuilder.{StandsFor, segment}
 use Rattle.chain_args.specs.PlanOf.{input_made, inputs_of, output_made, outputs_of, plugin_made}
-use Rattle.chain_args.specs.Plugins.{plugin_kind_named, options_of_plugin}
-use Rattle.chain_args.specs.OptionTable.{broken_option, first_broken, settings_of}
+use Rattle.plug_set.specs.Plugins.{plugin_kind_named, options_of_plugin}
+use Rattle.option_words.specs.OptionTable.{broken_option, first_broken, settings_of}
 use Rattle.chain_args.specs.Rules.{broken_rule, most_plugins, or_else}
 use Rattle.chain_args.specs.Segments.{Segment, is_input, is_output, is_plugin}
 use Rattle.chain_args.specs.declared.input_conf.InputConf.{InputConf}
@@ -22,9 +22,9 @@ use Rattle.chain_args.specs.declared.input_words.InputKind.{InputKind}
 use Rattle.chain_args.specs.declared.output_conf.OutputConf.{OutputConf}
 use Rattle.chain_args.specs.declared.output_words.OutputKind.{OutputKind}
 use Rattle.chain_args.specs.declared.plan_builder.PlanBuilder.{PlanBuilder}
-use Rattle.chain_args.specs.declared.plugin_words.PluginKind.{PluginKind}
-use Rattle.chain_args.specs.declared.words_rule.WordsRule.{WordsRule}
-use Rattle.chain_args.specs.declared.words_rule.WordsRule.TheVariants.{NoName, TooMany, Twice, UnknownPlugin}
+use Rattle.plug_set.specs.declared.plugin_conf.PluginKind.{PluginKind}
+use Rattle.option_words.specs.declared.words_rule.WordsRule.{WordsRule}
+use Rattle.option_words.specs.declared.words_rule.WordsRule.TheVariants.{NoName, TooMany, Twice, UnknownPlugin}
 
 or_none : (rule : Option WordsRule) → or_else rule None ≡ rule
 or_none None = refl

@@ -2,11 +2,11 @@
 -- This project's own rule.
 use Rattle.std.specs.Prelude.{ℕ, List, [], ◌∷◌, codes, true, unwrap_or}
 use Rattle.clap.specs.Walk.{Row}
-use Rattle.chain_args.specs.Forms.{number, pair}
-use Rattle.chain_args.specs.Number.{number_within}
-use Rattle.chain_args.specs.Options.{OptionRow, flag, has_flag, read_value, value}
-use Rattle.chain_args.specs.Pairs.{pair_of}
-use Rattle.chain_args.specs.OptionTable.{OptionTable}
+use Rattle.option_words.specs.Forms.{number, pair}
+use Rattle.option_words.specs.Number.{number_within}
+use Rattle.option_words.specs.Options.{OptionRow, flag, has_flag, read_value, value}
+use Rattle.option_words.specs.Pairs.{pair_of}
+use Rattle.option_words.specs.OptionTable.{OptionTable}
 use Rattle.chain_args.specs.declared.general_conf.GeneralConf.{GeneralConf}
 
 -- the byte `/`
@@ -44,5 +44,5 @@ general = record {
   rows = general_rows;
   has_needed = λ found. true;
   settings = general_settings;
-  go_together = λ conf. true;
+  go_together = λ found. true;
 }

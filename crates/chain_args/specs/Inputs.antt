@@ -3,10 +3,10 @@
 use Rattle.std.specs.Prelude.{ℕ, List, [], ◌∷◌, None, Option, Some, codes, if◌then◌else◌, true, unwrap_or}
 use Rattle.std.specs.Str.{bytes_eq}
 use Rattle.plug_conf.specs.declared.limits.TheConstants.{MOST_PACKETS}
-use Rattle.chain_args.specs.Forms.{number, text}
-use Rattle.chain_args.specs.Number.{number_within}
-use Rattle.chain_args.specs.Options.{has_value, operand, read_value, value_of}
-use Rattle.chain_args.specs.OptionTable.{OptionTable}
+use Rattle.option_words.specs.Forms.{number, text}
+use Rattle.option_words.specs.Number.{number_within}
+use Rattle.option_words.specs.Options.{has_value, operand, read_value, value_of}
+use Rattle.option_words.specs.OptionTable.{OptionTable}
 use Rattle.chain_args.specs.declared.input_words.InputKind.{InputKind}
 use Rattle.chain_args.specs.declared.input_words.InputKind.TheVariants as kind
 use Rattle.chain_args.specs.declared.input_conf.InputConf.{InputConf}
@@ -18,7 +18,7 @@ file_input = record {
   rows = record { name = codes "name"; kind = operand text } ∷ [];
   has_needed = λ found. true;
   settings = λ found. File (unwrap_or (value_of (codes "name") found) []);
-  go_together = λ conf. true;
+  go_together = λ found. true;
 }
 
 -- `null`: so many packets, 0 to 2^40
@@ -28,7 +28,7 @@ null_input = record {
   has_needed = has_value (codes "count");
   settings = λ found.
       Null (unwrap_or (read_value (number_within 0 MOST_PACKETS) (codes "count") found) 0);
-  go_together = λ conf. true;
+  go_together = λ found. true;
 }
 
 -- the inputs by their names

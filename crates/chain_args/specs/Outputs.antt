@@ -2,9 +2,9 @@
 -- This project's own rule.
 use Rattle.std.specs.Prelude.{ℕ, List, [], ◌∷◌, None, Option, Some, codes, if◌then◌else◌, true, unwrap_or}
 use Rattle.std.specs.Str.{bytes_eq}
-use Rattle.chain_args.specs.Forms.{text}
-use Rattle.chain_args.specs.Options.{operand, value_of}
-use Rattle.chain_args.specs.OptionTable.{OptionTable}
+use Rattle.option_words.specs.Forms.{text}
+use Rattle.option_words.specs.Options.{operand, value_of}
+use Rattle.option_words.specs.OptionTable.{OptionTable}
 use Rattle.chain_args.specs.declared.output_words.OutputKind.{OutputKind}
 use Rattle.chain_args.specs.declared.output_words.OutputKind.TheVariants as kind
 use Rattle.chain_args.specs.declared.output_conf.OutputConf.{OutputConf}
@@ -16,7 +16,7 @@ file_output = record {
   rows = record { name = codes "name"; kind = operand text } ∷ [];
   has_needed = λ found. true;
   settings = λ found. File (unwrap_or (value_of (codes "name") found) []);
-  go_together = λ conf. true;
+  go_together = λ found. true;
 }
 
 -- `drop`: no options and no operands
@@ -25,7 +25,7 @@ drop_output = record {
   rows = [];
   has_needed = λ found. true;
   settings = λ found. Drop;
-  go_together = λ conf. true;
+  go_together = λ found. true;
 }
 
 -- the outputs by their names

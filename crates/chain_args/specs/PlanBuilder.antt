@@ -2,7 +2,7 @@
 -- This project's own rule.
 use Rattle.std.specs.Prelude.{◌≡◌, ◌≤◌, ℕ, List, [], Option, Some, IfSome, count_by, is_some, length, slice_get, unwrap_or}
 use Rattle.std.specs.List.{All, list_any}
-use Rattle.plug_conf.specs.Lawful.{IsLawful}
+use Rattle.plug_set.specs.Plugins.{IsLawful}
 use Rattle.chain_args.specs.LawfulPlan.{IsLawfulInput}
 use Rattle.chain_args.specs.PlanOf.{inputs_of, outputs_of, plugins_of}
 use Rattle.chain_args.specs.Rules.{most_plugins}
@@ -12,9 +12,9 @@ use Rattle.chain_args.specs.declared.input_conf.InputConf.TheVariants.{File}
 use Rattle.chain_args.specs.declared.output_conf.OutputConf.TheVariants as output
 use Rattle.chain_args.specs.declared.plan_builder.PlanBuilder.{PlanBuilder}
 use Rattle.chain_args.specs.declared.plan_type.Plan.{Plan}
-use Rattle.chain_args.specs.declared.refusal.Refusal.{Refusal}
-use Rattle.chain_args.specs.declared.refusal.Refusal.TheVariants.{Broken, NoMemory}
-use Rattle.chain_args.specs.declared.words_rule.WordsRule.{WordsRule}
+use Rattle.option_words.specs.declared.refusal.Refusal.{Refusal}
+use Rattle.option_words.specs.declared.refusal.Refusal.TheVariants.{Broken, NoMemory}
+use Rattle.option_words.specs.declared.words_rule.WordsRule.{WordsRule}
 
 -- a segment of a first word and the others
 abbrev pub segment : List ℕ → List (List ℕ) → Segment

@@ -3,14 +3,12 @@ ghost use Rattle.std.specs.String.{string_bytes};
 ghost use Rattle.clap.specs.Simple.{app_of};
 ghost use Rattle.chain_args.specs.General.{general, general_rows};
 ghost use Rattle.chain_args.specs.LawfulPlan.{IsLawfulGeneral};
-ghost use Rattle.chain_args.specs.Options.{command_of};
-ghost use Rattle.chain_args.specs.Refusal.{Reads, ReadsParsed};
+ghost use Rattle.option_words.specs.Options.{command_of};
+ghost use Rattle.option_words.specs.Refusal.{Reads, ReadsParsed};
 
-use crate::commands::{new_command, with_flag, with_value};
 use crate::general_conf::GeneralConf;
-use crate::parsed_options::ParsedOptions;
-use crate::refusal::Refusal;
 use clap::Command;
+use option_words::{ParsedOptions, Refusal, new_command, with_flag, with_value};
 use std::alloc::{AllocError, Global};
 
 /// The most packets of one stuffing, of the buffer, and of one turn of a stage.

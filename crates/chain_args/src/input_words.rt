@@ -3,15 +3,12 @@ ghost use Rattle.std.specs.String.{string_bytes};
 ghost use Rattle.clap.specs.Simple.{app_of};
 ghost use Rattle.chain_args.specs.Inputs.{file_input, input_kind_named, null_input, options_of_input};
 ghost use Rattle.chain_args.specs.LawfulPlan.{IsLawfulInput};
-ghost use Rattle.chain_args.specs.Options.{command_of};
-ghost use Rattle.chain_args.specs.OptionTable.{OptionTable};
-ghost use Rattle.chain_args.specs.Refusal.{Reads, ReadsParsed};
+ghost use Rattle.option_words.specs.Options.{command_of};
+ghost use Rattle.option_words.specs.OptionTable.{OptionTable};
+ghost use Rattle.option_words.specs.Refusal.{Reads, ReadsParsed};
 
-use crate::commands::{new_command, with_operand};
 use crate::input_conf::InputConf;
-use crate::parsed_options::ParsedOptions;
-use crate::refusal::Refusal;
-use crate::words_rule::WordsRule;
+use option_words::{ParsedOptions, Refusal, WordsRule, new_command, with_operand};
 use plug_conf::MOST_PACKETS;
 use std::alloc::Global;
 

@@ -1,13 +1,11 @@
 ghost use Rattle.std.specs.Prelude.{◌≡◌, map};
 ghost use Rattle.std.specs.String.{string_bytes};
 ghost use Rattle.chain_args.specs.Outputs.{drop_output, file_output, output_kind_named, options_of_output};
-ghost use Rattle.chain_args.specs.OptionTable.{OptionTable};
-ghost use Rattle.chain_args.specs.Refusal.{Reads};
+ghost use Rattle.option_words.specs.OptionTable.{OptionTable};
+ghost use Rattle.option_words.specs.Refusal.{Reads};
 
-use crate::commands::{new_command, with_operand};
 use crate::output_conf::OutputConf;
-use crate::parsed_options::ParsedOptions;
-use crate::refusal::Refusal;
+use option_words::{ParsedOptions, Refusal, new_command, with_operand};
 use std::alloc::Global;
 
 /// The outputs by name.

@@ -11,10 +11,8 @@ use crate::output_conf::OutputConf;
 use crate::output_words::OutputKind;
 use crate::plan_type::Plan;
 use crate::plugin_list::PluginList;
-use crate::plugin_words::PluginKind;
-use crate::refusal::Refusal;
-use crate::words_rule::WordsRule;
-use plug_conf::PluginConf;
+use option_words::{Refusal, WordsRule};
+use plug_set::{PluginConf, PluginKind};
 use std::alloc::{AllocError, Global};
 use ts_outside::NameText;
 

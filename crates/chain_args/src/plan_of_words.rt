@@ -28,7 +28,7 @@ pub fn plan(alloc: Global, words: &[String]) -> Result<Plan, WordsFault>
     let (own, rest) = cut_at_segment(words);
     let general = match read_general(alloc, own) {
         Ok(general) => general,
-        Err(refusal) => return Err(refusal.at(0)),
+        Err(refusal) => return Err(WordsFault::at(0, refusal)),
     };
     let parts = read_segments(alloc, own.len(), rest)?;
     Ok(parts.into_plan(alloc, general))
@@ -50,7 +50,7 @@ fn read_segments(alloc: Global, at: usize, words: &[String]) -> Result<PlanBuild
         let (others, next) = cut_at_segment(after);
         match parts.add(alloc, first.as_str(), others) {
             Ok(()) => {}
-            Err(refusal) => return Err(refusal.at(at)),
+            Err(refusal) => return Err(WordsFault::at(at, refusal)),
         }
         at += 1 + others.len();
         rest = next;

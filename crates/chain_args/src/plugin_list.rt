@@ -1,6 +1,6 @@
 ghost use Rattle.std.specs.Prelude.{◌≡◌};
 
-use plug_conf::PluginConf;
+use plug_set::PluginConf;
 use std::marker::Model;
 
 /// The settings of the plugins of a chain, seen as their list.
@@ -11,7 +11,7 @@ pub struct PluginList {
 
 impl Model for PluginList {
     ghost use Rattle.std.specs.Prelude.{List};
-    ghost use Rattle.plug_conf.specs.declared.plugin_conf.PluginConf.{PluginConf};
+    ghost use Rattle.plug_set.specs.declared.plugin_conf.PluginConf.{PluginConf};
 
     ghost Value = { List PluginConf };
 

@@ -1,5 +1,5 @@
 use crate::{InputConf, OutputConf, Plan, WordsFault, WordsRule, plan};
-use plug_conf::PluginConf;
+use plug_set::PluginConf;
 use std::alloc::Global;
 use std::test::Fail;
 

@@ -1,4 +1,7 @@
-use crate::words_rule::WordsRule;
+ghost use Rattle.std.specs.Prelude.{◌≡◌};
+ghost use Rattle.chain_args.specs.WordsFault.{fault_of_refusal};
+
+use option_words::{Refusal, WordsRule};
 
 /// Why a command line has no plan.
 #[derive(Drop, Debug, Clone, Copy, PartialEq, Eq)]
@@ -8,4 +11,16 @@ pub enum WordsFault {
     At { word: usize, rule: WordsRule },
     /// Memory ran out.
     NoMemory,
+}
+
+impl WordsFault {
+    /// The fault of a segment that is refused, whose first word has this number.
+    pub(crate) fn at(word: usize, refusal: Refusal) -> WordsFault
+        ensures { result ≡ fault_of_refusal word refusal }
+    {
+        match refusal {
+            Refusal::Broken(rule) => WordsFault::At { word, rule },
+            Refusal::NoMemory => WordsFault::NoMemory,
+        }
+    }
 }

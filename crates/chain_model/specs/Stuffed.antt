@@ -1,5 +1,5 @@
 -- The list that the input hands to the chain: its packets with null packets put in. This project's own rule.
-use Rattle.std.specs.Prelude.{ℕ, ◌+◌, ◌%◌, ◌^◌, ◌==◌, nat_le, List, [], ◌∷◌, ◌++◌, length, take, replicate, if◌then◌else◌, Some}
+use Rattle.std.specs.Prelude.{ℕ, ◌+◌, ◌%◌, ◌==◌, nat_le, List, [], ◌∷◌, ◌++◌, length, take, replicate, if◌then◌else◌, Some}
 use Rattle.ts_packet.specs.declared.cell.Cell.{Cell}
 use Rattle.ts_packet.specs.declared.cell.Cell.TheVariants.{Live}
 use Rattle.ts_packet.specs.Packet.{null_packet}

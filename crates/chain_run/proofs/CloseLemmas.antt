@@ -43,7 +43,8 @@ use Rattle.chain_run.specs.Parts.{AreTakenFrom}
 use Rattle.chain_run.specs.RunOf.{MayRead, LeftInput, TakesTo, LeftOutput, Gave}
 use Rattle.chain_run.specs.Runs.{between, RunStart, KeptFor, RunsBy}
 use Rattle.chain_run.specs.Working.{IsRunning}
-use Rattle.chain_run.proofs.MachineLaws.{MachineLaws, given-falls, taken-falls, written-given}
+use Rattle.chain_run.specs.Laws.{MachineLaws}
+use Rattle.chain_run.proofs.NumberLaws.{given-falls, taken-falls, written-given}
 use Rattle.chain_run.proofs.ProgressLemmas.{as-progress}
 use Rattle.chain_run.proofs.KindLemmas.{wants-kind}
 use Rattle.chain_run.proofs.StepLemmas.{may_read-more, part-more}
@@ -114,9 +115,7 @@ takes-other old new cells cut cause.WriteFault no_ is = absurd (no_ refl)
 takes-other old new cells cut (cause.NoMemory k) no_ is = is
 
 module _ {S K P : Type 0} (see : Seeing S K P)
-    (laws : MachineLaws) (every : (plan : CorePlan) (rules : List PluginRule) (input : StageList) (visits : List Visit) → KeptRun plan rules input visits → SoFar plan rules input (state_after plan visits))
-    (close : (plan : CorePlan) (rules : List PluginRule) (input : StageList) (visits : List Visit) → KeptRun plan rules input visits → AllEnded plan (progress_of_stages (state_after plan visits))
-    → AtClose plan rules input (state_after plan visits) (cut_at_close plan (progress_of_stages (state_after plan visits))) (cause_at_close plan (progress_of_stages (state_after plan visits))))
+    (laws : MachineLaws)
     (begun : RunStart S K) (core : CoreNumbers) (parts : List (StagePart S K P)) (cells : List Cell) (goes : IsRunning see begun core parts cells) (over : AllEnded core.plan (progress_of_core core)) where
   abbrev pub state : ChainState
   state = state_after begun.plan goes.runs.visits
@@ -148,10 +147,10 @@ module _ {S K P : Type 0} (see : Seeing S K P)
 
     pub at-close : AtClose begun.plan begun.rules list state cut why
     at-close =
-        close begun.plan begun.rules list goes.runs.visits (kept-run see laws every begun core (length parts) (length cells) goes.fits list goes.runs.visits kept by.run) over-state
+        laws.close begun.plan begun.rules list goes.runs.visits (kept-run see laws begun core (length parts) (length cells) goes.fits list goes.runs.visits kept by.run) over-state
 
     so-far : SoFar begun.plan begun.rules list state
-    so-far = far see laws every begun core (length parts) (length cells) goes.fits list goes.runs.visits kept by.run
+    so-far = far see laws begun core (length parts) (length cells) goes.fits list goes.runs.visits kept by.run
 
     given-cut : length (state.stages out).given ≡ cut
     given-cut =
@@ -265,7 +264,7 @@ module _ {S K P : Type 0} (see : Seeing S K P)
         takes old new left' =
             elim (sink-left old new (goes.runs.lists out).given (goes.runs.lists out).cut (state.stages out).ended left') [
               | inl failed ↦ subst (λ c. TakesTo old new (end_list begun.rules list).cells cut c) (sym (told-write failed.0))
-                  ((goes.runs.lists out).cut, failed.1 ∙ ap (λ (l : List Cell). write_failed (took old (written l ++ (goes.runs.lists out).cut))) given-is, part-left failed.0)
+                  (record { part = (goes.runs.lists out).cut; taken = failed.1 ∙ ap (λ (l : List Cell). write_failed (took old (written l ++ (goes.runs.lists out).cut))) given-is; cut = part-left failed.0 })
               | inr whole ↦ takes-other old new (end_list begun.rules list).cells cut why (λ is. whole.0 (write-told is)) (whole.1 ∙ ap (λ (l : List Cell). took old (written l)) given-is)
             ]
 

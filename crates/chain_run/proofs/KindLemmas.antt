@@ -13,8 +13,14 @@ use Rattle.stage_run.specs.Seeing.{Seeing}
 use Rattle.stage_run.specs.declared.stage_part.StagePart.{StagePart}
 use Rattle.stage_run.specs.declared.stage_part.StagePart.TheVariants.{Input, Plugin, Output}
 use Rattle.stage_run.specs.declared.work.Work.{Work}
+use Rattle.stage_run.specs.declared.output_part.OutputPart.{OutputPart}
+use Rattle.stage_run.specs.declared.output_part.OutputPart.TheVariants as out
+use Rattle.stage_run.specs.declared.packet_feed.PacketFeed.{PacketFeed}
+use Rattle.stage_run.specs.declared.packet_feed.PacketFeed.TheVariants as feed
+use Rattle.stage_run.specs.Feeds.{SameFeed}
+use Rattle.stage_run.specs.OutputStands.{SamePart}
 use Rattle.stage_run.specs.PartLists.{PartLists}
-use Rattle.stage_run.specs.PartStands.{PartGives, MayWantMemory, kind_of, rule_of, steady_of, an_input, a_plugin, an_output}
+use Rattle.stage_run.specs.PartStands.{PartGives, MayWantMemory, has_sink, feeds_stream, has_stream, kind_of, rule_of, steady_of, an_input, a_plugin, an_output}
 use Rattle.stage_run.specs.Works.{WorksByKind, InputTells, OutputTells, KeepsRule, read_for}
 
 module _ {S K P : Type 0} (see : Seeing S K P) where
@@ -83,3 +89,30 @@ module _ {S K P : Type 0} (see : Seeing S K P) where
   wants-more (Plugin old) (Output new) less more kind same le wants = cc
   wants-more (Plugin old) (Plugin new) less more kind same le wants =
       λ has. wants (steady_less (see.steady old.plugin) more less le (subst (λ (s : Option ℕ). IsSteadyFor s more) same has))
+
+  -- ---- streams
+
+  -- an input or an output that has a stream keeps it
+  pub stream-kept : (old new : StagePart S K P) (before : PartLists) (news : News) (cells cells_new : List Cell) (work : Work) (after : PartLists)
+      → WorksByKind see old new before news cells cells_new work after → has_stream new ≡ has_stream old
+  stream-kept (Input old) (Input new) before news cells cells_new work after does = feeds old.feed new.feed does.same
+    where
+      feeds : (a b : PacketFeed S) → SameFeed a b → feeds_stream b ≡ feeds_stream a
+      feeds (feed.Stream a) (feed.Stream b) same = refl
+      feeds (feed.Nulls a) (feed.Nulls b) same = refl
+      feeds (feed.Stream a) (feed.Nulls b) same = absurd same
+      feeds (feed.Nulls a) (feed.Stream b) same = absurd same
+  stream-kept (Plugin old) (Plugin new) before news cells cells_new work after does = refl
+  stream-kept (Output old) (Output new) before news cells cells_new work after does = parts old.part new.part does.same
+    where
+      parts : (a b : OutputPart K) → SamePart a b → has_sink b ≡ has_sink a
+      parts (out.Stream a) (out.Stream b) same = refl
+      parts out.Discard out.Discard same = refl
+      parts (out.Stream a) out.Discard same = absurd same
+      parts out.Discard (out.Stream b) same = absurd same
+  stream-kept (Input old) (Plugin new) before news cells cells_new work after does = absurd does
+  stream-kept (Input old) (Output new) before news cells cells_new work after does = absurd does
+  stream-kept (Plugin old) (Input new) before news cells cells_new work after does = absurd does
+  stream-kept (Plugin old) (Output new) before news cells cells_new work after does = absurd does
+  stream-kept (Output old) (Input new) before news cells cells_new work after does = absurd does
+  stream-kept (Output old) (Plugin new) before news cells cells_new work after does = absurd does

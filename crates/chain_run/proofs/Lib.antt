@@ -1,6 +1,6 @@
 pub mod SlotLemmas
 pub mod WindowLemmas
-pub mod MachineLaws
+pub mod NumberLaws
 pub mod StepLemmas
 pub mod QuietVisit
 pub mod KindLemmas

@@ -26,7 +26,8 @@ use Rattle.stage_run.specs.PartLists.{PartLists}
 use Rattle.stage_run.specs.PartStands.{PartGives}
 use Rattle.chain_run.specs.Slots.{slot, HoldsFrom}
 use Rattle.chain_run.specs.Runs.{nothing_told, RunStart, InputAt, PluginAt, OutputAt, RunsBy}
-use Rattle.chain_run.proofs.MachineLaws.{MachineLaws, change, stage-other, written-grows, given-falls}
+use Rattle.chain_run.specs.Laws.{MachineLaws}
+use Rattle.chain_run.proofs.NumberLaws.{change, stage-other, written-grows, given-falls}
 use Rattle.chain_run.proofs.StepLemmas.{set_at, pick, input-frame, plugin-frame, output-frame, Own, stepped}
 
 -- ---- a stage that goes on may tell nothing

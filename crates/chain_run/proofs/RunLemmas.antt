@@ -30,17 +30,13 @@ use Rattle.stage_run.specs.Parts.{IsListOf, IsSourceOf, IsSinkOf, LeavesInput, L
 use Rattle.chain_run.specs.Fresh.{AreFresh}
 use Rattle.chain_run.specs.Parts.{AreMadeOf, AreTakenFrom, ArePluginsAndOne}
 use Rattle.chain_run.specs.RunOf.{RunOf}
-use Rattle.chain_run.specs.Runs.{RunStart}
+use Rattle.chain_run.specs.Runs.{RunStart, began_with}
 use Rattle.chain_run.specs.Working.{IsRunning}
-use Rattle.chain_run.proofs.MachineLaws.{MachineLaws}
+use Rattle.chain_run.specs.Laws.{MachineLaws}
 use Rattle.chain_run.proofs.StartLemmas.{starts}
 use Rattle.chain_run.proofs.CloseLemmas.{at-close, left-input, left-output, gave-of, gave-to, made-input, met-all, wants-of, rules-all}
 
 module _ {S K P : Type 0} (see : Seeing S K P) where
-  -- the chain that a run began with
-  abbrev pub began_with : InputPart S → Stuffing → List P → OutputPart K → CorePlan → RunStart S K
-  began_with from stuffing plugins to plan = record { from = from; to = to; stuffing = stuffing_of stuffing; rules = map see.rule plugins; rooms = map see.steady plugins; plan = plan }
-
   -- the stages before the first turn
   pub record Laid (from : InputPart S) (stuffing : Stuffing) (plugins : List P) (to : OutputPart K) (plan : CorePlan) (core : CoreNumbers) (parts : List (StagePart S K P)) (cells : List Cell) : Type 0 where
     pub lawful : IsLawfulPlan plan
@@ -65,9 +61,9 @@ module _ {S K P : Type 0} (see : Seeing S K P) where
     pub slots : length cells ≡ plan.buffer
 
   pub laid-goes : (from : InputPart S) (stuffing : Stuffing) (plugins : List P) (to : OutputPart K) (plan : CorePlan) (core : CoreNumbers) (parts : List (StagePart S K P)) (cells : List Cell)
-      → Laid from stuffing plugins to plan core parts cells → IsRunning see (began_with from stuffing plugins to plan) core parts cells
+      → Laid from stuffing plugins to plan core parts cells → IsRunning see (began_with see from stuffing plugins to plan) core parts cells
   laid-goes from stuffing plugins to plan core parts cells laid =
-      subst (λ (l : List (StagePart S K P)). IsRunning see (began_with from stuffing plugins to plan) core l cells) (sym laid.row)
+      subst (λ (l : List (StagePart S K P)). IsRunning see (began_with see from stuffing plugins to plan) core l cells) (sym laid.row)
       (starts see plan laid.lawful core laid.plan_is laid.numbers from stuffing to plugins laid.fresh laid.number laid.opens laid.first laid.out laid.made laid.are
       laid.in_kind laid.in_stream laid.in_stuffing laid.in_stands laid.in_gives laid.out_kind laid.out_stream laid.out_stands cells laid.slots)
 
@@ -125,11 +121,9 @@ module _ {S K P : Type 0} (see : Seeing S K P) where
 
   -- ---- what the run comes to
 
-  module _ (laws : MachineLaws) (every : (plan : CorePlan) (rules : List PluginRule) (input : StageList) (visits : List Visit) → KeptRun plan rules input visits → SoFar plan rules input (state_after plan visits))
-      (close : (plan : CorePlan) (rules : List PluginRule) (input : StageList) (visits : List Visit) → KeptRun plan rules input visits → AllEnded plan (progress_of_stages (state_after plan visits))
-      → AtClose plan rules input (state_after plan visits) (cut_at_close plan (progress_of_stages (state_after plan visits))) (cause_at_close plan (progress_of_stages (state_after plan visits)))) where
+  module _ (laws : MachineLaws) where
     pub run-of : (from made_from : InputPart S) (stuffing : Stuffing) (plugins made : List P) (to made_to : OutputPart K) (plan : CorePlan) (closed : Closed) (core : CoreNumbers) (parts : List (StagePart S K P)) (cells : List Cell)
-        → (goes : IsRunning see (began_with from stuffing plugins to plan) core parts cells) → AllEnded core.plan (progress_of_core core)
+        → (goes : IsRunning see (began_with see from stuffing plugins to plan) core parts cells) → AllEnded core.plan (progress_of_core core)
         → ((state : ChainState) → StandsFor core state → closed ≡ closed_of core.plan (progress_of_stages state))
         → (first : StagePart S K P) (rest : List (StagePart S K P)) → parts ≡ first ∷ rest
         → (front : List (StagePart S K P)) (last : StagePart S K P) → rest ≡ front ++ last ∷ []
@@ -141,7 +135,7 @@ module _ {S K P : Type 0} (see : Seeing S K P) where
         → ((lists : PartLists) (told : Option StageEnd) → PartStands see last lists told → LeavesOutput see.sink made_to lists told)
         → RunOf see from made_from stuffing plugins made to made_to plan closed
     run-of from made_from stuffing plugins made to made_to plan closed core parts cells goes over closes first rest row front last ends in_stream leaves some taken out_stream left =
-        let begun : RunStart S K = began_with from stuffing plugins to plan in
+        let begun : RunStart S K = began_with see from stuffing plugins to plan in
         let by = goes.runs.by in
         let state : ChainState = state_after plan goes.runs.visits in
         let is-first : first ≡ goes.runs.part 0 = first-is begun core parts cells goes first rest row in
@@ -154,7 +148,7 @@ module _ {S K P : Type 0} (see : Seeing S K P) where
         let chosen = some (goes.runs.lists 0) (state.stages 0).ended first-stands in
         let gives : PartGives see (goes.runs.part 0) (goes.runs.lists 0) chosen.list = subst (λ p. PartGives see p (goes.runs.lists 0) chosen.list) is-first chosen.gives in
         let many : length made ≡ plan.plugins = let a = taken-length rest made taken in let b = rest-length begun core parts cells goes first rest row in omega arith in
-        let at = at-close see laws every close begun core parts cells goes over chosen.list gives in
+        let at = at-close see laws begun core parts cells goes over chosen.list gives in
         let same : (i : ℕ) (d : StagePart S K P) → i < length made → slice_index_or rest i d ≡ goes.runs.part (suc (0 + i)) =
         λ i d lt. rest-is begun core parts cells goes first rest row i d (let a = taken-length rest made taken in omega arith) ∙ ap (λ n. goes.runs.part (suc n)) (let e : i ≡ 0 + i = omega arith in e) in
         let rules-length : length (map see.rule plugins) ≡ plan.plugins = goes.fits.rules_are in
@@ -162,18 +156,18 @@ module _ {S K P : Type 0} (see : Seeing S K P) where
           list = chosen.list;
           is_list = (by.kept chosen.list gives).is_list;
           closes = at.pure_or_fault;
-          input = left-input see laws every close begun core parts cells goes over chosen.list gives made_from
+          input = left-input see laws begun core parts cells goes over chosen.list gives made_from
               (in_stream ∙ (ap has_stream is-first ∙ by.input.stream))
               (leaves (goes.runs.lists 0) (state.stages 0).ended (stuffing_of stuffing) first-stands (ap stuffing_in is-first ∙ by.input.stuffing_is));
-          output = left-output see laws every close begun core parts cells goes over chosen.list gives made_to
+          output = left-output see laws begun core parts cells goes over chosen.list gives made_to
               (out_stream ∙ (ap has_stream is-last ∙ by.output.stream))
               (left (goes.runs.lists (suc plan.plugins)) (state.stages (suc plan.plugins)).ended last-stands);
-          gave = gave-of see laws every close begun core parts cells goes over;
-          gave_to = gave-to see laws every close begun core parts cells goes over chosen.list gives;
-          input_gave = made-input see laws every close begun core parts cells goes over chosen.list gives;
-          met = met-all see laws every close begun core parts cells goes over chosen.list gives 0 rest made taken (omega arith) same;
-          memory = wants-of see laws every close begun core parts cells goes over chosen.list gives;
-          rules = rules-all see laws every close begun core parts cells goes over 0 (map see.rule plugins) rest made taken (many ∙ sym rules-length) (omega arith) same
+          gave = gave-of see laws begun core parts cells goes over;
+          gave_to = gave-to see laws begun core parts cells goes over chosen.list gives;
+          input_gave = made-input see laws begun core parts cells goes over chosen.list gives;
+          met = met-all see laws begun core parts cells goes over chosen.list gives 0 rest made taken (omega arith) same;
+          memory = wants-of see laws begun core parts cells goes over chosen.list gives;
+          rules = rules-all see laws begun core parts cells goes over 0 (map see.rule plugins) rest made taken (many ∙ sym rules-length) (omega arith) same
               (λ i lt. ap (rule_behind (map see.rule plugins)) (let e : 0 + i ≡ i = omega arith in e));
         } in
         subst (λ (c : Closed). RunOf see from made_from stuffing plugins made to made_to plan c) (sym closed-is) done

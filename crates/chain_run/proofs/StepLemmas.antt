@@ -25,7 +25,8 @@ use Rattle.stage_run.specs.OutputStands.{IsPartOfFirst}
 use Rattle.chain_run.specs.RunOf.{MayRead}
 use Rattle.chain_run.specs.Slots.{slot, HoldsFrom}
 use Rattle.chain_run.specs.Runs.{nothing_told, between, RunStart, PartAt, InputAt, PluginAt, FailedAt, OutputAt, KeptFor, RunsBy}
-use Rattle.chain_run.proofs.MachineLaws.{MachineLaws, given-falls, stage-other, written-grows, given-more}
+use Rattle.chain_run.specs.Laws.{MachineLaws}
+use Rattle.chain_run.proofs.NumberLaws.{given-falls, stage-other, written-grows, given-more}
 
 -- ---- functions that are changed at one place
 

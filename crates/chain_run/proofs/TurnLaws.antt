@@ -19,53 +19,44 @@ use Rattle.stage_run.specs.declared.stage_part.StagePart.{StagePart}
 use Rattle.stage_run.specs.declared.work.Work.{Work}
 use Rattle.stage_run.specs.PartStands.{PartStands, MayWorkOnSome}
 use Rattle.chain_run.specs.Runs.{nothing_told, RunStart, IsIdle, remaining_work}
-use Rattle.chain_run.specs.Working.{IsRunning, IsRunningSomehow, StageWorks}
-use Rattle.chain_run.proofs.MachineLaws.{MachineLaws}
+use Rattle.chain_run.specs.Working.{IsRunning, IsRunningSomehow, StageWorks, Looks}
+use Rattle.chain_run.specs.Laws.{MachineLaws}
 use Rattle.chain_run.proofs.TurnWorks.{Looked, look, work-written, work-given, work-taken, work-stands, work-may, turned}
 use Rattle.chain_run.proofs.TurnMoves.{moves, rests, idle}
 
--- the calls of a turn up to its work: a stage that goes on makes a visit that gives nothing
-pub record Looks {S K P : Type 0} (see : Seeing S K P)
-    (core core1 : CoreNumbers) (parts : List (StagePart S K P)) (cells : List Cell) (k : ℕ) (news : News) : Type 0 where
-  pub laws : MachineLaws
-  pub every : (plan : CorePlan) (rules : List PluginRule) (input : StageList) (visits : List Visit) → KeptRun plan rules input visits → SoFar plan rules input (state_after plan visits)
-  pub somehow : IsRunningSomehow see core parts cells
-  pub is_stage : k ≤ suc core.plan.plugins
-  pub open_ : (progress_of_core core k).ended ≡ None
-  pub plan1 : core1.plan ≡ core.plan
-  pub first : (state : ChainState) (gave : List Cell) → length gave ≡ 0 → StandsFor core state → StandsFor core1 (visited core.plan state (visit_of k gave nothing_told))
-  pub news_is : (state : ChainState) (gave : List Cell) → length gave ≡ 0 → StandsFor core state → news ≡ news_after core.plan state (visit_of k gave nothing_told)
-
-module _ {S K P : Type 0} (see : Seeing S K P)
-    (core core1 : CoreNumbers) (parts : List (StagePart S K P)) (cells : List Cell) (k : ℕ) (news : News) (looks : Looks see core core1 parts cells k news) where
+-- a stage that goes on has looked, and so it may work and tell what it has done
+module _ {S K P : Type 0} (see : Seeing S K P) (laws : MachineLaws)
+    (core core1 : CoreNumbers) (parts : List (StagePart S K P)) (cells : List Cell) (k : ℕ) (news : News)
+    (goes : IsRunningSomehow see core parts cells) (is_stage : k ≤ suc core.plan.plugins) (open_ : (progress_of_core core k).ended ≡ None)
+    (looks : Looks core core1 k news) where
   abbrev Looked_ : RunStart S K → Type 0
-  Looked_ begun = Looked see looks.laws looks.every begun core1 parts cells k news
+  Looked_ begun = Looked see laws begun core1 parts cells k news
 
   looked-of : (begun : RunStart S K) → IsRunning see begun core parts cells → Looked_ begun
-  looked-of begun goes =
-      look see looks.laws looks.every begun core core1 parts cells goes k news looks.is_stage looks.open_ looks.plan1 looks.first looks.news_is
+  looked-of begun runs =
+      look see laws begun core core1 parts cells runs k news is_stage open_ looks.plan_same looks.visited_is looks.news_is
 
-  somehow : Looked_ looks.somehow.0
-  somehow = looked-of looks.somehow.0 looks.somehow.1
+  somehow : Looked_ goes.0
+  somehow = looked-of goes.0 goes.1
 
   pub turn-written : news.written ≤ (progress_of_core core1 k).given
-  turn-written = work-written see looks.laws looks.every looks.somehow.0 core1 parts cells k news somehow
+  turn-written = work-written see laws goes.0 core1 parts cells k news somehow
 
   pub turn-given : (progress_of_core core1 k).given ≤ news.taken
-  turn-given = work-given see looks.laws looks.every looks.somehow.0 core1 parts cells k news somehow
+  turn-given = work-given see laws goes.0 core1 parts cells k news somehow
 
   pub turn-taken : news.taken ≤ 2 ^ 60
-  turn-taken = work-taken see looks.laws looks.every looks.somehow.0 core1 parts cells k news somehow
+  turn-taken = work-taken see laws goes.0 core1 parts cells k news somehow
 
   pub turn-stands : (d : StagePart S K P) → MayWorkOnSome (PartStands see (slice_index_or parts k d)) (progress_of_core core1 k).given news.written
-  turn-stands = work-stands see looks.laws looks.every looks.somehow.0 core1 parts cells k news somehow
+  turn-stands = work-stands see laws goes.0 core1 parts cells k news somehow
 
   module _ (core1' : CoreNumbers) (same : core1' ≡ core1) (parts_new : List (StagePart S K P)) (cells_new : List Cell) (work : Work)
       (works : StageWorks see parts parts_new cells cells_new k (progress_of_core core1 k).given news work) where
     pub turn-may : MayVisit core1'.plan (progress_of_core core1') core1'.told k work.done work.word
     turn-may =
         subst (λ (c : CoreNumbers). MayVisit c.plan (progress_of_core c) c.told k work.done work.word) (sym same)
-        (work-may see looks.laws looks.every looks.somehow.0 core1 parts cells k news somehow parts_new cells_new work works)
+        (work-may see laws goes.0 core1 parts cells k news somehow parts_new cells_new work works)
 
     module _ (core2 : CoreNumbers) (plan2 : core2.plan ≡ core1'.plan)
         (second : (state : ChainState) (gave : List Cell) → length gave ≡ work.done → StandsFor core1' state → StandsFor core2 (visited core1'.plan state (visit_of k gave work.word))) where
@@ -74,17 +65,17 @@ module _ {S K P : Type 0} (see : Seeing S K P)
           subst (λ (c : CoreNumbers). (state : ChainState) (gave : List Cell) → length gave ≡ work.done → StandsFor c state → StandsFor core2 (visited c.plan state (visit_of k gave work.word))) same second
 
       pub turn-goes : (begun : RunStart S K) → IsRunning see begun core parts cells → IsRunning see begun core2 parts_new cells_new
-      turn-goes begun goes =
-          turned see looks.laws looks.every begun core1 parts cells k news (looked-of begun goes) parts_new cells_new work works core2 (plan2 ∙ ap (λ (c : CoreNumbers). c.plan) same) told
+      turn-goes begun runs =
+          turned see laws begun core1 parts cells k news (looked-of begun runs) parts_new cells_new work works core2 (plan2 ∙ ap (λ (c : CoreNumbers). c.plan) same) told
 
       pub turn-moves : (0 < work.done) ⊎ (is_some work.word.ended ≡ true) → remaining_work (progress_of_core core2) (core.plan.plugins + 2) < remaining_work (progress_of_core core) (core.plan.plugins + 2)
       turn-moves =
-          moves see looks.laws looks.every looks.somehow.0 core core1 core2 parts cells looks.somehow.1 k looks.is_stage looks.open_ news somehow parts_new cells_new work works looks.first told
+          moves see laws goes.0 core core1 core2 parts cells goes.1 k is_stage open_ news somehow parts_new cells_new work works looks.visited_is told
 
       pub turn-rests : work.done ≡ 0 → work.word.ended ≡ None → progress_of_core core2 ≡ progress_of_core core
       turn-rests =
-          rests see looks.laws looks.every looks.somehow.0 core core1 core2 parts cells looks.somehow.1 k looks.is_stage looks.open_ news somehow parts_new cells_new work works looks.first told
+          rests see laws goes.0 core core1 core2 parts cells goes.1 k is_stage open_ news somehow parts_new cells_new work works looks.visited_is told
 
       pub turn-idle : work.done ≡ 0 → work.word.ended ≡ None → IsIdle core.plan (progress_of_core core2) k
       turn-idle =
-          idle see looks.laws looks.every looks.somehow.0 core core1 core2 parts cells looks.somehow.1 k looks.is_stage looks.open_ news somehow parts_new cells_new work works looks.first told
+          idle see laws goes.0 core core1 core2 parts cells goes.1 k is_stage open_ news somehow parts_new cells_new work works looks.visited_is told

@@ -28,7 +28,8 @@ use Rattle.stage_run.specs.Telling.{may_follow, FollowsNews}
 use Rattle.stage_run.specs.Works.{InputTells}
 use Rattle.chain_run.specs.Runs.{nothing_told, RunStart, still_of, remaining_work, IsIdle}
 use Rattle.chain_run.specs.Working.{IsRunning, StageWorks}
-use Rattle.chain_run.proofs.MachineLaws.{MachineLaws, given-taken, taken-below}
+use Rattle.chain_run.specs.Laws.{MachineLaws}
+use Rattle.chain_run.proofs.NumberLaws.{given-taken, taken-below}
 use Rattle.chain_run.proofs.TurnLemmas.{not-following}
 use Rattle.chain_run.proofs.KindLemmas.{input-did}
 use Rattle.chain_run.proofs.ProgressLemmas.{TakesAlone, as-progress, takes-alone, same-progress, takes-none, none-waits, still-same, still-falls, still-less}
@@ -39,9 +40,9 @@ no-agreement None at may = refl
 no-agreement (Some n) at may = let a = may n refl in absurd (omega (arith, a.0, a.1))
 
 module _ {S K P : Type 0} (see : Seeing S K P)
-    (laws : MachineLaws) (every : (plan : CorePlan) (rules : List PluginRule) (input : StageList) (visits : List Visit) → KeptRun plan rules input visits → SoFar plan rules input (state_after plan visits))
+    (laws : MachineLaws)
     (begun : RunStart S K) (core core1 core2 : CoreNumbers) (parts : List (StagePart S K P)) (cells : List Cell) (goes : IsRunning see begun core parts cells) (k : ℕ) (is_stage : k ≤ suc core.plan.plugins) (open_ : (progress_of_core core k).ended ≡ None)
-    (news : News) (looked : Looked see laws every begun core1 parts cells k news)
+    (news : News) (looked : Looked see laws begun core1 parts cells k news)
     (parts_new : List (StagePart S K P)) (cells_new : List Cell) (work : Work) (works : StageWorks see parts parts_new cells cells_new k (progress_of_core core1 k).given news work)
     (first : (state : ChainState) (gave : List Cell) → length gave ≡ 0 → StandsFor core state → StandsFor core1 (visited core.plan state (visit_of k gave nothing_told)))
     (second : (state : ChainState) (gave : List Cell) → length gave ≡ work.done → StandsFor core1 state → StandsFor core2 (visited core1.plan state (visit_of k gave work.word))) where
@@ -61,7 +62,7 @@ module _ {S K P : Type 0} (see : Seeing S K P)
   took0 =
       takes-alone begun.plan core core1 (state_after begun.plan goes.runs.visits) k goes.runs.by.numbers
       (subst (λ (p : CorePlan). StandsFor core1 (visited p (state_after begun.plan goes.runs.visits) (visit_of k [] nothing_told))) goes.fits.plan_is (first (state_after begun.plan goes.runs.visits) [] refl goes.runs.by.numbers))
-      (open-state see laws every begun core parts cells goes k is_stage open_)
+      (open-state see laws begun core parts cells goes k is_stage open_)
 
   looks-same : (n : ℕ) → remaining_work m1 n ≡ remaining_work m0 n
   looks-same n =
@@ -102,8 +103,8 @@ module _ {S K P : Type 0} (see : Seeing S K P)
   moves some =
       let less : still_of (m2 k) < still_of (m1 k) =
       still-less (m1 k) (m2 k) work.done (ap (λ (m : Progress). m.ended) (looked.by.numbers.progress k) ∙ looked.open_) moved-given
-      (let a = given-le see laws every begun core1 parts cells k news looked parts_new cells_new work works in
-      let b = taken-is see laws every begun core1 parts cells k news looked parts_new cells_new work works in
+      (let a = given-le see laws begun core1 parts cells k news looked parts_new cells_new work works in
+      let b = taken-is see laws begun core1 parts cells k news looked parts_new cells_new work works in
       let c = taken-below laws begun.plan looked.fits.lawful.users looked.visits looked.by.run k in let d = at-is in omega arith)
       (elim some [
         | inl done ↦ inl done
@@ -117,7 +118,7 @@ module _ {S K P : Type 0} (see : Seeing S K P)
 
   module _ (none : work.done ≡ 0) (still_open : work.word.ended ≡ None) where
     abbrev did-here : StageWorks see parts parts_new cells cells_new k (length (now.stages k).given) news work
-    did-here = here see laws every begun core1 parts cells k news looked parts_new cells_new work works
+    did-here = here see laws begun core1 parts cells k news looked parts_new cells_new work works
 
     window-length : length (take did-here.len (drop (length (now.stages k).given % length cells) cells)) ≡ did-here.len
     window-length =
@@ -125,12 +126,12 @@ module _ {S K P : Type 0} (see : Seeing S K P)
         omega (arith, length-take did-here.len (drop (length (now.stages k).given % length cells) cells), length-drop (length (now.stages k).given % length cells) cells)
 
     empty-len : did-here.len ≡ 0
-    empty-len = let a = did-here.worked.goes_on still_open in let b = window-length in omega arith
+    empty-len = let a = did-here.worked.stage.goes_on still_open in let b = window-length in omega arith
 
     empty : (m1 k).taken ≤ (m1 k).given
     empty =
         let a = empty-len in let b = at-is in
-        let c : news.taken ≡ (now.stages k).taken = taken-is see laws every begun core1 parts cells k news looked parts_new cells_new work works in
+        let c : news.taken ≡ (now.stages k).taken = taken-is see laws begun core1 parts cells k news looked parts_new cells_new work works in
         let d : (m1 k).taken ≡ (now.stages k).taken = ap (λ (m : Progress). m.taken) (looked.by.numbers.progress k) in
         elim (cases_lt (length (now.stages k).given) news.taken) [
           | inl more ↦ (let e = did-here.some more in absurd (omega arith))
@@ -151,7 +152,7 @@ module _ {S K P : Type 0} (see : Seeing S K P)
     silent : work.word ≡ nothing_told
     silent =
         let agreed : work.word.agreed ≡ None =
-        no-agreement work.word.agreed (length (now.stages k).given) (λ agreed e. subst (λ n. (length (now.stages k).given < agreed) × (agreed ≤ length (now.stages k).given + n)) none (did-here.worked.agreed agreed e)) in
+        no-agreement work.word.agreed (length (now.stages k).given) (λ agreed e. subst (λ n. (length (now.stages k).given < agreed) × (agreed ≤ length (now.stages k).given + n)) none (did-here.worked.stage.agreed agreed e)) in
         λ i. record { agreed = agreed i; ended = still_open i }
 
     took1 : TakesAlone begun.plan m1 m2 k
@@ -175,16 +176,16 @@ module _ {S K P : Type 0} (see : Seeing S K P)
           (subst (λ (m : StagesProgress). may_follow (news_of begun.plan m k) (m k).given ≡ false) (sym (as-progress core1 now looked.by.numbers))
           (subst (λ n. may_follow n (length (now.stages k).given) ≡ false) looked.told
           (subst (λ n. may_follow news n ≡ false) (let a = none in omega arith)
-          (subst (λ t. FollowsNews news (length (now.stages k).given + work.done) t) still_open did-here.worked.follows)))));
+          (subst (λ t. FollowsNews news (length (now.stages k).given + work.done) t) still_open did-here.worked.stage.follows)))));
       input_below = below;
     }
       where
         below : k ≡ 0 → (m0 k).given < 2 ^ 60
         below e =
             let kind : kind_of (looked.part k) ≡ an_input = subst (λ i. kind_of (looked.part i) ≡ an_input) (sym e) looked.by.input.kind in
-            let worked-here = worked see laws every begun core1 parts cells k news looked parts_new cells_new work works in
-            let may = may-now see laws every begun core1 parts cells k news looked parts_new cells_new work works in
-            let w = worked-here.works (looked.lists k) may in
+            let worked-here = worked see laws begun core1 parts cells k news looked parts_new cells_new work works in
+            let may = may-now see laws begun core1 parts cells k news looked parts_new cells_new work works in
+            let w = worked-here.stage.works (looked.lists k) may in
             let did = input-did see (looked.part k) did-here.new (looked.lists k) news (take did-here.len (drop (length (now.stages k).given % length cells) cells)) did-here.window_new work w.after kind w.does in
             let tells : (work.done ≡ length (take did-here.len (drop (length (now.stages k).given % length cells) cells))) × (length (looked.lists k).given < 2 ^ 60) =
             subst (λ t. InputTells news (length (looked.lists k).given) (length (take did-here.len (drop (length (now.stages k).given % length cells) cells))) work.done (w.after.read ≡ (looked.lists k).read) t) still_open did.tells in

@@ -23,9 +23,11 @@ use Rattle.stage_run.specs.declared.work.Work.{Work}
 use Rattle.stage_run.specs.PartLists.{PartLists}
 use Rattle.stage_run.specs.PartStands.{PartStands, MayWork, MayWorkOnSome, kind_of, an_output}
 use Rattle.stage_run.specs.Telling.{may_follow, FollowsNews}
+use Rattle.stage_run.specs.Works.{PartWork}
 use Rattle.chain_run.specs.Runs.{nothing_told, RunStart, NumbersFit, KeptFor, RunsBy, Runs}
-use Rattle.chain_run.specs.Working.{IsRunning, PartWorks, StageWorks}
-use Rattle.chain_run.proofs.MachineLaws.{MachineLaws, after-visit, change, given-taken, taken-below}
+use Rattle.chain_run.specs.Working.{IsRunning, StageWorks}
+use Rattle.chain_run.specs.Laws.{MachineLaws}
+use Rattle.chain_run.proofs.NumberLaws.{after-visit, change, given-taken, taken-below}
 use Rattle.chain_run.proofs.SlotLemmas.{length-over_row}
 use Rattle.chain_run.proofs.StepLemmas.{set_at}
 use Rattle.chain_run.proofs.QuietVisit.{quiet-visit}
@@ -35,7 +37,7 @@ use Rattle.chain_run.proofs.TurnLemmas.{list-ends, follows-news}
 use Rattle.chain_run.proofs.ProgressLemmas.{as-progress}
 
 module _ {S K P : Type 0} (see : Seeing S K P)
-    (laws : MachineLaws) (every : (plan : CorePlan) (rules : List PluginRule) (input : StageList) (visits : List Visit) → KeptRun plan rules input visits → SoFar plan rules input (state_after plan visits))
+    (laws : MachineLaws)
     (begun : RunStart S K) where
   -- the chain theorem of a run so far
   pub kept-run : (core : CoreNumbers) (stages slots : ℕ) → NumbersFit begun core stages slots → (input : StageList) (visits : List Visit) → KeptFor see begun visits input → ChainRun begun.plan visits → KeptRun begun.plan begun.rules input visits
@@ -50,7 +52,7 @@ module _ {S K P : Type 0} (see : Seeing S K P)
 
   pub far : (core : CoreNumbers) (stages slots : ℕ) → NumbersFit begun core stages slots → (input : StageList) (visits : List Visit) → KeptFor see begun visits input → ChainRun begun.plan visits → SoFar begun.plan begun.rules input (state_after begun.plan visits)
   far core stages slots fits input visits kept run =
-      every begun.plan begun.rules input visits (kept-run core stages slots fits input visits kept run)
+      laws.every begun.plan begun.rules input visits (kept-run core stages slots fits input visits kept run)
 
   -- a visit that the machine allows, in the words of the core
   pub to-core : (core : CoreNumbers) (state : ChainState) (k done : ℕ) (word : StageWord) → core.plan ≡ begun.plan → StandsFor core state → MayVisit begun.plan (progress_of_stages state) state.told k done word → MayVisit core.plan (progress_of_core core) core.told k done word
@@ -188,14 +190,14 @@ module _ {S K P : Type 0} (see : Seeing S K P)
       old-is : here.old ≡ looked.part k
       old-is = here.is_old ∙ looked.by.parts_are k here.old looked.is_stage
 
-      pub worked : PartWorks see (looked.part k) here.new at news (take here.len (drop (at % length cells) cells)) here.window_new work
-      worked = subst (λ p. PartWorks see p here.new at news (take here.len (drop (at % length cells) cells)) here.window_new work) old-is here.worked
+      pub worked : PartWork see (looked.part k) here.new at news (take here.len (drop (at % length cells) cells)) here.window_new work
+      worked = subst (λ p. PartWork see p here.new at news (take here.len (drop (at % length cells) cells)) here.window_new work) old-is here.worked
 
       pub taken-is : news.taken ≡ (now.stages k).taken
       taken-is = ap (λ (n : News). n.taken) looked.told
 
       done-le : work.done ≤ here.len
-      done-le = let a = worked.done in omega (arith, length-take here.len (drop (at % length cells) cells), length-drop (at % length cells) cells)
+      done-le = let a = worked.stage.done in omega (arith, length-take here.len (drop (at % length cells) cells), length-drop (at % length cells) cells)
 
       pub given-le : at + work.done ≤ news.taken
       given-le = let a = done-le in let b = here.in_hand in omega arith
@@ -209,7 +211,7 @@ module _ {S K P : Type 0} (see : Seeing S K P)
       below : k ≡ suc begun.plan.plugins → (limit : ℕ) → now.told ≡ Some limit → 0 < work.done → at + work.done ≤ limit
       below o limit is some =
           let kind : kind_of (looked.part k) ≡ an_output = subst (λ i. kind_of (looked.part i) ≡ an_output) (sym o) looked.by.output.kind in
-          let w = worked.works (looked.lists k) may-now in
+          let w = worked.stage.works (looked.lists k) may-now in
           let did = output-did see (looked.part k) here.new (looked.lists k) news (take here.len (drop (at % length cells) cells)) here.window_new work w.after kind w.does in
           let known : news.limit ≡ Some limit = ap (λ (n : News). n.limit) looked.told ∙ (sym (looked.limit_told o) ∙ is) in
           subst (λ n. n + work.done ≤ limit) may-now.given (did.below limit known some)
@@ -219,10 +221,10 @@ module _ {S K P : Type 0} (see : Seeing S K P)
         is_stage = looked.is_stage;
         goes_on = looked.open_;
         held = (let a = given-le in let b = taken-is in omega arith);
-        agreement = λ agreed e. inl (worked.agreed agreed e);
+        agreement = λ agreed e. inl (worked.stage.agreed agreed e);
         below_limit = below;
         follows = λ e. follows-news begun.plan (progress_of_stages now) k (at + work.done)
-            (subst (λ (n : News). may_follow n (at + work.done) ≡ true) looked.told (subst (λ t. FollowsNews news (at + work.done) t) e worked.follows));
+            (subst (λ (n : News). may_follow n (at + work.done) ≡ true) looked.told (subst (λ t. FollowsNews news (at + work.done) t) e worked.stage.follows));
       }
 
       -- the second visit may be made

@@ -35,12 +35,13 @@ use Rattle.stage_run.specs.Works.{Works, WorksByKind, OutputTells, KeepsRule, re
 use Rattle.chain_run.specs.RunOf.{MayRead}
 use Rattle.chain_run.specs.Slots.{slot, HoldsFrom}
 use Rattle.chain_run.specs.Runs.{between, RunStart, PartAt, InputAt, PluginAt, FailedAt, OutputAt, KeptFor, RunsBy}
-use Rattle.chain_run.specs.Working.{PartWorks}
-use Rattle.chain_run.proofs.MachineLaws.{MachineLaws, change, stage-other, written-grows, given-falls, given-taken, taken-given, taken-falls, written-given, taken-ahead}
+use Rattle.stage_run.specs.Works.{PartWork}
+use Rattle.chain_run.specs.Laws.{MachineLaws}
+use Rattle.chain_run.proofs.NumberLaws.{change, stage-other, written-grows, given-falls, given-taken, taken-given, taken-falls, written-given, taken-ahead}
 use Rattle.chain_run.proofs.SlotLemmas.{holds-append, holds-take, holds-drop, holds-same, over_row, row-reads, row-written, row-other}
 use Rattle.chain_run.proofs.StepLemmas.{set_at, set_at-same, pick, part-more, Own, stepped}
 use Rattle.chain_run.proofs.QuietVisit.{going-own}
-use Rattle.chain_run.proofs.KindLemmas.{InputDid, input-did, plugin-did, OutputDid, output-did, wants-more}
+use Rattle.chain_run.proofs.KindLemmas.{InputDid, input-did, plugin-did, OutputDid, output-did, wants-more, stream-kept}
 
 -- ---- pieces of a list
 
@@ -135,7 +136,7 @@ module _ {S K P : Type 0} (see : Seeing S K P) (begun : RunStart S K)
 
   module _ (new_part : StagePart S K P) (len : ℕ) (in_hand : at + len ≤ news.taken) (in_row : at % length cells + len ≤ length cells)
       (window_new : List Cell) (same_length : length window_new ≡ len) (work : Work)
-      (worked : PartWorks see (part k) new_part at news (take len (drop (at % length cells) cells)) window_new work) where
+      (worked : PartWork see (part k) new_part at news (take len (drop (at % length cells) cells)) window_new work) where
     abbrev window : List Cell
     window = take len (drop (at % length cells) cells)
 
@@ -149,7 +150,7 @@ module _ {S K P : Type 0} (see : Seeing S K P) (begun : RunStart S K)
     new_cells = over_row cells (at % length cells) window_new
 
     pub w : Works (PartStands see new_part) (WorksByKind see (part k) new_part (lists k) news window window_new work) (lists k) news.written window window_new work
-    w = worked.works (lists k) may
+    w = worked.stage.works (lists k) may
 
     abbrev after : PartLists
     after = w.after
@@ -158,7 +159,7 @@ module _ {S K P : Type 0} (see : Seeing S K P) (begun : RunStart S K)
     window-length = omega (arith, length-take len (drop (at % length cells) cells), length-drop (at % length cells) cells)
 
     done-le : work.done ≤ len
-    done-le = let a = worked.done in let b = window-length in omega arith
+    done-le = let a = worked.stage.done in let b = window-length in omega arith
 
     given-length : length given ≡ work.done
     given-length = let a = done-le in omega (arith, length-take work.done window_new)
@@ -207,7 +208,7 @@ module _ {S K P : Type 0} (see : Seeing S K P) (begun : RunStart S K)
         given = w.behind.given ∙ (ap (λ (l : List Cell). l ++ given) (part-at k is_stage).given ∙ sym changed);
         mark = (let a = w.behind.mark in let b = written-is in let c = grows in omega arith);
         memory = λ e. wants-more see (part k) new_part (news.taken - news.written) begun.plan.buffer worked.same_kind worked.same_steady
-            (let a = taken-within in let b = taken-is in let c = written-is in omega arith) (worked.memory (sym ended-is ∙ e));
+            (let a = taken-within in let b = taken-is in let c = written-is in omega arith) (worked.stage.memory (sym ended-is ∙ e));
       }
 
       -- ---- the input
@@ -235,7 +236,7 @@ module _ {S K P : Type 0} (see : Seeing S K P) (begun : RunStart S K)
           at = subst (λ i. PartAt see begun new_part i after new) (sym first) part-new;
           kind = worked.same_kind ∙ input-kind;
           stuffing_is = worked.same_stuffing ∙ subst (λ i. stuffing_in (part i) ≡ Some begun.stuffing) first by.input.stuffing_is;
-          stream = worked.same_stream ∙ subst (λ i. has_stream (part i) ≡ has_source begun.from) first by.input.stream;
+          stream = stream-kept see (part k) new_part (lists k) news window window_new work after w.does ∙ subst (λ i. has_stream (part i) ≡ has_source begun.from) first by.input.stream;
           source = subst (λ (v : SourceView). IsSourceOf see.source begun.from v) (sym w.behind.source) (subst (λ i. IsSourceOf see.source begun.from (lists i).source) first by.input.source);
           within = reads-within;
         }
@@ -380,7 +381,7 @@ module _ {S K P : Type 0} (see : Seeing S K P) (begun : RunStart S K)
         own-output less = record {
           at = subst (λ i. PartAt see begun new_part i after new) (sym e) part-new;
           kind = worked.same_kind ∙ output-kind;
-          stream = worked.same_stream ∙ subst (λ i. has_stream (part i) ≡ has_sink begun.to) e by.output.stream;
+          stream = stream-kept see (part k) new_part (lists k) news window window_new work after w.does ∙ subst (λ i. has_stream (part i) ≡ has_sink begun.to) e by.output.stream;
           met = met-new begun.plan.plugins e (omega arith) output-met;
           sink = subst (λ (v : SinkView). IsSinkOf see.sink begun.to v) (sym w.behind.sink) (subst (λ i. IsSinkOf see.sink begun.to (lists i).sink) e by.output.sink);
           failed = λ is. failed less (sym (ap (λ i. (new.stages i).ended) e ∙ ended-is) ∙ is);
@@ -473,7 +474,7 @@ module _ {S K P : Type 0} (see : Seeing S K P) (begun : RunStart S K)
         -- what is left to the stage
         is-left : (j : ℕ) → suc j ≡ k → j ≤ begun.plan.plugins → HoldsFrom (slot new_cells) (length (new.stages (suc j)).given) (between new j)
         is-left j e le =
-            let rest-same : drop work.done window_new ≡ drop work.done (take len (drop at (old.stages j).given)) = worked.rest ∙ ap (drop work.done) (window-is j e le) in
+            let rest-same : drop work.done window_new ≡ drop work.done (take len (drop at (old.stages j).given)) = worked.stage.rest ∙ ap (drop work.done) (window-is j e le) in
             let front : HoldsFrom (slot new_cells) (at + work.done) (drop work.done (take len (drop at (old.stages j).given))) =
             subst (λ (l : List Cell). HoldsFrom (slot new_cells) (at + work.done) l) rest-same (holds-drop (slot new_cells) at work.done window_new (let a = done-le in omega (arith, same_length)) row-holds) in
             let far-old : HoldsFrom (slot cells) (at + len) (drop (at + len) (old.stages j).given) =

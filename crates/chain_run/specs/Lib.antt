@@ -1,4 +1,5 @@
 pub mod Fresh
+pub mod Laws
 pub mod Met
 pub mod Rooms
 pub mod RunOf

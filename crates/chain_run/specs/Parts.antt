@@ -16,7 +16,8 @@ module _ {S K P : Type 0} (see : Seeing S K P) where
     pub kind : kind_of part ≡ a_plugin
     pub same_rule : rule_of see part ≡ see.rule plugin
     pub same_steady : steady_of see part ≡ see.steady plugin
-    pub fresh : (source : SourceView) (sink : SinkView) (mark : ℕ) → see.stands plugin [] mark → PartStands see part (fresh_lists source sink mark) None
+    pub fresh : (source : SourceView) (sink : SinkView) (mark : ℕ) → see.stands plugin [] mark
+        → PartStands see part (fresh_lists source sink mark) None
 
   -- each is the stage of the plugin at its place
   abbrev pub AreMadeOf : List (StagePart S K P) → List P → Type 0
@@ -27,7 +28,8 @@ module _ {S K P : Type 0} (see : Seeing S K P) where
   -- the plugin that a stage gives back
   pub record TakenFrom (part : StagePart S K P) (plugin : P) : Type 0 where
     pub same_rule : see.rule plugin ≡ rule_of see part
-    pub holds : (lists : PartLists) (told : Option StageEnd) → PartStands see part lists told → see.stands plugin lists.met lists.mark
+    pub holds : (lists : PartLists) (told : Option StageEnd) → PartStands see part lists told
+        → see.stands plugin lists.met lists.mark
 
   -- each is the plugin that the stage at its place gives back; behind them stands the output's stage
   abbrev pub AreTakenFrom : List (StagePart S K P) → List P → Type 0

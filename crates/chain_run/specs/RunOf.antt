@@ -3,15 +3,13 @@
 use Rattle.std.specs.Prelude.{◌≡◌, ◌≢◌, ◌⊎◌, ℕ, suc, ◌+◌, ◌*◌, ◌^◌, ◌≤◌, List, ◌++◌, length, map, take, drop}
 use Rattle.ts_packet.specs.declared.cell.Cell.{Cell}
 use Rattle.ts_outside.specs.Source.{SourceView, unread, read_failed}
-use Rattle.ts_outside.specs.Sink.{SinkView, took, write_failed}
-use Rattle.chain_model.specs.declared.input_end.InputEnd.TheVariants.{End, ReadFault}
+use Rattle.ts_outside.specs.Sink.{SinkView, took}
+use Rattle.chain_model.specs.declared.input_end.InputEnd.TheVariants.{ReadFault}
 use Rattle.chain_model.specs.declared.cause.Cause.{Cause}
 use Rattle.chain_model.specs.declared.cause.Cause.TheVariants.{Input, WriteFault, NoMemory}
 use Rattle.chain_model.specs.PluginRule.{PluginRule}
 use Rattle.chain_model.specs.Apply.{StageList}
 use Rattle.chain_model.specs.StageLists.{end_list}
-use Rattle.chain_model.specs.InputList.{input_of_bytes, packets_of}
-use Rattle.chain_model.specs.Stuffed.{stuffed}
 use Rattle.chain_model.specs.Stuffed as model
 use Rattle.chain_model.specs.Cut.{IsLawfulFault}
 use Rattle.chain_model.specs.Written.{written}
@@ -26,24 +24,27 @@ use Rattle.stage_run.specs.declared.output_part.OutputPart.{OutputPart}
 use Rattle.stage_run.specs.declared.output_part.OutputPart.TheVariants as out
 use Rattle.stage_run.specs.declared.stuffing.Stuffing.{Stuffing}
 use Rattle.stage_run.specs.InputStands.{stuffing_of}
-use Rattle.stage_run.specs.OutputStands.{IsPartOfFirst}
-use Rattle.stage_run.specs.Parts.{IsListOf}
+use Rattle.stage_run.specs.Writing.{CutsAt}
+use Rattle.stage_run.specs.Parts.{IsListOf, list_at_fault, IsInSyncSoFar}
 use Rattle.chain_run.specs.Met.{AllMetFirst}
 use Rattle.chain_run.specs.Rooms.{WantsMemory}
 
 -- a run may have read so many bytes that was cut at `cut`: as many as the buffer's packets behind the cut have, or, where
 -- the last position was reached, the packet behind it
 abbrev pub MayRead : ℕ → ℕ → ℕ → Type 0
-MayRead buffer cut bytes = (bytes ≤ 188 * (cut + buffer)) ⊎ ((2 ^ 60 ≤ cut + buffer) × (bytes ≤ 188 * (2 ^ 60 + 1)))
+MayRead buffer cut bytes =
+    (bytes ≤ 188 * (cut + buffer)) ⊎ ((2 ^ 60 ≤ cut + buffer) × (bytes ≤ 188 * (2 ^ 60 + 1)))
 
--- behind a failed read the cut is where the stuffed list of the whole packets that were read ends; they show no lost sync
-pub record CutsAtFault (stuffing : model.Stuffing) (old new : SourceView) (read : List ℕ) (cut : ℕ) : Type 0 where
+-- behind a failed read the cut is where the list up to the fault ends
+pub record CutsAtFault (stuffing : model.Stuffing) (old new : SourceView) (read : List ℕ)
+    (cut : ℕ) : Type 0 where
   pub failed : read_failed old ≡ unread read new
-  pub in_sync : (left : ℕ) × ((input_of_bytes read).ended ≡ End left)
-  pub cut_is : cut ≡ length (stuffed stuffing (record { packets = packets_of read; ended = ReadFault })).cells
+  pub in_sync : IsInSyncSoFar read
+  pub cut_is : cut ≡ length (list_at_fault stuffing read).cells
 
 -- what a run read of its source
-pub record ReadsSource (stuffing : model.Stuffing) (buffer : ℕ) (old new : SourceView) (cut : ℕ) (cause : Cause) : Type 0 where
+pub record ReadsSource (stuffing : model.Stuffing) (buffer : ℕ) (old new : SourceView) (cut : ℕ)
+    (cause : Cause) : Type 0 where
   pub read : List ℕ
   -- these bytes were read of it, and at most one call failed, the last one
   pub source : (old ≡ unread read new) ⊎ (read_failed old ≡ unread read new)
@@ -51,28 +52,32 @@ pub record ReadsSource (stuffing : model.Stuffing) (buffer : ℕ) (old new : Sou
   pub at_fault : cause ≡ Input ReadFault → CutsAtFault stuffing old new read cut
 
 -- the input that a run leaves
-abbrev pub LeftInput : {S : Type 0} → (S → SourceView) → model.Stuffing → ℕ → InputPart S → InputPart S → ℕ → Cause → Type 0
-LeftInput seen stuffing buffer (Stream old) (Stream new) cut cause = ReadsSource stuffing buffer (seen old) (seen new) cut cause
+abbrev pub LeftInput : {S : Type 0} → (S → SourceView) → model.Stuffing → ℕ → InputPart S → InputPart S → ℕ
+    → Cause → Type 0
+LeftInput seen stuffing buffer (Stream old) (Stream new) cut cause =
+    ReadsSource stuffing buffer (seen old) (seen new) cut cause
 LeftInput seen stuffing buffer (Nulls old) (Nulls new) cut cause = cause ≢ Input ReadFault
 LeftInput seen stuffing buffer _ _ cut cause = ⊥
 
 -- the sink took the live packets of the cells before the cut; where the run ended by a failed write, and that is the last
 -- call, a part of the packet behind them too
 abbrev pub TakesTo : SinkView → SinkView → List Cell → ℕ → Cause → Type 0
-TakesTo old new cells cut WriteFault =
-    (part : List ℕ) × (new ≡ write_failed (took old (written (take cut cells) ++ part))) × IsPartOfFirst (drop cut cells) part
+TakesTo old new cells cut WriteFault = CutsAt old new cells cut
 TakesTo old new cells cut _ = new ≡ took old (written (take cut cells))
 
 -- the output that a run leaves; what goes nowhere is always written
-abbrev pub LeftOutput : {K : Type 0} → (K → SinkView) → OutputPart K → OutputPart K → List Cell → ℕ → Cause → Type 0
-LeftOutput seen (out.Stream old) (out.Stream new) cells cut cause = TakesTo (seen old) (seen new) cells cut cause
+abbrev pub LeftOutput : {K : Type 0} → (K → SinkView) → OutputPart K → OutputPart K → List Cell → ℕ → Cause
+    → Type 0
+LeftOutput seen (out.Stream old) (out.Stream new) cells cut cause =
+    TakesTo (seen old) (seen new) cells cut cause
 LeftOutput seen out.Discard out.Discard cells cut cause = cause ≢ WriteFault
 LeftOutput seen _ _ cells cut cause = ⊥
 
 -- cut and cause are those of the run without faults, or a fault ended the chain where it may
 abbrev pub ClosesRight : List PluginRule → StageList → List ℕ → Closed → Type 0
 ClosesRight rules list users closed =
-    IsPureClose rules list users closed.cut closed.cause ⊎ IsLawfulFault rules list users closed.cut closed.cause
+    IsPureClose rules list users closed.cut closed.cause
+    ⊎ IsLawfulFault rules list users closed.cut closed.cause
 
 -- how many cells each stage of a run gave, by its number: no stage more than the one before it, the input no more than the
 -- buffer beyond the cut, and the output those before the cut
@@ -83,13 +88,15 @@ pub record Gave (plugins buffer cut : ℕ) (gave : ℕ → ℕ) : Type 0 where
 
 -- a run that was closed
 pub record RunOf {S K P : Type 0} (see : Seeing S K P)
-    (from made_from : InputPart S) (stuffing : Stuffing) (plugins made : List P) (to made_to : OutputPart K) (plan : CorePlan) (closed : Closed) : Type 0 where
+    (from made_from : InputPart S) (stuffing : Stuffing) (plugins made : List P) (to made_to : OutputPart K)
+    (plan : CorePlan) (closed : Closed) : Type 0 where
   -- the list of the input with its stuffing: that of the bytes of its source, as far as it tells them
   pub list : StageList
   pub is_list : IsListOf see.source from (stuffing_of stuffing) list
   pub closes : ClosesRight (map see.rule plugins) list (stages_of plan.users) closed
   pub input : LeftInput see.source (stuffing_of stuffing) plan.buffer from made_from closed.cut closed.cause
-  pub output : LeftOutput see.sink to made_to (end_list (map see.rule plugins) list).cells closed.cut closed.cause
+  pub output : LeftOutput see.sink to made_to (end_list (map see.rule plugins) list).cells
+      closed.cut closed.cause
   -- each stage gave the first cells of its list, and each plugin met as many of the stage before it as its own gave
   pub gave : ℕ → ℕ
   pub gave_to : Gave plan.plugins plan.buffer closed.cut gave
@@ -100,7 +107,8 @@ pub record RunOf {S K P : Type 0} (see : Seeing S K P)
   pub rules : map see.rule made ≡ map see.rule plugins
 
 -- where there was no memory for a run, nothing was read, met or written
-pub record NeverBegan {S K P : Type 0} (from made_from : InputPart S) (plugins made : List P) (to made_to : OutputPart K) : Type 0 where
+pub record NeverBegan {S K P : Type 0} (from made_from : InputPart S) (plugins made : List P)
+    (to made_to : OutputPart K) : Type 0 where
   pub input : made_from ≡ from
   pub plugins_same : made ≡ plugins
   pub output : made_to ≡ to

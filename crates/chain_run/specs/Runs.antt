@@ -1,5 +1,5 @@
 -- A run in one thread, between the turns of its stages. This project's own rule.
-use Rattle.std.specs.Prelude.{◌≡◌, ℕ, zero, suc, ◌+◌, ◌-◌, ◌^◌, ◌<◌, ◌≤◌, List, [], length, take, drop, slice_index_or, false, if◌then◌else◌, Option, None, Some, is_some}
+use Rattle.std.specs.Prelude.{◌≡◌, ℕ, zero, suc, ◌+◌, ◌-◌, ◌^◌, ◌<◌, ◌≤◌, List, [], length, map, take, drop, slice_index_or, false, if◌then◌else◌, Option, None, Some, is_some}
 use Rattle.std.specs.List.{All}
 use Rattle.ts_packet.specs.declared.cell.Cell.{Cell}
 use Rattle.ts_outside.specs.Source.{SourceView}
@@ -24,6 +24,8 @@ use Rattle.stage_run.specs.Seeing.{Seeing}
 use Rattle.stage_run.specs.declared.input_part.InputPart.{InputPart}
 use Rattle.stage_run.specs.declared.output_part.OutputPart.{OutputPart}
 use Rattle.stage_run.specs.declared.stage_part.StagePart.{StagePart}
+use Rattle.stage_run.specs.declared.stuffing.Stuffing.{Stuffing}
+use Rattle.stage_run.specs.InputStands.{stuffing_of}
 use Rattle.stage_run.specs.PartLists.{PartLists}
 use Rattle.stage_run.specs.PartStands.{PartStands, PartGives, MayWantMemory, rule_of, steady_of, kind_of, stuffing_in, has_source, has_sink, has_stream, an_input, a_plugin, an_output}
 use Rattle.stage_run.specs.OutputStands.{IsPartOfFirst}
@@ -49,8 +51,21 @@ pub record RunStart (S K : Type 0) : Type 0 where
   pub rooms : List (Option ℕ)
   pub plan : CorePlan
 
+-- the chain that these ends and plugins begin
+abbrev pub began_with : {S K P : Type 0} → Seeing S K P → InputPart S → Stuffing → List P → OutputPart K
+    → CorePlan → RunStart S K
+began_with see from stuffing plugins to plan = record {
+  from = from;
+  to = to;
+  stuffing = stuffing_of stuffing;
+  rules = map see.rule plugins;
+  rooms = map see.steady plugins;
+  plan = plan;
+}
+
 -- the numbers of a run go together
-pub record NumbersFit {S K : Type 0} (begun : RunStart S K) (core : CoreNumbers) (stages slots : ℕ) : Type 0 where
+pub record NumbersFit {S K : Type 0} (begun : RunStart S K) (core : CoreNumbers)
+    (stages slots : ℕ) : Type 0 where
   pub plan_is : core.plan ≡ begun.plan
   pub lawful : IsLawfulPlan begun.plan
   pub stages_are : stages ≡ begun.plan.plugins + 2
@@ -75,7 +90,8 @@ module _ {S K P : Type 0} (see : Seeing S K P) (begun : RunStart S K) where
     pub stuffing_is : stuffing_in part ≡ Some begun.stuffing
     pub stream : has_stream part ≡ has_source begun.from
     pub source : IsSourceOf see.source begun.from lists.source
-    pub within : MayRead begun.plan.buffer (written_of begun.plan (progress_of_stages state)) (length lists.read)
+    pub within : MayRead begun.plan.buffer (written_of begun.plan (progress_of_stages state))
+        (length lists.read)
 
   -- the stage of the plugin behind `j` others
   pub record PluginAt (part : StagePart S K P) (j : ℕ) (lists : PartLists) (state : ChainState) : Type 0 where
@@ -87,17 +103,21 @@ module _ {S K P : Type 0} (see : Seeing S K P) (begun : RunStart S K) where
 
   -- a write failed in the packet of the next cell, and no joint position is so near
   pub record FailedAt (lists : PartLists) (state : ChainState) (Gives : StageList → Type 0) : Type 0 where
-    pub few : length (state.stages (suc begun.plan.plugins)).given < (state.stages (suc begun.plan.plugins)).taken
+    pub few : length (state.stages (suc begun.plan.plugins)).given
+        < (state.stages (suc begun.plan.plugins)).taken
     pub part : IsPartOfFirst (between state begun.plan.plugins) lists.cut
-    pub late : (input : StageList) → Gives input → (joint : ℕ) → joint_position begun.rules input (stages_of begun.plan.users) ≡ Some joint
+    pub late : (input : StageList) → Gives input → (joint : ℕ)
+        → joint_position begun.rules input (stages_of begun.plan.users) ≡ Some joint
         → length (state.stages (suc begun.plan.plugins)).given < joint
 
   -- the output's stage
-  pub record OutputAt (part : StagePart S K P) (lists : PartLists) (state : ChainState) (Gives : StageList → Type 0) : Type 0 where
+  pub record OutputAt (part : StagePart S K P) (lists : PartLists) (state : ChainState)
+      (Gives : StageList → Type 0) : Type 0 where
     pub at : PartAt part (suc begun.plan.plugins) lists state
     pub kind : kind_of part ≡ an_output
     pub stream : has_stream part ≡ has_sink begun.to
-    pub met : lists.met ≡ take (length (state.stages (suc begun.plan.plugins)).given) (state.stages begun.plan.plugins).given
+    pub met : lists.met
+        ≡ take (length (state.stages (suc begun.plan.plugins)).given) (state.stages begun.plan.plugins).given
     pub sink : IsSinkOf see.sink begun.to lists.sink
     pub failed : (state.stages (suc begun.plan.plugins)).ended ≡ Some WriteFault → FailedAt lists state Gives
 
@@ -106,21 +126,27 @@ module _ {S K P : Type 0} (see : Seeing S K P) (begun : RunStart S K) where
     pub is_list : IsListOf see.source begun.from begun.stuffing input
     pub kept : AllKeep begun.plan begun.rules input visits
     pub going : (k : ℕ) → ((state_after begun.plan visits).stages k).ended ≡ None
-        → StageKeeps begun.rules input begun.plan.plugins k (took (state_after begun.plan visits) k) ((state_after begun.plan visits).stages k).given [] nothing_told
+        → StageKeeps begun.rules input begun.plan.plugins k (took (state_after begun.plan visits) k)
+        ((state_after begun.plan visits).stages k).given [] nothing_told
 
   -- the stages have made these visits; `part` is each stage, and it stands for `lists`
-  pub record RunsBy (core : CoreNumbers) (parts : List (StagePart S K P)) (cells : List Cell) (visits : List Visit) (part : ℕ → StagePart S K P) (lists : ℕ → PartLists) : Type 0 where
-    pub parts_are : (k : ℕ) (d : StagePart S K P) → k ≤ suc begun.plan.plugins → slice_index_or parts k d ≡ part k
+  pub record RunsBy (core : CoreNumbers) (parts : List (StagePart S K P)) (cells : List Cell)
+      (visits : List Visit) (part : ℕ → StagePart S K P) (lists : ℕ → PartLists) : Type 0 where
+    pub parts_are : (k : ℕ) (d : StagePart S K P) → k ≤ suc begun.plan.plugins
+        → slice_index_or parts k d ≡ part k
     pub numbers : StandsFor core (state_after begun.plan visits)
     pub run : ChainRun begun.plan visits
     pub kept : (input : StageList) → PartGives see (part 0) (lists 0) input → KeptFor visits input
     pub input : InputAt (part 0) (lists 0) (state_after begun.plan visits)
-    pub plugin : (j : ℕ) → j < begun.plan.plugins → PluginAt (part (suc j)) j (lists (suc j)) (state_after begun.plan visits)
-    pub output : OutputAt (part (suc begun.plan.plugins)) (lists (suc begun.plan.plugins)) (state_after begun.plan visits)
+    pub plugin : (j : ℕ) → j < begun.plan.plugins
+        → PluginAt (part (suc j)) j (lists (suc j)) (state_after begun.plan visits)
+    pub output : OutputAt (part (suc begun.plan.plugins)) (lists (suc begun.plan.plugins))
+        (state_after begun.plan visits)
         (PartGives see (part 0) (lists 0))
     -- what a stage gave and the next one has not stands in the buffer
     pub buffer : (k : ℕ) → k ≤ begun.plan.plugins
-        → HoldsFrom (slot cells) (length ((state_after begun.plan visits).stages (suc k)).given) (between (state_after begun.plan visits) k)
+        → HoldsFrom (slot cells) (length ((state_after begun.plan visits).stages (suc k)).given)
+        (between (state_after begun.plan visits) k)
 
   -- some visits led here
   pub record Runs (core : CoreNumbers) (parts : List (StagePart S K P)) (cells : List Cell) : Type 0 where

@@ -3,6 +3,7 @@
 //! run without faults, or a fault ended the chain where it may.
 #![tactic(auto)]
 
+mod laws;
 mod parts;
 mod run_end;
 mod serial_chain;

@@ -16,7 +16,8 @@ pub(crate) fn add_plugins<S: Source, K: Sink, P: Plugin>(
 )
     requires room { vec_len parts.old + vec_len plugins.old ≤ vec_capacity parts.old }
     requires fresh { AreFresh P.stands_for plugins.old.items }
-    ensures made { (made : List (StagePart S K P)) × (parts.new.items ≡ parts.old.items ++ made) × AreMadeOf (seeing S.seen K.seen P.rule P.stands_for P.steady) made plugins.old.items }
+    ensures made { (made : List (StagePart S K P)) × (parts.new.items ≡ parts.old.items ++ made)
+        × AreMadeOf (seeing S.seen K.seen P.rule P.stands_for P.steady) made plugins.old.items }
     ensures none_left { plugins.new.items ≡ [] }
     ensures room_left { vec_capacity plugins.new ≡ vec_capacity plugins.old }
     ensures capacity { vec_capacity parts.new ≡ vec_capacity parts.old }
@@ -35,7 +36,8 @@ pub(crate) fn take_plugins<S: Source, K: Sink, P: Plugin>(
 )
     requires room { vec_len plugins.old + vec_len parts.old ≤ vec_capacity plugins.old + 1 }
     requires kinds { ArePluginsAndOne (seeing S.seen K.seen P.rule P.stands_for P.steady) parts.old.items }
-    ensures taken { (made : List P) × (plugins.new.items ≡ plugins.old.items ++ made) × AreTakenFrom (seeing S.seen K.seen P.rule P.stands_for P.steady) parts.old.items made }
+    ensures taken { (made : List P) × (plugins.new.items ≡ plugins.old.items ++ made)
+        × AreTakenFrom (seeing S.seen K.seen P.rule P.stands_for P.steady) parts.old.items made }
     ensures one_left { (first : List (StagePart S K P)) × (parts.old.items ≡ first ++ parts.new.items) }
     ensures one { vec_len parts.new ≡ 1 }
 {

@@ -1,3 +1,5 @@
+//! What a run gives back.
+
 use chain_core::Closed;
 use stage_run::{InputPart, OutputPart};
 use std::alloc::AllocError;

@@ -1,8 +1,12 @@
+//! A chain that runs in one thread: its stages take turns.
 ghost use Rattle.std.specs.Prelude.{◌≡◌, ◌<◌, ◌||◌};
+ghost use Rattle.chain_core.specs.Numbers.{MayVisit};
+ghost use Rattle.chain_core.specs.CoreNumbers.{progress_of_core};
+ghost use Rattle.chain_run.specs.Runs.{nothing_told};
+ghost use Rattle.chain_run.specs.Working.{Looks};
 
-use chain_core::{
-    Core, News, StageWord, every_order, more_cells, news_promises, one_visit, quiet_is_over,
-};
+use crate::laws::machine_laws;
+use chain_core::{Core, News, StageWord};
 use plugin_trait::Plugin;
 use stage_run::{StagePart, Work};
 use ts_outside::{Gate, Sink, Source};
@@ -29,6 +33,14 @@ fn either(one: bool, other: bool) -> bool
     one || other
 }
 
+/// A visit of a stage that gives and tells nothing: it takes of the cells that wait, and the answer is its news.
+fn look(core: &mut Core, stage: usize) -> News
+    requires { MayVisit core.old.plan (progress_of_core core.old) core.old.told stage 0 nothing_told }
+    ensures { Looks core.old core.new stage result }
+{
+    core.visit(stage, 0, NOTHING)
+}
+
 /// A chain that runs in one thread: its numbers, its stages, and the cells between them.
 pub(crate) struct SerialChain<S, K, P> {
     pub(crate) core: Core,
@@ -39,15 +51,23 @@ pub(crate) struct SerialChain<S, K, P> {
 }
 
 impl<S: Source, K: Sink, P: Plugin> SerialChain<S, K, P> {
-    ghost use Rattle.std.specs.Prelude.{◌≡◌, ◌+◌, ◌^◌, ◌<◌, ◌≤◌, ℕ, suc, length, None, true, false, is_some, slice_index_or};
+    ghost use Rattle.std.specs.Prelude.{◌≡◌, ◌^◌, ◌<◌, ◌≤◌, ℕ, suc, length, true, false, is_some, slice_index_or};
     ghost use Rattle.std.specs.List.{All};
     ghost use Rattle.chain_core.specs.CoreNumbers.{progress_of_core};
     ghost use Rattle.chain_core.specs.ChainRun.{AllEnded};
     ghost use Rattle.stage_run.specs.Seeing.{seeing};
     ghost use Rattle.stage_run.specs.declared.stage_part.StagePart.{StagePart};
     ghost use Rattle.stage_run.specs.PartStands.{PartStands, MayWorkOnSome};
-    ghost use Rattle.chain_run.specs.Runs.{RunStart, IsIdleOrOver, remaining_work};
-    ghost use Rattle.chain_run.specs.Working.{IsRunning, IsRunningSomehow, StageWorks};
+    ghost use Rattle.chain_run.specs.Runs.{IsIdleOrOver};
+    ghost use Rattle.chain_run.specs.Working.{RunsSomehow, RunsOn, WorksOn, LeavesLess};
+
+    /// Whether a stage has ended.
+    fn has_ended(&self, stage: usize) -> bool
+        requires { stage ≤ suc self.now.core.plan.plugins }
+        ensures { result ≡ is_some (progress_of_core self.now.core stage).ended }
+    {
+        self.core.progress(stage).ended.is_some()
+    }
 
     /// Lets a stage work on the cells in its hands, as far as they stand in one row, on at most `most` of them.
     fn work<G: Gate>(&mut self, stage: usize, most: usize, news: &News, gate: &G) -> Work
@@ -58,10 +78,12 @@ impl<S: Source, K: Sink, P: Plugin> SerialChain<S, K, P> {
         requires written { news.now.written ≤ (progress_of_core self.old.core stage).given }
         requires given { (progress_of_core self.old.core stage).given ≤ news.now.taken }
         requires taken { news.now.taken ≤ 2 ^ 60 }
-        requires stands { (d : StagePart S K P) → MayWorkOnSome (PartStands (seeing S.seen K.seen P.rule P.stands_for P.steady) (slice_index_or self.old.parts.items stage d)) (progress_of_core self.old.core stage).given news.now.written }
+        requires stands { (d : StagePart S K P) → let part = slice_index_or self.old.parts.items stage d in
+            MayWorkOnSome (PartStands (seeing S.seen K.seen P.rule P.stands_for P.steady) part)
+            (progress_of_core self.old.core stage).given news.now.written }
         ensures core { self.new.core ≡ self.old.core }
-        ensures works { StageWorks (seeing S.seen K.seen P.rule P.stands_for P.steady) self.old.parts.items self.new.parts.items self.old.cells.items self.new.cells.items
-            stage (progress_of_core self.old.core stage).given news.now result }
+        ensures works { WorksOn (seeing S.seen K.seen P.rule P.stands_for P.steady)
+            self.old self.new stage news.now result }
     {
         let at = self.core.progress(stage).given;
         let slots = self.cells.len();
@@ -72,25 +94,23 @@ impl<S: Source, K: Sink, P: Plugin> SerialChain<S, K, P> {
 
     /// The turn of a stage: it takes of the cells that wait, works, and gives on what it has done. Whether anything moved.
     fn turn<G: Gate>(&mut self, stage: usize, most: usize, gate: &G) -> bool
-        requires runs { IsRunningSomehow (seeing S.seen K.seen P.rule P.stands_for P.steady) self.old.core self.old.parts.items self.old.cells.items }
+        requires runs { RunsSomehow (seeing S.seen K.seen P.rule P.stands_for P.steady) self.old }
         requires is_stage { stage ≤ suc self.old.core.plan.plugins }
         requires some { 1 ≤ most }
-        ensures runs { (begun : RunStart S K) → IsRunning (seeing S.seen K.seen P.rule P.stands_for P.steady) begun self.old.core self.old.parts.items self.old.cells.items
-            → IsRunning (seeing S.seen K.seen P.rule P.stands_for P.steady) begun self.new.core self.new.parts.items self.new.cells.items }
-        ensures moved { result ≡ true → remaining_work (progress_of_core self.new.core) (self.old.core.plan.plugins + 2) < remaining_work (progress_of_core self.old.core) (self.old.core.plan.plugins + 2) }
+        ensures runs { RunsOn (seeing S.seen K.seen P.rule P.stands_for P.steady) self.old self.new }
+        ensures moved { result ≡ true → LeavesLess self.old self.new }
         ensures rests { result ≡ false → progress_of_core self.new.core ≡ progress_of_core self.old.core }
-        ensures idle { result ≡ false → IsIdleOrOver self.old.core.plan (progress_of_core self.new.core) stage }
+        ensures idle { result ≡ false
+            → IsIdleOrOver self.old.core.plan (progress_of_core self.new.core) stage }
         ensures plan { self.new.core.plan ≡ self.old.core.plan }
         ensures parts { length self.new.parts.items ≡ length self.old.parts.items }
     {
-        if self.core.progress(stage).ended.is_some() {
+        if self.has_ended(stage) {
             return false;
         }
-        one_visit();
-        news_promises();
-        more_cells();
-        every_order();
-        let news = self.core.visit(stage, 0, NOTHING);
+        // Runs nothing: the proof cites it.
+        machine_laws();
+        let news = look(&mut self.core, stage);
         let work = self.work(stage, most, &news, gate);
         self.core.visit(stage, work.done, work.word);
         work.done > 0 || work.word.ended.is_some()
@@ -98,13 +118,13 @@ impl<S: Source, K: Sink, P: Plugin> SerialChain<S, K, P> {
 
     /// The turns of all stages. Whether anything moved.
     fn turns<G: Gate>(&mut self, sizes: &[u32], next: &mut usize, gate: &G) -> bool
-        requires runs { IsRunningSomehow (seeing S.seen K.seen P.rule P.stands_for P.steady) self.old.core self.old.parts.items self.old.cells.items }
+        requires runs { RunsSomehow (seeing S.seen K.seen P.rule P.stands_for P.steady) self.old }
         requires sizes { All (λ size. 1 ≤ size) sizes.now }
         requires next { next.old < length sizes.now }
-        ensures runs { (begun : RunStart S K) → IsRunning (seeing S.seen K.seen P.rule P.stands_for P.steady) begun self.old.core self.old.parts.items self.old.cells.items
-            → IsRunning (seeing S.seen K.seen P.rule P.stands_for P.steady) begun self.new.core self.new.parts.items self.new.cells.items }
-        ensures moved { result ≡ true → remaining_work (progress_of_core self.new.core) (self.old.core.plan.plugins + 2) < remaining_work (progress_of_core self.old.core) (self.old.core.plan.plugins + 2) }
-        ensures idle { result ≡ false → (stage : ℕ) → stage ≤ suc self.old.core.plan.plugins → IsIdleOrOver self.old.core.plan (progress_of_core self.new.core) stage }
+        ensures runs { RunsOn (seeing S.seen K.seen P.rule P.stands_for P.steady) self.old self.new }
+        ensures moved { result ≡ true → LeavesLess self.old self.new }
+        ensures idle { result ≡ false → (stage : ℕ) → stage ≤ suc self.old.core.plan.plugins
+            → IsIdleOrOver self.old.core.plan (progress_of_core self.new.core) stage }
         ensures plan { self.new.core.plan ≡ self.old.core.plan }
         ensures next { next.new < length sizes.now }
     {
@@ -118,32 +138,17 @@ impl<S: Source, K: Sink, P: Plugin> SerialChain<S, K, P> {
         moved
     }
 
-    /// The turns of all stages. Whether anything moved: if nothing did, all stages have ended.
-    fn round<G: Gate>(&mut self, sizes: &[u32], next: &mut usize, gate: &G) -> bool
-        requires runs { IsRunningSomehow (seeing S.seen K.seen P.rule P.stands_for P.steady) self.old.core self.old.parts.items self.old.cells.items }
-        requires sizes { All (λ size. 1 ≤ size) sizes.now }
-        requires next { next.old < length sizes.now }
-        ensures runs { (begun : RunStart S K) → IsRunning (seeing S.seen K.seen P.rule P.stands_for P.steady) begun self.old.core self.old.parts.items self.old.cells.items
-            → IsRunning (seeing S.seen K.seen P.rule P.stands_for P.steady) begun self.new.core self.new.parts.items self.new.cells.items }
-        ensures moved { result ≡ true → remaining_work (progress_of_core self.new.core) (self.old.core.plan.plugins + 2) < remaining_work (progress_of_core self.old.core) (self.old.core.plan.plugins + 2) }
-        ensures over { result ≡ false → AllEnded self.new.core.plan (progress_of_core self.new.core) }
-        ensures plan { self.new.core.plan ≡ self.old.core.plan }
-        ensures next { next.new < length sizes.now }
-    {
-        quiet_is_over();
-        self.turns(sizes, next, gate)
-    }
-
     /// Lets the stages take their turns until all of them have ended.
     pub(crate) fn run<G: Gate>(&mut self, sizes: &[u32], gate: &G)
-        requires runs { IsRunningSomehow (seeing S.seen K.seen P.rule P.stands_for P.steady) self.old.core self.old.parts.items self.old.cells.items }
+        requires runs { RunsSomehow (seeing S.seen K.seen P.rule P.stands_for P.steady) self.old }
         requires sizes { All (λ size. 1 ≤ size) sizes.now }
         requires some { 0 < length sizes.now }
-        ensures runs { (begun : RunStart S K) → IsRunning (seeing S.seen K.seen P.rule P.stands_for P.steady) begun self.old.core self.old.parts.items self.old.cells.items
-            → IsRunning (seeing S.seen K.seen P.rule P.stands_for P.steady) begun self.new.core self.new.parts.items self.new.cells.items }
+        ensures runs { RunsOn (seeing S.seen K.seen P.rule P.stands_for P.steady) self.old self.new }
         ensures over { AllEnded self.new.core.plan (progress_of_core self.new.core) }
     {
+        // Runs nothing: the proof cites it.
+        machine_laws();
         let mut next = 0;
-        while self.round(sizes, &mut next, gate) {}
+        while self.turns(sizes, &mut next, gate) {}
     }
 }

@@ -1,56 +1,146 @@
-ghost use Rattle.std.specs.Prelude.{◌≡◌, ◌≤◌, ◌<◌, length, vec_len, IfOk, OnErr};
+//! A run of a chain in one thread: its memory, its stages in a row, and the chain taken apart again.
+ghost use Rattle.std.specs.Prelude.{◌≡◌, ◌≤◌, ◌<◌, ◌+◌, ℕ, List, [], length, vec_len, vec_capacity, IfOk, OnErr, IsOk};
 ghost use Rattle.std.specs.List.{All};
+ghost use Rattle.chain_core.specs.declared.core_plan.CorePlan.{CorePlan};
 ghost use Rattle.chain_core.specs.CoreNumbers.{IsLawfulPlan, StandsFor};
 ghost use Rattle.chain_core.specs.Machine.{start};
 ghost use Rattle.stage_run.specs.Seeing.{seeing};
+ghost use Rattle.stage_run.specs.declared.input_part.InputPart.{InputPart};
+ghost use Rattle.stage_run.specs.declared.output_part.OutputPart.{OutputPart};
+ghost use Rattle.stage_run.specs.declared.stuffing.Stuffing.{Stuffing};
 ghost use Rattle.chain_run.specs.Fresh.{AreFresh};
+ghost use Rattle.chain_run.specs.Runs.{began_with};
+ghost use Rattle.chain_run.specs.Working.{IsRunning, RunsSomehow};
 ghost use Rattle.chain_run.specs.RunOf.{RunOf, NeverBegan};
 
+use crate::laws::machine_laws;
 use crate::parts::{add_plugins, take_plugins};
 use crate::serial_chain::SerialChain;
 use crate::{RunEnd, Stages};
-use chain_core::{Core, CorePlan, every_order, more_cells, news_promises, one_visit};
+use chain_core::{Core, CorePlan};
 use plugin_trait::Plugin;
-use stage_run::{IoBuffer, StagePart};
+use stage_run::{InputPart, IoBuffer, OutputPart, StagePart, Stuffing};
 use std::alloc::{AllocError, Global};
 use ts_outside::{Gate, Sink, Source};
 use ts_packet::Cell;
 
-/// The memory of a run, but for its stages.
-#[derive(Drop)]
-struct RunMemory {
+/// The memory of a run, but for that of the plugins.
+struct RunMemory<S, K, P> {
     core: Core,
     cells: Vec<Cell>,
     input_room: IoBuffer,
     output_room: IoBuffer,
+    /// Room for the stages.
+    parts: Vec<StagePart<S, K, P>>,
 }
 
-impl RunMemory {
+impl<S, K, P> RunMemory<S, K, P> {
     /// Takes the memory for a chain with this plan. After an `AllocError` nothing is taken.
-    fn new(alloc: Global, plan: &CorePlan) -> Result<RunMemory, AllocError>
+    fn new(alloc: Global, plan: &CorePlan) -> Result<RunMemory<S, K, P>, AllocError>
         requires { IsLawfulPlan plan.now }
-        ensures plan { IfOk result (λ store. store.core.plan ≡ plan.now) }
-        ensures fresh { IfOk result (λ store. StandsFor store.core start) }
-        ensures cells { IfOk result (λ store. vec_len store.cells ≡ plan.now.buffer) }
+        ensures plan { IfOk result (λ memory. memory.core.plan ≡ plan.now) }
+        ensures fresh { IfOk result (λ memory. StandsFor memory.core start) }
+        ensures cells { IfOk result (λ memory. vec_len memory.cells ≡ plan.now.buffer) }
+        ensures none { IfOk result (λ memory. memory.parts.items ≡ []) }
+        ensures room { IfOk result (λ memory. vec_capacity memory.parts ≡ plan.now.plugins + 2) }
     {
         let window = plan.most.min(plan.buffer);
         let core = Core::new(alloc, plan)?;
         let cells = vec![in alloc; Cell::Dropped; plan.buffer]?;
         let input_room = IoBuffer::new(alloc, window)?;
         let output_room = IoBuffer::new(alloc, window)?;
+        let parts = Vec::with_capacity(alloc, plan.plugins + 2)?;
         Ok(RunMemory {
             core,
             cells,
             input_room,
             output_room,
+            parts,
         })
+    }
+}
+
+/// Lays the stages in a row: the input, the plugins and the output. Nothing is read, met or written.
+fn lay<S: Source, K: Sink, P: Plugin>(
+    memory: RunMemory<S, K, P>,
+    input: InputPart<S>,
+    stuffing: Stuffing,
+    plugins: &mut Vec<P>,
+    output: OutputPart<K>,
+) -> SerialChain<S, K, P>
+    requires every { 1 ≤ stuffing.every }
+    requires lawful { IsLawfulPlan memory.core.plan }
+    requires plugins { memory.core.plan.plugins ≡ vec_len plugins.old }
+    requires fresh { AreFresh P.stands_for plugins.old.items }
+    requires numbers { StandsFor memory.core start }
+    requires slots { vec_len memory.cells ≡ memory.core.plan.buffer }
+    requires none { memory.parts.items ≡ [] }
+    requires room { vec_capacity memory.parts ≡ memory.core.plan.plugins + 2 }
+    ensures runs { let see = seeing S.seen K.seen P.rule P.stands_for P.steady in
+        IsRunning see (began_with see input stuffing plugins.old.items output memory.core.plan)
+        result.core result.parts.items result.cells.items }
+    ensures none_left { plugins.new.items ≡ [] }
+    ensures room_left { vec_capacity plugins.new ≡ vec_capacity plugins.old }
+{
+    let RunMemory {
+        core,
+        cells,
+        input_room,
+        output_room,
+        mut parts,
+    } = memory;
+    parts.push_reserved(StagePart::of_input(input, stuffing, input_room));
+    add_plugins(&mut parts, plugins);
+    parts.push_reserved(StagePart::of_output(output, output_room));
+    SerialChain { core, parts, cells }
+}
+
+/// Runs a chain until all its stages have ended, and takes it apart. The plugins go into the row, which has room for them.
+fn run_laid<S: Source, K: Sink, P: Plugin, G: Gate>(
+    mut chain: SerialChain<S, K, P>,
+    mut plugins: Vec<P>,
+    sizes: &[u32],
+    gate: &G,
+) -> RunEnd<S, K, P>
+    requires runs { RunsSomehow (seeing S.seen K.seen P.rule P.stands_for P.steady) chain }
+    requires none { plugins.items ≡ [] }
+    requires room { length chain.parts.items ≤ vec_capacity plugins + 2 }
+    requires sizes { All (λ size. 1 ≤ size) sizes.now }
+    requires some_size { 0 < length sizes.now }
+    ensures runs { (from : InputPart S) (stuffing : Stuffing) (met_none : List P) (to : OutputPart K)
+        (plan : CorePlan)
+        → let see = seeing S.seen K.seen P.rule P.stands_for P.steady in
+        IsRunning see (began_with see from stuffing met_none to plan)
+        chain.core chain.parts.items chain.cells.items
+        → IfOk result.closed
+        (RunOf see from result.input stuffing met_none result.plugins.items to result.output plan) }
+    ensures ran { IsOk result.closed }
+{
+    chain.run(sizes, gate);
+    // Runs nothing: the proof cites it.
+    machine_laws();
+    let SerialChain {
+        core,
+        mut parts,
+        cells: _,
+    } = chain;
+    let closed = core.close();
+    let input = parts.remove(0).into_input();
+    take_plugins(&mut parts, &mut plugins);
+    let output = parts.remove(0).into_output();
+    parts.destroy_empty();
+    RunEnd {
+        input,
+        plugins,
+        output,
+        closed: Ok(closed),
     }
 }
 
 /// Runs a chain in one thread, its stages in turn, and gives its parts back.
 ///
-/// The i-th turn works on at most as many cells as `sizes` has at i modulo its length. All memory but that of the plugins'
-/// steps is taken before the first read; where it is wanting, `closed` is `AllocError` and nothing was done.
+/// The i-th turn works on at most as many cells as `sizes` has at i modulo its length. All memory but that of the
+/// plugins' steps is taken before the first read; where it is wanting, `closed` is `AllocError` and nothing was done.
 pub fn run_serial<S: Source, K: Sink, P: Plugin, G: Gate>(
     alloc: Global,
     stages: Stages<S, K, P>,
@@ -64,8 +154,11 @@ pub fn run_serial<S: Source, K: Sink, P: Plugin, G: Gate>(
     requires sizes { All (λ size. 1 ≤ size) sizes.now }
     requires some_size { 0 < length sizes.now }
     requires fresh { AreFresh P.stands_for stages.plugins.items }
-    ensures closed { IfOk result.closed (λ closed. RunOf (seeing S.seen K.seen P.rule P.stands_for P.steady) stages.input result.input stages.stuffing stages.plugins.items result.plugins.items stages.output result.output plan.now closed) }
-    ensures never_began { OnErr result.closed (NeverBegan stages.input result.input stages.plugins.items result.plugins.items stages.output result.output) }
+    ensures closed { IfOk result.closed (RunOf (seeing S.seen K.seen P.rule P.stands_for P.steady)
+        stages.input result.input stages.stuffing stages.plugins.items result.plugins.items
+        stages.output result.output plan.now) }
+    ensures never_began { OnErr result.closed (NeverBegan stages.input result.input
+        stages.plugins.items result.plugins.items stages.output result.output) }
 {
     let Stages {
         input,
@@ -73,7 +166,7 @@ pub fn run_serial<S: Source, K: Sink, P: Plugin, G: Gate>(
         mut plugins,
         output,
     } = stages;
-    let Ok(store) = RunMemory::new(alloc, plan) else {
+    let Ok(memory) = RunMemory::new(alloc, plan) else {
         return RunEnd {
             input,
             plugins,
@@ -81,43 +174,6 @@ pub fn run_serial<S: Source, K: Sink, P: Plugin, G: Gate>(
             closed: Err(AllocError),
         };
     };
-    let Ok(mut parts) = Vec::with_capacity(alloc, plan.plugins + 2) else {
-        return RunEnd {
-            input,
-            plugins,
-            output,
-            closed: Err(AllocError),
-        };
-    };
-    let RunMemory {
-        core,
-        cells,
-        input_room,
-        output_room,
-    } = store;
-    parts.push_reserved(StagePart::of_input(input, stuffing, input_room));
-    add_plugins(&mut parts, &mut plugins);
-    parts.push_reserved(StagePart::of_output(output, output_room));
-    one_visit();
-    news_promises();
-    more_cells();
-    every_order();
-    let mut serial = SerialChain { core, parts, cells };
-    serial.run(sizes, gate);
-    let SerialChain {
-        core,
-        mut parts,
-        cells: _,
-    } = serial;
-    let closed = core.close();
-    let input = parts.remove(0).into_input();
-    take_plugins(&mut parts, &mut plugins);
-    let output = parts.remove(0).into_output();
-    parts.destroy_empty();
-    RunEnd {
-        input,
-        plugins,
-        output,
-        closed: Ok(closed),
-    }
+    let chain = lay(memory, input, stuffing, &mut plugins, output);
+    run_laid(chain, plugins, sizes, gate)
 }

@@ -1,3 +1,5 @@
+//! What a run is given.
+
 use stage_run::{InputPart, OutputPart, Stuffing};
 
 /// The stages of a chain before it runs.

@@ -9,7 +9,7 @@ use stage_run::{InputPart, OutputPart, Stuffing};
 use std::alloc::{AllocError, Global};
 use std::test::Fail;
 use ts_outside::{
-    Desk, FailPlan, FileList, MemoryDesk, MemorySink, MemorySource, NumberList, OpenGate,
+    Desk, FailPlan, FileList, MemoryDesk, MemorySink, MemorySource, OpenGate,
 };
 use ts_packet::Cell;
 
@@ -61,16 +61,7 @@ impl Plugin for StopsAt {
 
 /// A desk without files, at which no call fails.
 fn desk(alloc: Global) -> Result<MemoryDesk, AllocError> {
-    let plan = FailPlan {
-        opens: NumberList::of(Vec::new(alloc)),
-        reads: NumberList::of(Vec::new(alloc)),
-        writes: NumberList::of(Vec::new(alloc)),
-        reports: NumberList::of(Vec::new(alloc)),
-        closes: NumberList::of(Vec::new(alloc)),
-        read_piece: 1000,
-        write_piece: 1000,
-        room: 1000,
-    };
+    let plan = FailPlan::none(alloc, 1000, 1000, 1000);
     MemoryDesk::new(alloc, FileList::of(Vec::new(alloc)), plan)
 }
 

@@ -1,11 +1,3 @@
-pub mod Continuity
-pub mod Count
-pub mod Filter
-pub mod JointUse
-pub mod Lawful
 pub mod NumberSet
-pub mod Pattern
-pub mod Remap
-pub mod Skip
-pub mod Slice
-pub mod Until
+pub mod PidTable
+pub mod Selection

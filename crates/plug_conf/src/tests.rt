@@ -1,4 +1,4 @@
-use crate::{NumberSet, PairList, PluginConf, RemapConf, SliceConf};
+use crate::NumberSet;
 use std::test::Fail;
 
 #[test]
@@ -8,23 +8,5 @@ fn numbers_of_ranges(rt: HostRuntime) -> Result<(), Fail> {
         assert!(rt; set.has(number) == wanted, "{number}");
     }
     assert!(rt; !set.is_empty() && set.as_slice().len() == 2);
-    Ok(())
-}
-
-#[test]
-fn what_goes_together(rt: HostRuntime) -> Result<(), Fail> {
-    let slice = PluginConf::Slice(SliceConf {
-        drop: Some(1),
-        null: None,
-        pass: Some(1),
-        stop: None,
-    });
-    assert!(rt; !slice.goes_together());
-    let remap = PluginConf::Remap(RemapConf {
-        operand: PairList::of(vec![in rt.alloc(); (1, 3), (2, 3)]?),
-        no_psi: true,
-        unchecked: true,
-    });
-    assert!(rt; remap.goes_together());
     Ok(())
 }

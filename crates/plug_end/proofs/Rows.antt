@@ -5,7 +5,7 @@ use Rattle.ts_packet.specs.declared.cell.Cell.{Cell}
 use Rattle.ts_packet.specs.declared.cell.Cell.TheVariants.{Live, Dropped}
 use Rattle.chain_model.specs.Apply.{apply, last_passed, stopped}
 use Rattle.chain_model.specs.Joint.{agreement_of}
-use Rattle.plug_conf.specs.declared.until_conf.UntilConf.{UntilConf}
+use Rattle.plug_end.specs.declared.until_conf.UntilConf.{UntilConf}
 use Rattle.plug_end.specs.UntilRule.{until_rule}
 
 -- a packet, and one with its unit start indicator

@@ -1,2 +1,4 @@
 pub mod UntilRule
 pub mod UntilState
+pub mod UntilSettings
+pub mod UntilWords

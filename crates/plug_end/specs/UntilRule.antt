@@ -7,7 +7,8 @@ use Rattle.ts_packet.specs.Cells.{live_packets}
 use Rattle.ts_packet.specs.Header.{unit_start_of}
 use Rattle.chain_model.specs.PluginRule.{PluginRule, RuleOutcome, passes, lasts, stops}
 use Rattle.plugin_trait.specs.LiveCount.{live_count}
-use Rattle.plug_conf.specs.declared.until_conf.UntilConf.{UntilConf}
+use Rattle.plugin_trait.specs.SilentRule.{silent_rule}
+use Rattle.plug_end.specs.declared.until_conf.UntilConf.{UntilConf}
 
 -- how many of the packets have their unit start indicator
 abbrev pub unit_starts : List Cell → ℕ
@@ -29,12 +30,14 @@ abbrev pub outcome_at_end : UntilConf → List ℕ → RuleOutcome
 outcome_at_end conf packet =
     if conf.joint_termination then passes packet else if conf.exclude_last then stops else lasts packet
 
+-- what becomes of a packet behind a history: it passes, or the number is reached with it
+abbrev pub until_outcome : UntilConf → List Cell → List ℕ → RuleOutcome
+until_outcome conf history packet =
+    if is_reached conf (history ++ Live packet ∷ []) then outcome_at_end conf packet else passes packet
+
 -- packets pass until the number is reached with one; where the end is a joint one, every packet passes,
 -- and the plugin agrees to end wherever the number is reached
 abbrev pub until_rule : UntilConf → PluginRule
-until_rule conf = record {
-  outcome_of = λ history packet. if is_reached conf (history ++ Live packet ∷ []) then outcome_at_end conf packet else passes packet;
-  lines_of = λ _ _. [];
-  summary_of = λ _. [];
+until_rule conf = record (silent_rule (until_outcome conf)) {
   agrees = λ history. conf.joint_termination && is_reached conf history;
 }

@@ -2,7 +2,7 @@
 use Rattle.std.specs.Prelude.{◌≡◌, ◌≤◌, ℕ, List, [], length, false}
 use Rattle.ts_packet.specs.declared.cell.Cell.{Cell}
 use Rattle.plugin_trait.specs.LiveCount.{live_count}
-use Rattle.plug_conf.specs.declared.until_conf.UntilConf.{UntilConf}
+use Rattle.plug_end.specs.declared.until_conf.UntilConf.{UntilConf}
 use Rattle.plug_end.specs.UntilRule.{unit_starts, until_rule}
 use Rattle.plug_end.specs.declared.until.Until.{Until}
 

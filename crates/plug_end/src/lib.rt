@@ -1,10 +1,14 @@
 //! The plugin that ends a chain: `until` passes packets until a number of them is reached.
-//! The layer above makes it of its settings, and uses it by the clauses of `Plugin` alone.
+//! The layer above reads settings of words, makes it of its settings, and uses it by the clauses of `Plugin`.
 #![tactic(auto)]
 
 mod until;
+mod until_conf;
+mod until_words;
 
 pub use until::Until;
+pub use until_conf::UntilConf;
+pub use until_words::read_until;
 
 #[cfg(test)]
 mod tests;

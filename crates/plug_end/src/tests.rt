@@ -1,7 +1,6 @@
 ghost use Rattle.std.specs.Prelude.{[], ◌≤◌, ◌^◌, vec_len};
 
-use crate::Until;
-use plug_conf::UntilConf;
+use crate::{Until, UntilConf};
 use plugin_trait::{ListEnd, Plugin, apply_plugin};
 use std::alloc::Global;
 use std::test::Fail;

@@ -1,7 +1,7 @@
 ghost use Rattle.std.specs.Prelude.{◌≡◌, IfOk, [], Some};
 ghost use Rattle.plug_end.specs.UntilRule.{until_rule, reaches};
 
-use plug_conf::UntilConf;
+use crate::until_conf::UntilConf;
 use plugin_trait::{Line, Outcome, Plugin, silent_report};
 use std::alloc::{AllocError, Global};
 use ts_packet::{Cell, PACKET_SIZE};
@@ -26,7 +26,7 @@ pub struct Until {
 
 impl Until {
     ghost use Rattle.std.specs.Prelude.{◌≡◌, ◌*◌, [], Some, IfOk, ◌||◌};
-    ghost use Rattle.plug_conf.specs.Until.{IsLawfulUntil};
+    ghost use Rattle.plug_end.specs.UntilSettings.{IsLawfulUntil};
     ghost use Rattle.plug_end.specs.UntilRule.{until_rule, reaches};
 
     /// A plugin that met no cell yet. It takes no memory, here and in its steps.

@@ -5,9 +5,11 @@ use Rattle.ts_packet.specs.declared.cell.Cell.TheVariants.{Live, Dropped}
 use Rattle.ts_packet.specs.Header.{with_pid}
 use Rattle.chain_model.specs.declared.reason.Reason.TheVariants.{Pid}
 use Rattle.chain_model.specs.Apply.{apply, refused}
-use Rattle.plug_conf.specs.declared.remap_conf.RemapConf.{RemapConf}
-use Rattle.plug_move.specs.RemapRule.{move_of, remap_rule}
+use Rattle.plug_move.specs.declared.remap_conf.RemapConf.{RemapConf}
+use Rattle.plug_move.specs.MoveTables.{move_of}
+use Rattle.plug_move.specs.RemapRule.{remap_rule}
 use Rattle.plug_move.specs.declared.move_table.Move.TheVariants.{Keep, To, Refuse}
+use Rattle.plug_move.specs.RemapSettings.{pairs_agree}
 
 -- a packet on each of the PIDs 256 to 258 and 512, the first with its unit start indicator
 abbrev on_256 : List ℕ
@@ -62,3 +64,10 @@ target-is_refused = refl
 
 other-stays : move_of ((256, 512) ∷ (512, 8191) ∷ []) false 257 ≡ Keep
 other-stays = refl
+
+-- a target that repeats, checked and unchecked
+agree-target_twice : pairs_agree (record { operand = (1, 3) ∷ (2, 3) ∷ []; no_psi = true; unchecked = false }) ≡ false
+agree-target_twice = refl
+
+agree-unchecked : pairs_agree (record { operand = (1, 3) ∷ (2, 3) ∷ []; no_psi = true; unchecked = true }) ≡ true
+agree-unchecked = refl

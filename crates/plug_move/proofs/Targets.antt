@@ -2,8 +2,9 @@
 use Rattle.std.proofs.Common.{ℕ, List, [], ◌∷◌, Bool, true, false, ◌==◌, if◌then◌else◌, Some}
 use Rattle.std.specs.List.{All}
 use Rattle.std.proofs.lemmas.List.Elements.{All-head, All-tail}
-use Rattle.plug_conf.specs.Remap.{IsPidPair}
-use Rattle.plug_move.specs.RemapRule.{target_of, move_by, LeadsToPid}
+use Rattle.plug_move.specs.RemapSettings.{IsPidPair}
+use Rattle.plug_move.specs.RemapRule.{target_of}
+use Rattle.plug_move.specs.MoveTables.{move_by, LeadsToPid}
 
 -- pairs of PIDs lead to PIDs
 pub leads_to_pid : (pairs : List (ℕ × ℕ)) (refused : Bool) (pid : ℕ) → All IsPidPair pairs → LeadsToPid (move_by (target_of pairs pid) refused)

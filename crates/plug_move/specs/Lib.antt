@@ -1,2 +1,5 @@
 pub mod RemapRule
 pub mod RemapState
+pub mod RemapSettings
+pub mod RemapWords
+pub mod MoveTables

@@ -1,5 +1,5 @@
 -- The settings that a value of `remap` has. This project's own rule.
-use Rattle.plug_conf.specs.declared.remap_conf.RemapConf.{RemapConf}
+use Rattle.plug_move.specs.declared.remap_conf.RemapConf.{RemapConf}
 use Rattle.plug_move.specs.declared.remap.Remap.{Remap}
 
 -- the settings of the plugin

@@ -1,7 +1,8 @@
 ghost use Rattle.std.specs.Prelude.{◌≡◌, ◌<◌, ◌&&◌, not, IfOk, IfSome, List, ℕ};
 ghost use Rattle.std.specs.List.{All};
-ghost use Rattle.plug_conf.specs.Remap.{IsPidPair, is_target};
-ghost use Rattle.plug_move.specs.RemapRule.{IsMoveTable, LeadsToPid, move_of, target_of};
+ghost use Rattle.plug_move.specs.RemapSettings.{IsPidPair, is_target};
+ghost use Rattle.plug_move.specs.MoveTables.{IsMoveTable, LeadsToPid, move_of};
+ghost use Rattle.plug_move.specs.RemapRule.{target_of};
 
 use plug_conf::PairList;
 use std::alloc::{AllocError, Global};
@@ -33,7 +34,7 @@ impl Model for MoveTable {
 
     ghost Value = { List (ℕ × ℕ) × Bool };
 
-    ghost use Rattle.plug_move.specs.RemapRule.{IsMoveTable};
+    ghost use Rattle.plug_move.specs.MoveTables.{IsMoveTable};
 
     ghost view = { λ t. (t.pairs, t.unchecked) };
 

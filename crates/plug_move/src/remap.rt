@@ -2,7 +2,7 @@ ghost use Rattle.std.specs.Prelude.{◌≡◌, IfOk, [], Some};
 ghost use Rattle.plug_move.specs.RemapRule.{remap_rule};
 
 use crate::move_table::{Move, MoveTable};
-use plug_conf::RemapConf;
+use crate::remap_conf::RemapConf;
 use plugin_trait::{Line, Outcome, Plugin, Reason, silent_report};
 use std::alloc::{AllocError, Global};
 use ts_packet::Cell;
@@ -17,7 +17,7 @@ pub struct Remap {
 }
 
 impl Remap {
-    ghost use Rattle.plug_conf.specs.Remap.{IsLawfulRemap};
+    ghost use Rattle.plug_move.specs.RemapSettings.{IsLawfulRemap};
 
     /// A plugin that met no cell yet. It takes room for its table of PIDs, and its steps take none.
     pub fn new(alloc: Global, conf: &RemapConf, buffer: usize) -> Result<Remap, AllocError>

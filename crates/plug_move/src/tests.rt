@@ -1,7 +1,7 @@
 ghost use Rattle.std.specs.Prelude.{◌<◌};
 
-use crate::Remap;
-use plug_conf::{PairList, RemapConf};
+use crate::{Remap, RemapConf};
+use plug_conf::PairList;
 use plugin_trait::{ListEnd, Reason, apply_plugin};
 use std::test::Fail;
 use ts_packet::{Cell, Packet};

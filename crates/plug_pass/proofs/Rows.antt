@@ -1,6 +1,6 @@
 -- Worked rows of the rules, computed on the definitions. Packets of four bytes do as well as whole ones here, but for
 -- `pattern`, which writes to the end of a whole one.
-use Rattle.std.proofs.Common.{◌≡◌, ℕ, List, [], ◌∷◌, ◌++◌, replicate, None, Some, true, false, refl}
+use Rattle.std.proofs.Common.{◌≡◌, ℕ, List, [], ◌∷◌, ◌++◌, replicate, None, Some, true, false, refl, lit≤}
 use Rattle.bit_rows.specs.BitRow.{bit_of, field}
 use Rattle.ts_packet.specs.declared.cell.Cell.{Cell}
 use Rattle.ts_packet.specs.declared.cell.Cell.TheVariants.{Live, Dropped}
@@ -9,13 +9,15 @@ use Rattle.ts_packet.specs.Adaptation.{adaptation_length_of}
 use Rattle.ts_packet.specs.Payload.{payload_start_of}
 use Rattle.ts_packet.specs.Pcr.{pcr_of, has_pcr_of, clock_of}
 use Rattle.chain_model.specs.Apply.{apply, stopped}
-use Rattle.plug_conf.specs.declared.filter_conf.FilterConf.{FilterConf}
-use Rattle.plug_conf.specs.declared.pattern_conf.PatternConf.{PatternConf}
-use Rattle.plug_conf.specs.declared.slice_conf.SliceConf.{SliceConf}
+use Rattle.plug_pass.specs.declared.filter_conf.FilterConf.{FilterConf}
+use Rattle.plug_pass.specs.declared.pattern_conf.PatternConf.{PatternConf}
+use Rattle.plug_pass.specs.declared.slice_conf.SliceConf.{SliceConf}
 use Rattle.plug_pass.specs.FilterRule.{filter_rule}
 use Rattle.plug_pass.specs.PatternRule.{pattern_rule, repeated}
 use Rattle.plug_pass.specs.SkipRule.{skip_rule}
 use Rattle.plug_pass.specs.SliceRule.{slice_rule}
+use Rattle.plug_pass.specs.SkipSettings.{IsLawfulSkip}
+use Rattle.plug_pass.specs.SliceSettings.{slices_differ}
 
 -- a packet on PID 256, one on PID 257 with its unit start indicator, and a scrambled one on PID 258
 abbrev on_256 : List ℕ
@@ -97,3 +99,11 @@ behind-end = refl
 no-payload : (apply (pattern_rule patterns) (Live (0x47 ∷ 0x01 ∷ 0x00 ∷ 0x20 ∷ 183 ∷ replicate 183 0) ∷ [])).cells ≡ Live (0x47 ∷ 0x01 ∷ 0x00 ∷ 0x20 ∷ 183 ∷ replicate 183 0) ∷ []
 unfolding field bit_of adaptation_length_of payload_start_of repeated
 no-payload = refl
+
+-- two options of `slice` with one number
+same-numbers : slices_differ (record { drop = Some 1; null = None; pass = Some 1; stop = None }) ≡ false
+same-numbers = refl
+
+-- `skip` takes 2^40 packets
+most-skipped : IsLawfulSkip (record { operand = 1099511627776 })
+most-skipped = record { bounded = lit≤ tt }

@@ -1,11 +1,12 @@
 -- The rule of `filter`. This project's own rule, over the fields of ISO/IEC 13818-1, 2.4.3.2 to 2.4.3.5.
-use Rattle.std.specs.Prelude.{ℕ, List, [], Bool, false, not, is_some, ◌==◌, ◌&&◌, ◌||◌, if◌then◌else◌}
+use Rattle.std.specs.Prelude.{ℕ, List, Bool, not, is_some, ◌==◌, ◌&&◌, ◌||◌, if◌then◌else◌}
 use Rattle.ts_packet.specs.Packet.{null_packet}
 use Rattle.ts_packet.specs.Header.{pid_of, unit_start_of, scrambling_of}
 use Rattle.ts_packet.specs.Pcr.{pcr_of}
+use Rattle.plugin_trait.specs.SilentRule.{silent_rule}
 use Rattle.chain_model.specs.PluginRule.{PluginRule, RuleOutcome, passes, drops}
 use Rattle.plug_conf.specs.NumberSet.{has_number}
-use Rattle.plug_conf.specs.declared.filter_conf.FilterConf.{FilterConf}
+use Rattle.plug_pass.specs.declared.filter_conf.FilterConf.{FilterConf}
 
 -- one of the conditions that are given holds of the packet
 abbrev pub meets_condition : FilterConf → List ℕ → Bool
@@ -24,9 +25,5 @@ left_out stuffing = if stuffing then passes null_packet else drops
 
 -- a packet that meets a condition passes, or with `negate` one that meets none; the others are left out
 abbrev pub filter_rule : FilterConf → PluginRule
-filter_rule conf = record {
-  outcome_of = λ _ packet. if is_kept conf packet then passes packet else left_out conf.stuffing;
-  lines_of = λ _ _. [];
-  summary_of = λ _. [];
-  agrees = λ _. false;
-}
+filter_rule conf = silent_rule (
+    λ _ packet. if is_kept conf packet then passes packet else left_out conf.stuffing)

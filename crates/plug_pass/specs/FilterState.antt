@@ -1,5 +1,5 @@
 -- The settings that a value of `filter` has. This project's own rule.
-use Rattle.plug_conf.specs.declared.filter_conf.FilterConf.{FilterConf}
+use Rattle.plug_pass.specs.declared.filter_conf.FilterConf.{FilterConf}
 use Rattle.plug_pass.specs.declared.filter.Filter.{Filter}
 
 -- the settings of the plugin

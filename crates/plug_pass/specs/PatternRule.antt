@@ -1,11 +1,12 @@
 -- The rule of `pattern`. This project's own rule, over the payload of ISO/IEC 13818-1, 2.4.3.3.
-use Rattle.std.specs.Prelude.{ℕ, zero, suc, ◌+◌, ◌-◌, ◌%◌, List, [], ◌∷◌, ◌++◌, length, Option, None, Some, false, nat_lt, unwrap_or, slice_index, if◌then◌else◌}
+use Rattle.std.specs.Prelude.{ℕ, zero, suc, ◌+◌, ◌-◌, ◌%◌, List, [], ◌∷◌, ◌++◌, length, Option, None, Some, nat_lt, unwrap_or, slice_index, if◌then◌else◌}
 use Rattle.ts_packet.specs.declared.numbers.TheConstants.{PACKET_SIZE}
 use Rattle.ts_packet.specs.Header.{pid_of, unit_start_of}
 use Rattle.ts_packet.specs.Payload.{payload_start_of, with_piece}
+use Rattle.plugin_trait.specs.SilentRule.{silent_rule}
 use Rattle.chain_model.specs.PluginRule.{PluginRule, passes}
-use Rattle.pid_set.specs.Selection.{is_selected}
-use Rattle.plug_conf.specs.declared.pattern_conf.PatternConf.{PatternConf}
+use Rattle.plug_conf.specs.Selection.{is_selected}
+use Rattle.plug_pass.specs.declared.pattern_conf.PatternConf.{PatternConf}
 
 -- so many bytes of the pattern, which begins again behind its last byte
 unfoldable pub repeated : List ℕ → ℕ → List ℕ
@@ -19,7 +20,7 @@ offset_for conf packet =
 
 -- the packet with the pattern from a place to its end; behind the end there is no place
 abbrev pub patterned_from : List ℕ → ℕ → List ℕ → List ℕ
-patterned_from pattern at packet = 
+patterned_from pattern at packet =
     if nat_lt at PACKET_SIZE then with_piece packet at (repeated pattern (PACKET_SIZE - at)) else packet
 
 -- the pattern begins in the payload, at the offset; a packet without payload stays as it is
@@ -34,9 +35,4 @@ edited conf packet =
 
 -- every packet passes, with the pattern written
 abbrev pub pattern_rule : PatternConf → PluginRule
-pattern_rule conf = record {
-  outcome_of = λ _ packet. passes (edited conf packet);
-  lines_of = λ _ _. [];
-  summary_of = λ _. [];
-  agrees = λ _. false;
-}
+pattern_rule conf = silent_rule (λ _ packet. passes (edited conf packet))

@@ -1,9 +1,9 @@
 -- The settings that a value of `pattern` has. This project's own rule.
 use Rattle.std.specs.Prelude.{◌≡◌, ℕ, List, Option}
-use Rattle.plug_conf.specs.Pattern.{IsOffset}
+use Rattle.plug_pass.specs.PatternSettings.{IsOffset}
 use Rattle.ts_packet.specs.declared.numbers.TheConstants.{PAYLOAD_SIZE}
 use Rattle.plug_pass.specs.PatternRule.{repeated}
-use Rattle.plug_conf.specs.declared.pattern_conf.PatternConf.{PatternConf}
+use Rattle.plug_pass.specs.declared.pattern_conf.PatternConf.{PatternConf}
 use Rattle.plug_pass.specs.declared.pattern.Pattern.{Pattern}
 
 -- the settings of the plugin

@@ -1,53 +1,33 @@
 -- The rule of `slice`. This project's own rule.
-use Rattle.std.specs.Prelude.{ℕ, List, [], ◌∷◌, Option, None, Some, false, nat_le, filter, if◌then◌else◌}
+use Rattle.std.specs.Prelude.{ℕ, List, Bool, false, Option, None, Some, not, nat_le, nat_lt, ◌&&◌, ◌||◌, if◌then◌else◌}
 use Rattle.ts_packet.specs.Packet.{null_packet}
+use Rattle.plugin_trait.specs.SilentRule.{silent_rule}
 use Rattle.chain_model.specs.PluginRule.{PluginRule, RuleOutcome, passes, drops, stops}
-use Rattle.plug_conf.specs.declared.slice_conf.SliceConf.{SliceConf}
+use Rattle.plug_pass.specs.declared.slice_conf.SliceConf.{SliceConf}
 use Rattle.plugin_trait.specs.LiveCount.{live_count}
-use Rattle.plug_pass.specs.declared.slice_action.SliceAction.{SliceAction}
-use Rattle.plug_pass.specs.declared.slice_action.SliceAction.TheVariants.{Drop, Null, Pass, Stop}
-use Rattle.plug_pass.specs.declared.slice_action.SliceStart.{SliceStart}
 
--- an option that is given is a start in front of the others
-abbrev pub with_start : Option ℕ → SliceAction → List SliceStart → List SliceStart
-with_start None action starts = starts
-with_start (Some n) action starts = record { from = n; action = action } ∷ starts
+-- an option's number is not above the live index, and is greater than `n`
+abbrev pub is_between : ℕ → ℕ → Option ℕ → Bool
+is_between n index None = false
+is_between n index (Some other) = nat_lt n other && nat_le other index
 
--- the starts that the options give
-abbrev pub starts_of : SliceConf → List SliceStart
-starts_of conf = with_start conf.drop Drop (with_start conf.null Null (with_start conf.pass Pass (with_start conf.stop Stop [])))
+-- one of the four options has such a number
+abbrev pub is_overtaken : SliceConf → ℕ → ℕ → Bool
+is_overtaken conf index n = is_between n index conf.drop
+    || (is_between n index conf.null || (is_between n index conf.pass || is_between n index conf.stop))
 
--- the later of a start and one that may be wanting
-abbrev pub later_start : SliceStart → Option SliceStart → Option SliceStart
-later_start start None = Some start
-later_start start (Some other) = if nat_le start.from other.from then Some other else Some start
+-- an option with number n decides if n is not above the live index, and no other such number is greater
+abbrev pub decides : SliceConf → ℕ → Option ℕ → Bool
+decides conf index None = false
+decides conf index (Some n) = nat_le n index && not (is_overtaken conf index n)
 
--- the start with the greatest number
-abbrev pub last_start : List SliceStart → Option SliceStart
-last_start [] = None
-last_start (start ∷ starts) = later_start start (last_start starts)
+-- what the option that decides makes of a packet; where none does, and with `--pass`, packets pass
+abbrev pub sliced : SliceConf → ℕ → List ℕ → RuleOutcome
+sliced conf index packet =
+    if decides conf index conf.drop then drops
+    else (if decides conf index conf.null then passes null_packet
+    else (if decides conf index conf.stop then stops else passes packet))
 
--- the starts that have come at a live index: those with no greater number
-abbrev pub starts_come : ℕ → List SliceStart → List SliceStart
-starts_come index starts = filter (λ start. nat_le start.from index) starts
-
--- what the last start says; before any, packets pass
-abbrev pub action_of : Option SliceStart → SliceAction
-action_of None = Pass
-action_of (Some start) = start.action
-
--- what a action makes of a packet
-abbrev pub outcome_by : SliceAction → List ℕ → RuleOutcome
-outcome_by Drop packet = drops
-outcome_by Null packet = passes null_packet
-outcome_by Pass packet = passes packet
-outcome_by Stop packet = stops
-
--- of the starts that have come at the packet's live index, the last one decides
+-- packets are numbered by their live index
 abbrev pub slice_rule : SliceConf → PluginRule
-slice_rule conf = record {
-  outcome_of = λ history packet. outcome_by (action_of (last_start (starts_come (live_count history) (starts_of conf)))) packet;
-  lines_of = λ _ _. [];
-  summary_of = λ _. [];
-  agrees = λ _. false;
-}
+slice_rule conf = silent_rule (λ history packet. sliced conf (live_count history) packet)

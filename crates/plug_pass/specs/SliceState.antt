@@ -1,5 +1,5 @@
 -- The settings that a value of `slice` has. This project's own rule.
-use Rattle.plug_conf.specs.declared.slice_conf.SliceConf.{SliceConf}
+use Rattle.plug_pass.specs.declared.slice_conf.SliceConf.{SliceConf}
 use Rattle.plug_pass.specs.declared.slice.Slice.{Slice}
 
 -- the settings of the plugin

@@ -1,8 +1,8 @@
 ghost use Rattle.std.specs.Prelude.{◌≡◌, IfOk, [], Some};
 ghost use Rattle.plug_pass.specs.FilterRule.{filter_rule};
 
-use pid_set::PidSet;
-use plug_conf::FilterConf;
+use crate::filter_conf::FilterConf;
+use plug_conf::PidSet;
 use plugin_trait::{Line, Outcome, Plugin, silent_report};
 use std::alloc::{AllocError, Global};
 use ts_packet::{Cell, Packet};
@@ -21,7 +21,7 @@ pub struct Filter {
 }
 
 impl Filter {
-    ghost use Rattle.plug_conf.specs.Filter.{IsLawfulFilter};
+    ghost use Rattle.plug_pass.specs.FilterSettings.{IsLawfulFilter};
     ghost use Rattle.plug_pass.specs.FilterRule.{meets_condition};
     ghost use Rattle.plug_pass.specs.FilterState.{conf_of};
 

@@ -1,17 +1,32 @@
-//! The plugins that pass, drop or overwrite packets: `filter`, `skip`, `slice`, `pattern`.
-//! The layer above makes each of its settings, and uses it by the clauses of `Plugin` alone.
+//! The plugins that pass, drop or overwrite packets: `filter`, `skip`, `slice`, `pattern`, each with its options.
+//! The layer above reads settings of words, makes each of its settings, and uses it by the clauses of `Plugin`.
 #![tactic(auto)]
 
 mod filter;
+mod filter_conf;
+mod filter_words;
 mod pattern;
+mod pattern_conf;
+mod pattern_words;
 mod skip;
+mod skip_conf;
+mod skip_words;
 mod slice;
-mod slice_action;
+mod slice_conf;
+mod slice_words;
 
 pub use filter::Filter;
+pub use filter_conf::FilterConf;
+pub use filter_words::read_filter;
 pub use pattern::Pattern;
+pub use pattern_conf::PatternConf;
+pub use pattern_words::read_pattern;
 pub use skip::Skip;
+pub use skip_conf::SkipConf;
+pub use skip_words::read_skip;
 pub use slice::Slice;
+pub use slice_conf::SliceConf;
+pub use slice_words::read_slice;
 
 #[cfg(test)]
 mod tests;

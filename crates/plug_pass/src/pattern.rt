@@ -1,8 +1,8 @@
 ghost use Rattle.std.specs.Prelude.{◌≡◌, ◌≤◌, ◌<◌, IfOk, ℕ, List, [], Some, length};
 ghost use Rattle.plug_pass.specs.PatternRule.{pattern_rule, repeated, patterned_from};
 
-use pid_set::PidSet;
-use plug_conf::PatternConf;
+use crate::pattern_conf::PatternConf;
+use plug_conf::PidSet;
 use plugin_trait::{Line, Outcome, Plugin, silent_report};
 use std::alloc::{AllocError, Global};
 use ts_outside::FileBytes;
@@ -24,7 +24,7 @@ pub struct Pattern {
 
 impl Pattern {
     ghost use Rattle.std.specs.Prelude.{◌≡◌, [], Some, IfOk, unwrap_or};
-    ghost use Rattle.plug_conf.specs.Pattern.{IsLawfulPattern};
+    ghost use Rattle.plug_pass.specs.PatternSettings.{IsLawfulPattern};
     ghost use Rattle.plug_pass.specs.PatternRule.{pattern_rule, offset_for, edited};
     ghost use Rattle.plug_pass.specs.PatternState.{conf_of, IsMade};
 

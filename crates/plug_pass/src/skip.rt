@@ -1,7 +1,7 @@
 ghost use Rattle.std.specs.Prelude.{◌≡◌, ◌<◌, IfOk, [], Some};
 ghost use Rattle.plug_pass.specs.SkipRule.{skip_rule};
 
-use plug_conf::SkipConf;
+use crate::skip_conf::SkipConf;
 use plugin_trait::{Line, Outcome, Plugin, silent_report};
 use std::alloc::{AllocError, Global};
 use ts_packet::Cell;
@@ -19,7 +19,7 @@ pub struct Skip {
 }
 
 impl Skip {
-    ghost use Rattle.plug_conf.specs.Skip.{IsLawfulSkip};
+    ghost use Rattle.plug_pass.specs.SkipSettings.{IsLawfulSkip};
 
     /// A plugin that met no cell yet.
     pub fn new(alloc: Global, conf: &SkipConf, buffer: usize) -> Result<Skip, AllocError>

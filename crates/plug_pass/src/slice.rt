@@ -1,15 +1,13 @@
-ghost use Rattle.std.specs.Prelude.{◌≡◌, IfOk, List, [], Option, Some};
-ghost use Rattle.plug_pass.specs.declared.slice_action.SliceStart.{SliceStart as GivenStart};
-ghost use Rattle.plug_pass.specs.SliceRule.{slice_rule, with_start, last_start, starts_come};
+ghost use Rattle.std.specs.Prelude.{◌≡◌, IfOk, [], Some};
+ghost use Rattle.plug_pass.specs.SliceRule.{slice_rule, is_between};
 
-use crate::slice_action::{SliceAction, SliceStart};
-use plug_conf::SliceConf;
+use crate::slice_conf::SliceConf;
 use plugin_trait::{Line, Outcome, Plugin, silent_report};
 use std::alloc::{AllocError, Global};
 use ts_packet::{Cell, Packet};
 
-/// Drops, passes or overwrites packets by starts, or stops: of its options the one with the greatest
-/// number that is not above the number of packets met before decides.
+/// Drops, passes or overwrites packets by where they stand, or stops: of its options the one with the
+/// greatest number that is not above the number of packets met before decides.
 #[derive(Drop, Debug)]
 pub struct Slice {
     drop: Option<u64>,
@@ -23,9 +21,9 @@ pub struct Slice {
 }
 
 impl Slice {
-    ghost use Rattle.std.specs.Prelude.{◌≡◌, [], Some, IfOk, ℕ};
-    ghost use Rattle.plug_conf.specs.Slice.{IsLawfulSlice};
-    ghost use Rattle.plug_pass.specs.SliceRule.{slice_rule, action_of, last_start, starts_come, starts_of};
+    ghost use Rattle.std.specs.Prelude.{◌≡◌, [], Some, IfOk};
+    ghost use Rattle.plug_pass.specs.SliceSettings.{IsLawfulSlice};
+    ghost use Rattle.plug_pass.specs.SliceRule.{slice_rule, decides, is_overtaken};
     ghost use Rattle.plug_pass.specs.SliceState.{conf_of};
 
     /// A plugin that met no cell yet. It takes no memory, here and in its steps.
@@ -46,44 +44,34 @@ impl Slice {
         })
     }
 
-    // What is done with the next packet.
-    fn action(&self) -> SliceAction
-        ensures { result ≡ action_of (last_start (starts_come self.now.met (starts_of (conf_of self.now)))) }
+    // Whether the option of this number decides about the next packet.
+    fn decides(&self, from: Option<u64>) -> bool
+        ensures { result ≡ decides (conf_of self.now) self.now.met from }
     {
-        match self.last_start() {
-            Some(start) => start.action,
-            None => SliceAction::Pass,
+        match from {
+            Some(from) => from <= self.met && !self.is_overtaken(from),
+            None => false,
         }
     }
 
-    // The start that decides about the next packet.
-    fn last_start(&self) -> Option<SliceStart>
-        ensures { result ≡ last_start (starts_come self.now.met (starts_of (conf_of self.now))) }
+    // Whether an option has a greater number that is not above the next packet's.
+    fn is_overtaken(&self, from: u64) -> bool
+        ensures { result ≡ is_overtaken (conf_of self.now) self.now.met from }
     {
-        let stop = start_come(self.stop, SliceAction::Stop, self.met, None);
-        let pass = start_come(self.pass, SliceAction::Pass, self.met, stop);
-        let null = start_come(self.null, SliceAction::Null, self.met, pass);
-        start_come(self.drop, SliceAction::Drop, self.met, null)
+        is_between(from, self.met, self.drop)
+            || is_between(from, self.met, self.null)
+            || is_between(from, self.met, self.pass)
+            || is_between(from, self.met, self.stop)
     }
 }
 
-// The last start that has come, where an option stands before those whose last start is `last`.
-fn start_come(
-    from: Option<u64>,
-    action: SliceAction,
-    index: u64,
-    last: Option<SliceStart>,
-) -> Option<SliceStart>
-    ensures { (starts : List GivenStart) → last_start (starts_come index starts) ≡ last
-        → last_start (starts_come index (with_start from action starts)) ≡ result }
+// Whether the number is given, greater than the one and not above the index.
+fn is_between(from: u64, index: u64, other: Option<u64>) -> bool
+    ensures { result ≡ is_between from index other }
 {
-    match (from, last) {
-        (Some(from), None) if from <= index => Some(SliceStart { from, action }),
-        (Some(from), Some(other)) if from <= index && other.from < from => Some(SliceStart {
-            from,
-            action,
-        }),
-        (_, last) => last,
+    match other {
+        Some(other) => from < other && other <= index,
+        None => false,
     }
 }
 
@@ -103,22 +91,21 @@ impl Plugin for Slice {
         let Cell::Live(packet) = cell else {
             return Outcome::Pass;
         };
-        let action = self.action();
-        if action == SliceAction::Stop {
+        if self.decides(self.drop) {
+            self.met += 1;
+            *cell = Cell::Dropped;
+            return Outcome::Drop;
+        }
+        if self.decides(self.null) {
+            self.met += 1;
+            *packet = Packet::null();
+            return Outcome::Pass;
+        }
+        if self.decides(self.stop) {
             return Outcome::Stop;
         }
         self.met += 1;
-        match action {
-            SliceAction::Drop => {
-                *cell = Cell::Dropped;
-                Outcome::Drop
-            }
-            SliceAction::Null => {
-                *packet = Packet::null();
-                Outcome::Pass
-            }
-            _ => Outcome::Pass,
-        }
+        Outcome::Pass
     }
 
     fn note(&mut self, _written: u64) -> Result<(), AllocError> {

@@ -1,7 +1,7 @@
 ghost use Rattle.std.specs.Prelude.{◌≡◌, IfOk, []};
-ghost use Rattle.plug_set.specs.Rules.{rule_of, steady_of};
+ghost use Rattle.plug_set.specs.Plugins.{rule_of, steady_of};
 
-use plug_conf::PluginConf;
+use crate::plugin_conf::PluginConf;
 use plug_end::Until;
 use plug_move::Remap;
 use plug_pass::{Filter, Pattern, Skip, Slice};
@@ -24,7 +24,7 @@ pub enum AnyPlugin {
 }
 
 impl AnyPlugin {
-    ghost use Rattle.plug_conf.specs.Lawful.{IsLawful};
+    ghost use Rattle.plug_set.specs.Plugins.{IsLawful};
 
     /// The plugin of these settings, which met no cell yet. `buffer` is the number of positions that the
     /// chain holds: for so many behind the last mark most plugins take their room here.

@@ -1,10 +1,12 @@
-//! Any plugin of the chain as one type: settings come in, a plugin that means their rule goes out.
+//! The plugins that there are: words after a name come in, or settings; a plugin that means their rule goes out.
 //! The layer above makes each plugin by `AnyPlugin::of`, and uses it by the clauses of `Plugin` alone.
 #![tactic(auto)]
 
 mod any_plugin;
+mod plugin_conf;
 
 pub use any_plugin::AnyPlugin;
+pub use plugin_conf::{PluginConf, PluginKind};
 
 #[cfg(test)]
 mod tests;

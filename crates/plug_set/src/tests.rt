@@ -1,8 +1,11 @@
-ghost use Rattle.plug_conf.specs.Lawful.{IsLawful};
+ghost use Rattle.plug_set.specs.Plugins.{IsLawful};
 ghost use Rattle.std.specs.Prelude.{◌<◌, ◌≤◌, [], IfOk, vec_len};
 
-use crate::AnyPlugin;
-use plug_conf::{CountConf, NumberSet, PluginConf, SkipConf, UntilConf};
+use crate::{AnyPlugin, PluginConf};
+use plug_conf::NumberSet;
+use plug_end::UntilConf;
+use plug_pass::SkipConf;
+use plug_watch::CountConf;
 use plugin_trait::{Line, ListEnd, Plugin, apply_plugin, report};
 use std::alloc::{AllocError, Global};
 use std::test::Fail;

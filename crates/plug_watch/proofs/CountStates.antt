@@ -11,15 +11,16 @@ use Rattle.chain_model.specs.PluginRule.{PluginRule}
 use Rattle.plugin_trait.specs.declared.line.Line.{Line}
 use Rattle.plugin_trait.specs.PlacedLines.{placed_at, placed_after, placed_of}
 use Rattle.ts_packet.specs.declared.numbers.TheConstants.{PID_COUNT}
-use Rattle.plug_conf.specs.declared.count_conf.CountConf.{CountConf}
+use Rattle.plug_watch.specs.declared.count_conf.CountConf.{CountConf}
 use Rattle.plug_watch.specs.declared.note.Note.{Note}
 use Rattle.plug_watch.specs.Notes.{notes_after}
-use Rattle.plug_watch.specs.CountRule.{is_counted, counted, note_on, text_on, summary_on, count_rule}
+use Rattle.plug_watch.specs.CountRule.{is_counted, counted, line_on, summary_on, count_rule}
+use Rattle.plug_watch.specs.CountNotes.{note_on, text_on}
 use Rattle.plug_watch.specs.Tallies.{IsTally}
 use Rattle.plug_watch.specs.Folding.{CanFold, Folds, FoldsFor, line_of_note}
 use Rattle.plug_watch.specs.CountState.{CountsFrom, Counts, IsReserved, tallied_to}
 use Rattle.plug_watch.proofs.Noting.{notes_after-append, length-notes_after, placed_at-notes, placed_after-notes}
-use Rattle.plug_watch.proofs.Counting.{one_note, few_counted, taken_is, rest_is, taken_pids}
+use Rattle.plug_watch.proofs.Counting.{one_note, line_on-notes, few_counted, taken_is, rest_is, taken_pids}
 
 module _ (conf : CountConf) (notes : List Note) (counts : List ℕ) (total : ℕ) (history : List Cell) (from : ℕ)
     (w : CountsFrom conf notes counts total history from) where
@@ -84,7 +85,8 @@ placed_none rule history (Dropped ∷ cells) none = placed_none rule (history ++
 placed_all : (conf : CountConf) (cells : List Cell) → conf.all ≡ true → placed_after (count_rule conf) [] cells ≡ map line_of_note (notes_after (note_on conf) [] cells)
 placed_all conf cells all =
     placed_after-notes (note_on conf) (λ (n : Note). n.at) (one_note conf) (count_rule conf) line_of_note
-    (λ h packet. ap (λ (b : Bool). placed_at (length h) (if b then map text_on (note_on conf h packet) else [])) all
+    (λ h packet. ap (λ (b : Bool). placed_at (length h) (if b then line_on conf h packet else [])) all
+    ∙ ap (placed_at (length h)) (line_on-notes conf h packet)
     ∙ placed_at-notes (λ (n : Note). n.at) text_on (length h) (note_on conf h packet) (one_note conf h packet))
     [] cells
 
@@ -96,7 +98,7 @@ lines_are : (conf : CountConf) (notes notes_new : List Note) (counts : List ℕ)
 lines_are conf notes notes_new counts total counts_new total_new history mark cut lines w le within folds false none =
     folds.lines_are
     ∙ (ap (λ (b : Bool). if b then map line_of_note folds.folds.taken else []) none
-    ∙ sym (placed_none (count_rule conf) [] (take cut history) (λ h packet. ap (λ (b : Bool). if b then map text_on (note_on conf h packet) else []) none)))
+    ∙ sym (placed_none (count_rule conf) [] (take cut history) (λ h packet. ap (λ (b : Bool). if b then line_on conf h packet else []) none)))
 lines_are conf notes notes_new counts total counts_new total_new history mark cut lines w le within folds true all =
     let whole : notes ≡ notes_after (note_on conf) [] history =
     subst (λ (b : Bool). notes ≡ notes_after (note_on conf) (take (tallied_to b mark) history) (drop (tallied_to b mark) history)) all w.from.kept in

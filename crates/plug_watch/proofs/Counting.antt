@@ -9,10 +9,11 @@ use Rattle.ts_packet.specs.declared.cell.Cell.{Cell}
 use Rattle.ts_packet.specs.declared.cell.Cell.TheVariants.{Live, Dropped}
 use Rattle.ts_packet.specs.Header.{pid_of}
 use Rattle.ts_packet.specs.Cells.{live_packets, packet_in}
-use Rattle.plug_conf.specs.declared.count_conf.CountConf.{CountConf}
+use Rattle.plug_watch.specs.declared.count_conf.CountConf.{CountConf}
 use Rattle.plug_watch.specs.declared.note.Note.{Note}
 use Rattle.plug_watch.specs.Notes.{notes_after}
-use Rattle.plug_watch.specs.CountRule.{is_counted, counted, packets_on, note_on}
+use Rattle.plug_watch.specs.CountRule.{is_counted, counted, line_on, packet_text, packets_on}
+use Rattle.plug_watch.specs.CountNotes.{note_on, text_on}
 use Rattle.plug_watch.specs.Folding.{StartsFrom, pids_of}
 use Rattle.plug_watch.proofs.Noting.{IsNoteAt, fails_first, not_below, take_while-split, notes_after-append, length-notes_after, take_while-notes_after}
 
@@ -23,6 +24,15 @@ one_note conf history packet =
     elim (is_counted conf packet) as (λ b. IsNoteAt (λ (n : Note). n.at) (length history) (if b then note ∷ [] else [])) [
       | true ↦ record { one = inr (note, refl, refl) }
       | false ↦ record { one = inl refl }
+    ]
+
+-- the rule's line of a packet is that of its note
+pub line_on-notes : (conf : CountConf) (history : List Cell) (packet : List ℕ) → line_on conf history packet ≡ map text_on (note_on conf history packet)
+line_on-notes conf history packet =
+    let note : Note = record { at = length history; pid = pid_of packet } in
+    elim (is_counted conf packet) as (λ b. (if b then packet_text (length history) (pid_of packet) ∷ [] else []) ≡ map text_on (if b then note ∷ [] else [])) [
+      | true ↦ refl
+      | false ↦ refl
     ]
 
 -- the packets that are counted in two lists, one behind the other

@@ -12,8 +12,8 @@ use Rattle.ts_packet.specs.Header.{with_counter}
 use Rattle.chain_model.specs.Apply.{apply}
 use Rattle.chain_model.specs.Reports.{said_of}
 use Rattle.plugin_trait.specs.PlacedLines.{placed_of}
-use Rattle.plug_conf.specs.declared.continuity_conf.ContinuityConf.{ContinuityConf}
-use Rattle.plug_conf.specs.declared.count_conf.CountConf.{CountConf}
+use Rattle.plug_watch.specs.declared.continuity_conf.ContinuityConf.{ContinuityConf}
+use Rattle.plug_watch.specs.declared.count_conf.CountConf.{CountConf}
 use Rattle.plug_watch.specs.ContinuityRule.{continuity_rule, faults_in, right_counter}
 use Rattle.plug_watch.specs.CountRule.{count_rule, numbers_below, pid_lines}
 
@@ -103,8 +103,8 @@ unfolding digits field bit_of adaptation_length_of discontinuity_of
 counter-fault = refl
 
 -- a packet without payload whose counter goes on
-bare-fault : faults_in watches (Live (numbered 3) ∷ Live (bare 4) ∷ []) ≡ record { at = 1; pid = 256; counter = 4; wanted = 3 } ∷ []
-unfolding field bit_of adaptation_length_of discontinuity_of
+bare-fault : faults_in watches (Live (numbered 3) ∷ Live (bare 4) ∷ []) ≡ codes "packet 1 pid 256 counter 4 wanted 3" ∷ []
+unfolding digits field bit_of adaptation_length_of discontinuity_of
 bare-fault = refl
 
 -- null packets are not looked at, nor are other PIDs where some are listed

@@ -1,5 +1,5 @@
 -- What is kept of the packets on a PID, one packet after another.
-use Rattle.std.proofs.Common.{◌≡◌, ℕ, ◌+◌, ◌%◌, ◌<◌, ◌≤◌, List, [], ◌∷◌, ◌++◌, length, map, filter, get_or, set, ap, sym, subst, ◌∙◌, inl, inr, refl, Bool, true, false, not, ◌&&◌, if◌then◌else◌, ◌==◌, append-nil, Option, None, Some, add_assoc, arith, length-append, length-set, get_or-set_same, get_or-set_other, eq-eqb, take, nat_lt, ◌-◌}
+use Rattle.std.proofs.Common.{◌≡◌, ℕ, ◌+◌, ◌%◌, ◌<◌, ◌≤◌, List, [], ◌∷◌, ◌++◌, length, map, filter, get_or, set, ap, ap₂, sym, subst, ◌∙◌, inl, inr, refl, Bool, true, false, not, ◌&&◌, if◌then◌else◌, ◌==◌, append-nil, Option, None, Some, add_assoc, arith, length-append, length-set, get_or-set_same, get_or-set_other, eq-eqb, take, nat_lt, ◌-◌}
 use Rattle.std.specs.List.{take_while}
 use Rattle.std.proofs.lemmas.List.{length-take-le, length-map}
 use Rattle.plugin_trait.specs.declared.line.Line.{Line}
@@ -13,10 +13,12 @@ use Rattle.ts_packet.specs.declared.cell.Cell.{Cell}
 use Rattle.ts_packet.specs.declared.cell.Cell.TheVariants.{Live, Dropped}
 use Rattle.ts_packet.specs.Header.{pid_of, counter_of, has_payload_of}
 use Rattle.ts_packet.specs.Cells.{live_packets, packet_in}
-use Rattle.plug_conf.specs.declared.continuity_conf.ContinuityConf.{ContinuityConf}
+use Rattle.plug_watch.specs.declared.continuity_conf.ContinuityConf.{ContinuityConf}
 use Rattle.plug_watch.specs.declared.continuity_error.ContinuityError.{ContinuityError}
 use Rattle.plug_watch.specs.declared.last_packet.LastPacket.{LastPacket}
-use Rattle.plug_watch.specs.ContinuityRule.{is_watched, is_duplicate, is_fault, wanted_behind, packets_of, last_behind, last_in, last_of, step_behind, steps_behind, right_counter, fault_behind, fault_on, faults_in, fault_text, faults_text, line_of_fault, continuity_rule}
+use Rattle.plug_watch.specs.ContinuityRule.{is_watched, is_duplicate, is_fault, wanted_behind, packets_of, last_behind, last_in, last_of, step_behind, steps_behind, right_counter, fault_behind, fault_on, fault_text, faults_in, faults_text, continuity_rule}
+use Rattle.plug_watch.specs.ContinuityErrors.{error_behind, error_on, errors_in, line_of_error, text_of_error}
+use Rattle.plug_watch.specs.Notes.{notes_after}
 use Rattle.plug_watch.specs.ContinuitySeen.{seen_in, seen_with, right_after, fault_after, HasCounters, Watches}
 
 -- the last one
@@ -60,7 +62,7 @@ seen_in-append (first ∷ rest) packet small =
     (right_counter-append (first ∷ rest) packet small)
 
 -- a fault is known from what is kept
-pub fault_after-seen : (at : ℕ) (packets : List (List ℕ)) (packet : List ℕ) → fault_after at (seen_in packets) packet ≡ fault_behind at (last_in packets) packet
+pub fault_after-seen : (at : ℕ) (packets : List (List ℕ)) (packet : List ℕ) → fault_after at (seen_in packets) packet ≡ error_behind at (last_in packets) packet
 fault_after-seen at [] packet = refl
 fault_after-seen at (first ∷ rest) packet = refl
 
@@ -76,7 +78,7 @@ packets_of-dropped pid history =
     ap (filter (λ p. pid_of p == pid)) (flat_map-append packet_in history (Dropped ∷ []) ∙ append-nil (live_packets history))
 
 -- one fault at most
-one_fault_behind : (at : ℕ) (before : Option (List ℕ)) (packet : List ℕ) → IsNoteAt (λ (f : ContinuityError). f.at) at (fault_behind at before packet)
+one_fault_behind : (at : ℕ) (before : Option (List ℕ)) (packet : List ℕ) → IsNoteAt (λ (f : ContinuityError). f.at) at (error_behind at before packet)
 one_fault_behind at None packet = record { one = inl refl }
 one_fault_behind at (Some before) packet =
     let fault : ContinuityError = record { at = at; pid = pid_of packet; counter = counter_of packet; wanted = wanted_behind before packet } in
@@ -85,22 +87,22 @@ one_fault_behind at (Some before) packet =
       | false ↦ record { one = inl refl }
     ]
 
-pub one_fault : (conf : ContinuityConf) (history : List Cell) (packet : List ℕ) → IsNoteAt (λ (f : ContinuityError). f.at) (length history) (fault_on conf history packet)
+pub one_fault : (conf : ContinuityConf) (history : List Cell) (packet : List ℕ) → IsNoteAt (λ (f : ContinuityError). f.at) (length history) (error_on conf history packet)
 one_fault conf history packet =
-    elim (is_watched conf (pid_of packet)) as (λ b. IsNoteAt (λ (f : ContinuityError). f.at) (length history) (if b then fault_behind (length history) (last_of (pid_of packet) history) packet else [])) [
+    elim (is_watched conf (pid_of packet)) as (λ b. IsNoteAt (λ (f : ContinuityError). f.at) (length history) (if b then error_behind (length history) (last_of (pid_of packet) history) packet else [])) [
       | true ↦ one_fault_behind (length history) (last_of (pid_of packet) history) packet
       | false ↦ record { one = inl refl }
     ]
 
 -- the faults with one packet more
-faults_in-live : (conf : ContinuityConf) (history : List Cell) (packet : List ℕ) → faults_in conf (history ++ Live packet ∷ []) ≡ faults_in conf history ++ fault_on conf history packet
+faults_in-live : (conf : ContinuityConf) (history : List Cell) (packet : List ℕ) → errors_in conf (history ++ Live packet ∷ []) ≡ errors_in conf history ++ error_on conf history packet
 faults_in-live conf history packet =
-    notes_after-append (fault_on conf) (λ (f : ContinuityError). f.at) (one_fault conf) [] history (Live packet ∷ [])
-    ∙ ap (λ (fs : List ContinuityError). faults_in conf history ++ fs) (append-nil (fault_on conf history packet))
+    notes_after-append (error_on conf) (λ (f : ContinuityError). f.at) (one_fault conf) [] history (Live packet ∷ [])
+    ∙ ap (λ (fs : List ContinuityError). errors_in conf history ++ fs) (append-nil (error_on conf history packet))
 
-faults_in-dropped : (conf : ContinuityConf) (history : List Cell) → faults_in conf (history ++ Dropped ∷ []) ≡ faults_in conf history
+faults_in-dropped : (conf : ContinuityConf) (history : List Cell) → errors_in conf (history ++ Dropped ∷ []) ≡ errors_in conf history
 faults_in-dropped conf history =
-    notes_after-append (fault_on conf) (λ (f : ContinuityError). f.at) (one_fault conf) [] history (Dropped ∷ []) ∙ append-nil (faults_in conf history)
+    notes_after-append (error_on conf) (λ (f : ContinuityError). f.at) (one_fault conf) [] history (Dropped ∷ []) ∙ append-nil (errors_in conf history)
 
 -- a cell more is a cell more
 longer : (history : List Cell) (cell : Cell) (mark : ℕ) → mark ≤ length history → mark ≤ length (history ++ cell ∷ [])
@@ -131,8 +133,8 @@ module _ (conf : ContinuityConf) (seen : List (Option LastPacket)) (faults : Lis
     small = w.small;
     all = w.all ∙ sym (
         faults_in-live conf history packet
-        ∙ (ap (λ (b : Bool). faults_in conf history ++ (if b then fault_behind (length history) (last_of (pid_of packet) history) packet else [])) unwatched
-        ∙ append-nil (faults_in conf history)));
+        ∙ (ap (λ (b : Bool). errors_in conf history ++ (if b then error_behind (length history) (last_of (pid_of packet) history) packet else [])) unwatched
+        ∙ append-nil (errors_in conf history)));
     marked = longer history (Live packet) mark w.marked;
   }
 
@@ -179,10 +181,10 @@ module _ (conf : ContinuityConf) (seen : List (Option LastPacket)) (faults : Lis
       ];
       all =
           ap (λ (fs : List ContinuityError). fs ++ fault_after (length history) before packet) w.all
-          ∙ (ap (λ (fs : List ContinuityError). faults_in conf history ++ fs)
+          ∙ (ap (λ (fs : List ContinuityError). errors_in conf history ++ fs)
           (ap (λ (s : Option LastPacket). fault_after (length history) s packet) before_is
           ∙ (fault_after-seen (length history) (packets_of (pid_of packet) history) packet
-          ∙ sym (ap (λ (b : Bool). if b then fault_behind (length history) (last_of (pid_of packet) history) packet else []) watched)))
+          ∙ sym (ap (λ (b : Bool). if b then error_behind (length history) (last_of (pid_of packet) history) packet else []) watched)))
           ∙ sym (faults_in-live conf history packet));
       marked = longer history (Live packet) mark w.marked;
     }
@@ -198,21 +200,52 @@ module _ (conf : ContinuityConf) (seen : List (Option LastPacket)) (faults : Lis
         let with_count = subst (λ (n : ℕ). Watches conf (set seen place (Some next)) (faults ++ fault_after n before packet) (history ++ Live packet ∷ []) mark) count with_place in
         subst (λ (fs : List ContinuityError). Watches conf (set seen place (Some next)) fs (history ++ Live packet ∷ []) mark) (sym faults_are) with_count
 
+-- the rule's line of a packet is that of its fault
+texts_behind : (at : ℕ) (before : Option (List ℕ)) (packet : List ℕ) → fault_behind at before packet ≡ map text_of_error (error_behind at before packet)
+texts_behind at None packet = refl
+texts_behind at (Some before) packet =
+    let fault : ContinuityError = record { at = at; pid = pid_of packet; counter = counter_of packet; wanted = wanted_behind before packet } in
+    elim (is_fault before packet) as (λ b. (if b then fault_text at (pid_of packet) (counter_of packet) (wanted_behind before packet) ∷ [] else []) ≡ map text_of_error (if b then fault ∷ [] else [])) [
+      | true ↦ refl
+      | false ↦ refl
+    ]
+
+texts_on : (conf : ContinuityConf) (history : List Cell) (packet : List ℕ) → fault_on conf history packet ≡ map text_of_error (error_on conf history packet)
+texts_on conf history packet =
+    let last = last_of (pid_of packet) history in
+    elim (is_watched conf (pid_of packet)) as (λ b. (if b then fault_behind (length history) last packet else []) ≡ map text_of_error (if b then error_behind (length history) last packet else [])) [
+      | true ↦ texts_behind (length history) last packet
+      | false ↦ refl
+    ]
+
+-- there are as many lines as faults
+same_number : (conf : ContinuityConf) (history cells : List Cell) → length (notes_after (fault_on conf) history cells) ≡ length (notes_after (error_on conf) history cells)
+same_number conf history [] = refl
+same_number conf history (Live packet ∷ cells) =
+    let next = history ++ Live packet ∷ [] in
+    let here : length (fault_on conf history packet) ≡ length (error_on conf history packet) =
+    ap length (texts_on conf history packet) ∙ length-map (error_on conf history packet) text_of_error in
+    length-append (fault_on conf history packet) (notes_after (fault_on conf) next cells)
+    ∙ (ap₂ (λ a b. a + b) here (same_number conf next cells)
+    ∙ sym (length-append (error_on conf history packet) (notes_after (error_on conf) next cells)))
+same_number conf history (Dropped ∷ cells) = same_number conf (history ++ Dropped ∷ []) cells
+
 -- the report over the cells before a position
 pub report_is : (conf : ContinuityConf) (history : List Cell) (cut : ℕ) → cut ≤ length history
-    → let lines : List Line = map line_of_fault (take_while (λ (f : ContinuityError). nat_lt f.at cut) (faults_in conf history)) in
+    → let lines : List Line = map line_of_error (take_while (λ (f : ContinuityError). nat_lt f.at cut) (errors_in conf history)) in
     lines ++ record { at = cut; text = faults_text (length lines) } ∷ [] ≡ placed_of (continuity_rule conf) (take cut history)
 report_is conf history cut within =
     let cells = take cut history in
     let all : cut - 0 ≡ cut = omega arith in
-    let front : take_while (λ (f : ContinuityError). nat_lt f.at cut) (faults_in conf history) ≡ faults_in conf cells =
-    take_while-notes_after (fault_on conf) (λ (f : ContinuityError). f.at) (one_fault conf) cut [] history
-    ∙ ap (λ (k : ℕ). faults_in conf (take k history)) all in
-    let count : length (map line_of_fault (faults_in conf cells)) ≡ length (faults_in conf cells) = length-map (faults_in conf cells) line_of_fault in
-    let lines : placed_after (continuity_rule conf) [] cells ≡ map line_of_fault (faults_in conf cells) =
-    placed_after-notes (fault_on conf) (λ (f : ContinuityError). f.at) (one_fault conf) (continuity_rule conf) line_of_fault
-    (λ h packet. placed_at-notes (λ (f : ContinuityError). f.at) fault_text (length h) (fault_on conf h packet) (one_fault conf h packet)) [] cells in
-    ap (λ (fs : List ContinuityError). map line_of_fault fs ++ (let l : Line = record { at = cut; text = faults_text (length (map line_of_fault fs)) } in l) ∷ []) front
-    ∙ (ap (λ (n : ℕ). map line_of_fault (faults_in conf cells) ++ (let l : Line = record { at = cut; text = faults_text n } in l) ∷ []) count
-    ∙ (ap (λ (n : ℕ). map line_of_fault (faults_in conf cells) ++ (let l : Line = record { at = n; text = faults_text (length (faults_in conf cells)) } in l) ∷ []) (sym (length-take-le cut history within))
-    ∙ ap (λ (ls : List Line). ls ++ placed_at (length cells) (faults_text (length (faults_in conf cells)) ∷ [])) (sym lines)))
+    let front : take_while (λ (f : ContinuityError). nat_lt f.at cut) (errors_in conf history) ≡ errors_in conf cells =
+    take_while-notes_after (error_on conf) (λ (f : ContinuityError). f.at) (one_fault conf) cut [] history
+    ∙ ap (λ (k : ℕ). errors_in conf (take k history)) all in
+    let count : length (map line_of_error (errors_in conf cells)) ≡ length (errors_in conf cells) = length-map (errors_in conf cells) line_of_error in
+    let lines : placed_after (continuity_rule conf) [] cells ≡ map line_of_error (errors_in conf cells) =
+    placed_after-notes (error_on conf) (λ (f : ContinuityError). f.at) (one_fault conf) (continuity_rule conf) line_of_error
+    (λ h packet. ap (placed_at (length h)) (texts_on conf h packet) ∙ placed_at-notes (λ (f : ContinuityError). f.at) text_of_error (length h) (error_on conf h packet) (one_fault conf h packet)) [] cells in
+    ap (λ (fs : List ContinuityError). map line_of_error fs ++ (let l : Line = record { at = cut; text = faults_text (length (map line_of_error fs)) } in l) ∷ []) front
+    ∙ (ap (λ (n : ℕ). map line_of_error (errors_in conf cells) ++ (let l : Line = record { at = cut; text = faults_text n } in l) ∷ []) count
+    ∙ (ap (λ (n : ℕ). map line_of_error (errors_in conf cells) ++ (let l : Line = record { at = n; text = faults_text (length (errors_in conf cells)) } in l) ∷ []) (sym (length-take-le cut history within))
+    ∙ (ap (λ (ls : List Line). ls ++ placed_at (length cells) (faults_text (length (errors_in conf cells)) ∷ [])) (sym lines)
+    ∙ ap (λ (n : ℕ). placed_after (continuity_rule conf) [] cells ++ placed_at (length cells) (faults_text n ∷ [])) (sym (same_number conf [] cells)))))

@@ -1,17 +1,15 @@
 -- The rule of `continuity`. This project's own rule, over the continuity_counter of ISO/IEC 13818-1, 2.4.3.3.
-use Rattle.std.specs.Prelude.{ℕ, ◌+◌, ◌%◌, List, [], ◌∷◌, ◌++◌, length, map, filter, Bool, false, not, ◌==◌, ◌&&◌, Option, None, Some, codes, if◌then◌else◌}
+use Rattle.std.specs.Prelude.{ℕ, ◌+◌, ◌%◌, List, [], ◌∷◌, ◌++◌, length, filter, Bool, false, not, ◌==◌, ◌&&◌, Option, None, Some, codes, if◌then◌else◌}
 use Rattle.std.specs.Fmt.{decimal}
 use Rattle.ts_packet.specs.declared.cell.Cell.{Cell}
 use Rattle.ts_packet.specs.Cells.{live_packets}
 use Rattle.ts_packet.specs.Header.{pid_of, counter_of, has_payload_of, with_counter}
 use Rattle.ts_packet.specs.Adaptation.{discontinuity_of}
-use Rattle.plugin_trait.specs.declared.line.Line.{Line}
 use Rattle.chain_model.specs.PluginRule.{PluginRule, passes}
 use Rattle.ts_packet.specs.declared.numbers.TheConstants.{NULL_PID}
-use Rattle.plug_conf.specs.declared.continuity_conf.ContinuityConf.{ContinuityConf}
-use Rattle.pid_set.specs.Selection.{is_selected}
+use Rattle.plug_watch.specs.declared.continuity_conf.ContinuityConf.{ContinuityConf}
+use Rattle.plug_conf.specs.Selection.{is_selected}
 use Rattle.plug_watch.specs.Notes.{notes_after}
-use Rattle.plug_watch.specs.declared.continuity_error.ContinuityError.{ContinuityError}
 
 -- the packets of the PID are looked at; those of 8191 never are
 abbrev pub is_watched : ContinuityConf → ℕ → Bool
@@ -35,12 +33,17 @@ abbrev pub is_fault : List ℕ → List ℕ → Bool
 is_fault before packet = not (counter_of packet == wanted_behind before packet)
     && (not (is_duplicate before packet) && not (discontinuity_of packet))
 
--- the fault of a packet at a position, behind the packet before it on its PID
-abbrev pub fault_behind : ℕ → Option (List ℕ) → List ℕ → List ContinuityError
+-- `packet <position> pid <pid> counter <c> wanted <w>`
+abbrev pub fault_text : ℕ → ℕ → ℕ → ℕ → List ℕ
+fault_text at pid counter wanted = codes "packet " ++ (decimal at ++ (codes " pid " ++ (decimal pid
+    ++ (codes " counter " ++ (decimal counter ++ (codes " wanted " ++ decimal wanted))))))
+
+-- the line of a packet at a position, behind the packet before it on its PID: where it is a fault
+abbrev pub fault_behind : ℕ → Option (List ℕ) → List ℕ → List (List ℕ)
 fault_behind at None packet = []
 fault_behind at (Some before) packet =
     if is_fault before packet
-    then record { at = at; pid = pid_of packet; counter = counter_of packet; wanted = wanted_behind before packet } ∷ []
+    then fault_text at (pid_of packet) (counter_of packet) (wanted_behind before packet) ∷ []
     else []
 
 -- the last of a packet and those that follow it
@@ -57,13 +60,15 @@ last_in (first ∷ rest) = Some (last_behind first rest)
 abbrev pub last_of : ℕ → List Cell → Option (List ℕ)
 last_of pid history = last_in (packets_of pid history)
 
--- the fault of a packet behind a history, where its PID is looked at
-abbrev pub fault_on : ContinuityConf → List Cell → List ℕ → List ContinuityError
+-- the line of a packet behind a history, where its PID is looked at
+abbrev pub fault_on : ContinuityConf → List Cell → List ℕ → List (List ℕ)
 fault_on conf history packet =
-    if is_watched conf (pid_of packet) then fault_behind (length history) (last_of (pid_of packet) history) packet else []
+    if is_watched conf (pid_of packet)
+    then fault_behind (length history) (last_of (pid_of packet) history) packet
+    else []
 
--- the faults in a list of cells
-abbrev pub faults_in : ContinuityConf → List Cell → List ContinuityError
+-- the lines of the faults in a list of cells
+abbrev pub faults_in : ContinuityConf → List Cell → List (List ℕ)
 faults_in conf cells = notes_after (fault_on conf) [] cells
 
 -- 1 for a packet whose counter goes on: one with payload that repeats none
@@ -80,18 +85,9 @@ abbrev pub right_counter : List (List ℕ) → ℕ
 right_counter [] = 0
 right_counter (first ∷ rest) = (counter_of first + steps_behind first rest) % 16
 
--- the packet with its counter put right
+-- the packet with its counter put right: that field is set, and nothing else (`with_counter-sets` of `ts_packet`)
 abbrev pub fixed : List Cell → List ℕ → List ℕ
 fixed history packet = with_counter packet (right_counter (packets_of (pid_of packet) history ++ packet ∷ []))
-
--- `packet <position> pid <pid> counter <c> wanted <w>`
-abbrev pub fault_text : ContinuityError → List ℕ
-fault_text fault = codes "packet " ++ (decimal fault.at ++ (codes " pid " ++ (decimal fault.pid
-    ++ (codes " counter " ++ (decimal fault.counter ++ (codes " wanted " ++ decimal fault.wanted))))))
-
--- the line of a fault
-abbrev pub line_of_fault : ContinuityError → Line
-line_of_fault fault = record { at = fault.at; text = fault_text fault }
 
 -- `faults <n>`
 abbrev pub faults_text : ℕ → List ℕ
@@ -100,8 +96,9 @@ faults_text n = codes "faults " ++ decimal n
 -- each fault has a line, and the summary has their number; with `fix` the counters are put right
 abbrev pub continuity_rule : ContinuityConf → PluginRule
 continuity_rule conf = record {
-  outcome_of = λ history packet. passes (if conf.fix && is_watched conf (pid_of packet) then fixed history packet else packet);
-  lines_of = λ history packet. map fault_text (fault_on conf history packet);
+  outcome_of = λ history packet.
+      passes (if conf.fix && is_watched conf (pid_of packet) then fixed history packet else packet);
+  lines_of = fault_on conf;
   summary_of = λ history. faults_text (length (faults_in conf history)) ∷ [];
   agrees = λ _. false;
 }

@@ -5,8 +5,9 @@ use Rattle.ts_packet.specs.declared.cell.Cell.{Cell}
 use Rattle.ts_packet.specs.Header.{pid_of, counter_of, has_payload_of}
 use Rattle.ts_packet.specs.Adaptation.{discontinuity_of}
 use Rattle.ts_packet.specs.declared.numbers.TheConstants.{PID_COUNT}
-use Rattle.plug_conf.specs.declared.continuity_conf.ContinuityConf.{ContinuityConf}
-use Rattle.plug_watch.specs.ContinuityRule.{is_watched, packets_of, last_behind, right_counter, faults_in}
+use Rattle.plug_watch.specs.declared.continuity_conf.ContinuityConf.{ContinuityConf}
+use Rattle.plug_watch.specs.ContinuityRule.{is_watched, packets_of, last_behind, right_counter}
+use Rattle.plug_watch.specs.ContinuityErrors.{errors_in}
 use Rattle.plug_watch.specs.declared.continuity_error.ContinuityError.{ContinuityError}
 use Rattle.plug_watch.specs.declared.last_packet.LastPacket.{LastPacket}
 
@@ -65,7 +66,7 @@ pub record Watches (conf : ContinuityConf) (seen : List (Option LastPacket)) (fa
   pub whole : length seen ≡ PID_COUNT
   pub each : (pid : ℕ) → pid < PID_COUNT → is_watched conf pid ≡ true → slice_index_or seen pid None ≡ seen_in (packets_of pid history)
   pub small : (pid : ℕ) → HasCounters (slice_index_or seen pid None)
-  pub all : faults ≡ faults_in conf history
+  pub all : faults ≡ errors_in conf history
   pub marked : mark ≤ length history
 
 -- what is kept is that of some history of so many cells

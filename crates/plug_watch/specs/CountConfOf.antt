@@ -1,5 +1,5 @@
 -- The settings that a value of `count` has. This project's own rule.
-use Rattle.plug_conf.specs.declared.count_conf.CountConf.{CountConf}
+use Rattle.plug_watch.specs.declared.count_conf.CountConf.{CountConf}
 use Rattle.plug_watch.specs.declared.count.Count.{Count}
 
 -- the settings of the plugin

@@ -1,5 +1,5 @@
 -- The rule of `count`. This project's own rule, over the PID of ISO/IEC 13818-1, 2.4.3.2.
-use Rattle.std.specs.Prelude.{ℕ, zero, suc, List, [], ◌∷◌, ◌++◌, length, map, filter, count_by, Bool, false, ◌==◌, codes, if◌then◌else◌}
+use Rattle.std.specs.Prelude.{ℕ, zero, suc, List, [], ◌∷◌, ◌++◌, length, filter, count_by, Bool, false, ◌==◌, codes, if◌then◌else◌}
 use Rattle.std.specs.List.{flat_map}
 use Rattle.std.specs.Fmt.{decimal}
 use Rattle.ts_packet.specs.declared.cell.Cell.{Cell}
@@ -7,9 +7,8 @@ use Rattle.ts_packet.specs.Cells.{live_packets}
 use Rattle.ts_packet.specs.Header.{pid_of}
 use Rattle.chain_model.specs.PluginRule.{PluginRule, passes}
 use Rattle.ts_packet.specs.declared.numbers.TheConstants.{PID_COUNT}
-use Rattle.plug_conf.specs.declared.count_conf.CountConf.{CountConf}
-use Rattle.pid_set.specs.Selection.{is_selected}
-use Rattle.plug_watch.specs.declared.note.Note.{Note}
+use Rattle.plug_watch.specs.declared.count_conf.CountConf.{CountConf}
+use Rattle.plug_conf.specs.Selection.{is_selected}
 
 -- the packet is one of those that are counted
 abbrev pub is_counted : CountConf → List ℕ → Bool
@@ -47,22 +46,19 @@ numbers_below (suc n) = numbers_below n ++ n ∷ []
 -- the PIDs with their packets, ascending, and then the total; with `total` that alone
 abbrev pub summary_on : Bool → List (List ℕ) → List (List ℕ)
 summary_on total packets =
-    (if total then [] else flat_map (pid_lines packets) (numbers_below PID_COUNT)) ++ total_text (length packets) ∷ []
+    (if total then [] else flat_map (pid_lines packets) (numbers_below PID_COUNT))
+    ++ total_text (length packets) ∷ []
 
--- a packet that is counted is noted with its position and its PID
-abbrev pub note_on : CountConf → List Cell → List ℕ → List Note
-note_on conf history packet =
-    if is_counted conf packet then record { at = length history; pid = pid_of packet } ∷ [] else []
-
--- the line of a note
-abbrev pub text_on : Note → List ℕ
-text_on note = packet_text note.at note.pid
+-- the line of a packet behind a history, where it is counted
+abbrev pub line_on : CountConf → List Cell → List ℕ → List (List ℕ)
+line_on conf history packet =
+    if is_counted conf packet then packet_text (length history) (pid_of packet) ∷ [] else []
 
 -- every packet passes; with `all` each one that is counted has a line; the summary counts them
 abbrev pub count_rule : CountConf → PluginRule
 count_rule conf = record {
   outcome_of = λ _ packet. passes packet;
-  lines_of = λ history packet. if conf.all then map text_on (note_on conf history packet) else [];
+  lines_of = λ history packet. if conf.all then line_on conf history packet else [];
   summary_of = λ history. summary_on conf.total (counted conf history);
   agrees = λ _. false;
 }

@@ -4,9 +4,10 @@ use Rattle.std.specs.List.{All}
 use Rattle.ts_packet.specs.declared.cell.Cell.{Cell}
 use Rattle.ts_packet.specs.Header.{pid_of}
 use Rattle.ts_packet.specs.declared.numbers.TheConstants.{PID_COUNT}
-use Rattle.plug_conf.specs.declared.count_conf.CountConf.{CountConf}
+use Rattle.plug_watch.specs.declared.count_conf.CountConf.{CountConf}
 use Rattle.plug_watch.specs.Notes.{notes_after}
-use Rattle.plug_watch.specs.CountRule.{counted, note_on}
+use Rattle.plug_watch.specs.CountRule.{counted}
+use Rattle.plug_watch.specs.CountNotes.{note_on}
 use Rattle.plug_watch.specs.Tallies.{IsTally}
 use Rattle.plug_watch.specs.declared.note.Note.{Note}
 

@@ -3,7 +3,7 @@ use Rattle.std.specs.Prelude.{◌≡◌, ◌<◌, ◌≤◌, ◌+◌, ◌^◌, �
 use Rattle.std.specs.List.{All, list_all}
 use Rattle.plugin_trait.specs.declared.line.Line.{Line}
 use Rattle.ts_packet.specs.declared.numbers.TheConstants.{PID_COUNT}
-use Rattle.plug_watch.specs.CountRule.{text_on}
+use Rattle.plug_watch.specs.CountNotes.{text_on}
 use Rattle.plug_watch.specs.Tallies.{IsTally}
 use Rattle.plug_watch.specs.declared.note.Note.{Note}
 

@@ -1,5 +1,7 @@
 pub mod Notes
 pub mod CountRule
+pub mod CountNotes
+pub mod ContinuityErrors
 pub mod CountState
 pub mod CountConfOf
 pub mod Folding
@@ -7,3 +9,7 @@ pub mod Tallies
 pub mod ContinuityRule
 pub mod ContinuitySeen
 pub mod ContinuityConfOf
+pub mod CountSettings
+pub mod CountWords
+pub mod ContinuitySettings
+pub mod ContinuityWords

@@ -2,13 +2,14 @@ ghost use Rattle.std.specs.Prelude.{◌≡◌, ◌<◌, ◌≤◌, ◌==◌, ◌
 ghost use Rattle.std.specs.List.{take_while, slice_index_or};
 ghost use Rattle.ts_packet.specs.declared.cell.Cell.{Cell as GivenCell};
 ghost use Rattle.plug_watch.specs.declared.continuity_error.ContinuityError.{ContinuityError as GivenError};
-ghost use Rattle.plug_watch.specs.ContinuityRule.{continuity_rule, line_of_fault};
+ghost use Rattle.plug_watch.specs.ContinuityErrors.{line_of_error};
+ghost use Rattle.plug_watch.specs.ContinuityRule.{continuity_rule};
 
+use crate::continuity_conf::ContinuityConf;
 use crate::continuity_error::ContinuityError;
 use crate::last_packet::{LastPacket, push_fault, seen_with};
 use crate::lines::push_line;
-use pid_set::PidSet;
-use plug_conf::ContinuityConf;
+use plug_conf::PidSet;
 use plugin_trait::{Line, Outcome, Plugin};
 use std::alloc::{AllocError, Global};
 use ts_packet::{Cell, NULL_PID, PID_COUNT, Packet};
@@ -30,7 +31,7 @@ impl Continuity {
     ghost use Rattle.ts_packet.specs.declared.cell.Cell.{Cell as GivenCell};
     ghost use Rattle.ts_packet.specs.declared.cell.Cell.TheVariants.{Live};
     ghost use Rattle.ts_packet.specs.Header.{pid_of};
-    ghost use Rattle.plug_conf.specs.Continuity.{IsLawfulContinuity};
+    ghost use Rattle.plug_watch.specs.ContinuitySettings.{IsLawfulContinuity};
     ghost use Rattle.plug_watch.specs.ContinuityRule.{continuity_rule, is_watched, fixed};
     ghost use Rattle.plug_watch.specs.ContinuitySeen.{Watches, WatchesSome};
     ghost use Rattle.plug_watch.specs.ContinuityConfOf.{conf_of};
@@ -100,7 +101,7 @@ fn no_packets(alloc: Global) -> Result<Vec<Option<LastPacket>>, AllocError>
 
 // The lines of the faults below a position.
 fn lines_below(alloc: Global, faults: &[ContinuityError], cut: u64) -> Result<Vec<Line>, AllocError>
-    ensures { IfOk result (λ lines. lines.items ≡ map line_of_fault (take_while (λ fault. nat_lt fault.at cut) faults.now)) }
+    ensures { IfOk result (λ lines. lines.items ≡ map line_of_error (take_while (λ fault. nat_lt fault.at cut) faults.now)) }
 {
     let mut lines = Vec::new(alloc);
     for fault in faults {

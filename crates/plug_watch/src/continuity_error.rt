@@ -1,5 +1,5 @@
 ghost use Rattle.std.specs.Prelude.{◌≡◌, IfOk};
-ghost use Rattle.plug_watch.specs.ContinuityRule.{fault_text};
+ghost use Rattle.plug_watch.specs.ContinuityErrors.{text_of_error};
 
 use plugin_trait::{Line, LineText};
 use std::alloc::{AllocError, Global};
@@ -20,7 +20,7 @@ pub struct ContinuityError {
 impl ContinuityError {
     /// The line on the fault.
     pub fn line(&self, alloc: Global) -> Result<Line, AllocError>
-        ensures { IfOk result (λ line. line ≡ record { at = self.now.at; text = fault_text self.now }) }
+        ensures { IfOk result (λ line. line ≡ record { at = self.now.at; text = text_of_error self.now }) }
     {
         let text = format!(in alloc;
             "packet {} pid {} counter {} wanted {}",

@@ -1,12 +1,12 @@
 ghost use Rattle.std.specs.Prelude.{◌≡◌, IfOk, [], None, Some, if◌then◌else◌};
 ghost use Rattle.plug_watch.specs.CountRule.{count_rule};
 
+use crate::count_conf::CountConf;
 use crate::folding::{fold_below, fold_for};
 use crate::note::Note;
 use crate::summary::push_summary;
 use crate::tally::Tally;
-use pid_set::PidSet;
-use plug_conf::CountConf;
+use plug_conf::PidSet;
 use plugin_trait::{Line, Outcome, Plugin};
 use std::alloc::{AllocError, Global};
 use std::collections::VecDeque;
@@ -29,7 +29,7 @@ pub struct Count {
 
 impl Count {
     ghost use Rattle.std.specs.Prelude.{◌≡◌, IfOk, [], None, Some, if◌then◌else◌};
-    ghost use Rattle.plug_conf.specs.Count.{IsLawfulCount};
+    ghost use Rattle.plug_watch.specs.CountSettings.{IsLawfulCount};
     ghost use Rattle.plug_watch.specs.CountRule.{count_rule};
 
     /// A plugin that met no cell yet. It takes room for its tables, and without `all` for notes on as many

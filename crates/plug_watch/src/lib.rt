@@ -1,10 +1,14 @@
 //! The plugins that look at packets: `count` counts them by PID, `continuity` checks their counters.
-//! The layer above makes each of its settings, and uses it by the clauses of `Plugin` alone.
+//! The layer above reads settings of words, makes each of its settings, and uses it by the clauses of `Plugin`.
 #![tactic(auto)]
 
 mod continuity;
+mod continuity_conf;
 mod continuity_error;
+mod continuity_words;
 mod count;
+mod count_conf;
+mod count_words;
 mod folding;
 mod last_packet;
 mod lines;
@@ -13,8 +17,12 @@ mod summary;
 mod tally;
 
 pub use continuity::Continuity;
+pub use continuity_conf::ContinuityConf;
 pub use continuity_error::ContinuityError;
+pub use continuity_words::read_continuity;
 pub use count::Count;
+pub use count_conf::CountConf;
+pub use count_words::read_count;
 pub use last_packet::LastPacket;
 pub use note::Note;
 

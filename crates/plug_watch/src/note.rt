@@ -1,5 +1,5 @@
 ghost use Rattle.std.specs.Prelude.{◌≡◌, IfOk};
-ghost use Rattle.plug_watch.specs.CountRule.{text_on};
+ghost use Rattle.plug_watch.specs.CountNotes.{text_on};
 
 use plugin_trait::{Line, LineText};
 use std::alloc::{AllocError, Global};

@@ -1,2 +1,4 @@
 pub mod Going
+pub mod FarLemmas
+pub mod AgreeingLemmas
 pub mod Saying

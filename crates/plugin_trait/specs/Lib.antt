@@ -3,3 +3,4 @@ pub mod Marks
 pub mod PlacedLines
 pub mod Driving
 pub mod LiveCount
+pub mod SilentRule

@@ -13,7 +13,8 @@ placed_at position texts = map (λ text. record { at = position; text = text }) 
 abbrev pub placed_after : PluginRule → List Cell → List Cell → List Line
 placed_after rule history [] = []
 placed_after rule history (Live packet ∷ cells) =
-    placed_at (length history) (rule.lines_of history packet) ++ placed_after rule (history ++ Live packet ∷ []) cells
+    placed_at (length history) (rule.lines_of history packet) ++ placed_after rule
+    (history ++ Live packet ∷ []) cells
 placed_after rule history (Dropped ∷ cells) = placed_after rule (history ++ Dropped ∷ []) cells
 
 -- all that a plugin says of the cells that count: its lines, then its summary at their end

@@ -34,10 +34,12 @@ IsLive Dropped = ⊥
 -- what an outcome, with the cell that is left, tells of what became of the cell that came
 abbrev pub StepTells : PluginRule → List Cell → Cell → Outcome → Cell → Type 0
 StepTells rule history cell Pass left = (became rule history cell ≡ goes_on left) × SameKind cell left
-StepTells rule history cell Drop left = (became rule history cell ≡ goes_on left) × IsLive cell × (left ≡ Dropped)
+StepTells rule history cell Drop left =
+    (became rule history cell ≡ goes_on left) × IsLive cell × (left ≡ Dropped)
 StepTells rule history cell Last left = became rule history cell ≡ ends_after left
 StepTells rule history cell Stop left = (became rule history cell ≡ ends_before stopped) × (left ≡ cell)
-StepTells rule history cell (Refuse reason) left = (became rule history cell ≡ ends_before (refused reason)) × (left ≡ cell)
+StepTells rule history cell (Refuse reason) left =
+    (became rule history cell ≡ ends_before (refused reason)) × (left ≡ cell)
 StepTells rule history cell NoMemory left = left ≡ cell
 
 -- the cells met after a step: with this one, unless the list ended before it
@@ -52,12 +54,14 @@ met_after NoMemory history cell = history
 -- the step tells what the rule says, of each list that the plugin stood for
 abbrev pub Tells : PluginRule → (List Cell → ℕ → Type 0) → ℕ → Cell → Outcome → Cell → Type 0
 Tells rule stands at cell outcome left =
-    (history : List Cell) (mark : ℕ) → stands history mark → length history ≡ at → StepTells rule history cell outcome left
+    (history : List Cell) (mark : ℕ) → stands history mark → length history ≡ at
+    → StepTells rule history cell outcome left
 
 -- after the step the plugin stands for each list that it stood for, with the cell that it met
 abbrev pub Meets : (List Cell → ℕ → Type 0) → (List Cell → ℕ → Type 0) → ℕ → Cell → Outcome → Type 0
 Meets old new at cell outcome =
-    (history : List Cell) (mark : ℕ) → old history mark → length history ≡ at → new (met_after outcome history cell) mark
+    (history : List Cell) (mark : ℕ) → old history mark → length history ≡ at
+    → new (met_after outcome history cell) mark
 
 -- the position is one for which room was made before the run
 pub record HasRoom (steady : Option ℕ) (stands : List Cell → ℕ → Type 0) (at : ℕ) : Type 0 where

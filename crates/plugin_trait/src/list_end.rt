@@ -20,6 +20,8 @@ pub enum ListEnd {
 pub struct Applied {
     /// So many cells at the front of the piece belong to the plugin's own list.
     pub count: usize,
+    /// The number of cells, from the list's beginning, at which the plugin first agreed, if it did in this piece.
+    pub agreed: Option<u64>,
     /// How the plugin left the piece.
     pub end: ListEnd,
 }

@@ -51,14 +51,18 @@ pub trait Plugin {
     /// Whether the plugin uses joint termination and agrees to end behind the cells that it met.
     fn agreed(&self) -> bool
         requires { MeetsSome (stands_for self.now) }
-        ensures { (history : List Cell) (mark : ℕ) → stands_for self.now history mark → result ≡ (rule self.now).agrees history };
+        ensures { (history : List Cell) (mark : ℕ) → stands_for self.now history mark
+            → result ≡ (rule self.now).agrees history };
 
     /// Gives the lines on the first `cut` cells that were met, and the summary over them, whose lines
     /// stand at `cut`. It is called once, with a cut that is not below the greatest mark.
     fn finish(&mut self, cut: u64) -> Result<Vec<Line>, AllocError>
         requires { AllowsMark (stands_for self.old) cut }
-        ensures { (history : List Cell) (mark : ℕ) → stands_for self.old history mark → mark ≤ cut → cut ≤ length history → IfOk result (λ lines. lines.items ≡ placed_of (rule self.old) (take cut history)) };
+        ensures { (history : List Cell) (mark : ℕ) → stands_for self.old history mark → mark ≤ cut
+            → cut ≤ length history
+            → IfOk result (λ lines. lines.items ≡ placed_of (rule self.old) (take cut history)) };
 
     /// No plugin agrees before it met a cell.
-    ghost starts_open: { (plugin : Self) (history : List Cell) (mark : ℕ) → stands_for plugin history mark → (rule plugin).agrees [] ≡ false };
+    ghost starts_open: { (plugin : Self) (history : List Cell) (mark : ℕ) → stands_for plugin history mark
+        → (rule plugin).agrees [] ≡ false };
 }

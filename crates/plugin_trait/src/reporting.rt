@@ -13,8 +13,10 @@ use std::alloc::{AllocError, Global};
 /// It is called once, with a cut that is not below the greatest mark.
 pub fn report<P: Plugin>(plugin: &mut P, cut: u64) -> Result<Vec<Line>, AllocError>
     requires { AllowsMark (P.stands_for plugin.old) cut }
-    ensures { (history : List Cell) (mark : ℕ) → P.stands_for plugin.old history mark → mark ≤ cut → cut ≤ length history
-        → IfOk result (λ lines. map (λ line. line.text) lines.items ≡ said_of (P.rule plugin.old) (take cut history)) }
+    ensures { (history : List Cell) (mark : ℕ) → P.stands_for plugin.old history mark → mark ≤ cut
+        → cut ≤ length history
+        → IfOk result (λ lines. map (λ line. line.text) lines.items
+        ≡ said_of (P.rule plugin.old) (take cut history)) }
 {
     plugin.finish(cut)
 }

@@ -5,9 +5,8 @@ pub mod InputLemmas
 pub mod PacketLemmas
 pub mod ContinuesLemmas
 pub mod KeepingLemmas
-pub mod FarLemmas
-pub mod AgreeingLemmas
 pub mod InputWorking
+pub mod WorkLemmas
 pub mod PartLemmas
 pub mod PluginWorking
 pub mod OutputWorking

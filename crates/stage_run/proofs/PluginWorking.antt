@@ -9,7 +9,7 @@ use Rattle.chain_model.specs.Apply.{StageList, OwnEnd, last_passed, stopped, ref
 use Rattle.chain_model.specs.Joint.{agreement_of}
 use Rattle.chain_model.proofs.ApplyLaws.{apply-ended, apply-last}
 use Rattle.chain_model.proofs.PrefixLemmas.{IsPrefix-apply}
-use Rattle.plugin_trait.specs.Driving.{Makes}
+use Rattle.plugin_trait.specs.Driving.{Makes, end_of_window, made_so_far, TellsAgreement, newly_agreed}
 use Rattle.plugin_trait.specs.Steps.{IsSteadyFor}
 use Rattle.plugin_trait.specs.declared.list_end.ListEnd.{ListEnd}
 use Rattle.plugin_trait.specs.declared.list_end.ListEnd.TheVariants.{Through}
@@ -24,11 +24,11 @@ use Rattle.stage_run.specs.declared.work.Work.{Work}
 use Rattle.stage_run.specs.declared.plugin_stage.PluginStage.{PluginStage}
 use Rattle.stage_run.specs.PartLists.{PartLists}
 use Rattle.stage_run.specs.PartStands.{MayWork}
-use Rattle.stage_run.specs.PluginSteps.{told_by, end_of_window, made_so_far, TellsAgreement}
+use Rattle.stage_run.specs.PluginSteps.{told_by}
 use Rattle.stage_run.specs.PluginStands.{PluginStands, end_behind_met}
-use Rattle.stage_run.specs.Telling.{may_follow, followed, FollowsNews, newly_agreed, told_of}
+use Rattle.stage_run.specs.Telling.{may_follow, followed, FollowsNews, told_of}
 use Rattle.stage_run.specs.Works.{Works, PluginWorks, PluginTells}
-use Rattle.stage_run.proofs.FarLemmas.{apply_after-append, apply_after-same_length}
+use Rattle.plugin_trait.proofs.FarLemmas.{apply_after-append, apply_after-same_length}
 
 -- an agreement that is told is the one that holds, and is above what was given before
 pub newly_agreed-Some : (before : ℕ) (a : Option ℕ) (n : ℕ) → newly_agreed before a ≡ Some n → (before < n) × (a ≡ Some n)

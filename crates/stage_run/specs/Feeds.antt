@@ -26,11 +26,13 @@ StandsAtSource first now read hand count (Some (End left)) =
     (first ≡ unread read now) × IsUnfinished hand × (length hand ≡ left) × IfSome now.left (λ more. more ≡ [])
 StandsAtSource first now read hand count (Some (Sync packet)) =
     (first ≡ unread read now) × IsOutOfSync hand × (packet ≡ count)
-StandsAtSource first now read hand count (Some ReadFault) = (read_failed first ≡ unread read now) × IsUnfinished hand
+StandsAtSource first now read hand count (Some ReadFault) =
+    (read_failed first ≡ unread read now) × IsUnfinished hand
 StandsAtSource first now read hand count (Some TooLong) = ⊥
 
 -- the stream read `read` and put the packets `rows`, and that is how they ended
-pub record StreamStands {S : Type 0} (seen : S → SourceView) (stream : PacketStream S) (first : SourceView) (read : List ℕ) (rows : List (List ℕ)) (ended : Option InputEnd) : Type 0 where
+pub record StreamStands {S : Type 0} (seen : S → SourceView) (stream : PacketStream S) (first : SourceView)
+    (read : List ℕ) (rows : List (List ℕ)) (ended : Option InputEnd) : Type 0 where
   pub packets : All IsPacket rows
   pub count : length rows ≡ stream.packets
   pub room : stream.from + stream.have ≤ vec_len stream.room.bytes
@@ -50,7 +52,8 @@ pub record MovesHand {S : Type 0} (old new : PacketStream S) : Type 0 where
   pub size : vec_len new.room.bytes ≡ vec_len old.room.bytes
 
 -- so many bytes more are in hand, and they were read from the source; none were the end
-pub record ReadsMore {S : Type 0} (seen : S → SourceView) (old new : PacketStream S) (count : ℕ) : Type 0 where
+pub record ReadsMore {S : Type 0} (seen : S → SourceView) (old new : PacketStream S)
+    (count : ℕ) : Type 0 where
   pub bytes : List ℕ
   pub length_is : length bytes ≡ count
   pub hand : hand_of new ≡ hand_of old ++ bytes
@@ -65,13 +68,16 @@ pub record FailsToRead {S : Type 0} (seen : S → SourceView) (old new : PacketS
   pub source : seen new.source ≡ read_failed (seen old.source)
 
 -- some bytes were read so that a packet is ready or the end is known; no more than `wanted` packets want
-pub record StreamLooks {S : Type 0} (seen : S → SourceView) (new : PacketStream S) (wanted : ℕ) (first : SourceView) (read : List ℕ) (rows : List (List ℕ)) (ended : Option InputEnd) : Type 0 where
+pub record StreamLooks {S : Type 0} (seen : S → SourceView) (new : PacketStream S) (wanted : ℕ)
+    (first : SourceView) (read : List ℕ) (rows : List (List ℕ)) (ended : Option InputEnd) : Type 0 where
   pub bytes : List ℕ
   pub stands : StreamStands seen new first (read ++ bytes) rows ended
-  pub reads : (most : ℕ) → length read ≤ 188 * most → length rows + wanted ≤ most → length (read ++ bytes) ≤ 188 * most
+  pub reads : (most : ℕ) → length read ≤ 188 * most → length rows + wanted ≤ most
+      → length (read ++ bytes) ≤ 188 * most
 
 -- the next packet was put into a cell
-pub record StreamPuts {S : Type 0} (seen : S → SourceView) (new : PacketStream S) (first : SourceView) (read : List ℕ) (rows : List (List ℕ)) (cell : Cell) : Type 0 where
+pub record StreamPuts {S : Type 0} (seen : S → SourceView) (new : PacketStream S) (first : SourceView)
+    (read : List ℕ) (rows : List (List ℕ)) (cell : Cell) : Type 0 where
   pub row : List ℕ
   pub is_put : cell ≡ Live row
   pub stands : StreamStands seen new first read (rows ++ row ∷ []) None
@@ -117,20 +123,24 @@ IsFeedOf (part.Nulls count) (Nulls feed) = (feed.all ≡ count) × (feed.packets
 IsFeedOf _ _ = ⊥
 
 -- the packets of an input: it read `read` and put the packets `rows`, and that is how they ended
-abbrev pub FeedStands : {S : Type 0} → (S → SourceView) → PacketFeed S → SourceView → List ℕ → List (List ℕ) → Option InputEnd → Type 0
+abbrev pub FeedStands : {S : Type 0} → (S → SourceView) → PacketFeed S → SourceView → List ℕ → List (List ℕ)
+    → Option InputEnd → Type 0
 FeedStands seen (Stream stream) first read rows ended = StreamStands seen stream first read rows ended
 FeedStands seen (Nulls feed) first read rows ended =
     (read ≡ []) × (rows ≡ replicate feed.packets null_packet) × NullsEnd feed.all feed.packets ended
 
 -- a packet is ready or the end is known
-pub record FeedLooks {S : Type 0} (seen : S → SourceView) (old new : PacketFeed S) (wanted : ℕ) (first : SourceView) (read : List ℕ) (rows : List (List ℕ)) (ended : Option InputEnd) : Type 0 where
+pub record FeedLooks {S : Type 0} (seen : S → SourceView) (old new : PacketFeed S) (wanted : ℕ)
+    (first : SourceView) (read : List ℕ) (rows : List (List ℕ)) (ended : Option InputEnd) : Type 0 where
   pub same : SameFeed old new
   pub bytes : List ℕ
   pub stands : FeedStands seen new first (read ++ bytes) rows ended
-  pub reads : (most : ℕ) → length read ≤ 188 * most → length rows + wanted ≤ most → length (read ++ bytes) ≤ 188 * most
+  pub reads : (most : ℕ) → length read ≤ 188 * most → length rows + wanted ≤ most
+      → length (read ++ bytes) ≤ 188 * most
 
 -- the next packet was put into a cell
-pub record FeedPuts {S : Type 0} (seen : S → SourceView) (old new : PacketFeed S) (first : SourceView) (read : List ℕ) (rows : List (List ℕ)) (cell : Cell) : Type 0 where
+pub record FeedPuts {S : Type 0} (seen : S → SourceView) (old new : PacketFeed S) (first : SourceView)
+    (read : List ℕ) (rows : List (List ℕ)) (cell : Cell) : Type 0 where
   pub same : SameFeed old new
   pub row : List ℕ
   pub is_put : cell ≡ Live row

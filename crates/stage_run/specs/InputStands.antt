@@ -25,7 +25,8 @@ stuffing_of stuffing =
 -- the stuffed list of these packets, with the nulls behind the end once it is known
 abbrev pub stuffed_so_far : model.Stuffing → List (List ℕ) → Option InputEnd → List Cell
 stuffed_so_far stuffing rows None = null_cells stuffing.start ++ stuffed_after stuffing 0 rows
-stuffed_so_far stuffing rows (Some how) = null_cells stuffing.start ++ (stuffed_after stuffing 0 rows ++ stop_nulls stuffing how)
+stuffed_so_far stuffing rows (Some how) =
+    null_cells stuffing.start ++ (stuffed_after stuffing 0 rows ++ stop_nulls stuffing how)
 
 -- the input can go on: its end is not known, or it is a plain one
 abbrev pub IsOpen : Option InputEnd → Type 0
@@ -47,17 +48,20 @@ FitsTold ended nulls lists (Some (Input how)) = (ended ≡ Some how) × (nulls �
 FitsTold ended nulls lists (Some _) = ⊥
 
 -- the input read and gave these lists
-pub record InputHolds {S : Type 0} (seen : S → SourceView) (stage : InputStage S) (lists : PartLists) : Type 0 where
+pub record InputHolds {S : Type 0} (seen : S → SourceView) (stage : InputStage S)
+    (lists : PartLists) : Type 0 where
   pub rows : List (List ℕ)
   pub feed : FeedStands seen stage.feed lists.source lists.read rows stage.ended
   -- what was given, with the null packets that are due, is the stuffed list of the packets that were put
-  pub cells : lists.given ++ null_cells stage.nulls ≡ stuffed_so_far (stuffing_of stage.stuffing) rows stage.ended
+  pub cells : lists.given ++ null_cells stage.nulls
+      ≡ stuffed_so_far (stuffing_of stage.stuffing) rows stage.ended
   -- each packet that was put was given
   pub put : length rows ≤ length lists.given
   pub every : 1 ≤ stage.stuffing.every
 
 -- the input read and gave these lists, and told this end
-pub record InputStands {S : Type 0} (seen : S → SourceView) (stage : InputStage S) (lists : PartLists) (told : Option StageEnd) : Type 0 where
+pub record InputStands {S : Type 0} (seen : S → SourceView) (stage : InputStage S) (lists : PartLists)
+    (told : Option StageEnd) : Type 0 where
   pub holds : InputHolds seen stage lists
   pub fits : FitsTold stage.ended stage.nulls lists told
   -- positions are below the limit
@@ -69,10 +73,13 @@ MayFollowEnd (Some (End left)) more = more ≡ []
 MayFollowEnd _ more = Unit {0}
 
 -- the stuffed list of a feed's packets may be this one, as far as its source tells and as far as it was read
-abbrev pub FeedGives : {S : Type 0} → (S → SourceView) → PacketFeed S → model.Stuffing → List ℕ → Option InputEnd → StageList → Type 0
+abbrev pub FeedGives : {S : Type 0} → (S → SourceView) → PacketFeed S → model.Stuffing → List ℕ
+    → Option InputEnd → StageList → Type 0
 FeedGives seen (feed.Stream stream) stuffing read ended input =
-    (more : List ℕ) × (input ≡ stuffed stuffing (input_of_bytes (read ++ more))) × IfSome (seen stream.source).left (λ left. left ≡ more) × MayFollowEnd ended more
-FeedGives seen (feed.Nulls nulls) stuffing read ended input = input ≡ stuffed stuffing (input_of_nulls nulls.all)
+    (more : List ℕ) × (input ≡ stuffed stuffing (input_of_bytes (read ++ more)))
+    × IfSome (seen stream.source).left (λ left. left ≡ more) × MayFollowEnd ended more
+FeedGives seen (feed.Nulls nulls) stuffing read ended input =
+    input ≡ stuffed stuffing (input_of_nulls nulls.all)
 
 -- the list of the input may be this one
 abbrev pub MayGive : {S : Type 0} → (S → SourceView) → InputStage S → PartLists → StageList → Type 0

@@ -38,12 +38,15 @@ pub record InputFits {S : Type 0} (stage : InputStage S) : Type 0 where
   pub every : 1 ≤ stage.stuffing.every
 
 -- the input gave these cells more, and read no more than `wanted` cells want
-pub record InputGoes {S : Type 0} (seen : S → SourceView) (old new : InputStage S) (lists : PartLists) (wanted : ℕ) (cells : List Cell) : Type 0 where
+pub record InputGoes {S : Type 0} (seen : S → SourceView) (old new : InputStage S) (lists : PartLists)
+    (wanted : ℕ) (cells : List Cell) : Type 0 where
   pub same : SameFeed old.feed new.feed
   pub bytes : List ℕ
   pub holds : InputHolds seen new (with_more lists bytes cells)
-  pub gives : (input : StageList) → MayGive seen new (with_more lists bytes cells) input → MayGive seen old lists input
-  pub reads : (most : ℕ) → length lists.read ≤ 188 * most → length lists.given + wanted ≤ most → length (lists.read ++ bytes) ≤ 188 * most
+  pub gives : (input : StageList) → MayGive seen new (with_more lists bytes cells) input
+      → MayGive seen old lists input
+  pub reads : (most : ℕ) → length lists.read ≤ 188 * most → length lists.given + wanted ≤ most
+      → length (lists.read ++ bytes) ≤ 188 * most
 
 -- the list is over, and this is how
 pub record IsOver {S : Type 0} (stage : InputStage S) (how : InputEnd) : Type 0 where
@@ -62,5 +65,6 @@ IsFilled new len done (Some how) = IsOver new how
 
 -- a cell more would come, or the list is over
 abbrev pub EndsAtLimit : {S : Type 0} → InputStage S → InputEnd → Type 0
-EndsAtLimit new TooLong = (0 < new.nulls) ⊎ (((new.ended ≡ None) × IsReady new.feed) ⊎ (new.ended ≡ Some TooLong))
+EndsAtLimit new TooLong =
+    (0 < new.nulls) ⊎ (((new.ended ≡ None) × IsReady new.feed) ⊎ (new.ended ≡ Some TooLong))
 EndsAtLimit new how = IsOver new how

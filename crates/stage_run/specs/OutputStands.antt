@@ -17,10 +17,14 @@ IsPartOfFirst [] part = ⊥
 IsPartOfFirst (Dropped ∷ cells) part = ⊥
 IsPartOfFirst (Live packet ∷ cells) part = (rest : List ℕ) × (0 < length rest) × (packet ≡ part ++ rest)
 
+-- a sink that took what these cells write and a part of the packet behind them, of which a write failed
+abbrev pub failed_behind : SinkView → List Cell → List ℕ → SinkView
+failed_behind first given part = write_failed (took first (written given ++ part))
+
 -- the sink took the bytes of the live cells that were given; after a write fault alone, and that is the last call,
 -- a part of the packet in hand too
 abbrev pub SinkTook : SinkView → SinkView → List Cell → List ℕ → Option StageEnd → Type 0
-SinkTook first now given cut (Some WriteFault) = now ≡ write_failed (took first (written given ++ cut))
+SinkTook first now given cut (Some WriteFault) = now ≡ failed_behind first given cut
 SinkTook first now given cut _ = (now ≡ took first (written given)) × (cut ≡ [])
 
 -- both are sinks, or both let everything go
@@ -35,7 +39,8 @@ PartTook seen (Stream sink) lists told = SinkTook lists.sink (seen sink) lists.g
 PartTook seen Discard lists told = told ≢ Some WriteFault
 
 -- the output met and gave these lists, and told this end
-pub record OutputStands {K : Type 0} (seen : K → SinkView) (stage : OutputStage K) (lists : PartLists) (told : Option StageEnd) : Type 0 where
+pub record OutputStands {K : Type 0} (seen : K → SinkView) (stage : OutputStage K) (lists : PartLists)
+    (told : Option StageEnd) : Type 0 where
   -- it gives its cells unchanged
   pub same : lists.given ≡ lists.met
   pub took : PartTook seen stage.part lists told

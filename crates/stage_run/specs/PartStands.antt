@@ -73,7 +73,8 @@ has_stream (Plugin stage) = false
 has_stream (Output stage) = has_sink stage.part
 
 -- the part met, gave, read and wrote what these lists say, and told this end
-abbrev pub PartStands : {S K P : Type 0} → Seeing S K P → StagePart S K P → PartLists → Option StageEnd → Type 0
+abbrev pub PartStands : {S K P : Type 0} → Seeing S K P → StagePart S K P → PartLists → Option StageEnd
+    → Type 0
 PartStands see (Input stage) lists told = InputStands see.source stage lists told
 PartStands see (Plugin stage) lists told = PluginStands see.rule see.stands stage lists told
 PartStands see (Output stage) lists told = OutputStands see.sink stage lists told
@@ -91,7 +92,8 @@ MayWantMemory see (Plugin stage) ahead = IsSteadyFor (see.steady stage.plugin) a
 MayWantMemory see (Output stage) ahead = ⊥
 
 -- a part that stands for these lists, and has not ended, may work behind its first `at` cells with this mark
-pub record MayWork (stands : PartLists → Option StageEnd → Type 0) (at written : ℕ) (lists : PartLists) : Type 0 where
+pub record MayWork (stands : PartLists → Option StageEnd → Type 0) (at written : ℕ)
+    (lists : PartLists) : Type 0 where
   pub goes_on : stands lists None
   pub given : length lists.given ≡ at
   pub mark : lists.mark ≤ written

@@ -20,7 +20,8 @@ use Rattle.stage_run.specs.OutputStands.{SinkTook}
 -- the list of an input with its stuffing, as far as its source tells its bytes
 abbrev pub IsListOf : {S : Type 0} → (S → SourceView) → InputPart S → model.Stuffing → StageList → Type 0
 IsListOf seen (Stream source) stuffing input =
-    (bytes : List ℕ) × (input ≡ stuffed stuffing (input_of_bytes bytes)) × IfSome (seen source).left (λ left. left ≡ bytes)
+    (bytes : List ℕ) × (input ≡ stuffed stuffing (input_of_bytes bytes))
+    × IfSome (seen source).left (λ left. left ≡ bytes)
 IsListOf seen (Nulls count) stuffing input = input ≡ stuffed stuffing (input_of_nulls count)
 
 -- the source of an input, if it has one, as contracts see it
@@ -33,12 +34,20 @@ abbrev pub IsSinkOf : {K : Type 0} → (K → SinkView) → OutputPart K → Sin
 IsSinkOf seen (out.Stream sink) view = view ≡ seen sink
 IsSinkOf seen out.Discard view = Unit {0}
 
--- an input whose reading failed: the bytes that were read show no lost sync, and it gave the stuffed list of the whole
--- packets among them
-pub record FailedReading (stuffing : model.Stuffing) (first now : SourceView) (lists : PartLists) : Type 0 where
+-- the list of an input of which a read failed behind these bytes: the whole packets among them, with the stuffing
+abbrev pub list_at_fault : model.Stuffing → List ℕ → StageList
+list_at_fault stuffing read = stuffed stuffing (record { packets = packets_of read; ended = ReadFault })
+
+-- these bytes show no lost sync: an input that had no more of them would end plainly
+abbrev pub IsInSyncSoFar : List ℕ → Type 0
+IsInSyncSoFar read = (left : ℕ) × ((input_of_bytes read).ended ≡ End left)
+
+-- an input whose reading failed: it gave the list up to the fault
+pub record FailedReading (stuffing : model.Stuffing) (first now : SourceView)
+    (lists : PartLists) : Type 0 where
   pub source : read_failed first ≡ unread lists.read now
-  pub in_sync : (left : ℕ) × ((input_of_bytes lists.read).ended ≡ End left)
-  pub given : lists.given ≡ (stuffed stuffing (record { packets = packets_of lists.read; ended = ReadFault })).cells
+  pub in_sync : IsInSyncSoFar lists.read
+  pub given : lists.given ≡ (list_at_fault stuffing lists.read).cells
 
 -- the source that an input leaves: what was read was read from it, and only where a read fault was told a call failed
 abbrev pub LeavesSource : model.Stuffing → SourceView → SourceView → PartLists → Option StageEnd → Type 0
@@ -46,8 +55,10 @@ LeavesSource stuffing first now lists (Some (Input ReadFault)) = FailedReading s
 LeavesSource stuffing first now lists told = first ≡ unread lists.read now
 
 -- the input that a stage gives back
-abbrev pub LeavesInput : {S : Type 0} → (S → SourceView) → InputPart S → model.Stuffing → PartLists → Option StageEnd → Type 0
-LeavesInput seen (Stream source) stuffing lists told = LeavesSource stuffing lists.source (seen source) lists told
+abbrev pub LeavesInput : {S : Type 0} → (S → SourceView) → InputPart S → model.Stuffing → PartLists
+    → Option StageEnd → Type 0
+LeavesInput seen (Stream source) stuffing lists told =
+    LeavesSource stuffing lists.source (seen source) lists told
 LeavesInput seen (Nulls count) stuffing lists told = told ≢ Some (Input ReadFault)
 
 -- the output that a stage gives back: its sink took the live cells that were given, and a part of a packet where a

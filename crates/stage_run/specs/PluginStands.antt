@@ -15,7 +15,8 @@ end_behind_met (Some Last) = Some last_passed
 end_behind_met _ = None
 
 -- the plugin met and gave these lists, and told this end
-pub record PluginStands {P : Type 0} (rule : P → PluginRule) (stands : P → List Cell → ℕ → Type 0) (stage : PluginStage P) (lists : PartLists) (told : Option StageEnd) : Type 0 where
+pub record PluginStands {P : Type 0} (rule : P → PluginRule) (stands : P → List Cell → ℕ → Type 0)
+    (stage : PluginStage P) (lists : PartLists) (told : Option StageEnd) : Type 0 where
   pub plugin : stands stage.plugin lists.met lists.mark
   -- what was given is the plugin's image of what was met, cell by cell
   pub given : lists.given ≡ (apply (rule stage.plugin) lists.met).cells

@@ -25,11 +25,6 @@ FollowsNews news now None = may_follow news now ≡ false
 FollowsNews news now (Some Followed) = may_follow news now ≡ true
 FollowsNews news now (Some _) = Unit {0}
 
--- an agreement is told with the cell at which it first holds, and so not again: it is above what was given before
-abbrev pub newly_agreed : ℕ → Option ℕ → Option ℕ
-newly_agreed before None = None
-newly_agreed before (Some agreed) = if nat_lt before agreed then Some agreed else None
-
 -- how the end of a stage's own list is told
 abbrev pub end_told : OwnEnd → StageEnd
 end_told (input_over how) = Input how

@@ -1,5 +1,5 @@
 -- What a stage does with the cells in its hands. This project's own rule.
-use Rattle.std.specs.Prelude.{◌≡◌, ◌⊎◌, ℕ, suc, ◌+◌, ◌*◌, ◌^◌, ◌<◌, ◌≤◌, ◌==◌, List, [], ◌++◌, length, take, drop, Option, None, Some, true, if◌then◌else◌}
+use Rattle.std.specs.Prelude.{◌≡◌, ◌⊎◌, ℕ, suc, ◌+◌, ◌-◌, ◌*◌, ◌^◌, ◌<◌, ◌≤◌, ◌==◌, List, [], ◌++◌, length, take, drop, Option, None, Some, true, if◌then◌else◌}
 use Rattle.ts_packet.specs.declared.cell.Cell.{Cell}
 use Rattle.ts_outside.specs.Count.{raised}
 use Rattle.ts_outside.specs.Source.{SourceView}
@@ -21,15 +21,20 @@ use Rattle.stage_run.specs.declared.output_part.OutputPart.TheVariants as out
 use Rattle.stage_run.specs.declared.packet_feed.PacketFeed.{PacketFeed}
 use Rattle.stage_run.specs.declared.packet_feed.PacketFeed.TheVariants as feed
 use Rattle.stage_run.specs.declared.input_stage.InputStage.{InputStage}
+use Rattle.stage_run.specs.declared.plugin_stage.PluginStage.{PluginStage}
 use Rattle.stage_run.specs.declared.output_stage.OutputStage.{OutputStage}
 use Rattle.stage_run.specs.declared.stage_part.StagePart.{StagePart}
 use Rattle.stage_run.specs.declared.stage_part.StagePart.TheVariants as part
+use Rattle.plugin_trait.specs.Steps.{IsSteadyFor}
+use Rattle.plugin_trait.specs.Driving.{newly_agreed}
 use Rattle.stage_run.specs.Seeing.{Seeing}
 use Rattle.stage_run.specs.PartLists.{PartLists}
 use Rattle.stage_run.specs.Feeds.{SameFeed}
-use Rattle.stage_run.specs.InputStands.{MayGive}
-use Rattle.stage_run.specs.OutputStands.{IsPartOfFirst, SamePart}
-use Rattle.stage_run.specs.Telling.{may_follow, newly_agreed, told_of, below_limit}
+use Rattle.stage_run.specs.InputStands.{InputStands, MayGive}
+use Rattle.stage_run.specs.PluginStands.{PluginStands}
+use Rattle.stage_run.specs.OutputStands.{OutputStands, IsPartOfFirst, SamePart}
+use Rattle.stage_run.specs.PartStands.{PartStands, MayWork, MayWantMemory, rule_of, kind_of, steady_of, stuffing_in}
+use Rattle.stage_run.specs.Telling.{FollowsNews, may_follow, told_of, below_limit}
 
 -- the lists behind a visit: more was met and given; what was read and written and the mark are a part's own
 pub record Behind (old new : PartLists) (cells cells_given : List Cell) (written : ℕ) : Type 0 where
@@ -63,17 +68,21 @@ abbrev pub source_faults : {S : Type 0} → (S → SourceView) → PacketFeed S 
 source_faults seen (feed.Stream stream) = (seen stream.source).faults
 source_faults seen (feed.Nulls nulls) = 0
 
-pub record InputWorks {S : Type 0} (seen : S → SourceView) (old new : InputStage S) (before : PartLists) (news : News) (cells cells_new : List Cell) (work : Work) (after : PartLists) : Type 0 where
-  pub tells : InputTells news (length before.given) (length cells) work.done (after.read ≡ before.read) work.word.ended
+pub record InputWorks {S : Type 0} (seen : S → SourceView) (old new : InputStage S) (before : PartLists)
+    (news : News) (cells cells_new : List Cell) (work : Work) (after : PartLists) : Type 0 where
+  pub tells : InputTells news (length before.given) (length cells) work.done
+      (after.read ≡ before.read) work.word.ended
   pub agreed : work.word.agreed ≡ None
-  -- the input stays what it is
+  -- it stays an input from a source, or of so many null packets
   pub same : SameFeed old.feed new.feed
-  pub faults : FaultsTold (source_faults seen old.feed) (source_faults seen new.feed) work.word.ended (Input ReadFault)
+  pub faults : FaultsTold (source_faults seen old.feed) (source_faults seen new.feed) work.word.ended
+      (Input ReadFault)
   -- no more is read than the cells want
   pub reads : length after.read ≤ 188 * read_for (length before.given) (length cells)
   -- what may follow now might have followed before, and of each such list the visit is a stage's
   pub keeps : (input : StageList) → MayGive seen new after input → MayGive seen old before input
-      × ((rules : List PluginRule) (plugins : ℕ) → StageKeeps rules input plugins 0 [] before.given (take work.done cells_new) work.word)
+      × ((rules : List PluginRule) (plugins : ℕ)
+      → StageKeeps rules input plugins 0 [] before.given (take work.done cells_new) work.word)
 
 -- a plugin's stage gives the image of all its cells and tells how that ends, but for want of memory
 abbrev pub PluginTells : StageList → List Cell → News → Option StageEnd → Type 0
@@ -87,7 +96,8 @@ KeepsRule rule before cells given word plugins j =
     (rules : List PluginRule) (input : StageList) (rest : List Cell) → rule_behind rules j ≡ rule
     → StageKeeps rules input plugins (suc j) (before.met ++ (cells ++ rest)) before.given given word
 
-pub record PluginWorks (rule : PluginRule) (before : PartLists) (news : News) (cells cells_new : List Cell) (work : Work) (after : PartLists) : Type 0 where
+pub record PluginWorks (rule : PluginRule) (before : PartLists) (news : News) (cells cells_new : List Cell)
+    (work : Work) (after : PartLists) : Type 0 where
   pub tells : PluginTells (apply rule (before.met ++ cells)) after.given news work.word.ended
   pub agreed : work.word.agreed ≡ newly_agreed (length before.given) (agreement_of rule after.met)
   -- where there is a cell to work on the plugin was told what is written, but for want of memory
@@ -108,15 +118,17 @@ abbrev pub sink_faults : {K : Type 0} → (K → SinkView) → OutputPart K → 
 sink_faults seen (out.Stream sink) = (seen sink).faults
 sink_faults seen out.Discard = 0
 
-pub record OutputWorks {K : Type 0} (seen : K → SinkView) (old new : OutputStage K) (before : PartLists) (news : News) (cells cells_new : List Cell) (work : Work) (after : PartLists) : Type 0 where
+pub record OutputWorks {K : Type 0} (seen : K → SinkView) (old new : OutputStage K) (before : PartLists)
+    (news : News) (cells cells_new : List Cell) (work : Work) (after : PartLists) : Type 0 where
   pub unchanged : cells_new ≡ cells
   pub tells : OutputTells news (length before.given) cells work.done after.cut work.word.ended
   pub agreed : work.word.agreed ≡ None
-  -- the output stays what it is
+  -- it stays an output to a sink, or to nowhere
   pub same : SamePart old.part new.part
   pub faults : FaultsTold (sink_faults seen old.part) (sink_faults seen new.part) work.word.ended WriteFault
   pub below : (limit : ℕ) → news.limit ≡ Some limit → 0 < work.done → length before.given + work.done ≤ limit
-  pub keeps : (plugins : ℕ) → KeepsRule passing_rule before cells (take work.done cells_new) work.word plugins plugins
+  pub keeps : (plugins : ℕ)
+      → KeepsRule passing_rule before cells (take work.done cells_new) work.word plugins plugins
 
 -- what a part does, by its kind; no part changes its kind
 abbrev pub WorksByKind : {S K P : Type 0} → Seeing S K P → StagePart S K P → StagePart S K P
@@ -130,8 +142,58 @@ WorksByKind see (part.Output old) (part.Output new) before news cells cells_new 
 WorksByKind see _ _ before news cells cells_new work after = ⊥
 
 -- a stage that stood for the lists `before` stands for the lists `after` now, and did what is to be done
-pub record Works (Stands : PartLists → Option StageEnd → Type 0) (Does : PartLists → Type 0) (before : PartLists) (written : ℕ) (cells cells_new : List Cell) (work : Work) : Type 0 where
+pub record Works (Stands : PartLists → Option StageEnd → Type 0) (Does : PartLists → Type 0)
+    (before : PartLists) (written : ℕ) (cells cells_new : List Cell) (work : Work) : Type 0 where
   pub after : PartLists
   pub behind : Behind before after (take work.done cells) (take work.done cells_new) written
   pub stands : Stands after work.word.ended
   pub does : Does after
+
+-- the work of a stage, of whatever kind: `Old` and `New` are what it stood for and stands for, `Wants` says whether it may
+-- want memory that works so far ahead of the mark, and `Does` what its kind does
+pub record StageWork (Old New : PartLists → Option StageEnd → Type 0) (Wants : ℕ → Type 0)
+    (Does : PartLists → PartLists → Type 0) (at : ℕ) (news : News)
+    (cells cells_new : List Cell) (work : Work) : Type 0 where
+  -- so many cells are done, the others are as they were, and a stage that goes on has done all
+  pub done : work.done ≤ length cells
+  pub rest : drop work.done cells_new ≡ drop work.done cells
+  pub goes_on : work.word.ended ≡ None → work.done ≡ length cells
+  pub follows : FollowsNews news (at + work.done) work.word.ended
+  -- an agreement is with one of the cells that were done
+  pub agreed : (agreed : ℕ) → work.word.agreed ≡ Some agreed → (at < agreed) × (agreed ≤ at + work.done)
+  pub memory : work.word.ended ≡ Some NoMemory → Wants (news.taken - news.written)
+  -- whatever lists it stood for, it stands for longer ones, and did what is to be done
+  pub works : (before : PartLists) → MayWork Old at news.written before
+      → Works New (Does before) before news.written cells cells_new work
+
+-- the work of an input: it wants no memory
+abbrev pub InputWork : {S : Type 0} → (S → SourceView) → InputStage S → InputStage S
+    → ℕ → News → List Cell → List Cell → Work → Type 0
+InputWork seen old new at news cells cells_new work =
+    StageWork (InputStands seen old) (InputStands seen new) (λ _. ⊥)
+    (λ before. InputWorks seen old new before news cells cells_new work) at news cells cells_new work
+
+-- the work of a plugin's stage: it wants no memory where room was made for all that it is given to work on
+abbrev pub PluginWork : {P : Type 0} → (P → PluginRule) → (P → List Cell → ℕ → Type 0) → (P → Option ℕ)
+    → PluginStage P → PluginStage P → ℕ → News → List Cell → List Cell → Work → Type 0
+PluginWork rule stands steady old new at news cells cells_new work =
+    StageWork (PluginStands rule stands old) (PluginStands rule stands new)
+    (λ ahead. IsSteadyFor (steady old.plugin) ahead → ⊥)
+    (λ before. PluginWorks (rule old.plugin) before news cells cells_new work) at news cells cells_new work
+
+-- the work of an output: it wants no memory
+abbrev pub OutputWork : {K : Type 0} → (K → SinkView) → OutputStage K → OutputStage K
+    → ℕ → News → List Cell → List Cell → Work → Type 0
+OutputWork seen old new at news cells cells_new work =
+    StageWork (OutputStands seen old) (OutputStands seen new) (λ _. ⊥)
+    (λ before. OutputWorks seen old new before news cells cells_new work) at news cells cells_new work
+
+-- a part worked on cells that stand behind its first `at`; it stays what it is
+pub record PartWork {S K P : Type 0} (see : Seeing S K P) (old new : StagePart S K P)
+    (at : ℕ) (news : News) (cells cells_new : List Cell) (work : Work) : Type 0 where
+  pub same_kind : kind_of new ≡ kind_of old
+  pub same_rule : rule_of see new ≡ rule_of see old
+  pub same_steady : steady_of see new ≡ steady_of see old
+  pub same_stuffing : stuffing_in new ≡ stuffing_in old
+  pub stage : StageWork (PartStands see old) (PartStands see new) (MayWantMemory see old)
+      (λ before. WorksByKind see old new before news cells cells_new work) at news cells cells_new work

@@ -1,11 +1,11 @@
 -- How a list of cells is written, and where a failing write cuts it. This project's own rule.
 use Rattle.std.specs.Prelude.{◌≡◌, ◌⊎◌, ◌<◌, ℕ, List, ◌++◌, length, take, drop}
 use Rattle.ts_packet.specs.declared.cell.Cell.{Cell}
-use Rattle.ts_outside.specs.Sink.{SinkView, took, write_failed}
+use Rattle.ts_outside.specs.Sink.{SinkView, took}
 use Rattle.chain_model.specs.Written.{written}
 use Rattle.stage_run.specs.declared.output_part.OutputPart.{OutputPart}
 use Rattle.stage_run.specs.declared.output_part.OutputPart.TheVariants.{Stream, Discard}
-use Rattle.stage_run.specs.OutputStands.{IsPartOfFirst}
+use Rattle.stage_run.specs.OutputStands.{IsPartOfFirst, failed_behind}
 
 -- the first bytes that cells write, so many of them, are those of all cells before a place and a part of the packet there
 pub record StandsAt (cells : List Cell) (bytes place : ℕ) : Type 0 where
@@ -16,13 +16,14 @@ pub record StandsAt (cells : List Cell) (bytes place : ℕ) : Type 0 where
 -- the sink took what the cells before a place write, and a call failed in the packet there
 pub record CutsAt (old new : SinkView) (cells : List Cell) (place : ℕ) : Type 0 where
   pub part : List ℕ
-  pub taken : new ≡ write_failed (took old (written (take place cells) ++ part))
+  pub taken : new ≡ failed_behind old (take place cells) part
   pub cut : IsPartOfFirst (drop place cells) part
 
 -- the sink took what all cells write, or a write failed in the packet of the cell at the place
 abbrev pub WritesCells : SinkView → SinkView → List Cell → ℕ → Type 0
 WritesCells old new cells place =
-    ((place ≡ length cells) × (new ≡ took old (written cells))) ⊎ ((place < length cells) × CutsAt old new cells place)
+    ((place ≡ length cells) × (new ≡ took old (written cells)))
+    ⊎ ((place < length cells) × CutsAt old new cells place)
 
 -- an output wrote cells; what goes nowhere is always written
 abbrev pub PartWrites : {K : Type 0} → (K → SinkView) → OutputPart K → OutputPart K → List Cell → ℕ → Type 0

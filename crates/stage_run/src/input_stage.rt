@@ -65,8 +65,7 @@ impl<S: Source> InputStage<S> {
     ghost use Rattle.stage_run.specs.InputSteps.{InputFits, InputGoes, IsOver, cell_put, IsFilled, EndsAtLimit};
     ghost use Rattle.stage_run.specs.Parts.{IsListOf, IsSourceOf, LeavesInput, SomeList};
     ghost use Rattle.stage_run.specs.PartStands.{MayWork, MayWorkOnSome, has_source, feeds_stream};
-    ghost use Rattle.stage_run.specs.Telling.{FollowsNews};
-    ghost use Rattle.stage_run.specs.Works.{Works, InputWorks};
+    ghost use Rattle.stage_run.specs.Works.{InputWork};
 
     /// An input that has neither read nor given anything.
     pub(crate) fn of(part: InputPart<S>, stuffing: Stuffing, room: IoBuffer) -> Self
@@ -76,7 +75,8 @@ impl<S: Source> InputStage<S> {
         ensures stands { (source : SourceView) (sink : SinkView) (mark : ℕ) → IsSourceOf S.seen part source
             → InputStands S.seen result (fresh_lists source sink mark) None }
         ensures gives { (source : SourceView) (sink : SinkView) (mark : ℕ) (input : StageList)
-            → MayGive S.seen result (fresh_lists source sink mark) input ↔ IsListOf S.seen part (stuffing_of stuffing) input }
+            → MayGive S.seen result (fresh_lists source sink mark) input ↔ IsListOf S.seen part
+            (stuffing_of stuffing) input }
     {
         let feed = PacketFeed::of(part, room);
         InputStage {
@@ -104,35 +104,24 @@ impl<S: Source> InputStage<S> {
         feed.into_part()
     }
 
-    /// Sees to it that the next cell can be put, where no null packet is due: a packet is ready, or the end is known.
+    /// Sees to it that the next cell can be put: a null packet is due, a packet is ready, or the end is known.
     fn ensure_packet(&mut self, wanted: usize)
         requires some { 1 ≤ wanted }
         requires fits { InputFits self.old }
         ensures fits { InputFits self.new }
-        ensures goes { (lists : PartLists) → InputHolds S.seen self.old lists → InputGoes S.seen self.old self.new lists wanted [] }
+        ensures goes { (lists : PartLists) → InputHolds S.seen self.old lists
+            → InputGoes S.seen self.old self.new lists wanted [] }
         ensures ready { self.new.nulls ≡ 0 → self.new.ended ≡ None → IsReady self.new.feed }
         ensures packets { packets_put self.new.feed ≡ packets_put self.old.feed }
         ensures stays_open { 0 < self.new.nulls → IsOpen self.old.ended → IsOpen self.new.ended }
         ensures same_stuffing { self.new.stuffing ≡ self.old.stuffing }
     {
-        if self.nulls == 0 && self.ended.is_none() {
-            self.ensure_packet_further(wanted);
+        if self.nulls > 0 {
+            return;
         }
-    }
-
-    /// Sees to it that a packet is ready, or notes how the packets ended.
-    fn ensure_packet_further(&mut self, wanted: usize)
-        requires some { 1 ≤ wanted }
-        requires fits { InputFits self.old }
-        requires no_nulls { self.old.nulls ≡ 0 }
-        requires goes_on { self.old.ended ≡ None }
-        ensures fits { InputFits self.new }
-        ensures goes { (lists : PartLists) → InputHolds S.seen self.old lists → InputGoes S.seen self.old self.new lists wanted [] }
-        ensures ready { self.new.ended ≡ None → IsReady self.new.feed }
-        ensures packets { packets_put self.new.feed ≡ packets_put self.old.feed }
-        ensures stays_open { 0 < self.new.nulls → IsOpen self.new.ended }
-        ensures same_stuffing { self.new.stuffing ≡ self.old.stuffing }
-    {
+        if self.ended.is_some() {
+            return;
+        }
         self.ended = self.feed.ensure_packet(wanted);
         self.nulls = stop_count(self.ended, self.stuffing.stop);
     }
@@ -143,7 +132,8 @@ impl<S: Source> InputStage<S> {
         requires fits { InputFits self.old }
         requires in_range { packets_put self.old.feed < 2 ^ 62 }
         ensures fits { InputFits self.new }
-        ensures goes { (lists : PartLists) → InputHolds S.seen self.old lists → InputGoes S.seen self.old self.new lists wanted (cell_put result cell.new) }
+        ensures goes { (lists : PartLists) → InputHolds S.seen self.old lists
+            → InputGoes S.seen self.old self.new lists wanted (cell_put result cell.new) }
         ensures over { IfSome result (λ how. IsOver self.new how) }
         ensures kept { IsSome result → cell.new ≡ cell.old }
         ensures packets { packets_put self.new.feed ≤ packets_put self.old.feed + 1 }
@@ -193,7 +183,8 @@ impl<S: Source> InputStage<S> {
     /// How the list ends at the last position: any cell more would stand at the limit.
     fn end_at_limit(&mut self) -> InputEnd
         requires { InputFits self.old }
-        ensures goes { (lists : PartLists) → InputHolds S.seen self.old lists → InputGoes S.seen self.old self.new lists 1 [] }
+        ensures goes { (lists : PartLists) → InputHolds S.seen self.old lists
+            → InputGoes S.seen self.old self.new lists 1 [] }
         ensures ends { EndsAtLimit self.new result }
         ensures stays_open { 0 < self.new.nulls → IsOpen self.old.ended → IsOpen self.new.ended }
         ensures same_stuffing { self.new.stuffing ≡ self.old.stuffing }
@@ -209,16 +200,8 @@ impl<S: Source> InputStage<S> {
     pub(crate) fn work(&mut self, at: u64, cells: &mut [Cell], news: &News) -> Work
         requires stands { MayWorkOnSome (InputStands S.seen self.old) at news.now.written }
         requires in_range { at + length cells.old ≤ 2 ^ 60 }
-        ensures done { result.done ≤ length cells.old }
-        ensures rest { drop result.done cells.new ≡ drop result.done cells.old }
-        ensures goes_on { result.word.ended ≡ None → result.done ≡ length cells.old }
-        ensures follows { FollowsNews news.now (at + result.done) result.word.ended }
-        ensures agreed { result.word.agreed ≡ None }
-        ensures memory { result.word.ended ≢ Some StageEnd.NoMemory }
         ensures same_stuffing { self.new.stuffing ≡ self.old.stuffing }
-        ensures works { (lists : PartLists) → MayWork (InputStands S.seen self.old) at news.now.written lists
-            → Works (InputStands S.seen self.new) (InputWorks S.seen self.old self.new lists news.now cells.old cells.new result)
-            lists news.now.written cells.old cells.new result }
+        ensures work { InputWork S.seen self.old self.new at news.now cells.old cells.new result }
     {
         if may_follow(news, at) {
             return Work::ending(0, Some(StageEnd::Followed));

@@ -4,7 +4,7 @@ use std::alloc::{AllocError, Global};
 
 const PACKET_SIZE: usize = ts_packet::PACKET_SIZE;
 
-/// IoBuffer for the bytes of packets, taken before the run: an input reads into it, and an output gathers there what it
+/// Room for the bytes of packets, taken before the run: an input reads into it, and an output gathers there what it
 /// writes. One call of the outside moves as much as fits, at most.
 #[derive(Drop)]
 pub struct IoBuffer {
@@ -16,7 +16,7 @@ impl IoBuffer {
     ghost use Rattle.std.specs.Prelude.{◌≡◌, ◌≤◌, ◌*◌, IfOk};
     ghost use Rattle.stage_run.specs.RoomSize.{bytes_of_room};
 
-    /// IoBuffer for so many packets. After an `AllocError` there is none.
+    /// Room for so many packets. After an `AllocError` there is none.
     pub fn new(alloc: Global, packets: usize) -> Result<IoBuffer, AllocError>
         requires some { 1 ≤ packets }
         requires few { packets ≤ 1000000 }

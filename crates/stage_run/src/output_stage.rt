@@ -21,8 +21,7 @@ impl<K: Sink> OutputStage<K> {
     ghost use Rattle.stage_run.specs.Writing.{WritesCells, PartWrites};
     ghost use Rattle.stage_run.specs.Parts.{IsSinkOf, LeavesOutput};
     ghost use Rattle.stage_run.specs.PartStands.{MayWork, MayWorkOnSome, has_sink};
-    ghost use Rattle.stage_run.specs.Telling.{FollowsNews};
-    ghost use Rattle.stage_run.specs.Works.{Works, OutputWorks};
+    ghost use Rattle.stage_run.specs.Works.{OutputWork};
 
     /// An output that has written nothing.
     pub(crate) fn of(part: OutputPart<K>, room: IoBuffer) -> Self
@@ -58,15 +57,7 @@ impl<K: Sink> OutputStage<K> {
     pub(crate) fn work(&mut self, at: u64, cells: &mut [Cell], news: &News) -> Work
         requires stands { MayWorkOnSome (OutputStands K.seen self.old) at news.now.written }
         requires in_range { at + length cells.old ≤ 2 ^ 60 }
-        ensures done { result.done ≤ length cells.old }
-        ensures rest { drop result.done cells.new ≡ drop result.done cells.old }
-        ensures goes_on { result.word.ended ≡ None → result.done ≡ length cells.old }
-        ensures follows { FollowsNews news.now (at + result.done) result.word.ended }
-        ensures agreed { result.word.agreed ≡ None }
-        ensures memory { result.word.ended ≢ Some StageEnd.NoMemory }
-        ensures works { (lists : PartLists) → MayWork (OutputStands K.seen self.old) at news.now.written lists
-            → Works (OutputStands K.seen self.new) (OutputWorks K.seen self.old self.new lists news.now cells.old cells.new result)
-            lists news.now.written cells.old cells.new result }
+        ensures { OutputWork K.seen self.old self.new at news.now cells.old cells.new result }
     {
         let len = below_limit(news.limit, at, cells.len());
         let done = self.write(&cells[..len]);

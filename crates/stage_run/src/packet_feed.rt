@@ -56,7 +56,8 @@ impl<S: Source> PacketFeed<S> {
     pub(crate) fn ensure_packet(&mut self, wanted: usize) -> Option<InputEnd>
         requires some { 1 ≤ wanted }
         requires room { FeedHasRoom self.old }
-        ensures looks { (first : SourceView) (read : List ℕ) (rows : List (List ℕ)) → FeedStands S.seen self.old first read rows None
+        ensures looks { (first : SourceView) (read : List ℕ) (rows : List (List ℕ))
+            → FeedStands S.seen self.old first read rows None
             → FeedLooks S.seen self.old self.new wanted first read rows result }
         ensures ready { IfNone result (IsReady self.new) }
         ensures room { FeedHasRoom self.new }
@@ -73,7 +74,8 @@ impl<S: Source> PacketFeed<S> {
         requires ready { IsReady self.old }
         requires room { FeedHasRoom self.old }
         requires in_range { packets_put self.old < 2 ^ 62 }
-        ensures puts { (first : SourceView) (read : List ℕ) (rows : List (List ℕ)) → FeedStands S.seen self.old first read rows None
+        ensures puts { (first : SourceView) (read : List ℕ) (rows : List (List ℕ))
+            → FeedStands S.seen self.old first read rows None
             → FeedPuts S.seen self.old self.new first read rows cell.new }
         ensures room { FeedHasRoom self.new }
         ensures packets { packets_put self.new ≡ packets_put self.old + 1 }

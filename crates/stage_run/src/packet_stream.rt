@@ -64,7 +64,8 @@ impl<S: Source> PacketStream<S> {
         requires some { 1 ≤ wanted }
         requires few { self.old.have < 188 }
         requires room { HasRoom self.old }
-        ensures read { MatchResult result (ReadsMore S.seen self.old self.new) (λ _. FailsToRead S.seen self.old self.new) }
+        ensures read { MatchResult result (ReadsMore S.seen self.old self.new)
+            (λ _. FailsToRead S.seen self.old self.new) }
         ensures asked { self.new.have ≤ 188 * wanted }
         ensures room { HasRoom self.new }
         ensures packets { self.new.packets ≡ self.old.packets }
@@ -84,7 +85,8 @@ impl<S: Source> PacketStream<S> {
     pub(crate) fn ensure_packet(&mut self, wanted: usize) -> Option<InputEnd>
         requires some { 1 ≤ wanted }
         requires room { HasRoom self.old }
-        ensures looks { (first : SourceView) (read : List ℕ) (rows : List (List ℕ)) → StreamStands S.seen self.old first read rows None
+        ensures looks { (first : SourceView) (read : List ℕ) (rows : List (List ℕ))
+            → StreamStands S.seen self.old first read rows None
             → StreamLooks S.seen self.new wanted first read rows result }
         ensures ready { IfNone result (BeginsPacket (hand_of self.new)) }
         ensures room { HasRoom self.new }
@@ -116,7 +118,8 @@ impl<S: Source> PacketStream<S> {
         requires ready { BeginsPacket (hand_of self.old) }
         requires room { HasRoom self.old }
         requires in_range { self.old.packets < 2 ^ 62 }
-        ensures puts { (first : SourceView) (read : List ℕ) (rows : List (List ℕ)) → StreamStands S.seen self.old first read rows None
+        ensures puts { (first : SourceView) (read : List ℕ) (rows : List (List ℕ))
+            → StreamStands S.seen self.old first read rows None
             → StreamPuts S.seen self.new first read rows cell.new }
         ensures room { HasRoom self.new }
         ensures packets { self.new.packets ≡ self.old.packets + 1 }

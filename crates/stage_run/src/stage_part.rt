@@ -28,9 +28,8 @@ impl<S: Source, K: Sink, P: Plugin> StagePart<S, K, P> {
     ghost use Rattle.stage_run.specs.PartLists.{PartLists, fresh_lists};
     ghost use Rattle.stage_run.specs.InputStands.{stuffing_of};
     ghost use Rattle.stage_run.specs.Parts.{IsListOf, IsSourceOf, IsSinkOf, LeavesInput, LeavesOutput, SomeList};
-    ghost use Rattle.stage_run.specs.PartStands.{PartStands, PartGives, MayWork, MayWorkOnSome, MayWantMemory, rule_of, steady_of, kind_of, stuffing_in, has_source, has_sink, has_stream, an_input, a_plugin, an_output};
-    ghost use Rattle.stage_run.specs.Telling.{FollowsNews};
-    ghost use Rattle.stage_run.specs.Works.{Works, WorksByKind};
+    ghost use Rattle.stage_run.specs.PartStands.{PartStands, PartGives, MayWork, MayWorkOnSome, rule_of, steady_of, kind_of, stuffing_in, has_source, has_sink, has_stream, an_input, a_plugin, an_output};
+    ghost use Rattle.stage_run.specs.Works.{PartWork};
 
     /// The input's stage. It reads into the room. Nothing was read or given yet.
     pub fn of_input(part: InputPart<S>, stuffing: Stuffing, room: IoBuffer) -> Self
@@ -39,9 +38,11 @@ impl<S: Source, K: Sink, P: Plugin> StagePart<S, K, P> {
         ensures stream { has_stream result ≡ has_source part }
         ensures stuffing { stuffing_in result ≡ Some (stuffing_of stuffing) }
         ensures stands { (source : SourceView) (sink : SinkView) (mark : ℕ) → IsSourceOf S.seen part source
-            → PartStands (seeing S.seen K.seen P.rule P.stands_for P.steady) result (fresh_lists source sink mark) None }
+            → PartStands (seeing S.seen K.seen P.rule P.stands_for P.steady) result
+            (fresh_lists source sink mark) None }
         ensures gives { (source : SourceView) (sink : SinkView) (mark : ℕ) (input : StageList)
-            → PartGives (seeing S.seen K.seen P.rule P.stands_for P.steady) result (fresh_lists source sink mark) input ↔ IsListOf S.seen part (stuffing_of stuffing) input }
+            → PartGives (seeing S.seen K.seen P.rule P.stands_for P.steady) result
+            (fresh_lists source sink mark) input ↔ IsListOf S.seen part (stuffing_of stuffing) input }
     {
         StagePart::Input(InputStage::of(part, stuffing, room))
     }
@@ -51,9 +52,11 @@ impl<S: Source, K: Sink, P: Plugin> StagePart<S, K, P> {
         requires { MeetsCells (P.stands_for plugin) 0 }
         ensures kind { kind_of result ≡ a_plugin }
         ensures rule { rule_of (seeing S.seen K.seen P.rule P.stands_for P.steady) result ≡ P.rule plugin }
-        ensures steady { steady_of (seeing S.seen K.seen P.rule P.stands_for P.steady) result ≡ P.steady plugin }
+        ensures steady { steady_of (seeing S.seen K.seen P.rule P.stands_for P.steady) result
+            ≡ P.steady plugin }
         ensures stands { (source : SourceView) (sink : SinkView) (mark : ℕ) → P.stands_for plugin [] mark
-            → PartStands (seeing S.seen K.seen P.rule P.stands_for P.steady) result (fresh_lists source sink mark) None }
+            → PartStands (seeing S.seen K.seen P.rule P.stands_for P.steady) result
+            (fresh_lists source sink mark) None }
     {
         StagePart::Plugin(PluginStage::of(plugin))
     }
@@ -63,7 +66,8 @@ impl<S: Source, K: Sink, P: Plugin> StagePart<S, K, P> {
         ensures kind { kind_of result ≡ an_output }
         ensures stream { has_stream result ≡ has_sink part }
         ensures stands { (source : SourceView) (sink : SinkView) (mark : ℕ) → IsSinkOf K.seen part sink
-            → PartStands (seeing S.seen K.seen P.rule P.stands_for P.steady) result (fresh_lists source sink mark) None }
+            → PartStands (seeing S.seen K.seen P.rule P.stands_for P.steady) result
+            (fresh_lists source sink mark) None }
     {
         StagePart::Output(OutputStage::of(part, room))
     }
@@ -72,9 +76,11 @@ impl<S: Source, K: Sink, P: Plugin> StagePart<S, K, P> {
     pub fn into_input(self) -> InputPart<S>
         requires { kind_of self ≡ an_input }
         ensures stream { has_source result ≡ has_stream self }
-        ensures leaves { (lists : PartLists) (told : Option StageEnd) (stuffing : model.Stuffing) → PartStands (seeing S.seen K.seen P.rule P.stands_for P.steady) self lists told
+        ensures leaves { (lists : PartLists) (told : Option StageEnd) (stuffing : model.Stuffing)
+            → PartStands (seeing S.seen K.seen P.rule P.stands_for P.steady) self lists told
             → stuffing_in self ≡ Some stuffing → LeavesInput S.seen result stuffing lists told }
-        ensures some_list { (lists : PartLists) (told : Option StageEnd) → PartStands (seeing S.seen K.seen P.rule P.stands_for P.steady) self lists told
+        ensures some_list { (lists : PartLists) (told : Option StageEnd)
+            → PartStands (seeing S.seen K.seen P.rule P.stands_for P.steady) self lists told
             → SomeList (PartGives (seeing S.seen K.seen P.rule P.stands_for P.steady) self lists) }
     {
         match self {
@@ -87,7 +93,8 @@ impl<S: Source, K: Sink, P: Plugin> StagePart<S, K, P> {
     pub fn into_plugin(self) -> P
         requires { kind_of self ≡ a_plugin }
         ensures rule { P.rule result ≡ rule_of (seeing S.seen K.seen P.rule P.stands_for P.steady) self }
-        ensures stands { (lists : PartLists) (told : Option StageEnd) → PartStands (seeing S.seen K.seen P.rule P.stands_for P.steady) self lists told
+        ensures stands { (lists : PartLists) (told : Option StageEnd)
+            → PartStands (seeing S.seen K.seen P.rule P.stands_for P.steady) self lists told
             → P.stands_for result lists.met lists.mark }
     {
         match self {
@@ -100,7 +107,8 @@ impl<S: Source, K: Sink, P: Plugin> StagePart<S, K, P> {
     pub fn into_output(self) -> OutputPart<K>
         requires { kind_of self ≡ an_output }
         ensures stream { has_sink result ≡ has_stream self }
-        ensures leaves { (lists : PartLists) (told : Option StageEnd) → PartStands (seeing S.seen K.seen P.rule P.stands_for P.steady) self lists told
+        ensures leaves { (lists : PartLists) (told : Option StageEnd)
+            → PartStands (seeing S.seen K.seen P.rule P.stands_for P.steady) self lists told
             → LeavesOutput K.seen result lists told }
     {
         match self {
@@ -123,25 +131,13 @@ impl<S: Source, K: Sink, P: Plugin> StagePart<S, K, P> {
         news: &News,
         gate: &G,
     ) -> Work
-        requires stands { MayWorkOnSome (PartStands (seeing S.seen K.seen P.rule P.stands_for P.steady) self.old) at news.now.written }
+        requires stands { MayWorkOnSome (PartStands (seeing S.seen K.seen P.rule P.stands_for P.steady)
+            self.old) at news.now.written }
         requires written { news.now.written ≤ at }
         requires in_hand { at + length cells.old ≤ news.now.taken }
         requires in_range { news.now.taken ≤ 2 ^ 60 }
-        ensures done { result.done ≤ length cells.old }
-        ensures rest { drop result.done cells.new ≡ drop result.done cells.old }
-        ensures goes_on { result.word.ended ≡ None → result.done ≡ length cells.old }
-        ensures follows { FollowsNews news.now (at + result.done) result.word.ended }
-        ensures agreed { (agreed : ℕ) → result.word.agreed ≡ Some agreed → (at < agreed) × (agreed ≤ at + result.done) }
-        ensures memory { result.word.ended ≡ Some StageEnd.NoMemory
-            → MayWantMemory (seeing S.seen K.seen P.rule P.stands_for P.steady) self.old (news.now.taken - news.now.written) }
-        ensures same_kind { kind_of self.new ≡ kind_of self.old }
-        ensures same_stream { has_stream self.new ≡ has_stream self.old }
-        ensures same_rule { rule_of (seeing S.seen K.seen P.rule P.stands_for P.steady) self.new ≡ rule_of (seeing S.seen K.seen P.rule P.stands_for P.steady) self.old }
-        ensures same_steady { steady_of (seeing S.seen K.seen P.rule P.stands_for P.steady) self.new ≡ steady_of (seeing S.seen K.seen P.rule P.stands_for P.steady) self.old }
-        ensures same_stuffing { stuffing_in self.new ≡ stuffing_in self.old }
-        ensures works { (lists : PartLists) → MayWork (PartStands (seeing S.seen K.seen P.rule P.stands_for P.steady) self.old) at news.now.written lists
-            → Works (PartStands (seeing S.seen K.seen P.rule P.stands_for P.steady) self.new) (WorksByKind (seeing S.seen K.seen P.rule P.stands_for P.steady) self.old self.new lists news.now cells.old cells.new result)
-            lists news.now.written cells.old cells.new result }
+        ensures { PartWork (seeing S.seen K.seen P.rule P.stands_for P.steady) self.old self.new
+            at news.now cells.old cells.new result }
     {
         match self {
             StagePart::Input(input) => input.work(at, cells, news),

@@ -83,16 +83,10 @@ fn files(alloc: Global, packets: usize) -> Result<FileList, AllocError> {
 fn plan(alloc: Global, read: u64, write: u64) -> Result<FailPlan, AllocError>
     ensures { IfOk result (λ p. (p.read_piece ≡ 1000) × (p.write_piece ≡ 300)) }
 {
-    Ok(FailPlan {
-        opens: NumberList::of(Vec::new(alloc)),
-        reads: NumberList::of(vec![in alloc; read]?),
-        writes: NumberList::of(vec![in alloc; write]?),
-        reports: NumberList::of(Vec::new(alloc)),
-        closes: NumberList::of(Vec::new(alloc)),
-        read_piece: 1000,
-        write_piece: 300,
-        room: 1000,
-    })
+    let mut plan = FailPlan::none(alloc, 1000, 300, 1000);
+    plan.reads = NumberList::of(vec![in alloc; read]?);
+    plan.writes = NumberList::of(vec![in alloc; write]?);
+    Ok(plan)
 }
 
 /// A desk with a file `in` of so many packets. Calls are numbered from 1, so that with 0 none fails.
@@ -102,7 +96,8 @@ fn desk(alloc: Global, packets: usize, read: u64, write: u64) -> Result<MemoryDe
 
 /// News of ten cells, of which none is written.
 fn news(limit: Option<u64>) -> News
-    ensures { result ≡ record { taken = 10; limit = limit; written = 0; before_over = false; after_over = false } }
+    ensures { result
+        ≡ record { taken = 10; limit = limit; written = 0; before_over = false; after_over = false } }
 {
     News {
         taken: 10,
@@ -155,10 +150,12 @@ fn work<S: Source, K: Sink, P: Plugin>(
     cells: &mut [Cell],
     limit: Option<u64>,
 ) -> Work
-    requires may { MayWorkOnSome (PartStands (seeing S.seen K.seen P.rule P.stands_for P.steady) part.old) at 0 }
+    requires may { MayWorkOnSome (PartStands (seeing S.seen K.seen P.rule P.stands_for P.steady) part.old) at
+        0 }
     requires few { at + length cells.old ≤ 10 }
     ensures again { result.word.ended ≡ None
-        → MayWorkOnSome (PartStands (seeing S.seen K.seen P.rule P.stands_for P.steady) part.new) (at + length cells.old) 0 }
+        → MayWorkOnSome (PartStands (seeing S.seen K.seen P.rule P.stands_for P.steady) part.new)
+        (at + length cells.old) 0 }
     ensures kind { kind_of part.new ≡ kind_of part.old }
 {
     part.work(1, at, cells, &news(limit), &OpenGate)
@@ -199,7 +196,8 @@ fn gives<S: Source, K: Sink, P: Plugin>(
     first: &mut [Cell; 2],
     second: &mut [Cell; 2],
 ) -> Gave
-    requires may { MayWorkOnSome (PartStands (seeing S.seen K.seen P.rule P.stands_for P.steady) part.old) 0 0 }
+    requires may { MayWorkOnSome (PartStands (seeing S.seen K.seen P.rule P.stands_for P.steady) part.old) 0 0
+        }
     ensures kind { kind_of part.new ≡ kind_of part.old }
 {
     let one = work(part, 0, first, None);

@@ -3,7 +3,6 @@
 #![tactic(auto)]
 
 mod calls;
-mod counts;
 mod os_desk;
 mod os_sink;
 mod os_source;

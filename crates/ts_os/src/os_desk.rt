@@ -8,13 +8,12 @@ ghost use Rattle.ts_outside.specs.Desk.{stream_name, content, asked_well, asked_
 ghost use Rattle.ts_os.specs.Untold.{untold_desk, untold_sink, untold_source};
 
 use crate::calls::write_some;
-use crate::counts::one_more;
 use crate::os_sink::{Made, OsSink};
 use crate::os_source::{Opened, OsSource};
 use std::alloc::Global;
 use std::fs::File;
 use std::marker::Model;
-use ts_outside::{Desk, Failed, FileBytes, FileFault, OpenFault, read_to_end};
+use ts_outside::{Desk, Failed, FileBytes, FileFault, OpenFault, one_more, read_to_end};
 
 /// The files and standard streams of the system. It tells no content, and contracts see it as its counts of faults and
 /// as where reports go.

@@ -3,11 +3,10 @@ ghost use Rattle.ts_outside.specs.Sink.{took, write_failed};
 ghost use Rattle.ts_os.specs.Untold.{untold_sink};
 
 use crate::calls::write_some;
-use crate::counts::one_more;
 use std::fs::File;
 use std::io::Stdout;
 use std::marker::Model;
-use ts_outside::{Failed, Sink};
+use ts_outside::{Failed, Sink, one_more};
 
 /// Where a sink writes.
 #[derive(Drop)]

@@ -3,11 +3,10 @@ ghost use Rattle.ts_outside.specs.Source.{read_failed, unread};
 ghost use Rattle.ts_os.specs.Untold.{untold_source};
 
 use crate::calls::read_some;
-use crate::counts::one_more;
 use std::fs::File;
 use std::io::Stdin;
 use std::marker::Model;
-use ts_outside::{Failed, Source};
+use ts_outside::{Failed, Source, one_more};
 
 /// What a source reads.
 #[derive(Drop)]

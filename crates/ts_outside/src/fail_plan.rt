@@ -1,4 +1,7 @@
+ghost use Rattle.std.specs.Prelude.{◌≡◌, []};
+
 use crate::number_list::NumberList;
+use std::alloc::Global;
 
 /// Which calls of a `MemoryDesk` fail, and how much one call moves.
 ///
@@ -17,4 +20,33 @@ pub struct FailPlan {
     pub write_piece: usize,
     /// The most bytes that one output holds, and the reports.
     pub room: usize,
+}
+
+impl FailPlan {
+    /// A plan by which no call fails: one read moves so many bytes at most, one write or report so many, and an
+    /// output and the reports hold so many. It takes no memory.
+    pub fn none(alloc: Global, read_piece: usize, write_piece: usize, room: usize) -> FailPlan
+        ensures { result
+            ≡ record {
+              opens = [];
+              reads = [];
+              writes = [];
+              reports = [];
+              closes = [];
+              read_piece = read_piece;
+              write_piece = write_piece;
+              room = room;
+            } }
+    {
+        FailPlan {
+            opens: NumberList::of(Vec::new(alloc)),
+            reads: NumberList::of(Vec::new(alloc)),
+            writes: NumberList::of(Vec::new(alloc)),
+            reports: NumberList::of(Vec::new(alloc)),
+            closes: NumberList::of(Vec::new(alloc)),
+            read_piece,
+            write_piece,
+            room,
+        }
+    }
 }

@@ -27,6 +27,7 @@ mod stream_names;
 mod wholes;
 
 pub use closed_inputs::ClosedInput;
+pub use counts::one_more;
 pub use desks::Desk;
 pub use fail_plan::FailPlan;
 pub use faults::{Failed, FileFault, OpenFault};

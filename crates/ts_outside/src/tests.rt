@@ -43,16 +43,7 @@ fn files(alloc: Global) -> Result<FileList, AllocError> {
 fn plan(alloc: Global, fails: Fails, room: usize) -> Result<FailPlan, AllocError>
     ensures { IfOk result (λ p. (p.read_piece ≡ 100) × (p.write_piece ≡ 70)) }
 {
-    let mut plan = FailPlan {
-        opens: NumberList::of(Vec::new(alloc)),
-        reads: NumberList::of(Vec::new(alloc)),
-        writes: NumberList::of(Vec::new(alloc)),
-        reports: NumberList::of(Vec::new(alloc)),
-        closes: NumberList::of(Vec::new(alloc)),
-        read_piece: 100,
-        write_piece: 70,
-        room,
-    };
+    let mut plan = FailPlan::none(alloc, 100, 70, room);
     match fails {
         Fails::Never => {}
         Fails::Open(number) => plan.opens = numbers(alloc, &[number])?,

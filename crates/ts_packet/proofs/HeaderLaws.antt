@@ -1,5 +1,5 @@
 -- The rows with another PID and with another counter: each has that one field set, and nothing else changed.
-use Rattle.std.proofs.Common.{◌≡◌, ℕ, ◌+◌, ◌*◌, ◌/◌, ◌%◌, ◌<◌, List, length, ◌∙◌, arith, length-set}
+use Rattle.std.proofs.Common.{◌≡◌, ℕ, ◌+◌, ◌*◌, ◌/◌, ◌%◌, ◌<◌, List, length, arith}
 use Rattle.bit_rows.specs.BitRow.{SetsField}
 use Rattle.bit_rows.proofs.Fields.{SetsField-join, SetsField-whole_byte}
 use Rattle.ts_packet.specs.Packet.{IsPacket}

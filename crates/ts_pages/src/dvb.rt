@@ -1,5 +1,5 @@
-//! Pages of the descriptors of networks, services, events and components (ETSI EN 300 468 V1.17.1, 6.2), in the
-//! order of their tags.
+//! Pages of the descriptors of networks, services, events and components (ETSI EN 300 468 V1.17.1, 6.2), in
+//! the order of their tags.
 
 use ts_fields::{Field, ItemLayout, Kind, Layout};
 

@@ -9,9 +9,9 @@ macro_rules! rows {
     };
 }
 
-mod delivery;
-mod dvb;
-mod mpeg;
+pub mod delivery;
+pub mod dvb;
+pub mod mpeg;
 mod pages;
 
 pub use pages::{layout_named, layout_of};

@@ -20,8 +20,8 @@ static BUFFERS: [&str; 5] = [
     "",
 ];
 
-/// How many cells a stage takes in one go, at most.
-static GOES: [&str; 3] = ["--max-flushed-packets 1", "--max-flushed-packets 3", ""];
+/// How many cells a stage takes in one batch, at most.
+static BATCHES: [&str; 3] = ["--max-flushed-packets 1", "--max-flushed-packets 3", ""];
 
 /// Runs each chain, and prints what it came to.
 pub(crate) fn print_chains<R: Threads + Wait + Sync + Print + AllocGlobal>(rt: &R) -> Result<()> {
@@ -39,8 +39,8 @@ fn print_chain<R: Threads + Wait + Sync + Print + AllocGlobal>(
     let first = by_serial_call(rt.alloc(), case_of(words.as_slice()), &OpenGate)?;
     let mut tally = Tally::empty();
     for buffer in BUFFERS {
-        for goes in GOES {
-            let words = sized_words(rt.alloc(), chain, buffer, goes)?;
+        for batch in BATCHES {
+            let words = sized_words(rt.alloc(), chain, buffer, batch)?;
             let other = by_tsp_call(rt, case_of(words.as_slice()), &OpenGate)?;
             tally = tally.with(first.is_like(&other));
         }
@@ -66,12 +66,12 @@ fn sized_words(
     alloc: Global,
     chain: &Chain,
     buffer: &str,
-    goes: &str,
+    batch: &str,
 ) -> Result<Vec<String>, AllocError> {
     let mut words = Vec::new(alloc);
     push_words(alloc, &mut words, chain.general)?;
     push_words(alloc, &mut words, buffer)?;
-    push_words(alloc, &mut words, goes)?;
+    push_words(alloc, &mut words, batch)?;
     push_words(alloc, &mut words, "-I file in")?;
     push_words(alloc, &mut words, chain.plugins)?;
     push_words(alloc, &mut words, "-O file out")?;

@@ -5,7 +5,7 @@ use std::sync::atomic::{AtomicU64, Ordering};
 use ts_outside::Gate;
 
 /// How many windows are kept of one plugin.
-const ROOM: usize = 40;
+pub(crate) const ROOM: usize = 40;
 
 /// The first cell of a window, and how many cells it has.
 #[derive(Drop)]
@@ -38,17 +38,29 @@ impl Windows {
         })
     }
 
-    /// The windows that were entered, each by its first cell and its number of cells, in order.
-    pub(crate) fn entered(&self, alloc: Global) -> Result<Vec<Range<u64>>, AllocError> {
-        let mut all = Vec::new(alloc);
-        for (n, window) in self.kept.iter().enumerate() {
-            if (n as u64) < self.entered.load(Ordering::SeqCst) {
-                let start = window.start.load(Ordering::SeqCst);
-                let len = window.len.load(Ordering::SeqCst);
-                all.push(start..start.wrapping_add(len))?;
+    /// Where the window of that number begins and ends, from 0 on in order; `None` where so many were not entered.
+    pub(crate) fn window(&self, n: usize) -> Option<Range<u64>> {
+        if self.entered.load(Ordering::SeqCst) <= n as u64 {
+            return None;
+        }
+        let window = self.kept.get(n)?;
+        let start = window.start.load(Ordering::SeqCst);
+        let len = window.len.load(Ordering::SeqCst);
+        Some(start..start.wrapping_add(len))
+    }
+
+    /// Whether the first window begins at 0, and each other one where the one before it ends.
+    pub(crate) fn is_one_row(&self) -> bool {
+        let mut end = 0;
+        for n in 0..ROOM {
+            if let Some(window) = self.window(n) {
+                if window.start != end {
+                    return false;
+                }
+                end = window.end;
             }
         }
-        Ok(all)
+        true
     }
 
     /// Whether there was room for all windows, and each was left.

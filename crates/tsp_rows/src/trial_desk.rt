@@ -52,16 +52,7 @@ fn number(alloc: Global, number: u64) -> Result<NumberList, AllocError> {
 fn fail_plan(alloc: Global, fails: Fails) -> Result<FailPlan, AllocError>
     ensures { IfOk result (λ p. (p.read_piece ≡ 188) × (p.write_piece ≡ 100)) }
 {
-    let mut plan = FailPlan {
-        opens: NumberList::of(Vec::new(alloc)),
-        reads: NumberList::of(Vec::new(alloc)),
-        writes: NumberList::of(Vec::new(alloc)),
-        reports: NumberList::of(Vec::new(alloc)),
-        closes: NumberList::of(Vec::new(alloc)),
-        read_piece: 188,
-        write_piece: 100,
-        room: ROOM,
-    };
+    let mut plan = FailPlan::none(alloc, 188, 100, ROOM);
     match fails {
         Fails::Never => {}
         Fails::Open(call) => plan.opens = number(alloc, call)?,

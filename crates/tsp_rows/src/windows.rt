@@ -1,11 +1,10 @@
 //! A chain whose gate keeps what it is told: the windows that each plugin works on.
 use crate::inputs::Input;
-use crate::keeping_gate::KeepingGate;
+use crate::keeping_gate::{KeepingGate, ROOM, Windows};
 use crate::outcome::print_outcome;
 use crate::trial::{Case, by_serial_call, by_tsp_call, push_words};
 use crate::trial_desk::Fails;
 use anyhow::Result;
-use std::ops::Range;
 use std::sync::Wait;
 use std::thread::Threads;
 
@@ -17,8 +16,7 @@ const PLUGINS: usize = 2;
 
 const PIDS: [u16; 10] = [300, 301, 302, 303, 304, 305, 306, 307, 308, 309];
 
-/// Runs the chain in one thread and prints the windows of its plugins in order; then by `tsp_call`, whose windows have
-/// to follow one another too.
+/// Runs the chain by both calls, and prints the windows of its plugins.
 pub(crate) fn print_windows<R: Threads + Wait + Sync + Print + AllocGlobal>(rt: &R) -> Result<()> {
     let mut words = Vec::new(rt.alloc());
     push_words(rt.alloc(), &mut words, WORDS)?;
@@ -27,45 +25,48 @@ pub(crate) fn print_windows<R: Threads + Wait + Sync + Print + AllocGlobal>(rt: 
         input: Input::Pids(&PIDS),
         fails: Fails::Never,
     };
+    print_serial(rt, case)?;
+    print_by_tsp_call(rt, case)
+}
+
+/// In one thread: each window of each plugin, in order.
+fn print_serial(rt: &(impl Print + AllocGlobal), case: Case) -> Result<()> {
     let gate = KeepingGate::new(rt.alloc(), PLUGINS)?;
-    let serial = by_serial_call(rt.alloc(), case, &gate)?;
+    let trial = by_serial_call(rt.alloc(), case, &gate)?;
     println!(rt; "the windows of two plugins")?;
-    print_outcome(rt, &serial)?;
-    for (k, windows) in gate.plugins().iter().enumerate() {
-        print!(rt; "  plugin {}:", k.wrapping_add(1))?;
-        print_ranges(rt, windows.entered(rt.alloc())?.as_slice())?;
-        println!(rt; ", each left: {}", windows.is_whole())?;
-    }
-    let gate = KeepingGate::new(rt.alloc(), PLUGINS)?;
-    let outcome = by_tsp_call(rt, case, &gate)?;
-    let is_same = outcome.is_like(&serial);
-    println!(rt; "  by tsp_call the same: {is_same}")?;
+    print_outcome(rt, &trial)?;
     for windows in gate.plugins() {
-        let follow = are_in_row(windows.entered(rt.alloc())?.as_slice());
+        print_plugin(rt, windows)?;
+    }
+    Ok(())
+}
+
+fn print_plugin(rt: &impl Print, windows: &Windows) -> Result<()> {
+    print!(rt; "  a plugin's windows:")?;
+    for n in 0..ROOM {
+        if let Some(window) = windows.window(n) {
+            print!(rt; " {}..{}", window.start, window.end)?;
+        }
+    }
+    println!(rt; ", each left: {}", windows.is_whole())?;
+    Ok(())
+}
+
+/// By `tsp_call`, whose windows may be others, but follow one another too.
+fn print_by_tsp_call<R: Threads + Wait + Sync + Print + AllocGlobal>(
+    rt: &R,
+    case: Case,
+) -> Result<()> {
+    let gate = KeepingGate::new(rt.alloc(), PLUGINS)?;
+    let trial = by_tsp_call(rt, case, &gate)?;
+    println!(rt; "the same by tsp_call")?;
+    print_outcome(rt, &trial)?;
+    for windows in gate.plugins() {
         println!(rt;
-            "  windows in one row: {follow}, each left: {}",
+            "  a plugin's windows follow one another: {}, each left: {}",
+            windows.is_one_row(),
             windows.is_whole()
         )?;
     }
     Ok(())
-}
-
-/// Prints the windows of a plugin.
-fn print_ranges(rt: &impl Print, windows: &[Range<u64>]) -> Result<()> {
-    for window in windows {
-        print!(rt; " {}..{}", window.start, window.end)?;
-    }
-    Ok(())
-}
-
-/// Whether the first window begins at 0, and each other one where the one before it ends.
-fn are_in_row(windows: &[Range<u64>]) -> bool {
-    let mut end = 0;
-    for window in windows {
-        if window.start != end {
-            return false;
-        }
-        end = window.end;
-    }
-    true
 }

@@ -9,13 +9,13 @@ use Rattle.chain_model.specs.Cut.{is_fault}
 use Rattle.chain_model.specs.InputList.{InputList, input_of_bytes}
 use Rattle.chain_model.specs.PureRun.{Chain, chain_cut, pure_run, written_to, reported_at}
 use Rattle.chain_model.specs.Stuffed.{Stuffing, stuffed}
-use Rattle.plug_conf.specs.declared.plugin_conf.PluginConf.{PluginConf}
+use Rattle.plug_set.specs.declared.plugin_conf.PluginConf.{PluginConf}
 use Rattle.chain_args.specs.PlanOf.{plan_of}
 use Rattle.chain_args.specs.WordsFault.{IsFirstFault}
 use Rattle.chain_args.specs.declared.input_conf.InputConf.{InputConf}
 use Rattle.chain_args.specs.declared.input_conf.InputConf.TheVariants as input
 use Rattle.chain_args.specs.declared.plan_type.Plan.{Plan}
-use Rattle.chain_args.specs.declared.words_rule.WordsRule.{WordsRule}
+use Rattle.option_words.specs.declared.words_rule.WordsRule.{WordsRule}
 use Rattle.chain_args.specs.declared.words_fault.WordsFault.TheVariants.{At}
 use Rattle.ts_outside.specs.Count.{HasCause, IsQuiet}
 use Rattle.ts_outside.specs.Told.{grown}

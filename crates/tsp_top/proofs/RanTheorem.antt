@@ -21,7 +21,7 @@ use Rattle.chain_core.specs.Stages.{stages_of}
 use Rattle.chain_core.specs.EveryOrder.{IsPureClose}
 use Rattle.chain_core.specs.declared.closed.Closed.{Closed}
 use Rattle.chain_core.specs.declared.core_plan.CorePlan.{CorePlan}
-use Rattle.plug_conf.specs.declared.plugin_conf.PluginConf.{PluginConf}
+use Rattle.plug_set.specs.declared.plugin_conf.PluginConf.{PluginConf}
 use Rattle.chain_args.specs.declared.plan_type.Plan.{Plan}
 use Rattle.plugin_trait.specs.Steps.{IsSteadyFor}
 use Rattle.stage_run.specs.Seeing.{Seeing}
@@ -40,7 +40,7 @@ use Rattle.chain_run.specs.Rooms.{AreSteadyFor}
 use Rattle.chain_run.specs.RunOf.{LeftInput, LeftOutput, RunOf}
 use Rattle.chain_run.proofs.RunUses.{steady-wants_none}
 use Rattle.chain_core.proofs.Facts.{all_by_recursion}
-use Rattle.plug_set.specs.Rules.{rule_of, steady_of}
+use Rattle.plug_set.specs.Plugins.{rule_of, steady_of}
 use Rattle.tsp_top.specs.CallEnd.{ran, unreported, out_of_memory, status_of, status_when_late, FaultRose, LateRose}
 use Rattle.tsp_top.specs.CanEnd.{CanEndBy}
 use Rattle.tsp_top.specs.MemoryFirst.{IsSteady, AreSteady, NoStageWants}

@@ -9,10 +9,10 @@ use Rattle.chain_model.specs.declared.cause.Cause.{Cause}
 use Rattle.chain_model.specs.Reports.{plugin_line, said_of, rules_of, reports_from, reports, end_line}
 use Rattle.plugin_trait.specs.Marks.{AllowsMark}
 use Rattle.chain_run.specs.Met.{AllMetTo}
-use Rattle.plug_conf.specs.declared.plugin_conf.PluginConf.{PluginConf}
-use Rattle.plug_set.specs.Rules.{rule_of}
+use Rattle.plug_set.specs.declared.plugin_conf.PluginConf.{PluginConf}
+use Rattle.plug_set.specs.Plugins.{rule_of}
 use Rattle.tsp_top.specs.PlannedChain.{named_rule_of}
-use Rattle.tsp_top.specs.PluginNames.{name_of}
+use Rattle.plug_set.specs.Plugins.{name_of}
 use Rattle.tsp_top.specs.Reported.{ReachesCut}
 
 -- the first of plugins that reach the cut may be told it, and those behind it reach it

@@ -2,8 +2,8 @@
 use Rattle.std.proofs.Common.{◌≡◌, ℕ, List, Result, Ok, Err, ap, sym, ◌∙◌, subst, map, OnErr, IfOk, is_err, Bool}
 use Rattle.std.specs.declared.alloc.AllocError.{AllocError}
 use Rattle.std.specs.Bool.{OnTrue}
-use Rattle.plug_conf.specs.declared.plugin_conf.PluginConf.{PluginConf}
-use Rattle.plug_set.specs.Rules.{rule_of}
+use Rattle.plug_set.specs.declared.plugin_conf.PluginConf.{PluginConf}
+use Rattle.plug_set.specs.Plugins.{rule_of}
 use Rattle.ts_outside.specs.Desk.{DeskView}
 use Rattle.chain_model.specs.PluginRule.{PluginRule}
 use Rattle.chain_model.specs.declared.cause.Cause.{Cause}

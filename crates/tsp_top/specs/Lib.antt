@@ -3,7 +3,6 @@ pub mod CanEnd
 pub mod ExitNumber
 pub mod MemoryFirst
 pub mod Openings
-pub mod PluginNames
 pub mod PlannedChain
 pub mod Ran
 pub mod Readings

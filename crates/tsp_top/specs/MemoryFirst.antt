@@ -1,8 +1,8 @@
 -- Memory first: chains whose plugins take all their room before the run. This project's own rule.
 use Rattle.std.specs.Prelude.{◌≡◌, ◌≢◌, ◌⊎◌, ℕ, List, [], Some}
 use Rattle.std.specs.List.{All}
-use Rattle.plug_conf.specs.declared.plugin_conf.PluginConf.{PluginConf}
-use Rattle.plug_set.specs.Rules.{steady_of}
+use Rattle.plug_set.specs.declared.plugin_conf.PluginConf.{PluginConf}
+use Rattle.plug_set.specs.Plugins.{steady_of}
 use Rattle.chain_model.specs.declared.cause.Cause.{Cause}
 use Rattle.chain_model.specs.declared.cause.Cause.TheVariants.{NoMemory}
 use Rattle.tsp_top.specs.CallEnd.{CallEnd, no_input, no_output, ran, unreported, out_of_memory}

@@ -1,7 +1,7 @@
 -- The chain that a plan asks for, over files by name. This project's own rule.
 use Rattle.std.specs.Prelude.{ℕ, suc, List, [], ◌∷◌, ◌++◌, map, if◌then◌else◌, Option, None, Some}
-use Rattle.plug_conf.specs.declared.plugin_conf.PluginConf.{PluginConf}
-use Rattle.plug_conf.specs.JointUse.{uses_joint}
+use Rattle.plug_set.specs.declared.plugin_conf.PluginConf.{PluginConf}
+use Rattle.plug_set.specs.Plugins.{uses_joint}
 use Rattle.chain_args.specs.declared.plan_type.Plan.{Plan}
 use Rattle.chain_args.specs.declared.general_conf.GeneralConf.{GeneralConf}
 use Rattle.chain_args.specs.declared.input_conf.InputConf.{InputConf}
@@ -13,8 +13,8 @@ use Rattle.chain_model.specs.Stuffed.{Stuffing, stuffed}
 use Rattle.chain_model.specs.Reports.{NamedRule}
 use Rattle.chain_model.specs.PureRun.{Chain}
 use Rattle.ts_outside.specs.Desk.{file_of}
-use Rattle.tsp_top.specs.PluginNames.{name_of}
-use Rattle.plug_set.specs.Rules.{rule_of}
+use Rattle.plug_set.specs.Plugins.{name_of}
+use Rattle.plug_set.specs.Plugins.{rule_of}
 
 -- the stuffing of the general options
 abbrev pub stuffing_of : GeneralConf → Stuffing

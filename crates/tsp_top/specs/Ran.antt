@@ -18,7 +18,7 @@ use Rattle.stage_run.specs.InputStands as stage
 use Rattle.stage_run.specs.Seeing.{Seeing}
 use Rattle.chain_run.specs.Fresh.{AreFresh}
 use Rattle.chain_run.specs.RunOf.{RunOf, NeverBegan}
-use Rattle.plug_set.specs.Rules.{rule_of, steady_of}
+use Rattle.plug_set.specs.Plugins.{rule_of, steady_of}
 use Rattle.tsp_top.specs.PlannedChain.{stuffing_of, named_rule_of}
 use Rattle.tsp_top.specs.Sizes.{IsPlannedCore}
 use Rattle.tsp_top.specs.Openings.{asked_input, asked_output, OpensInput, OpensOutput, input_closed_as, output_closed_as, WasOpened}

@@ -1,7 +1,7 @@
 //! A call behind its run: both ends are closed, and the run is reported.
 ghost use Rattle.std.specs.Prelude.{◌≡◌, ◌≤◌, List, length, map, IfOk};
 ghost use Rattle.chain_core.specs.declared.core_plan.CorePlan.{CorePlan};
-ghost use Rattle.plug_set.specs.Rules.{rule_of};
+ghost use Rattle.plug_set.specs.Plugins.{rule_of};
 ghost use Rattle.stage_run.specs.Seeing.{seeing};
 ghost use Rattle.stage_run.specs.declared.stuffing.Stuffing.{Stuffing};
 ghost use Rattle.tsp_top.specs.Ran.{EndsRun, RanOpened};

@@ -9,7 +9,7 @@ ghost use Rattle.tsp_top.specs.Sizes.{default_buffer, default_batch, IsSize, les
 
 use chain_args::{GeneralConf, Plan};
 use chain_core::{CorePlan, StageSet};
-use plug_conf::PluginConf;
+use plug_set::PluginConf;
 use stage_run::Stuffing;
 
 /// The stuffing of the general options.

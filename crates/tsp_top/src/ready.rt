@@ -1,8 +1,8 @@
 //! A chain that is ready to run: its numbers and its plugins, before anything is opened.
 ghost use Rattle.std.specs.Prelude.{◌≡◌, ◌++◌, map, IfOk, OnOk};
 ghost use Rattle.std.specs.List.{All};
-ghost use Rattle.plug_conf.specs.Lawful.{IsLawful};
-ghost use Rattle.plug_set.specs.Rules.{rule_of, steady_of};
+ghost use Rattle.plug_set.specs.Plugins.{IsLawful};
+ghost use Rattle.plug_set.specs.Plugins.{rule_of, steady_of};
 ghost use Rattle.chain_args.specs.LawfulPlan.{IsLawfulPlan};
 ghost use Rattle.chain_run.specs.Fresh.{AreFresh};
 ghost use Rattle.tsp_top.specs.Ran.{IsReady};
@@ -10,7 +10,7 @@ ghost use Rattle.tsp_top.specs.Ran.{IsReady};
 use crate::planning::{planned_core, planned_stuffing};
 use chain_args::Plan;
 use chain_core::CorePlan;
-use plug_conf::PluginConf;
+use plug_set::PluginConf;
 use plug_set::AnyPlugin;
 use plugin_trait::Plugin;
 use stage_run::Stuffing;

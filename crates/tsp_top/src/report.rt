@@ -4,7 +4,7 @@ ghost use Rattle.std.specs.String.{string_bytes};
 ghost use Rattle.chain_model.specs.Apply.{StageList};
 ghost use Rattle.chain_model.specs.Reports.{reports};
 ghost use Rattle.chain_run.specs.Met.{AllMetTo};
-ghost use Rattle.plug_set.specs.Rules.{rule_of};
+ghost use Rattle.plug_set.specs.Plugins.{rule_of};
 ghost use Rattle.tsp_top.specs.PlannedChain.{named_rule_of};
 ghost use Rattle.tsp_top.specs.Reported.{ReachesCut, ReportsRun};
 
@@ -13,7 +13,7 @@ use crate::reporting::push_reports;
 use crate::saying::say;
 use crate::status::{Status, status_if_late, status_of_cause};
 use chain_core::Closed;
-use plug_conf::PluginConf;
+use plug_set::PluginConf;
 use plugin_trait::Plugin;
 use std::alloc::{AllocError, Global};
 use ts_outside::Desk;

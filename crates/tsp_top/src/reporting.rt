@@ -6,30 +6,13 @@ ghost use Rattle.chain_model.specs.Reports.{plugin_line, reports_from};
 ghost use Rattle.chain_model.specs.PluginRule.{PluginRule};
 ghost use Rattle.chain_model.specs.Apply.{StageList};
 ghost use Rattle.chain_run.specs.Met.{AllMetTo};
-ghost use Rattle.plug_set.specs.Rules.{rule_of};
+ghost use Rattle.plug_set.specs.Plugins.{rule_of};
 ghost use Rattle.tsp_top.specs.PlannedChain.{named_rule_of};
-ghost use Rattle.tsp_top.specs.PluginNames.{name_of};
 ghost use Rattle.tsp_top.specs.Reported.{ReachesCut};
 
-use plug_conf::PluginConf;
+use plug_set::PluginConf;
 use plugin_trait::{Line, Plugin, report};
 use std::alloc::AllocError;
-
-/// The name of a plugin in the reports.
-fn plugin_name(conf: &PluginConf) -> &'static str
-    ensures { result.now ≡ name_of conf.now }
-{
-    match conf {
-        PluginConf::Filter(_) => "filter",
-        PluginConf::Skip(_) => "skip",
-        PluginConf::Slice(_) => "slice",
-        PluginConf::Pattern(_) => "pattern",
-        PluginConf::Until(_) => "until",
-        PluginConf::Count(_) => "count",
-        PluginConf::Continuity(_) => "continuity",
-        PluginConf::Remap(_) => "remap",
-    }
-}
 
 /// Puts one line of plugin `j` behind the text.
 fn push_line(text: &mut String, j: usize, name: &str, said: &str) -> Result<(), AllocError>
@@ -69,6 +52,6 @@ pub(crate) fn push_reports<P: Plugin>(
         return Ok(());
     };
     let lines = report(first, cut)?;
-    push_lines(text, j + 1, plugin_name(conf), &lines)?;
+    push_lines(text, j + 1, conf.name(), &lines)?;
     push_reports(text, rest, later, j + 1, cut)
 }

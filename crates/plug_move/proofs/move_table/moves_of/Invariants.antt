@@ -1,6 +1,6 @@
 use Rattle.std.proofs.Common.{◌≡◌, ◌<◌, ℕ, length, get_or}
 use Rattle.plug_move.specs.declared.move_table.Move.TheVariants.{Keep}
-use Rattle.plug_move.specs.RemapRule.{move_of}
+use Rattle.plug_move.specs.MoveTables.{move_of}
 use Rattle.plug_move.proofs.move_table.moves_of.Given as goal
 
 abbrev pub invariant-loop-pid : goal.invariant-loop-pid

@@ -1,5 +1,5 @@
 use Rattle.std.proofs.Common.{◌≡◌, is_err, ap, map, List, sym, ◌∙◌, refl, inl, inr}
-use Rattle.plug_conf.specs.declared.plugin_conf.PluginConf.{PluginConf}
+use Rattle.plug_set.specs.declared.plugin_conf.PluginConf.{PluginConf}
 use Rattle.chain_model.specs.Reports.{reports}
 use Rattle.ts_outside.specs.Desk.{DeskView}
 use Rattle.tsp_top.specs.PlannedChain.{named_rule_of}

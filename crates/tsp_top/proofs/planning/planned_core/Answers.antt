@@ -1,5 +1,5 @@
 use Rattle.std.proofs.Common.{◌≡◌, List, length, arith, ap, ◌∙◌}
-use Rattle.plug_conf.specs.declared.plugin_conf.PluginConf.{PluginConf}
+use Rattle.plug_set.specs.declared.plugin_conf.PluginConf.{PluginConf}
 use Rattle.tsp_top.proofs.PlanningLemmas.{users-are-plugins}
 use Rattle.tsp_top.proofs.planning.planned_core.Goals as goal
 

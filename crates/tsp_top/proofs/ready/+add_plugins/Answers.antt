@@ -1,6 +1,6 @@
 use Rattle.std.proofs.Common.{rules}
 use Rattle.std.proofs.lemmas.List.Elements.{All-rest}
-use Rattle.plug_conf.specs.Lawful.{IsLawful}
+use Rattle.plug_set.specs.Plugins.{IsLawful}
 use Rattle.tsp_top.proofs.CallLemmas.{fresh_push}
 use Rattle.plug_set.specs.contracts.any_plugin.AnyPluginPlugin.TheImpl.{ghosts as any}
 use Rattle.tsp_top.proofs.ready.+add_plugins.Goals as goal

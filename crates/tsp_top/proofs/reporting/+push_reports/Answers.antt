@@ -4,7 +4,7 @@ use Rattle.std.specs.String.{string_bytes}
 use Rattle.std.specs.List.{flat_map}
 use Rattle.chain_model.specs.Reports.{plugin_line, reports_from}
 use Rattle.plugin_trait.specs.declared.line.Line.{Line}
-use Rattle.tsp_top.specs.PluginNames.{name_of}
+use Rattle.plug_set.specs.Plugins.{name_of}
 use Rattle.tsp_top.specs.PlannedChain.{named_rule_of}
 use Rattle.tsp_top.proofs.ReportLemmas.{ReachesCut-split, report-split, rest-rules}
 use Rattle.tsp_top.proofs.reporting.+push_reports.Goals as goal
@@ -41,7 +41,7 @@ returns g t c = λ rules input met.
     let later : List ℕ = reports_from rules input c.args.cut (c.args.j + 1) (map named_rule_of c.in-Some-split_first.later.now) in
     let pushed : string_bytes c.push_lines.new.text ≡ first ++ flat_map (plugin_line (c.args.j + 1) name) texts =
     c.in_ok-push_lines.ensures
-    ∙ ap (λ (n : List ℕ). first ++ flat_map (plugin_line (c.args.j + 1) n) (map (λ (line : Line). line.text) c.deref.result.now)) c.plugin_name.ensures
+    ∙ ap (λ (n : List ℕ). first ++ flat_map (plugin_line (c.args.j + 1) n) (map (λ (line : Line). line.text) c.deref.result.now)) c.name.ensures
     ∙ ap (λ (l : List Line). first ++ flat_map (plugin_line (c.args.j + 1) name) (map (λ (line : Line). line.text) l)) c.deref.ensures.value in
     on_ok_weaker c.push_reports.result
     (λ e. e ∙ (ap (λ (l : List ℕ). l ++ later) pushed

@@ -1,14 +1,13 @@
 use Rattle.std.proofs.Common.{◌<◌, ◌≡◌, ◌+◌, length}
 use Rattle.chain_core.specs.CoreNumbers.{progress_of_core}
 use Rattle.stage_run.specs.Seeing.{seeing}
-use Rattle.chain_run.specs.Runs.{RunStart, remaining_work}
-use Rattle.chain_run.specs.Working.{IsRunning}
+use Rattle.chain_run.specs.Runs.{remaining_work}
+use Rattle.chain_run.specs.Working.{RunsOn}
 use Rattle.chain_run.proofs.serial_chain.SerialChain.run.Given as goal
 
 abbrev pub invariant-loop : goal.invariant-loop
 invariant-loop g l = record {
-  runs : (begun : RunStart g.row.S.Denot g.row.K.Denot) → IsRunning (seeing g.S.Source.seen g.K.Sink.seen g.P.Plugin.rule g.P.Plugin.stands_for g.P.Plugin.steady) begun l.fn.self.core l.fn.self.parts.items l.fn.self.cells.items
-      → IsRunning (seeing g.S.Source.seen g.K.Sink.seen g.P.Plugin.rule g.P.Plugin.stands_for g.P.Plugin.steady) begun l.self.core l.self.parts.items l.self.cells.items;
+  runs : RunsOn (seeing g.S.Source.seen g.K.Sink.seen g.P.Plugin.rule g.P.Plugin.stands_for g.P.Plugin.steady) l.fn.self l.self;
   plan : l.self.core.plan ≡ l.fn.self.core.plan;
   next : l.next < length l.sizes;
 }

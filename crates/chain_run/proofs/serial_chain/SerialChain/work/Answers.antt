@@ -24,17 +24,4 @@ returns-clause-works g c =
     c.index_mut.ensures.value refl c.deref_mut.ensures.value c.deref_mut.ensures.len (omega arith) (ap (λ (m : Progress). m.given) c.progress-at.ensures)
     (omega arith) (omega arith) (let at-is : c.progress-at.result.given ≡ (progress_of_core c.args.self.now.core c.args.stage).given = ap (λ (m : Progress). m.given) c.progress-at.ensures in omega arith)
     (λ lt. let inside : c.progress-at.result.given % c.len-slots.result < c.len-slots.result = mod-lt c.progress-at.result.given (omega arith) in omega arith)
-    (record {
-      done = c.work.ensures.done;
-      rest = c.work.ensures.rest;
-      goes_on = c.work.ensures.goes_on;
-      follows = c.work.ensures.follows;
-      agreed = c.work.ensures.agreed;
-      memory = c.work.ensures.memory;
-      same_kind = c.work.ensures.same_kind;
-      same_rule = c.work.ensures.same_rule;
-      same_steady = c.work.ensures.same_steady;
-      same_stuffing = c.work.ensures.same_stuffing;
-      same_stream = c.work.ensures.same_stream;
-      works = c.work.ensures.works;
-    })
+    c.work.ensures

@@ -3,7 +3,7 @@ use Rattle.std.proofs.Math.Bool.{and-true}
 use Rattle.ts_packet.specs.declared.cell.Cell.{Cell}
 use Rattle.ts_packet.specs.declared.cell.Cell.TheVariants.{Live}
 use Rattle.ts_packet.specs.Header.{pid_of}
-use Rattle.plug_conf.specs.declared.continuity_conf.ContinuityConf.{ContinuityConf}
+use Rattle.plug_watch.specs.declared.continuity_conf.ContinuityConf.{ContinuityConf}
 use Rattle.chain_model.specs.Apply.{became, goes_on}
 use Rattle.plugin_trait.specs.Steps.{SameKind}
 use Rattle.plug_watch.specs.ContinuityRule.{continuity_rule, fixed, is_watched}

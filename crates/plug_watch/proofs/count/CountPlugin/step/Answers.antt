@@ -1,7 +1,7 @@
 use Rattle.std.proofs.Common.{◌≡◌, ℕ, ◌≤◌, [], ◌∷◌, ◌++◌, length, ap, sym, subst, ◌∙◌, refl, arith}
 use Rattle.std.specs.VecDeque.{deque_capacity}
 use Rattle.ts_packet.specs.declared.cell.Cell.{Cell}
-use Rattle.pid_set.specs.Selection.{is_selected}
+use Rattle.plug_conf.specs.Selection.{is_selected}
 use Rattle.plug_watch.specs.declared.note.Note.{Note}
 use Rattle.plug_watch.specs.CountConfOf.{conf_of}
 use Rattle.plug_watch.specs.CountState.{Counts}

@@ -1,56 +1,69 @@
-use Rattle.std.proofs.Common.{◌≡◌, ◌+◌, length, Option, sym, ap, subst, arith, ◌∙◌}
+use Rattle.std.proofs.Common.{◌≡◌, ◌+◌, length, Option, true, refl, sym, ap, subst, arith, ◌∙◌, add-zero}
 use Rattle.chain_model.specs.declared.input_end.InputEnd.{InputEnd}
+use Rattle.chain_core.specs.declared.stage_end.StageEnd.TheVariants.{Input, Followed}
+use Rattle.std.proofs.Common.{Some}
 use Rattle.stage_run.specs.InputSteps.{IsFilled}
-use Rattle.stage_run.specs.Telling.{followed}
-use Rattle.stage_run.specs.declared.work.Work.{Work}
+use Rattle.stage_run.specs.Telling.{may_follow, followed}
 use Rattle.stage_run.specs.InputStands.{InputStands}
-use Rattle.stage_run.specs.Works.{Works, InputWorks}
+use Rattle.stage_run.specs.Works.{InputWorks}
 use Rattle.stage_run.proofs.InputWorking.{plain_work, works_following, works_at_limit, works_over, works_filled}
+use Rattle.stage_run.proofs.PluginWorking.{FollowsNews-followed}
+use Rattle.stage_run.proofs.WorkLemmas.{plain-stage, followed-memory}
 use Rattle.stage_run.proofs.input_stage.InputStage.work.Goals as goal
 
-pub returns-then-may_follow-clause-works : goal.returns-then-may_follow-clause-works
-returns-then-may_follow-clause-works g c = λ lists may.
+pub returns-then-may_follow-clause-work : goal.returns-then-may_follow-clause-work
+returns-then-may_follow-clause-work g c =
     let seen = g.S.Source.seen in
+    let old = c.args.self.now in
     let cells = c.args.cells.now in
     let news = c.args.news.now in
-    subst (λ (w : Work). Works (InputStands seen c.args.self.now) (InputWorks seen c.args.self.now c.args.self.now lists news cells cells w) lists news.written cells cells w)
-    (sym c.ending.ensures)
-    (works_following seen c.args.self.now lists news cells c.args.at news.written may (omega arith) (sym c.may_follow.ensures ∙ c.if-may_follow.true))
+    let follows = sym c.may_follow.ensures ∙ c.if-may_follow.true in
+    plain-stage (InputStands seen old) (InputStands seen old) (λ _. ⊥) (λ w before. InputWorks seen old old before news cells cells w)
+    c.args.at news cells cells c.ending.result 0 (Some Followed) c.ending.ensures (omega arith) refl (λ e. cc)
+    (ap (may_follow news) (add-zero c.args.at) ∙ follows) (λ e. cc)
+    (λ lists may. works_following seen old lists news cells c.args.at news.written may (omega arith) follows)
 
-pub returns-then-at-eq-POSITION_LIMIT-clause-works : goal.returns-then-at-eq-POSITION_LIMIT-clause-works
-returns-then-at-eq-POSITION_LIMIT-clause-works g c = λ lists may.
+pub returns-then-at-eq-POSITION_LIMIT-clause-work : goal.returns-then-at-eq-POSITION_LIMIT-clause-work
+returns-then-at-eq-POSITION_LIMIT-clause-work g c =
     let seen = g.S.Source.seen in
+    let old = c.args.self.now in
+    let new = c.end_at_limit.new.self in
     let cells = c.args.cells.now in
     let news = c.args.news.now in
-    subst (λ (w : Work). Works (InputStands seen c.end_at_limit.new.self) (InputWorks seen c.args.self.now c.end_at_limit.new.self lists news cells cells w) lists news.written cells cells w)
-    (sym c.ending-then-at-eq-POSITION_LIMIT.ensures)
-    (works_at_limit seen c.args.self.now c.end_at_limit.new.self lists news cells c.args.at news.written c.end_at_limit.result may (omega arith)
+    plain-stage (InputStands seen old) (InputStands seen new) (λ _. ⊥) (λ w before. InputWorks seen old new before news cells cells w)
+    c.args.at news cells cells c.ending-then-at-eq-POSITION_LIMIT.result 0 (Some (Input c.end_at_limit.result)) c.ending-then-at-eq-POSITION_LIMIT.ensures
+    (omega arith) refl (λ e. cc) tt (λ e. cc)
+    (λ lists may. works_at_limit seen old new lists news cells c.args.at news.written c.end_at_limit.result may (omega arith)
     c.end_at_limit.ensures.goes c.end_at_limit.ensures.ends c.end_at_limit.ensures.stays_open)
 
-pub returns-in-Some-clause-works : goal.returns-in-Some-clause-works
-returns-in-Some-clause-works g c = λ lists may.
+pub returns-in-Some-clause-work : goal.returns-in-Some-clause-work
+returns-in-Some-clause-work g c =
     let seen = g.S.Source.seen in
+    let old = c.args.self.now in
+    let new = c.fill-filled.new.self in
     let cells = c.args.cells.now in
     let cells_new = c.fill-filled.new.cells in
     let news = c.args.news.now in
-    let new = c.fill-filled.new.self in
-    subst (λ (w : Work). Works (InputStands seen new) (InputWorks seen c.args.self.now new lists news cells cells_new w) lists news.written cells cells_new w)
-    (sym c.ending-in-Some.ensures)
-    (works_over seen c.args.self.now new lists news cells cells_new c.args.at news.written c.fill-filled.result.done c.in-Some.how may
-    (omega arith) (omega arith) (omega arith) c.fill-filled.ensures.goes
-    (subst (λ (o : Option InputEnd). IsFilled new (length cells) c.fill-filled.result.done o) c.in-Some.is c.fill-filled.ensures.filled))
-
-pub returns-in-None-clause-works : goal.returns-in-None-clause-works
-returns-in-None-clause-works g c = λ lists may.
-    let seen = g.S.Source.seen in
-    let cells = c.args.cells.now in
-    let cells_new = c.fill-filled.new.cells in
-    let news = c.args.news.now in
-    let new = c.fill-filled.new.self in
     let done = c.fill-filled.result.done in
-    let told : c.followed.result ≡ followed news (c.args.at + done) = c.followed.ensures in
-    subst (λ (w : Work). Works (InputStands seen new) (InputWorks seen c.args.self.now new lists news cells cells_new w) lists news.written cells cells_new w)
-    (sym (c.ending-in-None.ensures ∙ ap (plain_work done) told))
-    (works_filled seen c.args.self.now new lists news cells cells_new c.args.at news.written done may (omega arith) (omega arith) (omega arith)
-    (subst (λ (o : Option InputEnd). IsFilled new (length cells) done o) c.in-None.is c.fill-filled.ensures.filled)
-    c.fill-filled.ensures.goes (c.fill-filled.ensures.stays_open c.in-None.is))
+    plain-stage (InputStands seen old) (InputStands seen new) (λ _. ⊥) (λ w before. InputWorks seen old new before news cells cells_new w)
+    c.args.at news cells cells_new c.ending-in-Some.result done (Some (Input c.in-Some.how)) c.ending-in-Some.ensures
+    c.fill-filled.ensures.done c.fill-filled.ensures.rest (λ e. cc) tt (λ e. cc)
+    (λ lists may. works_over seen old new lists news cells cells_new c.args.at news.written done c.in-Some.how may
+    (omega arith) (omega arith) (omega arith) c.fill-filled.ensures.goes
+    (subst (λ (o : Option InputEnd). IsFilled new (length cells) done o) c.in-Some.is c.fill-filled.ensures.filled))
+
+pub returns-in-None-clause-work : goal.returns-in-None-clause-work
+returns-in-None-clause-work g c =
+    let seen = g.S.Source.seen in
+    let old = c.args.self.now in
+    let new = c.fill-filled.new.self in
+    let cells = c.args.cells.now in
+    let cells_new = c.fill-filled.new.cells in
+    let news = c.args.news.now in
+    let done = c.fill-filled.result.done in
+    let all : done ≡ length cells = subst (λ (o : Option InputEnd). IsFilled new (length cells) done o) c.in-None.is c.fill-filled.ensures.filled in
+    plain-stage (InputStands seen old) (InputStands seen new) (λ _. ⊥) (λ w before. InputWorks seen old new before news cells cells_new w)
+    c.args.at news cells cells_new c.ending-in-None.result done (followed news (c.args.at + done)) (c.ending-in-None.ensures ∙ ap (plain_work done) c.followed.ensures)
+    c.fill-filled.ensures.done c.fill-filled.ensures.rest (λ e. all) (FollowsNews-followed news (c.args.at + done)) (followed-memory news (c.args.at + done))
+    (λ lists may. works_filled seen old new lists news cells cells_new c.args.at news.written done may (omega arith) (omega arith) (omega arith)
+    all c.fill-filled.ensures.goes (c.fill-filled.ensures.stays_open c.in-None.is))

@@ -5,9 +5,9 @@ use Rattle.chain_model.specs.Apply.{StageList, apply_after}
 use Rattle.chain_model.specs.Joint.{agreement_of}
 use Rattle.chain_model.proofs.AgreementLaws.{agreement_of-within}
 use Rattle.plugin_trait.specs.Steps.{IsSteadyFor}
-use Rattle.plugin_trait.specs.Driving.{Makes}
-use Rattle.stage_run.specs.PluginSteps.{Allows, TellsAgreement, made_so_far}
-use Rattle.stage_run.proofs.AgreeingLemmas.{newly_agreed-within}
+use Rattle.plugin_trait.specs.Driving.{Makes, TellsAgreement, made_so_far}
+use Rattle.stage_run.specs.PluginSteps.{Allows}
+use Rattle.plugin_trait.proofs.AgreeingLemmas.{newly_agreed-within}
 use Rattle.stage_run.proofs.plugin_stage.PluginStage.pass.Goals as goal
 
 -- a mark that was told
@@ -42,28 +42,28 @@ pub returns-clause-makes : goal.returns-clause-makes
 returns-clause-makes g c = λ history mark allows.
     let holds = noted g.P.Plugin.stands_for c.note.new.self history c.args.written mark _ c.is_err.result c.is_err.ensures.negation c.if-is_err.false
     (c.note.ensures.notes history mark allows.holds allows.not_below (omega (arith, allows.within, allows.count))) in
-    subst (λ (r : PluginRule). Makes (apply_after r history c.args.cells.now) (take c.step_over.result.done c.step_over.new.cells) c.step_over.result.end)
-    c.note.ensures.same_rule (c.step_over.ensures.makes history c.args.written holds allows.count)
+    subst (λ (r : PluginRule). Makes (apply_after r history c.args.cells.now) (take c.apply_from.result.count c.apply_from.new.cells) c.apply_from.result.end)
+    c.note.ensures.same_rule (c.apply_from.ensures.makes history c.args.written holds allows.count)
 
 pub returns-clause-far : goal.returns-clause-far
 returns-clause-far g c = λ history mark allows.
     let holds = noted g.P.Plugin.stands_for c.note.new.self history c.args.written mark _ c.is_err.result c.is_err.ensures.negation c.if-is_err.false
     (c.note.ensures.notes history mark allows.holds allows.not_below (omega (arith, allows.within, allows.count))) in
-    subst (λ (r : PluginRule). apply_after r history (take c.step_over.result.done c.args.cells.now) ≡ made_so_far (take c.step_over.result.done c.step_over.new.cells) c.step_over.result.end)
-    c.note.ensures.same_rule (c.step_over.ensures.far history c.args.written holds allows.count)
+    subst (λ (r : PluginRule). apply_after r history (take c.apply_from.result.count c.args.cells.now) ≡ made_so_far (take c.apply_from.result.count c.apply_from.new.cells) c.apply_from.result.end)
+    c.note.ensures.same_rule (c.apply_from.ensures.far history c.args.written holds allows.count)
 
 pub returns-clause-met : goal.returns-clause-met
 returns-clause-met g c = λ history mark allows.
     let holds = noted g.P.Plugin.stands_for c.note.new.self history c.args.written mark _ c.is_err.result c.is_err.ensures.negation c.if-is_err.false
     (c.note.ensures.notes history mark allows.holds allows.not_below (omega (arith, allows.within, allows.count))) in
-    record { mark = c.args.written; holds = c.step_over.ensures.met history c.args.written holds allows.count; below = omega arith; told = λ fine. refl }
+    record { mark = c.args.written; holds = c.apply_from.ensures.met history c.args.written holds allows.count; below = omega arith; told = λ fine. refl }
 
 pub returns-clause-agreed : goal.returns-clause-agreed
 returns-clause-agreed g c = λ history mark allows notes.
     let holds = noted g.P.Plugin.stands_for c.note.new.self history c.args.written mark _ c.is_err.result c.is_err.ensures.negation c.if-is_err.false
     (c.note.ensures.notes history mark allows.holds allows.not_below (omega (arith, allows.within, allows.count))) in
-    subst (λ (r : PluginRule). TellsAgreement r (history ++ take c.step_over.result.done c.args.cells.now) c.args.at c.step_over.result.agreed c.step_over.new.self.agreed)
-    c.note.ensures.same_rule (c.step_over.ensures.agreed history c.args.written holds allows.count
+    subst (λ (r : PluginRule). TellsAgreement r (history ++ take c.apply_from.result.count c.args.cells.now) c.args.at c.apply_from.result.agreed c.apply_from.new.noted)
+    c.note.ensures.same_rule (c.apply_from.ensures.agreed history c.args.written holds allows.count
     (notes ∙ ap (λ (r : PluginRule). is_some (agreement_of r history)) (sym c.note.ensures.same_rule)))
 
 pub returns-clause-room : goal.returns-clause-room
@@ -71,7 +71,7 @@ returns-clause-room g c = λ has.
     let may = c.requires.may in
     let holds = noted g.P.Plugin.stands_for c.note.new.self may.history c.args.written may.mark _ c.is_err.result c.is_err.ensures.negation c.if-is_err.false
     (c.note.ensures.notes may.history may.mark may.allows.holds may.allows.not_below (omega (arith, may.allows.within, may.allows.count))) in
-    c.step_over.ensures.room (record {
+    c.apply_from.ensures.room (record {
       history = may.history;
       mark = c.args.written;
       holds = holds;

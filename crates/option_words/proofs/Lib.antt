@@ -1,0 +1,5 @@
+pub mod NumberLemmas
+pub mod PairLemmas
+pub mod ParsedOptionsLemmas
+pub mod RefusalLemmas
+pub mod SignLemmas

@@ -1,0 +1,9 @@
+pub mod Forms
+pub mod HexText
+pub mod Number
+pub mod OptionTable
+pub mod Options
+pub mod Pairs
+pub mod Ranges
+pub mod Refusal
+pub mod RuleText

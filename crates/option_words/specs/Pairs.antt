@@ -1,0 +1,18 @@
+-- Two numbers joined by a sign, as words write them.
+-- This project's own rule.
+use Rattle.std.specs.Prelude.{ℕ, ◌==◌, List, None, Option, Some, if◌then◌else◌}
+use Rattle.std.specs.List.{after_first, before_first, list_any}
+use Rattle.option_words.specs.Number.{number_within}
+
+-- both, where none is wanting
+abbrev pub both_of : Option ℕ → Option ℕ → Option (ℕ × ℕ)
+both_of (Some one) (Some other) = Some (one, other)
+both_of _ _ = None
+
+-- two numbers with the sign between them, each between a least and a most of its own
+unfoldable pub pair_of : ℕ → ℕ × ℕ → ℕ × ℕ → List ℕ → Option (ℕ × ℕ)
+pair_of sign first second text =
+    if list_any (λ byte. byte == sign) text
+    then both_of (number_within first.0 first.1 (before_first (λ byte. byte == sign) text))
+    (number_within second.0 second.1 (after_first (λ byte. byte == sign) text))
+    else None

@@ -1,0 +1,18 @@
+//! Options as words: the words of one segment come in, what each option of its table says goes out, or the
+//! first rule that they break. The layer above makes a command of its options, and reads each by `ParsedOptions`.
+#![tactic(auto)]
+
+mod commands;
+mod hex_text;
+mod number;
+mod pairs;
+mod parsed_options;
+mod ranges;
+mod refusal;
+mod signs;
+mod words_rule;
+
+pub use commands::{new_command, with_flag, with_operand, with_operands, with_value};
+pub use parsed_options::ParsedOptions;
+pub use refusal::Refusal;
+pub use words_rule::WordsRule;

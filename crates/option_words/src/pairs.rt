@@ -1,0 +1,57 @@
+ghost use Rattle.std.specs.Prelude.{◌≡◌, ◌≤◌, ◌<◌, IfOk, IfSome, MatchResult, false, filter_map, length, map, true};
+ghost use Rattle.std.specs.List.{All, list_all};
+ghost use Rattle.option_words.specs.Forms.{has_form, pair};
+ghost use Rattle.option_words.specs.Pairs.{pair_of};
+ghost use Rattle.option_words.specs.Refusal.{IsRefusedBy};
+ghost use Rattle.option_words.specs.declared.words_rule.WordsRule.TheVariants.{Value};
+
+use crate::number::read_number_within;
+use crate::refusal::Refusal;
+use crate::signs::split_at_sign;
+use crate::words_rule::WordsRule;
+use plug_conf::PairList;
+use std::alloc::Global;
+
+/// Two numbers with a sign between them, each with its least and its most.
+pub fn read_pair(
+    text: &str,
+    sign: char,
+    first: (u64, u64),
+    second: (u64, u64),
+) -> Option<(u64, u64)>
+    requires { sign < 128 }
+    ensures value { result ≡ pair_of sign first second text.now }
+    ensures first_range { IfSome result (λ pair. (first.0 ≤ pair.0) × (pair.0 ≤ first.1)) }
+    ensures second_range { IfSome result (λ pair. (second.0 ≤ pair.1) × (pair.1 ≤ second.1)) }
+{
+    let (before, after) = split_at_sign(text, sign)?;
+    let one = read_number_within(before, first.0, first.1)?;
+    let other = read_number_within(after, second.0, second.1)?;
+    Some((one, other))
+}
+
+/// The pairs of texts, as `read_pair` reads each.
+pub fn read_pairs(
+    alloc: Global,
+    texts: &[&str],
+    sign: char,
+    first: (u64, u64),
+    second: (u64, u64),
+) -> Result<PairList, Refusal>
+    requires { sign < 128 }
+    ensures reads { MatchResult result
+        (λ list. (list_all (has_form (pair sign first second)) (map (λ text. text.now) texts.now) ≡ true)
+        × (list ≡ filter_map (pair_of sign first second) (map (λ text. text.now) texts.now)))
+        (IsRefusedBy Value (list_all (has_form (pair sign first second)) (map (λ text. text.now) texts.now) ≡ false)) }
+    ensures many { IfOk result (λ list. length list ≡ length texts.now) }
+    ensures range { IfOk result (All (λ p. (p.0 ≤ first.1) × (p.1 ≤ second.1))) }
+{
+    let mut pairs = Vec::new(alloc);
+    for text in texts {
+        let Some(pair) = read_pair(text, sign, first, second) else {
+            return Err(Refusal::Broken(WordsRule::Value));
+        };
+        pairs.push(pair)?;
+    }
+    Ok(PairList::of(pairs))
+}

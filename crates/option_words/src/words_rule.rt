@@ -1,0 +1,42 @@
+ghost use Rattle.std.specs.Prelude.{◌≡◌};
+ghost use Rattle.option_words.specs.RuleText.{rule_text};
+
+/// The rules of a command line, in the order in which a segment is held against them.
+#[derive(Drop, Debug, Clone, Copy, PartialEq, Eq)]
+pub enum WordsRule {
+    /// A second `-I`, or a second `-O`.
+    Twice,
+    /// No name follows `-I`, `-P` or `-O`.
+    NoName,
+    /// There is no plugin, input or output of this name.
+    UnknownPlugin,
+    /// The plugin is the 63rd.
+    TooMany,
+    /// The options are none that the segment has, stand twice, or lack their value; or there are
+    /// more operands than it takes.
+    Shape,
+    /// An option or operand is wanting that the segment has to have.
+    Missing,
+    /// A value is not of its form, or out of its range.
+    Value,
+    /// The options do not go together.
+    Conflict,
+}
+
+impl WordsRule {
+    /// What is printed of a broken rule.
+    pub fn text(self) -> &'static str
+        ensures { result.now ≡ rule_text self }
+    {
+        match self {
+            WordsRule::Twice => "second input or output",
+            WordsRule::NoName => "no name",
+            WordsRule::UnknownPlugin => "unknown plugin",
+            WordsRule::TooMany => "too many plugins",
+            WordsRule::Shape => "bad options",
+            WordsRule::Missing => "missing option",
+            WordsRule::Value => "bad value",
+            WordsRule::Conflict => "options in conflict",
+        }
+    }
+}

@@ -1,2 +1,0 @@
-pub mod PidTable
-pub mod Selection

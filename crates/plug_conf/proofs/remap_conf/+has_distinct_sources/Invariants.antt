@@ -1,5 +1,0 @@
-use Rattle.std.proofs.Common.{length}
-use Rattle.plug_conf.proofs.remap_conf.+has_distinct_sources.Given as goal
-
-abbrev pub decreases-has_distinct_sources : goal.decreases-has_distinct_sources
-decreases-has_distinct_sources l = length l.pairs.now

@@ -1,8 +1,0 @@
--- Lawful settings of `continuity`.
--- This project's own rule.
-use Rattle.ts_packet.specs.declared.numbers.TheConstants.{PID_COUNT}
-use Rattle.plug_conf.specs.NumberSet.{AllBelow}
-use Rattle.plug_conf.specs.declared.continuity_conf.ContinuityConf.{ContinuityConf}
-
-pub record IsLawfulContinuity (c : ContinuityConf) : Type 0 where
-  pub pids : AllBelow PID_COUNT c.pid

@@ -1,8 +1,0 @@
--- Lawful settings of `skip`.
--- This project's own rule.
-use Rattle.std.specs.Prelude.{◌≤◌}
-use Rattle.plug_conf.specs.declared.limits.TheConstants.{MOST_PACKETS}
-use Rattle.plug_conf.specs.declared.skip_conf.SkipConf.{SkipConf}
-
-pub record IsLawfulSkip (c : SkipConf) : Type 0 where
-  pub bounded : c.operand ≤ MOST_PACKETS

@@ -1,0 +1,75 @@
+ghost use Rattle.std.specs.Prelude.{◌≡◌, ◌==◌, ◌<◌, IfOk, length};
+ghost use Rattle.plug_conf.specs.PidTable.{IsTableOf};
+ghost use Rattle.plug_conf.specs.Selection.{is_selected};
+ghost use Rattle.plug_conf.specs.NumberSet.{has_number};
+
+use crate::number_set::NumberSet;
+use std::alloc::{AllocError, Global};
+use std::marker::Model;
+use ts_packet::PID_COUNT;
+
+/// A set of PIDs, seen as its ranges. Whether a PID is in it is looked up, and not searched.
+#[derive(Drop, Debug)]
+pub struct PidSet {
+    ranges: NumberSet,
+    table: Vec<bool>,
+}
+
+impl Model for PidSet {
+    ghost use Rattle.std.specs.Prelude.{List, ℕ};
+    ghost use Rattle.plug_conf.specs.PidTable.{IsTableOf};
+
+    ghost Value = { List (ℕ × ℕ) };
+
+    ghost view = { λ s. s.ranges };
+
+    ghost invariant = { λ s. IsTableOf s.ranges s.table.items };
+}
+
+impl PidSet {
+    /// The set of these ranges. It takes 8 KiB and a copy of the ranges, and asks them 8192 times.
+    pub fn of(alloc: Global, ranges: &NumberSet) -> Result<PidSet, AllocError>
+        ensures { IfOk result (λ set. set ≡ ranges.now) }
+    {
+        let table = table_of(alloc, ranges)?;
+        let ranges = NumberSet::of(Vec::from_slice(alloc, ranges.as_slice())?);
+        Ok(PidSet { ranges, table })
+    }
+
+    /// Whether the PID is in one of the ranges.
+    #[inline]
+    pub fn has(&self, pid: u16) -> bool
+        requires { pid < PID_COUNT }
+        ensures { result ≡ has_number self.now pid }
+    {
+        self.table[usize::from(pid)]
+    }
+
+    /// Whether the PID is selected: any where the set is empty, else one that is in the set, or with
+    /// `negate` one that is not.
+    #[inline]
+    pub fn selects(&self, negate: bool, pid: u16) -> bool
+        requires { pid < PID_COUNT }
+        ensures { result ≡ is_selected self.now negate pid }
+    {
+        self.is_empty() || self.has(pid) != negate
+    }
+
+    /// Whether there is no PID in the set.
+    pub fn is_empty(&self) -> bool
+        ensures { result ≡ (length self.now == 0) }
+    {
+        self.ranges.is_empty()
+    }
+}
+
+// Of each PID, whether it is in one of the ranges.
+fn table_of(alloc: Global, ranges: &NumberSet) -> Result<Vec<bool>, AllocError>
+    ensures { IfOk result (λ table. IsTableOf ranges.now table.items) }
+{
+    let mut table = Vec::with_capacity(alloc, usize::from(PID_COUNT))?;
+    for pid in 0..PID_COUNT {
+        table.push(ranges.has(u64::from(pid)))?;
+    }
+    Ok(table)
+}

@@ -1,0 +1,48 @@
+-- The words of `until`.
+-- This project's own rule.
+use Rattle.std.specs.Prelude.{ℕ, ◌||◌, List, [], ◌∷◌, Option, codes}
+use Rattle.clap.specs.Walk.{Row}
+use Rattle.plug_end.specs.UntilSettings.{until_together}
+use Rattle.plug_end.specs.declared.until_conf.UntilConf.{UntilConf}
+use Rattle.plug_conf.specs.declared.limits.TheConstants.{MOST_NUMBER}
+use Rattle.option_words.specs.Forms.{Form, number}
+use Rattle.option_words.specs.Options.{OptionRow, flag, has_flag, has_value, read_value, value}
+use Rattle.option_words.specs.OptionTable.{OptionTable}
+use Rattle.option_words.specs.Number.{number_within}
+
+-- a count, 1 to 2^60
+abbrev pub until_form : Form
+until_form = number 1 MOST_NUMBER
+
+-- the options
+abbrev pub until_rows : List OptionRow
+until_rows = record { name = codes "packets"; kind = value until_form }
+    ∷ record { name = codes "bytes"; kind = value until_form }
+    ∷ record { name = codes "unit-start-count"; kind = value until_form }
+    ∷ record { name = codes "exclude-last"; kind = flag }
+    ∷ record { name = codes "joint-termination"; kind = flag }
+    ∷ []
+
+-- the count of an option
+abbrev pub until_number : List ℕ → List Row → Option ℕ
+until_number = read_value (number_within 1 MOST_NUMBER)
+
+-- the settings of what is found
+abbrev pub until_settings : List Row → UntilConf
+until_settings found = record {
+  packets = until_number (codes "packets") found;
+  bytes = until_number (codes "bytes") found;
+  unit_start_count = until_number (codes "unit-start-count") found;
+  exclude_last = has_flag (codes "exclude-last") found;
+  joint_termination = has_flag (codes "joint-termination") found;
+}
+
+-- one of the three counts has to be given
+abbrev pub until : OptionTable UntilConf
+until = record {
+  rows = until_rows;
+  has_needed = λ found. has_value (codes "packets") found
+      || (has_value (codes "bytes") found || has_value (codes "unit-start-count") found);
+  settings = until_settings;
+  go_together = λ found. until_together (until_settings found);
+}

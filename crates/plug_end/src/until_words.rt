@@ -1,0 +1,55 @@
+ghost use Rattle.std.specs.Prelude.{◌≡◌, IfOk, map};
+ghost use Rattle.std.specs.String.{string_bytes};
+ghost use Rattle.clap.specs.Simple.{app_of};
+ghost use Rattle.plug_end.specs.UntilSettings.{IsLawfulUntil};
+ghost use Rattle.plug_end.specs.UntilWords.{until, until_rows};
+ghost use Rattle.option_words.specs.Options.{command_of};
+ghost use Rattle.option_words.specs.Refusal.{Reads, ReadsParsed};
+
+use crate::until_conf::UntilConf;
+use clap::Command;
+use option_words::{ParsedOptions, Refusal, WordsRule, new_command, with_flag, with_value};
+use plug_conf::MOST_NUMBER;
+use std::alloc::{AllocError, Global};
+
+fn until_command<'a>(alloc: Global) -> Result<Command<'a>, AllocError>
+    ensures { IfOk result (λ c. app_of c ≡ command_of until_rows) }
+{
+    let command = with_value(alloc, new_command(alloc), "packets")?;
+    let command = with_value(alloc, command, "bytes")?;
+    let command = with_value(alloc, command, "unit-start-count")?;
+    let command = with_flag(alloc, command, "exclude-last")?;
+    with_flag(alloc, command, "joint-termination")
+}
+
+fn until_settings(found: &ParsedOptions) -> Result<UntilConf, Refusal>
+    ensures reads { ReadsParsed until found.now result }
+    ensures lawful { IfOk result IsLawfulUntil }
+{
+    let is_given = found.has_value("packets")
+        || found.has_value("bytes")
+        || found.has_value("unit-start-count");
+    if !is_given {
+        return Err(Refusal::Broken(WordsRule::Missing));
+    }
+    let conf = UntilConf {
+        packets: found.number("packets", 1, MOST_NUMBER)?,
+        bytes: found.number("bytes", 1, MOST_NUMBER)?,
+        unit_start_count: found.number("unit-start-count", 1, MOST_NUMBER)?,
+        exclude_last: found.has_flag("exclude-last"),
+        joint_termination: found.has_flag("joint-termination"),
+    };
+    if !conf.goes_together() {
+        return Err(Refusal::Broken(WordsRule::Conflict));
+    }
+    Ok(conf)
+}
+
+/// Reads the words after the name `until`.
+pub fn read_until(alloc: Global, words: &[String]) -> Result<UntilConf, Refusal>
+    ensures reads { Reads until (map string_bytes words.now) result }
+    ensures lawful { IfOk result IsLawfulUntil }
+{
+    let found = ParsedOptions::of(until_command(alloc)?, words)?;
+    until_settings(&found)
+}

@@ -1,0 +1,46 @@
+-- The words of `slice`.
+-- This project's own rule.
+use Rattle.std.specs.Prelude.{ℕ, ◌||◌, List, [], ◌∷◌, Option, codes}
+use Rattle.clap.specs.Walk.{Row}
+use Rattle.plug_pass.specs.SliceSettings.{slices_differ}
+use Rattle.plug_pass.specs.declared.slice_conf.SliceConf.{SliceConf}
+use Rattle.plug_conf.specs.declared.limits.TheConstants.{MOST_NUMBER}
+use Rattle.option_words.specs.Forms.{Form, number}
+use Rattle.option_words.specs.Options.{OptionRow, has_value, read_value, value}
+use Rattle.option_words.specs.OptionTable.{OptionTable}
+use Rattle.option_words.specs.Number.{number_within}
+
+-- a number of packets, 0 to 2^60
+abbrev pub slice_form : Form
+slice_form = number 0 MOST_NUMBER
+
+-- the options
+abbrev pub slice_rows : List OptionRow
+slice_rows = record { name = codes "drop"; kind = value slice_form }
+    ∷ record { name = codes "null"; kind = value slice_form }
+    ∷ record { name = codes "pass"; kind = value slice_form }
+    ∷ record { name = codes "stop"; kind = value slice_form }
+    ∷ []
+
+-- the number of an option
+abbrev pub slice_number : List ℕ → List Row → Option ℕ
+slice_number = read_value (number_within 0 MOST_NUMBER)
+
+-- the settings of what is found
+abbrev pub slice_settings : List Row → SliceConf
+slice_settings found = record {
+  drop = slice_number (codes "drop") found;
+  null = slice_number (codes "null") found;
+  pass = slice_number (codes "pass") found;
+  stop = slice_number (codes "stop") found;
+}
+
+-- one of the four has to be given
+abbrev pub slice : OptionTable SliceConf
+slice = record {
+  rows = slice_rows;
+  has_needed = λ found. has_value (codes "drop") found || (has_value (codes "null") found
+      || (has_value (codes "pass") found || has_value (codes "stop") found));
+  settings = slice_settings;
+  go_together = λ found. slices_differ (slice_settings found);
+}

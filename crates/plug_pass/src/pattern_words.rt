@@ -1,0 +1,55 @@
+ghost use Rattle.std.specs.Prelude.{◌≡◌, IfOk, map};
+ghost use Rattle.std.specs.String.{string_bytes};
+ghost use Rattle.clap.specs.Simple.{app_of};
+ghost use Rattle.plug_pass.specs.PatternSettings.{IsLawfulPattern};
+ghost use Rattle.plug_pass.specs.PatternWords.{pattern, pattern_rows};
+ghost use Rattle.option_words.specs.Options.{command_of};
+ghost use Rattle.option_words.specs.Refusal.{Reads, ReadsParsed};
+
+use crate::pattern_conf::PatternConf;
+use clap::Command;
+use option_words::{
+    ParsedOptions, Refusal, WordsRule, new_command, with_flag, with_operand, with_value,
+};
+use plug_conf::{LAST_OFFSET, LAST_PID};
+use std::alloc::{AllocError, Global};
+use ts_packet::PAYLOAD_SIZE;
+
+fn pattern_command<'a>(alloc: Global) -> Result<Command<'a>, AllocError>
+    ensures { IfOk result (λ c. app_of c ≡ command_of pattern_rows) }
+{
+    let command = with_operand(alloc, new_command(alloc), "operand")?;
+    let command = with_value(alloc, command, "pid")?;
+    let command = with_value(alloc, command, "offset-pusi")?;
+    let command = with_value(alloc, command, "offset-non-pusi")?;
+    with_flag(alloc, command, "negate")
+}
+
+fn pattern_settings(alloc: Global, found: &ParsedOptions) -> Result<PatternConf, Refusal>
+    ensures reads { ReadsParsed pattern found.now result }
+    ensures lawful { IfOk result IsLawfulPattern }
+{
+    if !found.has_value("operand") {
+        return Err(Refusal::Broken(WordsRule::Missing));
+    }
+    let operand = found.bytes(alloc, "operand", 1, PAYLOAD_SIZE)?;
+    let pid = found.ranges(alloc, "pid", LAST_PID)?;
+    let offset_pusi = found.number("offset-pusi", 0, LAST_OFFSET)?;
+    let offset_non_pusi = found.number("offset-non-pusi", 0, LAST_OFFSET)?;
+    Ok(PatternConf {
+        operand,
+        pid,
+        negate: found.has_flag("negate"),
+        offset_pusi,
+        offset_non_pusi,
+    })
+}
+
+/// Reads the words after the name `pattern`.
+pub fn read_pattern(alloc: Global, words: &[String]) -> Result<PatternConf, Refusal>
+    ensures reads { Reads pattern (map string_bytes words.now) result }
+    ensures lawful { IfOk result IsLawfulPattern }
+{
+    let found = ParsedOptions::of(pattern_command(alloc)?, words)?;
+    pattern_settings(alloc, &found)
+}

@@ -1,0 +1,42 @@
+ghost use Rattle.std.specs.Prelude.{◌≡◌};
+ghost use Rattle.plug_pass.specs.SliceSettings.{same_numbers, slices_differ};
+
+/// Settings of `slice`, whose options each name the packet from which on they hold.
+///
+/// Packets are counted from 0. At least one option is given, and no two have the same number. Each
+/// number is at most 2^60.
+#[derive(Drop, Debug)]
+pub struct SliceConf {
+    /// From here on packets are dropped.
+    pub drop: Option<u64>,
+    /// From here on packets become null packets.
+    pub null: Option<u64>,
+    /// From here on packets pass.
+    pub pass: Option<u64>,
+    /// Here the chain ends.
+    pub stop: Option<u64>,
+}
+
+impl SliceConf {
+    /// Whether no two options have the same number.
+    pub fn has_distinct_numbers(&self) -> bool
+        ensures { result ≡ slices_differ self.now }
+    {
+        !are_same(self.drop, self.null)
+            && !are_same(self.drop, self.pass)
+            && !are_same(self.drop, self.stop)
+            && !are_same(self.null, self.pass)
+            && !are_same(self.null, self.stop)
+            && !are_same(self.pass, self.stop)
+    }
+}
+
+// Both are given, with the same number.
+fn are_same(one: Option<u64>, other: Option<u64>) -> bool
+    ensures { result ≡ same_numbers one other }
+{
+    match (one, other) {
+        (Some(a), Some(b)) => a == b,
+        _ => false,
+    }
+}

@@ -1,0 +1,58 @@
+ghost use Rattle.std.specs.Prelude.{◌≡◌, IfOk, map};
+ghost use Rattle.std.specs.String.{string_bytes};
+ghost use Rattle.clap.specs.Simple.{app_of};
+ghost use Rattle.plug_pass.specs.SliceSettings.{IsLawfulSlice};
+ghost use Rattle.plug_pass.specs.SliceWords.{slice, slice_rows};
+ghost use Rattle.option_words.specs.Options.{command_of};
+ghost use Rattle.option_words.specs.Refusal.{Reads, ReadsParsed};
+
+use crate::slice_conf::SliceConf;
+use clap::Command;
+use option_words::{ParsedOptions, Refusal, WordsRule, new_command, with_value};
+use plug_conf::MOST_NUMBER;
+use std::alloc::{AllocError, Global};
+
+fn slice_command<'a>(alloc: Global) -> Result<Command<'a>, AllocError>
+    ensures { IfOk result (λ c. app_of c ≡ command_of slice_rows) }
+{
+    let command = with_value(alloc, new_command(alloc), "drop")?;
+    let command = with_value(alloc, command, "null")?;
+    let command = with_value(alloc, command, "pass")?;
+    with_value(alloc, command, "stop")
+}
+
+fn slice_settings(found: &ParsedOptions) -> Result<SliceConf, Refusal>
+    ensures reads { ReadsParsed slice found.now result }
+    ensures lawful { IfOk result IsLawfulSlice }
+{
+    let is_given = found.has_value("drop")
+        || found.has_value("null")
+        || found.has_value("pass")
+        || found.has_value("stop");
+    if !is_given {
+        return Err(Refusal::Broken(WordsRule::Missing));
+    }
+    let drop = found.number("drop", 0, MOST_NUMBER)?;
+    let null = found.number("null", 0, MOST_NUMBER)?;
+    let pass = found.number("pass", 0, MOST_NUMBER)?;
+    let stop = found.number("stop", 0, MOST_NUMBER)?;
+    let conf = SliceConf {
+        drop,
+        null,
+        pass,
+        stop,
+    };
+    if !conf.has_distinct_numbers() {
+        return Err(Refusal::Broken(WordsRule::Conflict));
+    }
+    Ok(conf)
+}
+
+/// Reads the words after the name `slice`.
+pub fn read_slice(alloc: Global, words: &[String]) -> Result<SliceConf, Refusal>
+    ensures reads { Reads slice (map string_bytes words.now) result }
+    ensures lawful { IfOk result IsLawfulSlice }
+{
+    let found = ParsedOptions::of(slice_command(alloc)?, words)?;
+    slice_settings(&found)
+}

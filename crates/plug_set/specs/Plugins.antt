@@ -1,0 +1,114 @@
+-- The plugins that there are: their names, their options, which settings are lawful, and the rules that these mean.
+-- This project's own rule.
+use Rattle.std.specs.Prelude.{ℕ, List, [], ◌∷◌, Bool, false, Option, None, Some, codes, find, if◌then◌else◌}
+use Rattle.std.specs.Str.{bytes_eq}
+use Rattle.chain_model.specs.PluginRule.{PluginRule}
+use Rattle.option_words.specs.OptionTable.{OptionTable, made_into}
+use Rattle.plug_pass.specs.FilterRule.{filter_rule}
+use Rattle.plug_pass.specs.FilterSettings.{IsLawfulFilter}
+use Rattle.plug_pass.specs.FilterWords.{filter}
+use Rattle.plug_pass.specs.SkipRule.{skip_rule}
+use Rattle.plug_pass.specs.SkipSettings.{IsLawfulSkip}
+use Rattle.plug_pass.specs.SkipWords.{skip}
+use Rattle.plug_pass.specs.SliceRule.{slice_rule}
+use Rattle.plug_pass.specs.SliceSettings.{IsLawfulSlice}
+use Rattle.plug_pass.specs.SliceWords.{slice}
+use Rattle.plug_pass.specs.PatternRule.{pattern_rule}
+use Rattle.plug_pass.specs.PatternSettings.{IsLawfulPattern}
+use Rattle.plug_pass.specs.PatternWords.{pattern}
+use Rattle.plug_end.specs.UntilRule.{until_rule}
+use Rattle.plug_end.specs.UntilSettings.{IsLawfulUntil}
+use Rattle.plug_end.specs.UntilWords.{until}
+use Rattle.plug_watch.specs.CountRule.{count_rule}
+use Rattle.plug_watch.specs.CountSettings.{IsLawfulCount}
+use Rattle.plug_watch.specs.CountWords.{count}
+use Rattle.plug_watch.specs.ContinuityRule.{continuity_rule}
+use Rattle.plug_watch.specs.ContinuitySettings.{IsLawfulContinuity}
+use Rattle.plug_watch.specs.ContinuityWords.{continuity}
+use Rattle.plug_move.specs.RemapRule.{remap_rule}
+use Rattle.plug_move.specs.RemapSettings.{IsLawfulRemap}
+use Rattle.plug_move.specs.RemapWords.{remap}
+use Rattle.plug_set.specs.declared.plugin_conf.PluginConf.{PluginConf}
+use Rattle.plug_set.specs.declared.plugin_conf.PluginConf.TheVariants.{Filter, Skip, Slice, Pattern, Until, Count, Continuity, Remap}
+use Rattle.plug_set.specs.declared.plugin_conf.PluginKind.{PluginKind}
+use Rattle.plug_set.specs.declared.plugin_conf.PluginKind.TheVariants as kind
+
+-- the plugins
+abbrev pub kinds : List PluginKind
+kinds = kind.Filter ∷ kind.Skip ∷ kind.Slice ∷ kind.Pattern ∷ kind.Until ∷ kind.Count ∷ kind.Continuity ∷ kind.Remap ∷ []
+
+-- their names, as the command line and the reports have them
+abbrev pub name_of_kind : PluginKind → List ℕ
+name_of_kind kind.Filter = codes "filter"
+name_of_kind kind.Skip = codes "skip"
+name_of_kind kind.Slice = codes "slice"
+name_of_kind kind.Pattern = codes "pattern"
+name_of_kind kind.Until = codes "until"
+name_of_kind kind.Count = codes "count"
+name_of_kind kind.Continuity = codes "continuity"
+name_of_kind kind.Remap = codes "remap"
+
+-- the plugin of a name; one that is not built yet has no kind
+abbrev pub plugin_kind_named : List ℕ → Option PluginKind
+plugin_kind_named name = find (λ k. bytes_eq name (name_of_kind k)) kinds
+
+-- what each takes
+abbrev pub options_of_plugin : PluginKind → OptionTable PluginConf
+options_of_plugin kind.Filter = made_into Filter filter
+options_of_plugin kind.Skip = made_into Skip skip
+options_of_plugin kind.Slice = made_into Slice slice
+options_of_plugin kind.Pattern = made_into Pattern pattern
+options_of_plugin kind.Until = made_into Until until
+options_of_plugin kind.Count = made_into Count count
+options_of_plugin kind.Continuity = made_into Continuity continuity
+options_of_plugin kind.Remap = made_into Remap remap
+
+-- the plugin that settings are of
+abbrev pub kind_of : PluginConf → PluginKind
+kind_of (Filter conf) = kind.Filter
+kind_of (Skip conf) = kind.Skip
+kind_of (Slice conf) = kind.Slice
+kind_of (Pattern conf) = kind.Pattern
+kind_of (Until conf) = kind.Until
+kind_of (Count conf) = kind.Count
+kind_of (Continuity conf) = kind.Continuity
+kind_of (Remap conf) = kind.Remap
+
+-- its name
+abbrev pub name_of : PluginConf → List ℕ
+name_of conf = name_of_kind (kind_of conf)
+
+-- the settings have what the plugin needs, each number in its range, and no two that exclude each
+-- other
+abbrev pub IsLawful : PluginConf → Type 0
+IsLawful (Filter conf) = IsLawfulFilter conf
+IsLawful (Skip conf) = IsLawfulSkip conf
+IsLawful (Slice conf) = IsLawfulSlice conf
+IsLawful (Pattern conf) = IsLawfulPattern conf
+IsLawful (Until conf) = IsLawfulUntil conf
+IsLawful (Count conf) = IsLawfulCount conf
+IsLawful (Continuity conf) = IsLawfulContinuity conf
+IsLawful (Remap conf) = IsLawfulRemap conf
+
+-- the rule that the settings mean
+abbrev pub rule_of : PluginConf → PluginRule
+rule_of (Filter conf) = filter_rule conf
+rule_of (Skip conf) = skip_rule conf.operand
+rule_of (Slice conf) = slice_rule conf
+rule_of (Pattern conf) = pattern_rule conf
+rule_of (Until conf) = until_rule conf
+rule_of (Count conf) = count_rule conf
+rule_of (Continuity conf) = continuity_rule conf
+rule_of (Remap conf) = remap_rule conf
+
+-- for how many positions behind the last mark a plugin takes its room before the run, where it does: all of
+-- them do but those whose lines grow with the stream
+abbrev pub steady_of : PluginConf → ℕ → Option ℕ
+steady_of (Count conf) buffer = if conf.all then None else Some buffer
+steady_of (Continuity conf) buffer = None
+steady_of _ buffer = Some buffer
+
+-- the plugin agrees to a common end, and does not end the chain by itself
+abbrev pub uses_joint : PluginConf → Bool
+uses_joint (Until conf) = conf.joint_termination
+uses_joint _ = false

@@ -1,0 +1,27 @@
+-- The words of `continuity`.
+-- This project's own rule.
+use Rattle.std.specs.Prelude.{List, [], ◌∷◌, codes, true, unwrap_or}
+use Rattle.plug_watch.specs.declared.continuity_conf.ContinuityConf.{ContinuityConf}
+use Rattle.plug_conf.specs.declared.limits.TheConstants.{LAST_PID}
+use Rattle.option_words.specs.Forms.{ranges}
+use Rattle.option_words.specs.Options.{OptionRow, flag, has_flag, read_value, value}
+use Rattle.option_words.specs.OptionTable.{OptionTable}
+use Rattle.option_words.specs.Ranges.{ranges_of}
+
+-- the options
+abbrev pub continuity_rows : List OptionRow
+continuity_rows = record { name = codes "pid"; kind = value (ranges LAST_PID) }
+    ∷ record { name = codes "fix"; kind = flag }
+    ∷ []
+
+-- nothing has to be given
+abbrev pub continuity : OptionTable ContinuityConf
+continuity = record {
+  rows = continuity_rows;
+  has_needed = λ found. true;
+  settings = λ found. record {
+    pid = unwrap_or (read_value (ranges_of LAST_PID) (codes "pid") found) [];
+    fix = has_flag (codes "fix") found;
+  };
+  go_together = λ found. true;
+}

@@ -1,0 +1,13 @@
+-- The rule of a plugin that says nothing. This project's own rule.
+use Rattle.std.specs.Prelude.{ℕ, List, [], false}
+use Rattle.ts_packet.specs.declared.cell.Cell.{Cell}
+use Rattle.chain_model.specs.PluginRule.{PluginRule, RuleOutcome}
+
+-- the rule that only says what becomes of a packet: it has no lines and no summary, and never agrees to end
+abbrev pub silent_rule : (List Cell → List ℕ → RuleOutcome) → PluginRule
+silent_rule outcome = record {
+  outcome_of = outcome;
+  lines_of = λ _ _. [];
+  summary_of = λ _. [];
+  agrees = λ _. false;
+}

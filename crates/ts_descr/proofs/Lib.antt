@@ -1,0 +1,2 @@
+mod TypedLemmas
+mod LawLemmas

@@ -1,0 +1,49 @@
+//! One descriptor by its page.
+
+ghost use Rattle.std.specs.Prelude.{◌≡◌, ◌-◌, ◌^◌, min, true, option_map, IfOk, IfSome, IsTrue};
+ghost use Rattle.ts_fields.specs.Bits.{bits_of};
+ghost use Rattle.ts_fields.specs.Bodies.{page, page_sound, page_fits, page_shaped, body_held, read_page};
+ghost use Rattle.ts_descr.specs.Descriptors.{Writes};
+
+use crate::refusal::DescrRefusal;
+use std::alloc::{AllocError, Global};
+use ts_bits::Descriptor;
+use ts_fields::{Body, Layout, NotRead, length_of_bits, read_body, write_body};
+
+/// What a descriptor's body holds by a page; none where it is not of that page. The tag is not looked at.
+pub fn read_by_page(alloc: Global, layout: &Layout, from: &Descriptor) -> Result<Option<Body>, AllocError>
+    requires { IsTrue (page_sound (page layout.now)) }
+    ensures read { IfOk result (λ o. option_map body_held o
+        ≡ read_page (page layout.now) (bits_of from.now.body)) }
+    ensures fits { IfOk result (λ o. IfSome o (λ b. page_fits (page layout.now) (body_held b) ≡ true)) }
+{
+    match read_body(alloc, layout, from.body()) {
+        Ok(body) => Ok(Some(body)),
+        Err(NotRead::Outside) => Ok(None),
+        Err(NotRead::NoMemory) => Err(AllocError),
+    }
+}
+
+/// The descriptor with the page's tag whose body holds this.
+pub fn write_by_page(alloc: Global, layout: &Layout, body: &Body) -> Result<Descriptor, DescrRefusal>
+    requires sound { IsTrue (page_sound (page layout.now)) }
+    requires shaped { page_shaped (page layout.now) (body_held body.now) ≡ true }
+    ensures { Writes (page layout.now) (body_held body.now) result }
+{
+    let bytes = write_body(alloc, layout, body)?;
+    // A law, which runs nothing: a row of bytes has eight times as many bits.
+    length_of_bits();
+    if bytes.len() > 255 {
+        let bytes = told_size(bytes.len());
+        return Err(DescrRefusal::TooLarge { bytes });
+    }
+    let descriptor = Descriptor::new(alloc, layout.tag, &bytes)?;
+    Ok(descriptor)
+}
+
+/// A number of bytes as it is told.
+fn told_size(bytes: usize) -> u32
+    ensures { result ≡ min bytes (2 ^ 32 - 1) }
+{
+    u32::try_from(bytes).unwrap_or(u32::MAX)
+}

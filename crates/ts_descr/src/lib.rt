@@ -1,0 +1,17 @@
+//! Descriptors come in, and values with a field for each name go out; and back.
+//! The layer above rests on `read_fields`, `read_items`, `write_fields` and `write_items`, and on `Fields`.
+#![tactic(auto)]
+
+mod by_page;
+mod descr_laws;
+mod fields;
+mod language;
+mod refusal;
+mod typed;
+
+pub use by_page::{read_by_page, write_by_page};
+pub use descr_laws::{typed_is_written, written_is_typed};
+pub use fields::Fields;
+pub use language::LanguageCode;
+pub use refusal::DescrRefusal;
+pub use typed::{read_fields, read_items, write_fields, write_items};

@@ -1,0 +1,8 @@
+-- A tag that no page has.
+use Rattle.std.proofs.Common.{rules}
+use Rattle.ts_descr.specs.Descriptors.{read_typed}
+use Rattle.ts_descr_delivery.proofs.delivery_descr.DeliveryDescr.read.Goals as goal
+
+pub returns-in_default : goal.returns-in_default
+unfolding read_typed
+returns-in_default c = search rules

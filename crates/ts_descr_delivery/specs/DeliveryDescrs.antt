@@ -1,0 +1,29 @@
+-- The delivery system descriptors as values: their pages, and what their bodies hold.
+-- ETSI EN 300 468 V1.17.1, 6.2.13.
+use Rattle.std.specs.Prelude.{List, [], ◌∷◌, map}
+use Rattle.ts_fields.specs.Bodies.{Page, Holding}
+use Rattle.ts_pages.specs.DeliveryPages.{satellite, cable, terrestrial}
+use Rattle.ts_descr.specs.Descriptors.{Typed, fields_alone, items_alone}
+use Rattle.ts_descr_delivery.specs.declared.delivery_descr.DeliveryDescr.{DeliveryDescr}
+use Rattle.ts_descr_delivery.specs.declared.delivery_descr.DeliveryDescr.TheVariants as descrs
+use Rattle.ts_descr_delivery.specs.DeliveryFields.{satellite_fields, cable_fields, terrestrial_fields}
+
+-- the pages, in the order of their tags
+abbrev pub delivery_pages : List Page
+delivery_pages = satellite ∷ cable ∷ terrestrial ∷ []
+
+-- the page of a descriptor
+abbrev pub delivery_page : DeliveryDescr → Page
+delivery_page (descrs.Satellite d) = satellite
+delivery_page (descrs.Cable d) = cable
+delivery_page (descrs.Terrestrial d) = terrestrial
+
+-- what its body holds
+abbrev pub delivery_holding : DeliveryDescr → Holding
+delivery_holding (descrs.Satellite d) = fields_alone (satellite_fields d)
+delivery_holding (descrs.Cable d) = fields_alone (cable_fields d)
+delivery_holding (descrs.Terrestrial d) = fields_alone (terrestrial_fields d)
+
+-- its tag with what its body holds
+abbrev pub delivery_typed : DeliveryDescr → Typed
+delivery_typed d = record { tag = (delivery_page d).tag; holding = delivery_holding d }

@@ -1,0 +1,2 @@
+pub mod DeliveryFields
+pub mod DeliveryDescrs

@@ -1,0 +1,18 @@
+//! Descriptors of delivery systems come in; values with a field for each name go out, and back.
+//! The layer above rests on `DeliveryDescr::read` and `DeliveryDescr::write`, by the pages of `ts_pages`.
+#![tactic(auto)]
+
+mod cable;
+mod delivery_descr;
+mod delivery_laws;
+mod satellite;
+mod terrestrial;
+#[cfg(test)]
+mod tests;
+
+pub use cable::Cable;
+pub use delivery_descr::DeliveryDescr;
+pub use delivery_laws::{read_is_written, written_is_read};
+pub use satellite::Satellite;
+pub use terrestrial::Terrestrial;
+pub use ts_descr::{DescrRefusal};

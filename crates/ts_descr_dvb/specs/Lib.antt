@@ -1,0 +1,2 @@
+pub mod DvbFields
+pub mod DvbDescrs

@@ -1,0 +1,38 @@
+//! The fields of a `private_data_specifier_descriptor` (ETSI EN 300 468, 6.2.31).
+
+use std::alloc::{AllocError, Global};
+use ts_descr::Fields;
+use ts_fields::FieldValue;
+
+/// Whose private descriptors follow (ETSI EN 300 468, 6.2.31).
+#[derive(Debug, Drop)]
+pub struct PrivateDataSpecifier {
+    /// `private_data_specifier`, 32 bits.
+    pub private_data_specifier: u32,
+}
+
+impl Fields for PrivateDataSpecifier {
+    ghost use Rattle.ts_pages.specs.DvbPages.{private_data_specifier};
+    ghost use Rattle.ts_descr_dvb.specs.DvbFields.{private_data_specifier_fields};
+
+    ghost rows = { private_data_specifier.head };
+
+    ghost fields = { private_data_specifier_fields };
+
+    #[tactic(auto, unfolding(ts_fields::specs::Fitting::fits))]
+    fn of(alloc: Global, values: &[FieldValue]) -> Result<Option<PrivateDataSpecifier>, AllocError> {
+        let [FieldValue::Number(private_data_specifier)] = values else {
+            return Ok(None);
+        };
+        Ok(Some(PrivateDataSpecifier {
+            private_data_specifier: *private_data_specifier as u32,
+        }))
+    }
+
+    #[tactic(auto, unfolding(ts_fields::specs::Fitting::shaped))]
+    fn values(&self, alloc: Global) -> Result<Vec<FieldValue>, AllocError> {
+        let mut values = Vec::new(alloc);
+        values.push(FieldValue::Number(u64::from(self.private_data_specifier)))?;
+        Ok(values)
+    }
+}

@@ -1,0 +1,2 @@
+pub mod MpegFields
+pub mod MpegDescrs

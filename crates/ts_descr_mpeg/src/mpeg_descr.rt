@@ -1,0 +1,76 @@
+//! The MPEG descriptors.
+
+ghost use Rattle.std.specs.Prelude.{◌≡◌, option_map, IfOk};
+ghost use Rattle.ts_descr.specs.Descriptors.{read_typed, Writes};
+ghost use Rattle.ts_descr_mpeg.specs.MpegDescrs.{mpeg_pages, mpeg_page, mpeg_holding, mpeg_typed};
+
+use crate::ca::Ca;
+use crate::data_stream_alignment::DataStreamAlignment;
+use crate::language::Language;
+use crate::maximum_bitrate::MaximumBitrate;
+use crate::registration::Registration;
+use std::alloc::{AllocError, Global};
+use ts_bits::Descriptor;
+use ts_descr::{DescrRefusal, read_fields, read_items, write_fields, write_items};
+use ts_pages::mpeg;
+
+/// A descriptor of ISO/IEC 13818-1:2019, 2.6, with a field for each name of its page.
+#[derive(Debug, Drop)]
+pub enum MpegDescr {
+    /// Tag 0x05: who gives the private data of a program or component their meaning (2.6.8).
+    Registration(Registration),
+    /// Tag 0x06: which units of a stream begin its packets (2.6.10).
+    DataStreamAlignment(DataStreamAlignment),
+    /// Tag 0x09: the PID of the messages of a conditional access system (2.6.16).
+    Ca(Ca),
+    /// Tag 0x0A: the languages of a component (2.6.18).
+    Iso639Language(Vec<Language>),
+    /// Tag 0x0E: the most bits of a component, in units of 50 bytes a second (2.6.26).
+    MaximumBitrate(MaximumBitrate),
+}
+
+impl MpegDescr {
+    /// What a descriptor says; none exactly where its tag is none of these, or its body is not of its page,
+    /// in which reserved bits are ones. An `AllocError` leaves nothing.
+    pub fn read(alloc: Global, from: &Descriptor) -> Result<Option<MpegDescr>, AllocError>
+        ensures { IfOk result (λ o. option_map mpeg_typed o ≡ read_typed mpeg_pages from.now) }
+    {
+        match from.tag() {
+            0x05 => match read_fields(alloc, &mpeg::REGISTRATION, from)? {
+                Some(value) => Ok(Some(MpegDescr::Registration(value))),
+                None => Ok(None),
+            },
+            0x06 => match read_fields(alloc, &mpeg::DATA_STREAM_ALIGNMENT, from)? {
+                Some(value) => Ok(Some(MpegDescr::DataStreamAlignment(value))),
+                None => Ok(None),
+            },
+            0x09 => match read_fields(alloc, &mpeg::CA, from)? {
+                Some(value) => Ok(Some(MpegDescr::Ca(value))),
+                None => Ok(None),
+            },
+            0x0A => match read_items(alloc, &mpeg::LANGUAGE, from)? {
+                Some(value) => Ok(Some(MpegDescr::Iso639Language(value))),
+                None => Ok(None),
+            },
+            0x0E => match read_fields(alloc, &mpeg::MAXIMUM_BITRATE, from)? {
+                Some(value) => Ok(Some(MpegDescr::MaximumBitrate(value))),
+                None => Ok(None),
+            },
+            _ => Ok(None),
+        }
+    }
+
+    /// The descriptor that says this; refused exactly where its body would pass 255 bytes, but for want of
+    /// memory.
+    pub fn write(&self, alloc: Global) -> Result<Descriptor, DescrRefusal>
+        ensures { Writes (mpeg_page self.now) (mpeg_holding self.now) result }
+    {
+        match self {
+            MpegDescr::Registration(value) => write_fields(alloc, &mpeg::REGISTRATION, value),
+            MpegDescr::DataStreamAlignment(value) => write_fields(alloc, &mpeg::DATA_STREAM_ALIGNMENT, value),
+            MpegDescr::Ca(value) => write_fields(alloc, &mpeg::CA, value),
+            MpegDescr::Iso639Language(value) => write_items(alloc, &mpeg::LANGUAGE, value),
+            MpegDescr::MaximumBitrate(value) => write_fields(alloc, &mpeg::MAXIMUM_BITRATE, value),
+        }
+    }
+}

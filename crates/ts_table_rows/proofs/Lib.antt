@@ -1,0 +1,9 @@
+mod ReadLemmas
+mod ItemLemmas
+mod RunLemmas
+mod WriteLemmas
+mod SizeLemmas
+mod FillLemmas
+mod NumberLemmas
+mod GreedyLemmas
+mod BodyLemmas

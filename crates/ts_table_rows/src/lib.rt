@@ -1,0 +1,27 @@
+//! A table's layout comes in with a run of sections, or with the table's values; values, or sections, go out.
+//! The layer above rests on `read_table`, exact to the first broken rule, and `write_table`, which is read again.
+#![tactic(auto)]
+
+mod fault;
+mod filling;
+mod filling_laws;
+mod layout;
+
+mod read_body;
+mod read_item;
+mod read_laws;
+mod read_loop;
+mod read_run;
+
+mod table;
+mod write_laws;
+mod write_rows;
+mod write_run;
+
+pub use fault::{TableFault, TableRefusal, TableRule};
+pub use filling_laws::filled_greedily;
+pub use layout::{ItemForm, LoopForm, TableLayout};
+
+pub use read_run::read_table;
+pub use write_run::write_table;
+pub use table::{Table, TableBody, TableHead, TableItem};
