@@ -53,14 +53,17 @@ FaultRose old new _ = Unit {0}
 -- what failed late, or that nothing did; the closing of an output that has a name, or a report
 abbrev pub LateRose : Option (List ℕ) → DeskView → DeskView → Cause → Bool → Type 0
 LateRose output old new why true =
-    (IsSome output × HasCause old.write_faults new.write_faults) ⊎ HasCause old.report_faults new.report_faults
+    (IsSome output × HasCause old.write_faults new.write_faults)
+    ⊎ HasCause old.report_faults new.report_faults
 LateRose output old new why false =
     (status_of why ≡ Done → new.write_faults ≡ old.write_faults) × (new.report_faults ≡ old.report_faults)
 
 -- the status tells how the call ended, and a fault is told only where its count rose; the output is given by its name
 abbrev pub StatusTellsCause : Option (List ℕ) → DeskView → DeskView → Status → CallEnd → Type 0
-StatusTellsCause output old new status no_input = (status ≡ ReadFault) × HasCause old.read_faults new.read_faults
-StatusTellsCause output old new status no_output = (status ≡ WriteFault) × HasCause old.write_faults new.write_faults
+StatusTellsCause output old new status no_input =
+    (status ≡ ReadFault) × HasCause old.read_faults new.read_faults
+StatusTellsCause output old new status no_output =
+    (status ≡ WriteFault) × HasCause old.write_faults new.write_faults
 StatusTellsCause output old new status (ran cut why late) =
     (status ≡ (if late then status_when_late (status_of why) else status_of why))
     × FaultRose old new why × LateRose output old new why late

@@ -28,8 +28,10 @@ pub record NothingFails (old new : DeskView) : Type 0 where
   pub reports : IsQuiet old.report_faults new.report_faults
 
 -- the call wrote, reported and answered what applying the plugins one after another to the whole list of packets gives
-pub record IsPureCall (plan : Plan) (files : List (List ℕ × List ℕ)) (old new : DeskView) (status : Status) : Type 0 where
-  pub written : new.outputs ≡ outputs_with (output_name plan.output) old.outputs (pure_run (chain_of plan files)).written
+pub record IsPureCall (plan : Plan) (files : List (List ℕ × List ℕ))
+    (old new : DeskView) (status : Status) : Type 0 where
+  pub written : new.outputs
+      ≡ outputs_with (output_name plan.output) old.outputs (pure_run (chain_of plan files)).written
   pub reported : new.reported ≡ grown old.reported (pure_run (chain_of plan files)).reported
   pub answered : status ≡ status_of (pure_run (chain_of plan files)).cause
 
@@ -40,7 +42,8 @@ IsPureOrWants plan files old new status = (status ≡ NoMemory) ⊎ IsPureCall p
 -- over any desk: the call did so for the files that the desk tells, and where it tells none, for some
 abbrev pub IsPureOfSome : Plan → DeskView → DeskView → Status → Type 0
 IsPureOfSome plan old new status =
-    (files : List (List ℕ × List ℕ)) × IfSome old.files (λ told. files ≡ told) × IsPureOrWants plan files old new status
+    (files : List (List ℕ × List ℕ)) × IfSome old.files (λ told. files ≡ told)
+    × IsPureOrWants plan files old new status
 
 -- an end that is no fault, no refusal and no lost sync: the input's plain end, joint termination, `until` or a stop
 abbrev pub EndsWell : Cause → Type 0

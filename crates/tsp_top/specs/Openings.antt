@@ -43,14 +43,19 @@ NamesOutput output.Drop = ⊥
 
 -- the part of an input that was opened: a source of all the file's bytes, or the null packets
 abbrev pub OpensInput : {S : Type 0} → (S → SourceView) → DeskView → InputConf → InputPart S → Type 0
-OpensInput seen desk (input.File name) (Stream source) = seen source ≡ record { left = content desk name; faults = 0 }
+OpensInput seen desk (input.File name) (Stream source) =
+    seen source ≡ record { left = content desk name; faults = 0 }
 OpensInput seen desk (input.Null count) (Nulls packets) = packets ≡ count
 OpensInput seen desk _ _ = ⊥
 
 -- the part of an output that was opened: a sink of the name that took nothing, or none
 abbrev pub OpensOutput : {K : Type 0} → (K → SinkView) → DeskView → OutputConf → OutputPart K → Type 0
 OpensOutput seen desk (output.File name) (out.Stream sink) =
-    seen sink ≡ record { taken = option_map (λ _. []) desk.outputs; name = option_map (λ _. name) desk.outputs; faults = 0 }
+    seen sink ≡ record {
+      taken = option_map (λ _. []) desk.outputs;
+      name = option_map (λ _. name) desk.outputs;
+      faults = 0;
+    }
 OpensOutput seen desk output.Drop out.Discard = Unit {0}
 OpensOutput seen desk _ _ = ⊥
 

@@ -27,11 +27,14 @@ use Rattle.tsp_top.specs.declared.status.Status.{Status}
 use Rattle.tsp_top.specs.declared.status.Status.TheVariants.{NoMemory}
 
 -- the desk after both ends were closed
-abbrev pub closed_desk : {S K : Type 0} → (S → SourceView) → (K → SinkView) → DeskView → InputPart S → OutputPart K → Bool → DeskView
-closed_desk in_seen out_seen desk input output failed = output_closed_as out_seen (input_closed_as in_seen desk input) output failed
+abbrev pub closed_desk : {S K : Type 0} → (S → SourceView) → (K → SinkView)
+    → DeskView → InputPart S → OutputPart K → Bool → DeskView
+closed_desk in_seen out_seen desk input output failed =
+    output_closed_as out_seen (input_closed_as in_seen desk input) output failed
 
 -- a chain that is ready to run: its stuffing, its numbers and its plugins are the plan's, and no plugin met a cell
-pub record IsReady {P : Type 0} (rule : P → PluginRule) (stands : P → List Cell → ℕ → Type 0) (steady : P → Option ℕ)
+pub record IsReady {P : Type 0}
+    (rule : P → PluginRule) (stands : P → List Cell → ℕ → Type 0) (steady : P → Option ℕ)
     (plan : Plan) (stuffing : Stuffing) (numbers : CorePlan) (plugins : List P) : Type 0 where
   pub stuffing_is : stage.stuffing_of stuffing ≡ stuffing_of plan.general
   pub every : 1 ≤ stuffing.every
@@ -42,7 +45,8 @@ pub record IsReady {P : Type 0} (rule : P → PluginRule) (stands : P → List C
   pub fresh : AreFresh stands plugins
 
 -- a call whose chain is ready and whose two ends were opened, the input first
-pub record IsOpened {S K P : Type 0} (see : Seeing S K P) (plan : Plan) (numbers : CorePlan) (old made : DeskView)
+pub record IsOpened {S K P : Type 0} (see : Seeing S K P)
+    (plan : Plan) (numbers : CorePlan) (old made : DeskView)
     (from : InputPart S) (stuffing : Stuffing) (plugins : List P) (to : OutputPart K) : Type 0 where
   pub ready : IsReady see.rule see.stands see.steady plan stuffing numbers plugins
   pub asked : made ≡ asked_output (asked_input old plan.input) plan.output
@@ -51,21 +55,25 @@ pub record IsOpened {S K P : Type 0} (see : Seeing S K P) (plan : Plan) (numbers
 
 -- what every run owes, whoever serves the stages: it was closed, or there was no memory for it
 pub record EndsRun {S K P : Type 0} (see : Seeing S K P) (stuffing : Stuffing) (numbers : CorePlan)
-    (from made_from : InputPart S) (plugins made : List P) (to made_to : OutputPart K) (closed : Result Closed AllocError) : Type 0 where
+    (from made_from : InputPart S) (plugins made : List P) (to made_to : OutputPart K)
+    (closed : Result Closed AllocError) : Type 0 where
   pub run : IfOk closed (λ closed. RunOf see from made_from stuffing plugins made to made_to numbers closed)
   pub never_began : OnErr closed (NeverBegan from made_from plugins made to made_to)
 
 -- a run that was closed and reported, or closed only, where there was no memory for its report
-pub record RanClosed {S K P : Type 0} (see : Seeing S K P) (plan : Plan) (stuffing : Stuffing) (numbers : CorePlan) (old new : DeskView)
-    (from made_from : InputPart S) (plugins : List P) (to made_to : OutputPart K) (failed : Bool) (status : Status) (closed : Closed) : Type 0 where
+pub record RanClosed {S K P : Type 0} (see : Seeing S K P)
+    (plan : Plan) (stuffing : Stuffing) (numbers : CorePlan) (old new : DeskView)
+    (from made_from : InputPart S) (plugins : List P) (to made_to : OutputPart K)
+    (failed : Bool) (status : Status) (closed : Closed) : Type 0 where
   pub made : List P
   pub run : RunOf see from made_from stuffing plugins made to made_to numbers closed
-  pub reported : ReportsRun (reports (map named_rule_of plan.plugins) run.list closed.cut closed.cause) closed.cause failed
-      (closed_desk see.source see.sink old made_from made_to failed) new status
+  pub reported : ReportsRun (reports (map named_rule_of plan.plugins) run.list closed.cut closed.cause)
+      closed.cause failed (closed_desk see.source see.sink old made_from made_to failed) new status
 
 -- there was no memory for the run: the ends were closed as they were opened
 pub record NotRun {S K P : Type 0} (see : Seeing S K P) (old new : DeskView)
-    (from made_from : InputPart S) (to made_to : OutputPart K) (failed : Bool) (status : Status) : Type 0 where
+    (from made_from : InputPart S) (to made_to : OutputPart K)
+    (failed : Bool) (status : Status) : Type 0 where
   pub status_is : status ≡ NoMemory
   pub input_same : made_from ≡ from
   pub output_same : made_to ≡ to
@@ -75,11 +83,13 @@ pub record NotRun {S K P : Type 0} (see : Seeing S K P) (old new : DeskView)
 abbrev pub RanEnds : {S K P : Type 0} → Seeing S K P → Plan → Stuffing → CorePlan → DeskView → DeskView
     → InputPart S → InputPart S → List P → OutputPart K → OutputPart K → Bool → Status → Type 0
 RanEnds see plan stuffing numbers old new from made_from plugins to made_to failed status =
-    ((closed : Closed) × RanClosed see plan stuffing numbers old new from made_from plugins to made_to failed status closed)
+    ((closed : Closed)
+    × RanClosed see plan stuffing numbers old new from made_from plugins to made_to failed status closed)
     ⊎ NotRun see old new from made_from to made_to failed status
 
 -- the chain ran, both ends were closed, and the run was reported; or there was no memory for the run
-pub record RanOpened {S K P : Type 0} (see : Seeing S K P) (plan : Plan) (stuffing : Stuffing) (numbers : CorePlan) (old new : DeskView)
+pub record RanOpened {S K P : Type 0} (see : Seeing S K P)
+    (plan : Plan) (stuffing : Stuffing) (numbers : CorePlan) (old new : DeskView)
     (from : InputPart S) (plugins : List P) (to : OutputPart K) (status : Status) : Type 0 where
   pub made_from : InputPart S
   pub made_to : OutputPart K

@@ -17,14 +17,16 @@ use Rattle.tsp_top.specs.Sizes.{most_buffer}
 
 -- the closed inputs with one more: its bytes are told where the files are, and where they are not the closed inputs are
 -- told no more
-abbrev pub closed_with : Option (List (List ℕ × List ℕ)) → Option (List ClosedInput) → ClosedInput → Option (List ClosedInput)
+abbrev pub closed_with : Option (List (List ℕ × List ℕ)) → Option (List ClosedInput)
+    → ClosedInput → Option (List ClosedInput)
 closed_with None closed entry = None
 closed_with (Some files) closed entry = grown closed (entry ∷ [])
 
 -- nothing was read of the input: its file was closed with all its bytes still to come, and no read of it failed
 abbrev pub ReadsNothing : InputConf → List (List ℕ × List ℕ) → DeskView → DeskView → Type 0
 ReadsNothing (input.File name) files old new =
-    new.closed_in ≡ closed_with old.files old.closed_in (record { left = length (file_of files name); failed = false })
+    new.closed_in
+    ≡ closed_with old.files old.closed_in (record { left = length (file_of files name); failed = false })
 ReadsNothing (input.Null count) files old new = new.closed_in ≡ old.closed_in
 
 -- behind a failed read: the bytes that were read show no lost sync, and the cut is where the stuffed list of the whole
@@ -35,19 +37,23 @@ pub record CutsAtRead (stuffing : Stuffing) (read : List ℕ) (failed : Bool) (c
   pub cut_is : cut ≡ length (stuffed stuffing (record { packets = packets_of read; ended = ReadFault })).cells
 
 -- the file of an input was read and closed by a run that was cut at `cut`
-pub record ReadsFile (general : GeneralConf) (file : List ℕ) (old new : DeskView) (cut : ℕ) (why : Cause) : Type 0 where
+pub record ReadsFile (general : GeneralConf) (file : List ℕ)
+    (old new : DeskView) (cut : ℕ) (why : Cause) : Type 0 where
   pub read : List ℕ
   pub rest : List ℕ
   -- whether a read failed, of what counts or behind it
   pub failed : Bool
   -- where the files are told: these bytes of the file were read, and so many were left
   pub bytes : IfSome old.files (λ told. file ≡ read ++ rest)
-  pub closed : new.closed_in ≡ closed_with old.files old.closed_in (record { left = length rest; failed = failed })
+  pub closed : new.closed_in
+      ≡ closed_with old.files old.closed_in (record { left = length rest; failed = failed })
   -- at most the buffer's packets beyond the cut
   pub within : MayRead (most_buffer general) cut (length read)
   pub at_fault : why ≡ Input ReadFault → CutsAtRead (stuffing_of general) read failed cut
 
 -- what a run that was cut at `cut` reads of its input; null packets are not read
-abbrev pub ReadsTo : GeneralConf → InputConf → List (List ℕ × List ℕ) → DeskView → DeskView → ℕ → Cause → Type 0
-ReadsTo general (input.File name) files old new cut why = ReadsFile general (file_of files name) old new cut why
+abbrev pub ReadsTo : GeneralConf → InputConf → List (List ℕ × List ℕ)
+    → DeskView → DeskView → ℕ → Cause → Type 0
+ReadsTo general (input.File name) files old new cut why =
+    ReadsFile general (file_of files name) old new cut why
 ReadsTo general (input.Null count) files old new cut why = new.closed_in ≡ old.closed_in

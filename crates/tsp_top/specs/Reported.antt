@@ -12,7 +12,8 @@ use Rattle.chain_model.specs.Apply.{StageList}
 use Rattle.chain_run.specs.Met.{AllMetTo}
 
 -- the plugins met the cells before the cut of the lists of some chain; the first of them stands behind stage `j`
-pub record ReachesCut {P : Type 0} (stands : P → List Cell → ℕ → Type 0) (plugins : List P) (cut j : ℕ) : Type 0 where
+pub record ReachesCut {P : Type 0} (stands : P → List Cell → ℕ → Type 0)
+    (plugins : List P) (cut j : ℕ) : Type 0 where
   pub rules : List PluginRule
   pub input : StageList
   pub met : AllMetTo stands rules input cut j plugins

@@ -37,5 +37,6 @@ pub record IsPlannedCore (plan : Plan) (numbers : CorePlan) : Type 0 where
   pub lawful : core.IsLawfulPlan numbers
   pub plugins : numbers.plugins ≡ length plan.plugins
   pub buffer : IsSize plan.general.buffer_packets default_buffer numbers.buffer
-  pub most : IsSize (lesser_batch plan.general.max_input_packets plan.general.max_flushed_packets) default_batch numbers.most
+  pub most : IsSize (lesser_batch plan.general.max_input_packets plan.general.max_flushed_packets)
+      default_batch numbers.most
   pub users : stages_of numbers.users ≡ users_of plan

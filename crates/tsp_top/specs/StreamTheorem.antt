@@ -42,10 +42,12 @@ IsCutPart cells cut _ part = part ≡ []
 -- the bytes of the cells before the cut, and after a failing write alone a part of the next packet
 abbrev pub IsWrittenTo : Chain → ℕ → Cause → List ℕ → Type 0
 IsWrittenTo chain cut why bytes =
-    (part : List ℕ) × (bytes ≡ written_to chain cut ++ part) × IsCutPart (end_list (chain_rules chain) chain.input).cells cut why part
+    (part : List ℕ) × (bytes ≡ written_to chain cut ++ part)
+    × IsCutPart (end_list (chain_rules chain) chain.input).cells cut why part
 
 -- the closed outputs with one more, unless packets are dropped
-abbrev pub outputs_with : Option (List ℕ) → Option (List (List ℕ × List ℕ)) → List ℕ → Option (List (List ℕ × List ℕ))
+abbrev pub outputs_with : Option (List ℕ) → Option (List (List ℕ × List ℕ)) → List ℕ
+    → Option (List (List ℕ × List ℕ))
 outputs_with None outputs bytes = outputs
 outputs_with (Some name) outputs bytes = grown outputs ((name, bytes) ∷ [])
 
@@ -77,7 +79,8 @@ Reads plan files old new out_of_memory = ReadsNothing plan.input files old new
 abbrev pub ReportsText : DeskView → DeskView → List ℕ → Type 0
 ReportsText old new text =
     ((new.reported ≡ grown old.reported text) × (new.report_faults ≡ old.report_faults))
-    ⊎ ((n : ℕ) × (n < length text) × (new.reported ≡ grown old.reported (take n text)) × HasCause old.report_faults new.report_faults)
+    ⊎ ((n : ℕ) × (n < length text) × (new.reported ≡ grown old.reported (take n text))
+    × HasCause old.report_faults new.report_faults)
 
 -- nothing was reported, and no report failed
 abbrev pub ReportsNothing : DeskView → DeskView → Type 0
@@ -100,13 +103,18 @@ asked_for purpose (Some name) ok = record { purpose = purpose; name = name; ok =
 abbrev pub Opens : Plan → DeskView → DeskView → CallEnd → Type 0
 Opens plan old new no_input = new.asked ≡ grown old.asked (asked_for Input (input_name plan.input) false)
 Opens plan old new no_output =
-    new.asked ≡ grown old.asked (asked_for Input (input_name plan.input) true ++ asked_for Output (output_name plan.output) false)
+    new.asked ≡ grown old.asked
+    (asked_for Input (input_name plan.input) true ++ asked_for Output (output_name plan.output) false)
 Opens plan old new (ran cut why late) =
-    new.asked ≡ grown old.asked (asked_for Input (input_name plan.input) true ++ asked_for Output (output_name plan.output) true)
+    new.asked ≡ grown old.asked
+    (asked_for Input (input_name plan.input) true ++ asked_for Output (output_name plan.output) true)
 Opens plan old new (unreported cut why) =
-    new.asked ≡ grown old.asked (asked_for Input (input_name plan.input) true ++ asked_for Output (output_name plan.output) true)
+    new.asked ≡ grown old.asked
+    (asked_for Input (input_name plan.input) true ++ asked_for Output (output_name plan.output) true)
 Opens plan old new out_of_memory =
-    (n : ℕ) × (new.asked ≡ grown old.asked (take n (asked_for Input (input_name plan.input) true ++ asked_for Output (output_name plan.output) true)))
+    (n : ℕ) × (new.asked ≡ grown old.asked
+    (take n (asked_for Input (input_name plan.input) true
+    ++ asked_for Output (output_name plan.output) true)))
 
 -- a call of `tsp` whose words have this plan
 pub record StreamTheorem (plan : Plan) (old new : DeskView) (status : Status) : Type 0 where

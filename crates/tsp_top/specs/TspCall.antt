@@ -21,5 +21,6 @@ IsOverBefore plan old new status = StreamTheorem plan old new status ⊎ ((statu
 abbrev pub CallsTsp : List (List ℕ) → DeskView → DeskView → Status → Type 0
 CallsTsp words old new status =
     ((plan : Plan) × (plan_of words ≡ Some plan) × StreamTheorem plan old new status)
-    ⊎ (((word : ℕ) × (rule : WordsRule) × IsFirstFault words (At word rule) × RefusesWords old new word rule status)
+    ⊎ (((word : ℕ) × (rule : WordsRule) × IsFirstFault words (At word rule)
+    × RefusesWords old new word rule status)
     ⊎ ((status ≡ NoMemory) × (new ≡ old)))

@@ -32,7 +32,11 @@ pub(crate) fn begin<D: Desk>(
 ) -> Result<OpenedCall<D::In, D::Out, AnyPlugin>, Status>
     ensures { MatchResult result
         (λ call. (plan_of (map string_bytes words.now) ≡ Some call.plan)
-        × IsOpened (seeing D.In.seen D.Out.seen ⟦<AnyPlugin as Plugin>⟧.rule ⟦<AnyPlugin as Plugin>⟧.stands_for ⟦<AnyPlugin as Plugin>⟧.steady) call.plan call.core (D.seen desk.old) (D.seen desk.new) call.stages.input call.stages.stuffing call.stages.plugins.items call.stages.output)
+        × IsOpened
+        (seeing D.In.seen D.Out.seen
+        ⟦<AnyPlugin as Plugin>⟧.rule ⟦<AnyPlugin as Plugin>⟧.stands_for ⟦<AnyPlugin as Plugin>⟧.steady)
+        call.plan call.core (D.seen desk.old) (D.seen desk.new)
+        call.stages.input call.stages.stuffing call.stages.plugins.items call.stages.output)
         (λ status. CallsTsp (map string_bytes words.now) (D.seen desk.old) (D.seen desk.new) status) }
 {
     match plan(alloc, words) {
@@ -51,7 +55,11 @@ fn begin_plan<D: Desk>(
     requires { IsLawfulPlan plan }
     ensures { MatchResult result
         (λ call. (call.plan ≡ plan)
-        × IsOpened (seeing D.In.seen D.Out.seen ⟦<AnyPlugin as Plugin>⟧.rule ⟦<AnyPlugin as Plugin>⟧.stands_for ⟦<AnyPlugin as Plugin>⟧.steady) plan call.core (D.seen desk.old) (D.seen desk.new) call.stages.input call.stages.stuffing call.stages.plugins.items call.stages.output)
+        × IsOpened
+        (seeing D.In.seen D.Out.seen
+        ⟦<AnyPlugin as Plugin>⟧.rule ⟦<AnyPlugin as Plugin>⟧.stands_for ⟦<AnyPlugin as Plugin>⟧.steady)
+        plan call.core (D.seen desk.old) (D.seen desk.new)
+        call.stages.input call.stages.stuffing call.stages.plugins.items call.stages.output)
         (λ status. IsOverBefore plan (D.seen desk.old) (D.seen desk.new) status) }
 {
     match ready_chain(alloc, &plan) {
@@ -69,7 +77,9 @@ fn open_ends<P: Plugin + Drop, D: Desk>(
     requires { IsReady P.rule P.stands_for P.steady plan ready.stuffing ready.core ready.plugins.items }
     ensures { MatchResult result
         (λ call. (call.plan ≡ plan)
-        × IsOpened (seeing D.In.seen D.Out.seen P.rule P.stands_for P.steady) plan call.core (D.seen desk.old) (D.seen desk.new) call.stages.input call.stages.stuffing call.stages.plugins.items call.stages.output)
+        × IsOpened (seeing D.In.seen D.Out.seen P.rule P.stands_for P.steady)
+        plan call.core (D.seen desk.old) (D.seen desk.new)
+        call.stages.input call.stages.stuffing call.stages.plugins.items call.stages.output)
         (λ status. IsOverBefore plan (D.seen desk.old) (D.seen desk.new) status) }
 {
     match open_input(desk, &plan.input) {
@@ -91,10 +101,13 @@ fn open_behind<P: Plugin + Drop, D: Desk>(
 ) -> Result<OpenedCall<D::In, D::Out, P>, Status>
     requires opened { ((old : DeskView) × OpensInput D.In.seen old plan.input input) }
     requires ready { IsReady P.rule P.stands_for P.steady plan ready.stuffing ready.core ready.plugins.items }
-    ensures { (old : DeskView) → D.seen desk.old ≡ asked_input old plan.input → OpensInput D.In.seen old plan.input input
+    ensures { (old : DeskView) → D.seen desk.old ≡ asked_input old plan.input
+        → OpensInput D.In.seen old plan.input input
         → MatchResult result
         (λ call. (call.plan ≡ plan)
-        × IsOpened (seeing D.In.seen D.Out.seen P.rule P.stands_for P.steady) plan call.core old (D.seen desk.new) call.stages.input call.stages.stuffing call.stages.plugins.items call.stages.output)
+        × IsOpened (seeing D.In.seen D.Out.seen P.rule P.stands_for P.steady)
+        plan call.core old (D.seen desk.new)
+        call.stages.input call.stages.stuffing call.stages.plugins.items call.stages.output)
         (λ status. StreamTheorem plan old (D.seen desk.new) status) }
 {
     match open_output(desk, &plan.output) {

@@ -27,9 +27,12 @@ pub(crate) fn finish<P: Plugin + Drop, D: Desk>(
     requires rules { map P.rule end.plugins.items ≡ map rule_of plan.now.plugins }
     requires few { length plan.now.plugins ≤ 62 }
     requires reach { IfOk end.closed (λ closed. ReachesCut P.stands_for end.plugins.items closed.cut 0) }
-    ensures { (stuffing : Stuffing) (numbers : CorePlan) (from : InputPart D.In) (plugins : List P) (to : OutputPart D.Out)
-        → EndsRun (seeing D.In.seen D.Out.seen P.rule P.stands_for P.steady) stuffing numbers from end.input plugins end.plugins.items to end.output end.closed
-        → RanOpened (seeing D.In.seen D.Out.seen P.rule P.stands_for P.steady) plan.now stuffing numbers (D.seen desk.old) (D.seen desk.new) from plugins to result }
+    ensures { (stuffing : Stuffing) (numbers : CorePlan) (from : InputPart D.In)
+        (plugins : List P) (to : OutputPart D.Out)
+        → EndsRun (seeing D.In.seen D.Out.seen P.rule P.stands_for P.steady)
+        stuffing numbers from end.input plugins end.plugins.items to end.output end.closed
+        → RanOpened (seeing D.In.seen D.Out.seen P.rule P.stands_for P.steady)
+        plan.now stuffing numbers (D.seen desk.old) (D.seen desk.new) from plugins to result }
 {
     let RunEnd {
         input,

@@ -28,7 +28,9 @@ pub(crate) fn run_in_one_thread<S: Source, K: Sink, P: Plugin, G: Gate>(
     requires lawful { IsLawfulPlan core.now }
     requires plugins { core.now.plugins ≡ vec_len stages.plugins }
     requires fresh { AreFresh P.stands_for stages.plugins.items }
-    ensures { EndsRun (seeing S.seen K.seen P.rule P.stands_for P.steady) stages.stuffing core.now stages.input result.input stages.plugins.items result.plugins.items stages.output result.output result.closed }
+    ensures { EndsRun (seeing S.seen K.seen P.rule P.stands_for P.steady)
+        stages.stuffing core.now stages.input result.input
+        stages.plugins.items result.plugins.items stages.output result.output result.closed }
 {
     let sizes = [core.most.min(MOST_AT_A_TIME) as u32];
     run_serial(alloc, stages, core, &sizes, gate)

@@ -28,7 +28,7 @@ pub(crate) fn planned_stuffing(general: &GeneralConf) -> Stuffing
 }
 
 /// How many packets the buffer has where the words do not say, and how many a stage takes at a time: so many stay in the
-/// processor's cache on their way. Where the stages take turns, a buffer of more than one turn's packets serves nothing.
+/// processor's cache on their way. Where the stages take turns, a buffer of more than one batch serves nothing.
 const CHOSEN_SIZE: u64 = 1024;
 
 /// How many packets a stage takes at a time by an option that is not given, where the other one is.
@@ -47,7 +47,8 @@ fn planned_buffer(general: &GeneralConf) -> u64
 /// How many packets a stage takes at a time: no more than either option allows.
 fn planned_batch(general: &GeneralConf) -> u64
     requires { IsLawfulGeneral general.now }
-    ensures size { IsSize (lesser_batch general.now.max_input_packets general.now.max_flushed_packets) default_batch result }
+    ensures size { IsSize (lesser_batch general.now.max_input_packets general.now.max_flushed_packets)
+        default_batch result }
     ensures some { 1 ≤ result }
     ensures bound { result ≤ 1000000 }
 {

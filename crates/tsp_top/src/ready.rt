@@ -1,8 +1,7 @@
 //! A chain that is ready to run: its numbers and its plugins, before anything is opened.
 ghost use Rattle.std.specs.Prelude.{◌≡◌, ◌++◌, map, IfOk, OnOk};
 ghost use Rattle.std.specs.List.{All};
-ghost use Rattle.plug_set.specs.Plugins.{IsLawful};
-ghost use Rattle.plug_set.specs.Plugins.{rule_of, steady_of};
+ghost use Rattle.plug_set.specs.Plugins.{IsLawful, rule_of, steady_of};
 ghost use Rattle.chain_args.specs.LawfulPlan.{IsLawfulPlan};
 ghost use Rattle.chain_run.specs.Fresh.{AreFresh};
 ghost use Rattle.tsp_top.specs.Ran.{IsReady};
@@ -10,8 +9,7 @@ ghost use Rattle.tsp_top.specs.Ran.{IsReady};
 use crate::planning::{planned_core, planned_stuffing};
 use chain_args::Plan;
 use chain_core::CorePlan;
-use plug_set::PluginConf;
-use plug_set::AnyPlugin;
+use plug_set::{AnyPlugin, PluginConf};
 use plugin_trait::Plugin;
 use stage_run::Stuffing;
 use std::alloc::{AllocError, Global};
@@ -34,8 +32,13 @@ fn add_plugins(
 ) -> Result<(), AllocError>
     requires lawful { All IsLawful confs.now }
     requires before { AreFresh ⟦<AnyPlugin as Plugin>⟧.stands_for plugins.old.items }
-    ensures rules { OnOk result (map ⟦<AnyPlugin as Plugin>⟧.rule plugins.new.items ≡ map ⟦<AnyPlugin as Plugin>⟧.rule plugins.old.items ++ map rule_of confs.now) }
-    ensures rooms { OnOk result (map ⟦<AnyPlugin as Plugin>⟧.steady plugins.new.items ≡ map ⟦<AnyPlugin as Plugin>⟧.steady plugins.old.items ++ map (λ conf. steady_of conf buffer) confs.now) }
+    ensures rules { OnOk result
+        (map ⟦<AnyPlugin as Plugin>⟧.rule plugins.new.items
+        ≡ map ⟦<AnyPlugin as Plugin>⟧.rule plugins.old.items ++ map rule_of confs.now) }
+    ensures rooms { OnOk result
+        (map ⟦<AnyPlugin as Plugin>⟧.steady plugins.new.items
+        ≡ map ⟦<AnyPlugin as Plugin>⟧.steady plugins.old.items
+        ++ map (λ conf. steady_of conf buffer) confs.now) }
     ensures fresh { OnOk result (AreFresh ⟦<AnyPlugin as Plugin>⟧.stands_for plugins.new.items) }
 {
     let Some((conf, rest)) = confs.split_first() else {
@@ -48,7 +51,9 @@ fn add_plugins(
 /// Makes ready what a plan asks for.
 pub(crate) fn ready_chain(alloc: Global, plan: &Plan) -> Result<ReadyChain<AnyPlugin>, AllocError>
     requires { IsLawfulPlan plan.now }
-    ensures { IfOk result (λ ready. IsReady ⟦<AnyPlugin as Plugin>⟧.rule ⟦<AnyPlugin as Plugin>⟧.stands_for ⟦<AnyPlugin as Plugin>⟧.steady plan.now ready.stuffing ready.core ready.plugins.items) }
+    ensures { IfOk result (λ ready. IsReady
+        ⟦<AnyPlugin as Plugin>⟧.rule ⟦<AnyPlugin as Plugin>⟧.stands_for ⟦<AnyPlugin as Plugin>⟧.steady
+        plan.now ready.stuffing ready.core ready.plugins.items) }
 {
     let core = planned_core(plan);
     let mut plugins: Vec<AnyPlugin> = Vec::new(alloc);

@@ -28,8 +28,10 @@ fn report_text<P: Plugin>(
     requires rules { map P.rule plugins.old ≡ map rule_of confs.now }
     requires numbers { length plugins.old < 2 ^ 62 }
     requires reach { ReachesCut P.stands_for plugins.old closed.cut 0 }
-    ensures { (input : StageList) → AllMetTo P.stands_for (map P.rule plugins.old) input closed.cut 0 plugins.old
-        → IfOk result (λ text. string_bytes text ≡ reports (map named_rule_of confs.now) input closed.cut closed.cause) }
+    ensures { (input : StageList)
+        → AllMetTo P.stands_for (map P.rule plugins.old) input closed.cut 0 plugins.old
+        → IfOk result (λ text.
+        string_bytes text ≡ reports (map named_rule_of confs.now) input closed.cut closed.cause) }
 {
     let mut text = String::new(alloc);
     push_reports(&mut text, plugins, confs, 0, closed.cut)?;
@@ -50,8 +52,10 @@ pub(crate) fn report_run<P: Plugin, D: Desk>(
     requires rules { map P.rule plugins.old ≡ map rule_of confs.now }
     requires numbers { length plugins.old < 2 ^ 62 }
     requires reach { ReachesCut P.stands_for plugins.old closed.cut 0 }
-    ensures { (input : StageList) → AllMetTo P.stands_for (map P.rule plugins.old) input closed.cut 0 plugins.old
-        → ReportsRun (reports (map named_rule_of confs.now) input closed.cut closed.cause) closed.cause closing_failed (D.seen desk.old) (D.seen desk.new) result }
+    ensures { (input : StageList)
+        → AllMetTo P.stands_for (map P.rule plugins.old) input closed.cut 0 plugins.old
+        → ReportsRun (reports (map named_rule_of confs.now) input closed.cut closed.cause)
+        closed.cause closing_failed (D.seen desk.old) (D.seen desk.new) result }
 {
     match report_text(alloc, plugins, confs, closed) {
         Ok(text) => {

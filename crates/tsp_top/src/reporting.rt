@@ -23,7 +23,8 @@ fn push_line(text: &mut String, j: usize, name: &str, said: &str) -> Result<(), 
 
 /// Puts the lines of plugin `j` behind the text.
 fn push_lines(text: &mut String, j: usize, name: &str, lines: &[Line]) -> Result<(), AllocError>
-    ensures { OnOk result (string_bytes text.new ≡ string_bytes text.old ++ flat_map (plugin_line j name.now) (map (λ line. line.text) lines.now)) }
+    ensures { OnOk result (string_bytes text.new
+        ≡ string_bytes text.old ++ flat_map (plugin_line j name.now) (map (λ line. line.text) lines.now)) }
 {
     for line in lines {
         push_line(text, j, name, line.text.as_str())?;
@@ -42,8 +43,10 @@ pub(crate) fn push_reports<P: Plugin>(
     requires same_rules { map P.rule plugins.old ≡ map rule_of confs.now }
     requires numbers { j + length plugins.old < 2 ^ 63 }
     requires reach { ReachesCut P.stands_for plugins.old cut j }
-    ensures { (rules : List PluginRule) (input : StageList) → AllMetTo P.stands_for rules input cut j plugins.old
-        → OnOk result (string_bytes text.new ≡ string_bytes text.old ++ reports_from rules input cut j (map named_rule_of confs.now)) }
+    ensures { (rules : List PluginRule) (input : StageList)
+        → AllMetTo P.stands_for rules input cut j plugins.old
+        → OnOk result (string_bytes text.new
+        ≡ string_bytes text.old ++ reports_from rules input cut j (map named_rule_of confs.now)) }
 {
     let Some((first, rest)) = plugins.split_first_mut() else {
         return Ok(());

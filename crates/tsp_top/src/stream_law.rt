@@ -19,18 +19,23 @@ ghost use Rattle.tsp_top.specs.declared.status.Status.TheVariants.{Done, NoMemor
 /// Over a desk that does not tell its files, as the real one, it does so for some bytes of its input; null packets are
 /// known whatever the desk tells.
 pub fn headline()
-    ensures told { (words : List (List ℕ)) (plan : Plan) (files : List (List ℕ × List ℕ)) (old new : DeskView) (status : Status)
-        → plan_of words ≡ Some plan → TellsInput plan.input old files → CallsTsp words old new status → NothingFails old new
+    ensures told { (words : List (List ℕ)) (plan : Plan)
+        (files : List (List ℕ × List ℕ)) (old new : DeskView) (status : Status)
+        → plan_of words ≡ Some plan → TellsInput plan.input old files
+        → CallsTsp words old new status → NothingFails old new
         → IsPureOrWants plan files old new status }
     ensures any_desk { (words : List (List ℕ)) (plan : Plan) (old new : DeskView) (status : Status)
-        → plan_of words ≡ Some plan → CallsTsp words old new status → NothingFails old new → IsPureOfSome plan old new status }
+        → plan_of words ≡ Some plan → CallsTsp words old new status → NothingFails old new
+        → IsPureOfSome plan old new status }
 {}
 
 /// Where the run without faults ends by the input's plain end, by joint termination, by `until` or by a stop, a call that
 /// meets no fault outside answers `Done`, or that memory was wanting.
 pub fn completeness()
-    ensures { (words : List (List ℕ)) (plan : Plan) (files : List (List ℕ × List ℕ)) (old new : DeskView) (status : Status)
-        → plan_of words ≡ Some plan → TellsInput plan.input old files → CallsTsp words old new status → NothingFails old new
+    ensures { (words : List (List ℕ)) (plan : Plan)
+        (files : List (List ℕ × List ℕ)) (old new : DeskView) (status : Status)
+        → plan_of words ≡ Some plan → TellsInput plan.input old files
+        → CallsTsp words old new status → NothingFails old new
         → EndsWell (pure_run (chain_of plan files)).cause → (status ≡ Done) ⊎ (status ≡ NoMemory) }
 {}
 
@@ -43,6 +48,6 @@ pub fn sizes_change_nothing()
 /// Where all plugins take their room before the run, want of memory comes before it, or behind all that was written.
 pub fn memory_first()
     ensures { (words : List (List ℕ)) (plan : Plan) (old new : DeskView) (status : Status)
-        → plan_of words ≡ Some plan → AreSteady plan.plugins → CallsTsp words old new status → status ≡ NoMemory
-        → WantsMemoryFirst plan old new }
+        → plan_of words ≡ Some plan → AreSteady plan.plugins
+        → CallsTsp words old new status → status ≡ NoMemory → WantsMemoryFirst plan old new }
 {}
