@@ -118,7 +118,15 @@ impl Channel {
         ensures held { option_map (λ x. channel_fields x.0 ++ map held x.1.now) result ≡ Some (map held values.now) }
         ensures behind { IfSome result (λ x. fits (drop 6 terrestrial.head) (map held x.1.now) ≡ true) }
     {
-        let [FieldValue::Number(centre_frequency), FieldValue::Number(bandwidth), FieldValue::Number(priority), FieldValue::Number(time_slicing), FieldValue::Number(mpe_fec), behind @ ..] = values else {
+        let [
+            FieldValue::Number(centre_frequency),
+            FieldValue::Number(bandwidth),
+            FieldValue::Number(priority),
+            FieldValue::Number(time_slicing),
+            FieldValue::Number(mpe_fec),
+            behind @ ..,
+        ] = values
+        else {
             return None;
         };
         let channel = Channel {
@@ -157,7 +165,14 @@ impl Coding {
         ensures held { option_map (λ x. coding_fields x.0 ++ map held x.1.now) result ≡ Some (map held values.now) }
         ensures behind { IfSome result (λ x. fits (drop 10 terrestrial.head) (map held x.1.now) ≡ true) }
     {
-        let [FieldValue::Number(constellation), FieldValue::Number(hierarchy), FieldValue::Number(code_rate_hp), FieldValue::Number(code_rate_lp), behind @ ..] = values else {
+        let [
+            FieldValue::Number(constellation),
+            FieldValue::Number(hierarchy),
+            FieldValue::Number(code_rate_hp),
+            FieldValue::Number(code_rate_lp),
+            behind @ ..,
+        ] = values
+        else {
             return None;
         };
         let coding = Coding {
@@ -193,7 +208,12 @@ impl Carriers {
         requires { fits (drop 10 terrestrial.head) (map held values.now) ≡ true }
         ensures { option_map carriers_fields result ≡ Some (map held values.now) }
     {
-        let [FieldValue::Number(guard_interval), FieldValue::Number(transmission_mode), FieldValue::Number(other_frequency)] = values else {
+        let [
+            FieldValue::Number(guard_interval),
+            FieldValue::Number(transmission_mode),
+            FieldValue::Number(other_frequency),
+        ] = values
+        else {
             return None;
         };
         Some(Carriers {
