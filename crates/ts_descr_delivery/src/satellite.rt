@@ -98,7 +98,8 @@ impl Beam {
     #[tactic(auto, unfolding(ts_fields::specs::Fitting::fits))]
     fn of(values: &[FieldValue]) -> Option<(Beam, &[FieldValue])>
         requires { fits satellite.head (map held values.now) ≡ true }
-        ensures held { option_map (λ x. beam_fields x.0 ++ map held x.1.now) result ≡ Some (map held values.now) }
+        ensures held { option_map (λ x. beam_fields x.0 ++ map held x.1.now) result
+            ≡ Some (map held values.now) }
         ensures behind { IfSome result (λ x. fits (drop 4 satellite.head) (map held x.1.now) ≡ true) }
     {
         let [

@@ -115,7 +115,8 @@ impl Channel {
     #[tactic(auto, unfolding(ts_fields::specs::Fitting::fits))]
     fn of(values: &[FieldValue]) -> Option<(Channel, &[FieldValue])>
         requires { fits terrestrial.head (map held values.now) ≡ true }
-        ensures held { option_map (λ x. channel_fields x.0 ++ map held x.1.now) result ≡ Some (map held values.now) }
+        ensures held { option_map (λ x. channel_fields x.0 ++ map held x.1.now) result
+            ≡ Some (map held values.now) }
         ensures behind { IfSome result (λ x. fits (drop 6 terrestrial.head) (map held x.1.now) ≡ true) }
     {
         let [
@@ -162,7 +163,8 @@ impl Coding {
     #[tactic(auto, unfolding(ts_fields::specs::Fitting::fits))]
     fn of(values: &[FieldValue]) -> Option<(Coding, &[FieldValue])>
         requires { fits (drop 6 terrestrial.head) (map held values.now) ≡ true }
-        ensures held { option_map (λ x. coding_fields x.0 ++ map held x.1.now) result ≡ Some (map held values.now) }
+        ensures held { option_map (λ x. coding_fields x.0 ++ map held x.1.now) result
+            ≡ Some (map held values.now) }
         ensures behind { IfSome result (λ x. fits (drop 10 terrestrial.head) (map held x.1.now) ≡ true) }
     {
         let [
