@@ -1,5 +1,5 @@
 -- A descriptor and what it holds determine each other.
-use Rattle.std.proofs.Common.{◌≡◌, ℕ, ◌≤◌, List, [], ◌∷◌, Bool, true, false, length, refl, sym, ap, ◌∙◌, arith}
+use Rattle.std.proofs.Common.{◌≡◌, ℕ, List, [], ◌∷◌, Bool, true, false, refl, sym, ap, ◌∙◌}
 use Rattle.std.specs.Prelude.{nat_eq, if◌then◌else◌, Option, Some, None, option_map}
 use Rattle.std.specs.List.{find}
 use Rattle.std.proofs.lemmas.Option.{same_Some}
@@ -8,7 +8,7 @@ use Rattle.ts_bits.specs.TaggedBody.{TaggedBody}
 use Rattle.ts_fields.specs.Bits.{bits_of}
 use Rattle.ts_fields.specs.Reading.{◌>>=◌}
 use Rattle.ts_fields.specs.Bodies.{Page, Holding, read_page, spell_page}
-use Rattle.ts_descr.specs.Descriptors.{Typed, read_typed, IsWritten}
+use Rattle.ts_descr.specs.Descriptors.{Typed, read_typed}
 
 -- what a page's tag makes of what the page reads
 abbrev typed_by : Page → Holding → Option Typed
@@ -21,7 +21,7 @@ read_at found p from read there is = rw (there, is) refl
 
 fused : {A : Type 0} (o : Option A) (p : Page) (view : A → Holding)
     → (let typed : A → Typed = λ x. record { tag = p.tag; holding = view x } in
-      option_map typed o ≡ (option_map view o >>= typed_by p))
+    option_map typed o ≡ (option_map view o >>= typed_by p))
 fused None p view = refl
 fused (Some x) p view = refl
 

@@ -1,6 +1,6 @@
 -- Bodies of fields alone and of items alone.
 use Rattle.std.proofs.Common.{◌≡◌, ℕ, true, List, [], ◌∷◌, ◌++◌, refl, sym, ap, ◌∙◌}
-use Rattle.std.specs.Prelude.{◌&&◌, Option, Some, None, option_map, map}
+use Rattle.std.specs.Prelude.{◌&&◌, Option, Some, None, option_map}
 use Rattle.std.specs.List.{list_all}
 use Rattle.std.proofs.lemmas.Option.{same_Some}
 use Rattle.ts_fields.specs.Layout.{Row, Held}
@@ -53,7 +53,7 @@ alone_shaped p rows h alone is all =
 
 alone_by : (head : List Held) (mine items : List (List Held)) → head ≡ [] → items ≡ mine
     → (let x : Holding = record { head = []; items = items } in
-      let y : Holding = record { head = head; items = mine } in x ≡ y)
+    let y : Holding = record { head = head; items = mine } in x ≡ y)
 alone_by head mine items none same = rw (none, same) refl
 
 -- what a body of items alone holds, by its parts

@@ -11,7 +11,11 @@ use ts_bits::Descriptor;
 use ts_fields::{Body, Layout, NotRead, length_of_bits, read_body, write_body};
 
 /// What a descriptor's body holds by a page; none where it is not of that page. The tag is not looked at.
-pub fn read_by_page(alloc: Global, layout: &Layout, from: &Descriptor) -> Result<Option<Body>, AllocError>
+pub fn read_by_page(
+    alloc: Global,
+    layout: &Layout,
+    from: &Descriptor,
+) -> Result<Option<Body>, AllocError>
     requires { IsTrue (page_sound (page layout.now)) }
     ensures read { IfOk result (λ o. option_map body_held o
         ≡ read_page (page layout.now) (bits_of from.now.body)) }
@@ -25,7 +29,11 @@ pub fn read_by_page(alloc: Global, layout: &Layout, from: &Descriptor) -> Result
 }
 
 /// The descriptor with the page's tag whose body holds this.
-pub fn write_by_page(alloc: Global, layout: &Layout, body: &Body) -> Result<Descriptor, DescrRefusal>
+pub fn write_by_page(
+    alloc: Global,
+    layout: &Layout,
+    body: &Body,
+) -> Result<Descriptor, DescrRefusal>
     requires sound { IsTrue (page_sound (page layout.now)) }
     requires shaped { page_shaped (page layout.now) (body_held body.now) ≡ true }
     ensures { Writes (page layout.now) (body_held body.now) result }

@@ -7,7 +7,9 @@ ghost use Rattle.ts_fields.specs.Fitting.{are_bytes};
 ghost use Rattle.ts_fields.specs.Bodies.{Page, Holding, page_sound, page_exact, page_fits_uncounted};
 ghost use Rattle.ts_descr.specs.Descriptors.{IsWritten, read_typed};
 
-use ts_fields::{bits_tell_bytes, length_of_bits, read_is_written, small_page_fits, written_is_read};
+use ts_fields::{
+    bits_tell_bytes, length_of_bits, read_is_written, small_page_fits, written_is_read,
+};
 
 /// A descriptor that is written is read again, if its numbers are below their widths' bounds.
 pub fn written_is_typed()

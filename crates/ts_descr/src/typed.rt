@@ -15,7 +15,11 @@ use ts_bits::Descriptor;
 use ts_fields::{Body, Item, Layout};
 
 /// What a descriptor of a page of fields alone holds; none where its body is not of that page.
-pub fn read_fields<T: Fields + Drop>(alloc: Global, layout: &Layout, from: &Descriptor) -> Result<Option<T>, AllocError>
+pub fn read_fields<T: Fields + Drop>(
+    alloc: Global,
+    layout: &Layout,
+    from: &Descriptor,
+) -> Result<Option<T>, AllocError>
     requires sound { IsTrue (page_sound (page layout.now)) }
     requires rows { (page layout.now).head ≡ T.rows }
     requires alone { (page layout.now).items ≡ None }
@@ -28,7 +32,11 @@ pub fn read_fields<T: Fields + Drop>(alloc: Global, layout: &Layout, from: &Desc
 }
 
 /// The same, whatever the descriptor's tag.
-fn fields_by_page<T: Fields + Drop>(alloc: Global, layout: &Layout, from: &Descriptor) -> Result<Option<T>, AllocError>
+fn fields_by_page<T: Fields + Drop>(
+    alloc: Global,
+    layout: &Layout,
+    from: &Descriptor,
+) -> Result<Option<T>, AllocError>
     requires sound { IsTrue (page_sound (page layout.now)) }
     requires rows { (page layout.now).head ≡ T.rows }
     requires alone { (page layout.now).items ≡ None }
@@ -42,7 +50,11 @@ fn fields_by_page<T: Fields + Drop>(alloc: Global, layout: &Layout, from: &Descr
 }
 
 /// The descriptor of a page of fields alone that holds this.
-pub fn write_fields<T: Fields>(alloc: Global, layout: &Layout, value: &T) -> Result<Descriptor, DescrRefusal>
+pub fn write_fields<T: Fields>(
+    alloc: Global,
+    layout: &Layout,
+    value: &T,
+) -> Result<Descriptor, DescrRefusal>
     requires sound { IsTrue (page_sound (page layout.now)) }
     requires rows { (page layout.now).head ≡ T.rows }
     requires alone { (page layout.now).items ≡ None }
@@ -56,7 +68,11 @@ pub fn write_fields<T: Fields>(alloc: Global, layout: &Layout, value: &T) -> Res
 }
 
 /// The items of a descriptor of a page of items alone; none where its body is not of that page.
-pub fn read_items<T: Fields + Drop>(alloc: Global, layout: &Layout, from: &Descriptor) -> Result<Option<Vec<T>>, AllocError>
+pub fn read_items<T: Fields + Drop>(
+    alloc: Global,
+    layout: &Layout,
+    from: &Descriptor,
+) -> Result<Option<Vec<T>>, AllocError>
     requires sound { IsTrue (page_sound (page layout.now)) }
     requires alone { (page layout.now).head ≡ [] }
     requires rows { option_map (λ i. i.1) (page layout.now).items ≡ Some T.rows }
@@ -69,7 +85,11 @@ pub fn read_items<T: Fields + Drop>(alloc: Global, layout: &Layout, from: &Descr
 }
 
 /// The same, whatever the descriptor's tag.
-fn items_by_page<T: Fields + Drop>(alloc: Global, layout: &Layout, from: &Descriptor) -> Result<Option<Vec<T>>, AllocError>
+fn items_by_page<T: Fields + Drop>(
+    alloc: Global,
+    layout: &Layout,
+    from: &Descriptor,
+) -> Result<Option<Vec<T>>, AllocError>
     requires sound { IsTrue (page_sound (page layout.now)) }
     requires alone { (page layout.now).head ≡ [] }
     requires rows { option_map (λ i. i.1) (page layout.now).items ≡ Some T.rows }
@@ -112,7 +132,11 @@ fn items_of<T: Fields>(alloc: Global, values: &[T]) -> Result<Vec<Item>, AllocEr
 }
 
 /// The descriptor of a page of items alone that has these.
-pub fn write_items<T: Fields>(alloc: Global, layout: &Layout, items: &[T]) -> Result<Descriptor, DescrRefusal>
+pub fn write_items<T: Fields>(
+    alloc: Global,
+    layout: &Layout,
+    items: &[T],
+) -> Result<Descriptor, DescrRefusal>
     requires sound { IsTrue (page_sound (page layout.now)) }
     requires alone { (page layout.now).head ≡ [] }
     requires rows { option_map (λ i. i.1) (page layout.now).items ≡ Some T.rows }

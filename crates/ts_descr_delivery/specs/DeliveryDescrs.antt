@@ -1,9 +1,9 @@
 -- The delivery system descriptors as values: their pages, and what their bodies hold.
 -- ETSI EN 300 468 V1.17.1, 6.2.13.
-use Rattle.std.specs.Prelude.{List, [], ◌∷◌, map}
+use Rattle.std.specs.Prelude.{List, [], ◌∷◌}
 use Rattle.ts_fields.specs.Bodies.{Page, Holding}
 use Rattle.ts_pages.specs.DeliveryPages.{satellite, cable, terrestrial}
-use Rattle.ts_descr.specs.Descriptors.{Typed, fields_alone, items_alone}
+use Rattle.ts_descr.specs.Descriptors.{Typed, fields_alone}
 use Rattle.ts_descr_delivery.specs.declared.delivery_descr.DeliveryDescr.{DeliveryDescr}
 use Rattle.ts_descr_delivery.specs.declared.delivery_descr.DeliveryDescr.TheVariants as descrs
 use Rattle.ts_descr_delivery.specs.DeliveryFields.{satellite_fields, cable_fields, terrestrial_fields}

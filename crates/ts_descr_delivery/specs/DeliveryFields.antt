@@ -1,7 +1,7 @@
 -- What the fields of each struct hold, in the order of the rows of its page.
 -- ETSI EN 300 468 V1.17.1, 6.2.13.
 use Rattle.std.specs.Prelude.{List, [], ◌∷◌}
-use Rattle.ts_fields.specs.Layout.{Held, number, bytes}
+use Rattle.ts_fields.specs.Layout.{Held, number}
 use Rattle.ts_descr_delivery.specs.declared.satellite.Satellite.{Satellite}
 use Rattle.ts_descr_delivery.specs.declared.satellite.Beam.{Beam}
 use Rattle.ts_descr_delivery.specs.declared.satellite.Signal.{Signal}
@@ -15,85 +15,85 @@ use Rattle.ts_descr_delivery.specs.declared.terrestrial.Coding.{Coding}
 abbrev pub satellite_fields : Satellite → List Held
 satellite_fields d =
     number d.frequency
-  ∷ number d.orbital_position
-  ∷ number d.west_east_flag
-  ∷ number d.polarization
-  ∷ number d.roll_off
-  ∷ number d.modulation_system
-  ∷ number d.modulation_type
-  ∷ number d.symbol_rate
-  ∷ number d.fec_inner
-  ∷ []
+    ∷ number d.orbital_position
+    ∷ number d.west_east_flag
+    ∷ number d.polarization
+    ∷ number d.roll_off
+    ∷ number d.modulation_system
+    ∷ number d.modulation_type
+    ∷ number d.symbol_rate
+    ∷ number d.fec_inner
+    ∷ []
 
 -- how a cable carries a transport stream
 abbrev pub cable_fields : Cable → List Held
 cable_fields d =
     number d.frequency
-  ∷ number d.fec_outer
-  ∷ number d.modulation
-  ∷ number d.symbol_rate
-  ∷ number d.fec_inner
-  ∷ []
+    ∷ number d.fec_outer
+    ∷ number d.modulation
+    ∷ number d.symbol_rate
+    ∷ number d.fec_inner
+    ∷ []
 
 -- how a terrestrial transmitter carries a transport stream
 abbrev pub terrestrial_fields : Terrestrial → List Held
 terrestrial_fields d =
     number d.centre_frequency
-  ∷ number d.bandwidth
-  ∷ number d.priority
-  ∷ number d.time_slicing
-  ∷ number d.mpe_fec
-  ∷ number d.constellation
-  ∷ number d.hierarchy
-  ∷ number d.code_rate_hp
-  ∷ number d.code_rate_lp
-  ∷ number d.guard_interval
-  ∷ number d.transmission_mode
-  ∷ number d.other_frequency
-  ∷ []
+    ∷ number d.bandwidth
+    ∷ number d.priority
+    ∷ number d.time_slicing
+    ∷ number d.mpe_fec
+    ∷ number d.constellation
+    ∷ number d.hierarchy
+    ∷ number d.code_rate_hp
+    ∷ number d.code_rate_lp
+    ∷ number d.guard_interval
+    ∷ number d.transmission_mode
+    ∷ number d.other_frequency
+    ∷ []
 
 -- where a terrestrial transmitter sends, and for whom
 abbrev pub channel_fields : Channel → List Held
 channel_fields d =
     number d.centre_frequency
-  ∷ number d.bandwidth
-  ∷ number d.priority
-  ∷ number d.time_slicing
-  ∷ number d.mpe_fec
-  ∷ []
+    ∷ number d.bandwidth
+    ∷ number d.priority
+    ∷ number d.time_slicing
+    ∷ number d.mpe_fec
+    ∷ []
 
 -- how it protects what it sends
 abbrev pub coding_fields : Coding → List Held
 coding_fields d =
     number d.constellation
-  ∷ number d.hierarchy
-  ∷ number d.code_rate_hp
-  ∷ number d.code_rate_lp
-  ∷ []
+    ∷ number d.hierarchy
+    ∷ number d.code_rate_hp
+    ∷ number d.code_rate_lp
+    ∷ []
 
 -- its carriers
 abbrev pub carriers_fields : Carriers → List Held
 carriers_fields d =
     number d.guard_interval
-  ∷ number d.transmission_mode
-  ∷ number d.other_frequency
-  ∷ []
+    ∷ number d.transmission_mode
+    ∷ number d.other_frequency
+    ∷ []
 
 -- where a satellite stands and sends
 abbrev pub beam_fields : Beam → List Held
 beam_fields d =
     number d.frequency
-  ∷ number d.orbital_position
-  ∷ number d.west_east_flag
-  ∷ number d.polarization
-  ∷ []
+    ∷ number d.orbital_position
+    ∷ number d.west_east_flag
+    ∷ number d.polarization
+    ∷ []
 
 -- how it sends
 abbrev pub signal_fields : Signal → List Held
 signal_fields d =
     number d.roll_off
-  ∷ number d.modulation_system
-  ∷ number d.modulation_type
-  ∷ number d.symbol_rate
-  ∷ number d.fec_inner
-  ∷ []
+    ∷ number d.modulation_system
+    ∷ number d.modulation_type
+    ∷ number d.symbol_rate
+    ∷ number d.fec_inner
+    ∷ []

@@ -33,7 +33,14 @@ impl Fields for Cable {
 
     #[tactic(auto, unfolding(ts_fields::specs::Fitting::fits))]
     fn of(alloc: Global, values: &[FieldValue]) -> Result<Option<Cable>, AllocError> {
-        let [FieldValue::Number(frequency), FieldValue::Number(fec_outer), FieldValue::Number(modulation), FieldValue::Number(symbol_rate), FieldValue::Number(fec_inner)] = values else {
+        let [
+            FieldValue::Number(frequency),
+            FieldValue::Number(fec_outer),
+            FieldValue::Number(modulation),
+            FieldValue::Number(symbol_rate),
+            FieldValue::Number(fec_inner),
+        ] = values
+        else {
             return Ok(None);
         };
         Ok(Some(Cable {

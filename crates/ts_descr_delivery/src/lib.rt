@@ -15,4 +15,4 @@ pub use delivery_descr::DeliveryDescr;
 pub use delivery_laws::{read_is_written, written_is_read};
 pub use satellite::Satellite;
 pub use terrestrial::Terrestrial;
-pub use ts_descr::{DescrRefusal};
+pub use ts_descr::DescrRefusal;

@@ -98,10 +98,18 @@ impl Beam {
     #[tactic(auto, unfolding(ts_fields::specs::Fitting::fits))]
     fn of(values: &[FieldValue]) -> Option<(Beam, &[FieldValue])>
         requires { fits satellite.head (map held values.now) ≡ true }
-        ensures held { option_map (λ x. beam_fields x.0 ++ map held x.1.now) result ≡ Some (map held values.now) }
+        ensures held { option_map (λ x. beam_fields x.0 ++ map held x.1.now) result
+            ≡ Some (map held values.now) }
         ensures behind { IfSome result (λ x. fits (drop 4 satellite.head) (map held x.1.now) ≡ true) }
     {
-        let [FieldValue::Number(frequency), FieldValue::Number(orbital_position), FieldValue::Number(west_east_flag), FieldValue::Number(polarization), behind @ ..] = values else {
+        let [
+            FieldValue::Number(frequency),
+            FieldValue::Number(orbital_position),
+            FieldValue::Number(west_east_flag),
+            FieldValue::Number(polarization),
+            behind @ ..,
+        ] = values
+        else {
             return None;
         };
         let beam = Beam {
@@ -139,7 +147,14 @@ impl Signal {
         requires { fits (drop 4 satellite.head) (map held values.now) ≡ true }
         ensures { option_map signal_fields result ≡ Some (map held values.now) }
     {
-        let [FieldValue::Number(roll_off), FieldValue::Number(modulation_system), FieldValue::Number(modulation_type), FieldValue::Number(symbol_rate), FieldValue::Number(fec_inner)] = values else {
+        let [
+            FieldValue::Number(roll_off),
+            FieldValue::Number(modulation_system),
+            FieldValue::Number(modulation_type),
+            FieldValue::Number(symbol_rate),
+            FieldValue::Number(fec_inner),
+        ] = values
+        else {
             return None;
         };
         Some(Signal {

@@ -115,10 +115,19 @@ impl Channel {
     #[tactic(auto, unfolding(ts_fields::specs::Fitting::fits))]
     fn of(values: &[FieldValue]) -> Option<(Channel, &[FieldValue])>
         requires { fits terrestrial.head (map held values.now) ≡ true }
-        ensures held { option_map (λ x. channel_fields x.0 ++ map held x.1.now) result ≡ Some (map held values.now) }
+        ensures held { option_map (λ x. channel_fields x.0 ++ map held x.1.now) result
+            ≡ Some (map held values.now) }
         ensures behind { IfSome result (λ x. fits (drop 6 terrestrial.head) (map held x.1.now) ≡ true) }
     {
-        let [FieldValue::Number(centre_frequency), FieldValue::Number(bandwidth), FieldValue::Number(priority), FieldValue::Number(time_slicing), FieldValue::Number(mpe_fec), behind @ ..] = values else {
+        let [
+            FieldValue::Number(centre_frequency),
+            FieldValue::Number(bandwidth),
+            FieldValue::Number(priority),
+            FieldValue::Number(time_slicing),
+            FieldValue::Number(mpe_fec),
+            behind @ ..,
+        ] = values
+        else {
             return None;
         };
         let channel = Channel {
@@ -154,10 +163,18 @@ impl Coding {
     #[tactic(auto, unfolding(ts_fields::specs::Fitting::fits))]
     fn of(values: &[FieldValue]) -> Option<(Coding, &[FieldValue])>
         requires { fits (drop 6 terrestrial.head) (map held values.now) ≡ true }
-        ensures held { option_map (λ x. coding_fields x.0 ++ map held x.1.now) result ≡ Some (map held values.now) }
+        ensures held { option_map (λ x. coding_fields x.0 ++ map held x.1.now) result
+            ≡ Some (map held values.now) }
         ensures behind { IfSome result (λ x. fits (drop 10 terrestrial.head) (map held x.1.now) ≡ true) }
     {
-        let [FieldValue::Number(constellation), FieldValue::Number(hierarchy), FieldValue::Number(code_rate_hp), FieldValue::Number(code_rate_lp), behind @ ..] = values else {
+        let [
+            FieldValue::Number(constellation),
+            FieldValue::Number(hierarchy),
+            FieldValue::Number(code_rate_hp),
+            FieldValue::Number(code_rate_lp),
+            behind @ ..,
+        ] = values
+        else {
             return None;
         };
         let coding = Coding {
@@ -193,7 +210,12 @@ impl Carriers {
         requires { fits (drop 10 terrestrial.head) (map held values.now) ≡ true }
         ensures { option_map carriers_fields result ≡ Some (map held values.now) }
     {
-        let [FieldValue::Number(guard_interval), FieldValue::Number(transmission_mode), FieldValue::Number(other_frequency)] = values else {
+        let [
+            FieldValue::Number(guard_interval),
+            FieldValue::Number(transmission_mode),
+            FieldValue::Number(other_frequency),
+        ] = values
+        else {
             return None;
         };
         Some(Carriers {

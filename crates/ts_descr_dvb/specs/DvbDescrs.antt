@@ -12,8 +12,8 @@ use Rattle.ts_descr_dvb.specs.DvbFields.{network_name_fields, service_list_field
 abbrev pub dvb_pages : List Page
 dvb_pages =
     network_name ∷ service_list ∷ bouquet_name ∷ service ∷ short_event ∷ component
-  ∷ stream_identifier ∷ ca_identifier ∷ content ∷ parental_rating ∷ teletext ∷ subtitling
-  ∷ private_data_specifier ∷ []
+    ∷ stream_identifier ∷ ca_identifier ∷ content ∷ parental_rating ∷ teletext ∷ subtitling
+    ∷ private_data_specifier ∷ []
 
 -- the page of a descriptor
 abbrev pub dvb_page : DvbDescr → Page

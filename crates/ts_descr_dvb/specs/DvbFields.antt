@@ -32,9 +32,9 @@ bouquet_name_fields d = bytes d.bouquet_name.items ∷ []
 abbrev pub service_fields : Service → List Held
 service_fields d =
     number d.service_type
-  ∷ bytes d.service_provider_name.items
-  ∷ bytes d.service_name.items
-  ∷ []
+    ∷ bytes d.service_provider_name.items
+    ∷ bytes d.service_name.items
+    ∷ []
 
 -- the name of an event and a short text on it
 abbrev pub short_event_fields : ShortEvent → List Held
@@ -44,12 +44,12 @@ short_event_fields d = bytes d.language_code ∷ bytes d.event_name.items ∷ by
 abbrev pub component_fields : Component → List Held
 component_fields d =
     number d.stream_content_ext
-  ∷ number d.stream_content
-  ∷ number d.component_type
-  ∷ number d.component_tag
-  ∷ bytes d.language_code
-  ∷ bytes d.text.items
-  ∷ []
+    ∷ number d.stream_content
+    ∷ number d.component_type
+    ∷ number d.component_tag
+    ∷ bytes d.language_code
+    ∷ bytes d.text.items
+    ∷ []
 
 -- the tag by which a component is named elsewhere
 abbrev pub stream_identifier_fields : StreamIdentifier → List Held
@@ -63,9 +63,9 @@ ca_identifier_fields d = number d.value ∷ []
 abbrev pub content_fields : Classification → List Held
 content_fields d =
     number d.content_nibble_level_1
-  ∷ number d.content_nibble_level_2
-  ∷ number d.user_byte
-  ∷ []
+    ∷ number d.content_nibble_level_2
+    ∷ number d.user_byte
+    ∷ []
 
 -- the least age for an event in one country
 abbrev pub parental_rating_fields : Country → List Held
@@ -75,19 +75,19 @@ parental_rating_fields d = bytes d.country_code ∷ number d.rating ∷ []
 abbrev pub teletext_fields : TeletextPage → List Held
 teletext_fields d =
     bytes d.language_code
-  ∷ number d.teletext_type
-  ∷ number d.teletext_magazine_number
-  ∷ number d.teletext_page_number
-  ∷ []
+    ∷ number d.teletext_type
+    ∷ number d.teletext_magazine_number
+    ∷ number d.teletext_page_number
+    ∷ []
 
 -- the subtitles of a component in one language
 abbrev pub subtitling_fields : Subtitle → List Held
 subtitling_fields d =
     bytes d.language_code
-  ∷ number d.subtitling_type
-  ∷ number d.composition_page_id
-  ∷ number d.ancillary_page_id
-  ∷ []
+    ∷ number d.subtitling_type
+    ∷ number d.composition_page_id
+    ∷ number d.ancillary_page_id
+    ∷ []
 
 -- whose private descriptors follow
 abbrev pub private_data_specifier_fields : PrivateDataSpecifier → List Held

@@ -29,7 +29,12 @@ impl Fields for Classification {
 
     #[tactic(auto, unfolding(ts_fields::specs::Fitting::fits))]
     fn of(alloc: Global, values: &[FieldValue]) -> Result<Option<Classification>, AllocError> {
-        let [FieldValue::Number(content_nibble_level_1), FieldValue::Number(content_nibble_level_2), FieldValue::Number(user_byte)] = values else {
+        let [
+            FieldValue::Number(content_nibble_level_1),
+            FieldValue::Number(content_nibble_level_2),
+            FieldValue::Number(user_byte),
+        ] = values
+        else {
             return Ok(None);
         };
         Ok(Some(Classification {

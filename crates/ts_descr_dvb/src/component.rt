@@ -34,7 +34,15 @@ impl Fields for Component {
 
     #[tactic(auto, unfolding(ts_fields::specs::Fitting::fits))]
     fn of(alloc: Global, values: &[FieldValue]) -> Result<Option<Component>, AllocError> {
-        let [FieldValue::Number(stream_content_ext), FieldValue::Number(stream_content), FieldValue::Number(component_type), FieldValue::Number(component_tag), FieldValue::Bytes(language_code), FieldValue::Bytes(text)] = values else {
+        let [
+            FieldValue::Number(stream_content_ext),
+            FieldValue::Number(stream_content),
+            FieldValue::Number(component_type),
+            FieldValue::Number(component_tag),
+            FieldValue::Bytes(language_code),
+            FieldValue::Bytes(text),
+        ] = values
+        else {
             return Ok(None);
         };
         let Some(language_code) = LanguageCode::of(language_code) else {

@@ -128,13 +128,21 @@ impl DvbDescr {
             DvbDescr::Service(value) => write_fields(alloc, &dvb::SERVICE, value),
             DvbDescr::ShortEvent(value) => write_fields(alloc, &dvb::SHORT_EVENT, value),
             DvbDescr::Component(value) => write_fields(alloc, &dvb::COMPONENT, value),
-            DvbDescr::StreamIdentifier(value) => write_fields(alloc, &dvb::STREAM_IDENTIFIER, value),
+            DvbDescr::StreamIdentifier(value) => write_fields(
+                alloc,
+                &dvb::STREAM_IDENTIFIER,
+                value,
+            ),
             DvbDescr::CaIdentifier(value) => write_items(alloc, &dvb::CA_IDENTIFIER, value),
             DvbDescr::Content(value) => write_items(alloc, &dvb::CONTENT, value),
             DvbDescr::ParentalRating(value) => write_items(alloc, &dvb::PARENTAL_RATING, value),
             DvbDescr::Teletext(value) => write_items(alloc, &dvb::TELETEXT, value),
             DvbDescr::Subtitling(value) => write_items(alloc, &dvb::SUBTITLING, value),
-            DvbDescr::PrivateDataSpecifier(value) => write_fields(alloc, &dvb::PRIVATE_DATA_SPECIFIER, value),
+            DvbDescr::PrivateDataSpecifier(value) => write_fields(
+                alloc,
+                &dvb::PRIVATE_DATA_SPECIFIER,
+                value,
+            ),
         }
     }
 }

@@ -24,7 +24,11 @@ impl Fields for ListedService {
 
     #[tactic(auto, unfolding(ts_fields::specs::Fitting::fits))]
     fn of(alloc: Global, values: &[FieldValue]) -> Result<Option<ListedService>, AllocError> {
-        let [FieldValue::Number(service_id), FieldValue::Number(service_type)] = values else {
+        let [
+            FieldValue::Number(service_id),
+            FieldValue::Number(service_type),
+        ] = values
+        else {
             return Ok(None);
         };
         Ok(Some(ListedService {

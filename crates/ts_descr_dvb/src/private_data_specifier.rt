@@ -20,7 +20,10 @@ impl Fields for PrivateDataSpecifier {
     ghost fields = { private_data_specifier_fields };
 
     #[tactic(auto, unfolding(ts_fields::specs::Fitting::fits))]
-    fn of(alloc: Global, values: &[FieldValue]) -> Result<Option<PrivateDataSpecifier>, AllocError> {
+    fn of(
+        alloc: Global,
+        values: &[FieldValue],
+    ) -> Result<Option<PrivateDataSpecifier>, AllocError> {
         let [FieldValue::Number(private_data_specifier)] = values else {
             return Ok(None);
         };

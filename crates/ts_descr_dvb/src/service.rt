@@ -25,7 +25,12 @@ impl Fields for Service {
 
     #[tactic(auto, unfolding(ts_fields::specs::Fitting::fits))]
     fn of(alloc: Global, values: &[FieldValue]) -> Result<Option<Service>, AllocError> {
-        let [FieldValue::Number(service_type), FieldValue::Bytes(service_provider_name), FieldValue::Bytes(service_name)] = values else {
+        let [
+            FieldValue::Number(service_type),
+            FieldValue::Bytes(service_provider_name),
+            FieldValue::Bytes(service_name),
+        ] = values
+        else {
             return Ok(None);
         };
         Ok(Some(Service {

@@ -25,7 +25,12 @@ impl Fields for ShortEvent {
 
     #[tactic(auto, unfolding(ts_fields::specs::Fitting::fits))]
     fn of(alloc: Global, values: &[FieldValue]) -> Result<Option<ShortEvent>, AllocError> {
-        let [FieldValue::Bytes(language_code), FieldValue::Bytes(event_name), FieldValue::Bytes(text)] = values else {
+        let [
+            FieldValue::Bytes(language_code),
+            FieldValue::Bytes(event_name),
+            FieldValue::Bytes(text),
+        ] = values
+        else {
             return Ok(None);
         };
         let Some(language_code) = LanguageCode::of(language_code) else {

@@ -28,7 +28,13 @@ impl Fields for Subtitle {
 
     #[tactic(auto, unfolding(ts_fields::specs::Fitting::fits))]
     fn of(alloc: Global, values: &[FieldValue]) -> Result<Option<Subtitle>, AllocError> {
-        let [FieldValue::Bytes(language_code), FieldValue::Number(subtitling_type), FieldValue::Number(composition_page_id), FieldValue::Number(ancillary_page_id)] = values else {
+        let [
+            FieldValue::Bytes(language_code),
+            FieldValue::Number(subtitling_type),
+            FieldValue::Number(composition_page_id),
+            FieldValue::Number(ancillary_page_id),
+        ] = values
+        else {
             return Ok(None);
         };
         let Some(language_code) = LanguageCode::of(language_code) else {

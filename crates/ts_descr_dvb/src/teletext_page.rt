@@ -31,7 +31,13 @@ impl Fields for TeletextPage {
 
     #[tactic(auto, unfolding(ts_fields::specs::Fitting::fits))]
     fn of(alloc: Global, values: &[FieldValue]) -> Result<Option<TeletextPage>, AllocError> {
-        let [FieldValue::Bytes(language_code), FieldValue::Number(teletext_type), FieldValue::Number(teletext_magazine_number), FieldValue::Number(teletext_page_number)] = values else {
+        let [
+            FieldValue::Bytes(language_code),
+            FieldValue::Number(teletext_type),
+            FieldValue::Number(teletext_magazine_number),
+            FieldValue::Number(teletext_page_number),
+        ] = values
+        else {
             return Ok(None);
         };
         let Some(language_code) = LanguageCode::of(language_code) else {

@@ -28,7 +28,12 @@ impl Fields for Ca {
 
     #[tactic(auto, unfolding(ts_fields::specs::Fitting::fits))]
     fn of(alloc: Global, values: &[FieldValue]) -> Result<Option<Ca>, AllocError> {
-        let [FieldValue::Number(ca_system_id), FieldValue::Number(ca_pid), FieldValue::Bytes(private_data)] = values else {
+        let [
+            FieldValue::Number(ca_system_id),
+            FieldValue::Number(ca_pid),
+            FieldValue::Bytes(private_data),
+        ] = values
+        else {
             return Ok(None);
         };
         Ok(Some(Ca {

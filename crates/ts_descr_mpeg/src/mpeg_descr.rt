@@ -67,7 +67,11 @@ impl MpegDescr {
     {
         match self {
             MpegDescr::Registration(value) => write_fields(alloc, &mpeg::REGISTRATION, value),
-            MpegDescr::DataStreamAlignment(value) => write_fields(alloc, &mpeg::DATA_STREAM_ALIGNMENT, value),
+            MpegDescr::DataStreamAlignment(value) => write_fields(
+                alloc,
+                &mpeg::DATA_STREAM_ALIGNMENT,
+                value,
+            ),
             MpegDescr::Ca(value) => write_fields(alloc, &mpeg::CA, value),
             MpegDescr::Iso639Language(value) => write_items(alloc, &mpeg::LANGUAGE, value),
             MpegDescr::MaximumBitrate(value) => write_fields(alloc, &mpeg::MAXIMUM_BITRATE, value),

@@ -23,7 +23,11 @@ impl Fields for Registration {
 
     #[tactic(auto, unfolding(ts_fields::specs::Fitting::fits))]
     fn of(alloc: Global, values: &[FieldValue]) -> Result<Option<Registration>, AllocError> {
-        let [FieldValue::Number(format_identifier), FieldValue::Bytes(additional_identification_info)] = values else {
+        let [
+            FieldValue::Number(format_identifier),
+            FieldValue::Bytes(additional_identification_info),
+        ] = values
+        else {
             return Ok(None);
         };
         Ok(Some(Registration {
@@ -36,7 +40,10 @@ impl Fields for Registration {
     fn values(&self, alloc: Global) -> Result<Vec<FieldValue>, AllocError> {
         let mut values = Vec::new(alloc);
         values.push(FieldValue::Number(u64::from(self.format_identifier)))?;
-        values.push(FieldValue::Bytes(Vec::from_slice(alloc, &self.additional_identification_info)?))?;
+        values.push(FieldValue::Bytes(Vec::from_slice(
+            alloc,
+            &self.additional_identification_info,
+        )?))?;
         Ok(values)
     }
 }

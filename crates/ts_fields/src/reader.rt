@@ -1,11 +1,12 @@
 //! Reading fields one after another.
 
-ghost use Rattle.std.specs.Prelude.{◌≡◌, ◌≤◌, ◌++◌, map, length, option_map, option_to_list, IsTrue, OnOk};
+ghost use Rattle.std.specs.Prelude.{◌≡◌, ◌<◌, ◌≤◌, ◌++◌, map, length, option_map, option_to_list, IsTrue, OnOk};
 ghost use Rattle.ts_fields.specs.Bits.{bits_of};
 ghost use Rattle.ts_fields.specs.Reading.{Gives, read_number, read_bytes, read_decimal, read_rest, read_field, read_rows};
 ghost use Rattle.ts_fields.specs.Layout.{held, rows_of};
 ghost use Rattle.ts_fields.specs.SoundRows.{is_sound, are_sound};
 ghost use Rattle.ts_fields.specs.declared.reader.NotRead.TheVariants.{NoMemory};
+ghost use Rattle.ts_fields.specs.declared.field.Kind.TheVariants.{Ones, Start, Duration, Language};
 
 use crate::field::{Field, FieldValue, Kind};
 use crate::texts::are_printable;
@@ -137,7 +138,8 @@ impl<'a> BitReader<'a> {
     }
 }
 
-/// Reads one field, and adds what it holds to `values` if it is not reserved.
+/// Reads one field: what it holds, if it is not reserved, and the bits behind it. `Outside` exactly where the
+/// bits are not of its kind.
 #[tactic(auto, unfolding(crate::specs::Reading::read_field))]
 pub fn read_field<'a>(
     alloc: Global,
@@ -152,46 +154,22 @@ pub fn read_field<'a>(
             let (number, rest) = from.number(count).ok_or(NotRead::Outside)?;
             Ok((Some(FieldValue::Number(number)), rest))
         }
-        Kind::Ones(count) => {
-            let (number, rest) = from.number(count).ok_or(NotRead::Outside)?;
-            if number != (1 << count) - 1 {
-                return Err(NotRead::Outside);
-            }
-            Ok((None, rest))
-        }
-        Kind::Free(count) => {
-            let (_, rest) = from.number(count).ok_or(NotRead::Outside)?;
-            Ok((None, rest))
-        }
         Kind::Flag => {
             let (number, rest) = from.number(1).ok_or(NotRead::Outside)?;
-            Ok((Some(FieldValue::Number(number)), rest))
-        }
-        Kind::Start => {
-            let (number, rest) = from.number(40).ok_or(NotRead::Outside)?;
-            if !is_start(number) {
-                return Err(NotRead::Outside);
-            }
-            Ok((Some(FieldValue::Number(number)), rest))
-        }
-        Kind::Duration => {
-            let (number, rest) = from.number(24).ok_or(NotRead::Outside)?;
-            if !is_time(99, number) {
-                return Err(NotRead::Outside);
-            }
             Ok((Some(FieldValue::Number(number)), rest))
         }
         Kind::Decimal(digits) => {
             let (number, rest) = from.decimal(digits).ok_or(NotRead::Outside)?;
             Ok((Some(FieldValue::Number(number)), rest))
         }
-        Kind::Language => {
-            let (bytes, rest) = from.bytes(alloc, 3)?;
-            if !are_printable(&bytes) {
-                return Err(NotRead::Outside);
-            }
-            Ok((Some(FieldValue::Bytes(bytes)), rest))
+        Kind::Ones(count) => read_ones(count, from),
+        Kind::Free(count) => {
+            let (_, rest) = from.number(count).ok_or(NotRead::Outside)?;
+            Ok((None, rest))
         }
+        Kind::Start => read_start(from),
+        Kind::Duration => read_duration(from),
+        Kind::Language => read_language(alloc, from),
         Kind::CountedText => {
             let (count, rest) = from.number(8).ok_or(NotRead::Outside)?;
             let (bytes, rest) = rest.bytes(alloc, count as usize)?;
@@ -204,7 +182,62 @@ pub fn read_field<'a>(
     }
 }
 
-/// Reads the fields of some rows in their order.
+/// Reserved bits that must be ones.
+#[tactic(auto, unfolding(crate::specs::Reading::read_field))]
+fn read_ones<'a>(
+    count: u32,
+    from: BitReader<'a>,
+) -> Result<(Option<FieldValue>, BitReader<'a>), NotRead>
+    requires { count < 64 }
+    ensures { Gives (λ x. (option_map held x.0, x.1)) result (read_field (Ones count) from.entry) }
+{
+    let (number, rest) = from.number(count).ok_or(NotRead::Outside)?;
+    if number != (1 << count) - 1 {
+        return Err(NotRead::Outside);
+    }
+    Ok((None, rest))
+}
+
+/// A start of an event.
+#[tactic(auto, unfolding(crate::specs::Reading::read_field))]
+fn read_start<'a>(from: BitReader<'a>) -> Result<(Option<FieldValue>, BitReader<'a>), NotRead>
+    ensures { Gives (λ x. (option_map held x.0, x.1)) result (read_field Start from.entry) }
+{
+    let (number, rest) = from.number(40).ok_or(NotRead::Outside)?;
+    if !is_start(number) {
+        return Err(NotRead::Outside);
+    }
+    Ok((Some(FieldValue::Number(number)), rest))
+}
+
+/// A duration of an event.
+#[tactic(auto, unfolding(crate::specs::Reading::read_field))]
+fn read_duration<'a>(from: BitReader<'a>) -> Result<(Option<FieldValue>, BitReader<'a>), NotRead>
+    ensures { Gives (λ x. (option_map held x.0, x.1)) result (read_field Duration from.entry) }
+{
+    let (number, rest) = from.number(24).ok_or(NotRead::Outside)?;
+    if !is_time(99, number) {
+        return Err(NotRead::Outside);
+    }
+    Ok((Some(FieldValue::Number(number)), rest))
+}
+
+/// A language or a country.
+#[tactic(auto, unfolding(crate::specs::Reading::read_field))]
+fn read_language<'a>(
+    alloc: Global,
+    from: BitReader<'a>,
+) -> Result<(Option<FieldValue>, BitReader<'a>), NotRead>
+    ensures { Gives (λ x. (option_map held x.0, x.1)) result (read_field Language from.entry) }
+{
+    let (bytes, rest) = from.bytes(alloc, 3)?;
+    if !are_printable(&bytes) {
+        return Err(NotRead::Outside);
+    }
+    Ok((Some(FieldValue::Bytes(bytes)), rest))
+}
+
+/// Reads the fields of some rows in their order: what they hold, and the bits behind them.
 pub fn read_rows<'a>(
     alloc: Global,
     rows: &[Field],

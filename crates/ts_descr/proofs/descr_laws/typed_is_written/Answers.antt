@@ -1,4 +1,4 @@
-use Rattle.std.proofs.Common.{◌≡◌, sym, ◌∙◌}
+use Rattle.std.proofs.Common.{sym, ◌∙◌}
 use Rattle.ts_fields.specs.Bits.{bits_of}
 use Rattle.ts_descr.proofs.LawLemmas.{typed_parts, same_descriptor}
 use Rattle.ts_descr.proofs.descr_laws.typed_is_written.Goals as goal

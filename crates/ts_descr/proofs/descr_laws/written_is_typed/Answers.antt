@@ -1,4 +1,4 @@
-use Rattle.std.proofs.Common.{◌≡◌, ◌≤◌, length, ap, arith}
+use Rattle.std.proofs.Common.{◌≤◌, length, ap, arith}
 use Rattle.ts_fields.specs.Bodies.{spell_page}
 use Rattle.ts_descr.proofs.LawLemmas.{spelled_is_typed}
 use Rattle.ts_descr.proofs.descr_laws.written_is_typed.Goals as goal

@@ -1,4 +1,3 @@
-use Rattle.std.proofs.Common.{◌≡◌}
 use Rattle.ts_fields.specs.Bodies.{page}
 use Rattle.ts_descr.specs.Descriptors.{fields_alone}
 use Rattle.ts_descr.proofs.LawLemmas.{typed_value}

@@ -1,4 +1,4 @@
-use Rattle.std.proofs.Common.{◌≡◌, map}
+use Rattle.std.proofs.Common.{map}
 use Rattle.ts_fields.specs.Bodies.{page}
 use Rattle.ts_descr.specs.Descriptors.{items_alone}
 use Rattle.ts_descr.proofs.LawLemmas.{typed_value}

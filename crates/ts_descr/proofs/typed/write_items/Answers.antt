@@ -1,4 +1,4 @@
-use Rattle.std.proofs.Common.{◌≡◌, map, sym, ap, ◌∙◌, subst}
+use Rattle.std.proofs.Common.{◌≡◌, map, sym, ap, subst}
 use Rattle.ts_fields.specs.Bodies.{Holding, page, body_held}
 use Rattle.ts_fields.specs.Layout.{held}
 use Rattle.ts_descr.specs.Descriptors.{Writes, items_alone}

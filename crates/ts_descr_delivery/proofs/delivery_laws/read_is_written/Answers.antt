@@ -1,4 +1,3 @@
-use Rattle.std.proofs.Common.{◌≡◌}
 use Rattle.ts_descr_delivery.specs.DeliveryDescrs.{delivery_pages, delivery_page, delivery_holding}
 use Rattle.ts_descr_delivery.proofs.PageLemmas.{page_found, page_is_exact}
 use Rattle.ts_descr_delivery.proofs.delivery_laws.read_is_written.Goals as goal

@@ -1,4 +1,3 @@
-use Rattle.std.proofs.Common.{◌≡◌}
 use Rattle.ts_descr_mpeg.specs.MpegDescrs.{mpeg_pages, mpeg_page, mpeg_holding}
 use Rattle.ts_descr_mpeg.proofs.PageLemmas.{page_found, page_is_sound}
 use Rattle.ts_descr_mpeg.proofs.mpeg_laws.written_is_read.Goals as goal
