@@ -1,5 +1,5 @@
 -- The delivery system descriptors as values: their pages, and what their bodies hold.
--- ETSI EN 300 468 V1.17.1, 6.2.13.
+-- ETSI EN 300 468, 6.2.13.
 use Rattle.std.specs.Prelude.{List, [], ◌∷◌}
 use Rattle.ts_fields.specs.Bodies.{Page, Holding}
 use Rattle.ts_pages.specs.DeliveryPages.{satellite, cable, terrestrial}

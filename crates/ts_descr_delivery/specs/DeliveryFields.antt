@@ -1,5 +1,5 @@
 -- What the fields of each struct hold, in the order of the rows of its page.
--- ETSI EN 300 468 V1.17.1, 6.2.13.
+-- ETSI EN 300 468, 6.2.13.
 use Rattle.std.specs.Prelude.{List, [], ◌∷◌}
 use Rattle.ts_fields.specs.Layout.{Held, number}
 use Rattle.ts_descr_delivery.specs.declared.satellite.Satellite.{Satellite}

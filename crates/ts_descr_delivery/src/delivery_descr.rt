@@ -12,7 +12,7 @@ use ts_bits::Descriptor;
 use ts_descr::{DescrRefusal, read_fields, write_fields};
 use ts_pages::delivery;
 
-/// A descriptor of ETSI EN 300 468 V1.17.1, 6.2.13, with a field for each name of its page.
+/// A descriptor of ETSI EN 300 468, 6.2.13, with a field for each name of its page.
 #[derive(Debug, Drop)]
 pub enum DeliveryDescr {
     /// Tag 0x43: how a satellite carries a transport stream (6.2.13.2).

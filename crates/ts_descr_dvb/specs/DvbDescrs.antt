@@ -1,5 +1,5 @@
 -- The DVB descriptors as values: their pages, and what their bodies hold.
--- ETSI EN 300 468 V1.17.1, 6.2.
+-- ETSI EN 300 468, 6.2.
 use Rattle.std.specs.Prelude.{List, [], ◌∷◌, map}
 use Rattle.ts_fields.specs.Bodies.{Page, Holding}
 use Rattle.ts_pages.specs.DvbPages.{network_name, service_list, bouquet_name, service, short_event, component, stream_identifier, ca_identifier, content, parental_rating, teletext, subtitling, private_data_specifier}

@@ -1,5 +1,5 @@
 -- What the fields of each struct hold, in the order of the rows of its page.
--- ETSI EN 300 468 V1.17.1, 6.2.
+-- ETSI EN 300 468, 6.2.
 use Rattle.std.specs.Prelude.{List, [], ◌∷◌}
 use Rattle.ts_fields.specs.Layout.{Held, number, bytes}
 use Rattle.ts_descr_dvb.specs.declared.network_name.NetworkName.{NetworkName}

@@ -22,7 +22,7 @@ use ts_bits::Descriptor;
 use ts_descr::{DescrRefusal, read_fields, read_items, write_fields, write_items};
 use ts_pages::dvb;
 
-/// A descriptor of ETSI EN 300 468 V1.17.1, 6.2, with a field for each name of its page.
+/// A descriptor of ETSI EN 300 468, 6.2, with a field for each name of its page.
 #[derive(Debug, Drop)]
 pub enum DvbDescr {
     /// Tag 0x40: the name of a network (6.2.27).

@@ -1,4 +1,4 @@
-//! Descriptors of ETSI EN 300 468 V1.17.1 come in; values with a field for each name go out, and back.
+//! Descriptors of ETSI EN 300 468 come in; values with a field for each name go out, and back.
 //! The layer above rests on `DvbDescr::read` and `DvbDescr::write`, by the pages of `ts_pages`.
 #![tactic(auto)]
 

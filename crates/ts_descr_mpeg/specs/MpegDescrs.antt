@@ -1,5 +1,5 @@
 -- The MPEG descriptors as values: their pages, and what their bodies hold.
--- ISO/IEC 13818-1:2019, 2.6.
+-- ISO/IEC 13818-1, 2.6.
 use Rattle.std.specs.Prelude.{List, [], ◌∷◌, map}
 use Rattle.ts_fields.specs.Bodies.{Page, Holding}
 use Rattle.ts_pages.specs.MpegPages.{registration, data_stream_alignment, ca, language, maximum_bitrate}

@@ -1,5 +1,5 @@
 -- What the fields of each struct hold, in the order of the rows of its page.
--- ISO/IEC 13818-1:2019, 2.6.
+-- ISO/IEC 13818-1, 2.6.
 use Rattle.std.specs.Prelude.{List, [], ◌∷◌}
 use Rattle.ts_fields.specs.Layout.{Held, number, bytes}
 use Rattle.ts_descr_mpeg.specs.declared.registration.Registration.{Registration}

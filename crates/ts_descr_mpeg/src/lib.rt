@@ -1,4 +1,4 @@
-//! Descriptors of ISO/IEC 13818-1:2019 come in; values with a field for each name go out, and back.
+//! Descriptors of ISO/IEC 13818-1 come in; values with a field for each name go out, and back.
 //! The layer above rests on `MpegDescr::read` and `MpegDescr::write`, by the pages of `ts_pages`.
 #![tactic(auto)]
 

@@ -1,5 +1,5 @@
 -- Pages of the descriptors of networks, services, events and components.
--- ETSI EN 300 468 V1.17.1, 6.2.
+-- ETSI EN 300 468, 6.2.
 use Rattle.std.specs.Prelude.{[], ◌∷◌, codes}
 use Rattle.ts_fields.specs.declared.field.Kind.TheVariants.{Number, Language, CountedText, Text}
 use Rattle.ts_fields.specs.Bodies.{Page}

@@ -1,5 +1,5 @@
 -- Pages of the descriptors of ISO/IEC 13818-1.
--- ISO/IEC 13818-1:2019, 2.6.
+-- ISO/IEC 13818-1, 2.6.
 use Rattle.std.specs.Prelude.{[], ◌∷◌, codes}
 use Rattle.ts_fields.specs.declared.field.Kind.TheVariants.{Number, Language, Hex}
 use Rattle.ts_fields.specs.Bodies.{Page}

@@ -1,5 +1,5 @@
 -- The pages of all descriptors that have one here.
--- ISO/IEC 13818-1:2019, 2.6, and ETSI EN 300 468 V1.17.1, 6.2. Every other tag is without a page.
+-- ISO/IEC 13818-1, 2.6, and ETSI EN 300 468, 6.2. Every other tag is without a page.
 use Rattle.std.specs.Prelude.{ℕ, List, [], ◌∷◌, nat_eq, bytes_eq, Option}
 use Rattle.std.specs.List.{find}
 use Rattle.ts_fields.specs.Bodies.{Page}

@@ -1,4 +1,4 @@
-//! Pages of the descriptors of delivery systems (ETSI EN 300 468 V1.17.1, 6.2.13), in the order of their
+//! Pages of the descriptors of delivery systems (ETSI EN 300 468, 6.2.13), in the order of their
 //! tags.
 
 use ts_fields::{Field, Kind, Layout};

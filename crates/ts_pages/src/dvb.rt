@@ -1,4 +1,4 @@
-//! Pages of the descriptors of networks, services, events and components (ETSI EN 300 468 V1.17.1, 6.2), in
+//! Pages of the descriptors of networks, services, events and components (ETSI EN 300 468, 6.2), in
 //! the order of their tags.
 
 use ts_fields::{Field, ItemLayout, Kind, Layout};

@@ -1,4 +1,4 @@
-//! Pages of the descriptors of ISO/IEC 13818-1:2019, 2.6, in the order of their tags.
+//! Pages of the descriptors of ISO/IEC 13818-1, 2.6, in the order of their tags.
 
 use ts_fields::{Field, ItemLayout, Kind, Layout};
 
