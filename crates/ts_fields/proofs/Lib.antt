@@ -1,0 +1,11 @@
+mod Rows
+mod BitLemmas
+mod ReadLemmas
+mod WriteLemmas
+mod AgainLemmas
+mod TakesLemmas
+mod SizeLemmas
+mod LengthLemmas
+mod ItemLemmas
+mod BodyLemmas
+mod TextLemmas

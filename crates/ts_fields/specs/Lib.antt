@@ -1,0 +1,9 @@
+pub mod Bits
+pub mod Layout
+pub mod Times
+pub mod Reading
+pub mod Spelling
+pub mod Texts
+pub mod Fitting
+pub mod SoundRows
+pub mod Bodies

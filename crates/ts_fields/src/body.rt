@@ -1,0 +1,104 @@
+//! Whole bodies.
+
+ghost use Rattle.std.specs.Prelude.{◌≡◌, ◌≤◌, [], ◌++◌, map, length, option_map, true, Some, IsTrue, OnOk, IfOk};
+ghost use Rattle.std.specs.List.{flat_map};
+ghost use Rattle.ts_fields.specs.Bits.{bits_of};
+ghost use Rattle.ts_fields.specs.Bodies;
+ghost use Rattle.ts_fields.specs.Bodies.{page, page_sound, page_fits, page_shaped, body_held, item_held, item_page, items_sound, read_page, spell_page, spell_items};
+ghost use Rattle.ts_fields.specs.Layout.{rows_of};
+ghost use Rattle.ts_fields.specs.SoundRows.{are_sound};
+ghost use Rattle.ts_fields.specs.Reading.{Gives};
+ghost use Rattle.ts_fields.specs.Spelling.{spell_rows};
+
+use crate::field::Field;
+use crate::layout::{Body, Item, ItemLayout, Layout};
+use crate::reader::{BitReader, NotRead, read_rows};
+use crate::writer::{BitWriter, write_rows};
+use std::alloc::{AllocError, Global};
+
+/// What a body holds by a page of the standard.
+#[tactic(auto, unfolding(crate::specs::Bodies::read_page))]
+pub fn read_body(alloc: Global, layout: &Layout, body: &[u8]) -> Result<Body, NotRead>
+    requires short { length body.now ≤ 4096 }
+    requires sound { IsTrue (page_sound (page layout.now)) }
+    ensures read { Gives body_held result (read_page (page layout.now) (bits_of body.now)) }
+    ensures fits { IfOk result (λ b. page_fits (page layout.now) (body_held b) ≡ true) }
+{
+    let (head, rest) = read_rows(alloc, layout.head, BitReader::of(body))?;
+    let items = read_behind(alloc, layout.items, rest)?;
+    Ok(Body { head, items })
+}
+
+/// What stands behind the fields: items, or nothing.
+#[tactic(auto, unfolding(crate::specs::Bodies::read_behind))]
+fn read_behind<'a>(
+    alloc: Global,
+    items: Option<ItemLayout>,
+    from: BitReader<'a>,
+) -> Result<Vec<Item>, NotRead>
+    requires { IsTrue (items_sound (option_map item_page items)) }
+    ensures { Gives (λ v. map item_held v.items) result
+        (Bodies.read_behind (option_map item_page items) from.entry) }
+{
+    match items {
+        Some(layout) => read_items(alloc, layout.rows, from),
+        None if from.len() == 0 => Ok(Vec::new(alloc)),
+        None => Err(NotRead::Outside),
+    }
+}
+
+/// Items up to the end.
+fn read_items<'a>(alloc: Global, rows: &[Field], from: BitReader<'a>) -> Result<Vec<Item>, NotRead>
+    requires { IsTrue (items_sound (Some ([], rows_of rows.now))) }
+    ensures { Gives (λ v. map item_held v.items) result
+        (Bodies.read_items (length from.entry) (rows_of rows.now) from.entry) }
+{
+    let mut items = Vec::new(alloc);
+    let mut rest = from;
+    while rest.len() != 0 {
+        let (values, after) = read_rows(alloc, rows, rest)?;
+        items.push(Item { values })?;
+        rest = after;
+    }
+    Ok(items)
+}
+
+/// The body that holds this.
+pub fn write_body(alloc: Global, layout: &Layout, body: &Body) -> Result<Vec<u8>, AllocError>
+    requires sound { IsTrue (page_sound (page layout.now)) }
+    requires shaped { page_shaped (page layout.now) (body_held body.now) ≡ true }
+    ensures { IfOk result (λ bytes. bits_of bytes.items ≡ spell_page (page layout.now) (body_held body.now)) }
+{
+    let mut out = BitWriter::new(alloc);
+    write_rows(&mut out, layout.head, &body.head)?;
+    write_behind(&mut out, layout.items, &body.items)?;
+    Ok(out.into_bytes())
+}
+
+/// Writes what stands behind the fields.
+fn write_behind(
+    out: &mut BitWriter,
+    layout: Option<ItemLayout>,
+    items: &[Item],
+) -> Result<(), AllocError>
+    requires { IsTrue (items_sound (option_map item_page layout)) }
+    ensures { OnOk result (out.new
+        ≡ out.old ++ spell_items (option_map item_page layout) (map item_held items.now)) }
+{
+    match layout {
+        Some(layout) => write_items(out, layout.rows, items),
+        None => Ok(()),
+    }
+}
+
+/// Writes items one after another.
+fn write_items(out: &mut BitWriter, rows: &[Field], items: &[Item]) -> Result<(), AllocError>
+    requires { IsTrue (are_sound (rows_of rows.now)) }
+    ensures { OnOk result (out.new
+        ≡ out.old ++ flat_map (spell_rows (rows_of rows.now)) (map item_held items.now)) }
+{
+    for item in items {
+        write_rows(out, rows, &item.values)?;
+    }
+    Ok(())
+}

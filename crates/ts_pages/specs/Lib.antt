@@ -1,0 +1,5 @@
+pub mod PageRows
+pub mod MpegPages
+pub mod DvbPages
+pub mod DeliveryPages
+pub mod Pages

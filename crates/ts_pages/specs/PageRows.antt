@@ -1,0 +1,24 @@
+-- The words that pages are written with.
+-- This project's own rule: a page has a tag, a name and rows; each row is a name and a kind of field.
+use Rattle.std.specs.Prelude.{ℕ, List, [], Some, None}
+use Rattle.ts_fields.specs.declared.field.Kind.{Kind}
+use Rattle.ts_fields.specs.declared.field.Kind.TheVariants.{Ones}
+use Rattle.ts_fields.specs.Layout.{Row}
+use Rattle.ts_fields.specs.Bodies.{Page}
+
+-- a field that JSON must have, with any number of its width
+abbrev pub field : List ℕ → Kind → Row
+field called kind = record { name = called; kind = kind; absent = None; range = None }
+
+-- so many reserved bits, which must be ones
+abbrev pub reserved : ℕ → Row
+reserved count = field [] (Ones count)
+
+-- a page of fields alone
+abbrev pub of_fields : ℕ → List ℕ → List Row → Page
+of_fields number called rows = record { tag = number; name = called; head = rows; items = None }
+
+-- a page of items alone, up to the end
+abbrev pub of_items : ℕ → List ℕ → List ℕ → List Row → Page
+of_items number called item rows =
+    record { tag = number; name = called; head = []; items = Some (item, rows) }

@@ -1,0 +1,17 @@
+//! Tags and names of descriptors come in; their pages of the standard go out, one row a field.
+//! The layer above rests on `layout_of` and `layout_named`, which are the pages of `specs/Pages.antt`.
+#![tactic(auto)]
+
+/// The rows of a page, each a name and a kind of field: `"name" Kind;` or `"name" Kind(count);`.
+macro_rules! rows {
+    ($($name:literal $kind:ident $(($count:literal))?;)*) => {
+        &[$(Field { name: $name, kind: Kind::$kind $(($count))?, absent: None, range: None }),*]
+    };
+}
+
+mod delivery;
+mod dvb;
+mod mpeg;
+mod pages;
+
+pub use pages::{layout_named, layout_of};
