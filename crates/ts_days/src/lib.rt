@@ -1,0 +1,13 @@
+//! Days, times and starts of events come in as the numbers that tables hold or as texts; the others go out.
+//! The layer above rests on `start_of` and `start_text`, which agree with the calendar (`specs/Calendar.antt`).
+#![tactic(auto)]
+
+mod calendar;
+mod days;
+mod digits;
+mod texts_laws;
+mod times;
+
+pub use days::{DayText, day_of, day_text};
+pub use texts_laws::texts_tell_numbers;
+pub use times::{TimeText, start_of, start_text, time_of, time_text};
