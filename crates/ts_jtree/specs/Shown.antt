@@ -1,0 +1,110 @@
+-- How elements are written.
+-- This project's own rule: every attribute is written, whatever it is by default; numbers are numbers, flags are
+-- truth values, bytes are lower case, and a text that is none in JSON is written by its bytes alone.
+use Rattle.std.specs.Prelude.{ℕ, ◌+◌, ◌&&◌, ◌||◌, List, [], ◌∷◌, drop, length, Bool, true, false, not, bytes_eq, nat_eq, slice_get, Option, Some, None}
+use Rattle.hex.specs.Hex.{encode_lower}
+use Rattle.serde_json.specs.Data.{Data, boolean, string, number, unsigned, Members, no_members, put}
+use Rattle.ts_fields.specs.declared.field.Kind.{Kind}
+use Rattle.ts_fields.specs.declared.field.Kind.TheVariants.{Number, Ones, Free, Flag, Start, Duration, Decimal, Language, CountedText, Text, Hex}
+use Rattle.ts_fields.specs.Layout as rows
+use Rattle.ts_fields.specs.Layout.{Row, Held}
+use Rattle.ts_fields.specs.Reading.{are_printable}
+use Rattle.ts_fields.specs.Spelling.{holds}
+use Rattle.ts_fields.specs.Texts.{text_of}
+use Rattle.ts_days.specs.TimeTexts.{start_text, time_text}
+use Rattle.ts_jtree.specs.Attributes.{hex_key, within}
+use Rattle.ts_jtree.specs.Elements.{name_key, nodes_key}
+
+-- the members with what a number, or some bytes, are shown as
+abbrev pub put_number : Option Held → List ℕ → Members → (ℕ → Data) → Members
+put_number None key ms show = ms
+put_number (Some (rows.number n)) key ms show = put key (show n) ms
+put_number (Some (rows.bytes b)) key ms show = ms
+
+abbrev pub put_bytes : Option Held → Members → (List ℕ → Members) → Members
+put_bytes None ms show = ms
+put_bytes (Some (rows.number n)) ms show = ms
+put_bytes (Some (rows.bytes b)) ms show = show b
+
+-- bytes as hexadecimal digits
+abbrev pub put_hex : List ℕ → List ℕ → Members → Members
+put_hex key b ms = put key (string (encode_lower b)) ms
+
+-- a text, or else the bytes under the key for bytes
+abbrev pub put_text_of : Option (List ℕ) → List ℕ → List ℕ → Members → Members
+put_text_of (Some text) key b ms = put key (string text) ms
+put_text_of None key b ms = put_hex (hex_key key) b ms
+
+abbrev pub put_text : List ℕ → List ℕ → Members → Members
+put_text key b ms = put_text_of (text_of b) key b ms
+
+-- the members with the attribute of a field of this kind and name; reserved bits have none
+unfoldable pub put_attribute : Kind → List ℕ → Option Held → Members → Members
+put_attribute (Number count) key value ms = put_number value key ms (λ n. number (unsigned n))
+put_attribute (Ones count) key value ms = ms
+put_attribute (Free count) key value ms = ms
+put_attribute Flag key value ms = put_number value key ms (λ n. boolean (nat_eq n 1))
+put_attribute Start key value ms = put_number value key ms (λ n. string (start_text n))
+put_attribute Duration key value ms = put_number value key ms (λ n. string (time_text n))
+put_attribute (Decimal digits) key value ms = put_number value key ms (λ n. number (unsigned n))
+put_attribute Language key value ms = put_bytes value ms (λ b. put key (string b) ms)
+put_attribute CountedText key value ms = put_bytes value ms (λ b. put_text key b ms)
+put_attribute Text key value ms = put_bytes value ms (λ b. put_text key b ms)
+put_attribute Hex key value ms = put_bytes value ms (λ b. put_hex key b ms)
+
+-- the members with the attributes of some rows that hold these values
+unfoldable pub put_attributes : List Row → List Held → Members → Members
+put_attributes [] values ms = ms
+put_attributes (r ∷ rs) values ms =
+    put_attributes rs (drop (holds r.kind) values) (put_attribute r.kind r.name (slice_get values 0) ms)
+
+-- a language is shown as it is where it is printable
+abbrev pub is_shown : Kind → Option Held → Bool
+is_shown Language (Some (rows.bytes b)) = are_printable b
+is_shown _ _ = true
+
+unfoldable pub are_shown : List Row → List Held → Bool
+are_shown [] values = true
+are_shown (r ∷ rs) values = is_shown r.kind (slice_get values 0) && are_shown rs (drop (holds r.kind) values)
+
+-- the keys that a field may be written under
+abbrev pub is_key_of : Kind → List ℕ → List ℕ → Bool
+is_key_of (Ones count) name key = false
+is_key_of (Free count) name key = false
+is_key_of CountedText name key = bytes_eq key name || bytes_eq key (hex_key name)
+is_key_of Text name key = bytes_eq key name || bytes_eq key (hex_key name)
+is_key_of _ name key = bytes_eq key name
+
+abbrev pub is_key : List Row → List ℕ → Bool
+is_key [] key = false
+is_key (r ∷ rs) key = is_key_of r.kind r.name key || is_key rs key
+
+-- no row has a key of an earlier one
+abbrev pub keys_differ : List Row → Bool
+keys_differ [] = true
+keys_differ (r ∷ rs) = not (is_key rs r.name) && not (is_key rs (hex_key r.name)) && keys_differ rs
+
+-- a number, or the number of some bytes, in a row's range
+abbrev pub value_within : Option (ℕ × ℕ) → Option Held → Bool
+value_within range None = true
+value_within range (Some (rows.number n)) = within range n
+value_within range (Some (rows.bytes b)) = within range (length b)
+
+-- values in the ranges of their rows
+unfoldable pub are_within : List Row → List Held → Bool
+are_within [] values = true
+are_within (r ∷ rs) values =
+    value_within r.range (slice_get values 0) && are_within rs (drop (holds r.kind) values)
+
+-- rows that have no keys of the element itself either
+abbrev pub rows_show : List Row → Bool
+rows_show rs = keys_differ rs && (not (is_key rs name_key) && not (is_key rs nodes_key))
+
+-- the members of an element before its attributes: its name, and its children where it may have some
+abbrev pub element_base : List ℕ → Option Data → Members
+element_base called None = put name_key (string called) no_members
+element_base called (Some nodes) = put nodes_key nodes (put name_key (string called) no_members)
+
+-- the members of an element of this name, with these rows, values and children
+abbrev pub element_members : List Row → List ℕ → Option Data → List Held → Members
+element_members rs called nodes values = put_attributes rs values (element_base called nodes)

@@ -1,0 +1,170 @@
+//! Elements as they are written.
+
+ghost use Rattle.std.specs.Prelude.{◌≡◌, map, slice_get, option_map, OnOk, true};
+ghost use Rattle.hex.specs.Hex.{encode_lower};
+ghost use Rattle.serde_json.specs.Data.{put, string};
+ghost use Rattle.serde_json.specs.View.{view, members_view};
+ghost use Rattle.ts_fields.specs.Layout.{held, row, rows_of};
+ghost use Rattle.ts_days.specs.TimeTexts;
+ghost use Rattle.ts_fields.specs.Reading;
+ghost use Rattle.ts_jtree.specs.Shown;
+ghost use Rattle.ts_jtree.specs.Shown.{put_attribute, put_attributes};
+
+use crate::attribute::hex_key;
+use serde_json::{Map, Value};
+use std::alloc::{AllocError, Global};
+use ts_days::{start_text, time_text};
+use ts_fields::{Field, FieldValue, Kind, text_of};
+
+/// Puts a value at a key, in place of one that stands there.
+pub fn put_member(
+    alloc: Global,
+    members: &mut Map<String, Value>,
+    key: &str,
+    value: Value,
+) -> Result<(), AllocError>
+    ensures { OnOk result
+        (members_view members.new.entries ≡ put key.now (view value) (members_view members.old.entries)) }
+{
+    members.insert(String::from_str(alloc, key)?, value)?;
+    Ok(())
+}
+
+/// Puts a text at a key.
+pub fn put_text(
+    alloc: Global,
+    members: &mut Map<String, Value>,
+    key: &str,
+    text: &str,
+) -> Result<(), AllocError>
+    ensures { OnOk result
+        (members_view members.new.entries ≡ put key.now (string text.now) (members_view members.old.entries)) }
+{
+    let text = String::from_str(alloc, text)?;
+    put_member(alloc, members, key, Value::String(text))
+}
+
+/// Puts bytes at a key as lower case hexadecimal digits.
+fn put_hex(
+    alloc: Global,
+    members: &mut Map<String, Value>,
+    key: &str,
+    bytes: &[u8],
+) -> Result<(), AllocError>
+    ensures { OnOk result
+        (members_view members.new.entries ≡ Shown.put_hex key.now bytes.now (members_view members.old.entries)) }
+{
+    let text = hex::encode(alloc, bytes)?;
+    put_member(alloc, members, key, Value::String(text))
+}
+
+/// Puts the bytes of a language at a key as the text that they are.
+fn put_language(
+    alloc: Global,
+    members: &mut Map<String, Value>,
+    key: &str,
+    bytes: &[u8],
+) -> Result<(), AllocError>
+    requires { Reading.are_printable bytes.now ≡ true }
+    ensures { OnOk result
+        (members_view members.new.entries ≡ put key.now (string bytes.now) (members_view members.old.entries)) }
+{
+    let Some(text) = text_of(bytes) else {
+        unreachable!()
+    };
+    put_text(alloc, members, key, text)
+}
+
+/// Puts the start of an event at a key.
+fn put_start(
+    alloc: Global,
+    members: &mut Map<String, Value>,
+    key: &str,
+    number: u64,
+) -> Result<(), AllocError>
+    ensures { OnOk result (members_view members.new.entries
+        ≡ put key.now (string (TimeTexts.start_text number)) (members_view members.old.entries)) }
+{
+    let text = start_text(alloc, number)?;
+    put_member(alloc, members, key, Value::String(text))
+}
+
+/// Puts the bytes of a text at a key as the text that they are, or else at the key for bytes.
+fn put_text_or_hex(
+    alloc: Global,
+    members: &mut Map<String, Value>,
+    key: &str,
+    bytes: &[u8],
+) -> Result<(), AllocError>
+    ensures { OnOk result
+        (members_view members.new.entries ≡ Shown.put_text key.now bytes.now (members_view members.old.entries)) }
+{
+    let Some(text) = text_of(bytes) else {
+        let hex_key = hex_key(alloc, key)?;
+        return put_hex(alloc, members, &hex_key, bytes);
+    };
+    put_text(alloc, members, key, text)
+}
+
+/// Puts the attribute of a field that holds this.
+#[tactic(auto, unfolding(crate::specs::Shown::put_attribute))]
+fn show_attribute(
+    alloc: Global,
+    members: &mut Map<String, Value>,
+    field: &Field,
+    value: Option<&FieldValue>,
+) -> Result<(), AllocError>
+    requires { Shown.is_shown (row field.now).kind (option_map (λ v. held v.now) value) ≡ true }
+    ensures { OnOk result (members_view members.new.entries
+        ≡ put_attribute (row field.now).kind (row field.now).name (option_map (λ v. held v.now) value.entry)
+        (members_view members.old.entries)) }
+{
+    match (field.kind, value) {
+        (Kind::Flag, Some(FieldValue::Number(bit))) => {
+            put_member(alloc, members, field.name, Value::Bool(*bit == 1))
+        }
+        (Kind::Number(_) | Kind::Decimal(_), Some(FieldValue::Number(number))) => {
+            put_member(alloc, members, field.name, Value::from(*number))
+        }
+        (Kind::Start, Some(FieldValue::Number(number))) => {
+            put_start(alloc, members, field.name, *number)
+        }
+        (Kind::Duration, Some(FieldValue::Number(number))) => {
+            put_text(alloc, members, field.name, time_text(*number).as_str())
+        }
+        (Kind::Language, Some(FieldValue::Bytes(bytes))) => {
+            put_language(alloc, members, field.name, bytes)
+        }
+        (Kind::CountedText | Kind::Text, Some(FieldValue::Bytes(bytes))) => {
+            put_text_or_hex(alloc, members, field.name, bytes)
+        }
+        (Kind::Hex, Some(FieldValue::Bytes(bytes))) => put_hex(alloc, members, field.name, bytes),
+        _ => Ok(()),
+    }
+}
+
+/// Puts the attributes of some rows that hold these values, in the order of the rows; defaults are put too.
+pub fn show_attributes(
+    alloc: Global,
+    members: &mut Map<String, Value>,
+    rows: &[Field],
+    values: &[FieldValue],
+) -> Result<(), AllocError>
+    requires { Shown.are_shown (rows_of rows.now) (map held values.now) ≡ true }
+    ensures { OnOk result (members_view members.new.entries
+        ≡ put_attributes (rows_of rows.now) (map held values.now) (members_view members.old.entries)) }
+{
+    let mut next = 0;
+    for field in rows {
+        show_attribute(alloc, members, field, value_at(values, next))?;
+        next += field.kind.holds();
+    }
+    Ok(())
+}
+
+/// The value at a place; none past the end.
+fn value_at(values: &[FieldValue], place: usize) -> Option<&FieldValue>
+    ensures { option_map (λ v. v.now) result ≡ slice_get values.now place }
+{
+    values.get(place)
+}
