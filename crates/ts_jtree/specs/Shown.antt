@@ -100,10 +100,14 @@ are_within (r ∷ rs) values =
 abbrev pub rows_show : List Row → Bool
 rows_show rs = keys_differ rs && (not (is_key rs name_key) && not (is_key rs nodes_key))
 
--- the members of an element before its attributes: its name, and its children where it may have some
+-- the members with the children of an element, where it may have some
+abbrev pub put_nodes : Option Data → Members → Members
+put_nodes None ms = ms
+put_nodes (Some nodes) ms = put nodes_key nodes ms
+
+-- the members of an element before its attributes
 abbrev pub element_base : List ℕ → Option Data → Members
-element_base called None = put name_key (string called) no_members
-element_base called (Some nodes) = put nodes_key nodes (put name_key (string called) no_members)
+element_base called nodes = put_nodes nodes (put name_key (string called) no_members)
 
 -- the members of an element of this name, with these rows, values and children
 abbrev pub element_members : List Row → List ℕ → Option Data → List Held → Members

@@ -1,0 +1,5 @@
+mod StepLemmas
+mod ItemLemmas
+mod BodyLemmas
+mod PageLemmas
+mod RoundLemmas

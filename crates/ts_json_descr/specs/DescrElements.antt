@@ -1,0 +1,57 @@
+-- Descriptors as elements of JSON.
+-- This project's own rule: a descriptor whose body is of the page of its tag is an element of the page's name, with
+-- its fields as attributes and its items as children; every other one is a `generic_descriptor` of tag and bytes.
+use Rattle.std.specs.Prelude.{ℕ, ◌&&◌, List, [], ◌∷◌, map, codes, Bool, true, is_none, bytes_eq, Option, Some, None, option_map, option_and_then}
+use Rattle.serde_json.specs.Data.{Data, object, array, Members}
+use Rattle.serde_json.specs.View.{items_of}
+use Rattle.ts_bits.specs.TaggedBody.{TaggedBody}
+use Rattle.ts_fields.specs.declared.field.Kind.TheVariants.{Number, Hex}
+use Rattle.ts_fields.specs.Bits.{bits_of}
+use Rattle.ts_fields.specs.Bodies.{Page, Holding, read_page}
+use Rattle.ts_fields.specs.Layout.{Row, Held, number, bytes}
+use Rattle.ts_pages.specs.PageRows.{field}
+use Rattle.ts_pages.specs.Pages.{page_of}
+use Rattle.ts_jtree.specs.Shown.{element_members, rows_show}
+
+-- the element of an item
+abbrev pub item_shown : List ℕ × List Row → List Held → Data
+item_shown i values = object (element_members i.1 i.0 None values)
+
+-- the children, where there may be some
+abbrev pub items_shown : Option (List ℕ × List Row) → List (List Held) → Option Data
+items_shown None items = None
+items_shown (Some i) items = Some (array (items_of (map (item_shown i) items)))
+
+-- the element of a body of a page
+abbrev pub body_shown : Page → Holding → Data
+body_shown p h = object (element_members p.head p.name (items_shown p.items h.items) h.head)
+
+-- the name of a descriptor of no page
+abbrev pub generic_name : List ℕ
+generic_name = codes "generic_descriptor"
+
+-- its attributes: the tag, and the body of at most 255 bytes
+abbrev pub generic_rows : List Row
+generic_rows =
+    field (codes "tag") (Number 8)
+    ∷ record { name = codes "data"; kind = Hex; absent = None; range = Some (0, 255) } ∷ []
+
+-- the page of such a descriptor, whose tag and body are both attributes
+abbrev pub generic_page : Page
+generic_page = record { tag = 0; name = generic_name; head = generic_rows; items = None }
+
+-- the element of tag and bytes
+abbrev pub generic_shown : TaggedBody → Data
+generic_shown d = object (element_members generic_rows generic_name None (number d.tag ∷ bytes d.body ∷ []))
+
+-- the page of a descriptor with what its body holds by it
+abbrev pub typed : TaggedBody → Option (Page × Holding)
+typed d = option_and_then (λ p. option_map (λ h. (p, h)) (read_page p (bits_of d.body))) (page_of d.tag)
+
+abbrev pub shown_by : Option (Page × Holding) → TaggedBody → Data
+shown_by None d = generic_shown d
+shown_by (Some x) d = body_shown x.0 x.1
+
+-- the element of a descriptor
+abbrev pub descr_shown : TaggedBody → Data
+descr_shown d = shown_by (typed d) d

@@ -1,0 +1,78 @@
+-- Descriptors from elements of JSON.
+-- This project's own rule: an element is checked step by step, and then its children in their order; a body of more
+-- than 255 bytes comes last.
+use Rattle.std.specs.Prelude.{ℕ, ◌+◌, ◌<◌, ◌≤◌, Bool, List, [], ◌∷◌, length, bytes_eq, nat_lt, if◌then◌else◌, Option, Some, None, Ok}
+use Rattle.serde_json.specs.Data.{Data, Items, no_items, item, Members}
+use Rattle.ts_fields.specs.Bits.{bits_of}
+use Rattle.ts_fields.specs.Bodies.{Page, Holding, spell_page}
+use Rattle.ts_fields.specs.Layout.{Row, Held, number, bytes}
+use Rattle.ts_pages.specs.Pages.{page_named}
+use Rattle.ts_jtree.specs.declared.fault.JsonKind.TheVariants.{UnknownKey, OutOfRange}
+use Rattle.ts_jtree.specs.Attributes.{read_attributes}
+use Rattle.ts_jtree.specs.Elements.{name_key, members_of, name_of, keys_known, nodes_of, no_children, read_element}
+use Rattle.ts_jtree.specs.Faults.{Reading, refuse, or_refuse, at_child, ◌>>=◌}
+use Rattle.ts_json_descr.specs.DescrElements.{generic_name, generic_page}
+
+-- an item, which has no children itself
+unfoldable pub read_item : List ℕ × List Row → Data → Reading (List Held)
+read_item i value = do
+  x ← read_element i.0 i.1 value
+  _ ← no_children x.1
+  Ok x.0
+
+-- items one after another, the first of which is the child of this number
+unfoldable pub read_items : List ℕ × List Row → ℕ → Items → Reading (List (List Held))
+read_items i place no_items = Ok []
+read_items i place (item value more) = do
+  x ← at_child place (read_item i value)
+  others ← read_items i (place + 1) more
+  Ok (x ∷ others)
+
+-- the children, which are items where there may be some
+unfoldable pub read_children : Option (List ℕ × List Row) → Items → Reading (List (List Held))
+read_children None nodes = no_children nodes
+read_children (Some i) nodes = read_items i 0 nodes
+
+-- what an element of a page holds, whose name was looked at before
+unfoldable pub read_holding : Page → Members → Reading Holding
+read_holding p ms = do
+  _ ← keys_known p.head ms ms
+  head ← read_attributes p.head ms
+  nodes ← nodes_of ms
+  items ← read_children p.items nodes
+  Ok (record { head = head; items = items })
+
+-- a tag and the bits of a body, which has at most 255 bytes
+abbrev pub sized : ℕ → List Bool → Reading (ℕ × List Bool)
+sized tag body = if nat_lt 2040 (length body) then refuse name_key OutOfRange else Ok (tag, body)
+
+-- the descriptor of an element of a page
+unfoldable pub read_typed : Page → Members → Reading (ℕ × List Bool)
+read_typed p ms = do
+  h ← read_holding p ms
+  sized p.tag (spell_page p h)
+
+-- the descriptor of a tag and bytes
+abbrev pub tagged : List Held → Reading (ℕ × List Bool)
+tagged (number tag ∷ bytes body ∷ []) = Ok (tag, bits_of body)
+tagged _ = refuse name_key OutOfRange
+
+-- a tag of 8 bits and at most 255 bytes
+abbrev pub are_tagged : List Held → Type 0
+are_tagged (number tag ∷ bytes body ∷ []) = (tag < 256) × (length body ≤ 255)
+are_tagged _ = ⊥
+
+-- the descriptor of a generic element
+unfoldable pub read_generic : Members → Reading (ℕ × List Bool)
+read_generic ms = do
+  h ← read_holding generic_page ms
+  tagged h.head
+
+-- the tag and the bits of the body of a descriptor's element
+unfoldable pub descr_read : Data → Reading (ℕ × List Bool)
+descr_read value = do
+  ms ← members_of value
+  name ← name_of ms
+  if bytes_eq name generic_name then read_generic ms else (do
+    p ← or_refuse (page_named name) name_key UnknownKey
+    read_typed p ms)

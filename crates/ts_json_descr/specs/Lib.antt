@@ -1,0 +1,2 @@
+pub mod DescrElements
+pub mod DescrReading

@@ -1,0 +1,159 @@
+//! Descriptors from elements of JSON.
+
+ghost use Rattle.std.specs.Prelude.{◌≡◌, [], map, length, IsTrue, Some, option_map};
+ghost use Rattle.serde_json.specs.View.{view, items_view, members_view};
+ghost use Rattle.ts_fields.specs.Bits.{bits_of};
+ghost use Rattle.ts_fields.specs.Bodies.{page, page_sound, items_sound, body_held, item_held, item_page};
+ghost use Rattle.ts_fields.specs.Layout.{rows_of, held};
+ghost use Rattle.ts_fields.specs.SoundRows.{are_sound};
+ghost use Rattle.ts_jtree.specs.Faults.{Answers, at_child};
+ghost use Rattle.ts_json_descr.specs.DescrReading;
+ghost use Rattle.ts_json_descr.specs.DescrReading.{read_holding, descr_read};
+
+use crate::showing::GENERIC;
+use serde_json::{Map, Value};
+use std::alloc::Global;
+use ts_bits::Descriptor;
+use ts_fields::{Body, FieldValue, Item, ItemLayout, Layout, length_of_bits, write_body};
+use ts_jtree::{JsonKind, ReadRefusal, at_child, check_keys, children, element_name, members, no_children, read_attributes, read_element, refuse_key, values_are_shaped};
+use ts_pages::layout_named;
+
+/// An item, which has no children itself.
+#[tactic(auto, unfolding(crate::specs::DescrReading::read_item))]
+fn read_item(alloc: Global, layout: ItemLayout, value: &Value) -> Result<Vec<FieldValue>, ReadRefusal>
+    requires { IsTrue (are_sound (rows_of layout.rows.now)) }
+    ensures { Answers (λ v. map held v.items) result (DescrReading.read_item (item_page layout) (view value.now)) }
+{
+    let (values, nodes) = read_element(alloc, layout.name, layout.rows, value)?;
+    no_children(alloc, nodes)?;
+    Ok(values)
+}
+
+/// An item that is the child of this number.
+fn read_item_at(
+    alloc: Global,
+    layout: ItemLayout,
+    place: usize,
+    value: &Value,
+) -> Result<Vec<FieldValue>, ReadRefusal>
+    requires { IsTrue (are_sound (rows_of layout.rows.now)) }
+    ensures { Answers (λ v. map held v.items) result
+        (at_child place (DescrReading.read_item (item_page layout) (view value.now))) }
+{
+    match read_item(alloc, layout, value) {
+        Ok(values) => Ok(values),
+        Err(refusal) => Err(at_child(alloc, place, refusal)),
+    }
+}
+
+/// Items, each a child.
+fn read_items(alloc: Global, layout: ItemLayout, nodes: &[Value]) -> Result<Vec<Item>, ReadRefusal>
+    requires { IsTrue (are_sound (rows_of layout.rows.now)) }
+    ensures { Answers (λ v. map item_held v.items) result
+        (DescrReading.read_items (item_page layout) 0 (items_view nodes.now)) }
+{
+    let mut items = Vec::new(alloc);
+    let mut place = 0;
+    for value in nodes {
+        let values = read_item_at(alloc, layout, place, value)?;
+        items.push(Item { values })?;
+        place += 1;
+    }
+    Ok(items)
+}
+
+/// The children, which are items where there may be some.
+#[tactic(auto, unfolding(crate::specs::DescrReading::read_children))]
+fn read_children(
+    alloc: Global,
+    layout: Option<ItemLayout>,
+    nodes: &[Value],
+) -> Result<Vec<Item>, ReadRefusal>
+    requires { IsTrue (items_sound (option_map item_page layout)) }
+    ensures { Answers (λ v. map item_held v.items) result
+        (DescrReading.read_children (option_map item_page layout) (items_view nodes.now)) }
+{
+    match layout {
+        None => {
+            no_children(alloc, nodes)?;
+            Ok(Vec::new(alloc))
+        }
+        Some(layout) => read_items(alloc, layout, nodes),
+    }
+}
+
+/// What an element of a page holds, whose name was looked at before.
+#[tactic(auto, unfolding(crate::specs::DescrReading::read_holding))]
+fn read_element_body(
+    alloc: Global,
+    layout: &Layout,
+    members: &Map<String, Value>,
+) -> Result<Body, ReadRefusal>
+    requires { IsTrue (page_sound (page layout.now)) }
+    ensures { Answers body_held result (read_holding (page layout.now) (members_view members.now.entries)) }
+{
+    check_keys(alloc, layout.head, members)?;
+    let head = read_attributes(alloc, layout.head, members)?;
+    let nodes = children(alloc, members)?;
+    let items = read_children(alloc, layout.items, nodes)?;
+    Ok(Body { head, items })
+}
+
+/// The descriptor of an element of a page.
+#[tactic(auto, unfolding(crate::specs::DescrReading::read_typed))]
+fn read_typed(
+    alloc: Global,
+    layout: &Layout,
+    members: &Map<String, Value>,
+) -> Result<Descriptor, ReadRefusal>
+    requires { IsTrue (page_sound (page layout.now)) }
+    ensures { Answers (λ d. (d.tag, bits_of d.body)) result
+        (DescrReading.read_typed (page layout.now) (members_view members.now.entries)) }
+{
+    let body = read_element_body(alloc, layout, members)?;
+    values_are_shaped();
+    length_of_bits();
+    let bytes = write_body(alloc, layout, &body)?;
+    if bytes.len() > 255 {
+        return Err(refuse_key(alloc, "#name", JsonKind::OutOfRange));
+    }
+    Ok(Descriptor::new(alloc, layout.tag, &bytes)?)
+}
+
+/// The descriptor of a tag and bytes.
+fn tagged(alloc: Global, values: &[FieldValue]) -> Result<Descriptor, ReadRefusal>
+    requires { DescrReading.are_tagged (map held values.now) }
+    ensures { Answers (λ d. (d.tag, bits_of d.body)) result (DescrReading.tagged (map held values.now)) }
+{
+    let [FieldValue::Number(tag), FieldValue::Bytes(body)] = values else {
+        return Err(refuse_key(alloc, "#name", JsonKind::OutOfRange));
+    };
+    Ok(Descriptor::new(alloc, *tag as u8, body)?)
+}
+
+/// The descriptor of a generic element.
+#[tactic(auto, unfolding(crate::specs::DescrReading::read_generic))]
+fn read_generic(alloc: Global, members: &Map<String, Value>) -> Result<Descriptor, ReadRefusal>
+    ensures { Answers (λ d. (d.tag, bits_of d.body)) result
+        (DescrReading.read_generic (members_view members.now.entries)) }
+{
+    let body = read_element_body(alloc, &GENERIC, members)?;
+    tagged(alloc, &body.head)
+}
+
+/// The descriptor of an element, or the first fault of the element and its children. A body of more than 255
+/// bytes is `OutOfRange` on `#name`, and comes last.
+#[tactic(auto, unfolding(crate::specs::DescrReading::descr_read))]
+pub fn json_descr(alloc: Global, value: &Value) -> Result<Descriptor, ReadRefusal>
+    ensures { Answers (λ d. (d.tag, bits_of d.body)) result (descr_read (view value.now)) }
+{
+    let members = members(alloc, value)?;
+    let name = element_name(alloc, members)?;
+    if name == "generic_descriptor" {
+        return read_generic(alloc, members);
+    }
+    let Some(layout) = layout_named(name) else {
+        return Err(refuse_key(alloc, "#name", JsonKind::UnknownKey));
+    };
+    read_typed(alloc, layout, members)
+}

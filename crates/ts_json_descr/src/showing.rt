@@ -1,0 +1,137 @@
+//! Descriptors as elements of JSON.
+
+ghost use Rattle.std.specs.Prelude.{◌≡◌, ◌∷◌, [], map, option_map, Some, true, OnOk, IfOk};
+ghost use Rattle.serde_json.specs.View.{view, members_view};
+ghost use Rattle.ts_fields.specs.Bodies.{page, page_fits, body_held, item_held, item_page, all_fit, items_fit};
+ghost use Rattle.ts_fields.specs.Fitting.{fits};
+ghost use Rattle.ts_fields.specs.Layout.{rows_of, held, number, bytes};
+ghost use Rattle.ts_jtree.specs.Shown.{put_nodes};
+ghost use Rattle.ts_json_descr.specs.DescrElements;
+ghost use Rattle.ts_json_descr.specs.DescrElements.{descr_shown, body_shown, item_shown, items_shown, generic_shown};
+
+use serde_json::{Map, Value};
+use std::alloc::{AllocError, Global};
+use ts_bits::Descriptor;
+use ts_fields::{Body, Field, FieldValue, Item, ItemLayout, Kind, Layout, NotRead, read_body};
+use ts_jtree::{fit_is_shown, put_member, put_text, show_attributes};
+use ts_pages::layout_of;
+
+/// A descriptor of no page, as tag and bytes.
+pub static GENERIC: Layout = Layout {
+    tag: 0,
+    name: "generic_descriptor",
+    head: &[
+        Field {
+            name: "tag",
+            kind: Kind::Number(8),
+            absent: None,
+            range: None,
+        },
+        Field {
+            name: "data",
+            kind: Kind::Hex,
+            absent: None,
+            range: Some((0, 255)),
+        },
+    ],
+    items: None,
+};
+
+/// The element that shows a descriptor: one of its page's name exactly where its body is of the page of its tag,
+/// and else a `generic_descriptor`.
+pub fn descr_json(alloc: Global, from: &Descriptor) -> Result<Value, AllocError>
+    ensures { IfOk result (λ v. view v ≡ descr_shown from.now) }
+{
+    let Some(layout) = layout_of(from.tag()) else {
+        return generic_json(alloc, from);
+    };
+    match read_body(alloc, layout, from.body()) {
+        Ok(body) => body_json(alloc, layout, &body),
+        Err(NotRead::NoMemory) => Err(AllocError),
+        Err(NotRead::Outside) => generic_json(alloc, from),
+    }
+}
+
+/// The element of tag and bytes.
+#[tactic(auto, unfolding(ts_jtree::specs::Shown::are_shown))]
+fn generic_json(alloc: Global, from: &Descriptor) -> Result<Value, AllocError>
+    ensures { IfOk result (λ v. view v ≡ generic_shown from.now) }
+{
+    let mut members = Map::new(alloc);
+    put_text(alloc, &mut members, "#name", GENERIC.name)?;
+    let values = generic_values(alloc, from)?;
+    show_attributes(alloc, &mut members, GENERIC.head, &values)?;
+    Ok(Value::Object(members))
+}
+
+/// Tag and bytes as what fields hold.
+fn generic_values(alloc: Global, from: &Descriptor) -> Result<Vec<FieldValue>, AllocError>
+    ensures { IfOk result (λ v. map held v.items ≡ number from.now.tag ∷ bytes from.now.body ∷ []) }
+{
+    let mut values = Vec::new(alloc);
+    values.push(FieldValue::Number(u64::from(from.tag())))?;
+    values.push(FieldValue::Bytes(Vec::from_slice(alloc, from.body())?))?;
+    Ok(values)
+}
+
+/// The element of a body of a page.
+fn body_json(alloc: Global, layout: &Layout, body: &Body) -> Result<Value, AllocError>
+    requires { page_fits (page layout.now) (body_held body.now) ≡ true }
+    ensures { IfOk result (λ v. view v ≡ body_shown (page layout.now) (body_held body.now)) }
+{
+    let mut members = Map::new(alloc);
+    put_text(alloc, &mut members, "#name", layout.name)?;
+    put_items(alloc, &mut members, layout.items, &body.items)?;
+    fit_is_shown();
+    show_attributes(alloc, &mut members, layout.head, &body.head)?;
+    Ok(Value::Object(members))
+}
+
+/// Puts the items as children, where there may be some.
+fn put_items(
+    alloc: Global,
+    members: &mut Map<String, Value>,
+    layout: Option<ItemLayout>,
+    items: &[Item],
+) -> Result<(), AllocError>
+    requires { items_fit (option_map item_page layout) (map item_held items.now) ≡ true }
+    ensures { OnOk result (members_view members.new.entries
+        ≡ put_nodes (items_shown (option_map item_page layout) (map item_held items.now))
+        (members_view members.old.entries)) }
+{
+    match layout {
+        None => Ok(()),
+        Some(layout) => {
+            let nodes = items_json(alloc, layout, items)?;
+            put_member(alloc, members, "#nodes", Value::Array(nodes))
+        }
+    }
+}
+
+/// The elements of items.
+fn items_json(
+    alloc: Global,
+    layout: ItemLayout,
+    items: &[Item],
+) -> Result<Vec<Value>, AllocError>
+    requires { all_fit (rows_of layout.rows.now) (map item_held items.now) ≡ true }
+    ensures { IfOk result (λ v. map view v.items ≡ map (item_shown (item_page layout)) (map item_held items.now)) }
+{
+    let mut nodes = Vec::new(alloc);
+    for item in items {
+        nodes.push(item_json(alloc, layout, item)?)?;
+    }
+    Ok(nodes)
+}
+
+/// The element of an item.
+fn item_json(alloc: Global, layout: ItemLayout, item: &Item) -> Result<Value, AllocError>
+    requires { fits (rows_of layout.rows.now) (item_held item.now) ≡ true }
+    ensures { IfOk result (λ v. view v ≡ item_shown (item_page layout) (item_held item.now)) }
+{
+    let mut members = Map::new(alloc);
+    put_text(alloc, &mut members, "#name", layout.name)?;
+    fit_is_shown();
+    show_attributes(alloc, &mut members, layout.rows, &item.values)?;
+    Ok(Value::Object(members))
+}
