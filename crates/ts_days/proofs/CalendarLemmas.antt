@@ -233,15 +233,15 @@ some_month : (most first days year : ℕ) → days < months_length year first mo
 unfolding months_length
 some_month zero first days year less = absurd (omega arith)
 some_month (suc most) first days year less = by_order days (month_length year first)
-  (λ short. record {
-    day = days + 1;
-    on = 0;
-    few = omega arith;
-    some = omega arith;
-    inside = let z : first + 0 ≡ first = omega arith in rw z (omega arith);
-    same = omega arith;
-  })
-  (λ long.
+    (λ short. record {
+      day = days + 1;
+      on = 0;
+      few = omega arith;
+      some = omega arith;
+      inside = let z : first + 0 ≡ first = omega arith in rw z (omega arith);
+      same = omega arith;
+    })
+    (λ long.
     let rest = some_month most (first + 1) (days - month_length year first) year (omega arith) in
     let shift : first + suc rest.on ≡ first + 1 + rest.on = omega arith in
     record {
@@ -272,15 +272,15 @@ some_day : (most first days : ℕ) → days < years_length first (suc most) → 
 unfolding years_length
 some_day zero first days less = by_order days (year_length first) (first_year zero first days) (λ long. absurd (omega arith))
 some_day (suc most) first days less = by_order days (year_length first) (first_year (suc most) first days) (λ long.
-  let rest = some_day most (first + 1) (days - year_length first) (omega arith) in
-  record {
-    day = rest.day;
-    on = suc rest.on;
-    at = omega (arith, rest.at);
-    few = omega (arith, rest.few);
-    lawful_day = rest.lawful_day;
-    same = omega (arith, rest.same);
-  })
+    let rest = some_day most (first + 1) (days - year_length first) (omega arith) in
+    record {
+      day = rest.day;
+      on = suc rest.on;
+      at = omega (arith, rest.at);
+      few = omega (arith, rest.few);
+      lawful_day = rest.lawful_day;
+      same = omega (arith, rest.same);
+    })
 
 centuries : 65856 < years_length 1858 182
 unfolding years_length
@@ -322,9 +322,10 @@ year_bounds year month day n date small is =
     let last : day_count (pos 2039) 1 1 ≡ day_count (pos 1858) 1 1 + years_length 1858 181 = years 181 1858 in
     let first_date : IsCivilDate (pos 2039) 1 1 = ((omega (arith, signed_arith), omega (arith, signed_arith)), (omega arith, omega arith), (omega arith, omega arith)) in
     let least : year <ℤ pos 1858 → day_count year month day < day_count (pos 1858) 1 1 = day_count-lt_year year month day (pos 1858) 1 1 date (omega arith) in
-    let most : pos 2039 <ℤ year → day_count (pos 2039) 1 1 < day_count year month day = day_count-lt_year (pos 2039) 1 1 year month day first_date date.2.0 in
-    (by_lt_z year (pos 1858) (λ less. absurd (omega (arith, signed_arith, is, count, begin, least less))) (λ more. more),
-     by_lt_z (pos 2039) year (λ less. absurd (omega (arith, signed_arith, is, count, begin, last, late_years, most less))) (λ more. more))
+    let most : pos 2039 <ℤ year → day_count (pos 2039) 1 1 < day_count year month day = day_count-lt_year (pos 2039) 1 1 year month day first_date date.2.0 in (
+      by_lt_z year (pos 1858) (λ less. absurd (omega (arith, signed_arith, is, count, begin, least less))) (λ more. more),
+      by_lt_z (pos 2039) year (λ less. absurd (omega (arith, signed_arith, is, count, begin, last, late_years, most less))) (λ more. more),
+    )
 
 pub day_found : (year : ℤ) (month day n : ℕ) → IsCivilDate year month day → n < 65536
     → days_from_civil year month day +ℤ pos 40587 ≡ pos n

@@ -5,6 +5,8 @@
 mod calendar;
 mod days;
 mod digits;
+#[cfg(test)]
+mod tests;
 mod texts_laws;
 mod times;
 

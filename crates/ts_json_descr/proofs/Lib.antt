@@ -3,3 +3,4 @@ mod ItemLemmas
 mod BodyLemmas
 mod PageLemmas
 mod RoundLemmas
+mod Rows

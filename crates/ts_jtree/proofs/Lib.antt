@@ -7,3 +7,4 @@ mod ShownLemmas
 mod AgainLemmas
 mod KnownLemmas
 mod ShapeLemmas
+mod Rows

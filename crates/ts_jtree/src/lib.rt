@@ -8,6 +8,8 @@ mod element_laws;
 mod fault;
 mod number;
 mod shown;
+#[cfg(test)]
+mod tests;
 
 pub use attribute::{member, read_attributes};
 pub use element::{check_keys, check_name, children, element_name, members, no_children, read_element};
