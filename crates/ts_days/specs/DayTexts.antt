@@ -14,7 +14,8 @@ text_of_day d =
 
 -- ten bytes, with a hyphen behind year and month
 abbrev pub has_hyphens : List ℕ → Bool
-has_hyphens text = nat_eq (length text) 10 && (nat_eq (slice_index text 4) 45 && nat_eq (slice_index text 7) 45)
+has_hyphens text =
+    nat_eq (length text) 10 && (nat_eq (slice_index text 4) 45 && nat_eq (slice_index text 7) 45)
 
 -- year, month and day that the digits of a text write
 unfoldable pub day_written : List ℕ → Option Day

@@ -1,5 +1,5 @@
 //! Days, times and starts of events come in as the numbers that tables hold or as texts; the others go out.
-//! The layer above rests on `start_of` and `start_text`, which agree with the calendar (`specs/Calendar.antt`).
+//! The layer above rests on `start_of` and `start_text`, which follow the calendar (`specs/Calendar.antt`).
 #![tactic(auto)]
 
 mod calendar;

@@ -3,7 +3,8 @@
 use crate::{day_of, day_text, start_of, start_text, time_of, time_text};
 use std::test::Fail;
 
-/// Days with their numbers: the first and the last, the example of ETSI EN 300 468, annex C, and Unix's first.
+/// Days with their numbers: the first and the last, Unix's first, and the example of ETSI EN 300 468,
+/// annex C.
 static DAYS: [(&str, u16); 4] = [
     ("1858-11-17", 0),
     ("1970-01-01", 40_587),

@@ -8,7 +8,8 @@ ghost use Rattle.ts_days.specs.TimeTexts.{time_of, time_text, start_of, start_te
 /// Each number is read again from its text.
 pub fn texts_tell_numbers()
     ensures day { (number : ℕ) → number < 2 ^ 16 → day_of (day_text number) ≡ Some number }
-    ensures time { (hours number : ℕ) → is_time hours number ≡ true → time_of hours (time_text number) ≡ Some number }
+    ensures time { (hours number : ℕ) → is_time hours number ≡ true
+        → time_of hours (time_text number) ≡ Some number }
     ensures start { (number : ℕ) → number < 2 ^ 40 → is_start number ≡ true
         → start_of (start_text number) ≡ Some number }
 {}

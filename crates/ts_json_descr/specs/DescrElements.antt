@@ -1,6 +1,6 @@
 -- Descriptors as elements of JSON.
--- This project's own rule: a descriptor whose body is of the page of its tag is an element of the page's name, with
--- its fields as attributes and its items as children; every other one is a `generic_descriptor` of tag and bytes.
+-- This project's own rule: a descriptor whose body is of its tag's page is an element of the page's name,
+-- its fields attributes and its items children; every other one is a `generic_descriptor` of tag and bytes.
 use Rattle.std.specs.Prelude.{ℕ, ◌&&◌, List, [], ◌∷◌, map, codes, Bool, true, is_none, bytes_eq, Option, Some, None, option_map, option_and_then}
 use Rattle.serde_json.specs.Data.{Data, object, array, Members}
 use Rattle.serde_json.specs.View.{items_of}

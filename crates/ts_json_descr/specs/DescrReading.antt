@@ -1,6 +1,6 @@
 -- Descriptors from elements of JSON.
--- This project's own rule: an element is checked step by step, and then its children in their order; a body of more
--- than 255 bytes comes last.
+-- This project's own rule: an element is checked step by step, and then its children in their order; a body
+-- of more than 255 bytes comes last.
 use Rattle.std.specs.Prelude.{ℕ, ◌+◌, ◌<◌, ◌≤◌, Bool, List, [], ◌∷◌, length, bytes_eq, nat_lt, if◌then◌else◌, Option, Some, None, Ok}
 use Rattle.serde_json.specs.Data.{Data, Items, no_items, item, Members}
 use Rattle.ts_fields.specs.Bits.{bits_of}

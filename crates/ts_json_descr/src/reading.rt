@@ -22,7 +22,8 @@ use ts_pages::layout_named;
 #[tactic(auto, unfolding(crate::specs::DescrReading::read_item))]
 fn read_item(alloc: Global, layout: ItemLayout, value: &Value) -> Result<Vec<FieldValue>, ReadRefusal>
     requires { IsTrue (are_sound (rows_of layout.rows.now)) }
-    ensures { Answers (λ v. map held v.items) result (DescrReading.read_item (item_page layout) (view value.now)) }
+    ensures { Answers (λ v. map held v.items) result
+        (DescrReading.read_item (item_page layout) (view value.now)) }
 {
     let (values, nodes) = read_element(alloc, layout.name, layout.rows, value)?;
     no_children(alloc, nodes)?;

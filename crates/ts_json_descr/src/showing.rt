@@ -37,8 +37,8 @@ pub static GENERIC: Layout = Layout {
     items: None,
 };
 
-/// The element that shows a descriptor: one of its page's name exactly where its body is of the page of its tag,
-/// and else a `generic_descriptor`.
+/// The element that shows a descriptor: one of its page's name exactly where its body is of the page of its
+/// tag, and else a `generic_descriptor`.
 pub fn descr_json(alloc: Global, from: &Descriptor) -> Result<Value, AllocError>
     ensures { IfOk result (λ v. view v ≡ descr_shown from.now) }
 {
@@ -115,7 +115,8 @@ fn items_json(
     items: &[Item],
 ) -> Result<Vec<Value>, AllocError>
     requires { all_fit (rows_of layout.rows.now) (map item_held items.now) ≡ true }
-    ensures { IfOk result (λ v. map view v.items ≡ map (item_shown (item_page layout)) (map item_held items.now)) }
+    ensures { IfOk result (λ v. map view v.items
+        ≡ map (item_shown (item_page layout)) (map item_held items.now)) }
 {
     let mut nodes = Vec::new(alloc);
     for item in items {

@@ -1,6 +1,6 @@
 -- Attributes of an element.
--- This project's own rule: the attributes of an element stand for the fields of its rows, in their order. Of an
--- attribute it is told first that it is missing, then that it is not of its form, then that it is out of range.
+-- This project's own rule: the attributes of an element stand for the fields of its rows, in their order. Of
+-- one it is told first that it is missing, then that it is not of its form, then that it is out of range.
 use Rattle.std.specs.Prelude.{ℕ, ◌-◌, ◌^◌, ◌&&◌, List, [], ◌∷◌, ◌++◌, length, codes, Bool, true, nat_eq, nat_le, if◌then◌else◌, Option, Some, None, option_to_list, Result, Ok, Err}
 use Rattle.hex.specs.Hex.{decode_of}
 use Rattle.serde_json.specs.Data.{Data, Members}

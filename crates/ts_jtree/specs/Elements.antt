@@ -1,6 +1,6 @@
 -- Elements: objects with a name, attributes and children.
--- This project's own rule: an element is checked in the order of its steps, each a line of `read_element`; what is
--- wrong first is told.
+-- This project's own rule: an element is checked in the order of its steps, a line of `read_element` each, and
+-- what is wrong first is told.
 use Rattle.std.specs.Prelude.{ℕ, ◌+◌, ◌&&◌, ◌||◌, List, [], ◌∷◌, codes, Bool, true, false, is_none, bytes_eq, if◌then◌else◌, Option, Some, None, Ok}
 use Rattle.serde_json.specs.Data.{Data, Items, no_items, item, Members, no_members, member}
 use Rattle.serde_json.specs.Find.{get_member, as_object, as_str, as_array}

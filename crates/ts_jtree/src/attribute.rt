@@ -90,7 +90,8 @@ fn read_number(
     widest: u64,
 ) -> Result<u64, ReadRefusal>
     requires { widest < 2 ^ 63 }
-    ensures { Answers (λ n. n) result (number_attribute field.now.absent field.now.range widest field.now.name.now
+    ensures { Answers (λ n. n) result
+        (number_attribute field.now.absent field.now.range widest field.now.name.now
         (members_view members.now.entries)) }
 {
     let Some(value) = member(members, field.name) else {
@@ -125,7 +126,8 @@ fn text_at<'a>(
     members: &'a Map<String, Value>,
     key: &str,
 ) -> Result<&'a str, ReadRefusal>
-    ensures { Answers (λ text. text.now) result (Attributes.text_at key.now (members_view members.now.entries)) }
+    ensures { Answers (λ text. text.now) result
+        (Attributes.text_at key.now (members_view members.now.entries)) }
 {
     let Some(value) = member(members, key) else {
         return Err(refuse_key(alloc, key, JsonKind::Missing));
@@ -213,7 +215,8 @@ fn read_data(
     key: &str,
     range: Option<(u64, u64)>,
 ) -> Result<Vec<u8>, ReadRefusal>
-    ensures { Answers (λ b. b.items) result (data_attribute range key.now (members_view members.now.entries)) }
+    ensures { Answers (λ b. b.items) result
+        (data_attribute range key.now (members_view members.now.entries)) }
 {
     let bytes = read_hex(alloc, members, key)?;
     if !is_within(range, bytes.len() as u64) {
@@ -242,7 +245,7 @@ fn read_text(
 }
 
 /// The key that has the bytes of a text which is none in JSON.
-pub fn hex_key(alloc: Global, key: &str) -> Result<String, AllocError>
+pub(crate) fn hex_key(alloc: Global, key: &str) -> Result<String, AllocError>
     ensures { IfOk result (λ text. string_bytes text ≡ Attributes.hex_key key.now) }
 {
     let mut hex_key = String::from_str(alloc, key)?;
@@ -298,7 +301,8 @@ fn read_attribute(
     }
 }
 
-/// What the fields of some rows hold by their attributes, in the order of the rows; reserved bits are left out.
+/// What the fields of some rows hold by their attributes, in the order of the rows; reserved bits are left
+/// out.
 pub fn read_attributes(
     alloc: Global,
     rows: &[Field],

@@ -62,7 +62,8 @@ pub fn check_keys(
     members: &Map<String, Value>,
 ) -> Result<(), ReadRefusal>
     ensures { Answers (λ _. []) result
-        (keys_known (rows_of rows.now) (members_view members.now.entries) (members_view members.now.entries)) }
+        (keys_known (rows_of rows.now) (members_view members.now.entries)
+        (members_view members.now.entries)) }
 {
     for (key, _) in members.iter() {
         if !is_known_key(rows, members, key) {
@@ -160,9 +161,9 @@ pub fn no_children(alloc: Global, nodes: &[Value]) -> Result<(), ReadRefusal>
     Err(at_child(alloc, 0, refuse_stranger(alloc, value)))
 }
 
-/// What an element of this name holds, in the order of the rows, and its children, which are still to be checked.
-/// The steps come in this order: an object, its name, the name that may stand here, known keys, the attributes
-/// one after another, children that are an array.
+/// What an element of this name holds, in the order of the rows, and its children, which are still to be
+/// checked. The steps come in this order: an object, its name, the name that may stand here, known keys, the
+/// attributes one after another, children that are an array.
 #[tactic(auto, unfolding(crate::specs::Elements::read_element))]
 pub fn read_element<'a>(
     alloc: Global,

@@ -29,7 +29,8 @@ pub fn element_shows()
         → rows_show rs ≡ true → name_of (element_members rs called nodes values) ≡ Ok called }
     ensures keys { (rs : List Row) (called : List ℕ) (nodes : Option Data) (values : List Held)
         → rows_show rs ≡ true
-        → keys_known rs (element_members rs called nodes values) (element_members rs called nodes values) ≡ Ok [] }
+        → keys_known rs (element_members rs called nodes values) (element_members rs called nodes values)
+        ≡ Ok [] }
     ensures values { (rs : List Row) (called : List ℕ) (nodes : Option Data) (values : List Held)
         → rows_show rs ≡ true → fits rs values ≡ true → are_within rs values ≡ true
         → read_attributes rs (element_members rs called nodes values) ≡ Ok values }

@@ -21,7 +21,8 @@ pub enum JsonKind {
     UnknownKey,
 }
 
-/// The way to an element: the numbers of children from the value that was read, each from 0. Seen as their list.
+/// The way to an element: the numbers of children from the value that was read, each from 0. Seen as their
+/// list.
 #[derive(Debug, Drop)]
 pub struct PathList {
     places: Vec<usize>,

@@ -1,5 +1,5 @@
 //! Elements of JSON and rows of fields come in; values or the first fault go out, and values as elements.
-//! The layer above rests on `read_element` and `show_attributes`, which read each other's elements (`element_shows`).
+//! The layer above rests on `read_element` and `show_attributes`, and on `element_shows`, which ties them.
 #![tactic(auto)]
 
 mod attribute;

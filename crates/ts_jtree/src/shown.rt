@@ -37,8 +37,8 @@ pub fn put_text(
     key: &str,
     text: &str,
 ) -> Result<(), AllocError>
-    ensures { OnOk result
-        (members_view members.new.entries ≡ put key.now (string text.now) (members_view members.old.entries)) }
+    ensures { OnOk result (members_view members.new.entries
+        ≡ put key.now (string text.now) (members_view members.old.entries)) }
 {
     let text = String::from_str(alloc, text)?;
     put_member(alloc, members, key, Value::String(text))
@@ -51,8 +51,8 @@ fn put_hex(
     key: &str,
     bytes: &[u8],
 ) -> Result<(), AllocError>
-    ensures { OnOk result
-        (members_view members.new.entries ≡ Shown.put_hex key.now bytes.now (members_view members.old.entries)) }
+    ensures { OnOk result (members_view members.new.entries
+        ≡ Shown.put_hex key.now bytes.now (members_view members.old.entries)) }
 {
     let text = hex::encode(alloc, bytes)?;
     put_member(alloc, members, key, Value::String(text))
@@ -66,8 +66,8 @@ fn put_language(
     bytes: &[u8],
 ) -> Result<(), AllocError>
     requires { Reading.are_printable bytes.now ≡ true }
-    ensures { OnOk result
-        (members_view members.new.entries ≡ put key.now (string bytes.now) (members_view members.old.entries)) }
+    ensures { OnOk result (members_view members.new.entries
+        ≡ put key.now (string bytes.now) (members_view members.old.entries)) }
 {
     let Some(text) = text_of(bytes) else {
         unreachable!()
@@ -96,8 +96,8 @@ fn put_text_or_hex(
     key: &str,
     bytes: &[u8],
 ) -> Result<(), AllocError>
-    ensures { OnOk result
-        (members_view members.new.entries ≡ Shown.put_text key.now bytes.now (members_view members.old.entries)) }
+    ensures { OnOk result (members_view members.new.entries
+        ≡ Shown.put_text key.now bytes.now (members_view members.old.entries)) }
 {
     let Some(text) = text_of(bytes) else {
         let hex_key = hex_key(alloc, key)?;
