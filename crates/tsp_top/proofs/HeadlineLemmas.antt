@@ -1,10 +1,12 @@
 -- The headline, from the stream theorem.
-use Rattle.std.proofs.Common.{◌≡◌, ◌⊎◌, inl, inr, ℕ, List, [], ◌++◌, map, Bool, true, false, if◌then◌else◌, Option, Some, None, refl, ap, sym, ◌∙◌, subst, arith, append-nil}
+use Rattle.std.proofs.Common.{◌≡◌, ◌⊎◌, inl, inr, ℕ, zero, suc, List, [], ◌∷◌, ◌++◌, map, Bool, true, false, if◌then◌else◌, Option, Some, None, refl, ap, sym, ◌∙◌, subst, arith, append-nil}
 use Rattle.std.specs.Prelude.{IsTrue, IfSome, is_some}
 use Rattle.std.proofs.lemmas.Bool.{cond-true}
 use Rattle.chain_model.specs.declared.input_end.InputEnd.TheVariants.{End, Sync, ReadFault, TooLong}
 use Rattle.chain_model.specs.declared.cause.Cause.{Cause}
 use Rattle.chain_model.specs.declared.cause.Cause.TheVariants.{Input, Joint, Until, Stop, Refuse, WriteFault, NoMemory}
+use Rattle.std.specs.List.{AllByRecursion}
+use Rattle.chain_core.proofs.Facts.{all_by_recursion}
 use Rattle.chain_model.specs.Cut.{is_fault}
 use Rattle.chain_model.specs.InputList.{InputList, input_of_bytes}
 use Rattle.chain_model.specs.PureRun.{Chain, chain_cut, pure_run, written_to, reported_at}
@@ -21,7 +23,8 @@ use Rattle.ts_outside.specs.Count.{HasCause, IsQuiet}
 use Rattle.ts_outside.specs.Told.{grown}
 use Rattle.ts_outside.specs.Desk.{DeskView, file_of}
 use Rattle.tsp_top.specs.CallEnd.{CallEnd, no_input, no_output, ran, unreported, out_of_memory, status_of, status_when_late, FaultRose, StatusTellsCause}
-use Rattle.tsp_top.specs.MemoryFirst.{AreSteady, NoStageWants, IsMemoryFirst}
+use Rattle.tsp_top.specs.CanEnd.{CanEnd, CanEndBy}
+use Rattle.tsp_top.specs.MemoryFirst.{IsSteady, AreSteady, NoStageWants, TakesLater}
 use Rattle.tsp_top.specs.PlannedChain.{chain_of, input_of, named_rule_of, output_name, stuffing_of, users_from, users_of}
 use Rattle.tsp_top.specs.StreamTheorem.{EndsRight, IsWrittenTo, outputs_with, Writes, Reports, StreamTheorem}
 use Rattle.tsp_top.specs.TspCall.{CallsTsp}
@@ -176,8 +179,19 @@ same-but-sizes one other files same =
     ∙ ap (λ (confs : List PluginConf). U confs other.general.ignore_joint_termination) same.plugins
     ∙ ap (λ (b : Bool). U one.plugins b) same.ignored
 
+-- of plugins that all take their room before the run none takes it later
+none-later : (confs : List PluginConf) (j : ℕ) → AllByRecursion IsSteady confs → TakesLater confs j → ⊥
+none-later [] j all later = later
+none-later (conf ∷ confs) zero all later = later all.0
+none-later (conf ∷ confs) (suc j) all later = none-later confs j all.1 later
+
+no-want : (plan : Plan) (why : Cause) → AreSteady plan.plugins → CanEndBy plan why → NoStageWants why
+no-want plan why steady can zero is = subst (λ (w : Cause). CanEndBy plan w) is can
+no-want plan why steady can (suc j) is =
+    none-later plan.plugins j (all_by_recursion IsSteady plan.plugins steady) (subst (λ (w : Cause). CanEndBy plan w) is can)
+
 -- memory first: what is left where memory was wanting
-module _ (plan : Plan) (files : List (List ℕ × List ℕ)) (old new : DeskView) (files_are : IfSome old.files (λ told. files ≡ told)) where
+module _ (plan : Plan) (files : List (List ℕ × List ℕ)) (old new : DeskView) (files_are : IfSome old.files (λ told. files ≡ told)) (steady : AreSteady plan.plugins) where
   not-done : (why : Cause) (late : Bool) → NoStageWants why → status.NoMemory ≡ (if late then status_when_late (status_of why) else status_of why) → ⊥
   not-done (Input (End left)) true none is = cc
   not-done (Input (End left)) false none is = cc
@@ -199,13 +213,13 @@ module _ (plan : Plan) (files : List (List ℕ × List ℕ)) (old new : DeskView
   not-done WriteFault false none is = cc
   not-done (NoMemory k) late none is = none k refl
 
-  wants-first : (end : CallEnd) → StatusTellsCause (output_name plan.output) old new status.NoMemory end → IsMemoryFirst end → EndsRight (chain_of plan files) end
+  wants-first : (end : CallEnd) → StatusTellsCause (output_name plan.output) old new status.NoMemory end → CanEnd plan end → EndsRight (chain_of plan files) end
       → Writes plan (chain_of plan files) old new end → Reports (chain_of plan files) old new end → WantsMemoryFirst plan old new
   wants-first no_input tells first right writes reports = absurd (let e = tells.0 in cc)
   wants-first no_output tells first right writes reports = absurd (let e = tells.0 in cc)
-  wants-first (ran cut why late) tells first right writes reports = absurd (not-done why late first tells.0)
+  wants-first (ran cut why late) tells first right writes reports = absurd (not-done why late (no-want plan why steady first) tells.0)
   wants-first (unreported cut why) tells first right writes reports =
-      (reports, inr (inr (record { files = files; files_are = files_are; cut = cut; why = why; no_want = first; pure_or_fault = right; written = writes })))
+      (reports, inr (inr (record { files = files; files_are = files_are; cut = cut; why = why; no_want = no-want plan why steady first; pure_or_fault = right; written = writes })))
   wants-first out_of_memory tells first right writes reports =
       (reports, elim writes [ inl none ↦ inl none | inr empty ↦ inr (inl empty) ])
 
@@ -213,8 +227,8 @@ pub memory-first : (words : List (List ℕ)) (plan : Plan) (old new : DeskView) 
     → plan_of words ≡ Some plan → AreSteady plan.plugins → CallsTsp words old new answer → answer ≡ status.NoMemory → WantsMemoryFirst plan old new
 memory-first words plan old new answer is steady calls want =
     elim (planned-call words plan old new answer is calls) [
-      | inl t ↦ wants-first plan t.files old new t.files_are t.end (subst (λ (s : Status). StatusTellsCause (output_name plan.output) old new s t.end) want t.status_tells_cause)
-          (t.memory_first steady) t.pure_or_fault t.written t.reported
+      | inl t ↦ wants-first plan t.files old new t.files_are steady t.end (subst (λ (s : Status). StatusTellsCause (output_name plan.output) old new s t.end) want t.status_tells_cause)
+          t.can_end t.pure_or_fault t.written t.reported
       | inr wanting ↦ (
         (ap (λ (d : DeskView). d.reported) wanting.1, ap (λ (d : DeskView). d.report_faults) wanting.1),
         inl (ap (λ (d : DeskView). d.outputs) wanting.1),

@@ -10,3 +10,4 @@ pub mod RanTheorem
 pub mod CallLemmas
 pub mod HeadlineLemmas
 pub mod SteadyLemmas
+pub mod Rows

@@ -1,7 +1,7 @@
 -- The stream theorem of a call whose two ends were opened.
-use Rattle.std.proofs.Common.{◌≡◌, ◌≢◌, ◌⊎◌, ℕ, ◌≤◌, List, [], ◌∷◌, ◌++◌, length, map, take, Bool, true, false, ◌||◌, if◌then◌else◌, Option, Some, IfSome, refl, ap, sym, ◌∙◌, subst, inl, inr, arith}
+use Rattle.std.proofs.Common.{◌≡◌, ◌≢◌, ◌⊎◌, ℕ, zero, suc, ◌-◌, ◌<◌, List, [], ◌∷◌, ◌++◌, length, map, take, Bool, true, false, ◌||◌, if◌then◌else◌, Option, None, Some, IfSome, refl, ap, sym, ◌∙◌, subst, inl, inr, arith}
 use Rattle.std.specs.Bool.{OnTrue}
-use Rattle.std.specs.List.{AllByRecursion}
+use Rattle.std.specs.Prelude.{slice_index_or}
 use Rattle.std.proofs.lemmas.List.{take_all, length-map}
 use Rattle.ts_packet.specs.declared.cell.Cell.{Cell}
 use Rattle.chain_model.specs.Prefix.{IsPrefix}
@@ -36,14 +36,11 @@ use Rattle.ts_outside.specs.Source.{SourceView}
 use Rattle.ts_outside.specs.Sink.{SinkView}
 use Rattle.ts_outside.specs.Told.{grown}
 use Rattle.ts_outside.specs.Desk.{DeskView}
-use Rattle.chain_run.specs.Rooms.{AreSteadyFor}
 use Rattle.chain_run.specs.RunOf.{LeftInput, LeftOutput, RunOf}
-use Rattle.chain_run.proofs.RunUses.{steady-wants_none}
-use Rattle.chain_core.proofs.Facts.{all_by_recursion}
 use Rattle.plug_set.specs.Plugins.{rule_of, steady_of}
 use Rattle.tsp_top.specs.CallEnd.{ran, unreported, out_of_memory, status_of, status_when_late, FaultRose, LateRose}
 use Rattle.tsp_top.specs.CanEnd.{CanEndBy}
-use Rattle.tsp_top.specs.MemoryFirst.{IsSteady, AreSteady, NoStageWants}
+use Rattle.tsp_top.specs.MemoryFirst.{TakesLater}
 use Rattle.tsp_top.specs.Openings.{asked_input, asked_output, input_closed_as, output_closed_as, OpensInput, OpensOutput, WasOpened}
 use Rattle.tsp_top.specs.PlannedChain.{chain_of, input_of, stuffing_of, users_of, named_rule_of, input_name, output_name}
 use Rattle.tsp_top.specs.Ran.{IsReady, RanEnds, RanOpened, closed_desk}
@@ -85,7 +82,6 @@ record RanFacts (plan : Plan) (files : List (List ℕ × List ℕ)) (old new : D
   rose : FaultRose old new why
   can : CanEndBy plan why
   closes : IsPureOrFault (chain_of plan files) cut why
-  first : AreSteady plan.plugins → NoStageWants why
   reads : ReadsTo plan.general plan.input files old new cut why
   written : WritesTo plan (chain_of plan files) old new cut why
   asked : new.asked ≡ grown old.asked (both_asked plan)
@@ -103,7 +99,6 @@ reported-theorem plan files old made new cut why late said st facts rose told re
   status_tells_cause = (told, facts.rose, rose);
   can_end = facts.can;
   pure_or_fault = facts.closes;
-  memory_first = facts.first;
   reads = facts.reads;
   written = facts.written;
   reported = reports-text old made new (reported_at (chain_of plan files) cut why) said reported report_faults says;
@@ -121,7 +116,6 @@ unreported-theorem plan files old new cut why st facts told reported report_faul
   status_tells_cause = (told, facts.rose);
   can_end = facts.can;
   pure_or_fault = facts.closes;
-  memory_first = facts.first;
   reads = facts.reads;
   written = facts.written;
   reported = (reported, report_faults);
@@ -187,7 +181,6 @@ not-run in_seen out_seen plan old made new from to failed st opened e is =
       status_tells_cause = e;
       can_end = tt;
       pure_or_fault = tt;
-      memory_first = λ steady. tt;
       reads = reads-nothing in_seen old made new files.0 plan.input from files.1 opened.input desks.made_inputs (ap (λ (v : DeskView). v.closed_in) is ∙ desks.inputs);
       written = inr (ap (λ (v : DeskView). v.outputs) is ∙ empty ∙ ap (λ o. outputs_with (output_name plan.output) o []) desks.first_outputs);
       reported = (ap (λ (v : DeskView). v.reported) is ∙ desks.reported, ap (λ (v : DeskView). v.report_faults) is ∙ desks.report_faults);
@@ -269,18 +262,15 @@ WritesOf plan old new cut why rules list users =
     × ((part : List ℕ) × (bytes ≡ written (take cut (end_list rules list).cells) ++ part) × IsCutPart (end_list rules list).cells cut why part)
     × IsPrefix bytes (written (take (cut_of rules list users) (end_list rules list).cells))
 
--- plugins that took their room for the buffer
-steady-plugins : {P : Type 0} (steady : P → Option ℕ) (buffer : ℕ) (plugins : List P) (confs : List PluginConf)
-    → map steady plugins ≡ map (λ conf. steady_of conf buffer) confs → AllByRecursion IsSteady confs → AreSteadyFor steady buffer plugins
-steady-plugins steady buffer [] confs rooms are = tt
-steady-plugins steady buffer (p ∷ plugins) [] rooms are = absurd cc
-steady-plugins steady buffer (p ∷ plugins) (conf ∷ confs) rooms are =
-    let here : steady p ≡ steady_of conf buffer = cc in
-    let later : map steady plugins ≡ map (λ c. steady_of c buffer) confs = cc in
-    let room : steady p ≡ Some buffer = here ∙ are.0 buffer in
+-- a plugin that made no room for the buffer does not take it before the run
+takes-later : (confs : List PluginConf) (buffer j : ℕ) → j < length confs
+    → (IsSteadyFor (slice_index_or (map (λ conf. steady_of conf buffer) confs) j None) buffer → ⊥) → TakesLater confs j
+takes-later [] buffer j less no_room = absurd (omega arith)
+takes-later (conf ∷ confs) buffer zero less no_room = λ steady.
     let S : Option ℕ → Type 0 = λ o. IsSteadyFor o buffer in
     let enough : S (Some buffer) = omega arith in
-    (subst S (sym room) enough, steady-plugins steady buffer plugins confs later are.1)
+    no_room (subst S (sym (steady buffer)) enough)
+takes-later (conf ∷ confs) buffer (suc j) less no_room = takes-later confs buffer j (omega arith) no_room
 
 module _ {S K P : Type 0} (see : Seeing S K P) (plan : Plan) (old made new : DeskView) (from made_from : InputPart S) (stuffing : Stuffing)
     (plugins : List P) (to made_to : OutputPart K) (failed : Bool) (numbers : CorePlan) (closed : Closed)
@@ -317,18 +307,16 @@ module _ {S K P : Type 0} (see : Seeing S K P) (plan : Plan) (old made new : Des
         subst-three F own (rules_of (map named_rule_of plan.plugins)) run.list (stuffed (stuffing_of plan.general) (input_of plan.input chosen.files)) users (users_of plan)
         (ready.rules ∙ named-rules plan.plugins) chosen.list_is ready.numbers_are.users h
 
-    want : (k : ℕ) → closed.cause ≡ cause.NoMemory k → (1 ≤ k) × (k ≤ length plan.plugins)
-    want k is =
-        let wants = run.memory k is in
-        let a = wants.behind_input in
-        let b = wants.there_is in
+    want : (k : ℕ) → closed.cause ≡ cause.NoMemory k → CanEndBy plan (cause.NoMemory k)
+    want zero is = absurd (let a = (run.memory zero is).behind_input in omega arith)
+    want (suc j) is =
+        let wants = run.memory (suc j) is in
         let same : length (map see.steady plugins) ≡ length plan.plugins = ap (λ (l : List (Option ℕ)). length l) ready.rooms ∙ length-map plan.plugins (λ conf. steady_of conf numbers.buffer) in
-        (omega arith, omega arith)
-
-    first-memory : AreSteady plan.plugins → NoStageWants closed.cause
-    first-memory steady k is =
-        steady-wants_none see.steady numbers.buffer plugins k
-        (steady-plugins see.steady numbers.buffer plugins plan.plugins ready.rooms (all_by_recursion IsSteady plan.plugins steady)) (run.memory k is)
+        let at : suc j - 1 ≡ j = omega arith in
+        let F : List (Option ℕ) → ℕ → Type 0 = λ rooms i. IsSteadyFor (slice_index_or rooms i None) numbers.buffer → ⊥ in
+        let no_room : F (map (λ conf. steady_of conf numbers.buffer) plan.plugins) j =
+        subst (λ (i : ℕ). F (map (λ conf. steady_of conf numbers.buffer) plan.plugins) i) at (subst (λ (rooms : List (Option ℕ)). F rooms (suc j - 1)) ready.rooms wants.no_room) in
+        takes-later plan.plugins numbers.buffer j (let b = wants.there_is in omega arith) no_room
 
     writes : LeavesAll d3 new → WritesOf plan old new closed.cut closed.cause own run.list users
     writes leaves =
@@ -350,7 +338,6 @@ module _ {S K P : Type 0} (see : Seeing S K P) (plan : Plan) (old made new : Des
           (write-named see.sink (asked_input old plan.input) plan.output to made_to cells closed.cut closed.cause opened.output run.output)
           want;
       closes = of-plan (λ rs l us. IsPureClose rs l us closed.cut closed.cause ⊎ IsLawfulFault rs l us closed.cut closed.cause) run.closes;
-      first = first-memory;
       reads = reads-to see.source old made new chosen.files plan.general plan.input from made_from (stage.stuffing_of stuffing) numbers.buffer closed.cut closed.cause
           ready.stuffing_is (size-within plan.general.buffer_packets default_buffer numbers.buffer ready.numbers_are.buffer) chosen.files_are opened.input steps.made_inputs (leaves.closed_in ∙ steps.inputs) run.input;
       written = of-plan (WritesOf plan old new closed.cut closed.cause) (writes leaves);

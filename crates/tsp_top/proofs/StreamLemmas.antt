@@ -63,7 +63,7 @@ late-rose output old new why false false closing reporting stay = stay refl refl
 
 -- an end by a fault is one that the plan can come to
 pub can-end : (plan : Plan) (why : Cause) → (why ≡ Input ending.ReadFault → IsSome (input_name plan.input)) → (why ≡ WriteFault → IsSome (output_name plan.output))
-    → ((k : ℕ) → why ≡ NoMemory k → (1 ≤ k) × (k ≤ length plan.plugins)) → CanEndBy plan why
+    → ((k : ℕ) → why ≡ NoMemory k → CanEndBy plan (NoMemory k)) → CanEndBy plan why
 can-end plan (Input ending.ReadFault) read write want = read refl
 can-end plan (Input (ending.End left)) read write want = tt
 can-end plan (Input (ending.Sync packet)) read write want = tt

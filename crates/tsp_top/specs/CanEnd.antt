@@ -1,17 +1,20 @@
 -- The ends that a plan can come to: none of a stage or a stream that it does not have. This project's own rule.
-use Rattle.std.specs.Prelude.{ℕ, ◌≤◌, length, IsSome}
+use Rattle.std.specs.Prelude.{zero, suc, IsSome}
 use Rattle.chain_model.specs.declared.input_end.InputEnd.TheVariants.{ReadFault}
 use Rattle.chain_model.specs.declared.cause.Cause.{Cause}
 use Rattle.chain_model.specs.declared.cause.Cause.TheVariants.{Input, WriteFault, NoMemory}
 use Rattle.chain_args.specs.declared.plan_type.Plan.{Plan}
 use Rattle.tsp_top.specs.CallEnd.{CallEnd, no_input, no_output, ran, unreported, out_of_memory}
+use Rattle.tsp_top.specs.MemoryFirst.{TakesLater}
 use Rattle.tsp_top.specs.PlannedChain.{input_name, output_name}
 
 -- a failed read wants an input with a name, a failed write an output with one, and want of memory in the run a plugin
+-- that does not take its room before: that of stage `k` stands behind `k - 1` others
 abbrev pub CanEndBy : Plan → Cause → Type 0
 CanEndBy plan (Input ReadFault) = IsSome (input_name plan.input)
 CanEndBy plan WriteFault = IsSome (output_name plan.output)
-CanEndBy plan (NoMemory k) = (1 ≤ k) × (k ≤ length plan.plugins)
+CanEndBy plan (NoMemory zero) = ⊥
+CanEndBy plan (NoMemory (suc j)) = TakesLater plan.plugins j
 CanEndBy plan _ = Unit {0}
 
 -- what has no name is not opened, so that does not fail

@@ -18,7 +18,6 @@ use Rattle.ts_outside.specs.Desk.{DeskView}
 use Rattle.stage_run.specs.OutputStands.{IsPartOfFirst}
 use Rattle.tsp_top.specs.CallEnd.{CallEnd, no_input, no_output, ran, unreported, out_of_memory, StatusTellsCause}
 use Rattle.tsp_top.specs.CanEnd.{CanEnd}
-use Rattle.tsp_top.specs.MemoryFirst.{AreSteady, IsMemoryFirst}
 use Rattle.tsp_top.specs.PlannedChain.{chain_of, input_name, output_name}
 use Rattle.tsp_top.specs.Readings.{ReadsNothing, ReadsTo}
 use Rattle.tsp_top.specs.declared.status.Status.{Status}
@@ -128,8 +127,6 @@ pub record StreamTheorem (plan : Plan) (old new : DeskView) (status : Status) : 
   pub can_end : CanEnd plan end
   -- a cause without fault is the cause of the run without faults, at its cut
   pub pure_or_fault : EndsRight (chain_of plan files) end
-  -- plugins that take their room before the run do not want memory in it
-  pub memory_first : AreSteady plan.plugins → IsMemoryFirst end
   -- what is read
   pub reads : Reads plan files old new end
   -- what is written
