@@ -27,22 +27,22 @@ element_shaped : Shapes → (name : List ℕ) (rs : List Row) (value : Data) (x 
 unfolding read_element
 element_shaped shapes name rs value x is =
     then_ok (members_of value) _ x is (λ ms a1 b1.
-      then_ok (name_of ms) _ x b1 (λ n a2 b2.
-        then_ok (named name n) _ x b2 (λ u a3 b3.
-          then_ok (keys_known rs ms ms) _ x b3 (λ w a4 b4.
-            then_ok (read_attributes rs ms) _ x b4 (λ values a5 b5.
-              then_ok (nodes_of ms) _ x b5 (λ nodes a6 b6.
-                let e : (values, nodes) ≡ x = same_ok _ _ b6 in
-                rw (← e) (shapes rs ms values a5)))))))
+    then_ok (name_of ms) _ x b1 (λ n a2 b2.
+    then_ok (named name n) _ x b2 (λ u a3 b3.
+    then_ok (keys_known rs ms ms) _ x b3 (λ w a4 b4.
+    then_ok (read_attributes rs ms) _ x b4 (λ values a5 b5.
+    then_ok (nodes_of ms) _ x b5 (λ nodes a6 b6.
+    let e : (values, nodes) ≡ x = same_ok _ _ b6 in
+    rw (← e) (shapes rs ms values a5)))))))
 
 item_shaped : Shapes → (i : List ℕ × List Row) (value : Data) (values : List Held) → read_item i value ≡ Ok values
     → shaped i.1 values ≡ true
 unfolding read_item
 item_shaped shapes i value values is =
     then_ok (read_element i.0 i.1 value) _ values is (λ x was later.
-      then_ok (no_children x.1) _ values later (λ none had joins.
-        let e : x.0 ≡ values = same_ok _ _ joins in
-        rw (← e) (element_shaped shapes i.0 i.1 value x was)))
+    then_ok (no_children x.1) _ values later (λ none had joins.
+    let e : x.0 ≡ values = same_ok _ _ joins in
+    rw (← e) (element_shaped shapes i.0 i.1 value x was)))
 
 items_are_shaped : Shapes → (i : List ℕ × List Row) (place : ℕ) (nodes : Items) (items : List (List Held))
     → read_items i place nodes ≡ Ok items → all_shaped i.1 items ≡ true
@@ -50,11 +50,11 @@ unfolding read_items
 items_are_shaped shapes i place no_items items is = let e : [] ≡ items = same_ok _ _ is in rw (← e) refl
 items_are_shaped shapes i place (item value more) items is =
     then_ok (at_child place (read_item i value)) _ items is (λ x was later.
-      then_ok (read_items i (place + 1) more) _ items later (λ others had joins.
-        let e : x ∷ others ≡ items = same_ok _ _ joins in
-        let one = item_shaped shapes i value x (child_ok place _ x was) in
-        let rest = items_are_shaped shapes i (place + 1) more others had in
-        rw (← e) (rw (one, rest) refl)))
+    then_ok (read_items i (place + 1) more) _ items later (λ others had joins.
+    let e : x ∷ others ≡ items = same_ok _ _ joins in
+    let one = item_shaped shapes i value x (child_ok place _ x was) in
+    let rest = items_are_shaped shapes i (place + 1) more others had in
+    rw (← e) (rw (one, rest) refl)))
 
 children_shaped : Shapes → (i : Option (List ℕ × List Row)) (nodes : Items) (items : List (List Held))
     → read_children i nodes ≡ Ok items → items_shaped i items ≡ true
@@ -67,11 +67,11 @@ pub holding_shaped : Shapes → (p : Page) (ms : Members) (h : Holding) → read
 unfolding read_holding
 holding_shaped shapes p ms h is =
     then_ok (keys_known p.head ms ms) _ h is (λ w a1 b1.
-      then_ok (read_attributes p.head ms) _ h b1 (λ head a2 b2.
-        then_ok (nodes_of ms) _ h b2 (λ nodes a3 b3.
-          then_ok (read_children p.items nodes) _ h b3 (λ items a4 b4.
-            let e : record { head = head; items = items } ≡ h = same_ok _ _ b4 in
-            rw (← e) (rw (shapes p.head ms head a2, children_shaped shapes p.items nodes items a4) refl)))))
+    then_ok (read_attributes p.head ms) _ h b1 (λ head a2 b2.
+    then_ok (nodes_of ms) _ h b2 (λ nodes a3 b3.
+    then_ok (read_children p.items nodes) _ h b3 (λ items a4 b4.
+    let e : record { head = head; items = items } ≡ h = same_ok _ _ b4 in
+    rw (← e) (rw (shapes p.head ms head a2, children_shaped shapes p.items nodes items a4) refl)))))
 
 -- ---- the size of a body
 
@@ -110,18 +110,18 @@ number_bound widest key ms n is = go (get_member key ms) is
     go None is = cc
     go (Some value) is =
         then_ok (or_refuse (number_of value) key _) _ n is (λ m was later.
-          let parts = tested (nat_le m widest && within None m) m n _ later in
-          let small = leb-true m widest (both (nat_le m widest) (within None m) parts.0).0 in
-          omega (arith, parts.1))
+        let parts = tested (nat_le m widest && within None m) m n _ later in
+        let small = leb-true m widest (both (nat_le m widest) (within None m) parts.0).0 in
+        omega (arith, parts.1))
 
 bytes_bound : (most : ℕ) (key : List ℕ) (ms : Members) (b : List ℕ)
     → data_attribute (Some (0, most)) key ms ≡ Ok b → length b ≤ most
 unfolding data_attribute
 bytes_bound most key ms b is =
     then_ok (hex_attribute key ms) _ b is (λ x was later.
-      let parts = tested (nat_le 0 (length x) && nat_le (length x) most) x b _ later in
-      let small = leb-true (length x) most (both (nat_le 0 (length x)) (nat_le (length x) most) parts.0).1 in
-      omega (arith, ap length parts.1))
+    let parts = tested (nat_le 0 (length x) && nat_le (length x) most) x b _ later in
+    let small = leb-true (length x) most (both (nat_le 0 (length x)) (nat_le (length x) most) parts.0).1 in
+    omega (arith, ap length parts.1))
 
 are_tagged_by : (values : List Held) (n : ℕ) (b : List ℕ) → number n ∷ bytes b ∷ [] ≡ values → n ≤ 255
     → length b ≤ 255 → are_tagged values
@@ -131,25 +131,25 @@ rows_tagged : (ms : Members) (values : List Held) → read_attributes generic_ro
 unfolding read_attributes attribute_of
 rows_tagged ms values is =
     then_ok (holds_number (number_attribute None None 255 _ ms)) _ values is (λ first was later.
-      then_ok (number_attribute None None 255 _ ms) _ first was (λ n a1 b1.
-        then_ok (holds_bytes (data_attribute (Some (0, 255)) _ ms) >>= λ value. Ok (option_to_list value ++ [])) _ values later (λ more had joins.
-          then_ok (holds_bytes (data_attribute (Some (0, 255)) _ ms)) _ more had (λ second a2 b2.
-            then_ok (data_attribute (Some (0, 255)) _ ms) _ second a2 (λ b a3 b3.
-              let first_is : Some (number n) ≡ first = same_ok _ _ b1 in
-              let second_is : Some (bytes b) ≡ second = same_ok _ _ b3 in
-              let more_is : option_to_list second ++ [] ≡ more = same_ok _ _ b2 in
-              let values_is : option_to_list first ++ more ≡ values = same_ok _ _ joins in
-              are_tagged_by values n b
-              (ap (λ l. number n ∷ l) (ap (λ s. option_to_list s ++ []) second_is ∙ more_is)
-                ∙ ap (λ f. option_to_list f ++ more) first_is ∙ values_is)
-              (number_bound 255 _ ms n a1) (bytes_bound 255 _ ms b a3))))))
+    then_ok (number_attribute None None 255 _ ms) _ first was (λ n a1 b1.
+    then_ok (holds_bytes (data_attribute (Some (0, 255)) _ ms) >>= λ value. Ok (option_to_list value ++ [])) _ values later (λ more had joins.
+    then_ok (holds_bytes (data_attribute (Some (0, 255)) _ ms)) _ more had (λ second a2 b2.
+    then_ok (data_attribute (Some (0, 255)) _ ms) _ second a2 (λ b a3 b3.
+    let first_is : Some (number n) ≡ first = same_ok _ _ b1 in
+    let second_is : Some (bytes b) ≡ second = same_ok _ _ b3 in
+    let more_is : option_to_list second ++ [] ≡ more = same_ok _ _ b2 in
+    let values_is : option_to_list first ++ more ≡ values = same_ok _ _ joins in
+    are_tagged_by values n b
+    (ap (λ l. number n ∷ l) (ap (λ s. option_to_list s ++ []) second_is ∙ more_is)
+    ∙ ap (λ f. option_to_list f ++ more) first_is ∙ values_is)
+    (number_bound 255 _ ms n a1) (bytes_bound 255 _ ms b a3))))))
 
 pub generic_tagged : (ms : Members) (h : Holding) → read_holding generic_page ms ≡ Ok h → are_tagged h.head
 unfolding read_holding
 generic_tagged ms h is =
     then_ok (keys_known generic_rows ms ms) _ h is (λ w a1 b1.
-      then_ok (read_attributes generic_rows ms) _ h b1 (λ head a2 b2.
-        then_ok (nodes_of ms) _ h b2 (λ nodes a3 b3.
-          then_ok (read_children None nodes) _ h b3 (λ items a4 b4.
-            let e : record { head = head; items = items } ≡ h = same_ok _ _ b4 in
-            rw (← e) (rows_tagged ms head a2)))))
+    then_ok (read_attributes generic_rows ms) _ h b1 (λ head a2 b2.
+    then_ok (nodes_of ms) _ h b2 (λ nodes a3 b3.
+    then_ok (read_children None nodes) _ h b3 (λ items a4 b4.
+    let e : record { head = head; items = items } ≡ h = same_ok _ _ b4 in
+    rw (← e) (rows_tagged ms head a2)))))

@@ -33,7 +33,7 @@ pub items_go_on : (i : List ℕ × List Row) (place : ℕ) (front : List (List H
     → with_items (front ++ one ∷ []) (read_items i (place + 1) (items_view (drop (place + 1) vs))) ≡ whole
 items_go_on i place front vs d one whole inside same is so_far =
     sym (first_more i place front (get_or vs place d) (drop (place + 1) vs) one
-      (sym (ap (λ x. at_child place (read_item i (view x))) same) ∙ is))
+    (sym (ap (λ x. at_child place (read_item i (view x))) same) ∙ is))
     ∙ sym (ap (λ l. with_items front (read_items i place (items_view l))) (drop_more vs place d inside)) ∙ so_far
 
 first_stops : (refusal : ReadRefusal) (i : List ℕ × List Row) (place : ℕ) (front : List (List Held)) (v : Value)

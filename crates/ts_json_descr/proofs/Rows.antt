@@ -1,41 +1,35 @@
 -- Worked rows: the definitions computed.
 use Rattle.std.proofs.Common.{◌≡◌, ◌∷◌, [], refl}
-use Rattle.std.specs.Prelude.{codes, Ok, Err}
-use Rattle.hex.proofs.OnLiterals.{hex_on_literals}
-use Rattle.serde_json.specs.Data.{array, item, member, no_items, no_members, number, object, string, unsigned}
+use Rattle.std.specs.Prelude.{codes, Err}
+use Rattle.serde_json.specs.Data.{member, no_members, object, string}
 use Rattle.serde_json.specs.Written.{compact_text}
-use Rattle.serde_json.proofs.OnLiterals.{serde_json_on_literals}
-use Rattle.ts_bits.specs.TaggedBody.{TaggedBody}
 use Rattle.ts_fields.specs.Bits.{bits, bits_of, number_of}
-use Rattle.ts_fields.specs.Bodies.{read_page, read_behind, read_items, spell_page}
+use Rattle.ts_fields.specs.Bodies.{read_page, read_behind, read_items}
 use Rattle.ts_fields.specs.Reading.{read_number, read_bytes, read_decimal, read_rest, read_field, read_rows}
-use Rattle.ts_fields.specs.Spelling.{spell_decimal, spell_field, spell_rows}
 use Rattle.ts_jtree.specs.declared.fault.JsonKind.TheVariants.{Missing, UnknownKey}
-use Rattle.ts_jtree.specs.Attributes.{attribute_of, language_attribute, number_attribute, number_in, read_attributes, text_at}
-use Rattle.ts_jtree.specs.Elements.{keys_known, name_of, nodes_of, read_element}
+use Rattle.ts_jtree.specs.Attributes.{attribute_of, number_attribute, read_attributes}
+use Rattle.ts_jtree.specs.Elements.{keys_known, name_of}
 use Rattle.ts_jtree.specs.Faults.{fault_of}
-use Rattle.ts_jtree.specs.Numbers as numbers
-use Rattle.ts_jtree.specs.Shown.{put_attribute, put_attributes}
+use Rattle.ts_jtree.proofs.OnLiterals.{shown_on_literals}
 use Rattle.ts_json_descr.specs.DescrElements.{descr_shown}
-use Rattle.ts_json_descr.specs.DescrReading.{descr_read, read_children, read_holding, read_typed}
-use Rattle.ts_json_descr.specs.DescrReading as reads
+use Rattle.ts_json_descr.specs.DescrReading.{descr_read, read_holding, read_typed}
 
 -- 346.0000 MHz, 64-QAM, 6.8750 Msymbol/s
 cable-row : compact_text (descr_shown (record { tag = 0x44; body = 0x03 ∷ 0x46 ∷ 0x00 ∷ 0x00 ∷ 0xFF ∷ 0xF2 ∷ 0x03 ∷ 0x00 ∷ 0x68 ∷ 0x75 ∷ 0x0F ∷ [] }))
     ≡ codes "{\"#name\":\"cable_delivery_system_descriptor\",\"FEC_inner\":15,\"FEC_outer\":2,\"frequency\":3460000,\"modulation\":3,\"symbol_rate\":68750}"
-unfolding bits number_of read_number read_bytes read_decimal read_rest read_field read_rows read_page read_behind put_attribute put_attributes serde_json_on_literals
+unfolding bits number_of read_number read_bytes read_decimal read_rest read_field read_rows read_page read_behind shown_on_literals
 cable-row = refl
 
 -- the same with a digit ten, which is none
 generic-row : compact_text (descr_shown (record { tag = 0x44; body = 0x03 ∷ 0x0A ∷ 0x00 ∷ 0x00 ∷ 0xFF ∷ 0xF2 ∷ 0x03 ∷ 0x00 ∷ 0x68 ∷ 0x75 ∷ 0x0F ∷ [] }))
     ≡ codes "{\"#name\":\"generic_descriptor\",\"data\":\"030a0000fff2030068750f\",\"tag\":68}"
-unfolding bits number_of read_number read_bytes read_decimal read_rest read_field read_rows read_page read_behind put_attribute put_attributes serde_json_on_literals hex_on_literals
+unfolding bits number_of read_number read_bytes read_decimal read_rest read_field read_rows read_page read_behind shown_on_literals
 generic-row = refl
 
 -- one item of subtitles
 subtitling-row : compact_text (descr_shown (record { tag = 0x59; body = 0x66 ∷ 0x72 ∷ 0x61 ∷ 0x10 ∷ 0x00 ∷ 0x01 ∷ 0x00 ∷ 0x02 ∷ [] }))
     ≡ codes "{\"#name\":\"subtitling_descriptor\",\"#nodes\":[{\"#name\":\"subtitling\",\"ancillary_page_id\":2,\"composition_page_id\":1,\"language_code\":\"fra\",\"subtitling_type\":16}]}"
-unfolding bits number_of read_number read_bytes read_decimal read_rest read_field read_rows read_page read_behind read_items put_attribute put_attributes serde_json_on_literals
+unfolding bits number_of read_number read_bytes read_decimal read_rest read_field read_rows read_page read_behind read_items shown_on_literals
 subtitling-row = refl
 
 -- a name of no descriptor

@@ -15,12 +15,19 @@ use serde_json::{Map, Value};
 use std::alloc::Global;
 use ts_bits::Descriptor;
 use ts_fields::{Body, FieldValue, Item, ItemLayout, Layout, length_of_bits, write_body};
-use ts_jtree::{JsonKind, ReadRefusal, at_child, check_keys, children, element_name, members, no_children, read_attributes, read_element, refuse_key, values_are_shaped};
+use ts_jtree::{
+    JsonKind, ReadRefusal, at_child, check_keys, children, element_name, members, no_children,
+    read_attributes, read_element, refuse_key, values_are_shaped,
+};
 use ts_pages::layout_named;
 
 /// An item, which has no children itself.
 #[tactic(auto, unfolding(crate::specs::DescrReading::read_item))]
-fn read_item(alloc: Global, layout: ItemLayout, value: &Value) -> Result<Vec<FieldValue>, ReadRefusal>
+fn read_item(
+    alloc: Global,
+    layout: ItemLayout,
+    value: &Value,
+) -> Result<Vec<FieldValue>, ReadRefusal>
     requires { IsTrue (are_sound (rows_of layout.rows.now)) }
     ensures { Answers (λ v. map held v.items) result
         (DescrReading.read_item (item_page layout) (view value.now)) }

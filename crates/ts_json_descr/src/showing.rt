@@ -109,11 +109,7 @@ fn put_items(
 }
 
 /// The elements of items.
-fn items_json(
-    alloc: Global,
-    layout: ItemLayout,
-    items: &[Item],
-) -> Result<Vec<Value>, AllocError>
+fn items_json(alloc: Global, layout: ItemLayout, items: &[Item]) -> Result<Vec<Value>, AllocError>
     requires { all_fit (rows_of layout.rows.now) (map item_held items.now) ≡ true }
     ensures { IfOk result (λ v. map view v.items
         ≡ map (item_shown (item_page layout)) (map item_held items.now)) }

@@ -19,7 +19,8 @@ static NO_CABLE: [u8; 11] = [
     0x0A, 0x46, 0x00, 0x00, 0xFF, 0xF2, 0x03, 0x00, 0x68, 0x75, 0x0F,
 ];
 
-const CABLE_TEXT: &str = r##"{"#name":"cable_delivery_system_descriptor","FEC_inner":15,"FEC_outer":2,"frequency":3460000,"modulation":3,"symbol_rate":68750}"##;
+const CABLE_TEXT: &str =
+    r##"{"#name":"cable_delivery_system_descriptor","FEC_inner":15,"FEC_outer":2,"frequency":3460000,"modulation":3,"symbol_rate":68750}"##;
 
 const NO_CABLE_TEXT: &str =
     r##"{"#name":"generic_descriptor","data":"0a460000fff2030068750f","tag":68}"##;
@@ -57,7 +58,8 @@ fn a_generic_one_is_shown_and_read(rt: HostRuntime) -> Result<(), Fail> {
 }
 
 /// A CA descriptor's second system has no value.
-const NO_SYSTEM: &str = r##"{"#name":"CA_identifier_descriptor","#nodes":[{"#name":"CA_system_id","value":1},{"#name":"CA_system_id"}]}"##;
+const NO_SYSTEM: &str =
+    r##"{"#name":"CA_identifier_descriptor","#nodes":[{"#name":"CA_system_id","value":1},{"#name":"CA_system_id"}]}"##;
 
 #[test]
 fn a_fault_of_a_child_has_its_number(rt: HostRuntime) -> Result<(), Fail> {

@@ -323,9 +323,9 @@ attributes_again laws (r ∷ rs) values ms fit inside keys none =
     let ranges = both (value_within r.range first) (are_within rs others) inside in
     let apart = apart_of r rs keys in
     let here = attribute_again laws k r.name r.absent r.range first (put_attributes rs others now) ms parts.0 ranges.0
-      (λ own. none r.name (rw own refl))
-      (rows_kept rs others now r.name apart.name) (rows_kept rs others now (hex_key r.name) apart.hex) in
+    (λ own. none r.name (rw own refl))
+    (rows_kept rs others now r.name apart.name) (rows_kept rs others now (hex_key r.name) apart.hex) in
     let more = attributes_again laws rs others now parts.1 ranges.1 apart.rest (λ key later.
-      others_kept k r.name first ms key (later_key r rs key (is_key_of k r.name key) refl later apart.name apart.hex)
-      ∙ none key (second_true (is_key_of k r.name key) (is_key rs key) later)) in
+    others_kept k r.name first ms key (later_key r rs key (is_key_of k r.name key) refl later apart.name apart.hex)
+    ∙ none key (second_true (is_key_of k r.name key) (is_key rs key) later)) in
     rw (here, more) (ap Ok (first_and_rest k values parts.0))

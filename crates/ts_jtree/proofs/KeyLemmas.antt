@@ -25,11 +25,11 @@ differ_by xs ys false e other = refl
 -- a key that is too short is no key for bytes
 pub short_key : (key name : List ℕ) → length key < length name → false ≡ bytes_eq key (hex_key name)
 short_key key name short = sym (differ_by key (hex_key name) _ refl (λ same.
-  let e = ap length same ∙ length-append name (codes "_hex") in absurd (omega arith)))
+    let e = ap length same ∙ length-append name (codes "_hex") in absurd (omega arith)))
 
 other_front : (key name : List ℕ) → (take (length name) key ≡ name → ⊥) → false ≡ bytes_eq key (hex_key name)
 other_front key name other = sym (differ_by key (hex_key name) _ refl (λ same.
-  other (ap (take (length name)) same ∙ take-append_seam name (codes "_hex"))))
+    other (ap (take (length name)) same ∙ take-append_seam name (codes "_hex"))))
 
 same_front : (key name : List ℕ) (b : Bool) → take (length name) key ≡ name
     → bytes_eq (drop (length name) key) (codes "_hex") ≡ b → b ≡ bytes_eq key (hex_key name)
@@ -40,15 +40,15 @@ same_front key name true front back =
     sym ((bytes_eq-Decides key (hex_key name)).1 joined)
 same_front key name false front back =
     sym (differ_by key (hex_key name) _ refl (λ same.
-      let e : drop (length name) key ≡ codes "_hex" = ap (drop (length name)) same ∙ drop-append_seam name (codes "_hex") in
-      let t = (bytes_eq-Decides (drop (length name) key) (codes "_hex")).1 e in cc))
+    let e : drop (length name) key ≡ codes "_hex" = ap (drop (length name)) same ∙ drop-append_seam name (codes "_hex") in
+    let t = (bytes_eq-Decides (drop (length name) key) (codes "_hex")).1 e in cc))
 
 -- a key that begins otherwise than the name, and one that begins with it
 pub front_differs : (key name front name_bytes : List ℕ) → front ≡ take (length name) key → name_bytes ≡ name
     → true ≡ not (bytes_eq front name_bytes) → false ≡ bytes_eq key (hex_key name)
 front_differs key name front name_bytes front_is name_is apart = other_front key name (λ same.
-  let equal = (bytes_eq-Decides front name_bytes).1 (front_is ∙ same ∙ sym name_is) in
-  let e : true ≡ not true = apart ∙ ap not equal in cc)
+    let equal = (bytes_eq-Decides front name_bytes).1 (front_is ∙ same ∙ sym name_is) in
+    let e : true ≡ not true = apart ∙ ap not equal in cc)
 
 not_false : (b : Bool) → false ≡ not b → b ≡ true
 not_false true is = refl

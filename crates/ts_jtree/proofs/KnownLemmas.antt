@@ -121,12 +121,12 @@ known_rows all final (r ∷ rs) values ns keys names none same so_far =
     let now = put_attribute k r.name first ns in
     let apart = apart_of r rs keys in
     let here = known_attribute all final k r.name first ns (λ key is. names key (first_true _ _ is))
-      (λ own. none r.name (first_true _ _ own))
-      (λ own. same r.name (first_true _ _ own) ∙ rows_kept rs others now r.name apart.name) so_far in
+    (λ own. none r.name (first_true _ _ own))
+    (λ own. same r.name (first_true _ _ own) ∙ rows_kept rs others now r.name apart.name) so_far in
     known_rows all final rs others now apart.rest (λ key is. names key (second_true _ _ is))
     (λ key later.
-      others_kept k r.name first ns key (later_key r rs key (is_key_of k r.name key) refl later apart.name apart.hex)
-      ∙ none key (second_true (is_key_of k r.name key) (is_key rs key) later))
+    others_kept k r.name first ns key (later_key r rs key (is_key_of k r.name key) refl later apart.name apart.hex)
+    ∙ none key (second_true (is_key_of k r.name key) (is_key rs key) later))
     (λ key later. same key (second_true (is_key_of k r.name key) (is_key rs key) later)) here
 
 -- ---- an element

@@ -8,3 +8,4 @@ mod AgainLemmas
 mod KnownLemmas
 mod ShapeLemmas
 mod Rows
+pub mod OnLiterals

@@ -48,8 +48,8 @@ unfolding read_attributes shaped
 attributes_shaped [] ms values is = refl
 attributes_shaped (r ∷ rs) ms values is =
     then_ok (attribute_of r.kind r.name r.absent r.range ms) _ values is (λ value was later.
-      then_ok (read_attributes rs ms) (λ more. Ok (option_to_list value ++ more)) values later (λ more had joins.
-        let e : option_to_list value ++ more ≡ values = same_ok _ _ joins in
-        let sort = attribute_sort r.kind r.name r.absent r.range ms value more was in
-        let others = attributes_shaped rs ms more had in
-        rw (← e) (rw (sort.0, sort.1, others) refl)))
+    then_ok (read_attributes rs ms) (λ more. Ok (option_to_list value ++ more)) values later (λ more had joins.
+    let e : option_to_list value ++ more ≡ values = same_ok _ _ joins in
+    let sort = attribute_sort r.kind r.name r.absent r.range ms value more was in
+    let others = attributes_shaped rs ms more had in
+    rw (← e) (rw (sort.0, sort.1, others) refl)))

@@ -102,11 +102,7 @@ fn read_number(
 
 /// The truth value at a key, as a bit.
 #[tactic(auto, unfolding(crate::specs::Attributes::flag_attribute))]
-fn read_flag(
-    alloc: Global,
-    members: &Map<String, Value>,
-    field: &Field,
-) -> Result<u64, ReadRefusal>
+fn read_flag(alloc: Global, members: &Map<String, Value>, field: &Field) -> Result<u64, ReadRefusal>
     ensures { Answers (λ n. n) result (flag_attribute field.now.absent field.now.name.now
         (members_view members.now.entries)) }
 {
@@ -152,11 +148,7 @@ fn read_start(alloc: Global, members: &Map<String, Value>, key: &str) -> Result<
 
 /// The duration at a key.
 #[tactic(auto, unfolding(crate::specs::Attributes::duration_attribute))]
-fn read_duration(
-    alloc: Global,
-    members: &Map<String, Value>,
-    key: &str,
-) -> Result<u64, ReadRefusal>
+fn read_duration(alloc: Global, members: &Map<String, Value>, key: &str) -> Result<u64, ReadRefusal>
     ensures { Answers (λ n. n) result (duration_attribute key.now (members_view members.now.entries)) }
 {
     let text = text_at(alloc, members, key)?;
@@ -187,11 +179,7 @@ fn read_language(
 
 /// The bytes that hexadecimal digits at a key write; none where the key is absent.
 #[tactic(auto, unfolding(crate::specs::Attributes::hex_attribute))]
-fn read_hex(
-    alloc: Global,
-    members: &Map<String, Value>,
-    key: &str,
-) -> Result<Vec<u8>, ReadRefusal>
+fn read_hex(alloc: Global, members: &Map<String, Value>, key: &str) -> Result<Vec<u8>, ReadRefusal>
     ensures { Answers (λ b. b.items) result (hex_attribute key.now (members_view members.now.entries)) }
 {
     let Some(value) = member(members, key) else {
@@ -227,11 +215,7 @@ fn read_data(
 
 /// The bytes of a text, given as text or as hexadecimal digits.
 #[tactic(auto, unfolding(crate::specs::Attributes::text_attribute))]
-fn read_text(
-    alloc: Global,
-    members: &Map<String, Value>,
-    key: &str,
-) -> Result<Vec<u8>, ReadRefusal>
+fn read_text(alloc: Global, members: &Map<String, Value>, key: &str) -> Result<Vec<u8>, ReadRefusal>
     ensures { Answers (λ b. b.items) result (text_attribute key.now (members_view members.now.entries)) }
 {
     let Some(value) = member(members, key) else {

@@ -1,6 +1,5 @@
 //! Elements read and shown, each call that takes memory once with enough of it.
 
-
 use crate::{JsonKind, ReadRefusal, put_text, read_element, show_attributes};
 use serde_json::{Map, Value};
 use std::alloc::{AllocError, Global};
@@ -26,7 +25,11 @@ static EVENT: &[Field] = rows![
 fn fault_text(alloc: Global, text: &str) -> Result<String, Fail> {
     let value = Value::from_str(alloc, text)?;
     match read_element(alloc, "event", EVENT, &value) {
-        Ok((values, nodes)) => Ok(format!(in alloc; "{} values, {} nodes", values.len(), nodes.len())?),
+        Ok((values, nodes)) => Ok(format!(in alloc;
+            "{} values, {} nodes",
+            values.len(),
+            nodes.len()
+        )?),
         Err(ReadRefusal::NoMemory) => Ok(String::from_str(alloc, "no memory")?),
         Err(ReadRefusal::Json(fault)) => {
             let kind = match fault.kind {
@@ -48,7 +51,10 @@ static ELEMENTS: [(&str, &str); 8] = [
     ),
     ("[]", "#name wrong kind"),
     ("{}", "#name missing"),
-    (r##"{"#name":"event","zeal":1,"ardour":2}"##, "ardour unknown"),
+    (
+        r##"{"#name":"event","zeal":1,"ardour":2}"##,
+        "ardour unknown",
+    ),
     (
         r##"{"#name":"event","event_id":1.0,"duration":7}"##,
         "event_id wrong kind",
@@ -95,6 +101,9 @@ fn an_event_is_shown(rt: HostRuntime) -> Result<(), Fail> {
     values.push(FieldValue::Number(0))?;
     values.push(FieldValue::Bytes(Vec::from_slice(alloc, b"\x05News")?))?;
     let text = event_text(alloc, &values)?;
-    assert_eq!(rt; text.as_str(), r##"{"#name":"event","CA_mode":false,"duration":"01:45:30","event_id":31,"name_hex":"054e657773","start_time":"1993-10-13 12:45:00"}"##);
+    assert_eq!(rt;
+        text.as_str(),
+        r##"{"#name":"event","CA_mode":false,"duration":"01:45:30","event_id":31,"name_hex":"054e657773","start_time":"1993-10-13 12:45:00"}"##
+    );
     Ok(())
 }

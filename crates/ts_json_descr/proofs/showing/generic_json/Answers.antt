@@ -13,7 +13,7 @@ pub returns : goal.returns
 returns c =
     view-Object c.show_attributes.new.members
     ∙ ap object (
-      c.in_ok-show_attributes.ensures
-      ∙ ap (λ vs. put_attributes generic_rows (map held vs) (members_view c.put_text.new.members.entries)) c.deref.ensures.value
-      ∙ ap (λ vs. put_attributes generic_rows vs (members_view c.put_text.new.members.entries)) c.in_ok-values.ensures
-      ∙ ap (put_attributes generic_rows _) (c.in_ok-put_text.ensures ∙ ap (λ es. put name_key (string (codes "generic_descriptor")) (members_view es)) c.new-members.ensures.empty))
+    c.in_ok-show_attributes.ensures
+    ∙ ap (λ vs. put_attributes generic_rows (map held vs) (members_view c.put_text.new.members.entries)) c.deref.ensures.value
+    ∙ ap (λ vs. put_attributes generic_rows vs (members_view c.put_text.new.members.entries)) c.in_ok-values.ensures
+    ∙ ap (put_attributes generic_rows _) (c.in_ok-put_text.ensures ∙ ap (λ es. put name_key (string (codes "generic_descriptor")) (members_view es)) c.new-members.ensures.empty))
