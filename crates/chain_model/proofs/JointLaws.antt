@@ -157,8 +157,10 @@ only-joint end (Some j) endings own e =
   where
     other : (a b : ℕ) → min a b ≢ b → min a b ≡ a
     other a b = grind arith
+
     apart : (b : Bool) → (j == min end j) ≡ b → b ≡ false → j ≢ min end j
     apart b is off same = let on : (j == min end j) ≡ true = eq-eqb j (min end j) same in cc
+
     by-test : (b : Bool) → (j == min end j) ≡ b → Some j ≡ Some (min end j)
     by-test true is = ap Some (eqb-true j (min end j) is)
     by-test false is =

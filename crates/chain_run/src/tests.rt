@@ -8,9 +8,7 @@ use plugin_trait::{Line, Outcome, Plugin, silent_report};
 use stage_run::{InputPart, OutputPart, Stuffing};
 use std::alloc::{AllocError, Global};
 use std::test::Fail;
-use ts_outside::{
-    Desk, FailPlan, FileList, MemoryDesk, MemorySink, MemorySource, OpenGate,
-};
+use ts_outside::{Desk, FailPlan, FileList, MemoryDesk, MemorySink, MemorySource, OpenGate};
 use ts_packet::Cell;
 
 /// Passes the packets before a position, and stops at the first one from there on.

@@ -196,8 +196,7 @@ fn gives<S: Source, K: Sink, P: Plugin>(
     first: &mut [Cell; 2],
     second: &mut [Cell; 2],
 ) -> Gave
-    requires may { MayWorkOnSome (PartStands (seeing S.seen K.seen P.rule P.stands_for P.steady) part.old) 0 0
-        }
+    requires may { MayWorkOnSome (PartStands (seeing S.seen K.seen P.rule P.stands_for P.steady) part.old) 0 0 }
     ensures kind { kind_of part.new ≡ kind_of part.old }
 {
     let one = work(part, 0, first, None);
