@@ -56,7 +56,7 @@ no-part cells cut (NoMemory k) other = refl
 by-took : (old new : SinkView) (cells : List Cell) (cut : ℕ) (why : Cause) (G : Type 0) → TakesTo old new cells cut why
     → (why ≢ WriteFault → new ≡ took old (written (take cut cells)) → G)
     → (why ≡ WriteFault → (part : List ℕ) → new ≡ write_failed (took old (written (take cut cells) ++ part)) → IsCutPart cells cut why part → G) → G
-by-took old new cells cut WriteFault G takes plain failed = failed refl takes.0 takes.1 takes.2
+by-took old new cells cut WriteFault G takes plain failed = failed refl takes.part takes.taken takes.cut
 by-took old new cells cut (Input how) G takes plain failed = plain (λ e. cc) takes
 by-took old new cells cut Joint G takes plain failed = plain (λ e. cc) takes
 by-took old new cells cut (Until j) G takes plain failed = plain (λ e. cc) takes
