@@ -50,10 +50,10 @@ unfolding read_item
 item_fit law i behind from y =
     cond_both (nat_le (fixed_part i) (length from)) _ _ (λ r. r ≡ Ok y → item_fits i y.0 ≡ true)
     (λ enough is.
-      then_ok (read_fields Time behind i.rows from) _ y is (λ x was later.
-        then_ok (read_described i.described (length from + behind) behind x.1) _ y later (λ ds had joins.
-          ap (λ z. item_fits i z.0) (sym (same_ok _ _ joins))
-          ∙ and_from (fits i.rows x.0) (i.described || none_there ds.0) (fields_fit law Time behind i.rows from x was) (described-none i.described (length from + behind) behind x.1 ds had))))
+    then_ok (read_fields Time behind i.rows from) _ y is (λ x was later.
+    then_ok (read_described i.described (length from + behind) behind x.1) _ y later (λ ds had joins.
+    ap (λ z. item_fits i z.0) (sym (same_ok _ _ joins))
+    ∙ and_from (fits i.rows x.0) (i.described || none_there ds.0) (fields_fit law Time behind i.rows from x was) (described-none i.described (length from + behind) behind x.1 ds had))))
     (λ few is. cc)
 
 -- an item more, and the zeros
@@ -76,9 +76,9 @@ next_fit : RowsFit → (one_zero : Bool) (i : ItemPage) (seen : Bool) (behind : 
 unfolding read_next
 next_fit law one_zero i seen behind from y is =
     then_ok (read_item i behind from) _ y is (λ x was later.
-      then_ok (count_zero one_zero seen x.0.values (length from + behind)) _ y later (λ now had joins.
-        let e : ◌≡◌ {A = ItemHolding × Bool × List Bool} (x.0, now, x.1) y = same_ok _ _ joins in
-        (ap (λ z. item_fits i z.0) (sym e) ∙ item_fit law i behind from x was, ap (λ z. count_zero one_zero seen z.0.values (length from + behind)) (sym e) ∙ had ∙ ap (λ z. Ok z.1) e)))
+    then_ok (count_zero one_zero seen x.0.values (length from + behind)) _ y later (λ now had joins.
+    let e : ◌≡◌ {A = ItemHolding × Bool × List Bool} (x.0, now, x.1) y = same_ok _ _ joins in
+    (ap (λ z. item_fits i z.0) (sym e) ∙ item_fit law i behind from x was, ap (λ z. count_zero one_zero seen z.0.values (length from + behind)) (sym e) ∙ had ∙ ap (λ z. Ok z.1) e)))
 
 pub items_read_fit : RowsFit → (most : ℕ) (one_zero : Bool) (i : ItemPage) (seen : Bool) (behind : ℕ) (from : List Bool) (y : List ItemHolding × Bool) → read_items most one_zero i seen behind from ≡ Ok y → (list_all (item_fits i) y.0 ≡ true) × (zeros_from one_zero seen y.0 ≡ Some y.1)
 unfolding read_items
@@ -88,31 +88,31 @@ items_read_fit law most one_zero i seen behind [] y is =
 items_read_fit law zero one_zero i seen behind (b ∷ bs) y is = cc
 items_read_fit law (suc most) one_zero i seen behind (b ∷ bs) y is =
     then_ok (read_next one_zero i seen behind (b ∷ bs)) _ y is (λ x was later.
-      then_ok (read_items most one_zero i x.1 behind x.2) _ y later (λ more had joins.
-        let e : ◌≡◌ {A = List ItemHolding × Bool} (x.0 ∷ more.0, more.1) y = same_ok _ _ joins in
-        let here = next_fit law one_zero i seen behind (b ∷ bs) x was in
-        let later_fit = items_read_fit law most one_zero i x.1 behind x.2 more had in (
-          ap (λ z. list_all (item_fits i) z.0) (sym e) ∙ and_from (item_fits i x.0) (list_all (item_fits i) more.0) here.0 later_fit.0,
-          ap (λ z. zeros_from one_zero seen z.0) (sym e) ∙ zeros_more one_zero seen x.1 x.0 more.0 (length (b ∷ bs) + behind) here.1 ∙ later_fit.1 ∙ ap (λ z. Some z.1) e,
-        )))
+    then_ok (read_items most one_zero i x.1 behind x.2) _ y later (λ more had joins.
+    let e : ◌≡◌ {A = List ItemHolding × Bool} (x.0 ∷ more.0, more.1) y = same_ok _ _ joins in
+    let here = next_fit law one_zero i seen behind (b ∷ bs) x was in
+    let later_fit = items_read_fit law most one_zero i x.1 behind x.2 more had in (
+      ap (λ z. list_all (item_fits i) z.0) (sym e) ∙ and_from (item_fits i x.0) (list_all (item_fits i) more.0) here.0 later_fit.0,
+      ap (λ z. zeros_from one_zero seen z.0) (sym e) ∙ zeros_more one_zero seen x.1 x.0 more.0 (length (b ∷ bs) + behind) here.1 ∙ later_fit.1 ∙ ap (λ z. Some z.1) e,
+    )))
 
 counted_fit : RowsFit → (one_zero : Bool) (i : ItemPage) (seen : Bool) (from : List Bool) (y : List ItemHolding × Bool) → read_counted_items one_zero i seen from ≡ Ok y → (list_all (item_fits i) y.0 ≡ true) × (zeros_from one_zero seen y.0 ≡ Some y.1)
 unfolding read_counted_items
 counted_fit law one_zero i seen from y is =
     then_ok (or_broken (read_number 4 from) Short (length from)) _ y is (λ reserved a later.
-      then_ok (read_counted Short (length reserved.1) 0 reserved.1) _ y later (λ row b last.
-        then_ok (read_items (length (bits_of row.0)) one_zero i seen (length row.1) (bits_of row.0)) _ y last (λ items c ends.
-          then_ok (nothing_left (length row.1)) _ y ends (λ none d joins.
-            let e : items ≡ y = same_ok _ _ joins in
-            let fit = items_read_fit law (length (bits_of row.0)) one_zero i seen (length row.1) (bits_of row.0) items c in
-            (ap (λ z. list_all (item_fits i) z.0) (sym e) ∙ fit.0, ap (λ z. zeros_from one_zero seen z.0) (sym e) ∙ fit.1 ∙ ap (λ z. Some z.1) e)))))
+    then_ok (read_counted Short (length reserved.1) 0 reserved.1) _ y later (λ row b last.
+    then_ok (read_items (length (bits_of row.0)) one_zero i seen (length row.1) (bits_of row.0)) _ y last (λ items c ends.
+    then_ok (nothing_left (length row.1)) _ y ends (λ none d joins.
+    let e : items ≡ y = same_ok _ _ joins in
+    let fit = items_read_fit law (length (bits_of row.0)) one_zero i seen (length row.1) (bits_of row.0) items c in
+    (ap (λ z. list_all (item_fits i) z.0) (sym e) ∙ fit.0, ap (λ z. zeros_from one_zero seen z.0) (sym e) ∙ fit.1 ∙ ap (λ z. Some z.1) e)))))
 
 pub behind_fit : RowsFit → (one_zero : Bool) (i : Option ItemPage) (seen : Bool) (from : List Bool) (y : List ItemHolding × Bool) → read_behind one_zero i seen from ≡ Ok y → (items_fit i y.0 ≡ true) × (zeros_from one_zero seen y.0 ≡ Some y.1)
 unfolding read_behind
 behind_fit law one_zero None seen from y is =
     then_ok (nothing_left (length from)) _ y is (λ none was joins.
-      let e : ◌≡◌ {A = List ItemHolding × Bool} ([], seen) y = same_ok _ _ joins in
-      (ap (λ z. items_fit None z.0) (sym e), ap (λ z. zeros_from one_zero seen z.0) (sym e) ∙ zeros_none one_zero seen ∙ ap (λ z. Some z.1) e))
+    let e : ◌≡◌ {A = List ItemHolding × Bool} ([], seen) y = same_ok _ _ joins in
+    (ap (λ z. items_fit None z.0) (sym e), ap (λ z. zeros_from one_zero seen z.0) (sym e) ∙ zeros_none one_zero seen ∙ ap (λ z. Some z.1) e))
 behind_fit law one_zero (Some i) seen from y is =
     cond_both i.counted (read_counted_items one_zero i seen from) (read_items (length from) one_zero i seen 0 from) (λ r. r ≡ Ok y → (items_fit (Some i) y.0 ≡ true) × (zeros_from one_zero seen y.0 ≡ Some y.1))
     (λ counted read. counted_fit law one_zero i seen from y read)
@@ -161,16 +161,16 @@ heading_fit : RowsFit → (p : TablePage) (first : Option ℕ) (from : List Bool
 unfolding read_heading
 heading_fit law p first from y is =
     then_ok (read_fields Short 0 p.common from) _ y is (λ common a later.
-      then_ok (agreed (is_same first (first_number common.0)) (length from)) _ y later (λ same b last.
-        then_ok (read_fields Short 0 p.head common.1) _ y last (λ head c joins.
-          let e : common.0 ++ head.0 ≡ y.0 = ap (λ z. z.0) (same_ok _ _ joins) in
-          let one = fields_fit law Short 0 p.common from common a in
-          let two = fields_fit law Short 0 p.head common.1 head c in
-          let count = fit_count p.common common.0 one in
-          let front : common_values p (common.0 ++ head.0) ≡ common.0 = ap (λ n. take n (common.0 ++ head.0)) (sym count) ∙ take-append_seam common.0 head.0 in
-          let back : head_values p (common.0 ++ head.0) ≡ head.0 = ap (λ n. drop n (common.0 ++ head.0)) (sym count) ∙ drop-append_seam common.0 head.0 in
-          ap (values_fit p) (sym e)
-          ∙ and_from (fits p.common (common_values p (common.0 ++ head.0))) (fits p.head (head_values p (common.0 ++ head.0))) (ap (fits p.common) front ∙ one) (ap (fits p.head) back ∙ two))))
+    then_ok (agreed (is_same first (first_number common.0)) (length from)) _ y later (λ same b last.
+    then_ok (read_fields Short 0 p.head common.1) _ y last (λ head c joins.
+    let e : common.0 ++ head.0 ≡ y.0 = ap (λ z. z.0) (same_ok _ _ joins) in
+    let one = fields_fit law Short 0 p.common from common a in
+    let two = fields_fit law Short 0 p.head common.1 head c in
+    let count = fit_count p.common common.0 one in
+    let front : common_values p (common.0 ++ head.0) ≡ common.0 = ap (λ n. take n (common.0 ++ head.0)) (sym count) ∙ take-append_seam common.0 head.0 in
+    let back : head_values p (common.0 ++ head.0) ≡ head.0 = ap (λ n. drop n (common.0 ++ head.0)) (sym count) ∙ drop-append_seam common.0 head.0 in
+    ap (values_fit p) (sym e)
+    ∙ and_from (fits p.common (common_values p (common.0 ++ head.0))) (fits p.head (head_values p (common.0 ++ head.0))) (ap (fits p.common) front ∙ one) (ap (fits p.head) back ∙ two))))
 
 -- what a body that was read fits
 pub record ReadFit (p : TablePage) (seen : Bool) (b : BodyHolding) (now : Bool) : Type 0 where
@@ -182,17 +182,17 @@ body_fit : RowsFit → (p : TablePage) (seen : Seen) (from : List Bool) (y : Bod
 unfolding read_body
 body_fit law p seen from y is =
     then_ok (read_heading p seen.first from) _ y is (λ heading a later.
-      then_ok (read_loop p.loop_form heading.2) _ y later (λ own b last.
-        then_ok (read_behind p.one_zero p.items seen.zero own.1) _ y last (λ items c joins.
-          let e = same_ok _ _ joins in
-          let fit = behind_fit law p.one_zero p.items seen.zero own.1 items c in (
-            ap (λ z. values_fit p z.0.values) (sym e) ∙ heading_fit law p seen.first from heading a,
-            record {
-              own = ap (λ z. own_fit p.loop_form z.0.descriptors) (sym e) ∙ own_read_fit p.loop_form heading.2 own b;
-              items = ap (λ z. items_fit p.items z.0.items) (sym e) ∙ fit.0;
-              zeros = ap (λ z. zeros_from p.one_zero seen.zero z.0.items) (sym e) ∙ fit.1 ∙ ap (λ z. Some z.1.zero) e;
-            },
-          ))))
+    then_ok (read_loop p.loop_form heading.2) _ y later (λ own b last.
+    then_ok (read_behind p.one_zero p.items seen.zero own.1) _ y last (λ items c joins.
+    let e = same_ok _ _ joins in
+    let fit = behind_fit law p.one_zero p.items seen.zero own.1 items c in (
+      ap (λ z. values_fit p z.0.values) (sym e) ∙ heading_fit law p seen.first from heading a,
+      record {
+        own = ap (λ z. own_fit p.loop_form z.0.descriptors) (sym e) ∙ own_read_fit p.loop_form heading.2 own b;
+        items = ap (λ z. items_fit p.items z.0.items) (sym e) ∙ fit.0;
+        zeros = ap (λ z. zeros_from p.one_zero seen.zero z.0.items) (sym e) ∙ fit.1 ∙ ap (λ z. Some z.1.zero) e;
+      },
+    ))))
 
 -- ---- sections
 
@@ -261,6 +261,7 @@ none_fit p seen = record { own = own_none p.loop_form; items = items_none p.item
     own_none Absent = refl
     own_none Counted = refl
     own_none ToEnd = refl
+
     items_none : (i : Option ItemPage) → items_fit i [] ≡ true
     items_none None = refl
     items_none (Some i) = refl
@@ -270,17 +271,17 @@ unfolding read_sections
 sections_fit law p seen place [] b is = (seen.zero, subst (λ c. ReadFit p seen.zero c seen.zero) (same_run _ _ is) (none_fit p seen.zero))
 sections_fit law p seen place (s ∷ ss) b is =
     then_run (read_section p seen place s) _ b is (λ x was later.
-      then_run (read_sections p x.1 (place + 1) ss) _ b later (λ more had joins.
-        let here = section_fit law p seen place s x was in
-        let rest = sections_fit law p x.1 (place + 1) ss more had in
-        (rest.0, subst (λ c. ReadFit p seen.zero c rest.0) (same_run _ _ joins) (join_fit p seen.zero x.1.zero rest.0 x.0 more here.1 rest.1))))
+    then_run (read_sections p x.1 (place + 1) ss) _ b later (λ more had joins.
+    let here = section_fit law p seen place s x was in
+    let rest = sections_fit law p x.1 (place + 1) ss more had in
+    (rest.0, subst (λ c. ReadFit p seen.zero c rest.0) (same_run _ _ joins) (join_fit p seen.zero x.1.zero rest.0 x.0 more here.1 rest.1))))
 
 first_fit : RowsFit → (p : TablePage) (seen : Seen) (place : ℕ) (s : List ℕ) (ss : List (List ℕ)) (b : BodyHolding) → read_sections p seen place (s ∷ ss) ≡ Ok b → values_fit p b.values ≡ true
 unfolding read_sections
 first_fit law p seen place s ss b is =
     then_run (read_section p seen place s) _ b is (λ x was later.
-      then_run (read_sections p x.1 (place + 1) ss) _ b later (λ more had joins.
-        ap (λ c. values_fit p c.values) (sym (same_run _ _ joins)) ∙ (section_fit law p seen place s x was).0))
+    then_run (read_sections p x.1 (place + 1) ss) _ b later (λ more had joins.
+    ap (λ c. values_fit p c.values) (sym (same_run _ _ joins)) ∙ (section_fit law p seen place s x was).0))
 
 is_true : (b : Bool) → b ≡ true → IsTrue b
 is_true true h = refl
@@ -290,16 +291,16 @@ head_fit : (p : TablePage) (s : List ℕ) (head : TableHead) → IsSection s →
 head_fit p s head lawful =
     cond_both (is_of p s) _ _ (λ o. o ≡ Some head → head_fits p head ≡ true)
     (λ ours is.
-      let parts = and_parts (is_long s) (has_id p.ids (table_id_of s)) ours in
-      let long = lawful.long (is_true (is_long s) parts.0) in
-      let same : kept_head p s ≡ head = cc in
-      let id : table_id_of s < 255 = omega (arith, field-below s 0 8, lawful.no_stuffing) in
-      subst (λ h. head_fits p h ≡ true) same
-      (and_from (has_id p.ids (table_id_of s)) _ parts.1
-        (and_from (nat_lt (table_id_of s) 255) _ (lt-ltb (table_id_of s) 255 id)
-          (and_from (nat_lt (extension_of s) 65536) _ (lt-ltb (extension_of s) 65536 (omega (arith, field-below s 24 16)))
-            (and_from (nat_lt (version_of s) 32) _ (lt-ltb (version_of s) 32 (omega (arith, field-below s 42 5)))
-              (by_keeping p.keeps_numbers (number_of s) (last_number_of s) long.numbers (omega (arith, field-below s 56 8))))))))
+    let parts = and_parts (is_long s) (has_id p.ids (table_id_of s)) ours in
+    let long = lawful.long (is_true (is_long s) parts.0) in
+    let same : kept_head p s ≡ head = cc in
+    let id : table_id_of s < 255 = omega (arith, field-below s 0 8, lawful.no_stuffing) in
+    subst (λ h. head_fits p h ≡ true) same
+    (and_from (has_id p.ids (table_id_of s)) _ parts.1
+    (and_from (nat_lt (table_id_of s) 255) _ (lt-ltb (table_id_of s) 255 id)
+    (and_from (nat_lt (extension_of s) 65536) _ (lt-ltb (extension_of s) 65536 (omega (arith, field-below s 24 16)))
+    (and_from (nat_lt (version_of s) 32) _ (lt-ltb (version_of s) 32 (omega (arith, field-below s 42 5)))
+    (by_keeping p.keeps_numbers (number_of s) (last_number_of s) long.numbers (omega (arith, field-below s 56 8))))))))
     (λ other is. cc)
   where
     by_keeping : (keeps : Bool) (n l : ℕ) → n ≤ l → l < 256 → numbers_fit keeps (if keeps then Some (n, l) else None) ≡ true
@@ -321,13 +322,13 @@ run_fit law p (s ∷ ss) h lawful is = by_head (table_head p s) refl is
         cond_both (too_many p ss) _ _ (λ r. r ≡ Ok h → table_fits p h ≡ true)
         (λ many read. cc)
         (λ few read.
-          then_run (read_sections p unseen 0 (s ∷ ss)) _ h read (λ b was joins.
-            let e = same_run _ _ joins in
-            let fit = sections_fit law p unseen 0 (s ∷ ss) b was in
-            let body : body_fits p b ≡ true =
-            and_from (values_fit p b.values) _ (first_fit law p unseen 0 s ss b was)
-            (and_from (own_fit p.loop_form b.descriptors) _ fit.1.own
-              (and_from (items_fit p.items b.items) _ fit.1.items (some_is (zeros_from p.one_zero false b.items) fit.0 fit.1.zeros))) in
-            subst (λ t. table_fits p t ≡ true) e
-            (and_from (head_fits p head) (body_fits p b) (head_fit p s head (All-head (λ s. IsSection s) s ss lawful) found) body)))
+        then_run (read_sections p unseen 0 (s ∷ ss)) _ h read (λ b was joins.
+        let e = same_run _ _ joins in
+        let fit = sections_fit law p unseen 0 (s ∷ ss) b was in
+        let body : body_fits p b ≡ true =
+        and_from (values_fit p b.values) _ (first_fit law p unseen 0 s ss b was)
+        (and_from (own_fit p.loop_form b.descriptors) _ fit.1.own
+        (and_from (items_fit p.items b.items) _ fit.1.items (some_is (zeros_from p.one_zero false b.items) fit.0 fit.1.zeros))) in
+        subst (λ t. table_fits p t ≡ true) e
+        (and_from (head_fits p head) (body_fits p b) (head_fit p s head (All-head (λ s. IsSection s) s ss lawful) found) body)))
         reads

@@ -147,11 +147,7 @@ fn are_too_many(layout: &TableLayout, others: &[Section]) -> bool
 }
 
 /// What a run holds as a table of this layout, or the first rule that it breaks.
-pub fn read_table(
-    alloc: Global,
-    layout: &TableLayout,
-    run: &TableRun,
-) -> Result<Table, TableFault>
+pub fn read_table(alloc: Global, layout: &TableLayout, run: &TableRun) -> Result<Table, TableFault>
     requires { IsTrue (page_sound (table_page layout.now)) }
     ensures read { Tells table_held result (read_run (table_page layout.now) run.now) }
     ensures fits { IfOk result (λ t. table_fits (table_page layout.now) (table_held t) ≡ true) }
