@@ -66,12 +66,12 @@ filled-pieces p room used hand (x ∷ xs) =
     both_ways (map (λ piece. gathered nothing (map (kind_row i) piece))) (nat_le (used + length (kind_row i x).1) room) (nat_le (used + thing_size p x) room) _ _ _ _
     (ap (λ n. nat_le (used + n) room) size)
     (ap (λ n. filled room (used + n) (with_thing (gathered nothing (map (kind_row i) hand)) (kind_row i x)) (map (kind_row i) xs)) size
-      ∙ ap (λ h. filled room (used + thing_size p x) h (map (kind_row i) xs)) longer
-      ∙ filled-pieces p room (used + thing_size p x) (hand ++ x ∷ []) xs)
+    ∙ ap (λ h. filled room (used + thing_size p x) h (map (kind_row i) xs)) longer
+    ∙ filled-pieces p room (used + thing_size p x) (hand ++ x ∷ []) xs)
     (ap (λ l. gathered nothing (map (kind_row i) hand) ∷ l)
-      (ap (λ n. filled room n (with_thing nothing (kind_row i x)) (map (kind_row i) xs)) size
-        ∙ ap (λ h. filled room (thing_size p x) h (map (kind_row i) xs)) (sym (gathered-more nothing [] (kind_row i x)))
-        ∙ filled-pieces p room (thing_size p x) (x ∷ []) xs))
+    (ap (λ n. filled room n (with_thing nothing (kind_row i x)) (map (kind_row i) xs)) size
+    ∙ ap (λ h. filled room (thing_size p x) h (map (kind_row i) xs)) (sym (gathered-more nothing [] (kind_row i x)))
+    ∙ filled-pieces p room (thing_size p x) (x ∷ []) xs))
 
 map-map : {A B C : Type 0} (f : A → B) (g : B → C) (xs : List A) → map g (map f xs) ≡ map (λ x. g (f x)) xs
 map-map f g [] = refl
@@ -96,7 +96,7 @@ bodies-same p b room =
     ∙ ap (map (row_with p b.values)) (filled-pieces p room 0 [] (things b))
     ∙ map-map (λ piece. gathered nothing (map (kind_row p.items) piece)) (row_with p b.values) ps
     ∙ map-same (λ piece. row_with p b.values (gathered nothing (map (kind_row p.items) piece))) (λ piece. body_row p (piece_body b.values piece)) ps
-      (λ piece. ap (row_with p b.values) (gathered-piece p.items piece))
+    (λ piece. ap (row_with p b.values) (gathered-piece p.items piece))
     ∙ sym (map-map (piece_body b.values) (body_row p) ps)
 
 owns-things : (ds : List TaggedBody) (xs : List ItemHolding) → owns_in (map own_thing ds ++ map item_thing xs) ≡ ds
@@ -176,9 +176,15 @@ row-size laws p values hand =
     let whole = parts_length laws p values hand.0 hand.1 in
     let none = parts_length laws p values [] [] in
     omega (
-      arith, whole, none,
-      length-bytes_of (spell_parts p values hand.0 hand.1), length-bytes_of (spell_parts p values [] []),
-      own-most p hand.0, items-most p.items hand.1, own-none p.loop_form, items-none p.items,
+      arith,
+      whole,
+      none,
+      length-bytes_of (spell_parts p values hand.0 hand.1),
+      length-bytes_of (spell_parts p values [] []),
+      own-most p hand.0,
+      items-most p.items hand.1,
+      own-none p.loop_form,
+      items-none p.items,
     )
 
 abbrev piece_size : List ℕ × List ℕ → ℕ
@@ -202,11 +208,11 @@ filled-fits room used hand (x ∷ xs) none size fits =
     cond_both (nat_lt room (length x.1)) _ _ (λ o. o ≡ None → All (λ piece. piece_size piece ≤ room) (filled room used hand (x ∷ xs)))
     (λ large is. absurd (some_none (length x.1) is))
     (λ small later.
-      cond_both (nat_le (used + length x.1) room) _ _ (All (λ piece. piece_size piece ≤ room))
-      (λ goes. filled-fits room (used + length x.1) (with_thing hand x) xs later (omega (arith, with_thing-size hand x)) (leb-true (used + length x.1) room goes))
-      (λ ends.
-        All-cons (λ piece. piece_size piece ≤ room) hand _ (omega arith)
-        (filled-fits room (length x.1) (with_thing nothing x) xs later (with_thing-size nothing x ∙ omega arith) (ltb-false room (length x.1) small))))
+    cond_both (nat_le (used + length x.1) room) _ _ (All (λ piece. piece_size piece ≤ room))
+    (λ goes. filled-fits room (used + length x.1) (with_thing hand x) xs later (omega (arith, with_thing-size hand x)) (leb-true (used + length x.1) room goes))
+    (λ ends.
+    All-cons (λ piece. piece_size piece ≤ room) hand _ (omega arith)
+    (filled-fits room (length x.1) (with_thing nothing x) xs later (with_thing-size nothing x ∙ omega arith) (ltb-false room (length x.1) small))))
     none
 
 filled-some : (room used : ℕ) (hand : List ℕ × List ℕ) (xs : List (Bool × List ℕ)) → 0 < length (filled room used hand xs)
@@ -239,30 +245,30 @@ rows_are_small laws p values xs rows sound =
     let least = least_length p values in
     cond_both p.single (single_row p values xs) (filled_rows p values xs) (λ r. r ≡ Ok rows → AreFilled p rows)
     (λ single is.
-      let body = row_with p values (gathered nothing xs) in
-      let parts = unless-ok (above p.most (9 + length body)) (body ∷ []) rows is in
-      let small : length body ≤ 4084 = omega (arith, above-none p.most (9 + length body) parts.0) in
-      let one : AreFilled p (body ∷ []) = record {
-        small = All-cons (λ row. length row ≤ 4084) body [] small (All-nil (λ row. length row ≤ 4084));
-        some = omega arith;
-        one = λ is. refl;
-      } in
-      subst (AreFilled p) parts.1 one)
+    let body = row_with p values (gathered nothing xs) in
+    let parts = unless-ok (above p.most (9 + length body)) (body ∷ []) rows is in
+    let small : length body ≤ 4084 = omega (arith, above-none p.most (9 + length body) parts.0) in
+    let one : AreFilled p (body ∷ []) = record {
+      small = All-cons (λ row. length row ≤ 4084) body [] small (All-nil (λ row. length row ≤ 4084));
+      some = omega arith;
+      one = λ is. refl;
+    } in
+    subst (AreFilled p) parts.1 one)
     (λ several.
-      cond_both (nat_lt p.most least) _ _ (λ r. r ≡ Ok rows → AreFilled p rows)
-      (λ large is. cc)
-      (λ room is.
-        let bodies = filled (p.most - least) 0 nothing xs in
-        let parts = unless-ok (plus least (large_row (p.most - least) xs)) (map (row_with p values) bodies) rows is in
-        let fits = filled-fits (p.most - least) 0 nothing xs (plus-none least (large_row (p.most - least) xs) parts.0) refl (omega arith) in
-        let some = filled-some (p.most - least) 0 nothing xs in
-        let inside : least ≤ p.most = ltb-false p.most least room in
-        let all : AreFilled p (map (row_with p values) bodies) = record {
-          small = rows-small laws p values (p.most - least) bodies (omega arith) fits;
-          some = omega (arith, length-map bodies (row_with p values));
-          one = λ single. absurd (false≢true (sym several ∙ single));
-        } in
-        subst (AreFilled p) parts.1 all))
+    cond_both (nat_lt p.most least) _ _ (λ r. r ≡ Ok rows → AreFilled p rows)
+    (λ large is. cc)
+    (λ room is.
+    let bodies = filled (p.most - least) 0 nothing xs in
+    let parts = unless-ok (plus least (large_row (p.most - least) xs)) (map (row_with p values) bodies) rows is in
+    let fits = filled-fits (p.most - least) 0 nothing xs (plus-none least (large_row (p.most - least) xs) parts.0) refl (omega arith) in
+    let some = filled-some (p.most - least) 0 nothing xs in
+    let inside : least ≤ p.most = ltb-false p.most least room in
+    let all : AreFilled p (map (row_with p values) bodies) = record {
+      small = rows-small laws p values (p.most - least) bodies (omega arith) fits;
+      some = omega (arith, length-map bodies (row_with p values));
+      one = λ single. absurd (false≢true (sym several ∙ single));
+    } in
+    subst (AreFilled p) parts.1 all))
 
 -- ---- the sections of bodies
 

@@ -40,5 +40,5 @@ pieces_full size room used hand [] is = (tt, tt)
 pieces_full size room used hand (x ∷ xs) is = cond_both (nat_le (used + size x) room) _ _ (AreFull size room)
     (λ small. pieces_full size room (used + size x) (hand ++ x ∷ []) xs (omega (arith, is, total_more size hand x)))
     (λ large.
-      let over : room < used + size x = leb-false (used + size x) room large in
-      (first_piece size room (size x) (x ∷ []) xs hand x [] refl (omega (arith, is)), pieces_full size room (size x) (x ∷ []) xs (omega arith)))
+    let over : room < used + size x = leb-false (used + size x) room large in
+    (first_piece size room (size x) (x ∷ []) xs hand x [] refl (omega (arith, is)), pieces_full size room (size x) (x ∷ []) xs (omega arith)))

@@ -64,16 +64,16 @@ pub counted_takes : TakenBits → (rule : TableRule) (left behind : ℕ) (from :
 unfolding read_counted
 counted_takes laws rule left behind from x is =
     then_ok (or_broken (read_number 12 from) rule left) _ x is (λ size had later.
-      let one = laws.number 12 size.0 from size.1 (ok_some _ _ _ _ had) in
-      let two = laws.row size.0 x.0 size.1 x.1 (ok_some _ _ _ _ later) in
-      omega (arith, ap length one.0, length-append (bits 12 size.0) size.1, laws.wide 12 size.0, ap length two.0, length-append (bits_of x.0) x.1, laws.long x.0))
+    let one = laws.number 12 size.0 from size.1 (ok_some _ _ _ _ had) in
+    let two = laws.row size.0 x.0 size.1 x.1 (ok_some _ _ _ _ later) in
+    omega (arith, ap length one.0, length-append (bits 12 size.0) size.1, laws.wide 12 size.0, ap length two.0, length-append (bits_of x.0) x.1, laws.long x.0))
 
 loop_takes : TakenBits → (rule : TableRule) (left behind : ℕ) (from : List Bool) (x : List TaggedBody × List Bool) → read_counted_loop rule left behind from ≡ Ok x → 12 + length x.1 ≤ length from
 unfolding read_counted_loop
 loop_takes laws rule left behind from x is =
     then_ok (read_counted rule left behind from) _ x is (λ row had later.
-      then_ok (or_cut (descriptors_of row.0) (8 * length row.0 + length row.1 + behind)) _ x later (λ ds cut joins.
-        omega (arith, counted_takes laws rule left behind from row had, ap (λ y. length y.1) (same_ok _ _ joins))))
+    then_ok (or_cut (descriptors_of row.0) (8 * length row.0 + length row.1 + behind)) _ x later (λ ds cut joins.
+    omega (arith, counted_takes laws rule left behind from row had, ap (λ y. length y.1) (same_ok _ _ joins))))
 
 described_takes : TakenBits → (described : Bool) (left behind : ℕ) (from : List Bool) (x : List TaggedBody × List Bool) → read_described described left behind from ≡ Ok x → (if described then 12 else 0) + length x.1 ≤ length from
 unfolding read_described
@@ -89,12 +89,12 @@ unfolding read_item
 item_takes laws i behind from item rest =
     cond_both (nat_le (fixed_part i) (length from)) _ _ (λ r. r ≡ Ok (item, rest) → fixed_part i + length rest ≤ length from)
     (λ enough is.
-      then_ok (read_fields Time behind i.rows from) _ (item, rest) is (λ x was later.
-        then_ok (read_described i.described (length from + behind) behind x.1) _ (item, rest) later (λ ds had joins.
-          let one = laws.rows i.rows from x.0 x.1 (fields_are_rows Time behind i.rows from x was) in
-          let size = laws.spelled i.rows x.0 (laws.shape i.rows x.0 one.1) in
-          let two = described_takes laws i.described (length from + behind) behind x.1 ds had in
-          omega (arith, one.0, size.1, two, ap (λ y. length y.1) (same_ok _ _ joins)))))
+    then_ok (read_fields Time behind i.rows from) _ (item, rest) is (λ x was later.
+    then_ok (read_described i.described (length from + behind) behind x.1) _ (item, rest) later (λ ds had joins.
+    let one = laws.rows i.rows from x.0 x.1 (fields_are_rows Time behind i.rows from x was) in
+    let size = laws.spelled i.rows x.0 (laws.shape i.rows x.0 one.1) in
+    let two = described_takes laws i.described (length from + behind) behind x.1 ds had in
+    omega (arith, one.0, size.1, two, ap (λ y. length y.1) (same_ok _ _ joins)))))
     (λ few is. cc)
 
 is_true : (b : Bool) → IsTrue b → b ≡ true
@@ -105,9 +105,9 @@ pub next_takes : TakenBits → (one_zero : Bool) (i : ItemPage) (seen : Bool) (b
 unfolding read_next
 next_takes laws one_zero i seen behind from item now rest sound is =
     then_ok (read_item i behind from) _ (item, now, rest) is (λ x was later.
-      then_ok (count_zero one_zero seen x.0.values (length from + behind)) _ (item, now, rest) later (λ zero had joins.
-        let some : 0 < fixed_part i = ltb-true 0 (fixed_part i) (is_true _ (and_parts (nat_lt 0 (fixed_part i)) (nat_eq (fixed_part i % 8) 0) (and_parts (closed_rows i.rows) _ sound).1).0) in
-        omega (arith, some, item_takes laws i behind from x.0 x.1 was, ap (λ y. length y.2) (same_ok _ _ joins))))
+    then_ok (count_zero one_zero seen x.0.values (length from + behind)) _ (item, now, rest) later (λ zero had joins.
+    let some : 0 < fixed_part i = ltb-true 0 (fixed_part i) (is_true _ (and_parts (nat_lt 0 (fixed_part i)) (nat_eq (fixed_part i % 8) 0) (and_parts (closed_rows i.rows) _ sound).1).0) in
+    omega (arith, some, item_takes laws i behind from x.0 x.1 was, ap (λ y. length y.2) (same_ok _ _ joins))))
 
 -- ---- items one after another
 
@@ -130,8 +130,8 @@ same_turns zero n one_zero i seen behind (b ∷ bs) takes long wide = absurd (om
 same_turns (suc m) zero one_zero i seen behind (b ∷ bs) takes long wide = absurd (omega arith)
 same_turns (suc m) (suc n) one_zero i seen behind (b ∷ bs) takes long wide =
     same_next (read_next one_zero i seen behind (b ∷ bs)) _ _ (λ x was.
-      let fewer : length x.2 < length (b ∷ bs) = takes seen (b ∷ bs) x.0 x.1 x.2 was in
-      ap (λ items. items >>= λ more. Ok (x.0 ∷ more.0, more.1)) (same_turns m n one_zero i x.1 behind x.2 takes (omega arith) (omega arith)))
+    let fewer : length x.2 < length (b ∷ bs) = takes seen (b ∷ bs) x.0 x.1 x.2 was in
+    ap (λ items. items >>= λ more. Ok (x.0 ∷ more.0, more.1)) (same_turns m n one_zero i x.1 behind x.2 takes (omega arith) (omega arith)))
 
 items_more : (front : List ItemHolding) (item : ItemHolding) (read : Result (List ItemHolding × Bool) Fault) → with_items front (read >>= λ more. Ok (item ∷ more.0, more.1)) ≡ with_items (front ++ item ∷ []) read
 items_more front item (Ok more) = ap (λ l. Ok (l, more.1)) (sym (append_assoc front (item ∷ []) more.0))

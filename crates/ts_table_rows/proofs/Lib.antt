@@ -7,3 +7,4 @@ mod FillLemmas
 mod NumberLemmas
 mod GreedyLemmas
 mod BodyLemmas
+mod FitLemmas

@@ -106,8 +106,8 @@ unfolding read_fields read_rows
 fields_are_rows rule behind [] from x is = ap Some (same_ok _ _ is)
 fields_are_rows rule behind (r ∷ rs) from x is =
     then_ok (or_broken (read_field r.kind from) rule (length from + behind)) _ x is (λ one was later.
-      then_ok (read_fields rule behind rs one.1) _ x later (λ more had joins.
-        rw (ok_some _ _ _ _ was, fields_are_rows rule behind rs one.1 more had) (ap Some (same_ok _ _ joins))))
+    then_ok (read_fields rule behind rs one.1) _ x later (λ more had joins.
+    rw (ok_some _ _ _ _ was, fields_are_rows rule behind rs one.1 more had) (ap Some (same_ok _ _ joins))))
 
 -- and rows that are read are fields that are there
 pub rows_are_fields : (rule : TableRule) (behind : ℕ) (rs : List Row) (from : List Bool) (x : List Held × List Bool) → read_rows rs from ≡ Some x → read_fields rule behind rs from ≡ Ok x
@@ -115,5 +115,5 @@ unfolding read_fields read_rows
 rows_are_fields rule behind [] from x is = ap Ok (same_some _ _ is)
 rows_are_fields rule behind (r ∷ rs) from x is =
     then_some (read_field r.kind from) _ x is (λ one was later.
-      then_some (read_rows rs one.1) _ x later (λ more had joins.
-        rw (was, rows_are_fields rule behind rs one.1 more had) (ap Ok (same_some _ _ joins))))
+    then_some (read_rows rs one.1) _ x later (λ more had joins.
+    rw (was, rows_are_fields rule behind rs one.1 more had) (ap Ok (same_some _ _ joins))))

@@ -80,7 +80,7 @@ unfoldable pub filled_rows : TablePage → List Held → List (Bool × List ℕ)
 filled_rows p values xs =
     if nat_lt p.most (least_length p values) then Err (TooLarge (told_length (least_length p values)))
     else unless_large (plus (least_length p values) (large_row (p.most - least_length p values) xs))
-      (map (row_with p values) (filled (p.most - least_length p values) 0 nothing xs))
+    (map (row_with p values) (filled (p.most - least_length p values) 0 nothing xs))
 
 -- the body of a table with one section
 unfoldable pub single_row : TablePage → List Held → List (Bool × List ℕ) → Result (List (List ℕ)) TableRefusal

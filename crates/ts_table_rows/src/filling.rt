@@ -53,7 +53,11 @@ pub fn own_rows(alloc: Global, descriptors: &DescriptorList) -> Result<Vec<Thing
 }
 
 /// The items of a table that has items as bytes.
-fn formed_rows(alloc: Global, form: ItemForm, items: &[TableItem]) -> Result<Vec<ThingRow>, AllocError>
+fn formed_rows(
+    alloc: Global,
+    form: ItemForm,
+    items: &[TableItem],
+) -> Result<Vec<ThingRow>, AllocError>
     requires sound { IsTrue (item_sound (item_page form)) }
     requires fits { list_all (item_fits (item_page form)) (map item_held items.now) ≡ true }
     ensures rows { IfOk result (λ v. map thing_view v.items
@@ -72,7 +76,11 @@ fn formed_rows(alloc: Global, form: ItemForm, items: &[TableItem]) -> Result<Vec
 }
 
 /// The items of a table as bytes.
-pub fn item_rows(alloc: Global, items: Option<ItemForm>, held: &[TableItem]) -> Result<Vec<ThingRow>, AllocError>
+pub fn item_rows(
+    alloc: Global,
+    items: Option<ItemForm>,
+    held: &[TableItem],
+) -> Result<Vec<ThingRow>, AllocError>
     requires sound { IsTrue (items_sound (option_map item_page items)) }
     requires fits { items_fit (option_map item_page items) (map item_held held.now) ≡ true }
     ensures rows { IfOk result (λ v. map thing_view v.items

@@ -17,8 +17,7 @@ pub fn filled_greedily<T>()
     ensures fit { (size : T → ℕ) (room : ℕ) (xs : List T) → Each size room xs →
         AllFit size room (pieces size room 0 [] xs) }
     ensures full { (size : T → ℕ) (room : ℕ) (xs : List T) → AreFull size room (pieces size room 0 [] xs) }
-{
-}
+{}
 
 /// Bytes are put into bodies as the things that they stand for, and each body leaves room for the head
 /// and the CRC.

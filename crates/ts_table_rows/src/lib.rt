@@ -6,14 +6,14 @@ mod fault;
 mod filling;
 mod filling_laws;
 mod layout;
-
 mod read_body;
 mod read_item;
 mod read_laws;
 mod read_loop;
 mod read_run;
-
 mod table;
+#[cfg(test)]
+mod tests;
 mod write_laws;
 mod write_rows;
 mod write_run;
@@ -21,7 +21,6 @@ mod write_run;
 pub use fault::{TableFault, TableRefusal, TableRule};
 pub use filling_laws::filled_greedily;
 pub use layout::{ItemForm, LoopForm, TableLayout};
-
 pub use read_run::read_table;
-pub use write_run::write_table;
 pub use table::{Table, TableBody, TableHead, TableItem};
+pub use write_run::write_table;

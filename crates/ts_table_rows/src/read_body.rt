@@ -126,10 +126,7 @@ fn read_heading<'a>(
 }
 
 /// Values and more values behind them.
-fn with_more(
-    values: Vec<FieldValue>,
-    more: Vec<FieldValue>,
-) -> Result<Vec<FieldValue>, AllocError>
+fn with_more(values: Vec<FieldValue>, more: Vec<FieldValue>) -> Result<Vec<FieldValue>, AllocError>
     ensures { IfOk result (λ v. v.items ≡ values.items ++ more.items) }
 {
     let mut values = values;

@@ -1,14 +1,25 @@
 //! Laws of reading: functions with nothing to run, called where what they ensure is wanted.
 
-ghost use Rattle.std.specs.Prelude.{◌≡◌, ◌<◌, ℕ, Bool, List, length, Ok, IsTrue};
+ghost use Rattle.std.specs.Prelude.{◌≡◌, ◌<◌, ℕ, Bool, List, length, true, All, Ok, IsTrue};
 ghost use Rattle.ts_table_rows.specs.BodyReading.{read_next};
-ghost use Rattle.ts_table_rows.specs.TablePages.{ItemPage, item_sound};
-ghost use Rattle.ts_table_rows.specs.TableValues.{ItemHolding};
+ghost use Rattle.ts_section.specs.LawfulSection.{IsSection};
+ghost use Rattle.ts_table_rows.specs.RunReading.{read_run};
+ghost use Rattle.ts_table_rows.specs.TableFitting.{table_fits};
+ghost use Rattle.ts_table_rows.specs.TablePages.{ItemPage, TablePage, item_sound};
+ghost use Rattle.ts_table_rows.specs.TableValues.{ItemHolding, TableHolding};
 
 use ts_fields::{
     fit_rows_are_shaped, length_of_bits, length_of_read_rows, length_of_spelled_rows,
     read_bytes_are_spelled, read_number_is_spelled,
 };
+
+/// What a run of lawful sections holds is what a table of the layout can hold.
+pub fn read_tables_fit()
+    ensures { (p : TablePage) (ss : List (List ℕ)) (h : TableHolding) → All (λ s. IsSection s) ss →
+        read_run p ss ≡ Ok h → table_fits p h ≡ true }
+{
+    length_of_read_rows();
+}
 
 /// Each item takes some bits.
 pub fn items_take_bits()

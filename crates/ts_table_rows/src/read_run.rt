@@ -1,9 +1,10 @@
 //! Reading a run of sections as a table.
 
-ghost use Rattle.std.specs.Prelude.{◌≡◌, ◌≤◌, ◌∷◌, length, IsTrue, IfOk};
+ghost use Rattle.std.specs.Prelude.{◌≡◌, ◌≤◌, ◌∷◌, length, true, IsTrue, IfOk};
 ghost use Rattle.ts_table_rows.specs.BodyReading.{seen_so_far};
 ghost use Rattle.ts_table_rows.specs.RunReading;
 ghost use Rattle.ts_table_rows.specs.RunReading.{Tells, read_run, unseen};
+ghost use Rattle.ts_table_rows.specs.TableFitting.{table_fits};
 ghost use Rattle.ts_table_rows.specs.TablePages;
 ghost use Rattle.ts_table_rows.specs.TablePages.{table_page, page_sound};
 ghost use Rattle.ts_table_rows.specs.TableValues.{joined, body_held, table_held};
@@ -11,6 +12,7 @@ ghost use Rattle.ts_table_rows.specs.TableValues.{joined, body_held, table_held}
 use crate::fault::{BodyStop, TableFault, TableRule};
 use crate::layout::TableLayout;
 use crate::read_body::{SeenSoFar, read_body};
+use crate::read_laws::read_tables_fit;
 use crate::table::{Table, TableBody, TableHead};
 use std::alloc::{AllocError, Global};
 use ts_bits::DescriptorList;
@@ -145,14 +147,13 @@ fn are_too_many(layout: &TableLayout, others: &[Section]) -> bool
 }
 
 /// What a run holds as a table of this layout, or the first rule that it breaks.
-pub fn read_table(
-    alloc: Global,
-    layout: &TableLayout,
-    run: &TableRun,
-) -> Result<Table, TableFault>
+pub fn read_table(alloc: Global, layout: &TableLayout, run: &TableRun) -> Result<Table, TableFault>
     requires { IsTrue (page_sound (table_page layout.now)) }
-    ensures { Tells table_held result (read_run (table_page layout.now) run.now) }
+    ensures read { Tells table_held result (read_run (table_page layout.now) run.now) }
+    ensures fits { IfOk result (λ t. table_fits (table_page layout.now) (table_held t) ≡ true) }
 {
+    // A law, which runs nothing.
+    read_tables_fit();
     let Some((first, others)) = run.sections().split_first() else {
         return Err(broken(0, 0, TableRule::WrongTable));
     };

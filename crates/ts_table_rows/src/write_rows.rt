@@ -62,8 +62,7 @@ fn put_item(
 /// Each byte is below 256. A law, which runs nothing.
 fn bytes_are_small(row: &[u8])
     ensures { are_bytes row.now ≡ true }
-{
-}
+{}
 
 /// An item as bytes.
 pub fn item_bytes(alloc: Global, form: ItemForm, item: &TableItem) -> Result<Vec<u8>, AllocError>

@@ -13,8 +13,10 @@ ghost use Rattle.ts_table_rows.specs.TableValues.{body_held, table_held};
 ghost use Rattle.ts_table_rows.specs.declared.fault.TableRefusal.TheVariants.{TooLarge};
 
 use crate::fault::TableRefusal;
+use crate::filling::{
+    ThingRow, fill, first_large, gather, item_rows, own_rows, piece_bytes, pieces_bytes,
+};
 use crate::filling_laws::bodies_are_filled;
-use crate::filling::{ThingRow, fill, first_large, gather, item_rows, own_rows, piece_bytes, pieces_bytes};
 use crate::layout::TableLayout;
 use crate::table::{Table, TableBody, TableHead};
 use crate::write_rows::body_bytes;
@@ -174,7 +176,11 @@ fn number_sections(
 }
 
 /// What a table puts into its sections as bytes, its own descriptors first.
-fn thing_rows(alloc: Global, layout: &TableLayout, body: &TableBody) -> Result<Vec<ThingRow>, AllocError>
+fn thing_rows(
+    alloc: Global,
+    layout: &TableLayout,
+    body: &TableBody,
+) -> Result<Vec<ThingRow>, AllocError>
     requires sound { IsTrue (page_sound (table_page layout.now)) }
     requires fits { body_fits (table_page layout.now) (body_held body.now) ≡ true }
     ensures rows { IfOk result (λ v. map thing_view v.items

@@ -19,7 +19,7 @@ loop-item-preserved c = record {
   fit =
       All_one_more (λ x. All (λ d. IsDescriptor d) x.descriptors) item_held c.args.items.now c.loop-item.item-index c.item-item.result c.loop-item-test.true c.item-item.is
       (described_fit (item_page c.args.form) (item_held c.item-item.result)
-        (test_at (item_fits (item_page c.args.form)) item_held c.args.items.now c.loop-item.item-index c.item-item.result c.requires.fits c.loop-item-test.true c.item-item.is) c.in_ok-bytes.ensures.fit)
+      (test_at (item_fits (item_page c.args.form)) item_held c.args.items.now c.loop-item.item-index c.item-item.result c.requires.fits c.loop-item-test.true c.item-item.is) c.in_ok-bytes.ensures.fit)
       c.loop-item.invariant.fit;
 }
 
