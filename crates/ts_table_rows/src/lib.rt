@@ -1,5 +1,5 @@
 //! A table's layout comes in with a run of sections, or with the table's values; values, or sections, go out.
-//! The layer above rests on `read_table`, exact to the first broken rule, and `write_table`, which is read again.
+//! The layer above rests on `read_table`, exact to the first broken rule, and `write_table`, exact to the rule of filling.
 #![tactic(auto)]
 
 mod fault;
