@@ -195,7 +195,7 @@ fn thing_rows(
 
 /// The sections of a table. `TooLarge` tells the section_length that the table's one section, or a
 /// section with one descriptor or one item alone, would need; `TooMany` comes where each is within the
-/// most and more than 256 sections would be needed. Reading the sections gives the table again.
+/// most and more than 256 sections would be needed.
 pub fn write_table(
     alloc: Global,
     layout: &TableLayout,
