@@ -1,0 +1,2 @@
+pub mod PsiPages
+pub mod PsiTables

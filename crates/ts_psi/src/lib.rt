@@ -1,0 +1,14 @@
+//! The tables of MPEG: a run of sections comes in and a PAT, a CAT or a PMT goes out, and the other way.
+//! The layer above rests on `read`, exact to the first broken rule, and on `sections`, exact to the rule of filling.
+#![tactic(auto)]
+
+
+mod layouts;
+
+mod pmt;
+mod pmt_values;
+
+
+pub use layouts::{cat_layout, pat_layout, pmt_layout};
+
+pub use pmt::{Component, ComponentList, Pmt};
