@@ -1,2 +1,3 @@
 mod ListLemmas
 mod FitLemmas
+mod EntryLemmas

@@ -3,12 +3,17 @@
 #![tactic(auto)]
 
 
+mod cat;
+mod entries;
 mod layouts;
 
+mod pat;
 mod pmt;
 mod pmt_values;
 
 
+pub use cat::Cat;
 pub use layouts::{cat_layout, pat_layout, pmt_layout};
 
+pub use pat::{Pat, PatService, PatServiceList};
 pub use pmt::{Component, ComponentList, Pmt};
