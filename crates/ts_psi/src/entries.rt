@@ -16,8 +16,13 @@ use ts_table_rows::{TableHead, TableItem};
 
 /// What a PAT keeps of the heads of its sections.
 pub fn pat_head(stream_id: u16, version: u8, current: bool) -> TableHead
-    ensures head { result ≡ record { table_id = 0x00; extension = stream_id; version = version;
-        current = current; numbers = None } }
+    ensures head { result ≡ record {
+      table_id = 0x00;
+      extension = stream_id;
+      version = version;
+      current = current;
+      numbers = None;
+    } }
     ensures in_range { stream_id < 65536 }
 {
     TableHead {

@@ -9,9 +9,7 @@ use std::alloc::{AllocError, Global};
 use std::marker::Model;
 use ts_bits::DescriptorList;
 use ts_section::{Section, TableRun};
-use ts_table_rows::{
-    Table, TableBody, TableFault, TableRefusal, read_table, write_table,
-};
+use ts_table_rows::{Table, TableBody, TableFault, TableRefusal, read_table, write_table};
 
 /// A service, and the PID of its PMT.
 #[derive(Debug, Clone, Copy)]
