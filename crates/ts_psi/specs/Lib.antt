@@ -1,0 +1,4 @@
+pub mod PsiPages
+pub mod PsiTables
+pub mod CatTables
+pub mod PatTables

@@ -1,0 +1,86 @@
+-- PAT, CAT and PMT as the standard lays them out.
+-- ISO/IEC 13818-1, 2.4.4.3 (PAT), 2.4.4.6 (CAT), 2.4.4.8 (PMT): at most 1021 bytes behind section_length.
+use Rattle.std.specs.Prelude.{ℕ, List, [], ◌∷◌, codes, Bool, true, false, Option, Some, None}
+use Rattle.ts_fields.specs.declared.field.Kind.{Kind}
+use Rattle.ts_fields.specs.declared.field.Kind.TheVariants.{Number, Free}
+use Rattle.ts_fields.specs.Layout.{Row}
+use Rattle.ts_table_rows.specs.declared.layout.LoopForm.TheVariants.{Absent, Counted, ToEnd}
+use Rattle.ts_table_rows.specs.TablePages.{ItemPage, TablePage}
+
+-- a field with a name
+abbrev pub field : List ℕ → Kind → Row
+field called kind = record { name = called; kind = kind; absent = None; range = None }
+
+-- reserved bits
+abbrev pub reserved : ℕ → Row
+reserved count = field [] (Free count)
+
+-- an entry of a PAT: program_number 16, reserved 3, program_map_PID or network_PID 13
+abbrev pub entry_page : ItemPage
+entry_page = record {
+  name = codes "service";
+  rows = field (codes "service_id") (Number 16) ∷ reserved 3 ∷ field (codes "program_map_PID") (Number 13) ∷ [];
+  described = false;
+  counted = false;
+}
+
+-- a component of a PMT: stream_type 8, reserved 3, elementary_PID 13, reserved 4, ES_info_length 12, descriptors
+abbrev pub component_page : ItemPage
+component_page = record {
+  name = codes "component";
+  rows = field (codes "stream_type") (Number 8) ∷ reserved 3 ∷ field (codes "elementary_PID") (Number 13) ∷ reserved 4 ∷ [];
+  described = true;
+  counted = false;
+}
+
+-- entries
+abbrev pub pat_page : TablePage
+pat_page = record {
+  name = codes "PAT";
+  ids = (0x00, 0x00) ∷ [];
+  private_bit = false;
+  most = 1021;
+  single = false;
+  keeps_numbers = false;
+  common = [];
+  head = [];
+  loop_form = Absent;
+  items = Some entry_page;
+  one_zero = true;
+}
+
+-- descriptors
+abbrev pub cat_page : TablePage
+cat_page = record {
+  name = codes "CAT";
+  ids = (0x01, 0x01) ∷ [];
+  private_bit = false;
+  most = 1021;
+  single = false;
+  keeps_numbers = false;
+  common = [];
+  head = [];
+  loop_form = ToEnd;
+  items = None;
+  one_zero = false;
+}
+
+-- the fields of a PMT that stand in no component: reserved 3, PCR_PID 13, reserved 4
+abbrev pub pmt_head_rows : List Row
+pmt_head_rows = reserved 3 ∷ record { name = codes "PCR_PID"; kind = Number 13; absent = Some 8191; range = None } ∷ reserved 4 ∷ []
+
+-- these fields, program_info_length 12, descriptors, components
+abbrev pub pmt_page : TablePage
+pmt_page = record {
+  name = codes "PMT";
+  ids = (0x02, 0x02) ∷ [];
+  private_bit = false;
+  most = 1021;
+  single = true;
+  keeps_numbers = false;
+  common = [];
+  head = pmt_head_rows;
+  loop_form = Counted;
+  items = Some component_page;
+  one_zero = false;
+}

@@ -1,0 +1,18 @@
+//! The tables of MPEG: a run of sections comes in and a PAT, a CAT or a PMT goes out, and the other way.
+//! The layer above rests on `read`, exact to the first broken rule, and on `sections`, exact to the rule of filling.
+#![tactic(auto)]
+
+mod cat;
+mod entries;
+mod layouts;
+mod pat;
+mod pmt;
+mod pmt_values;
+
+pub use cat::Cat;
+pub use layouts::{cat_layout, pat_layout, pmt_layout};
+pub use pat::{Pat, PatService, PatServiceList};
+pub use pmt::{Component, ComponentList, Pmt};
+
+#[cfg(test)]
+mod tests;

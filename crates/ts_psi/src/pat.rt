@@ -1,0 +1,166 @@
+//! Program association table (ISO/IEC 13818-1, 2.4.4.3).
+
+ghost use Rattle.std.specs.Prelude.{◌<◌};
+ghost use Rattle.std.specs.Option.{ForSome};
+
+use crate::entries::{network_of, network_rows, pat_head, service_rows, services_of};
+use crate::layouts::pat_layout;
+use std::alloc::{AllocError, Global};
+use std::marker::Model;
+use ts_bits::DescriptorList;
+use ts_section::{Section, TableRun};
+use ts_table_rows::{Table, TableBody, TableFault, TableRefusal, read_table, write_table};
+
+/// A service, and the PID of its PMT.
+#[derive(Debug, Clone, Copy)]
+pub struct PatService {
+    /// program_number, 1 to 65535.
+    pub service_id: u16,
+    /// program_map_PID, 0 to 8191.
+    pub pid: u16,
+    pub ghost named: { 0 < service_id },
+    pub ghost in_range: { pid < 8192 },
+}
+
+/// Services in their order.
+#[derive(Debug, Drop)]
+pub struct PatServiceList {
+    services: Vec<PatService>,
+}
+
+// Clauses see the list of the services.
+impl Model for PatServiceList {
+    ghost use Rattle.std.specs.Prelude.{List};
+    ghost use Rattle.ts_psi.specs.declared.pat.PatService.{PatService};
+
+    ghost Value = { List PatService };
+
+    ghost view = { λ l. l.services.items };
+}
+
+impl PatServiceList {
+    ghost use Rattle.std.specs.Prelude.{◌≡◌, IfOk};
+
+    /// The services of a `Vec`, which the list keeps.
+    pub fn of(services: Vec<PatService>) -> PatServiceList
+        ensures { result ≡ services.items }
+    {
+        PatServiceList { services }
+    }
+
+    /// The services.
+    pub fn as_slice(&self) -> &[PatService]
+        ensures { result.now ≡ self.now }
+    {
+        &self.services
+    }
+
+    /// The `Vec` of the services.
+    pub fn into_vec(self) -> Vec<PatService>
+        ensures { result.items ≡ self }
+    {
+        self.services
+    }
+
+    /// An equal list.
+    pub fn copy(&self) -> Result<PatServiceList, AllocError>
+        ensures { IfOk result (λ l. l ≡ self.now) }
+    {
+        let services = Vec::from_slice(*self.services.allocator(), &self.services)?;
+        Ok(PatServiceList { services })
+    }
+}
+
+/// A program association table.
+#[derive(Debug, Drop)]
+pub struct Pat {
+    /// version_number, 0 to 31.
+    pub version: u8,
+    /// current_next_indicator.
+    pub current: bool,
+    /// transport_stream_id.
+    pub stream_id: u16,
+    /// The PID that program_number 0 names, 0 to 8191, where it is there.
+    pub network_pid: Option<u16>,
+    /// The services.
+    pub services: PatServiceList,
+    pub ghost version_in_range: { version < 32 },
+    pub ghost network_in_range: { ForSome network_pid (λ pid. pid < 8192) },
+}
+
+impl Pat {
+    ghost use Rattle.std.specs.Prelude.{◌≡◌, IfOk, OnOk, true};
+    ghost use Rattle.ts_table_rows.specs.RunReading.{Tells};
+    ghost use Rattle.ts_table_rows.specs.TableFitting.{table_fits};
+    ghost use Rattle.ts_table_rows.specs.TableSections.{Writes, sections_of};
+    ghost use Rattle.ts_table_rows.specs.TableValues.{table_held};
+    ghost use Rattle.ts_psi.specs.PsiPages.{pat_page};
+    ghost use Rattle.ts_psi.specs.PatTables.{pat_held, pat_table, read_pat};
+
+    /// The PAT that a table is.
+    fn of(alloc: Global, table: Table) -> Result<Pat, AllocError>
+        requires { table_fits pat_page (table_held table) ≡ true }
+        ensures { IfOk result (λ p. pat_held p ≡ pat_table (table_held table)) }
+    {
+        let Table { head, body } = table;
+        let network_pid = network_of(&body.items);
+        let services = services_of(alloc, &body.items)?;
+        Ok(Pat {
+            version: head.version,
+            current: head.current,
+            stream_id: head.extension,
+            network_pid,
+            services: PatServiceList::of(services),
+        })
+    }
+
+    /// The PAT as a table.
+    fn table(&self, alloc: Global) -> Result<Table, AllocError>
+        ensures held { IfOk result (λ t. table_held t ≡ pat_held self.now) }
+        ensures fits { OnOk result (table_fits pat_page (pat_held self.now) ≡ true) }
+    {
+        let head = pat_head(self.stream_id, self.version, self.current);
+        let mut items = network_rows(alloc, self.network_pid)?;
+        let mut services = service_rows(alloc, self.services.as_slice())?;
+        items.append(&mut services)?;
+        let body = TableBody {
+            values: Vec::new(alloc),
+            descriptors: DescriptorList::of(Vec::new(alloc)),
+            items,
+        };
+        Ok(Table { head, body })
+    }
+
+    /// The PAT of a run, or the first rule that the run breaks.
+    pub fn read(alloc: Global, run: &TableRun) -> Result<Pat, TableFault>
+        ensures { Tells pat_held result (read_pat run.now) }
+    {
+        let table = read_table(alloc, pat_layout(), run)?;
+        let pat = Pat::of(alloc, table)?;
+        Ok(pat)
+    }
+
+    /// The sections of the PAT, filled in order, the network entry first. `TooMany` comes where more than
+    /// 256 sections would be needed.
+    pub fn sections(&self, alloc: Global) -> Result<Vec<Section>, TableRefusal>
+        ensures { Writes (λ v. v.items) result (sections_of pat_page (pat_held self.now)) }
+    {
+        let table = self.table(alloc)?;
+        let sections = write_table(alloc, pat_layout(), &table)?;
+        Ok(sections)
+    }
+
+    /// An equal PAT.
+    pub fn copy(&self) -> Result<Pat, AllocError>
+        ensures { IfOk result (λ p. p ≡ self.now) }
+    {
+        let services = self.services.copy()?;
+        Ok(Pat {
+            version: self.version,
+            current: self.current,
+            stream_id: self.stream_id,
+            network_pid: self.network_pid,
+            services,
+        })
+    }
+}
