@@ -1,5 +1,5 @@
 -- How a call of `tsp` ends, and the status that tells it. This project's own rule.
-use Rattle.std.specs.Prelude.{◌≡◌, ◌⊎◌, ℕ, List, Bool, true, false, if◌then◌else◌, Option, IsSome}
+use Rattle.std.specs.Prelude.{◌≡◌, ◌⊎◌, ℕ, List, Bool, true, false, if◌then◌else◌, Option, IsSome, ◌-◌, ◌^◌, min}
 use Rattle.chain_model.specs.declared.input_end.InputEnd.{InputEnd}
 use Rattle.chain_model.specs.declared.input_end.InputEnd.TheVariants as input
 use Rattle.chain_model.specs.declared.cause.Cause.{Cause}
@@ -29,13 +29,13 @@ status_of_input (input.Sync packet) = Sync packet
 status_of_input input.ReadFault = ReadFault
 status_of_input input.TooLong = TooLong
 
--- the status of a cause
+-- the status of a cause; a plugin's number is told in 32 bits, and no chain has so many plugins
 abbrev pub status_of : Cause → Status
 status_of (cause.Input how) = status_of_input how
 status_of cause.Joint = Done
 status_of (cause.Until j) = Done
 status_of (cause.Stop j) = Done
-status_of (cause.Refuse j reason) = Refused j reason
+status_of (cause.Refuse j reason) = Refused (min j (2 ^ 32 - 1)) reason
 status_of cause.WriteFault = WriteFault
 status_of (cause.NoMemory k) = NoMemory
 

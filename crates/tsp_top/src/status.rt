@@ -1,4 +1,4 @@
-ghost use Rattle.std.specs.Prelude.{◌≡◌, if◌then◌else◌};
+ghost use Rattle.std.specs.Prelude.{◌≡◌, ◌-◌, ◌^◌, min, if◌then◌else◌};
 ghost use Rattle.tsp_top.specs.CallEnd.{status_of, status_of_input, status_when_late};
 ghost use Rattle.tsp_top.specs.ExitNumber.{exit_number};
 
@@ -20,8 +20,8 @@ pub enum Status {
     WriteFault,
     /// The input packet of this number does not begin with the sync byte.
     Sync { packet: u64 },
-    /// This plugin, counted from 1, refused a packet.
-    Refused { plugin: usize, reason: Reason },
+    /// This plugin, counted from 1, refused a packet. A chain has at most 62 plugins.
+    Refused { plugin: u32, reason: Reason },
     /// A packet would have had position 2^60.
     TooLong,
 }
@@ -51,10 +51,20 @@ pub(crate) fn status_of_cause(cause: Cause) -> Status
     match cause {
         Cause::Input(how) => status_of_input_end(how),
         Cause::Joint | Cause::Until(_) | Cause::Stop(_) => Status::Done,
-        Cause::Refuse(plugin, reason) => Status::Refused { plugin, reason },
+        Cause::Refuse(plugin, reason) => Status::Refused {
+            plugin: told_plugin(plugin),
+            reason,
+        },
         Cause::WriteFault => Status::WriteFault,
         Cause::NoMemory(_) => Status::NoMemory,
     }
+}
+
+/// A plugin's number as it is told.
+fn told_plugin(plugin: usize) -> u32
+    ensures { result ≡ min plugin (2 ^ 32 - 1) }
+{
+    u32::try_from(plugin).unwrap_or(u32::MAX)
 }
 
 /// The status of an input's end.
