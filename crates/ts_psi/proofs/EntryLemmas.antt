@@ -5,16 +5,10 @@ use Rattle.std.specs.List.{list_all}
 use Rattle.std.proofs.lemmas.Bool.{and_parts, eq-eqb, ne_eqb}
 use Rattle.std.proofs.lemmas.List.{drop_more, drop_all, take_more, take_all, map-append}
 use Rattle.std.proofs.lemmas.List.Elements.{filter-append}
-use Rattle.ts_bits.specs.TaggedBody.{TaggedBody}
 use Rattle.ts_table_rows.specs.declared.table.TableItem.{TableItem}
-use Rattle.ts_table_rows.specs.TableFitting.{none_there}
 use Rattle.ts_table_rows.specs.TableValues.{ItemHolding, item_held}
 use Rattle.ts_psi.specs.declared.pat.PatService.{PatService}
 use Rattle.ts_psi.specs.PatTables.{entry_item, service_item, network_items, is_network}
-
-pub none_held : (ds : List TaggedBody) → none_there ds ≡ true → ds ≡ []
-none_held [] none = refl
-none_held (d ∷ ds) none = cc
 
 -- a test of all passes one
 pub test_at : {Y W : Type 0} (t : W → Bool) (g : Y → W) (ys : List Y) (i : ℕ) (y : Y) → list_all t (map g ys) ≡ true → i < length ys → y ≡ get_or ys i y → t (g y) ≡ true

@@ -8,6 +8,7 @@ use Rattle.ts_fields.specs.Layout.{Held, number}
 use Rattle.ts_fields.specs.Fitting.{fits}
 use Rattle.ts_table_rows.specs.TableValues.{ItemHolding, TableHolding}
 use Rattle.ts_table_rows.specs.TableFitting.{item_fits, zeros_from, head_fits, body_fits, table_fits}
+use Rattle.ts_table_rows.proofs.ListLemmas.{zeros_free}
 use Rattle.ts_psi.specs.PsiPages.{component_page, entry_page, pmt_head_rows, cat_page, pat_page, pmt_page}
 use Rattle.ts_psi.specs.PsiTables.{component_item, pmt_held}
 use Rattle.ts_psi.specs.CatTables.{cat_held}
@@ -16,12 +17,6 @@ use Rattle.ts_psi.specs.declared.cat.Cat.{Cat}
 use Rattle.ts_psi.specs.declared.pat.PatService.{PatService}
 use Rattle.ts_psi.specs.declared.pat.Pat.{Pat}
 use Rattle.ts_psi.specs.declared.pmt.Pmt.{Pmt}
-
--- where any items may be 0
-pub zeros_free : (seen : Bool) (xs : List ItemHolding) → zeros_from false seen xs ≡ Some seen
-unfolding zeros_from
-zeros_free seen [] = refl
-zeros_free seen (x ∷ xs) = zeros_free seen xs
 
 pcr_fits : (pid : ℕ) → pid < 8192 → fits pmt_head_rows (number pid ∷ []) ≡ true
 unfolding fits

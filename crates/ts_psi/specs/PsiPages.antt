@@ -1,19 +1,11 @@
 -- PAT, CAT and PMT as the standard lays them out.
 -- ISO/IEC 13818-1, 2.4.4.3 (PAT), 2.4.4.6 (CAT), 2.4.4.8 (PMT): at most 1021 bytes behind section_length.
-use Rattle.std.specs.Prelude.{ℕ, List, [], ◌∷◌, codes, Bool, true, false, Option, Some, None}
-use Rattle.ts_fields.specs.declared.field.Kind.{Kind}
-use Rattle.ts_fields.specs.declared.field.Kind.TheVariants.{Number, Free}
+use Rattle.std.specs.Prelude.{List, [], ◌∷◌, codes, true, false, Some, None}
+use Rattle.ts_fields.specs.declared.field.Kind.TheVariants.{Number}
 use Rattle.ts_fields.specs.Layout.{Row}
 use Rattle.ts_table_rows.specs.declared.layout.LoopForm.TheVariants.{Absent, Counted, ToEnd}
+use Rattle.ts_table_rows.specs.RowWords.{field, field_or, reserved}
 use Rattle.ts_table_rows.specs.TablePages.{ItemPage, TablePage}
-
--- a field with a name
-abbrev pub field : List ℕ → Kind → Row
-field called kind = record { name = called; kind = kind; absent = None; range = None }
-
--- reserved bits
-abbrev pub reserved : ℕ → Row
-reserved count = field [] (Free count)
 
 -- an entry of a PAT: program_number 16, reserved 3, program_map_PID or network_PID 13
 abbrev pub entry_page : ItemPage
@@ -67,7 +59,7 @@ cat_page = record {
 
 -- the fields of a PMT that stand in no component: reserved 3, PCR_PID 13, reserved 4
 abbrev pub pmt_head_rows : List Row
-pmt_head_rows = reserved 3 ∷ record { name = codes "PCR_PID"; kind = Number 13; absent = Some 8191; range = None } ∷ reserved 4 ∷ []
+pmt_head_rows = reserved 3 ∷ field_or (codes "PCR_PID") (Number 13) 8191 ∷ reserved 4 ∷ []
 
 -- these fields, program_info_length 12, descriptors, components
 abbrev pub pmt_page : TablePage

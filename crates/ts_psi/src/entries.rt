@@ -35,7 +35,7 @@ pub fn pat_head(stream_id: u16, version: u8, current: bool) -> TableHead
 }
 
 /// The number and the PID of an entry.
-#[tactic(auto, using(crate::proofs::EntryLemmas::none_held), unfolding(ts_fields::specs::Fitting::fits))]
+#[tactic(auto, using(ts_table_rows::proofs::ListLemmas::none_held), unfolding(ts_fields::specs::Fitting::fits))]
 fn entry_of(item: &TableItem) -> (u16, u16)
     requires { item_fits entry_page (item_held item.now) ≡ true }
     ensures held { item_held item.now ≡ entry_item result.0 result.1 }

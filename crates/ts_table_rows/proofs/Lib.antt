@@ -8,3 +8,4 @@ mod NumberLemmas
 mod GreedyLemmas
 mod BodyLemmas
 mod FitLemmas
+pub mod ListLemmas

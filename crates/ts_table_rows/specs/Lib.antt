@@ -1,4 +1,5 @@
 pub mod TablePages
+pub mod RowWords
 pub mod TableValues
 pub mod BodyReading
 pub mod RunReading

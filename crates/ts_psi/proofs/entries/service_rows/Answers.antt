@@ -1,6 +1,6 @@
 use Rattle.ts_table_rows.specs.TableValues.{item_held}
 use Rattle.ts_psi.specs.PatTables.{service_item, service_serves}
-use Rattle.ts_psi.proofs.ListLemmas.{map_one_more, map_all, test_one_more, test_all}
+use Rattle.ts_table_rows.proofs.ListLemmas.{map_one_more, map_all, test_one_more, test_all}
 use Rattle.ts_psi.proofs.entries.service_rows.Goals as goal
 
 pub loop-service-preserved : goal.loop-service-preserved

@@ -1,9 +1,13 @@
 -- Members of a list taken one after another.
-use Rattle.std.proofs.Common.{◌≡◌, ℕ, ◌+◌, ◌<◌, ◌≤◌, Bool, true, List, [], ◌∷◌, ◌++◌, length, take, get_or, map, refl, sym, ap, ◌∙◌}
-use Rattle.std.specs.Prelude.{◌&&◌}
+use Rattle.std.proofs.Common.{◌≡◌, ℕ, zero, suc, ◌+◌, ◌<◌, ◌≤◌, Bool, true, false, List, [], ◌∷◌, ◌++◌, length, take, get_or, map, refl, sym, ap, ◌∙◌, arith}
+use Rattle.std.specs.Prelude.{◌&&◌, nat_eq, Some}
 use Rattle.std.specs.List.{list_all}
 use Rattle.std.proofs.lemmas.Bool.{and_parts, and_from}
 use Rattle.std.proofs.lemmas.List.{take_more, take_all, map-append}
+use Rattle.std.specs.Int.{from_bool}
+use Rattle.ts_bits.specs.TaggedBody.{TaggedBody}
+use Rattle.ts_table_rows.specs.TableFitting.{none_there, zeros_from}
+use Rattle.ts_table_rows.specs.TableValues.{ItemHolding}
 
 -- one member more
 pub map_one_more : {X Y W : Type 0} (f : X → W) (g : Y → W) (old new : List X) (x : X) (ys : List Y) (i : ℕ) (y : Y) → i < length ys → y ≡ get_or ys i y → new ≡ old ++ x ∷ [] → f x ≡ g y → map f old ≡ map g (take i ys) → map f new ≡ map g (take (i + 1) ys)
@@ -28,3 +32,20 @@ test_one_more t g ys i y inside same here so_far =
 
 pub test_all : {Y W : Type 0} (t : W → Bool) (g : Y → W) (ys : List Y) (i : ℕ) → length ys ≤ i → list_all t (map g (take i ys)) ≡ true → list_all t (map g ys) ≡ true
 test_all t g ys i all so_far = sym (ap (λ l. list_all t (map g l)) (take_all i ys all)) ∙ so_far
+
+-- where any items may be 0
+pub zeros_free : (seen : Bool) (xs : List ItemHolding) → zeros_from false seen xs ≡ Some seen
+unfolding zeros_from
+zeros_free seen [] = refl
+zeros_free seen (x ∷ xs) = zeros_free seen xs
+
+-- no descriptors are none
+pub none_held : (ds : List TaggedBody) → none_there ds ≡ true → ds ≡ []
+none_held [] none = refl
+none_held (d ∷ ds) none = cc
+
+-- a flag that was read
+pub flag_read : (n : ℕ) → n < 2 → from_bool (nat_eq n 1) ≡ n
+flag_read zero small = refl
+flag_read (suc zero) small = refl
+flag_read (suc (suc n)) small = absurd (omega arith)

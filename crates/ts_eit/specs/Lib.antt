@@ -1,0 +1,3 @@
+pub mod EitPages
+pub mod EventTimes
+pub mod EitTables

@@ -1,0 +1,19 @@
+//! EIT: a run of one section comes in and the table goes out with starts and durations in seconds, and the other way.
+//! The layer above rests on `read`, exact to the first broken rule, and on `sections`, exact to the section or its refusal.
+#![tactic(auto)]
+
+mod eit;
+mod event_rows;
+mod events;
+mod heads;
+mod layouts;
+mod start;
+mod times;
+
+pub use eit::Eit;
+pub use events::{Event, EventList};
+pub use layouts::eit_layout;
+pub use start::Start;
+
+#[cfg(test)]
+mod tests;

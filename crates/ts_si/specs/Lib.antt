@@ -1,0 +1,2 @@
+pub mod SiPages
+pub mod SiTables

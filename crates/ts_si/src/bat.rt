@@ -1,0 +1,113 @@
+//! Bouquet association table (ETSI EN 300 468, 5.2.2).
+
+ghost use Rattle.std.specs.Prelude.{◌<◌};
+
+use crate::heads::{holds_nothing, table_head};
+use crate::layouts::bat_layout;
+use crate::stream_rows::{stream_items, streams_of};
+use crate::streams::NitStreamList;
+use std::alloc::{AllocError, Global};
+use ts_bits::DescriptorList;
+use ts_section::{Section, TableRun};
+use ts_table_rows::{Table, TableBody, TableFault, TableRefusal, read_table, write_table};
+
+/// A bouquet association table.
+#[derive(Debug, Drop)]
+pub struct Bat {
+    /// version_number, 0 to 31.
+    pub version: u8,
+    /// current_next_indicator.
+    pub current: bool,
+    /// bouquet_id.
+    pub bouquet_id: u16,
+    /// The descriptors of the bouquet.
+    pub descriptors: DescriptorList,
+    /// The transport streams.
+    pub streams: NitStreamList,
+    pub ghost version_in_range: { version < 32 },
+}
+
+impl Bat {
+    ghost use Rattle.std.specs.Prelude.{◌≡◌, IfOk, OnOk, true};
+    ghost use Rattle.ts_table_rows.specs.RunReading.{Tells, read_run};
+    ghost use Rattle.ts_table_rows.specs.TableFitting.{table_fits};
+    ghost use Rattle.ts_table_rows.specs.TableSections.{Writes, sections_of};
+    ghost use Rattle.ts_table_rows.specs.TableValues.{table_held};
+    ghost use Rattle.ts_si.specs.SiPages.{bat_page};
+    ghost use Rattle.ts_si.specs.SiTables.{bat_held};
+
+    /// The BAT that a table is.
+    fn of(alloc: Global, table: Table) -> Result<Bat, AllocError>
+        requires { table_fits bat_page (table_held table) ≡ true }
+        ensures { IfOk result (λ b. bat_held b ≡ table_held table) }
+    {
+        let Table { head, body } = table;
+        let TableBody {
+            values,
+            descriptors,
+            items,
+        } = body;
+        // A law, which runs nothing.
+        holds_nothing(&values);
+        let streams = streams_of(alloc, items)?;
+        Ok(Bat {
+            version: head.version,
+            current: head.current,
+            bouquet_id: head.extension,
+            descriptors,
+            streams,
+        })
+    }
+
+    /// The BAT as a table.
+    fn table(&self, alloc: Global) -> Result<Table, AllocError>
+        ensures held { IfOk result (λ t. table_held t ≡ bat_held self.now) }
+        ensures fits { OnOk result (table_fits bat_page (bat_held self.now) ≡ true) }
+    {
+        let table_id = 0x4A;
+        let head = table_head(table_id, self.bouquet_id, self.version, self.current);
+        let descriptors = self.descriptors.copy()?;
+        let items = stream_items(alloc, self.streams.as_slice())?;
+        let body = TableBody {
+            values: Vec::new(alloc),
+            descriptors,
+            items,
+        };
+        Ok(Table { head, body })
+    }
+
+    /// The BAT of a run, or the first rule that the run breaks.
+    pub fn read(alloc: Global, run: &TableRun) -> Result<Bat, TableFault>
+        ensures { Tells bat_held result (read_run bat_page run.now) }
+    {
+        let table = read_table(alloc, bat_layout(), run)?;
+        let bat = Bat::of(alloc, table)?;
+        Ok(bat)
+    }
+
+    /// The sections of the BAT, filled in order, the descriptors of the bouquet before the first stream.
+    /// `TooLarge` comes where one of these descriptors or one stream alone would pass a section_length of
+    /// 1021, `TooMany` where more than 256 sections would be needed.
+    pub fn sections(&self, alloc: Global) -> Result<Vec<Section>, TableRefusal>
+        ensures { Writes (λ v. v.items) result (sections_of bat_page (bat_held self.now)) }
+    {
+        let table = self.table(alloc)?;
+        let sections = write_table(alloc, bat_layout(), &table)?;
+        Ok(sections)
+    }
+
+    /// An equal BAT.
+    pub fn copy(&self) -> Result<Bat, AllocError>
+        ensures { IfOk result (λ b. bat_held b ≡ bat_held self.now) }
+    {
+        let descriptors = self.descriptors.copy()?;
+        let streams = self.streams.copy()?;
+        Ok(Bat {
+            version: self.version,
+            current: self.current,
+            bouquet_id: self.bouquet_id,
+            descriptors,
+            streams,
+        })
+    }
+}

@@ -1,0 +1,23 @@
+//! NIT, BAT and SDT: a run of sections comes in and the table goes out, and the other way.
+//! The layer above rests on `read`, exact to the first broken rule, and on `sections`, exact to the rule of filling.
+#![tactic(auto)]
+
+mod bat;
+mod heads;
+mod layouts;
+mod nit;
+mod sdt;
+mod service_rows;
+mod services;
+mod stream_rows;
+mod streams;
+
+pub use bat::Bat;
+pub use layouts::{bat_layout, nit_layout, sdt_layout};
+pub use nit::Nit;
+pub use sdt::Sdt;
+pub use services::{SdtService, SdtServiceList};
+pub use streams::{NitStream, NitStreamList};
+
+#[cfg(test)]
+mod tests;

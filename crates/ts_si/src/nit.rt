@@ -1,0 +1,118 @@
+//! Network information table (ETSI EN 300 468, 5.2.1).
+
+ghost use Rattle.std.specs.Prelude.{◌<◌};
+
+use crate::heads::{holds_nothing, is_actual_nit, nit_id, table_head};
+use crate::layouts::nit_layout;
+use crate::stream_rows::{stream_items, streams_of};
+use crate::streams::NitStreamList;
+use std::alloc::{AllocError, Global};
+use ts_bits::DescriptorList;
+use ts_section::{Section, TableRun};
+use ts_table_rows::{Table, TableBody, TableFault, TableRefusal, read_table, write_table};
+
+/// A network information table.
+#[derive(Debug, Drop)]
+pub struct Nit {
+    /// Whether it is that of the actual network, the one that the stream belongs to: table_id 0x40, else 0x41.
+    pub actual: bool,
+    /// version_number, 0 to 31.
+    pub version: u8,
+    /// current_next_indicator.
+    pub current: bool,
+    /// network_id.
+    pub network_id: u16,
+    /// The descriptors of the network.
+    pub descriptors: DescriptorList,
+    /// The transport streams.
+    pub streams: NitStreamList,
+    pub ghost version_in_range: { version < 32 },
+}
+
+impl Nit {
+    ghost use Rattle.std.specs.Prelude.{◌≡◌, IfOk, OnOk, true};
+    ghost use Rattle.ts_table_rows.specs.RunReading.{Tells, read_run};
+    ghost use Rattle.ts_table_rows.specs.TableFitting.{table_fits};
+    ghost use Rattle.ts_table_rows.specs.TableSections.{Writes, sections_of};
+    ghost use Rattle.ts_table_rows.specs.TableValues.{table_held};
+    ghost use Rattle.ts_si.specs.SiPages.{nit_page};
+    ghost use Rattle.ts_si.specs.SiTables.{nit_held};
+
+    /// The NIT that a table is.
+    fn of(alloc: Global, table: Table) -> Result<Nit, AllocError>
+        requires { table_fits nit_page (table_held table) ≡ true }
+        ensures { IfOk result (λ n. nit_held n ≡ table_held table) }
+    {
+        let Table { head, body } = table;
+        let TableBody {
+            values,
+            descriptors,
+            items,
+        } = body;
+        // A law, which runs nothing.
+        holds_nothing(&values);
+        let actual = is_actual_nit(head.table_id);
+        let streams = streams_of(alloc, items)?;
+        Ok(Nit {
+            actual,
+            version: head.version,
+            current: head.current,
+            network_id: head.extension,
+            descriptors,
+            streams,
+        })
+    }
+
+    /// The NIT as a table.
+    fn table(&self, alloc: Global) -> Result<Table, AllocError>
+        ensures held { IfOk result (λ t. table_held t ≡ nit_held self.now) }
+        ensures fits { OnOk result (table_fits nit_page (nit_held self.now) ≡ true) }
+    {
+        let table_id = nit_id(self.actual);
+        let head = table_head(table_id, self.network_id, self.version, self.current);
+        let descriptors = self.descriptors.copy()?;
+        let items = stream_items(alloc, self.streams.as_slice())?;
+        let body = TableBody {
+            values: Vec::new(alloc),
+            descriptors,
+            items,
+        };
+        Ok(Table { head, body })
+    }
+
+    /// The NIT of a run, or the first rule that the run breaks.
+    pub fn read(alloc: Global, run: &TableRun) -> Result<Nit, TableFault>
+        ensures { Tells nit_held result (read_run nit_page run.now) }
+    {
+        let table = read_table(alloc, nit_layout(), run)?;
+        let nit = Nit::of(alloc, table)?;
+        Ok(nit)
+    }
+
+    /// The sections of the NIT, filled in order, the descriptors of the network before the first stream.
+    /// `TooLarge` comes where one of these descriptors or one stream alone would pass a section_length of
+    /// 1021, `TooMany` where more than 256 sections would be needed.
+    pub fn sections(&self, alloc: Global) -> Result<Vec<Section>, TableRefusal>
+        ensures { Writes (λ v. v.items) result (sections_of nit_page (nit_held self.now)) }
+    {
+        let table = self.table(alloc)?;
+        let sections = write_table(alloc, nit_layout(), &table)?;
+        Ok(sections)
+    }
+
+    /// An equal NIT.
+    pub fn copy(&self) -> Result<Nit, AllocError>
+        ensures { IfOk result (λ n. nit_held n ≡ nit_held self.now) }
+    {
+        let descriptors = self.descriptors.copy()?;
+        let streams = self.streams.copy()?;
+        Ok(Nit {
+            actual: self.actual,
+            version: self.version,
+            current: self.current,
+            network_id: self.network_id,
+            descriptors,
+            streams,
+        })
+    }
+}

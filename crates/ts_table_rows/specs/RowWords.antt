@@ -1,0 +1,23 @@
+-- Words for the rows of layouts and for what they hold.
+-- This project's own rule: a row is a field with a name, or reserved bits, which have none; a flag holds 0 or 1.
+use Rattle.std.specs.Prelude.{ℕ, Bool, List, [], Some, None}
+use Rattle.std.specs.Int.{from_bool}
+use Rattle.ts_fields.specs.declared.field.Kind.{Kind}
+use Rattle.ts_fields.specs.declared.field.Kind.TheVariants.{Free}
+use Rattle.ts_fields.specs.Layout.{Row, Held, number}
+
+-- a field with a name
+abbrev pub field : List ℕ → Kind → Row
+field called kind = record { name = called; kind = kind; absent = None; range = None }
+
+-- the same, with the number that stands for an absent one in JSON
+abbrev pub field_or : List ℕ → Kind → ℕ → Row
+field_or called kind n = record { name = called; kind = kind; absent = Some n; range = None }
+
+-- reserved bits
+abbrev pub reserved : ℕ → Row
+reserved count = field [] (Free count)
+
+-- what a flag holds: 1 where it is set
+abbrev pub flag : Bool → Held
+flag set = number (from_bool set)
