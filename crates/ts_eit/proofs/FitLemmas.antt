@@ -1,9 +1,9 @@
 -- What an EIT holds fits its layout.
-use Rattle.std.proofs.Common.{◌≡◌, ℕ, ◌<◌, ◌≤◌, Bool, true, false, List, map, refl, ap, arith}
-use Rattle.std.specs.Prelude.{◌&&◌, ◌||◌, is_some, nat_le, nat_lt}
+use Rattle.std.proofs.Common.{◌≡◌, ℕ, ◌<◌, ◌≤◌, true, false, map, ap, arith}
+use Rattle.std.specs.Prelude.{◌||◌, is_some, nat_le, nat_lt}
 use Rattle.std.specs.List.{list_all}
 use Rattle.std.proofs.lemmas.Bool.{and_from, le-leb, lt-ltb}
-use Rattle.ts_table_rows.specs.TableFitting.{item_fits, zeros_from, head_fits, body_fits, table_fits, values_fit}
+use Rattle.ts_table_rows.specs.TableFitting.{item_fits, head_fits, body_fits, table_fits, values_fit}
 use Rattle.ts_table_rows.specs.TablePages.{has_id}
 use Rattle.ts_table_rows.proofs.ListLemmas.{zeros_free}
 use Rattle.ts_eit.specs.EitPages.{event_page, eit_page}

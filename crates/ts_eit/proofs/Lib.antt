@@ -1,2 +1,3 @@
 mod FitLemmas
 mod TimeLemmas
+mod Rows

@@ -1,7 +1,7 @@
 -- EIT as the standard lays it out.
 -- ETSI EN 300 468, 5.2.4: table_id 0x4E to 0x6F, at most 4093 bytes behind section_length. That each section is a
 -- table by itself, which keeps section_number and last_section_number, is this project's own rule.
-use Rattle.std.specs.Prelude.{List, [], ◌∷◌, codes, true, false, Some, None}
+use Rattle.std.specs.Prelude.{List, [], ◌∷◌, codes, true, false, Some}
 use Rattle.ts_fields.specs.declared.field.Kind.TheVariants.{Number, Flag, Start, Duration}
 use Rattle.ts_fields.specs.Layout.{Row}
 use Rattle.ts_table_rows.specs.declared.layout.LoopForm.TheVariants.{Absent}

@@ -1,9 +1,9 @@
 -- An EIT as a table.
 -- ETSI EN 300 468, 5.2.4.
-use Rattle.std.specs.Prelude.{List, [], ◌∷◌, map, Some}
-use Rattle.ts_fields.specs.Layout.{Held, number}
+use Rattle.std.specs.Prelude.{[], ◌∷◌, map, Some}
+use Rattle.ts_fields.specs.Layout.{number}
 use Rattle.ts_table_rows.specs.RowWords.{flag}
-use Rattle.ts_table_rows.specs.TableValues.{ItemHolding, BodyHolding, TableHolding}
+use Rattle.ts_table_rows.specs.TableValues.{ItemHolding, TableHolding}
 use Rattle.ts_eit.specs.EventTimes.{start_bits, time_bits}
 use Rattle.ts_eit.specs.declared.events.Event.{Event}
 use Rattle.ts_eit.specs.declared.eit.Eit.{Eit}

@@ -2,6 +2,8 @@
 
 ghost use Rattle.std.specs.Prelude.{◌≡◌, [], ◌∷◌, ◌++◌, IfOk, OnOk, map, true};
 ghost use Rattle.std.specs.List.{list_all};
+ghost use Rattle.ts_fields.specs.Fitting.{fits};
+ghost use Rattle.ts_fields.specs.Layout.{held, number};
 ghost use Rattle.ts_table_rows.specs.TableFitting.{item_fits};
 ghost use Rattle.ts_table_rows.specs.TableValues.{item_held};
 ghost use Rattle.ts_si.specs.SiPages.{stream_page};
@@ -9,7 +11,24 @@ ghost use Rattle.ts_si.specs.SiTables.{stream_item};
 
 use crate::streams::{NitStream, NitStreamList};
 use std::alloc::{AllocError, Global};
+use ts_fields::FieldValue;
 use ts_table_rows::TableItem;
+
+/// transport_stream_id and original_network_id of a transport stream.
+#[tactic(auto, unfolding(ts_fields::specs::Fitting::fits))]
+pub fn stream_fields(values: &[FieldValue]) -> (u16, u16)
+    requires { fits stream_page.rows (map held values.now) ≡ true }
+    ensures { map held values.now ≡ number result.0 ∷ number result.1 ∷ [] }
+{
+    let [
+        FieldValue::Number(stream_id),
+        FieldValue::Number(original_id),
+    ] = values
+    else {
+        return (0, 0);
+    };
+    (*stream_id as u16, *original_id as u16)
+}
 
 /// Adds the stream that an item of the table is.
 fn add(streams: &mut Vec<NitStream>, item: TableItem) -> Result<(), AllocError>
@@ -17,13 +36,9 @@ fn add(streams: &mut Vec<NitStream>, item: TableItem) -> Result<(), AllocError>
     ensures { OnOk result (map stream_item streams.new.items
         ≡ map stream_item streams.old.items ++ item_held item ∷ []) }
 {
-    match NitStream::of(item) {
-        Some(stream) => {
-            streams.push(stream)?;
-            Ok(())
-        }
-        None => Ok(()),
-    }
+    let stream = NitStream::of(item);
+    streams.push(stream)?;
+    Ok(())
 }
 
 /// The streams that items of the table are.

@@ -1,5 +1,6 @@
 //! The transport streams of a NIT or a BAT (ETSI EN 300 468, 5.2.1 and 5.2.2).
 
+use crate::stream_rows::stream_fields;
 use std::alloc::{AllocError, Global};
 use std::marker::Model;
 use ts_bits::DescriptorList;
@@ -18,7 +19,7 @@ pub struct NitStream {
 }
 
 impl NitStream {
-    ghost use Rattle.std.specs.Prelude.{◌≡◌, IfOk, OnOk, Some, option_map, true};
+    ghost use Rattle.std.specs.Prelude.{◌≡◌, IfOk, OnOk, true};
     ghost use Rattle.ts_table_rows.specs.TableFitting.{item_fits};
     ghost use Rattle.ts_table_rows.specs.TableValues.{item_held};
     ghost use Rattle.ts_si.specs.SiPages.{stream_page};
@@ -53,23 +54,16 @@ impl NitStream {
     }
 
     /// The stream that an item of its table is.
-    #[tactic(auto, unfolding(ts_fields::specs::Fitting::fits))]
-    pub(crate) fn of(item: TableItem) -> Option<NitStream>
+    pub(crate) fn of(item: TableItem) -> NitStream
         requires { item_fits stream_page (item_held item) ≡ true }
-        ensures { option_map stream_item result ≡ Some (item_held item) }
+        ensures { stream_item result ≡ item_held item }
     {
-        let [
-            FieldValue::Number(stream_id),
-            FieldValue::Number(original_id),
-        ] = item.values.as_slice()
-        else {
-            return None;
-        };
-        Some(NitStream {
-            stream_id: *stream_id as u16,
-            original_id: *original_id as u16,
+        let (stream_id, original_id) = stream_fields(&item.values);
+        NitStream {
+            stream_id,
+            original_id,
             descriptors: item.descriptors,
-        })
+        }
     }
 }
 

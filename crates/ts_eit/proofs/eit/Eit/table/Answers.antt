@@ -1,4 +1,4 @@
-use Rattle.std.proofs.Common.{map, sym, ap, ◌∙◌, arith}
+use Rattle.std.proofs.Common.{map, sym, ap, ◌∙◌}
 use Rattle.std.specs.List.{list_all}
 use Rattle.ts_table_rows.specs.TableFitting.{item_fits}
 use Rattle.ts_eit.specs.EitPages.{event_page}

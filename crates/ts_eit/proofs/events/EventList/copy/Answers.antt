@@ -1,4 +1,4 @@
-use Rattle.std.proofs.Common.{◌≡◌, map, ap, ◌∙◌}
+use Rattle.std.proofs.Common.{map, ap, ◌∙◌}
 use Rattle.ts_table_rows.proofs.ListLemmas.{map_one_more, map_all}
 use Rattle.ts_eit.specs.EitTables.{event_item}
 use Rattle.ts_eit.proofs.events.EventList.copy.Goals as goal
