@@ -8,3 +8,8 @@ mod NumberLemmas
 mod GreedyLemmas
 mod BodyLemmas
 mod FitLemmas
+mod AgainBits
+mod AgainLoops
+mod AgainBody
+mod AgainPieces
+mod AgainRun
