@@ -1,3 +1,4 @@
 mod ListLemmas
 mod FitLemmas
 mod EntryLemmas
+mod AgainLemmas

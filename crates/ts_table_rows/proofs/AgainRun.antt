@@ -59,7 +59,7 @@ section-again laws p seen now place head s c sound fit serve same zeros made =
     rw few (ap (in_section place (length (body_of s))) read)
 
 -- a section that is made for a body is lawful
-first-made : ReadAgain → MadeLawful → (p : TablePage) (h : TableHead) (values : List Held) (last number : ℕ) (c : BodyHolding) → IsTrue (page_sound p) → FitHead p h → values_fit p values ≡ true → Serves p values c → number ≤ last → last < 256
+pub first-made : ReadAgain → MadeLawful → (p : TablePage) (h : TableHead) (values : List Held) (last number : ℕ) (c : BodyHolding) → IsTrue (page_sound p) → FitHead p h → values_fit p values ≡ true → Serves p values c → number ≤ last → last < 256
     → IsLongSectionOf (head_with p h last number) (body_row p c) (long_section (head_with p h last number) (body_row p c))
 first-made laws lawful p h values last number c sound head fit serve within small =
     let fits : values_fit p c.values ≡ true = ap (values_fit p) serve.same ∙ fit in
@@ -122,7 +122,7 @@ kept-numbers false (Some k) n l count fit first last = cc
 kept-numbers true None n l count fit first last = cc
 kept-numbers true (Some k) n l count fit first last = ap (λ x. Some (x, l)) first ∙ ap (λ x. Some (k.0, x)) last
 
-last-small : (keeps : Bool) (numbers : Option (ℕ × ℕ)) (count : ℕ) → numbers_fit keeps numbers ≡ true → count ≤ 256 → (numbers_of numbers count).1 < 256
+pub last-small : (keeps : Bool) (numbers : Option (ℕ × ℕ)) (count : ℕ) → numbers_fit keeps numbers ≡ true → count ≤ 256 → (numbers_of numbers count).1 < 256
 last-small false None count fit few = omega arith
 last-small false (Some k) count fit few = cc
 last-small true None count fit few = cc
@@ -143,15 +143,15 @@ few-behind : (single : Bool) (n : ℕ) → (single ≡ true → n ≡ 0) → (si
 few-behind true n none = rw (none refl) refl
 few-behind false n none = refl
 
-then_written : {A B P : Type 0} (r : Result A TableRefusal) (next : A → Result B TableRefusal) (y : B) → (writing.◌>>=◌ r next) ≡ Ok y → ((x : A) → r ≡ Ok x → next x ≡ Ok y → P) → P
+pub then_written : {A B P : Type 0} (r : Result A TableRefusal) (next : A → Result B TableRefusal) (y : B) → (writing.◌>>=◌ r next) ≡ Ok y → ((x : A) → r ≡ Ok x → next x ≡ Ok y → P) → P
 then_written (Ok x) next y is goal = goal x refl is
 then_written (Err refusal) next y is goal = cc
 
-none_numbered : (p : TablePage) (h : TableHead) (last number : ℕ) (cs : List BodyHolding) → cs ≡ [] → length (numbered p h last number (map (body_row p) cs)) ≡ 0
+pub none_numbered : (p : TablePage) (h : TableHead) (last number : ℕ) (cs : List BodyHolding) → cs ≡ [] → length (numbered p h last number (map (body_row p) cs)) ≡ 0
 unfolding numbered
 none_numbered p h last number cs none = ap (λ l. length (numbered p h last number (map (body_row p) l))) none
 
-first_numbered : (p : TablePage) (h : TableHead) (last number : ℕ) (c : BodyHolding) (cs : List BodyHolding) → numbered p h last number (map (body_row p) (c ∷ cs)) ≡ long_section (head_with p h last number) (body_row p c) ∷ numbered p h last (number + 1) (map (body_row p) cs)
+pub first_numbered : (p : TablePage) (h : TableHead) (last number : ℕ) (c : BodyHolding) (cs : List BodyHolding) → numbered p h last number (map (body_row p) (c ∷ cs)) ≡ long_section (head_with p h last number) (body_row p c) ∷ numbered p h last (number + 1) (map (body_row p) cs)
 unfolding numbered
 first_numbered p h last number c cs = refl
 
@@ -160,7 +160,7 @@ some_is None is = cc
 some_is (Some b) is = (b, refl)
 
 -- at most 256 sections, numbered
-counted : (p : TablePage) (h : TableHead) (rows ss : List (List ℕ)) → sections_with p h rows ≡ Ok ss → (length rows ≤ 256) × (numbered p h (numbers_of h.numbers (length rows)).1 (numbers_of h.numbers (length rows)).0 rows ≡ ss)
+pub counted : (p : TablePage) (h : TableHead) (rows ss : List (List ℕ)) → sections_with p h rows ≡ Ok ss → (length rows ≤ 256) × (numbered p h (numbers_of h.numbers (length rows)).1 (numbers_of h.numbers (length rows)).0 rows ≡ ss)
 counted p h rows ss = cond_both (nat_lt 256 (length rows)) _ _ (λ r. r ≡ Ok ss → (length rows ≤ 256) × (numbered p h (numbers_of h.numbers (length rows)).1 (numbers_of h.numbers (length rows)).0 rows ≡ ss))
     (λ many is. cc)
     (λ few is. (ltb-false 256 (length rows) few, cc))

@@ -13,3 +13,4 @@ mod AgainLoops
 mod AgainBody
 mod AgainPieces
 mod AgainRun
+mod AgainWhole

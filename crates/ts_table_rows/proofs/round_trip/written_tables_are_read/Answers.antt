@@ -1,5 +1,6 @@
 use Rattle.ts_table_rows.proofs.AgainBits.{ReadAgain}
 use Rattle.ts_table_rows.proofs.AgainRun.{written-again}
+use Rattle.ts_table_rows.proofs.AgainWhole.{written-whole}
 use Rattle.ts_table_rows.proofs.round_trip.written_tables_are_read.Goals as goal
 
 pub returns : goal.returns
@@ -17,4 +18,7 @@ returns c =
       spelled = c.read_bytes_are_spelled.ensures;
       loop = c.loops_are_whole_or_cut.ensures.again;
     } in
-    λ p h sound fits some ss is. written-again laws c.made_sections_are_lawful.ensures.long p h ss sound fits some is
+    record {
+      again = λ p h sound fits some ss is. written-again laws c.made_sections_are_lawful.ensures.long p h ss sound fits some is;
+      whole = λ p h sound runs fits some ss is. written-whole laws c.made_sections_are_lawful.ensures.long p h ss sound runs fits some is;
+    }
