@@ -1,6 +1,6 @@
 -- PAT, CAT and PMT that are written are read again.
-use Rattle.std.proofs.Common.{◌≡◌, ℕ, Bool, true, false, List, [], ◌∷◌, ◌++◌, map, refl, sym, ap, ◌∙◌, subst}
-use Rattle.std.specs.Prelude.{IsTrue, ◌&&◌, not, nat_eq, Option, Some, None, filter, find, option_to_list, Result, Ok, if◌then◌else◌}
+use Rattle.std.proofs.Common.{◌≡◌, ℕ, true, false, List, [], ◌∷◌, ◌++◌, map, refl, sym, ap, ◌∙◌, subst}
+use Rattle.std.specs.Prelude.{IsTrue, not, Option, Some, None, filter, find, option_to_list, Ok}
 use Rattle.std.specs.List.{list_all}
 use Rattle.std.proofs.lemmas.Bool.{and_parts, not-true}
 use Rattle.ts_section.specs.SectionRun.{IsTableRun}
@@ -8,11 +8,11 @@ use Rattle.ts_table_rows.specs.TablePages.{TablePage, page_sound}
 use Rattle.ts_table_rows.specs.TableFitting.{DescriptorsFit, item_fits, table_fits}
 use Rattle.ts_table_rows.specs.TableSections.{sections_of}
 use Rattle.ts_table_rows.specs.RoundTrip.{IsReadAgain, IsWrittenWhole, forms_runs}
-use Rattle.ts_table_rows.specs.TableValues.{ItemHolding, BodyHolding, TableHolding}
-use Rattle.ts_table_rows.specs.RunReading.{FirstBroken, read_run, ◌>>=◌}
+use Rattle.ts_table_rows.specs.TableValues.{ItemHolding, TableHolding}
+use Rattle.ts_table_rows.specs.RunReading.{read_run}
 use Rattle.ts_psi.specs.PsiPages.{entry_page, pat_page, cat_page}
 use Rattle.ts_psi.specs.PatTables.{entry_item, service_item, network_items, is_network, service_serves, ordered, pat_held, pat_table, read_pat}
-use Rattle.ts_psi.specs.CatTables.{cat_held, cat_table, read_cat}
+use Rattle.ts_psi.specs.CatTables.{cat_held, read_cat}
 use Rattle.ts_psi.specs.declared.cat.Cat.{Cat}
 use Rattle.ts_psi.specs.declared.pat.Pat.{Pat}
 

@@ -1,12 +1,12 @@
 -- What PAT, CAT and PMT hold fits their layouts.
-use Rattle.std.proofs.Common.{◌≡◌, ℕ, ◌+◌, ◌^◌, ◌<◌, Bool, true, false, List, [], ◌∷◌, ◌++◌, map, refl, sym, ap, ◌∙◌, arith}
+use Rattle.std.proofs.Common.{◌≡◌, ℕ, ◌^◌, ◌<◌, Bool, true, false, List, [], ◌∷◌, ◌++◌, map, refl, ap, arith}
 use Rattle.std.specs.Prelude.{◌&&◌, is_some, not, nat_eq, nat_lt, Option, Some, None}
 use Rattle.std.specs.List.{list_all}
 use Rattle.std.specs.Option.{ForSome}
 use Rattle.std.proofs.lemmas.Bool.{and_from, and_parts, lt-ltb, not-true, not_from_false, ne_eqb}
-use Rattle.ts_fields.specs.Layout.{Held, number}
+use Rattle.ts_fields.specs.Layout.{number}
 use Rattle.ts_fields.specs.Fitting.{fits}
-use Rattle.ts_table_rows.specs.TableValues.{ItemHolding, TableHolding}
+use Rattle.ts_table_rows.specs.TableValues.{ItemHolding}
 use Rattle.ts_table_rows.specs.TableFitting.{item_fits, zeros_from, head_fits, body_fits, table_fits}
 use Rattle.ts_psi.specs.PsiPages.{component_page, entry_page, pmt_head_rows, cat_page, pat_page, pmt_page}
 use Rattle.ts_psi.specs.PsiTables.{component_item, pmt_held}

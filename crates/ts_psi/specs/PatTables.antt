@@ -1,9 +1,9 @@
 -- A PAT as a table.
 -- ISO/IEC 13818-1, 2.4.4.3 to 2.4.4.5: program_number 0 has the network PID. That the network entry is told first is
 -- this project's own rule.
-use Rattle.std.specs.Prelude.{ℕ, List, [], ◌∷◌, ◌++◌, map, filter, find, Bool, not, ◌&&◌, Option, Some, None, option_to_list, Result, Ok, Err}
-use Rattle.ts_fields.specs.Layout.{Held, number}
-use Rattle.ts_table_rows.specs.TableValues.{ItemHolding, BodyHolding, TableHolding}
+use Rattle.std.specs.Prelude.{ℕ, List, [], ◌∷◌, ◌++◌, map, filter, find, Bool, not, ◌&&◌, Option, Some, None, option_to_list, Result, Ok}
+use Rattle.ts_fields.specs.Layout.{number}
+use Rattle.ts_table_rows.specs.TableValues.{ItemHolding, TableHolding}
 use Rattle.ts_table_rows.specs.BodyReading.{first_number, is_zero}
 use Rattle.ts_table_rows.specs.RunReading.{FirstBroken, read_run, ◌>>=◌}
 use Rattle.ts_psi.specs.PsiPages.{entry_page, pat_page}

@@ -1,6 +1,6 @@
 -- PAT, CAT and PMT as the standard lays them out.
 -- ISO/IEC 13818-1, 2.4.4.3 (PAT), 2.4.4.6 (CAT), 2.4.4.8 (PMT): at most 1021 bytes behind section_length.
-use Rattle.std.specs.Prelude.{ℕ, List, [], ◌∷◌, codes, Bool, true, false, Option, Some, None}
+use Rattle.std.specs.Prelude.{ℕ, List, [], ◌∷◌, codes, true, false, Some, None}
 use Rattle.ts_fields.specs.declared.field.Kind.{Kind}
 use Rattle.ts_fields.specs.declared.field.Kind.TheVariants.{Number, Free}
 use Rattle.ts_fields.specs.Layout.{Row}

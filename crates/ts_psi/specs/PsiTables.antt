@@ -1,8 +1,8 @@
 -- PAT, CAT and PMT as tables.
 -- ISO/IEC 13818-1, 2.4.4.3 to 2.4.4.9.
-use Rattle.std.specs.Prelude.{ℕ, List, [], ◌∷◌, ◌++◌, map, Bool, true, false, Option, Some, None}
-use Rattle.ts_fields.specs.Layout.{Held, number}
-use Rattle.ts_table_rows.specs.TableValues.{ItemHolding, BodyHolding, TableHolding}
+use Rattle.std.specs.Prelude.{[], ◌∷◌, map, None}
+use Rattle.ts_fields.specs.Layout.{number}
+use Rattle.ts_table_rows.specs.TableValues.{ItemHolding, TableHolding}
 use Rattle.ts_psi.specs.declared.pmt.Component.{Component}
 use Rattle.ts_psi.specs.declared.pmt.Pmt.{Pmt}
 

@@ -9,7 +9,9 @@ use std::alloc::{AllocError, Global};
 use std::marker::Model;
 use ts_bits::DescriptorList;
 use ts_section::{Section, TableRun};
-use ts_table_rows::{Table, TableBody, TableFault, TableRefusal, read_table, write_table, written_tables_are_read};
+use ts_table_rows::{
+    Table, TableBody, TableFault, TableRefusal, read_table, write_table, written_tables_are_read,
+};
 
 /// A service, and the PID of its PMT.
 #[derive(Debug, Clone, Copy)]

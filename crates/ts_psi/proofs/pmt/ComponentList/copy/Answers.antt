@@ -1,4 +1,4 @@
-use Rattle.std.proofs.Common.{◌≡◌, map, ap, ◌∙◌}
+use Rattle.std.proofs.Common.{map, ap, ◌∙◌}
 use Rattle.ts_psi.specs.PsiTables.{component_item}
 use Rattle.ts_psi.proofs.ListLemmas.{map_one_more, map_all}
 use Rattle.ts_psi.proofs.pmt.ComponentList.copy.Goals as goal

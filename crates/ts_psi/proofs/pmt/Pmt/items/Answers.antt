@@ -1,4 +1,3 @@
-use Rattle.std.proofs.Common.{◌≡◌, map}
 use Rattle.ts_table_rows.specs.TableFitting.{item_fits}
 use Rattle.ts_table_rows.specs.TableValues.{item_held}
 use Rattle.ts_psi.specs.PsiPages.{component_page}
