@@ -44,24 +44,12 @@ pat_ordered p services = ap (with_items p) (entries-ordered p.network_pid (map s
 
 -- ---- runs
 
--- what the layer below ensures of tables that are written
-abbrev pub AllReadAgain : Type 0
-AllReadAgain = (p : TablePage) (h : TableHolding) → IsTrue (page_sound p) → table_fits p h ≡ true → DescriptorsFit h.body → IsReadAgain p h
+-- a run that holds a table of the code's holds the one that this table is
+pub read_again : (p q : TablePage) (h k : TableHolding) (ss : List (List ℕ)) → q ≡ p → k ≡ h → read_run q ss ≡ Ok k → read_run p ss ≡ Ok h
+read_again p q h k ss page held read = ap (λ x. read_run x ss) (sym page) ∙ read ∙ ap Ok held
 
-abbrev pub AllWrittenWhole : Type 0
-AllWrittenWhole = (p : TablePage) (h : TableHolding) → IsTrue (page_sound p) → forms_runs p ≡ true → table_fits p h ≡ true → DescriptorsFit h.body → IsWrittenWhole p h
-
--- the sections of a table of the code's are those of the table that it holds
-same_sections : (p q : TablePage) (h k : TableHolding) (ss : List (List ℕ)) → q ≡ p → k ≡ h → sections_of q k ≡ Ok ss → sections_of p h ≡ Ok ss
-same_sections p q h k ss page held is = ap (sections_of p) (sym held) ∙ ap (λ x. sections_of x k) (sym page) ∙ is
-
-pub read_again : AllReadAgain → (p q : TablePage) (h k : TableHolding) (ss : List (List ℕ)) → q ≡ p → k ≡ h → IsTrue (page_sound p) → table_fits p h ≡ true → DescriptorsFit k.body → sections_of q k ≡ Ok ss → read_run p ss ≡ Ok h
-read_again law p q h k ss page held sound fits some is =
-    law p h sound fits (subst (λ t. DescriptorsFit t.body) held some) ss (same_sections p q h k ss page held is)
-
-pub written_whole : AllWrittenWhole → (p q : TablePage) (h k : TableHolding) (ss : List (List ℕ)) → q ≡ p → k ≡ h → IsTrue (page_sound p) → forms_runs p ≡ true → table_fits p h ≡ true → DescriptorsFit k.body → sections_of q k ≡ Ok ss → IsTableRun ss
-written_whole law p q h k ss page held sound runs fits some is =
-    law p h sound runs fits (subst (λ t. DescriptorsFit t.body) held some) ss (same_sections p q h k ss page held is)
+pub written_whole : (p q : TablePage) (ss : List (List ℕ)) → q ≡ p → forms_runs p ≡ true → (forms_runs q ≡ true → IsTableRun ss) → IsTableRun ss
+written_whole p q ss page runs whole = whole (ap forms_runs page ∙ runs)
 
 pub pat_again : (p : Pat) (ss : List (List ℕ)) → pat_table (pat_held p) ≡ pat_held p → read_run pat_page ss ≡ Ok (pat_held p) → read_pat ss ≡ Ok (pat_held p)
 pat_again p ss own read = rw read (ap Ok own)

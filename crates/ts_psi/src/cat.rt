@@ -8,7 +8,6 @@ use ts_bits::DescriptorList;
 use ts_section::{Section, TableRun};
 use ts_table_rows::{
     Table, TableBody, TableFault, TableHead, TableRefusal, read_table, write_table,
-    written_tables_are_read,
 };
 
 /// A conditional access table.
@@ -83,8 +82,6 @@ impl Cat {
         ensures whole { IfOk result (λ v. IsTableRun v.items) }
         ensures again { IfOk result (λ v. read_cat v.items ≡ Ok (cat_held self.now)) }
     {
-        // A law, which runs nothing.
-        written_tables_are_read();
         let table = self.table(alloc)?;
         let sections = write_table(alloc, cat_layout(), &table)?;
         Ok(sections)

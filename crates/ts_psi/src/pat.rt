@@ -9,9 +9,7 @@ use std::alloc::{AllocError, Global};
 use std::marker::Model;
 use ts_bits::DescriptorList;
 use ts_section::{Section, TableRun};
-use ts_table_rows::{
-    Table, TableBody, TableFault, TableRefusal, read_table, write_table, written_tables_are_read,
-};
+use ts_table_rows::{Table, TableBody, TableFault, TableRefusal, read_table, write_table};
 
 /// A service, and the PID of its PMT.
 #[derive(Debug, Clone, Copy)]
@@ -151,8 +149,6 @@ impl Pat {
         ensures whole { IfOk result (λ v. IsTableRun v.items) }
         ensures again { IfOk result (λ v. read_pat v.items ≡ Ok (pat_held self.now)) }
     {
-        // A law, which runs nothing.
-        written_tables_are_read();
         let table = self.table(alloc)?;
         let sections = write_table(alloc, pat_layout(), &table)?;
         Ok(sections)

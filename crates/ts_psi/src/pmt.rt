@@ -11,7 +11,6 @@ use ts_fields::FieldValue;
 use ts_section::{Section, TableRun};
 use ts_table_rows::{
     Table, TableBody, TableFault, TableHead, TableItem, TableRefusal, read_table, write_table,
-    written_tables_are_read,
 };
 
 /// One elementary stream of a program.
@@ -268,8 +267,6 @@ impl Pmt {
         ensures whole { IfOk result (λ v. IsTableRun v.items) }
         ensures again { IfOk result (λ v. read_run pmt_page v.items ≡ Ok (pmt_held self.now)) }
     {
-        // A law, which runs nothing.
-        written_tables_are_read();
         let table = self.table(alloc)?;
         let sections = write_table(alloc, pmt_layout(), &table)?;
         Ok(sections)

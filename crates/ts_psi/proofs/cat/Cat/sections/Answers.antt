@@ -8,11 +8,9 @@ use Rattle.ts_psi.proofs.cat.Cat.sections.Goals as goal
 
 pub returns-clause-whole : goal.returns-clause-whole
 returns-clause-whole c =
-    written_whole c.written_tables_are_read.ensures.whole cat_page (table_page c.cat_layout.result.now) (cat_held c.args.self.now) (table_held c.in_ok-table.table) c.in_ok-sections.sections.items c.cat_layout.ensures.page c.in_ok-table.ensures.held c.cat_layout.ensures.sound refl c.in_ok-table.ensures.fits
-    c.in_ok-sections.ensures.fit c.in_ok-sections.ensures.written
+    written_whole cat_page (table_page c.cat_layout.result.now) c.in_ok-sections.sections.items c.cat_layout.ensures.page refl c.in_ok-sections.ensures.whole
 
 pub returns-clause-again : goal.returns-clause-again
 returns-clause-again c =
     cat_again c.args.self.now c.in_ok-sections.sections.items
-    (read_again c.written_tables_are_read.ensures.again cat_page (table_page c.cat_layout.result.now) (cat_held c.args.self.now) (table_held c.in_ok-table.table) c.in_ok-sections.sections.items c.cat_layout.ensures.page c.in_ok-table.ensures.held c.cat_layout.ensures.sound c.in_ok-table.ensures.fits
-    c.in_ok-sections.ensures.fit c.in_ok-sections.ensures.written)
+    (read_again cat_page (table_page c.cat_layout.result.now) (cat_held c.args.self.now) (table_held c.in_ok-table.table) c.in_ok-sections.sections.items c.cat_layout.ensures.page c.in_ok-table.ensures.held c.in_ok-sections.ensures.again)

@@ -8,11 +8,9 @@ use Rattle.ts_psi.proofs.pat.Pat.sections.Goals as goal
 
 pub returns-clause-whole : goal.returns-clause-whole
 returns-clause-whole c =
-    written_whole c.written_tables_are_read.ensures.whole pat_page (table_page c.pat_layout.result.now) (pat_held c.args.self.now) (table_held c.in_ok-table.table) c.in_ok-sections.sections.items c.pat_layout.ensures.page c.in_ok-table.ensures.held c.pat_layout.ensures.sound refl c.in_ok-table.ensures.fits
-    c.in_ok-sections.ensures.fit c.in_ok-sections.ensures.written
+    written_whole pat_page (table_page c.pat_layout.result.now) c.in_ok-sections.sections.items c.pat_layout.ensures.page refl c.in_ok-sections.ensures.whole
 
 pub returns-clause-again : goal.returns-clause-again
 returns-clause-again c =
     pat_again c.args.self.now c.in_ok-sections.sections.items c.in_ok-table.ensures.ordered
-    (read_again c.written_tables_are_read.ensures.again pat_page (table_page c.pat_layout.result.now) (pat_held c.args.self.now) (table_held c.in_ok-table.table) c.in_ok-sections.sections.items c.pat_layout.ensures.page c.in_ok-table.ensures.held c.pat_layout.ensures.sound c.in_ok-table.ensures.fits
-    c.in_ok-sections.ensures.fit c.in_ok-sections.ensures.written)
+    (read_again pat_page (table_page c.pat_layout.result.now) (pat_held c.args.self.now) (table_held c.in_ok-table.table) c.in_ok-sections.sections.items c.pat_layout.ensures.page c.in_ok-table.ensures.held c.in_ok-sections.ensures.again)

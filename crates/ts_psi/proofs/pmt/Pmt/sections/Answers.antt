@@ -8,10 +8,8 @@ use Rattle.ts_psi.proofs.pmt.Pmt.sections.Goals as goal
 
 pub returns-clause-whole : goal.returns-clause-whole
 returns-clause-whole c =
-    written_whole c.written_tables_are_read.ensures.whole pmt_page (table_page c.pmt_layout.result.now) (pmt_held c.args.self.now) (table_held c.in_ok-table.table) c.in_ok-sections.sections.items c.pmt_layout.ensures.page c.in_ok-table.ensures.held c.pmt_layout.ensures.sound refl c.in_ok-table.ensures.fits
-    c.in_ok-sections.ensures.fit c.in_ok-sections.ensures.written
+    written_whole pmt_page (table_page c.pmt_layout.result.now) c.in_ok-sections.sections.items c.pmt_layout.ensures.page refl c.in_ok-sections.ensures.whole
 
 pub returns-clause-again : goal.returns-clause-again
 returns-clause-again c =
-    read_again c.written_tables_are_read.ensures.again pmt_page (table_page c.pmt_layout.result.now) (pmt_held c.args.self.now) (table_held c.in_ok-table.table) c.in_ok-sections.sections.items c.pmt_layout.ensures.page c.in_ok-table.ensures.held c.pmt_layout.ensures.sound c.in_ok-table.ensures.fits
-    c.in_ok-sections.ensures.fit c.in_ok-sections.ensures.written
+    read_again pmt_page (table_page c.pmt_layout.result.now) (pmt_held c.args.self.now) (table_held c.in_ok-table.table) c.in_ok-sections.sections.items c.pmt_layout.ensures.page c.in_ok-table.ensures.held c.in_ok-sections.ensures.again
