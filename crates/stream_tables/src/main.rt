@@ -1,12 +1,17 @@
-//! Prints the sections and the tables of some PIDs of three real streams, each as it is complete.
-//! The streams were made by other people's tools; what is printed has to be what other tools read from them.
+//! Prints the sections and the tables of some PIDs of a stream, each as it is complete: of three real streams, or
+//! of the stream that the first word names, of the PIDs that the others name. The three streams were made by other
+//! people's tools; what is printed has to be what other tools read from them (`tests/layouts`).
 #![tactic(auto)]
 
-use anyhow::Result;
-use std::fs;
-use ts_demux::{Assembly, Demux};
-use ts_packet::{NULL_PID, PACKET_SIZE, Packet};
-use ts_section::Section;
+mod pid;
+mod psi;
+mod table;
+mod written;
+
+use crate::pid::print_pid;
+use anyhow::{Context, Result};
+use std::fs::Files;
+use std::{env, fs};
 
 /// A stream, and its PIDs that carry sections.
 struct Stream {
@@ -30,50 +35,29 @@ const STREAMS: [Stream; 3] = [
 ];
 
 fn main(rt: HostRuntime) -> Result<()> {
+    let mut words = env::args(&rt)?;
+    let _name = words.next();
+    let Some(name) = words.next() else {
+        return print_stored(&rt);
+    };
+    let bytes = fs::read(&rt, name.as_str())?;
+    for word in words {
+        let pid = word
+            .parse::<u16>()
+            .context(format_args!("reading {word:?}"))?;
+        print_pid(&rt, pid, bytes.as_slice())?;
+    }
+    Ok(())
+}
+
+/// Prints the three streams that lie beside the program.
+fn print_stored(rt: &(impl Print + AllocGlobal + Files)) -> Result<()> {
     for stream in &STREAMS {
         println!(rt; "{}", stream.name)?;
-        let bytes = fs::read(&rt, stream.name)?;
+        let bytes = fs::read(rt, stream.name)?;
         for pid in stream.pids {
-            print_pid(&rt, *pid, bytes.as_slice())?;
+            print_pid(rt, *pid, bytes.as_slice())?;
         }
-    }
-    Ok(())
-}
-
-/// Prints the sections and tables of one PID.
-fn print_pid(rt: &(impl Print + AllocGlobal), pid: u16, stream: &[u8]) -> Result<()> {
-    if pid > NULL_PID {
-        return Ok(());
-    }
-    let mut demux = Demux::new(rt.alloc(), pid)?;
-    let mut assembly = Assembly::new(rt.alloc())?;
-    let mut left = stream;
-    while let Some((row, rest)) = left.split_first_chunk::<PACKET_SIZE>() {
-        if let Ok(packet) = Packet::of(row) {
-            for _ in 0..demux.feed(&packet)? {
-                if let Some(section) = demux.next_section() {
-                    print_section(rt, pid, &section)?;
-                    if let Some(table) = assembly.add(section)? {
-                        println!(rt; "pid {pid} table of {} sections", table.sections().len())?;
-                    }
-                }
-            }
-        }
-        left = rest;
-    }
-    Ok(())
-}
-
-/// Prints the table_id of a section, its section_length, and the CRC of the long form.
-fn print_section(rt: &impl Print, pid: u16, section: &Section) -> Result<()> {
-    let bytes = section.bytes();
-    let id = section.table_id();
-    let length = bytes.len().saturating_sub(3);
-    match (section.is_long(), bytes) {
-        (true, [.., a, b, c, d]) => {
-            println!(rt; "pid {pid} id {id} length {length} crc {a:02x}{b:02x}{c:02x}{d:02x}")?
-        }
-        _ => println!(rt; "pid {pid} id {id} length {length}")?,
     }
     Ok(())
 }

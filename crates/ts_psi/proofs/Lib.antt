@@ -1,2 +1,3 @@
 mod FitLemmas
 mod EntryLemmas
+mod AgainLemmas

@@ -23,7 +23,8 @@ pub struct Cat {
 }
 
 impl Cat {
-    ghost use Rattle.std.specs.Prelude.{◌≡◌, IfOk, OnOk, true};
+    ghost use Rattle.std.specs.Prelude.{◌≡◌, IfOk, Ok, OnOk, true};
+    ghost use Rattle.ts_section.specs.SectionRun.{IsTableRun};
     ghost use Rattle.ts_table_rows.specs.RunReading.{Tells};
     ghost use Rattle.ts_table_rows.specs.TableFitting.{table_fits};
     ghost use Rattle.ts_table_rows.specs.TableSections.{Writes, sections_of};
@@ -74,9 +75,12 @@ impl Cat {
     }
 
     /// The sections of the CAT, filled in order. `TooLarge` comes where a descriptor alone would pass a
-    /// section_length of 1021, `TooMany` where more than 256 sections would be needed.
+    /// section_length of 1021, `TooMany` where more than 256 sections would be needed. They are a whole run,
+    /// and reading them gives the CAT.
     pub fn sections(&self, alloc: Global) -> Result<Vec<Section>, TableRefusal>
-        ensures { Writes (λ v. v.items) result (sections_of cat_page (cat_held self.now)) }
+        ensures written { Writes (λ v. v.items) result (sections_of cat_page (cat_held self.now)) }
+        ensures whole { IfOk result (λ v. IsTableRun v.items) }
+        ensures again { IfOk result (λ v. read_cat v.items ≡ Ok (cat_held self.now)) }
     {
         let table = self.table(alloc)?;
         let sections = write_table(alloc, cat_layout(), &table)?;

@@ -89,7 +89,8 @@ pub struct Pat {
 }
 
 impl Pat {
-    ghost use Rattle.std.specs.Prelude.{◌≡◌, IfOk, OnOk, true};
+    ghost use Rattle.std.specs.Prelude.{◌≡◌, IfOk, Ok, OnOk, true};
+    ghost use Rattle.ts_section.specs.SectionRun.{IsTableRun};
     ghost use Rattle.ts_table_rows.specs.RunReading.{Tells};
     ghost use Rattle.ts_table_rows.specs.TableFitting.{table_fits};
     ghost use Rattle.ts_table_rows.specs.TableSections.{Writes, sections_of};
@@ -118,6 +119,7 @@ impl Pat {
     fn table(&self, alloc: Global) -> Result<Table, AllocError>
         ensures held { IfOk result (λ t. table_held t ≡ pat_held self.now) }
         ensures fits { OnOk result (table_fits pat_page (pat_held self.now) ≡ true) }
+        ensures ordered { OnOk result (pat_table (pat_held self.now) ≡ pat_held self.now) }
     {
         let head = pat_head(self.stream_id, self.version, self.current);
         let mut items = network_rows(alloc, self.network_pid)?;
@@ -141,9 +143,11 @@ impl Pat {
     }
 
     /// The sections of the PAT, filled in order, the network entry first. `TooMany` comes where more than
-    /// 256 sections would be needed.
+    /// 256 sections would be needed. They are a whole run, and reading them gives the PAT.
     pub fn sections(&self, alloc: Global) -> Result<Vec<Section>, TableRefusal>
-        ensures { Writes (λ v. v.items) result (sections_of pat_page (pat_held self.now)) }
+        ensures written { Writes (λ v. v.items) result (sections_of pat_page (pat_held self.now)) }
+        ensures whole { IfOk result (λ v. IsTableRun v.items) }
+        ensures again { IfOk result (λ v. read_pat v.items ≡ Ok (pat_held self.now)) }
     {
         let table = self.table(alloc)?;
         let sections = write_table(alloc, pat_layout(), &table)?;

@@ -153,8 +153,9 @@ pub struct Pmt {
 }
 
 impl Pmt {
-    ghost use Rattle.std.specs.Prelude.{◌≡◌, [], ◌∷◌, ◌++◌, IfOk, OnOk, map, true};
+    ghost use Rattle.std.specs.Prelude.{◌≡◌, [], ◌∷◌, ◌++◌, IfOk, Ok, OnOk, map, true};
     ghost use Rattle.std.specs.List.{list_all};
+    ghost use Rattle.ts_section.specs.SectionRun.{IsTableRun};
     ghost use Rattle.ts_table_rows.specs.RunReading.{Tells, read_run};
     ghost use Rattle.ts_table_rows.specs.TableFitting.{item_fits, table_fits};
     ghost use Rattle.ts_table_rows.specs.TableSections.{Writes, sections_of};
@@ -259,9 +260,12 @@ impl Pmt {
         Ok(pmt)
     }
 
-    /// The one section of the PMT; `TooLarge` exactly where its section_length would pass 1021.
+    /// The one section of the PMT; `TooLarge` exactly where its section_length would pass 1021. It is a whole
+    /// run, and reading it gives the PMT.
     pub fn sections(&self, alloc: Global) -> Result<Vec<Section>, TableRefusal>
-        ensures { Writes (λ v. v.items) result (sections_of pmt_page (pmt_held self.now)) }
+        ensures written { Writes (λ v. v.items) result (sections_of pmt_page (pmt_held self.now)) }
+        ensures whole { IfOk result (λ v. IsTableRun v.items) }
+        ensures again { IfOk result (λ v. read_run pmt_page v.items ≡ Ok (pmt_held self.now)) }
     {
         let table = self.table(alloc)?;
         let sections = write_table(alloc, pmt_layout(), &table)?;

@@ -2,7 +2,7 @@
 use Rattle.std.proofs.Common.{◌≡◌, ℕ, zero, suc, ◌+◌, ◌-◌, ◌*◌, ◌/◌, ◌<◌, ◌≤◌, Bool, true, false, List, [], ◌∷◌, ◌++◌, length, take, drop, map, refl, sym, ap, ◌∙◌, subst, arith, Vec, Global, append_assoc, append-nil, length-append}
 use Rattle.std.specs.Prelude.{All, IsTrue, not, ◌||◌, nat_le, nat_lt, if◌then◌else◌, Result, Ok, Err, Option, Some, None}
 use Rattle.std.specs.List.{flat_map}
-use Rattle.std.proofs.lemmas.Bool.{leb-true, le-leb, ltb-false, lt-ltb, cond_both, false≢true}
+use Rattle.std.proofs.lemmas.Bool.{leb-true, le-leb, ltb-false, cond_both, false≢true}
 use Rattle.std.proofs.lemmas.List.{map-append, length-map, length-drop}
 use Rattle.std.proofs.lemmas.List.Elements.{All-cons, All-nil, All-map, All-weaker}
 use Rattle.ts_bits.specs.TaggedBody.{TaggedBody, descriptor_bytes, loop_bytes}
@@ -14,11 +14,10 @@ use Rattle.ts_table_rows.specs.declared.layout.LoopForm.{LoopForm}
 use Rattle.ts_table_rows.specs.declared.layout.LoopForm.TheVariants.{Absent, Counted, ToEnd}
 use Rattle.ts_table_rows.specs.TablePages.{ItemPage, TablePage, page_sound}
 use Rattle.ts_table_rows.specs.TableValues.{ItemHolding, BodyHolding, TableHolding}
-use Rattle.ts_table_rows.specs.TableFitting.{values_fit}
 use Rattle.ts_table_rows.specs.Filling.{pieces}
-use Rattle.ts_table_rows.specs.BodySpelling.{read_row, bytes_of, item_row, spell_parts, body_row, common_values, head_values}
-use Rattle.ts_table_rows.specs.TableSections.{Thing, own_thing, item_thing, things, owns_in, items_in, piece_body, thing_row, thing_size, empty_length, room_in, first_large, plus, above, section_bodies, needed_length, unless_large, body_rows, told_length, sections_with, sections_of, IsRefusal}
-use Rattle.ts_table_rows.specs.FilledRows.{thing_view, own_row, item_kind_row, kind_row, nothing, with_thing, filled, gathered, large_row, row_with, least_length, filled_rows, single_row, rows_by, AreSmall, AreFilled}
+use Rattle.ts_table_rows.specs.BodySpelling.{read_row, bytes_of, item_row, spell_parts, body_row}
+use Rattle.ts_table_rows.specs.TableSections.{Thing, own_thing, item_thing, things, owns_in, items_in, piece_body, thing_row, thing_size, empty_length, first_large, plus, above, unless_large, body_rows, told_length, sections_with, sections_of, IsRefusal}
+use Rattle.ts_table_rows.specs.FilledRows.{thing_view, kind_row, nothing, with_thing, filled, gathered, large_row, row_with, least_length, filled_rows, single_row, rows_by, AreSmall, AreFilled}
 use Rattle.ts_table_rows.specs.declared.filling.ThingRow.{ThingRow}
 use Rattle.ts_table_rows.specs.declared.fault.TableRefusal.{TableRefusal}
 use Rattle.ts_table_rows.specs.declared.fault.TableRefusal.TheVariants.{TooLarge, TooMany, NoMemory}
@@ -32,7 +31,7 @@ kind-size i (own_thing d) = refl
 kind-size i (item_thing x) = refl
 
 -- the bytes of a piece
-abbrev piece_rows : Option ItemPage → List Thing → List ℕ × List ℕ
+abbrev pub piece_rows : Option ItemPage → List Thing → List ℕ × List ℕ
 piece_rows i piece = (loop_bytes (owns_in piece), flat_map (item_row i) (items_in piece))
 
 gathered-from : (i : Option ItemPage) (a b : List ℕ) (piece : List Thing) → gathered (a, b) (map (kind_row i) piece) ≡ (a ++ loop_bytes (owns_in piece), b ++ flat_map (item_row i) (items_in piece))
@@ -99,12 +98,12 @@ bodies-same p b room =
     (λ piece. ap (row_with p b.values) (gathered-piece p.items piece))
     ∙ sym (map-map (piece_body b.values) (body_row p) ps)
 
-owns-things : (ds : List TaggedBody) (xs : List ItemHolding) → owns_in (map own_thing ds ++ map item_thing xs) ≡ ds
+pub owns-things : (ds : List TaggedBody) (xs : List ItemHolding) → owns_in (map own_thing ds ++ map item_thing xs) ≡ ds
 owns-things [] [] = refl
 owns-things [] (x ∷ xs) = owns-things [] xs
 owns-things (d ∷ ds) xs = ap (λ l. d ∷ l) (owns-things ds xs)
 
-items-things : (ds : List TaggedBody) (xs : List ItemHolding) → items_in (map own_thing ds ++ map item_thing xs) ≡ xs
+pub items-things : (ds : List TaggedBody) (xs : List ItemHolding) → items_in (map own_thing ds ++ map item_thing xs) ≡ xs
 items-things [] [] = refl
 items-things [] (x ∷ xs) = ap (λ l. x ∷ l) (items-things [] xs)
 items-things (d ∷ ds) xs = items-things ds xs
@@ -135,7 +134,7 @@ rows_are_bodies p b =
 -- ---- each body is small
 
 -- bytes that are there are read
-all_read : (n : ℕ) (bs : List Bool) → 8 * n ≤ length bs → (x : List ℕ × List Bool) × (read_bytes n bs ≡ Some x) × (length x.0 ≡ n)
+pub all_read : (n : ℕ) (bs : List Bool) → 8 * n ≤ length bs → (x : List ℕ × List Bool) × (read_bytes n bs ≡ Some x) × (length x.0 ≡ n)
 unfolding read_bytes read_number
 all_read zero bs enough = (([], bs), refl, refl)
 all_read (suc n) bs enough =
@@ -197,7 +196,7 @@ with_thing-size hand x = by_kind x.0 hand.0 hand.1 x.1
     by_kind true a b row = omega (arith, length-append b row)
     by_kind false a b row = omega (arith, length-append a row)
 
-some_none : (n : ℕ) → ◌≡◌ {A = Option ℕ} (Some n) None → ⊥
+pub some_none : (n : ℕ) → ◌≡◌ {A = Option ℕ} (Some n) None → ⊥
 some_none n is = cc
 
 -- each piece is within the room where each thing is
@@ -227,15 +226,15 @@ rows-small laws p values room pieces most fit =
     All-map (λ row. length row ≤ 4084) (row_with p values) pieces
     (All-weaker (λ piece. piece_size piece ≤ room) (λ piece. length (row_with p values piece) ≤ 4084) (λ piece h. omega (arith, row-size laws p values piece, h)) pieces fit)
 
-unless-ok : (o : Option ℕ) (bodies rows : List (List ℕ)) → unless_large o bodies ≡ Ok rows → (o ≡ None) × (bodies ≡ rows)
+pub unless-ok : (o : Option ℕ) (bodies rows : List (List ℕ)) → unless_large o bodies ≡ Ok rows → (o ≡ None) × (bodies ≡ rows)
 unless-ok None bodies rows is = (refl, let e : bodies ≡ rows = cc in e)
 unless-ok (Some n) bodies rows is = cc
 
-plus-none : (n : ℕ) (o : Option ℕ) → plus n o ≡ None → o ≡ None
+pub plus-none : (n : ℕ) (o : Option ℕ) → plus n o ≡ None → o ≡ None
 plus-none n None is = refl
 plus-none n (Some m) is = cc
 
-above-none : (most n : ℕ) → above most n ≡ None → n ≤ most
+pub above-none : (most n : ℕ) → above most n ≡ None → n ≤ most
 above-none most n = cond_both (nat_lt most n) _ _ (λ o. o ≡ None → n ≤ most) (λ large is. absurd (some_none n is)) (λ small is. ltb-false most n small)
 
 pub rows_are_small : SpelledBits → (p : TablePage) (values : List Held) (xs : List (Bool × List ℕ)) (rows : List (List ℕ)) → IsTrue (page_sound p) → rows_by p values xs ≡ Ok rows → AreFilled p rows

@@ -1,12 +1,11 @@
 -- Things as bytes, put into pieces one after another.
 use Rattle.std.proofs.Common.{◌≡◌, ℕ, zero, suc, ◌+◌, ◌<◌, ◌≤◌, Bool, true, false, List, [], ◌∷◌, ◌++◌, length, take, drop, get_or, map, refl, sym, ap, ◌∙◌, subst, arith, append_assoc}
-use Rattle.std.specs.Prelude.{All, nat_le, nat_lt, ◌&&◌, ◌||◌, if◌then◌else◌, Option, Some, None}
+use Rattle.std.specs.Prelude.{All, nat_le, nat_lt, ◌||◌, if◌then◌else◌, Option, Some, None}
 use Rattle.std.specs.List.{list_all}
-use Rattle.std.proofs.lemmas.Bool.{leb-true, leb-false, lt-ltb, le-ltb, and_parts}
+use Rattle.std.proofs.lemmas.Bool.{lt-ltb, le-ltb, and_parts}
 use Rattle.std.proofs.lemmas.List.{drop_more, drop_all, take_more, take_all, map-append}
 use Rattle.std.proofs.lemmas.List.Elements.{All-push, All-nil}
 use Rattle.ts_bits.specs.TaggedBody.{TaggedBody, IsDescriptor}
-use Rattle.ts_fields.specs.Layout.{Held}
 use Rattle.ts_fields.specs.Fitting.{fits}
 use Rattle.ts_table_rows.specs.declared.filling.ThingRow.{ThingRow}
 use Rattle.ts_table_rows.specs.declared.filling.Piece.{Piece}

@@ -1,19 +1,18 @@
 -- What is read is what a table can hold.
-use Rattle.std.proofs.Common.{◌≡◌, ℕ, zero, suc, ◌+◌, ◌-◌, ◌*◌, ◌^◌, ◌<◌, ◌≤◌, Bool, true, false, List, [], ◌∷◌, ◌++◌, length, take, drop, refl, sym, ap, ◌∙◌, subst, arith}
-use Rattle.std.specs.Prelude.{All, Option, Some, None, Result, Ok, Err, IsTrue, is_some, slice_get, ◌&&◌, ◌||◌, not, nat_le, nat_lt, nat_eq, if◌then◌else◌}
+use Rattle.std.proofs.Common.{◌≡◌, ℕ, zero, suc, ◌+◌, ◌<◌, ◌≤◌, Bool, true, false, List, [], ◌∷◌, ◌++◌, length, take, drop, refl, sym, ap, ◌∙◌, subst, arith}
+use Rattle.std.specs.Prelude.{All, Option, Some, None, Result, Ok, Err, IsTrue, is_some, slice_get, ◌&&◌, ◌||◌, nat_le, nat_lt, if◌then◌else◌}
 use Rattle.std.specs.List.{list_all}
 use Rattle.std.proofs.Math.Seq.{take-append_seam, drop-append_seam}
 use Rattle.std.proofs.lemmas.Bool.{cond_both, and_parts, and_from, lt-ltb, le-leb}
 use Rattle.std.proofs.lemmas.List.Elements.{All-head}
 use Rattle.bit_rows.proofs.Fields.{field-below}
 use Rattle.ts_bits.specs.TaggedBody.{TaggedBody}
-use Rattle.ts_bits.specs.DescriptorLoop.{descriptors_of}
 use Rattle.ts_fields.specs.Bits.{bits_of}
-use Rattle.ts_fields.specs.Layout.{Row, Held, number, bytes}
+use Rattle.ts_fields.specs.Layout.{Row, Held}
 use Rattle.ts_fields.specs.declared.field.Kind.{Kind}
 use Rattle.ts_fields.specs.declared.field.Kind.TheVariants.{Number, Ones, Free, Flag, Start, Duration, Decimal, Language, CountedText, Text, Hex}
 use Rattle.ts_fields.specs.Fitting.{fits, field_fits}
-use Rattle.ts_fields.specs.Reading.{read_number, read_bytes, read_rest, read_rows}
+use Rattle.ts_fields.specs.Reading.{read_number, read_rows}
 use Rattle.ts_fields.specs.Spelling.{spell_rows, holds}
 use Rattle.ts_section.specs.SectionFields.{is_long, table_id_of, section_length_of, extension_of, version_of, number_of, last_number_of, body_of}
 use Rattle.ts_section.specs.LawfulSection.{IsSection}
@@ -21,15 +20,15 @@ use Rattle.ts_table_rows.specs.declared.table.TableHead.{TableHead}
 use Rattle.ts_table_rows.specs.declared.layout.LoopForm.{LoopForm}
 use Rattle.ts_table_rows.specs.declared.layout.LoopForm.TheVariants.{Absent, Counted, ToEnd}
 use Rattle.ts_table_rows.specs.declared.fault.TableRule.{TableRule}
-use Rattle.ts_table_rows.specs.declared.fault.TableRule.TheVariants.{Short, Loop, Network, Time}
+use Rattle.ts_table_rows.specs.declared.fault.TableRule.TheVariants.{Short, Network, Time}
 use Rattle.ts_table_rows.specs.TablePages.{ItemPage, TablePage, fixed_part, has_id}
 use Rattle.ts_table_rows.specs.TableValues.{ItemHolding, BodyHolding, TableHolding, no_body, joined}
 use Rattle.ts_table_rows.specs.TableFitting.{none_there, item_fits, own_fit, items_fit, values_fit, zeros_from, numbers_fit, head_fits, body_fits, table_fits}
 use Rattle.ts_table_rows.specs.BodySpelling.{held_count, common_values, head_values}
-use Rattle.ts_table_rows.specs.BodyReading.{Fault, Seen, broken, or_broken, or_cut, read_fields, read_counted, read_counted_loop, read_last_loop, read_loop, read_described, read_item, read_next, read_items, count_zero, is_zero, first_number, nothing_left, read_counted_items, read_behind, agreed, is_same, read_heading, read_body, ◌>>=◌}
+use Rattle.ts_table_rows.specs.BodyReading.{Fault, Seen, broken, or_broken, read_fields, read_counted, read_loop, read_described, read_item, read_next, read_items, count_zero, is_zero, first_number, nothing_left, read_counted_items, read_behind, agreed, is_same, read_heading, read_body}
 use Rattle.ts_table_rows.specs.RunReading as run
 use Rattle.ts_table_rows.specs.RunReading.{FirstBroken, read_section, read_sections, in_section, kept_head, is_of, table_head, too_many, read_by, read_run, unseen}
-use Rattle.ts_table_rows.proofs.ReadLemmas.{then_ok, ok_some, same_ok, fields_are_rows}
+use Rattle.ts_table_rows.proofs.ReadLemmas.{then_ok, same_ok, fields_are_rows}
 
 -- what the layer below ensures of fields that are read
 abbrev pub RowsFit : Type 0
@@ -200,7 +199,7 @@ none-append : (a b : List TaggedBody) → none_there a ≡ true → none_there b
 none-append [] b one two = two
 none-append (d ∷ a) b one two = cc
 
-own-append : (form : LoopForm) (a b : List TaggedBody) → own_fit form a ≡ true → own_fit form b ≡ true → own_fit form (a ++ b) ≡ true
+pub own-append : (form : LoopForm) (a b : List TaggedBody) → own_fit form a ≡ true → own_fit form b ≡ true → own_fit form (a ++ b) ≡ true
 own-append Absent a b one two = none-append a b one two
 own-append Counted a b one two = refl
 own-append ToEnd a b one two = refl
@@ -211,7 +210,7 @@ all-append t (x ∷ a) b one two =
     let parts = and_parts (t x) (list_all t a) one in
     and_from (t x) (list_all t (a ++ b)) parts.0 (all-append t a b parts.1 two)
 
-items-append : (i : Option ItemPage) (a b : List ItemHolding) → items_fit i a ≡ true → items_fit i b ≡ true → items_fit i (a ++ b) ≡ true
+pub items-append : (i : Option ItemPage) (a b : List ItemHolding) → items_fit i a ≡ true → items_fit i b ≡ true → items_fit i (a ++ b) ≡ true
 items-append None [] b one two = two
 items-append None (x ∷ a) b one two = cc
 items-append (Some i) a b one two = all-append (item_fits i) a b one two

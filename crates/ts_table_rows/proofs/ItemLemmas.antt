@@ -1,20 +1,20 @@
 -- Items of a body one after another.
-use Rattle.std.proofs.Common.{◌≡◌, ℕ, zero, suc, ◌+◌, ◌-◌, ◌*◌, ◌^◌, ◌%◌, ◌<◌, ◌≤◌, Bool, true, false, List, [], ◌∷◌, ◌++◌, length, drop, refl, sym, ap, ◌∙◌, inl, inr, subst, arith, append_assoc, append-nil, map, get_or, length-append}
-use Rattle.std.specs.Prelude.{Option, Some, None, Result, Ok, Err, IsTrue, ◌&&◌, nat_le, nat_lt, nat_eq, not, if◌then◌else◌}
+use Rattle.std.proofs.Common.{◌≡◌, ℕ, zero, suc, ◌+◌, ◌-◌, ◌*◌, ◌^◌, ◌%◌, ◌<◌, ◌≤◌, Bool, true, false, List, [], ◌∷◌, ◌++◌, length, drop, refl, sym, ap, ◌∙◌, inl, inr, arith, append_assoc, append-nil, get_or, length-append}
+use Rattle.std.specs.Prelude.{Some, Result, Ok, Err, IsTrue, ◌&&◌, nat_le, nat_lt, nat_eq, if◌then◌else◌}
 use Rattle.std.proofs.lemmas.Bool.{le-leb, lt-leb, ltb-true, cond_both, cases_lt}
 use Rattle.std.proofs.lemmas.List.{drop_all, drop_more}
 use Rattle.ts_bits.specs.TaggedBody.{TaggedBody}
 use Rattle.ts_bits.specs.DescriptorLoop.{descriptors_of}
 use Rattle.ts_fields.specs.Bits.{bits, bits_of}
 use Rattle.ts_fields.specs.declared.field.Field.{Field}
-use Rattle.ts_fields.specs.Layout.{Row, Held, row, rows_of}
+use Rattle.ts_fields.specs.Layout.{Row, Held, rows_of}
 use Rattle.ts_fields.specs.Fitting.{fits, shaped, are_bytes}
 use Rattle.ts_fields.specs.Reading.{read_number, read_bytes, read_rows}
 use Rattle.ts_fields.specs.Spelling.{spell_rows}
-use Rattle.ts_fields.specs.SoundRows.{is_open, are_sound, width, widths}
+use Rattle.ts_fields.specs.SoundRows.{width, widths}
 use Rattle.ts_table_rows.specs.TablePages.{ItemPage, fixed_part, item_sound, closed_rows}
 use Rattle.ts_table_rows.specs.TableValues.{ItemHolding}
-use Rattle.ts_table_rows.specs.BodyReading.{Fault, Stops, broken, or_broken, or_cut, read_fields, read_counted, read_counted_loop, read_described, read_item, read_next, count_zero, read_items, ◌>>=◌}
+use Rattle.ts_table_rows.specs.BodyReading.{Fault, Stops, or_broken, or_cut, read_fields, read_counted, read_counted_loop, read_described, read_item, read_next, count_zero, read_items, ◌>>=◌}
 use Rattle.ts_table_rows.specs.declared.fault.TableRule.{TableRule}
 use Rattle.ts_table_rows.specs.declared.fault.TableRule.TheVariants.{Loop, Time}
 use Rattle.ts_table_rows.specs.declared.fault.BodyStop.{BodyStop}

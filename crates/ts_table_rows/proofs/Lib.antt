@@ -9,3 +9,9 @@ mod GreedyLemmas
 mod BodyLemmas
 mod FitLemmas
 pub mod ListLemmas
+mod AgainBits
+mod AgainLoops
+mod AgainBody
+mod AgainPieces
+mod AgainRun
+mod AgainWhole

@@ -1,6 +1,6 @@
 -- Sections numbered one after another, and what a table puts into them.
-use Rattle.std.proofs.Common.{◌≡◌, ℕ, zero, suc, ◌+◌, ◌-◌, ◌<◌, ◌≤◌, Bool, true, false, List, [], ◌∷◌, ◌++◌, length, drop, get_or, map, refl, sym, ap, ◌∙◌, arith, append_assoc, append-nil, Vec, Global}
-use Rattle.std.specs.Prelude.{is_some, All, Result, Ok, Err, Option, Some, None, ◌&&◌, nat_le, nat_lt}
+use Rattle.std.proofs.Common.{◌≡◌, ℕ, ◌+◌, ◌<◌, ◌≤◌, Bool, true, false, List, [], ◌∷◌, ◌++◌, length, drop, get_or, map, refl, sym, ap, ◌∙◌, arith, append_assoc, append-nil, Vec, Global}
+use Rattle.std.specs.Prelude.{is_some, Ok, Err, Option, Some, None, nat_le, nat_lt}
 use Rattle.std.proofs.lemmas.Bool.{leb-true, ltb-true, lt-ltb, le-ltb, and_parts}
 use Rattle.std.proofs.lemmas.List.{drop_more, drop_all, map-append, length-map, get_or-map}
 use Rattle.std.proofs.lemmas.List.Elements.{All-get_or}
@@ -11,7 +11,7 @@ use Rattle.ts_table_rows.specs.declared.filling.ThingRow.{ThingRow}
 use Rattle.ts_table_rows.specs.TablePages.{ItemPage, TablePage, has_id}
 use Rattle.ts_table_rows.specs.TableValues.{ItemHolding, BodyHolding}
 use Rattle.ts_table_rows.specs.TableFitting.{values_fit, own_fit, items_fit, zeros_from, numbers_fit, head_fits, body_fits}
-use Rattle.ts_table_rows.specs.TableSections.{Thing, own_thing, item_thing, things, head_with, numbered, numbers_of, sections_with}
+use Rattle.ts_table_rows.specs.TableSections.{own_thing, item_thing, things, head_with, numbered, numbers_of, sections_with}
 use Rattle.ts_table_rows.specs.declared.fault.TableRefusal.TheVariants.{TooMany}
 use Rattle.ts_table_rows.specs.FilledRows.{AreSmall, thing_view, own_row, item_kind_row, kind_row}
 

@@ -1,8 +1,6 @@
 -- Fields of a body one after another.
-use Rattle.std.proofs.Common.{◌≡◌, ℕ, zero, suc, ◌+◌, ◌-◌, ◌*◌, ◌^◌, ◌<◌, ◌≤◌, Bool, true, false, List, [], ◌∷◌, ◌++◌, length, drop, refl, sym, ap, ◌∙◌, subst, arith, append_assoc, append-nil, map, get_or}
-use Rattle.std.specs.Prelude.{Option, Some, None, Result, Ok, Err, option_map, option_to_list, IsTrue, ◌&&◌, nat_le, if◌then◌else◌}
-use Rattle.std.specs.List.{list_all}
-use Rattle.std.proofs.lemmas.Bool.{le-leb, lt-leb}
+use Rattle.std.proofs.Common.{◌≡◌, ℕ, ◌+◌, ◌<◌, ◌≤◌, Bool, true, false, List, [], ◌∷◌, ◌++◌, length, drop, refl, sym, ap, ◌∙◌, subst, append_assoc, append-nil, map, get_or}
+use Rattle.std.specs.Prelude.{Option, Some, None, Result, Ok, Err, option_map, option_to_list, IsTrue, ◌&&◌}
 use Rattle.std.proofs.lemmas.List.{drop_all, drop_more, map-append}
 use Rattle.ts_fields.specs.declared.field.Field.{Field}
 use Rattle.ts_fields.specs.declared.field.Kind.TheVariants.{Number}
@@ -12,11 +10,10 @@ use Rattle.ts_fields.specs.declared.reader.NotRead.TheVariants as not_read
 use Rattle.ts_fields.specs.Layout.{Row, Held, row, rows_of, held}
 use Rattle.ts_fields.specs.Reading as fields
 use Rattle.ts_fields.specs.Reading.{read_field, read_rows, Fails}
-use Rattle.ts_fields.specs.SoundRows.{is_sound, are_sound, width, widths}
-use Rattle.ts_table_rows.specs.BodyReading.{Fault, Stops, IsStopOf, broken, or_broken, read_fields, ◌>>=◌}
+use Rattle.ts_fields.specs.SoundRows.{is_sound, are_sound}
+use Rattle.ts_table_rows.specs.BodyReading.{Fault, Stops, IsStopOf, or_broken, read_fields, ◌>>=◌}
 use Rattle.ts_table_rows.specs.declared.fault.TableRule.{TableRule}
 use Rattle.ts_table_rows.specs.declared.fault.BodyStop.{BodyStop}
-use Rattle.ts_table_rows.specs.declared.fault.BodyStop.TheVariants.{At, NoMemory}
 
 pub same_ok : {A : Type 0} (x y : A) → ◌≡◌ {A = Result A Fault} (Ok x) (Ok y) → x ≡ y
 same_ok x y is = cc

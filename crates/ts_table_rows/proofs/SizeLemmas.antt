@@ -1,5 +1,5 @@
 -- How many bits items and bodies are spelled by.
-use Rattle.std.proofs.Common.{◌≡◌, ℕ, zero, suc, ◌+◌, ◌-◌, ◌*◌, ◌/◌, ◌%◌, ◌<◌, ◌≤◌, Bool, true, false, List, [], ◌∷◌, ◌++◌, length, get_or, refl, sym, ap, ◌∙◌, arith, append-nil, length-append}
+use Rattle.std.proofs.Common.{◌≡◌, ℕ, suc, ◌+◌, ◌*◌, ◌/◌, ◌%◌, ◌<◌, ◌≤◌, Bool, true, false, List, [], ◌∷◌, ◌++◌, length, get_or, refl, sym, ap, ◌∙◌, arith, append-nil, length-append}
 use Rattle.std.specs.Prelude.{IsTrue, ◌&&◌, ◌||◌, nat_eq, nat_le, nat_lt, not, if◌then◌else◌, Option, Some, None}
 use Rattle.std.proofs.lemmas.Bool.{eqb-true, leb-true, lt-ltb, and_parts}
 use Rattle.ts_bits.specs.TaggedBody.{TaggedBody, loop_bytes}

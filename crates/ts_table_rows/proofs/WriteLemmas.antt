@@ -1,5 +1,5 @@
 -- What the writing calls count and write.
-use Rattle.std.proofs.Common.{◌≡◌, ℕ, ◌+◌, ◌<◌, ◌≤◌, List, [], ◌∷◌, ◌++◌, length, take, drop, map, get_or, refl, sym, ap, ◌∙◌, arith}
+use Rattle.std.proofs.Common.{◌≡◌, ℕ, ◌+◌, ◌<◌, ◌≤◌, List, [], ◌∷◌, ◌++◌, length, take, drop, map, get_or, sym, ap, ◌∙◌, arith}
 use Rattle.std.proofs.Common.{Bool, append_assoc}
 use Rattle.std.proofs.lemmas.List.{take_more, take_all, map-append, take-map, drop-map}
 use Rattle.ts_fields.specs.declared.field.Field.{Field}

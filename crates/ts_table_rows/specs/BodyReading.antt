@@ -1,7 +1,7 @@
 -- What the body of one section holds, or the first rule that it breaks.
 -- ISO/IEC 13818-1, 2.4.4.3 to 2.4.4.9, and ETSI EN 300 468, 5.2: fields follow one another in their order. Which rule
 -- is told, and where, is this project's own rule: the first in the order of the fields.
-use Rattle.std.specs.Prelude.{◌≡◌, ℕ, suc, zero, ◌+◌, ◌-◌, ◌*◌, ◌&&◌, List, [], ◌∷◌, ◌++◌, length, map, Bool, true, false, nat_eq, nat_le, if◌then◌else◌, Option, Some, None, option_to_list, Result, Ok, Err}
+use Rattle.std.specs.Prelude.{◌≡◌, ℕ, suc, zero, ◌+◌, ◌-◌, ◌*◌, ◌&&◌, List, [], ◌∷◌, ◌++◌, length, Bool, true, false, nat_eq, nat_le, if◌then◌else◌, Option, Some, None, option_to_list, Result, Ok, Err}
 use Rattle.ts_bits.specs.TaggedBody.{TaggedBody}
 use Rattle.ts_bits.specs.DescriptorLoop.{descriptors_of}
 use Rattle.ts_fields.specs.declared.reader.NotRead.{NotRead}

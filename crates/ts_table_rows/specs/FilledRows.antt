@@ -1,6 +1,6 @@
 -- Descriptors and items as bytes, put into the bodies of sections.
 -- This project's own rule, that of `TableSections`, told of the bytes alone.
-use Rattle.std.specs.Prelude.{◌≡◌, ℕ, ◌+◌, ◌-◌, ◌<◌, ◌≤◌, List, [], ◌∷◌, ◌++◌, length, map, Bool, true, false, nat_lt, nat_le, if◌then◌else◌, Option, Some, None, Result, Ok, Err, All}
+use Rattle.std.specs.Prelude.{◌≡◌, ℕ, ◌+◌, ◌-◌, ◌<◌, ◌≤◌, List, [], ◌∷◌, ◌++◌, length, map, Bool, true, false, nat_lt, nat_le, if◌then◌else◌, Option, Some, None, Result, Err, All}
 use Rattle.ts_bits.specs.TaggedBody.{TaggedBody, descriptor_bytes}
 use Rattle.ts_fields.specs.Layout.{Held}
 use Rattle.ts_table_rows.specs.declared.filling.ThingRow.{ThingRow}

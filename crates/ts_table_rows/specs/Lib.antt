@@ -8,3 +8,4 @@ pub mod BodySpelling
 pub mod TableFitting
 pub mod TableSections
 pub mod FilledRows
+pub mod RoundTrip

@@ -1,7 +1,7 @@
 -- What a run of sections holds as a table, or the first rule that it breaks.
 -- ISO/IEC 13818-1, 2.4.4, and ETSI EN 300 468, 5.2. Sections are taken in order, and which rule is told, and where,
 -- is this project's own rule.
-use Rattle.std.specs.Prelude.{◌≡◌, ℕ, ◌+◌, ◌-◌, ◌*◌, ◌/◌, ◌&&◌, List, [], ◌∷◌, length, Bool, true, false, nat_lt, not, if◌then◌else◌, Option, Some, None, Result, Ok, Err}
+use Rattle.std.specs.Prelude.{◌≡◌, ℕ, ◌+◌, ◌-◌, ◌*◌, ◌/◌, ◌&&◌, List, [], ◌∷◌, length, Bool, false, nat_lt, if◌then◌else◌, Option, Some, None, Result, Ok, Err}
 use Rattle.ts_section.specs.SectionFields.{is_long, table_id_of, section_length_of, extension_of, version_of, current_of, number_of, last_number_of, body_of}
 use Rattle.ts_section.specs.declared.section.TheConstants.{LONG_BODY_PLACE}
 use Rattle.ts_fields.specs.Bits.{bits_of}

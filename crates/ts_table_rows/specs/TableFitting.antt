@@ -1,6 +1,6 @@
 -- What a table can hold.
 -- This project's own rule: each field is within its width, and nothing stands where the layout has no place for it.
-use Rattle.std.specs.Prelude.{◌≡◌, ℕ, ◌&&◌, ◌||◌, List, [], ◌∷◌, Bool, true, false, nat_lt, nat_le, if◌then◌else◌, is_some, Option, Some, None, All}
+use Rattle.std.specs.Prelude.{ℕ, ◌&&◌, ◌||◌, List, [], ◌∷◌, Bool, true, false, nat_lt, nat_le, if◌then◌else◌, is_some, Option, Some, None, All}
 use Rattle.std.specs.List.{list_all}
 use Rattle.ts_bits.specs.TaggedBody.{TaggedBody, IsDescriptor}
 use Rattle.ts_fields.specs.Layout.{Held}

@@ -1,10 +1,10 @@
 -- How a table is laid out: rows of fields, and where descriptors and items stand among them.
 -- ISO/IEC 13818-1, 2.4.4.3 to 2.4.4.9, and ETSI EN 300 468, 5.2: fields, then descriptors, then items that go on
 -- to the end of the body or for so many bytes.
-use Rattle.std.specs.Prelude.{ℕ, ◌+◌, ◌%◌, ◌&&◌, ◌||◌, List, map, Bool, true, false, nat_eq, nat_lt, nat_le, not, Option, Some, None, option_map, if◌then◌else◌}
+use Rattle.std.specs.Prelude.{ℕ, ◌+◌, ◌%◌, ◌&&◌, ◌||◌, List, Bool, true, false, nat_eq, nat_lt, nat_le, not, Option, Some, None, option_map, if◌then◌else◌}
 use Rattle.std.specs.List.{list_any}
 use Rattle.ts_fields.specs.Layout.{Row, rows_of}
-use Rattle.ts_fields.specs.SoundRows.{are_sound, ends_last, is_open, widths}
+use Rattle.ts_fields.specs.SoundRows.{are_sound, is_open, widths}
 use Rattle.ts_table_rows.specs.declared.layout.LoopForm.{LoopForm}
 use Rattle.ts_table_rows.specs.declared.layout.LoopForm.TheVariants.{Absent, Counted, ToEnd}
 use Rattle.ts_table_rows.specs.declared.layout.ItemForm.{ItemForm}

@@ -3,7 +3,7 @@
 -- most 256 sections have one head. How a table is put into sections is this project's own rule: each descriptor and
 -- each item goes into the section in hand if that stays within the most, descriptors first; an empty table has one
 -- section; sections are numbered from 0.
-use Rattle.std.specs.Prelude.{◌≡◌, ℕ, ◌+◌, ◌-◌, ◌^◌, List, [], ◌∷◌, ◌++◌, length, map, Bool, nat_lt, if◌then◌else◌, Option, Some, None, Result, Ok, Err}
+use Rattle.std.specs.Prelude.{◌≡◌, ℕ, ◌+◌, ◌-◌, ◌^◌, List, [], ◌∷◌, ◌++◌, length, map, nat_lt, if◌then◌else◌, Option, Some, None, Result, Ok, Err}
 use Rattle.ts_bits.specs.TaggedBody.{TaggedBody, descriptor_bytes}
 use Rattle.ts_fields.specs.Layout.{Held}
 use Rattle.ts_section.specs.declared.long_head.LongHead.{LongHead}

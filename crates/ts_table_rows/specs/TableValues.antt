@@ -1,6 +1,6 @@
 -- What a table holds, whatever its layout.
 -- This project's own rule: the values of the fields in their order, reserved bits left out, descriptors and items.
-use Rattle.std.specs.Prelude.{ℕ, List, [], ◌++◌, map, Bool, Option}
+use Rattle.std.specs.Prelude.{List, [], ◌++◌, map}
 use Rattle.ts_bits.specs.TaggedBody.{TaggedBody}
 use Rattle.ts_fields.specs.Layout.{Held, held}
 use Rattle.ts_table_rows.specs.declared.table.TableHead.{TableHead}

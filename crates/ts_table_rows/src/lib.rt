@@ -11,6 +11,7 @@ mod read_item;
 mod read_laws;
 mod read_loop;
 mod read_run;
+mod round_trip;
 mod table;
 #[cfg(test)]
 mod tests;
@@ -22,5 +23,6 @@ pub use fault::{TableFault, TableRefusal, TableRule};
 pub use filling_laws::filled_greedily;
 pub use layout::{ItemForm, LoopForm, TableLayout};
 pub use read_run::read_table;
+pub use round_trip::written_tables_are_read;
 pub use table::{Table, TableBody, TableHead, TableItem};
 pub use write_run::write_table;

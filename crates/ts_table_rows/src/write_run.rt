@@ -1,10 +1,13 @@
 //! The sections of a table.
 
-ghost use Rattle.std.specs.Prelude.{◌≡◌, ◌≤◌, ◌<◌, ◌+◌, map, length, true, IfOk, IsTrue, OnOk};
+ghost use Rattle.std.specs.Prelude.{◌≡◌, ◌≤◌, ◌<◌, ◌+◌, map, length, true, IfOk, IsTrue, Ok, OnOk};
 ghost use Rattle.ts_fields.specs.Layout.{held};
+ghost use Rattle.ts_section.specs.SectionRun.{IsTableRun};
 ghost use Rattle.ts_section.specs.WrittenSection.{long_section};
 ghost use Rattle.ts_table_rows.specs.FilledRows;
 ghost use Rattle.ts_table_rows.specs.FilledRows.{AreSmall, thing_view, kind_row, rows_by};
+ghost use Rattle.ts_table_rows.specs.RoundTrip.{forms_runs};
+ghost use Rattle.ts_table_rows.specs.RunReading.{read_run};
 ghost use Rattle.ts_table_rows.specs.TableFitting.{DescriptorsFit, body_fits, head_fits, table_fits, values_fit};
 ghost use Rattle.ts_table_rows.specs.TablePages.{table_page, page_sound};
 ghost use Rattle.ts_table_rows.specs.TableSections;
@@ -18,6 +21,7 @@ use crate::filling::{
 };
 use crate::filling_laws::bodies_are_filled;
 use crate::layout::TableLayout;
+use crate::round_trip::written_tables_are_read;
 use crate::table::{Table, TableBody, TableHead};
 use crate::write_rows::body_bytes;
 use std::alloc::{AllocError, Global};
@@ -195,7 +199,8 @@ fn thing_rows(
 
 /// The sections of a table. `TooLarge` tells the section_length that the table's one section, or a
 /// section with one descriptor or one item alone, would need; `TooMany` comes where each is within the
-/// most and more than 256 sections would be needed.
+/// most and more than 256 sections would be needed. Read as a run they give the table again, and they are
+/// a whole run where the layout's can be.
 pub fn write_table(
     alloc: Global,
     layout: &TableLayout,
@@ -205,9 +210,12 @@ pub fn write_table(
     requires fits { table_fits (table_page layout.now) (table_held table.now) ≡ true }
     ensures written { Writes (λ v. v.items) result (sections_of (table_page layout.now) (table_held table.now)) }
     ensures fit { OnOk result (DescriptorsFit (body_held table.now.body)) }
+    ensures again { IfOk result (λ v. read_run (table_page layout.now) v.items ≡ Ok (table_held table.now)) }
+    ensures whole { IfOk result (λ v. forms_runs (table_page layout.now) ≡ true → IsTableRun v.items) }
 {
-    // A law, which runs nothing.
+    // Laws, which run nothing.
     bodies_are_filled();
+    written_tables_are_read();
     let rows = thing_rows(alloc, layout, &table.body)?;
     let bodies = table_bodies(alloc, layout, &table.body.values, &rows)?;
     let sections = number_sections(alloc, layout, table.head, &bodies)?;

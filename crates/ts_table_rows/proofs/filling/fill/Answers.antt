@@ -1,4 +1,4 @@
-use Rattle.std.proofs.Common.{◌≡◌, ◌++◌, ◌∙◌, map, ap}
+use Rattle.std.proofs.Common.{◌++◌, ◌∙◌, map, ap}
 use Rattle.ts_table_rows.specs.FilledRows.{thing_view, piece_view, filled}
 use Rattle.ts_table_rows.proofs.FillLemmas.{fill_goes_on, fill_ends}
 use Rattle.ts_table_rows.proofs.filling.fill.Goals as goal

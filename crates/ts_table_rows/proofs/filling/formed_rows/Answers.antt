@@ -1,4 +1,4 @@
-use Rattle.std.proofs.Common.{◌≡◌, map, ap, Some, true, false}
+use Rattle.std.proofs.Common.{ap, Some, true}
 use Rattle.std.specs.Prelude.{All}
 use Rattle.ts_bits.specs.TaggedBody.{IsDescriptor}
 use Rattle.ts_table_rows.specs.FilledRows.{thing_view, item_kind_row}

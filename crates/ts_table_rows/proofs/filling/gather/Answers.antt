@@ -1,4 +1,4 @@
-use Rattle.std.proofs.Common.{◌≡◌, map, ap}
+use Rattle.std.proofs.Common.{map, ap}
 use Rattle.ts_table_rows.specs.FilledRows.{thing_view, piece_view, gathered}
 use Rattle.ts_table_rows.proofs.FillLemmas.{gather_goes_on, gather_ends}
 use Rattle.ts_table_rows.proofs.filling.gather.Goals as goal

@@ -1,4 +1,4 @@
-use Rattle.std.proofs.Common.{◌≡◌, map, ap, false, ◌∙◌, refl, subst}
+use Rattle.std.proofs.Common.{map, ap, false, ◌∙◌, subst}
 use Rattle.std.specs.Prelude.{All}
 use Rattle.std.proofs.lemmas.List.{map-id}
 use Rattle.ts_bits.specs.TaggedBody.{TaggedBody, IsDescriptor}

@@ -1,4 +1,4 @@
-use Rattle.std.proofs.Common.{◌≡◌, map}
+use Rattle.std.proofs.Common.{map}
 use Rattle.ts_fields.specs.Layout.{held}
 use Rattle.ts_table_rows.specs.FilledRows.{piece_view, row_with}
 use Rattle.ts_table_rows.specs.TablePages.{table_page}

@@ -1,6 +1,6 @@
-use Rattle.std.proofs.Common.{◌≡◌, ◌++◌, ◌+◌, drop, map, sym, ap, ◌∙◌}
+use Rattle.std.proofs.Common.{◌+◌, map, ap}
 use Rattle.std.specs.Prelude.{option_map}
-use Rattle.ts_fields.specs.Layout.{held, rows_of}
+use Rattle.ts_fields.specs.Layout.{held}
 use Rattle.ts_table_rows.proofs.ReadLemmas.{fields_go_on, fields_stop, fields_done, sound_first, sound_more, held_more}
 use Rattle.ts_table_rows.proofs.read_loop.read_fields.Goals as goal
 

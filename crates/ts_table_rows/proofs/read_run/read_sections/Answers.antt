@@ -1,10 +1,10 @@
-use Rattle.std.proofs.Common.{◌≡◌, ◌+◌, ◌∷◌, drop, sym, ap, ◌∙◌, arith, subst}
+use Rattle.std.proofs.Common.{◌+◌, drop, sym, ap, ◌∙◌, arith, subst}
 use Rattle.std.proofs.lemmas.Result.{err_from_is_err_and}
 use Rattle.ts_table_rows.specs.BodyReading.{seen_so_far}
 use Rattle.ts_table_rows.specs.RunReading as reading
 use Rattle.ts_table_rows.specs.RunReading.{Breaks}
 use Rattle.ts_table_rows.specs.TablePages.{table_page}
-use Rattle.ts_table_rows.specs.TableValues.{body_held, joined}
+use Rattle.ts_table_rows.specs.TableValues.{body_held}
 use Rattle.ts_table_rows.proofs.RunLemmas.{with_body, goes_on, stops_at, done, begins, begins_not}
 use Rattle.ts_table_rows.proofs.read_run.read_sections.Goals as goal
 

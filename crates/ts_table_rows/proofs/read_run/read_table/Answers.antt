@@ -1,8 +1,7 @@
-use Rattle.std.proofs.Common.{◌≡◌, ◌∷◌, length, refl, sym, ap, ◌∙◌, subst}
+use Rattle.std.proofs.Common.{length, refl, sym, ap, ◌∙◌, subst}
 use Rattle.std.specs.Prelude.{All}
 use Rattle.ts_section.specs.LawfulSection.{IsSection}
 use Rattle.std.proofs.lemmas.Result.{err_from_is_err_and}
-use Rattle.ts_table_rows.specs.RunReading.{Breaks, read_run}
 use Rattle.ts_table_rows.specs.TablePages.{table_page}
 use Rattle.ts_table_rows.specs.TableValues.{body_held}
 use Rattle.ts_table_rows.proofs.RunLemmas.{run_none, run_wrong, run_many, run_reads, run_stops}

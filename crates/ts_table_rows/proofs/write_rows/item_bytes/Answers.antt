@@ -1,4 +1,4 @@
-use Rattle.std.proofs.Common.{◌++◌, ◌∙◌, ap, sym, subst}
+use Rattle.std.proofs.Common.{◌++◌, ◌∙◌, ap, sym}
 use Rattle.ts_fields.specs.Fitting.{are_bytes}
 use Rattle.ts_table_rows.specs.TablePages.{item_page}
 use Rattle.ts_table_rows.specs.TableValues.{item_held}

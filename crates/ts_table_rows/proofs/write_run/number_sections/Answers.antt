@@ -1,8 +1,8 @@
-use Rattle.std.proofs.Common.{◌≡◌, ◌≤◌, ◌+◌, ◌++◌, length, map, refl, sym, ap, ◌∙◌, arith}
+use Rattle.std.proofs.Common.{◌++◌, length, ap, ◌∙◌, arith}
 use Rattle.ts_section.specs.WrittenSection.{long_section}
 use Rattle.ts_table_rows.specs.TablePages.{table_page}
 use Rattle.ts_table_rows.specs.TableSections.{head_with, numbered}
-use Rattle.ts_table_rows.proofs.NumberLemmas.{rows_in, numbers_go_on, numbers_end, number_room, head_parts, small_at, sections_made, sections_many}
+use Rattle.ts_table_rows.proofs.NumberLemmas.{rows_in, numbers_go_on, numbers_end, number_room, head_parts, small_at, sections_made}
 use Rattle.ts_table_rows.proofs.write_run.number_sections.Goals as goal
 
 pub loop-body-init : goal.loop-body-init

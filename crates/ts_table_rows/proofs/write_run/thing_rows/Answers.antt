@@ -1,6 +1,5 @@
-use Rattle.std.proofs.Common.{◌≡◌, ◌∙◌, ap, map, true}
-use Rattle.std.specs.Prelude.{option_map}
-use Rattle.ts_table_rows.specs.TablePages.{table_page, item_page}
+use Rattle.std.proofs.Common.{◌∙◌, ap, map}
+use Rattle.ts_table_rows.specs.TablePages.{table_page}
 use Rattle.ts_table_rows.specs.TableValues.{body_held, item_held}
 use Rattle.ts_table_rows.specs.FilledRows.{item_kind_row}
 use Rattle.ts_table_rows.specs.TableFitting.{items_fit}

@@ -54,3 +54,10 @@ returns-clause-written c =
     let whole : sections_of p (table_held c.args.table.now) ≡ sections_with p c.args.table.now.head (map (λ (row : Vec ℕ Global). row.items) c.deref-3.result.now) =
     sections_go_on p (table_held c.args.table.now) _ bodies ∙ ap (sections_with p c.args.table.now.head) (sym there) in
     whole ∙ c.in_ok-sections.ensures
+
+pub returns-clause-again : goal.returns-clause-again
+returns-clause-again c = c.written_tables_are_read.ensures.again (table_page c.args.layout.now) (table_held c.args.table.now) c.requires.sound c.requires.fits c.in_ok-rows.ensures.fit c.in_ok-sections.sections.items (returns-clause-written c)
+
+pub returns-clause-whole : goal.returns-clause-whole
+returns-clause-whole c =
+    λ runs. c.written_tables_are_read.ensures.whole (table_page c.args.layout.now) (table_held c.args.table.now) c.requires.sound runs c.requires.fits c.in_ok-rows.ensures.fit c.in_ok-sections.sections.items (returns-clause-written c)
