@@ -39,6 +39,7 @@ abbrev pub eit_page : TablePage
 eit_page = record {
   name = codes "EIT";
   ids = (0x4E, 0x6F) ∷ [];
+  extension = codes "service_id";
   private_bit = true;
   most = 4093;
   single = true;

@@ -17,6 +17,7 @@ macro_rules! rows {
 static EIT: TableLayout = TableLayout {
     name: "EIT",
     ids: &[(0x4E, 0x6F)],
+    extension: "service_id",
     private_bit: true,
     most: 4093,
     single: true,

@@ -31,6 +31,7 @@ abbrev pub nit_page : TablePage
 nit_page = record {
   name = codes "NIT";
   ids = (0x40, 0x41) ∷ [];
+  extension = codes "network_id";
   private_bit = true;
   most = 1021;
   single = false;
@@ -48,6 +49,7 @@ abbrev pub bat_page : TablePage
 bat_page = record {
   name = codes "BAT";
   ids = (0x4A, 0x4A) ∷ [];
+  extension = codes "bouquet_id";
   private_bit = true;
   most = 1021;
   single = false;
@@ -89,6 +91,7 @@ abbrev pub sdt_page : TablePage
 sdt_page = record {
   name = codes "SDT";
   ids = (0x42, 0x42) ∷ (0x46, 0x46) ∷ [];
+  extension = codes "transport_stream_id";
   private_bit = true;
   most = 1021;
   single = false;

@@ -17,6 +17,7 @@ macro_rules! rows {
 static NIT: TableLayout = TableLayout {
     name: "NIT",
     ids: &[(0x40, 0x41)],
+    extension: "network_id",
     private_bit: true,
     most: 1021,
     single: false,
@@ -43,6 +44,7 @@ static NIT: TableLayout = TableLayout {
 static BAT: TableLayout = TableLayout {
     name: "BAT",
     ids: &[(0x4A, 0x4A)],
+    extension: "bouquet_id",
     private_bit: true,
     most: 1021,
     single: false,
@@ -69,6 +71,7 @@ static BAT: TableLayout = TableLayout {
 static SDT: TableLayout = TableLayout {
     name: "SDT",
     ids: &[(0x42, 0x42), (0x46, 0x46)],
+    extension: "transport_stream_id",
     private_bit: true,
     most: 1021,
     single: false,

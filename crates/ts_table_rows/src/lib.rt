@@ -25,4 +25,5 @@ pub use layout::{ItemForm, LoopForm, TableLayout};
 pub use read_run::read_table;
 pub use round_trip::written_tables_are_read;
 pub use table::{Table, TableBody, TableHead, TableItem};
+pub use write_rows::held_count;
 pub use write_run::write_table;
