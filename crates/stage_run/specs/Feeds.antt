@@ -4,6 +4,7 @@ use Rattle.std.specs.List.{All, concat}
 use Rattle.ts_packet.specs.Packet.{IsPacket, null_packet}
 use Rattle.ts_packet.specs.declared.cell.Cell.{Cell}
 use Rattle.ts_packet.specs.declared.cell.Cell.TheVariants.{Live}
+use Rattle.ts_packet.specs.Labels.{no_labels}
 use Rattle.ts_outside.specs.Source.{SourceView, unread, read_failed}
 use Rattle.chain_model.specs.declared.input_end.InputEnd.{InputEnd}
 use Rattle.chain_model.specs.declared.input_end.InputEnd.TheVariants.{End, Sync, ReadFault, TooLong}
@@ -79,7 +80,7 @@ pub record StreamLooks {S : Type 0} (seen : S → SourceView) (new : PacketStrea
 pub record StreamPuts {S : Type 0} (seen : S → SourceView) (new : PacketStream S) (first : SourceView)
     (read : List ℕ) (rows : List (List ℕ)) (cell : Cell) : Type 0 where
   pub row : List ℕ
-  pub is_put : cell ≡ Live row
+  pub is_put : cell ≡ Live row no_labels
   pub stands : StreamStands seen new first read (rows ++ row ∷ []) None
 
 -- an input of nothing but null packets ends when it has put them all
@@ -143,5 +144,5 @@ pub record FeedPuts {S : Type 0} (seen : S → SourceView) (old new : PacketFeed
     (read : List ℕ) (rows : List (List ℕ)) (cell : Cell) : Type 0 where
   pub same : SameFeed old new
   pub row : List ℕ
-  pub is_put : cell ≡ Live row
+  pub is_put : cell ≡ Live row no_labels
   pub stands : FeedStands seen new first read (rows ++ row ∷ []) None

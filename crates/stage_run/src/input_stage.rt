@@ -7,7 +7,7 @@ use crate::telling::{followed, may_follow};
 use crate::{InputPart, IoBuffer, Stuffing, Work};
 use chain_core::{InputEnd, News, StageEnd};
 use ts_outside::Source;
-use ts_packet::{Cell, Packet};
+use ts_packet::{Cell, Labels, Packet};
 
 /// Positions are below this number.
 const POSITION_LIMIT: u64 = chain_model::POSITION_LIMIT;
@@ -143,7 +143,7 @@ impl<S: Source> InputStage<S> {
         self.ensure_packet(wanted);
         if self.nulls > 0 {
             self.nulls -= 1;
-            *cell = Cell::Live(Packet::null());
+            *cell = Cell::Live(Packet::null(), Labels::none());
             return None;
         }
         if self.ended.is_some() {

@@ -2,7 +2,7 @@ use crate::IoBuffer;
 use crate::packet_row::{PACKET_SIZE, packet_at};
 use chain_core::InputEnd;
 use ts_outside::{Failed, Source};
-use ts_packet::Cell;
+use ts_packet::{Cell, Labels};
 
 const SYNC_BYTE: u8 = ts_packet::SYNC_BYTE;
 
@@ -124,7 +124,7 @@ impl<S: Source> PacketStream<S> {
         ensures room { HasRoom self.new }
         ensures packets { self.new.packets ≡ self.old.packets + 1 }
     {
-        *cell = Cell::Live(packet_at(&self.room.bytes, self.from));
+        *cell = Cell::Live(packet_at(&self.room.bytes, self.from), Labels::none());
         self.from += PACKET_SIZE;
         self.have -= PACKET_SIZE;
         self.packets += 1;

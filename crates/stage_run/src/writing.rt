@@ -26,7 +26,7 @@ fn gather(room: &mut [u8], cells: &[Cell]) -> Gathered
 {
     let mut bytes = 0;
     for (i, cell) in cells.iter().enumerate() {
-        if let Cell::Live(packet) = cell {
+        if let Cell::Live(packet, _) = cell {
             if room.len() - bytes < PACKET_SIZE {
                 return Gathered { cells: i, bytes };
             }
@@ -48,7 +48,7 @@ fn cell_of_byte(cells: &[Cell], byte: usize) -> usize
 {
     let mut left = byte;
     for (place, cell) in cells.iter().enumerate() {
-        if let Cell::Live(packet) = cell {
+        if let Cell::Live(packet, _) = cell {
             let size = packet.bytes().len();
             if left < size {
                 return place;
