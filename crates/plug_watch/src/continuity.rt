@@ -126,7 +126,7 @@ impl Plugin for Continuity {
     ghost steady = { λ s. None };
 
     fn step(&mut self, at: u64, cell: &mut Cell) -> Outcome {
-        let Cell::Live(packet) = cell else {
+        let Cell::Live(packet, _) = cell else {
             return Outcome::Pass;
         };
         if !self.watches(packet.pid()) {
