@@ -37,7 +37,6 @@ impl Labels {
 
     /// Whether the number, below 32, is a label.
     #[inline]
-    #[tactic(auto, using(std::proofs::lemmas::Nat::Bits::shr_and_one))]
     pub fn has(&self, n: u32) -> bool
         requires { n < LABEL_COUNT }
         ensures { result ≡ has_label self.now n }
