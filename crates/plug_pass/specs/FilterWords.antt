@@ -1,6 +1,6 @@
 -- The words of `filter`.
 -- This project's own rule.
-use Rattle.std.specs.Prelude.{ℕ, ◌||◌, List, [], ◌∷◌, codes, unwrap_or}
+use Rattle.std.specs.Prelude.{ℕ, ◌||◌, List, [], ◌∷◌, ◌++◌, codes, unwrap_or}
 use Rattle.clap.specs.Walk.{Row}
 use Rattle.plug_pass.specs.FilterSettings.{filter_together}
 use Rattle.plug_pass.specs.declared.filter_conf.FilterConf.{FilterConf}
@@ -10,17 +10,22 @@ use Rattle.option_words.specs.Options.{OptionRow, flag, has_flag, has_value, rea
 use Rattle.option_words.specs.OptionTable.{OptionTable}
 use Rattle.option_words.specs.Ranges.{ranges_of}
 
--- the options
-abbrev pub filter_rows : List OptionRow
-filter_rows = record { name = codes "pid"; kind = value (ranges LAST_PID) }
+-- the options that are conditions
+abbrev pub condition_rows : List OptionRow
+condition_rows = record { name = codes "pid"; kind = value (ranges LAST_PID) }
     ∷ record { name = codes "pcr"; kind = flag }
     ∷ record { name = codes "unit-start"; kind = flag }
     ∷ record { name = codes "scrambled"; kind = flag }
     ∷ record { name = codes "label"; kind = value (ranges LAST_LABEL) }
-    ∷ record { name = codes "negate"; kind = flag }
+    ∷ []
+
+-- the options
+abbrev pub filter_rows : List OptionRow
+filter_rows = condition_rows
+    ++ (record { name = codes "negate"; kind = flag }
     ∷ record { name = codes "stuffing"; kind = flag }
     ∷ record { name = codes "set-label"; kind = value (ranges LAST_LABEL) }
-    ∷ []
+    ∷ [])
 
 -- the numbers and ranges of an option; none where it is not given
 abbrev pub listed : ℕ → List ℕ → List Row → List (ℕ × ℕ)
