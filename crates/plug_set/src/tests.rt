@@ -1,7 +1,7 @@
 ghost use Rattle.plug_set.specs.Plugins.{IsLawful};
 ghost use Rattle.std.specs.Prelude.{◌<◌, ◌≤◌, [], IfOk, vec_len};
 
-use crate::{AnyPlugin, PluginConf};
+use crate::{SomePlugin, PluginConf};
 use plug_conf::NumberSet;
 use plug_end::UntilConf;
 use plug_pass::SkipConf;
@@ -30,7 +30,7 @@ fn through(
     requires short { vec_len cells.old < 1000 }
     ensures { vec_len cells.new ≤ vec_len cells.old }
 {
-    let mut plugin = AnyPlugin::of(alloc, conf, 1000)?;
+    let mut plugin = SomePlugin::of(alloc, conf, 1000)?;
     let end = apply_plugin(&mut plugin, cells);
     let lines = report(&mut plugin, cells.len() as u64)?;
     Ok((end, lines))

@@ -1,5 +1,5 @@
 -- Each plugin's own clause, at the plugin that stands there.
-use Rattle.plug_set.proofs.any_plugin.AnyPluginPlugin.step.Goals as goal
+use Rattle.plug_set.proofs.some_plugin.SomePluginPlugin.step.Goals as goal
 
 pub returns-in-Filter-clause-tells : goal.returns-in-Filter-clause-tells
 returns-in-Filter-clause-tells c = rw c.in-Filter.is c.step.ensures.tells

@@ -1,5 +1,5 @@
 -- Each plugin's own clause, at the plugin that stands there.
-use Rattle.plug_set.proofs.any_plugin.AnyPluginPlugin.agreed.Goals as goal
+use Rattle.plug_set.proofs.some_plugin.SomePluginPlugin.agreed.Goals as goal
 
 pub returns-in-Filter : goal.returns-in-Filter
 returns-in-Filter c = rw c.in-Filter.is c.agreed.ensures
