@@ -243,7 +243,7 @@ report_is conf history cut within =
     let count : length (map line_of_error (errors_in conf cells)) ≡ length (errors_in conf cells) = length-map (errors_in conf cells) line_of_error in
     let lines : placed_after (continuity_rule conf) [] cells ≡ map line_of_error (errors_in conf cells) =
     placed_after-notes (error_on conf) (λ (f : ContinuityError). f.at) (one_fault conf) (continuity_rule conf) line_of_error
-    (λ h packet. ap (placed_at (length h)) (texts_on conf h packet) ∙ placed_at-notes (λ (f : ContinuityError). f.at) text_of_error (length h) (error_on conf h packet) (one_fault conf h packet)) [] cells in
+    (λ h packet labels. ap (placed_at (length h)) (texts_on conf h packet) ∙ placed_at-notes (λ (f : ContinuityError). f.at) text_of_error (length h) (error_on conf h packet) (one_fault conf h packet)) [] cells in
     ap (λ (fs : List ContinuityError). map line_of_error fs ++ (let l : Line = record { at = cut; text = faults_text (length (map line_of_error fs)) } in l) ∷ []) front
     ∙ (ap (λ (n : ℕ). map line_of_error (errors_in conf cells) ++ (let l : Line = record { at = cut; text = faults_text n } in l) ∷ []) count
     ∙ (ap (λ (n : ℕ). map line_of_error (errors_in conf cells) ++ (let l : Line = record { at = n; text = faults_text (length (errors_in conf cells)) } in l) ∷ []) (sym (length-take-le cut history within))
