@@ -50,8 +50,7 @@ impl AnyPlugin {
 }
 
 impl Plugin for AnyPlugin {
-    ghost use Rattle.std.specs.Prelude.{◌≡◌, [], false, refl};
-    ghost use Rattle.plug_set.specs.declared.some_plugin.SomePlugin.TheVariants.{Filter as MadeFilter, Skip as MadeSkip, Slice as MadeSlice, Pattern as MadePattern, Until as MadeUntil, Count as MadeCount, Continuity as MadeContinuity, Remap as MadeRemap};
+    ghost use Rattle.plug_set.specs.contracts.some_plugin.SomePluginPlugin.TheImpl.Laws.{lawful as some_laws};
     ghost use Rattle.plug_set.specs.OnlyLabels.{rule_for, shown, starts_open_for};
 
     ghost rule = { λ s. rule_for s.only (⟦<SomePlugin as Plugin>⟧.rule s.plugin) };
@@ -82,15 +81,5 @@ impl Plugin for AnyPlugin {
 
     ghost starts_open = { λ plugin history mark stands. starts_open_for plugin.only
         (⟦<SomePlugin as Plugin>⟧.rule plugin.plugin)
-        ((elim plugin.plugin as (λ p. ⟦<SomePlugin as Plugin>⟧.stands_for p (shown plugin.only history) mark
-        → (⟦<SomePlugin as Plugin>⟧.rule p).agrees [] ≡ false) [
-          | MadeFilter p ↦ λ holds. refl
-          | MadeSkip p ↦ λ holds. refl
-          | MadeSlice p ↦ λ holds. refl
-          | MadePattern p ↦ λ holds. refl
-          | MadeUntil p ↦ λ holds. holds.open_at_first
-          | MadeCount p ↦ λ holds. refl
-          | MadeContinuity p ↦ λ holds. refl
-          | MadeRemap p ↦ λ holds. refl
-        ]) stands) };
+        (some_laws.starts_open plugin.plugin (shown plugin.only history) mark stands) };
 }
