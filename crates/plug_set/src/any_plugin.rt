@@ -50,6 +50,7 @@ impl AnyPlugin {
 }
 
 impl Plugin for AnyPlugin {
+    ghost use Rattle.plug_set.specs.contracts.some_plugin.SomePluginPlugin.TheImpl.Laws.{lawful as some_laws};
     ghost use Rattle.plug_set.specs.OnlyLabels.{rule_for, shown, starts_open_for};
 
     ghost rule = { λ s. rule_for s.only (⟦<SomePlugin as Plugin>⟧.rule s.plugin) };
@@ -80,5 +81,5 @@ impl Plugin for AnyPlugin {
 
     ghost starts_open = { λ plugin history mark stands. starts_open_for plugin.only
         (⟦<SomePlugin as Plugin>⟧.rule plugin.plugin)
-        (⟦<SomePlugin as Plugin>⟧.starts_open plugin.plugin (shown plugin.only history) mark stands) };
+        (some_laws.starts_open plugin.plugin (shown plugin.only history) mark stands) };
 }

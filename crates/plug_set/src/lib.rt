@@ -1,12 +1,15 @@
 //! The plugins that there are: words after a name come in, or settings; a plugin that means their rule goes out.
-//! The layer above makes each plugin by `SomePlugin::of`, and uses it by the clauses of `Plugin` alone.
+//! The layer above makes each plugin by `AnyPlugin::of`, and uses it by the clauses of `Plugin` alone.
 #![tactic(auto)]
 
-mod some_plugin;
+mod any_plugin;
 mod plugin_conf;
+mod plugin_item;
+mod some_plugin;
 
-pub use some_plugin::SomePlugin;
+pub use any_plugin::AnyPlugin;
 pub use plugin_conf::{PluginConf, PluginKind};
+pub use plugin_item::PluginItem;
 
 #[cfg(test)]
 mod tests;

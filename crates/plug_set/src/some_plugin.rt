@@ -28,7 +28,11 @@ impl SomePlugin {
 
     /// The plugin of these settings, which met no cell yet. `buffer` is the number of positions that the
     /// chain holds: for so many behind the last mark most plugins take their room here.
-    pub(crate) fn of(alloc: Global, conf: &PluginConf, buffer: usize) -> Result<SomePlugin, AllocError>
+    pub(crate) fn of(
+        alloc: Global,
+        conf: &PluginConf,
+        buffer: usize,
+    ) -> Result<SomePlugin, AllocError>
         requires { IsLawful conf.now }
         ensures rule { IfOk result (λ plugin. ⟦<SomePlugin as Plugin>⟧.rule plugin ≡ rule_of conf.now) }
         ensures fresh { IfOk result (λ plugin. ⟦<SomePlugin as Plugin>⟧.stands_for plugin [] 0) }
