@@ -23,5 +23,6 @@ placed_of rule cells = placed_after rule [] cells ++ placed_at (length cells) (r
 
 -- a rule that has neither lines nor a summary
 pub record IsSilent (rule : PluginRule) : Type 0 where
-  pub no_lines : (history : List Cell) (packet : List ℕ) (labels : ℕ) → rule.lines_of history packet labels ≡ []
+  pub no_lines : (history : List Cell) (packet : List ℕ) (labels : ℕ)
+      → rule.lines_of history packet labels ≡ []
   pub no_summary : (history : List Cell) → rule.summary_of history ≡ []

@@ -1,5 +1,5 @@
 -- What was read of an input that was opened and closed.
-use Rattle.std.proofs.Common.{◌≡◌, ◌⊎◌, ◌≤◌, ℕ, List, [], ◌∷◌, ◌++◌, Option, None, Some, IfSome, Bool, true, false, if◌then◌else◌, nat_lt, refl, ap, sym, ◌∙◌, subst, inl, inr, length, arith}
+use Rattle.std.proofs.Common.{◌≡◌, ◌⊎◌, ◌≤◌, ℕ, List, [], ◌∷◌, ◌++◌, Option, None, Some, IfSome, Bool, false, if◌then◌else◌, nat_lt, refl, ap, sym, ◌∙◌, subst, inl, inr, length, arith}
 use Rattle.std.specs.Prelude.{IsSome, unwrap_or}
 use Rattle.std.specs.Option.{option_map}
 use Rattle.std.proofs.lemmas.Slice.Eq.{bytes_eq-Decides}
@@ -18,7 +18,7 @@ use Rattle.stage_run.specs.declared.input_part.InputPart.TheVariants.{Stream, Nu
 use Rattle.stage_run.specs.Parts.{IsListOf, list_at_fault}
 use Rattle.chain_run.specs.RunOf.{MayRead, CutsAtFault, ReadsSource, LeftInput}
 use Rattle.ts_outside.specs.Count.{raised, HasCause}
-use Rattle.ts_outside.specs.Told.{before, grown}
+use Rattle.ts_outside.specs.Told.{before}
 use Rattle.ts_outside.specs.Source.{SourceView, unread, read_failed}
 use Rattle.ts_outside.specs.Desk.{DeskView, with_input, file_of, content}
 use Rattle.ts_outside.specs.declared.closed_inputs.ClosedInput.{ClosedInput}

@@ -1,4 +1,4 @@
-use Rattle.std.proofs.Common.{◌≡◌, is_err, ap, map, List, sym, ◌∙◌, refl, inl, inr}
+use Rattle.std.proofs.Common.{is_err, ap, map, List, ◌∙◌, refl, inl, inr}
 use Rattle.plug_set.specs.declared.plugin_item.PluginItem.{PluginItem}
 use Rattle.chain_model.specs.Reports.{reports}
 use Rattle.ts_outside.specs.Desk.{DeskView}

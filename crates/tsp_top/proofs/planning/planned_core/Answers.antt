@@ -1,4 +1,4 @@
-use Rattle.std.proofs.Common.{◌≡◌, List, length, arith, ap, ◌∙◌}
+use Rattle.std.proofs.Common.{◌≡◌, List, length, ap}
 use Rattle.plug_set.specs.declared.plugin_item.PluginItem.{PluginItem}
 use Rattle.tsp_top.proofs.PlanningLemmas.{users-are-plugins}
 use Rattle.tsp_top.proofs.planning.planned_core.Goals as goal
