@@ -6,14 +6,15 @@ use Rattle.std.proofs.lemmas.Bool.Decides.{nat_tests}
 use Rattle.std.proofs.lemmas.List.Elements.{All-push, filter_map-append}
 use Rattle.std.proofs.lemmas.List.Folds.{list_any-append}
 use Rattle.std.proofs.lemmas.List.Sums.{sum_by_push}
-use Rattle.plug_set.specs.Plugins.{IsLawful}
-use Rattle.plug_set.specs.declared.plugin_conf.PluginConf.{PluginConf}
+use Rattle.plug_set.specs.Items.{IsLawfulItem}
+use Rattle.plug_set.specs.declared.plugin_item.PluginItem.{PluginItem}
 use Rattle.chain_args.specs.Inputs.{input_kind_named, options_of_input}
 use Rattle.chain_args.specs.LawfulPlan.{IsLawfulInput}
 use Rattle.chain_args.specs.Outputs.{output_kind_named, options_of_output}
 use Rattle.chain_args.specs.PlanBuilder.{StandsFor, segment}
 use Rattle.chain_args.specs.PlanOf.{input_made, inputs_of, output_made, outputs_of, plugin_made}
-use Rattle.plug_set.specs.Plugins.{plugin_kind_named, options_of_plugin}
+use Rattle.plug_set.specs.Items.{options_of_item}
+use Rattle.plug_set.specs.Plugins.{plugin_kind_named}
 use Rattle.option_words.specs.OptionTable.{broken_option, first_broken, settings_of}
 use Rattle.chain_args.specs.Rules.{broken_rule, most_plugins, or_else}
 use Rattle.chain_args.specs.Segments.{Segment, is_input, is_output, is_plugin}
@@ -46,11 +47,11 @@ output_rule before name own k once known = ap₂ (λ twice kind. or_else (first_
     )) (or_else None (or_else None (option_and_then (λ k. broken_option (options_of_output k) own) kind)))) once known
 
 pub plugin_rule : (before : List Segment) (name : List ℕ) (own : List (List ℕ)) (k : PluginKind) → nat_le most_plugins (count_by is_plugin before) ≡ false → plugin_kind_named name ≡ Some k
-    → broken_rule before (segment (codes "-P") (name ∷ own)) ≡ broken_option (options_of_plugin k) own
+    → broken_rule before (segment (codes "-P") (name ∷ own)) ≡ broken_option (options_of_item k) own
 plugin_rule before name own k few known = ap₂ (λ many kind. or_else (first_broken (
     (Twice, false) ∷ (NoName, false) ∷ (UnknownPlugin, not (is_some kind) && true) ∷ (TooMany, many) ∷ []
-    )) (or_else None (or_else (option_and_then (λ k. broken_option (options_of_plugin k) own) kind) None))) few known
-    ∙ or_none (broken_option (options_of_plugin k) own)
+    )) (or_else None (or_else (option_and_then (λ k. broken_option (options_of_item k) own) kind) None))) few known
+    ∙ or_none (broken_option (options_of_item k) own)
 
 -- ---- lists of segments with one more
 
@@ -130,15 +131,15 @@ output_added p before others own name k conf stands free is known read =
       },
     )
 
-pub plugin_added : (p q : PlanBuilder) (before : List Segment) (others own : List (List ℕ)) (name : List ℕ) (k : PluginKind) (conf : PluginConf) → StandsFor p before → length p.plugins.items < most_plugins
-    → others ≡ name ∷ own → Some k ≡ plugin_kind_named name → (broken_option (options_of_plugin k) own ≡ None) × (conf ≡ settings_of (options_of_plugin k) own) → IsLawful conf
+pub plugin_added : (p q : PlanBuilder) (before : List Segment) (others own : List (List ℕ)) (name : List ℕ) (k : PluginKind) (conf : PluginItem) → StandsFor p before → length p.plugins.items < most_plugins
+    → others ≡ name ∷ own → Some k ≡ plugin_kind_named name → (broken_option (options_of_item k) own ≡ None) × (conf ≡ settings_of (options_of_item k) own) → IsLawfulItem conf
     → q.input ≡ p.input → q.output ≡ p.output → q.plugins.items ≡ p.plugins.items ++ conf ∷ []
     → (broken_rule before (segment (codes "-P") others) ≡ None) × StandsFor q (before ++ segment (codes "-P") others ∷ [])
 plugin_added p q before others own name k conf stands room is known read lawful same_in same_out pushed =
     let s : Segment = segment (codes "-P") others in
     let few : nat_le most_plugins (count_by is_plugin before) ≡ false = grind (arith, nat_tests, stands.plugin_count) in
     let made : plugin_made s ≡ Some conf =
-    ap (λ words. plugin_made (segment (codes "-P") words)) is ∙ ap (option_map (λ j. settings_of (options_of_plugin j) own)) (sym known) ∙ ap Some (sym read.1) in (
+    ap (λ words. plugin_made (segment (codes "-P") words)) is ∙ ap (option_map (λ j. settings_of (options_of_item j) own)) (sym known) ∙ ap Some (sym read.1) in (
       ap (λ words. broken_rule before (segment (codes "-P") words)) is ∙ plugin_rule before name own k few (sym known) ∙ read.0,
       record {
         input = same_in ∙ stands.input ∙ sym (ap (λ xs. slice_get xs 0) (keeps input_made before s refl));
@@ -148,7 +149,7 @@ plugin_added p q before others own name k conf stands room is known read lawful 
         output = same_out ∙ stands.output ∙ sym (ap (λ xs. slice_get xs 0) (keeps output_made before s refl));
         has_output = ap is_some same_out ∙ stands.has_output ∙ sym (any_keeps is_output before s refl);
         lawful_input = subst (λ o. IfSome o IsLawfulInput) (sym same_in) stands.lawful_input;
-        lawful_plugins = subst (All IsLawful) (sym pushed) (All-push IsLawful p.plugins.items conf stands.lawful_plugins lawful);
+        lawful_plugins = subst (All IsLawfulItem) (sym pushed) (All-push IsLawfulItem p.plugins.items conf stands.lawful_plugins lawful);
         few = omega (arith, ap length pushed, length-append p.plugins.items (conf ∷ []));
       },
     )

@@ -23,8 +23,8 @@ twice-the-pid : first_word_fault (codes "-I" ∷ codes "null" ∷ codes "2" ∷ 
 unfolding clap_on_literals cut findings first_fault first_word_fault has_flag is_taken number_of number_within pair_of plan_of range_of ranges_of value_of values_of
 twice-the-pid = refl
 
--- a number in hexadecimal digits
-hexadecimal-pid : plan_of (codes "-I" ∷ codes "null" ∷ codes "4" ∷ codes "-P" ∷ codes "filter" ∷ codes "--pid=0x1FFF" ∷ codes "-O" ∷ codes "drop" ∷ [])
+-- a number in hexadecimal digits, labels to be set and those of the packets that the plugin sees
+hexadecimal-pid : plan_of (codes "-I" ∷ codes "null" ∷ codes "4" ∷ codes "-P" ∷ codes "filter" ∷ codes "--pid=0x1FFF" ∷ codes "--set-label=3" ∷ codes "--only-label=0-1" ∷ codes "-O" ∷ codes "drop" ∷ [])
     ≡ Some (record {
       general = record {
         add_start_stuffing = 0;
@@ -36,14 +36,19 @@ hexadecimal-pid : plan_of (codes "-I" ∷ codes "null" ∷ codes "4" ∷ codes "
         ignore_joint_termination = false;
       };
       input = Null 4;
-      plugins = Filter (record {
-        pid = (8191, 8191) ∷ [];
-        pcr = false;
-        unit_start = false;
-        scrambled = false;
-        negate = false;
-        stuffing = false;
-      }) ∷ [];
+      plugins = record {
+        conf = Filter (record {
+          pid = (8191, 8191) ∷ [];
+          pcr = false;
+          unit_start = false;
+          scrambled = false;
+          label = [];
+          negate = false;
+          stuffing = false;
+          set_label = (3, 3) ∷ [];
+        });
+        only = Some ((0, 1) ∷ []);
+      } ∷ [];
       output = Drop;
     })
 unfolding clap_on_literals cut findings first_fault first_word_fault has_flag is_taken number_of number_within pair_of plan_of range_of ranges_of value_of values_of

@@ -2,7 +2,7 @@
 -- This project's own rule.
 use Rattle.std.specs.Prelude.{ℕ, ◌≤◌, length, IfSome}
 use Rattle.std.specs.List.{All}
-use Rattle.plug_set.specs.Plugins.{IsLawful}
+use Rattle.plug_set.specs.Items.{IsLawfulItem}
 use Rattle.plug_conf.specs.declared.limits.TheConstants.{MOST_PACKETS}
 use Rattle.chain_args.specs.Rules.{most_plugins}
 use Rattle.chain_args.specs.declared.general_conf.GeneralConf.{GeneralConf}
@@ -33,5 +33,5 @@ IsLawfulInput (Null count) = count ≤ MOST_PACKETS
 pub record IsLawfulPlan (p : Plan) : Type 0 where
   pub general : IsLawfulGeneral p.general
   pub input : IsLawfulInput p.input
-  pub plugins : All IsLawful p.plugins
+  pub plugins : All IsLawfulItem p.plugins
   pub few : length p.plugins ≤ most_plugins

@@ -2,7 +2,7 @@
 -- This project's own rule.
 use Rattle.std.specs.Prelude.{◌≡◌, ◌≤◌, ℕ, List, [], Option, Some, IfSome, count_by, is_some, length, slice_get, unwrap_or}
 use Rattle.std.specs.List.{All, list_any}
-use Rattle.plug_set.specs.Plugins.{IsLawful}
+use Rattle.plug_set.specs.Items.{IsLawfulItem}
 use Rattle.chain_args.specs.LawfulPlan.{IsLawfulInput}
 use Rattle.chain_args.specs.PlanOf.{inputs_of, outputs_of, plugins_of}
 use Rattle.chain_args.specs.Rules.{most_plugins}
@@ -34,7 +34,7 @@ pub record StandsFor (p : PlanBuilder) (before : List Segment) : Type 0 where
   pub output : p.output ≡ slice_get (outputs_of before) 0
   pub has_output : is_some p.output ≡ list_any is_output before
   pub lawful_input : IfSome p.input IsLawfulInput
-  pub lawful_plugins : All IsLawful p.plugins.items
+  pub lawful_plugins : All IsLawfulItem p.plugins.items
   pub few : length p.plugins.items ≤ most_plugins
 
 -- the plan of the parts, with the standard streams where nothing was named

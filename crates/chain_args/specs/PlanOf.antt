@@ -2,11 +2,11 @@
 -- This project's own rule.
 use Rattle.std.specs.Prelude.{ℕ, List, [], None, Option, Some, if◌then◌else◌, is_some, option_map, slice_get, unwrap_or}
 use Rattle.std.specs.List.{filter_map}
-use Rattle.plug_set.specs.declared.plugin_conf.PluginConf.{PluginConf}
+use Rattle.plug_set.specs.declared.plugin_item.PluginItem.{PluginItem}
 use Rattle.chain_args.specs.General.{general}
 use Rattle.chain_args.specs.Inputs.{options_of_input}
 use Rattle.chain_args.specs.Outputs.{options_of_output}
-use Rattle.plug_set.specs.Plugins.{options_of_plugin}
+use Rattle.plug_set.specs.Items.{options_of_item}
 use Rattle.option_words.specs.OptionTable.{settings_of}
 use Rattle.chain_args.specs.Rules.{first_word_fault}
 use Rattle.chain_args.specs.Segments.{Segment, general_words, input_of, output_of, own_words, plugin_of, segments}
@@ -20,8 +20,8 @@ use Rattle.chain_args.specs.declared.plan_type.Plan.{Plan}
 abbrev pub input_made : Segment → Option InputConf
 input_made s = option_map (λ k. settings_of (options_of_input k) (own_words s)) (input_of s)
 
-abbrev pub plugin_made : Segment → Option PluginConf
-plugin_made s = option_map (λ k. settings_of (options_of_plugin k) (own_words s)) (plugin_of s)
+abbrev pub plugin_made : Segment → Option PluginItem
+plugin_made s = option_map (λ k. settings_of (options_of_item k) (own_words s)) (plugin_of s)
 
 abbrev pub output_made : Segment → Option OutputConf
 output_made s = option_map (λ k. settings_of (options_of_output k) (own_words s)) (output_of s)
@@ -30,7 +30,7 @@ output_made s = option_map (λ k. settings_of (options_of_output k) (own_words s
 abbrev pub inputs_of : List Segment → List InputConf
 inputs_of = filter_map input_made
 
-abbrev pub plugins_of : List Segment → List PluginConf
+abbrev pub plugins_of : List Segment → List PluginItem
 plugins_of = filter_map plugin_made
 
 abbrev pub outputs_of : List Segment → List OutputConf

@@ -5,7 +5,7 @@ use Rattle.std.specs.List.{list_any}
 use Rattle.chain_args.specs.General.{general}
 use Rattle.chain_args.specs.Inputs.{options_of_input}
 use Rattle.chain_args.specs.Outputs.{options_of_output}
-use Rattle.plug_set.specs.Plugins.{options_of_plugin}
+use Rattle.plug_set.specs.Items.{options_of_item}
 use Rattle.option_words.specs.OptionTable.{broken_option, first_broken}
 use Rattle.chain_args.specs.Segments.{Segment, general_words, input_of, is_input, is_output, is_plugin, name_of, output_of, own_words, plugin_of, segments, word_count}
 use Rattle.option_words.specs.declared.words_rule.WordsRule.{WordsRule}
@@ -38,7 +38,7 @@ abbrev pub broken_input : Segment → Option WordsRule
 broken_input s = option_and_then (λ k. broken_option (options_of_input k) (own_words s)) (input_of s)
 
 abbrev pub broken_plugin : Segment → Option WordsRule
-broken_plugin s = option_and_then (λ k. broken_option (options_of_plugin k) (own_words s)) (plugin_of s)
+broken_plugin s = option_and_then (λ k. broken_option (options_of_item k) (own_words s)) (plugin_of s)
 
 abbrev pub broken_output : Segment → Option WordsRule
 broken_output s = option_and_then (λ k. broken_option (options_of_output k) (own_words s)) (output_of s)

@@ -12,7 +12,7 @@ use crate::output_words::OutputKind;
 use crate::plan_type::Plan;
 use crate::plugin_list::PluginList;
 use option_words::{Refusal, WordsRule};
-use plug_set::{PluginConf, PluginKind};
+use plug_set::{PluginItem, PluginKind};
 use std::alloc::{AllocError, Global};
 use ts_outside::NameText;
 
@@ -23,7 +23,7 @@ const MOST_PLUGINS: usize = 62;
 #[derive(Drop)]
 pub(crate) struct PlanBuilder {
     pub(crate) input: Option<InputConf>,
-    pub(crate) plugins: Vec<PluginConf>,
+    pub(crate) plugins: Vec<PluginItem>,
     pub(crate) output: Option<OutputConf>,
 }
 
@@ -93,8 +93,8 @@ impl PlanBuilder {
         if self.plugins.len() >= MOST_PLUGINS {
             return Err(Refusal::Broken(WordsRule::TooMany));
         }
-        let conf = kind.read(alloc, own)?;
-        self.plugins.push(conf)?;
+        let item = kind.read(alloc, own)?;
+        self.plugins.push(item)?;
         Ok(())
     }
 

@@ -1,40 +1,40 @@
 ghost use Rattle.std.specs.Prelude.{◌≡◌};
 
-use plug_set::PluginConf;
+use plug_set::PluginItem;
 use std::marker::Model;
 
-/// The settings of the plugins of a chain, seen as their list.
+/// The plugins of a chain, seen as their list.
 #[derive(Drop, Debug)]
 pub struct PluginList {
-    plugins: Vec<PluginConf>,
+    plugins: Vec<PluginItem>,
 }
 
 impl Model for PluginList {
     ghost use Rattle.std.specs.Prelude.{List};
-    ghost use Rattle.plug_set.specs.declared.plugin_conf.PluginConf.{PluginConf};
+    ghost use Rattle.plug_set.specs.declared.plugin_item.PluginItem.{PluginItem};
 
-    ghost Value = { List PluginConf };
+    ghost Value = { List PluginItem };
 
     ghost view = { λ l. l.plugins.items };
 }
 
 impl PluginList {
-    /// Keeps settings as they are, and takes no memory.
-    pub fn of(plugins: Vec<PluginConf>) -> PluginList
+    /// Keeps plugins as they are, and takes no memory.
+    pub fn of(plugins: Vec<PluginItem>) -> PluginList
         ensures { result ≡ plugins.items }
     {
         PluginList { plugins }
     }
 
-    /// Lends the settings.
-    pub fn as_slice(&self) -> &[PluginConf]
+    /// Lends the plugins.
+    pub fn as_slice(&self) -> &[PluginItem]
         ensures { result.now ≡ self.now }
     {
         self.plugins.as_slice()
     }
 
-    /// Gives the settings back, and takes no memory.
-    pub fn into_vec(self) -> Vec<PluginConf>
+    /// Gives the plugins back, and takes no memory.
+    pub fn into_vec(self) -> Vec<PluginItem>
         ensures { result.items ≡ self }
     {
         let PluginList { plugins } = self;

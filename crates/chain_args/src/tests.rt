@@ -1,5 +1,5 @@
 use crate::{InputConf, OutputConf, Plan, WordsFault, WordsRule, plan};
-use plug_set::PluginConf;
+use plug_set::{PluginConf, PluginItem};
 use std::alloc::Global;
 use std::test::Fail;
 
@@ -27,6 +27,7 @@ fn first_broken_rules(rt: HostRuntime) -> Result<(), Fail> {
         ("-I null 2 -P", 3, WordsRule::NoName),
         ("-I null 2 -P filter --pid 8192", 3, WordsRule::Value),
         ("-I null 2 -P filter --pid 1 --pid 2", 3, WordsRule::Shape),
+        ("-I null 1 -P filter --pid 1 --set-label 32 -O drop", 3, WordsRule::Value),
         ("-I file A -P nosuch -O drop", 3, WordsRule::UnknownPlugin),
         ("--buffer-packets 0", 0, WordsRule::Value),
         ("-I null 1 -I", 3, WordsRule::Twice),
@@ -89,7 +90,7 @@ fn forms_of_values(rt: HostRuntime) -> Result<(), Fail> {
 #[test]
 fn a_whole_plan(rt: HostRuntime) -> Result<(), Fail> {
     let line =
-        "--add-input-stuffing 1/2 --buffer-packets=7 --ignore-joint-termination -I null 4 -P filter --pid 0x1FFF,5-7 --negate -O drop";
+        "--add-input-stuffing 1/2 --buffer-packets=7 --ignore-joint-termination -I null 4 -P filter --pid 0x1FFF,5-7 --negate --only-label 0-3 -O drop";
     let Ok(plan) = plan_of_line(rt.alloc(), line)? else {
         return Err(Fail::from("a plan"));
     };
@@ -97,9 +98,16 @@ fn a_whole_plan(rt: HostRuntime) -> Result<(), Fail> {
     assert!(rt; plan.general.buffer_packets == Some(7) && plan.general.ignore_joint_termination);
     assert!(rt; matches!(plan.input, InputConf::Null(4)));
     assert!(rt; matches!(plan.output, OutputConf::Drop));
-    let [PluginConf::Filter(filter)] = plan.plugins.as_slice() else {
+    let [
+        PluginItem {
+            conf: PluginConf::Filter(filter),
+            only: Some(only),
+        },
+    ] = plan.plugins.as_slice()
+    else {
         return Err(Fail::from("one filter"));
     };
+    assert!(rt; only.as_slice() == [(0, 3)].as_slice());
     assert!(rt; filter.pid.as_slice() == [(8191, 8191), (5, 7)].as_slice());
     assert!(rt; filter.negate && !filter.pcr && !filter.stuffing);
     Ok(())
@@ -141,6 +149,20 @@ fn the_63rd_plugin(rt: HostRuntime) -> Result<(), Fail> {
 #[test]
 fn words_of_plugins(rt: HostRuntime) -> Result<(), Fail> {
     let rows = [
+        ("-P filter --set-label 3", Some(WordsRule::Missing)),
+        ("-P filter --label 32", Some(WordsRule::Value)),
+        ("-P filter --label 0-31 --set-label 3", None),
+        (
+            "-P filter --pid 1 --set-label 3 --stuffing",
+            Some(WordsRule::Conflict),
+        ),
+        (
+            "-P filter --pid 1 --set-label 3 --stuffing --only-label 32",
+            Some(WordsRule::Value),
+        ),
+        ("-P skip --only-label 32", Some(WordsRule::Missing)),
+        ("-P skip 1 --only-label 31", None),
+        ("-P count --only-label", Some(WordsRule::Shape)),
         ("-P skip", Some(WordsRule::Missing)),
         ("-P skip 1 2", Some(WordsRule::Shape)),
         ("-P skip 1099511627777", Some(WordsRule::Value)),
@@ -198,13 +220,13 @@ fn settings_of_plugins(rt: HostRuntime) -> Result<(), Fail> {
     let Ok(plan) = plan_of_line(rt.alloc(), line)? else {
         return Err(Fail::from("a plan"));
     };
-    let [
-        PluginConf::Pattern(pattern),
-        PluginConf::Slice(slice),
-        PluginConf::Remap(remap),
-    ] = plan.plugins.as_slice()
-    else {
+    let [first, second, third] = plan.plugins.as_slice() else {
         return Err(Fail::from("three plugins"));
+    };
+    let (PluginConf::Pattern(pattern), PluginConf::Slice(slice), PluginConf::Remap(remap)) =
+        (&first.conf, &second.conf, &third.conf)
+    else {
+        return Err(Fail::from("a pattern, a slice and a remap"));
     };
     assert!(rt; pattern.operand.as_slice() == [0xAB, 0xCD].as_slice());
     assert!(rt; pattern.offset_pusi == None && pattern.offset_non_pusi == Some(182));

@@ -21,17 +21,17 @@ apply_after-ended rule history (x ∷ xs) ys own e =
 pub apply-ended : (rule : PluginRule) (xs ys : List Cell) (own : OwnEnd) → (apply rule xs).ended ≡ Some own → ((apply rule (xs ++ ys)).cells ≡ (apply rule xs).cells) × ((apply rule (xs ++ ys)).ended ≡ Some own)
 apply-ended rule xs ys own e = apply_after-ended rule [] xs ys own e
 
-last-fate : (fate : RuleOutcome) (rest : StageList) → (onto (outcome_of_live fate) rest).ended ≡ Some last_passed → 1 ≤ length (onto (outcome_of_live fate) rest).cells
-last-fate (passes packet) rest e = omega arith
-last-fate drops rest e = omega arith
-last-fate (lasts packet) rest e = omega arith
-last-fate stops rest e = absurd cc
-last-fate (refuses reason) rest e = absurd cc
+last-fate : (fate : RuleOutcome) (labels : ℕ) (rest : StageList) → (onto (outcome_of_live fate labels) rest).ended ≡ Some last_passed → 1 ≤ length (onto (outcome_of_live fate labels) rest).cells
+last-fate (passes packet) labels rest e = omega arith
+last-fate drops labels rest e = omega arith
+last-fate (lasts packet) labels rest e = omega arith
+last-fate stops labels rest e = absurd cc
+last-fate (refuses reason) labels rest e = absurd cc
 
 apply_after-last_some : (rule : PluginRule) (history xs : List Cell) → (apply_after rule history xs).ended ≡ Some last_passed → 1 ≤ length (apply_after rule history xs).cells
 apply_after-last_some rule history [] e = absurd cc
-apply_after-last_some rule history (Live packet ∷ xs) e =
-    last-fate (rule.outcome_of history packet) (apply_after rule (history ++ Live packet ∷ []) xs) e
+apply_after-last_some rule history (Live packet labels ∷ xs) e =
+    last-fate (rule.outcome_of history packet labels) (rule.labels_of history packet labels) (apply_after rule (history ++ Live packet labels ∷ []) xs) e
 apply_after-last_some rule history (Dropped ∷ xs) e = omega arith
 
 -- a list that ends after a last packet is not empty
@@ -89,9 +89,9 @@ apply-before rule xs own other e = apply_after-before rule [] xs own other e
 apply_after-passes : (history xs : List Cell) → ((apply_after passing_rule history xs).cells ≡ xs) × ((apply_after passing_rule history xs).ended ≡ None)
 unfolding passing_rule
 apply_after-passes history [] = (refl, refl)
-apply_after-passes history (Live packet ∷ xs) =
-    let s = apply_after-passes (history ++ Live packet ∷ []) xs in
-    (ap (λ cells. Live packet ∷ cells) s.0, s.1)
+apply_after-passes history (Live packet labels ∷ xs) =
+    let s = apply_after-passes (history ++ Live packet labels ∷ []) xs in
+    (ap (λ cells. Live packet labels ∷ cells) s.0, s.1)
 apply_after-passes history (Dropped ∷ xs) =
     let s = apply_after-passes (history ++ Dropped ∷ []) xs in (ap (λ cells. Dropped ∷ cells) s.0, s.1)
 

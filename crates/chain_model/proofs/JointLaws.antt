@@ -1,17 +1,17 @@
 -- The cause of the run without faults is joint termination exactly where the joint position is the cut.
-use Rattle.std.proofs.Common.{◌≡◌, ◌≢◌, ◌⊎◌, ℕ, zero, suc, min, List, [], ◌∷◌, ◌++◌, length, Bool, true, false, Option, Some, None, if◌then◌else◌, refl, ap, sym, ◌∙◌, subst, inl, inr, arith, map}
+use Rattle.std.proofs.Common.{◌≡◌, ◌≢◌, ◌⊎◌, ℕ, zero, suc, min, List, [], ◌∷◌, ◌++◌, length, Bool, true, false, Option, Some, None, if◌then◌else◌, refl, ap, sym, subst, inl, inr, arith, map}
 use Rattle.std.specs.Prelude.{◌==◌, unwrap_or, is_some, find, filter}
 use Rattle.std.specs.Option.{option_or}
 use Rattle.std.specs.List.{last_or}
 use Rattle.std.proofs.lemmas.Bool.{eq-eqb, eqb-true}
 use Rattle.ts_packet.specs.declared.cell.Cell.{Cell}
 use Rattle.chain_model.specs.declared.cause.Cause.{Cause}
-use Rattle.chain_model.specs.declared.cause.Cause.TheVariants.{Joint, Until, Stop, Refuse, Input}
+use Rattle.chain_model.specs.declared.cause.Cause.TheVariants.{Joint}
 use Rattle.chain_model.specs.PluginRule.{PluginRule}
-use Rattle.chain_model.specs.Apply.{OwnEnd, input_over, last_passed, stopped, refused, StageList, CellOutcome, goes_on, ends_after, ends_before, became, onto, apply_after, apply}
+use Rattle.chain_model.specs.Apply.{OwnEnd, input_over, last_passed, stopped, refused, StageList, CellOutcome, goes_on, ends_after, ends_before, became, onto, apply_after}
 use Rattle.chain_model.specs.StageLists.{rule_behind, stage_list, end_list}
 use Rattle.chain_model.specs.Joint.{joint_position}
-use Rattle.chain_model.specs.Cut.{Ending, lesser_end, is_at, is_until, first_cause, causes_at, cause_among, cause_of_end, ending_of, endings_to, endings_of, cut_of, cause_of}
+use Rattle.chain_model.specs.Cut.{Ending, lesser_end, is_until, first_cause, causes_at, cause_among, cause_of_end, ending_of, endings_to, endings_of, cut_of, cause_of}
 
 -- a list that a plugin did not end has a cell for each that came
 onto-follows : (fate : CellOutcome) (a : StageList) (n : ℕ) → (a.ended ≡ None → length a.cells ≡ n) → (onto fate a).ended ≡ None → length (onto fate a).cells ≡ suc n

@@ -5,6 +5,7 @@ use Rattle.std.specs.List.{concat}
 use Rattle.ts_packet.specs.declared.cell.Cell.{Cell}
 use Rattle.ts_packet.specs.declared.cell.Cell.TheVariants.{Live, Dropped}
 use Rattle.ts_packet.specs.Cells.{live_packets}
+use Rattle.ts_packet.specs.Labels.{no_labels}
 use Rattle.chain_model.specs.declared.input_end.InputEnd.{InputEnd}
 use Rattle.chain_model.specs.declared.input_end.InputEnd.TheVariants.{End, Sync, ReadFault, TooLong}
 use Rattle.chain_model.specs.Apply.{StageList, input_over}
@@ -13,35 +14,35 @@ use Rattle.chain_model.specs.InputList.{InputList, is_packet_in_front, packets_o
 use Rattle.chain_model.specs.Stuffed.{no_stuffing, nulls_behind, stuffed_after, stop_nulls, within_limit, stuffed}
 use Rattle.chain_model.proofs.InputLemmas.{IsPacketRow, ArePacketRows, packets_of-more, input_of_bytes-all}
 
--- each cell is live, with a packet
+-- each cell is live, with a packet and without labels
 abbrev pub AreLive : List Cell → Type 0
 AreLive [] = Unit {0}
-AreLive (Live packet ∷ cells) = IsPacketRow packet × AreLive cells
+AreLive (Live packet labels ∷ cells) = IsPacketRow packet × (labels ≡ no_labels) × AreLive cells
 AreLive (Dropped ∷ cells) = ⊥
 
-pub AreLive-push : (cells : List Cell) (packet : List ℕ) → AreLive cells → IsPacketRow packet → AreLive (cells ++ Live packet ∷ [])
-AreLive-push [] packet are is = (is, tt)
-AreLive-push (Live p ∷ cells) packet are is = (are.0, AreLive-push cells packet are.1 is)
+pub AreLive-push : (cells : List Cell) (packet : List ℕ) → AreLive cells → IsPacketRow packet → AreLive (cells ++ Live packet no_labels ∷ [])
+AreLive-push [] packet are is = (is, refl, tt)
+AreLive-push (Live p labels ∷ cells) packet are is = (are.0, are.1, AreLive-push cells packet are.2 is)
 AreLive-push (Dropped ∷ cells) packet are is = absurd are
 
 pub rows-live : (cells : List Cell) → AreLive cells → ArePacketRows (live_packets cells)
 rows-live [] are = tt
-rows-live (Live p ∷ cells) are = (are.0, rows-live cells are.1)
+rows-live (Live p labels ∷ cells) are = (are.0, rows-live cells are.2)
 rows-live (Dropped ∷ cells) are = absurd are
 
 pub concat-live : (cells : List Cell) → AreLive cells → concat (live_packets cells) ≡ written cells
 concat-live [] are = refl
-concat-live (Live p ∷ cells) are = ap (λ rest. p ++ rest) (concat-live cells are.1)
+concat-live (Live p labels ∷ cells) are = ap (λ rest. p ++ rest) (concat-live cells are.2)
 concat-live (Dropped ∷ cells) are = absurd are
 
 pub live_cells-live : (cells : List Cell) → AreLive cells → live_cells (live_packets cells) ≡ cells
 live_cells-live [] are = refl
-live_cells-live (Live p ∷ cells) are = ap (λ rest. Live p ∷ rest) (live_cells-live cells are.1)
+live_cells-live (Live p labels ∷ cells) are = rw are.1 (ap (λ rest. Live p no_labels ∷ rest) (live_cells-live cells are.2))
 live_cells-live (Dropped ∷ cells) are = absurd are
 
 pub length-live : (cells : List Cell) → AreLive cells → length (live_packets cells) ≡ length cells
 length-live [] are = refl
-length-live (Live p ∷ cells) are = ap suc (length-live cells are.1)
+length-live (Live p labels ∷ cells) are = ap suc (length-live cells are.2)
 length-live (Dropped ∷ cells) are = absurd are
 
 if-same : {X : Type 0} (b : Bool) (x : X) → (if b then x else x) ≡ x
@@ -54,8 +55,8 @@ nulls_behind-none n = if-same (n % 1 == 0) []
 pub stuffed_after-none : (n : ℕ) (packets : List (List ℕ)) → stuffed_after no_stuffing n packets ≡ live_cells packets
 stuffed_after-none n [] = refl
 stuffed_after-none n (packet ∷ packets) =
-    ap (λ nulls. Live packet ∷ (nulls ++ stuffed_after no_stuffing (n + 1) packets)) (nulls_behind-none (n + 1))
-    ∙ ap (λ rest. Live packet ∷ rest) (stuffed_after-none (n + 1) packets)
+    ap (λ nulls. Live packet no_labels ∷ (nulls ++ stuffed_after no_stuffing (n + 1) packets)) (nulls_behind-none (n + 1))
+    ∙ ap (λ rest. Live packet no_labels ∷ rest) (stuffed_after-none (n + 1) packets)
 
 pub stop_nulls-none : (how : InputEnd) → stop_nulls no_stuffing how ≡ []
 stop_nulls-none (End left) = refl
@@ -83,7 +84,7 @@ stuffed-read cells rest are short none =
 
 live_cells-append : (xs ys : List (List ℕ)) → live_cells (xs ++ ys) ≡ live_cells xs ++ live_cells ys
 live_cells-append [] ys = refl
-live_cells-append (x ∷ xs) ys = ap (λ rest. Live x ∷ rest) (live_cells-append xs ys)
+live_cells-append (x ∷ xs) ys = ap (λ rest. Live x no_labels ∷ rest) (live_cells-append xs ys)
 
 pub within_limit-long : (cells more : List Cell) (cell : Cell) (how : InputEnd) → length cells ≡ 2 ^ 60
     → within_limit (cells ++ (cell ∷ more)) how ≡ record { cells = cells; ended = Some (input_over TooLong) }
@@ -102,5 +103,5 @@ stuffed-too-long cells row more are long is =
     stuffed-none input
     ∙ ap (λ packets. within_limit (live_cells packets) input.ended) packets_are
     ∙ ap (λ c. within_limit c input.ended)
-    (live_cells-append (live_packets cells) (row ∷ found.0) ∙ ap (λ c. c ++ (Live row ∷ live_cells found.0)) (live_cells-live cells are))
-    ∙ within_limit-long cells (live_cells found.0) (Live row) input.ended long
+    (live_cells-append (live_packets cells) (row ∷ found.0) ∙ ap (λ c. c ++ (Live row no_labels ∷ live_cells found.0)) (live_cells-live cells are))
+    ∙ within_limit-long cells (live_cells found.0) (Live row no_labels) input.ended long

@@ -2,6 +2,7 @@
 use Rattle.std.proofs.Common.{◌≡◌, ℕ, List, [], ◌∷◌, length, replicate, Some, None, refl}
 use Rattle.std.specs.Prelude.{nat_le, ◌==◌, if◌then◌else◌}
 use Rattle.ts_packet.specs.declared.cell.Cell.TheVariants.{Live, Dropped}
+use Rattle.ts_packet.specs.Labels.{no_labels}
 use Rattle.chain_model.specs.declared.cause.Cause.TheVariants.{Input, Joint, Until, Stop, Refuse}
 use Rattle.chain_model.specs.declared.input_end.InputEnd.TheVariants.{End}
 use Rattle.chain_model.specs.declared.reason.Reason.TheVariants.{Pid}
@@ -15,8 +16,9 @@ use Rattle.chain_model.specs.Stuffed.{stuffed}
 -- a rule that gives this fate behind so many cells, passes before, and agrees behind so many others
 abbrev rule_at : ℕ → (List ℕ → RuleOutcome) → ℕ → PluginRule
 rule_at n fate agreed = record {
-  outcome_of = λ history packet. if length history == n then fate packet else passes packet;
-  lines_of = λ history packet. [];
+  outcome_of = λ history packet labels. if length history == n then fate packet else passes packet;
+  labels_of = λ history packet labels. labels;
+  lines_of = λ history packet labels. [];
   summary_of = λ history. [];
   agrees = λ history. nat_le agreed (length history);
 }
@@ -41,7 +43,7 @@ packet = 1 ∷ []
 
 -- an input of so many packets
 abbrev input : ℕ → StageList
-input n = record { cells = replicate n (Live packet); ended = Some (input_over (End 0)) }
+input n = record { cells = replicate n (Live packet no_labels); ended = Some (input_over (End 0)) }
 
 -- agreed at 5 and at 3: the greater one counts
 greatest-cut : cut_of (agrees_at 5 ∷ agrees_at 3 ∷ []) (input 8) (1 ∷ 2 ∷ []) ≡ 5
@@ -93,7 +95,7 @@ refused-cause : cause_of (agrees_at 5 ∷ refuses_at 4 ∷ []) (input 8) (1 ∷ 
 refused-cause = refl
 
 -- a dropped cell keeps its place: agreements count places and not live packets
-dropped-list : (end_list (drops_at 1 ∷ []) (input 3)).cells ≡ Live packet ∷ Dropped ∷ Live packet ∷ []
+dropped-list : (end_list (drops_at 1 ∷ []) (input 3)).cells ≡ Live packet no_labels ∷ Dropped ∷ Live packet no_labels ∷ []
 dropped-list = refl
 
 dropped-joint : joint_position (drops_at 1 ∷ agrees_at 3 ∷ []) (input 8) (2 ∷ []) ≡ Some 3

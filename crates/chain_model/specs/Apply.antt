@@ -1,5 +1,5 @@
 -- What a plugin makes of a list of cells, position by position. This project's own rule.
-use Rattle.std.specs.Prelude.{List, [], ◌∷◌, ◌++◌, Option, None, Some}
+use Rattle.std.specs.Prelude.{ℕ, List, [], ◌∷◌, ◌++◌, Option, None, Some}
 use Rattle.ts_packet.specs.declared.cell.Cell.{Cell}
 use Rattle.ts_packet.specs.declared.cell.Cell.TheVariants.{Live, Dropped}
 use Rattle.chain_model.specs.declared.reason.Reason.{Reason}
@@ -28,17 +28,18 @@ pub data CellOutcome : Type 0 where
   ends_after : (cell : Cell) → CellOutcome
   ends_before : (how : OwnEnd) → CellOutcome
 
--- what a plugin's fate for a live packet makes of its cell
-abbrev pub outcome_of_live : RuleOutcome → CellOutcome
-outcome_of_live (passes packet) = goes_on (Live packet)
-outcome_of_live drops = goes_on Dropped
-outcome_of_live (lasts packet) = ends_after (Live packet)
-outcome_of_live stops = ends_before stopped
-outcome_of_live (refuses reason) = ends_before (refused reason)
+-- what a rule's outcome for a live packet makes of its cell, which then has these labels
+abbrev pub outcome_of_live : RuleOutcome → ℕ → CellOutcome
+outcome_of_live (passes packet) labels = goes_on (Live packet labels)
+outcome_of_live drops labels = goes_on Dropped
+outcome_of_live (lasts packet) labels = ends_after (Live packet labels)
+outcome_of_live stops labels = ends_before stopped
+outcome_of_live (refuses reason) labels = ends_before (refused reason)
 
 -- a dropped cell stays dropped, and a plugin does not see it
 abbrev pub became : PluginRule → List Cell → Cell → CellOutcome
-became rule history (Live packet) = outcome_of_live (rule.outcome_of history packet)
+became rule history (Live packet labels) =
+    outcome_of_live (rule.outcome_of history packet labels) (rule.labels_of history packet labels)
 became rule history Dropped = goes_on Dropped
 
 -- the list that begins with what became of a cell; `rest` is the list where it goes on

@@ -1,6 +1,7 @@
 pub mod Prefix
 pub mod Written
 pub mod PluginRule
+pub mod SeenCells
 pub mod Apply
 pub mod StageLists
 pub mod Joint

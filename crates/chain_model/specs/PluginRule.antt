@@ -17,19 +17,22 @@ pub data RuleOutcome : Type 0 where
   -- the list ends before the packet, which is refused
   refuses : (reason : Reason) → RuleOutcome
 
--- what a plugin is: what becomes of a live packet, the lines that it gives at the packet's position,
--- its summary over a history, and whether it agrees to end behind that history
+-- what a plugin is: what becomes of a live packet with its labels, the labels that its cell has then, the lines
+-- that the plugin gives at the packet's position, its summary over a history, and whether it agrees to end behind
+-- that history
 pub record PluginRule : Type 0 where
-  pub outcome_of : List Cell → List ℕ → RuleOutcome
-  pub lines_of : List Cell → List ℕ → List (List ℕ)
+  pub outcome_of : List Cell → List ℕ → ℕ → RuleOutcome
+  pub labels_of : List Cell → List ℕ → ℕ → ℕ
+  pub lines_of : List Cell → List ℕ → ℕ → List (List ℕ)
   pub summary_of : List Cell → List (List ℕ)
   pub agrees : List Cell → Bool
 
--- the rule that changes nothing and says nothing: that of the output
+-- the rule that changes neither packets nor labels and says nothing: that of the output
 unfoldable pub passing_rule : PluginRule
 passing_rule = record {
-  outcome_of = λ _ packet. passes packet;
-  lines_of = λ _ _. [];
+  outcome_of = λ _ packet _. passes packet;
+  labels_of = λ _ _ labels. labels;
+  lines_of = λ _ _ _. [];
   summary_of = λ _. [];
   agrees = λ _. false;
 }

@@ -17,8 +17,8 @@ use Rattle.chain_model.specs.StageLists.{stage_list}
 -- the lines that a rule gives on the live cells behind a history, in the order of their positions
 abbrev pub lines_after : PluginRule → List Cell → List Cell → List (List ℕ)
 lines_after rule history [] = []
-lines_after rule history (Live packet ∷ cells) =
-    rule.lines_of history packet ++ lines_after rule (history ++ Live packet ∷ []) cells
+lines_after rule history (Live packet labels ∷ cells) =
+    rule.lines_of history packet labels ++ lines_after rule (history ++ Live packet labels ∷ []) cells
 lines_after rule history (Dropped ∷ cells) = lines_after rule (history ++ Dropped ∷ []) cells
 
 -- what a plugin says of the cells that count: its lines, then its summary

@@ -1,7 +1,9 @@
--- The list that the input hands to the chain: its packets with null packets put in. This project's own rule.
+-- The list that the input hands to the chain: its packets with null packets put in, all without labels.
+-- This project's own rule.
 use Rattle.std.specs.Prelude.{ℕ, ◌+◌, ◌%◌, ◌==◌, nat_le, List, [], ◌∷◌, ◌++◌, length, take, replicate, if◌then◌else◌, Some}
 use Rattle.ts_packet.specs.declared.cell.Cell.{Cell}
 use Rattle.ts_packet.specs.declared.cell.Cell.TheVariants.{Live}
+use Rattle.ts_packet.specs.Labels.{no_labels}
 use Rattle.ts_packet.specs.Packet.{null_packet}
 use Rattle.chain_model.specs.declared.positions.TheConstants.{POSITION_LIMIT}
 use Rattle.chain_model.specs.declared.input_end.InputEnd.{InputEnd}
@@ -21,7 +23,7 @@ abbrev pub no_stuffing : Stuffing
 no_stuffing = record { start = 0; stop = 0; null = 0; every = 1 }
 
 abbrev pub null_cells : ℕ → List Cell
-null_cells n = replicate n (Live null_packet)
+null_cells n = replicate n (Live null_packet no_labels)
 
 -- the null packets behind the `n`-th packet of the input, counted from 1
 abbrev pub nulls_behind : Stuffing → ℕ → List Cell
@@ -31,7 +33,7 @@ nulls_behind stuffing n = if n % stuffing.every == 0 then null_cells stuffing.nu
 abbrev pub stuffed_after : Stuffing → ℕ → List (List ℕ) → List Cell
 stuffed_after stuffing n [] = []
 stuffed_after stuffing n (packet ∷ packets) =
-    Live packet ∷ (nulls_behind stuffing (n + 1) ++ stuffed_after stuffing (n + 1) packets)
+    Live packet no_labels ∷ (nulls_behind stuffing (n + 1) ++ stuffed_after stuffing (n + 1) packets)
 
 -- the null packets behind the end: after a plain end alone
 abbrev pub stop_nulls : Stuffing → InputEnd → List Cell

@@ -20,11 +20,10 @@ use Rattle.chain_core.specs.declared.core_plan.CorePlan.{CorePlan}
 use Rattle.chain_core.specs.declared.stage_end.StageEnd.{StageEnd}
 use Rattle.chain_core.specs.declared.stage_end.StageEnd.TheVariants.{Input, Last, Stop, Refuse, WriteFault, NoMemory, Followed}
 use Rattle.chain_core.specs.Numbers.{StagesProgress, written_of}
-use Rattle.chain_core.specs.Machine.{ChainState, Visit, progress_of_stages}
+use Rattle.chain_core.specs.Machine.{ChainState, progress_of_stages}
 use Rattle.chain_core.specs.ChainRun.{state_after, AllEnded}
 use Rattle.chain_core.specs.Close.{cause_of_stage, cut_at_close, cause_at_close}
 use Rattle.chain_core.specs.CoreNumbers.{CoreNumbers, progress_of_core}
-use Rattle.chain_core.specs.Keeps.{KeptRun}
 use Rattle.chain_core.specs.EveryOrder.{SoFar, AtClose}
 use Rattle.stage_run.specs.Seeing.{Seeing}
 use Rattle.stage_run.specs.declared.input_part.InputPart.{InputPart}

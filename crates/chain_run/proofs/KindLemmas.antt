@@ -1,8 +1,6 @@
 -- What the work of a part says, by its kind.
-use Rattle.std.proofs.Common.{◌≡◌, ℕ, ◌+◌, ◌-◌, ◌*◌, ◌<◌, ◌≤◌, List, [], length, take, Option, Some, refl, subst}
+use Rattle.std.proofs.Common.{◌≡◌, ℕ, ◌+◌, ◌*◌, ◌<◌, ◌≤◌, List, [], length, take, Option, Some, refl, subst}
 use Rattle.ts_packet.specs.declared.cell.Cell.{Cell}
-use Rattle.ts_outside.specs.Source.{SourceView}
-use Rattle.ts_outside.specs.Sink.{SinkView}
 use Rattle.chain_model.specs.PluginRule.{PluginRule, passing_rule}
 use Rattle.chain_model.specs.Apply.{StageList}
 use Rattle.plugin_trait.specs.Steps.{IsSteadyFor}

@@ -1,17 +1,12 @@
 -- What follows from the machine's laws for the numbers of a run.
-use Rattle.std.proofs.Common.{◌≡◌, ◌≢◌, ℕ, zero, suc, ◌+◌, ◌^◌, ◌<◌, ◌≤◌, List, [], ◌∷◌, ◌++◌, length, Option, refl, ap, sym, ◌∙◌, subst, arith, inl, inr, append-nil}
+use Rattle.std.proofs.Common.{◌≡◌, ◌≢◌, ℕ, zero, suc, ◌+◌, ◌^◌, ◌<◌, ◌≤◌, List, [], ◌∷◌, ◌++◌, length, refl, ap, sym, ◌∙◌, subst, arith, inl, inr, append-nil}
 use Rattle.std.proofs.lemmas.Bool.{cases_eq}
 use Rattle.ts_packet.specs.declared.cell.Cell.{Cell}
-use Rattle.chain_model.specs.Prefix.{IsPrefix}
-use Rattle.chain_model.specs.PluginRule.{PluginRule}
-use Rattle.chain_model.specs.Apply.{apply}
 use Rattle.chain_core.specs.declared.core_plan.CorePlan.{CorePlan}
-use Rattle.chain_core.specs.declared.stage_end.StageEnd.{StageEnd}
 use Rattle.chain_core.specs.Numbers.{UsersArePlugins, written_of}
 use Rattle.chain_core.specs.Machine.{ChainState, Visit, StageState, progress_of_stages, visited}
 use Rattle.chain_core.specs.ChainRun.{ChainRun, state_after}
-use Rattle.chain_core.specs.Keeps.{KeepsList}
-use Rattle.chain_core.specs.Laws.{ChangesOneStage, LeavesOthers, NewsHold, NewsGrow}
+use Rattle.chain_core.specs.Laws.{ChangesOneStage}
 use Rattle.chain_run.specs.Laws.{MachineLaws}
 
 -- the state behind one visit more

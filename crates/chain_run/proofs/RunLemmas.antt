@@ -5,19 +5,16 @@ use Rattle.std.proofs.Math.Seq.{get_or-append_seam}
 use Rattle.ts_packet.specs.declared.cell.Cell.{Cell}
 use Rattle.ts_outside.specs.Source.{SourceView}
 use Rattle.ts_outside.specs.Sink.{SinkView}
-use Rattle.chain_model.specs.PluginRule.{PluginRule}
 use Rattle.chain_model.specs.Apply.{StageList}
 use Rattle.chain_model.specs.StageLists.{rule_behind}
 use Rattle.chain_model.specs.Stuffed as model
 use Rattle.chain_core.specs.declared.closed.Closed.{Closed}
 use Rattle.chain_core.specs.declared.core_plan.CorePlan.{CorePlan}
 use Rattle.chain_core.specs.declared.stage_end.StageEnd.{StageEnd}
-use Rattle.chain_core.specs.Machine.{ChainState, Visit, start, progress_of_stages}
+use Rattle.chain_core.specs.Machine.{ChainState, start, progress_of_stages}
 use Rattle.chain_core.specs.ChainRun.{state_after, AllEnded}
-use Rattle.chain_core.specs.Close.{closed_of, cut_at_close, cause_at_close}
+use Rattle.chain_core.specs.Close.{closed_of}
 use Rattle.chain_core.specs.CoreNumbers.{CoreNumbers, IsLawfulPlan, StandsFor, progress_of_core}
-use Rattle.chain_core.specs.Keeps.{KeptRun}
-use Rattle.chain_core.specs.EveryOrder.{SoFar, AtClose}
 use Rattle.stage_run.specs.Seeing.{Seeing}
 use Rattle.stage_run.specs.declared.input_part.InputPart.{InputPart}
 use Rattle.stage_run.specs.declared.output_part.OutputPart.{OutputPart}

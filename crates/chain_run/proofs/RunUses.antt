@@ -1,5 +1,5 @@
 -- What a layer above needs of a run, in other words.
-use Rattle.std.proofs.Common.{◌≡◌, ℕ, zero, suc, ◌+◌, ◌-◌, ◌<◌, ◌≤◌, List, [], ◌∷◌, length, map, take, Option, None, ap, subst, arith}
+use Rattle.std.proofs.Common.{ℕ, zero, suc, ◌-◌, ◌<◌, List, [], ◌∷◌, length, map, take, Option, None, arith}
 use Rattle.std.specs.Prelude.{slice_index_or}
 use Rattle.std.proofs.lemmas.List.{take-take, length-take, length-map}
 use Rattle.ts_packet.specs.declared.cell.Cell.{Cell}

@@ -6,9 +6,6 @@ use Rattle.std.proofs.lemmas.List.{get_or-set_same, get_or-set_other, take-appen
 use Rattle.std.proofs.Math.Seq.{drop-append-le}
 use Rattle.ts_packet.specs.declared.cell.Cell.{Cell}
 use Rattle.ts_packet.specs.declared.cell.Cell.TheVariants.{Live, Dropped}
-use Rattle.ts_outside.specs.Source.{SourceView}
-use Rattle.ts_outside.specs.Sink.{SinkView}
-use Rattle.chain_model.specs.PluginRule.{PluginRule}
 use Rattle.chain_model.specs.Apply.{StageList}
 use Rattle.chain_core.specs.declared.stage_end.StageEnd.{StageEnd}
 use Rattle.chain_core.specs.declared.stage_word.StageWord.{StageWord}
@@ -56,7 +53,7 @@ may_read-more buffer cut more bytes le (inr far) = inr (let a = far.0 in omega a
 pub part-more : (xs ys : List Cell) (cut : List ℕ) → IsPartOfFirst xs cut → IsPartOfFirst (xs ++ ys) cut
 part-more [] ys cut is = absurd is
 part-more (Dropped ∷ xs) ys cut is = absurd is
-part-more (Live packet ∷ xs) ys cut is = is
+part-more (Live packet labels ∷ xs) ys cut is = is
 
 take-frame : (m n : ℕ) (xs ys more : List Cell) → n ≡ m → ys ≡ xs ++ more → m ≤ length xs → take m xs ≡ take n ys
 take-frame m n xs ys more e grown le =

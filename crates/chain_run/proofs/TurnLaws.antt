@@ -2,23 +2,15 @@
 use Rattle.std.proofs.Common.{◌≡◌, ◌⊎◌, ℕ, suc, ◌+◌, ◌^◌, ◌<◌, ◌≤◌, true, List, length, None, sym, ◌∙◌, subst, ap}
 use Rattle.std.specs.Prelude.{slice_index_or, is_some}
 use Rattle.ts_packet.specs.declared.cell.Cell.{Cell}
-use Rattle.ts_outside.specs.Source.{SourceView}
-use Rattle.ts_outside.specs.Sink.{SinkView}
-use Rattle.chain_model.specs.PluginRule.{PluginRule}
-use Rattle.chain_model.specs.Apply.{StageList}
-use Rattle.chain_core.specs.declared.core_plan.CorePlan.{CorePlan}
 use Rattle.chain_core.specs.declared.news.News.{News}
 use Rattle.chain_core.specs.Numbers.{MayVisit}
-use Rattle.chain_core.specs.Machine.{ChainState, Visit, visit_of, visited, news_after}
-use Rattle.chain_core.specs.ChainRun.{state_after}
+use Rattle.chain_core.specs.Machine.{ChainState, visit_of, visited}
 use Rattle.chain_core.specs.CoreNumbers.{CoreNumbers, StandsFor, progress_of_core}
-use Rattle.chain_core.specs.Keeps.{KeptRun}
-use Rattle.chain_core.specs.EveryOrder.{SoFar}
 use Rattle.stage_run.specs.Seeing.{Seeing}
 use Rattle.stage_run.specs.declared.stage_part.StagePart.{StagePart}
 use Rattle.stage_run.specs.declared.work.Work.{Work}
 use Rattle.stage_run.specs.PartStands.{PartStands, MayWorkOnSome}
-use Rattle.chain_run.specs.Runs.{nothing_told, RunStart, IsIdle, remaining_work}
+use Rattle.chain_run.specs.Runs.{RunStart, IsIdle, remaining_work}
 use Rattle.chain_run.specs.Working.{IsRunning, IsRunningSomehow, StageWorks, Looks}
 use Rattle.chain_run.specs.Laws.{MachineLaws}
 use Rattle.chain_run.proofs.TurnWorks.{Looked, look, work-written, work-given, work-taken, work-stands, work-may, turned}

@@ -5,20 +5,14 @@ use Rattle.std.proofs.lemmas.Bool.{cases_eq, cases_lt}
 use Rattle.std.proofs.lemmas.List.{length-take, length-drop}
 use Rattle.ts_packet.specs.declared.cell.Cell.{Cell}
 use Rattle.ts_packet.specs.declared.cell.Cell.TheVariants.{Dropped}
-use Rattle.ts_outside.specs.Source.{SourceView}
-use Rattle.ts_outside.specs.Sink.{SinkView}
-use Rattle.chain_model.specs.PluginRule.{PluginRule}
-use Rattle.chain_model.specs.Apply.{StageList}
 use Rattle.chain_core.specs.declared.core_plan.CorePlan.{CorePlan}
 use Rattle.chain_core.specs.declared.progress.Progress.{Progress}
 use Rattle.chain_core.specs.declared.news.News.{News}
 use Rattle.chain_core.specs.declared.stage_word.StageWord.{StageWord}
 use Rattle.chain_core.specs.Numbers.{StagesProgress, takes_of, news_of}
-use Rattle.chain_core.specs.Machine.{ChainState, StageState, Visit, progress_of_stage, visit_of, visited}
+use Rattle.chain_core.specs.Machine.{ChainState, StageState, progress_of_stage, visit_of, visited}
 use Rattle.chain_core.specs.ChainRun.{state_after}
 use Rattle.chain_core.specs.CoreNumbers.{CoreNumbers, StandsFor, progress_of_core}
-use Rattle.chain_core.specs.Keeps.{KeptRun}
-use Rattle.chain_core.specs.EveryOrder.{SoFar}
 use Rattle.chain_core.proofs.Stepping.{visited-same, visited-other}
 use Rattle.stage_run.specs.Seeing.{Seeing}
 use Rattle.stage_run.specs.declared.stage_part.StagePart.{StagePart}

@@ -1,9 +1,11 @@
 -- What a run of a chain comes to: where it was cut and why, what was read, what was written, and what the plugins met.
 -- This project's own rule.
-use Rattle.std.specs.Prelude.{◌≡◌, ◌≢◌, ◌⊎◌, ℕ, suc, ◌+◌, ◌*◌, ◌^◌, ◌≤◌, List, ◌++◌, length, map, take, drop}
+use Rattle.std.specs.Prelude.{◌≡◌, ◌≢◌, ◌⊎◌, ℕ, suc, ◌+◌, ◌*◌, ◌≤◌, List, length, map, take}
+use Rattle.ts_packet.specs.declared.numbers.TheConstants.{PACKET_SIZE}
 use Rattle.ts_packet.specs.declared.cell.Cell.{Cell}
 use Rattle.ts_outside.specs.Source.{SourceView, unread, read_failed}
 use Rattle.ts_outside.specs.Sink.{SinkView, took}
+use Rattle.chain_model.specs.declared.positions.TheConstants.{POSITION_LIMIT}
 use Rattle.chain_model.specs.declared.input_end.InputEnd.TheVariants.{ReadFault}
 use Rattle.chain_model.specs.declared.cause.Cause.{Cause}
 use Rattle.chain_model.specs.declared.cause.Cause.TheVariants.{Input, WriteFault, NoMemory}
@@ -33,7 +35,8 @@ use Rattle.chain_run.specs.Rooms.{WantsMemory}
 -- the last position was reached, the packet behind it
 abbrev pub MayRead : ℕ → ℕ → ℕ → Type 0
 MayRead buffer cut bytes =
-    (bytes ≤ 188 * (cut + buffer)) ⊎ ((2 ^ 60 ≤ cut + buffer) × (bytes ≤ 188 * (2 ^ 60 + 1)))
+    (bytes ≤ PACKET_SIZE * (cut + buffer))
+    ⊎ ((POSITION_LIMIT ≤ cut + buffer) × (bytes ≤ PACKET_SIZE * (POSITION_LIMIT + 1)))
 
 -- behind a failed read the cut is where the list up to the fault ends
 pub record CutsAtFault (stuffing : model.Stuffing) (old new : SourceView) (read : List ℕ)

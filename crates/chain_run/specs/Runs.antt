@@ -1,9 +1,7 @@
 -- A run in one thread, between the turns of its stages. This project's own rule.
-use Rattle.std.specs.Prelude.{◌≡◌, ℕ, zero, suc, ◌+◌, ◌-◌, ◌^◌, ◌<◌, ◌≤◌, List, [], length, map, take, drop, slice_index_or, false, if◌then◌else◌, Option, None, Some, is_some}
+use Rattle.std.specs.Prelude.{◌≡◌, ℕ, zero, suc, ◌+◌, ◌-◌, ◌<◌, ◌≤◌, List, [], length, map, take, drop, slice_index_or, false, if◌then◌else◌, Option, None, Some, is_some}
 use Rattle.std.specs.List.{All}
 use Rattle.ts_packet.specs.declared.cell.Cell.{Cell}
-use Rattle.ts_outside.specs.Source.{SourceView}
-use Rattle.ts_outside.specs.Sink.{SinkView}
 use Rattle.chain_model.specs.PluginRule.{PluginRule}
 use Rattle.chain_model.specs.Apply.{StageList}
 use Rattle.chain_model.specs.StageLists.{rule_behind}
@@ -157,7 +155,7 @@ module _ {S K P : Type 0} (see : Seeing S K P) (begun : RunStart S K) where
 
 -- how much a stage can still do: cells to give, and its end
 abbrev pub still_of : Progress → ℕ
-still_of mark = (2 ^ 60 - mark.given) + (if is_some mark.ended then 0 else 1)
+still_of mark = (position_limit - mark.given) + (if is_some mark.ended then 0 else 1)
 
 -- how much the stages below a number can still do
 abbrev pub remaining_work : StagesProgress → ℕ → ℕ

@@ -1,9 +1,6 @@
 -- How a stage works on a window of the buffer. This project's own rule.
-use Rattle.std.specs.Prelude.{◌≡◌, ℕ, ◌+◌, ◌-◌, ◌%◌, ◌<◌, ◌≤◌, List, ◌++◌, length, take, drop, slice_index_or, slice_set, Some, None}
+use Rattle.std.specs.Prelude.{◌≡◌, ℕ, ◌+◌, ◌%◌, ◌<◌, ◌≤◌, List, ◌++◌, length, take, drop, slice_index_or, slice_set}
 use Rattle.ts_packet.specs.declared.cell.Cell.{Cell}
-use Rattle.ts_outside.specs.Source.{SourceView}
-use Rattle.ts_outside.specs.Sink.{SinkView}
-use Rattle.chain_model.specs.PluginRule.{PluginRule}
 use Rattle.chain_core.specs.declared.news.News.{News}
 use Rattle.chain_core.specs.Machine.{ChainState, visit_of, visited, news_after}
 use Rattle.chain_core.specs.CoreNumbers.{CoreNumbers, StandsFor, progress_of_core}

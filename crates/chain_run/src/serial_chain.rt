@@ -51,8 +51,9 @@ pub(crate) struct SerialChain<S, K, P> {
 }
 
 impl<S: Source, K: Sink, P: Plugin> SerialChain<S, K, P> {
-    ghost use Rattle.std.specs.Prelude.{◌≡◌, ◌^◌, ◌<◌, ◌≤◌, ℕ, suc, length, true, false, is_some, slice_index_or};
+    ghost use Rattle.std.specs.Prelude.{◌≡◌, ◌<◌, ◌≤◌, ℕ, suc, length, true, false, is_some, slice_index_or};
     ghost use Rattle.std.specs.List.{All};
+    ghost use Rattle.chain_model.specs.declared.positions.TheConstants.{POSITION_LIMIT};
     ghost use Rattle.chain_core.specs.CoreNumbers.{progress_of_core};
     ghost use Rattle.chain_core.specs.ChainRun.{AllEnded};
     ghost use Rattle.stage_run.specs.Seeing.{seeing};
@@ -77,7 +78,7 @@ impl<S: Source, K: Sink, P: Plugin> SerialChain<S, K, P> {
         requires some { 1 ≤ most }
         requires written { news.now.written ≤ (progress_of_core self.old.core stage).given }
         requires given { (progress_of_core self.old.core stage).given ≤ news.now.taken }
-        requires taken { news.now.taken ≤ 2 ^ 60 }
+        requires taken { news.now.taken ≤ POSITION_LIMIT }
         requires stands { (d : StagePart S K P) → let part = slice_index_or self.old.parts.items stage d in
             MayWorkOnSome (PartStands (seeing S.seen K.seen P.rule P.stands_for P.steady) part)
             (progress_of_core self.old.core stage).given news.now.written }

@@ -21,20 +21,17 @@ struct StopsAt {
 impl Plugin for StopsAt {
     ghost use Rattle.std.specs.Prelude.{◌≡◌, ◌≤◌, [], None, false, length, nat_le, if◌then◌else◌, refl};
     ghost use Rattle.chain_model.specs.PluginRule.{passes, stops};
+    ghost use Rattle.plugin_trait.specs.SilentRule.{silent_rule};
 
-    ghost rule = { λ s. record {
-      outcome_of = λ history packet. if nat_le s.position (length history) then stops else passes packet;
-      lines_of = λ _ _. [];
-      summary_of = λ _. [];
-      agrees = λ _. false;
-    } };
+    ghost rule = { λ s. silent_rule
+        (λ history packet. if nat_le s.position (length history) then stops else passes packet) };
 
     ghost stands_for = { λ s history mark. mark ≤ length history };
 
     ghost steady = { λ s. None };
 
     fn step(&mut self, at: u64, cell: &mut Cell) -> Outcome {
-        if let Cell::Live(_) = cell {
+        if let Cell::Live(_, _) = cell {
             if self.position <= at {
                 return Outcome::Stop;
             }

@@ -1,3 +1,4 @@
+pub mod LabelSet
 pub mod NumberSet
 pub mod PidTable
 pub mod Selection

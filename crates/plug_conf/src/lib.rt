@@ -1,13 +1,15 @@
-//! What settings of plugins are made of: numbers with their limits, sets of numbers and of PIDs, lists of pairs.
+//! What settings of plugins are made of: numbers with their limits, sets of numbers, PIDs and labels, lists of pairs.
 //! The layer above uses `PidSet::has`, which answers as the ranges of the set do.
 #![tactic(auto)]
 
+mod label_list;
 mod limits;
 mod number_set;
 mod pair_list;
 mod pid_set;
 
-pub use limits::{LAST_OFFSET, LAST_PID, MOST_NUMBER, MOST_PACKETS, MOST_PAIRS};
+pub use label_list::LabelList;
+pub use limits::{LAST_LABEL, LAST_OFFSET, LAST_PID, MOST_NUMBER, MOST_PACKETS, MOST_PAIRS};
 pub use number_set::NumberSet;
 pub use pair_list::PairList;
 pub use pid_set::PidSet;

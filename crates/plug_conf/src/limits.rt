@@ -1,8 +1,11 @@
 //! The greatest numbers that options take, each of which has its name here alone.
-use ts_packet::{NULL_PID, PAYLOAD_SIZE};
+use ts_packet::{LABEL_COUNT, NULL_PID, PAYLOAD_SIZE};
 
 /// The greatest PID.
 pub const LAST_PID: u64 = NULL_PID as u64;
+
+/// The greatest label.
+pub const LAST_LABEL: u64 = LABEL_COUNT as u64 - 1;
 
 /// The greatest offset in a payload.
 pub const LAST_OFFSET: u64 = PAYLOAD_SIZE as u64 - 1;

@@ -1,8 +1,10 @@
 ghost use Rattle.std.specs.Prelude.{◌≡◌, ◌==◌, length};
 ghost use Rattle.std.specs.List.{All};
+ghost use Rattle.plug_conf.specs.LabelSet.{label_set};
 ghost use Rattle.plug_conf.specs.NumberSet.{IsOrderedPair, has_number};
 
 use std::marker::Model;
+use ts_packet::{LABEL_COUNT, Labels};
 
 /// A set of numbers, kept as ranges and seen as the list of their pairs of a least and a most.
 ///
@@ -56,5 +58,18 @@ impl NumberSet {
         self.pairs
             .iter()
             .any(|pair| pair.0 <= number && number <= pair.1)
+    }
+
+    /// The labels of the set: its numbers from 0 to 31.
+    pub fn labels(&self) -> Labels
+        ensures { result ≡ label_set self.now }
+    {
+        let mut labels = Labels::none();
+        for n in 0..LABEL_COUNT {
+            if self.has(u64::from(n)) {
+                labels = labels.with(n);
+            }
+        }
+        labels
     }
 }

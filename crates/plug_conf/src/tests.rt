@@ -8,5 +8,9 @@ fn numbers_of_ranges(rt: HostRuntime) -> Result<(), Fail> {
         assert!(rt; set.has(number) == wanted, "{number}");
     }
     assert!(rt; !set.is_empty() && set.as_slice().len() == 2);
+    let labels = set.labels();
+    for (n, wanted) in [(4, false), (5, true), (8, false), (9, true)] {
+        assert!(rt; labels.has(n) == wanted, "label {n}");
+    }
     Ok(())
 }

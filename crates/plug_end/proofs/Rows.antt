@@ -17,18 +17,18 @@ first = 0x47 ∷ 0x40 ∷ []
 
 -- five packets, of which the second and the fourth have the indicator; a cell before them was dropped
 abbrev cells : List Cell
-cells = Dropped ∷ Live plain ∷ Live first ∷ Live plain ∷ Live first ∷ Live plain ∷ []
+cells = Dropped ∷ Live plain 0 ∷ Live first 0 ∷ Live plain 0 ∷ Live first 0 ∷ Live plain 0 ∷ []
 
 -- `until --packets 3`: the third packet is the fourth cell, and the last one
 abbrev by_packets : UntilConf
 by_packets = record { packets = Some 3; bytes = None; unit_start_count = None; exclude_last = false; joint_termination = false }
 
-third-last : apply (until_rule by_packets) cells ≡ record { cells = Dropped ∷ Live plain ∷ Live first ∷ Live plain ∷ []; ended = Some last_passed }
+third-last : apply (until_rule by_packets) cells ≡ record { cells = Dropped ∷ Live plain 0 ∷ Live first 0 ∷ Live plain 0 ∷ []; ended = Some last_passed }
 unfolding field bit_of
 third-last = refl
 
 -- with `--exclude-last` it is left out
-third-left_out : apply (until_rule (record by_packets { exclude_last = true })) cells ≡ record { cells = Dropped ∷ Live plain ∷ Live first ∷ []; ended = Some stopped }
+third-left_out : apply (until_rule (record by_packets { exclude_last = true })) cells ≡ record { cells = Dropped ∷ Live plain 0 ∷ Live first 0 ∷ []; ended = Some stopped }
 unfolding field bit_of
 third-left_out = refl
 
@@ -41,11 +41,11 @@ never-reached = refl
 abbrev by_bytes : ℕ → UntilConf
 by_bytes n = record { packets = None; bytes = Some n; unit_start_count = None; exclude_last = false; joint_termination = false }
 
-two-packets : (apply (until_rule (by_bytes 376)) cells).cells ≡ Dropped ∷ Live plain ∷ Live first ∷ []
+two-packets : (apply (until_rule (by_bytes 376)) cells).cells ≡ Dropped ∷ Live plain 0 ∷ Live first 0 ∷ []
 unfolding field bit_of
 two-packets = refl
 
-one-byte-more : (apply (until_rule (by_bytes 377)) cells).cells ≡ Dropped ∷ Live plain ∷ Live first ∷ Live plain ∷ []
+one-byte-more : (apply (until_rule (by_bytes 377)) cells).cells ≡ Dropped ∷ Live plain 0 ∷ Live first 0 ∷ Live plain 0 ∷ []
 unfolding field bit_of
 one-byte-more = refl
 
@@ -53,7 +53,7 @@ one-byte-more = refl
 abbrev by_starts : UntilConf
 by_starts = record { packets = None; bytes = None; unit_start_count = Some 2; exclude_last = false; joint_termination = false }
 
-second-start : apply (until_rule by_starts) cells ≡ record { cells = Dropped ∷ Live plain ∷ Live first ∷ Live plain ∷ Live first ∷ []; ended = Some last_passed }
+second-start : apply (until_rule by_starts) cells ≡ record { cells = Dropped ∷ Live plain 0 ∷ Live first 0 ∷ Live plain 0 ∷ Live first 0 ∷ []; ended = Some last_passed }
 unfolding field bit_of
 second-start = refl
 

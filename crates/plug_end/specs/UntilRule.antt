@@ -31,13 +31,14 @@ outcome_at_end conf packet =
     if conf.joint_termination then passes packet else if conf.exclude_last then stops else lasts packet
 
 -- what becomes of a packet behind a history: it passes, or the number is reached with it
-abbrev pub until_outcome : UntilConf → List Cell → List ℕ → RuleOutcome
-until_outcome conf history packet =
-    if is_reached conf (history ++ Live packet ∷ []) then outcome_at_end conf packet else passes packet
+abbrev pub until_outcome : UntilConf → List Cell → List ℕ → ℕ → RuleOutcome
+until_outcome conf history packet labels =
+    if is_reached conf (history ++ Live packet labels ∷ []) then outcome_at_end conf packet else passes packet
 
 -- packets pass until the number is reached with one; where the end is a joint one, every packet passes,
 -- and the plugin agrees to end wherever the number is reached
 abbrev pub until_rule : UntilConf → PluginRule
-until_rule conf = record (silent_rule (until_outcome conf)) {
+until_rule conf = record (silent_rule (λ _ packet. passes packet)) {
+  outcome_of = until_outcome conf;
   agrees = λ history. conf.joint_termination && is_reached conf history;
 }

@@ -8,7 +8,7 @@ mod until_words;
 
 pub use until::Until;
 pub use until_conf::UntilConf;
-pub use until_words::read_until;
+pub use until_words::{until_command, until_settings};
 
 #[cfg(test)]
 mod tests;

@@ -4,7 +4,7 @@ use crate::{Until, UntilConf};
 use plugin_trait::{ListEnd, Plugin, apply_plugin};
 use std::alloc::Global;
 use std::test::Fail;
-use ts_packet::{Cell, Packet};
+use ts_packet::{Cell, Labels, Packet};
 
 const NONE: Option<u64> = None;
 
@@ -12,7 +12,7 @@ const NONE: Option<u64> = None;
 fn packet(unit_start: bool) -> Cell {
     let mut packet = Packet::null();
     packet.set_unit_start(unit_start);
-    Cell::Live(packet)
+    Cell::Live(packet, Labels::none())
 }
 
 /// A dropped cell, and behind it nine packets of which every third has its unit start indicator.
@@ -65,7 +65,7 @@ fn until_ends_the_list(rt: HostRuntime) -> Result<(), Fail> {
         assert_eq!(rt; end, wanted);
         assert!(rt; !agreed);
         assert_eq!(rt; cells.len(), left);
-        assert!(rt; matches!(cells.last(), Some(Cell::Live(_))));
+        assert!(rt; matches!(cells.last(), Some(Cell::Live(..))));
     }
     Ok(())
 }

@@ -1,10 +1,9 @@
-ghost use Rattle.std.specs.Prelude.{◌≡◌, IfOk, map};
-ghost use Rattle.std.specs.String.{string_bytes};
+ghost use Rattle.std.specs.Prelude.{◌≡◌, IfOk};
 ghost use Rattle.clap.specs.Simple.{app_of};
 ghost use Rattle.plug_end.specs.UntilSettings.{IsLawfulUntil};
 ghost use Rattle.plug_end.specs.UntilWords.{until, until_rows};
 ghost use Rattle.option_words.specs.Options.{command_of};
-ghost use Rattle.option_words.specs.Refusal.{Reads, ReadsParsed};
+ghost use Rattle.option_words.specs.Refusal.{ReadsParsed};
 
 use crate::until_conf::UntilConf;
 use clap::Command;
@@ -12,7 +11,8 @@ use option_words::{ParsedOptions, Refusal, WordsRule, new_command, with_flag, wi
 use plug_conf::MOST_NUMBER;
 use std::alloc::{AllocError, Global};
 
-fn until_command<'a>(alloc: Global) -> Result<Command<'a>, AllocError>
+/// The command of `until`, which has its options.
+pub fn until_command<'a>(alloc: Global) -> Result<Command<'a>, AllocError>
     ensures { IfOk result (λ c. app_of c ≡ command_of until_rows) }
 {
     let command = with_value(alloc, new_command(alloc), "packets")?;
@@ -22,7 +22,8 @@ fn until_command<'a>(alloc: Global) -> Result<Command<'a>, AllocError>
     with_flag(alloc, command, "joint-termination")
 }
 
-fn until_settings(found: &ParsedOptions) -> Result<UntilConf, Refusal>
+/// Reads the settings of `until` from what its command found in the words.
+pub fn until_settings(found: &ParsedOptions) -> Result<UntilConf, Refusal>
     ensures reads { ReadsParsed until found.now result }
     ensures lawful { IfOk result IsLawfulUntil }
 {
@@ -43,13 +44,4 @@ fn until_settings(found: &ParsedOptions) -> Result<UntilConf, Refusal>
         return Err(Refusal::Broken(WordsRule::Conflict));
     }
     Ok(conf)
-}
-
-/// Reads the words after the name `until`.
-pub fn read_until(alloc: Global, words: &[String]) -> Result<UntilConf, Refusal>
-    ensures reads { Reads until (map string_bytes words.now) result }
-    ensures lawful { IfOk result IsLawfulUntil }
-{
-    let found = ParsedOptions::of(until_command(alloc)?, words)?;
-    until_settings(&found)
 }

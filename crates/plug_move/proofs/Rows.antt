@@ -29,20 +29,20 @@ abbrev moves : RemapConf
 moves = record { operand = (256, 512) ∷ []; no_psi = true; unchecked = false }
 
 -- a source moves with its flags, and others stay
-moved : apply (remap_rule moves) (Live on_256 ∷ Dropped ∷ Live on_257 ∷ [])
-    ≡ record { cells = Live (0x47 ∷ 0x42 ∷ 0x00 ∷ []) ∷ Dropped ∷ Live on_257 ∷ []; ended = None }
+moved : apply (remap_rule moves) (Live on_256 0 ∷ Dropped ∷ Live on_257 0 ∷ [])
+    ≡ record { cells = Live (0x47 ∷ 0x42 ∷ 0x00 ∷ []) 0 ∷ Dropped ∷ Live on_257 0 ∷ []; ended = None }
 unfolding field bit_of with_pid
 moved = refl
 
 -- a packet that is on the target already is refused
-target-refused : apply (remap_rule moves) (Live on_257 ∷ Live on_512 ∷ Live on_257 ∷ [])
-    ≡ record { cells = Live on_257 ∷ []; ended = Some (refused (Pid 512)) }
+target-refused : apply (remap_rule moves) (Live on_257 0 ∷ Live on_512 0 ∷ Live on_257 0 ∷ [])
+    ≡ record { cells = Live on_257 0 ∷ []; ended = Some (refused (Pid 512)) }
 unfolding field bit_of with_pid
 target-refused = refl
 
 -- and passes with `--unchecked`
-target-unchecked : apply (remap_rule (record moves { unchecked = true })) (Live on_512 ∷ Live on_256 ∷ [])
-    ≡ record { cells = Live on_512 ∷ Live (0x47 ∷ 0x42 ∷ 0x00 ∷ []) ∷ []; ended = None }
+target-unchecked : apply (remap_rule (record moves { unchecked = true })) (Live on_512 0 ∷ Live on_256 0 ∷ [])
+    ≡ record { cells = Live on_512 0 ∷ Live (0x47 ∷ 0x42 ∷ 0x00 ∷ []) 0 ∷ []; ended = None }
 unfolding field bit_of with_pid
 target-unchecked = refl
 
@@ -50,8 +50,8 @@ target-unchecked = refl
 abbrev changed : RemapConf
 changed = record { operand = (257, 258) ∷ (258, 257) ∷ []; no_psi = true; unchecked = false }
 
-places-changed : apply (remap_rule changed) (Live on_257 ∷ Live on_258 ∷ Live on_512 ∷ [])
-    ≡ record { cells = Live on_258 ∷ Live on_257 ∷ Live on_512 ∷ []; ended = None }
+places-changed : apply (remap_rule changed) (Live on_257 0 ∷ Live on_258 0 ∷ Live on_512 0 ∷ [])
+    ≡ record { cells = Live on_258 0 ∷ Live on_257 0 ∷ Live on_512 0 ∷ []; ended = None }
 unfolding field bit_of with_pid
 places-changed = refl
 

@@ -47,7 +47,7 @@ impl Plugin for Remap {
     ghost steady = { λ s. Some s.buffer };
 
     fn step(&mut self, _at: u64, cell: &mut Cell) -> Outcome {
-        let Cell::Live(packet) = cell else {
+        let Cell::Live(packet, _) = cell else {
             return Outcome::Pass;
         };
         let pid = packet.pid();

@@ -1,10 +1,9 @@
-ghost use Rattle.std.specs.Prelude.{◌≡◌, IfOk, map};
-ghost use Rattle.std.specs.String.{string_bytes};
+ghost use Rattle.std.specs.Prelude.{◌≡◌, IfOk};
 ghost use Rattle.clap.specs.Simple.{app_of};
 ghost use Rattle.plug_move.specs.RemapSettings.{IsLawfulRemap};
 ghost use Rattle.plug_move.specs.RemapWords.{remap, remap_rows};
 ghost use Rattle.option_words.specs.Options.{command_of};
-ghost use Rattle.option_words.specs.Refusal.{Reads, ReadsParsed};
+ghost use Rattle.option_words.specs.Refusal.{ReadsParsed};
 
 use crate::remap_conf::RemapConf;
 use clap::Command;
@@ -12,7 +11,8 @@ use option_words::{ParsedOptions, Refusal, WordsRule, new_command, with_flag, wi
 use plug_conf::LAST_PID;
 use std::alloc::{AllocError, Global};
 
-fn remap_command<'a>(alloc: Global) -> Result<Command<'a>, AllocError>
+/// The command of `remap`, which has its options.
+pub fn remap_command<'a>(alloc: Global) -> Result<Command<'a>, AllocError>
     ensures { IfOk result (λ c. app_of c ≡ command_of remap_rows) }
 {
     let command = with_operands(alloc, new_command(alloc), "operand")?;
@@ -20,7 +20,8 @@ fn remap_command<'a>(alloc: Global) -> Result<Command<'a>, AllocError>
     with_flag(alloc, command, "unchecked")
 }
 
-fn remap_settings(alloc: Global, found: &ParsedOptions) -> Result<RemapConf, Refusal>
+/// Reads the settings of `remap` from what its command found in the words.
+pub fn remap_settings(alloc: Global, found: &ParsedOptions) -> Result<RemapConf, Refusal>
     ensures reads { ReadsParsed remap found.now result }
     ensures lawful { IfOk result IsLawfulRemap }
 {
@@ -36,13 +37,4 @@ fn remap_settings(alloc: Global, found: &ParsedOptions) -> Result<RemapConf, Ref
         return Err(Refusal::Broken(WordsRule::Conflict));
     }
     Ok(conf)
-}
-
-/// Reads the words after the name `remap`.
-pub fn read_remap(alloc: Global, words: &[String]) -> Result<RemapConf, Refusal>
-    ensures reads { Reads remap (map string_bytes words.now) result }
-    ensures lawful { IfOk result IsLawfulRemap }
-{
-    let found = ParsedOptions::of(remap_command(alloc)?, words)?;
-    remap_settings(alloc, &found)
 }

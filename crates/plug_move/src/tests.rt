@@ -4,7 +4,7 @@ use crate::{Remap, RemapConf};
 use plug_conf::PairList;
 use plugin_trait::{ListEnd, Reason, apply_plugin};
 use std::test::Fail;
-use ts_packet::{Cell, Packet};
+use ts_packet::{Cell, Labels, Packet};
 
 /// A packet on a PID.
 fn packet(pid: u16) -> Cell
@@ -12,7 +12,7 @@ fn packet(pid: u16) -> Cell
 {
     let mut packet = Packet::null();
     packet.set_pid(pid);
-    Cell::Live(packet)
+    Cell::Live(packet, Labels::none())
 }
 
 #[test]
@@ -30,7 +30,7 @@ fn remap_moves_and_refuses(rt: HostRuntime) -> Result<(), Fail> {
         assert_eq!(rt; end, wanted);
         assert_eq!(rt; cells.len(), left);
         for (cell, pid) in cells.iter().zip([512, 256, 258, 512]) {
-            assert!(rt; matches!(cell, Cell::Live(packet) if packet.pid() == pid));
+            assert!(rt; matches!(cell, Cell::Live(packet, _) if packet.pid() == pid));
         }
     }
     Ok(())

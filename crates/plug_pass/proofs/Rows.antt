@@ -9,6 +9,7 @@ use Rattle.ts_packet.specs.Adaptation.{adaptation_length_of}
 use Rattle.ts_packet.specs.Payload.{payload_start_of}
 use Rattle.ts_packet.specs.Pcr.{pcr_of, has_pcr_of, clock_of}
 use Rattle.chain_model.specs.Apply.{apply, stopped}
+use Rattle.plug_conf.specs.LabelSet.{label_set}
 use Rattle.plug_pass.specs.declared.filter_conf.FilterConf.{FilterConf}
 use Rattle.plug_pass.specs.declared.pattern_conf.PatternConf.{PatternConf}
 use Rattle.plug_pass.specs.declared.slice_conf.SliceConf.{SliceConf}
@@ -30,32 +31,52 @@ abbrev on_258 : List ℕ
 on_258 = 0x47 ∷ 0x01 ∷ 0x02 ∷ 0x90 ∷ []
 
 abbrev three : List Cell
-three = Live on_256 ∷ Live on_257 ∷ Live on_258 ∷ []
+three = Live on_256 0 ∷ Live on_257 0 ∷ Live on_258 0 ∷ []
 
 -- `filter --pid 256-257`
 abbrev by_pid : FilterConf
-by_pid = record { pid = (256, 257) ∷ []; pcr = false; unit_start = false; scrambled = false; negate = false; stuffing = false }
+by_pid = record { pid = (256, 257) ∷ []; pcr = false; unit_start = false; scrambled = false; label = []; negate = false; stuffing = false; set_label = [] }
 
-pid-kept : (apply (filter_rule by_pid) three).cells ≡ Live on_256 ∷ Live on_257 ∷ Dropped ∷ []
+pid-kept : (apply (filter_rule by_pid) three).cells ≡ Live on_256 0 ∷ Live on_257 0 ∷ Dropped ∷ []
 unfolding field bit_of adaptation_length_of has_pcr_of clock_of pcr_of
 pid-kept = refl
 
 -- with `--negate`, and with `--stuffing` too
-pid-negated : (apply (filter_rule (record by_pid { negate = true })) three).cells ≡ Dropped ∷ Dropped ∷ Live on_258 ∷ []
+pid-negated : (apply (filter_rule (record by_pid { negate = true })) three).cells ≡ Dropped ∷ Dropped ∷ Live on_258 0 ∷ []
 unfolding field bit_of adaptation_length_of has_pcr_of clock_of pcr_of
 pid-negated = refl
 
-pid-stuffed : (apply (filter_rule (record by_pid { stuffing = true })) three).cells ≡ Live on_256 ∷ Live on_257 ∷ Live null_packet ∷ []
+pid-stuffed : (apply (filter_rule (record by_pid { stuffing = true })) three).cells ≡ Live on_256 0 ∷ Live on_257 0 ∷ Live null_packet 0 ∷ []
 unfolding field bit_of adaptation_length_of has_pcr_of clock_of pcr_of
 pid-stuffed = refl
 
 -- one of two conditions is enough
-one-of_two : (apply (filter_rule (record by_pid { pid = []; unit_start = true; scrambled = true })) three).cells ≡ Dropped ∷ Live on_257 ∷ Live on_258 ∷ []
+one-of_two : (apply (filter_rule (record by_pid { pid = []; unit_start = true; scrambled = true })) three).cells ≡ Dropped ∷ Live on_257 0 ∷ Live on_258 0 ∷ []
 unfolding field bit_of adaptation_length_of has_pcr_of clock_of pcr_of
 one-of_two = refl
 
+-- `filter --pid 256-257 --set-label 3`: every packet passes, and label 3 stands beside the labels that were there
+abbrev sets_3 : FilterConf
+sets_3 = record by_pid { set_label = (3, 3) ∷ [] }
+
+label-added : (apply (filter_rule sets_3) (Live on_256 0 ∷ Live on_257 1 ∷ Live on_258 1 ∷ [])).cells
+    ≡ Live on_256 8 ∷ Live on_257 9 ∷ Live on_258 1 ∷ []
+unfolding field bit_of adaptation_length_of has_pcr_of clock_of pcr_of label_set
+label-added = refl
+
+-- with `--negate` the others get it
+label-negated : (apply (filter_rule (record sets_3 { negate = true })) three).cells ≡ Live on_256 0 ∷ Live on_257 0 ∷ Live on_258 8 ∷ []
+unfolding field bit_of adaptation_length_of has_pcr_of clock_of pcr_of label_set
+label-negated = refl
+
+-- `filter --label 2-3 --stuffing`: a null packet keeps the labels of its place
+label-kept : (apply (filter_rule (record by_pid { pid = []; label = (2, 3) ∷ []; stuffing = true })) (Live on_256 8 ∷ Live on_257 1 ∷ [])).cells
+    ≡ Live on_256 8 ∷ Live null_packet 1 ∷ []
+unfolding field bit_of adaptation_length_of has_pcr_of clock_of pcr_of label_set
+label-kept = refl
+
 -- `skip 2`: a cell that was dropped before is no packet
-two-skipped : (apply (skip_rule 2) (Live on_256 ∷ Dropped ∷ Live on_257 ∷ Live on_258 ∷ [])).cells ≡ Dropped ∷ Dropped ∷ Dropped ∷ Live on_258 ∷ []
+two-skipped : (apply (skip_rule 2) (Live on_256 0 ∷ Dropped ∷ Live on_257 0 ∷ Live on_258 0 ∷ [])).cells ≡ Dropped ∷ Dropped ∷ Dropped ∷ Live on_258 0 ∷ []
 two-skipped = refl
 
 none-skipped : (apply (skip_rule 0) three).cells ≡ three
@@ -65,13 +86,13 @@ none-skipped = refl
 abbrev slices : SliceConf
 slices = record { drop = Some 1; null = None; pass = Some 3; stop = Some 4 }
 
-sliced : apply (slice_rule slices) (Live on_256 ∷ Live on_257 ∷ Live on_258 ∷ Live on_257 ∷ Live on_256 ∷ Live on_257 ∷ [])
-    ≡ record { cells = Live on_256 ∷ Dropped ∷ Dropped ∷ Live on_257 ∷ []; ended = Some stopped }
+sliced : apply (slice_rule slices) (Live on_256 0 ∷ Live on_257 0 ∷ Live on_258 0 ∷ Live on_257 0 ∷ Live on_256 0 ∷ Live on_257 0 ∷ [])
+    ≡ record { cells = Live on_256 0 ∷ Dropped ∷ Dropped ∷ Live on_257 0 ∷ []; ended = Some stopped }
 sliced = refl
 
 -- cells that were dropped before have no number
-sliced-packets : apply (slice_rule slices) (Dropped ∷ Live on_256 ∷ Dropped ∷ Live on_257 ∷ Live on_258 ∷ [])
-    ≡ record { cells = Dropped ∷ Live on_256 ∷ Dropped ∷ Dropped ∷ Dropped ∷ []; ended = None }
+sliced-packets : apply (slice_rule slices) (Dropped ∷ Live on_256 0 ∷ Dropped ∷ Live on_257 0 ∷ Live on_258 0 ∷ [])
+    ≡ record { cells = Dropped ∷ Live on_256 0 ∷ Dropped ∷ Dropped ∷ Dropped ∷ []; ended = None }
 sliced-packets = refl
 
 -- the pattern begins again behind its last byte
@@ -83,20 +104,20 @@ seven-repeated = refl
 abbrev patterns : PatternConf
 patterns = record { operand = 1 ∷ 2 ∷ []; pid = []; negate = false; offset_pusi = Some 181; offset_non_pusi = Some 183 }
 
-patterned-start : (apply (pattern_rule patterns) (Live (on_257 ++ replicate 184 0) ∷ [])).cells ≡ Live (on_257 ++ (replicate 181 0 ++ 1 ∷ 2 ∷ 1 ∷ [])) ∷ []
+patterned-start : (apply (pattern_rule patterns) (Live (on_257 ++ replicate 184 0) 0 ∷ [])).cells ≡ Live (on_257 ++ (replicate 181 0 ++ 1 ∷ 2 ∷ 1 ∷ [])) 0 ∷ []
 unfolding field bit_of adaptation_length_of payload_start_of repeated
 patterned-start = refl
 
-patterned-other : (apply (pattern_rule patterns) (Live (on_256 ++ replicate 184 0) ∷ [])).cells ≡ Live (on_256 ++ (replicate 183 0 ++ 1 ∷ [])) ∷ []
+patterned-other : (apply (pattern_rule patterns) (Live (on_256 ++ replicate 184 0) 0 ∷ [])).cells ≡ Live (on_256 ++ (replicate 183 0 ++ 1 ∷ [])) 0 ∷ []
 unfolding field bit_of adaptation_length_of payload_start_of repeated
 patterned-other = refl
 
 -- behind an adaptation field of two bytes the place is behind the packet's end, and a field alone has no payload
-behind-end : (apply (pattern_rule patterns) (Live (0x47 ∷ 0x01 ∷ 0x00 ∷ 0x30 ∷ 2 ∷ replicate 183 0) ∷ [])).cells ≡ Live (0x47 ∷ 0x01 ∷ 0x00 ∷ 0x30 ∷ 2 ∷ replicate 183 0) ∷ []
+behind-end : (apply (pattern_rule patterns) (Live (0x47 ∷ 0x01 ∷ 0x00 ∷ 0x30 ∷ 2 ∷ replicate 183 0) 0 ∷ [])).cells ≡ Live (0x47 ∷ 0x01 ∷ 0x00 ∷ 0x30 ∷ 2 ∷ replicate 183 0) 0 ∷ []
 unfolding field bit_of adaptation_length_of payload_start_of repeated
 behind-end = refl
 
-no-payload : (apply (pattern_rule patterns) (Live (0x47 ∷ 0x01 ∷ 0x00 ∷ 0x20 ∷ 183 ∷ replicate 183 0) ∷ [])).cells ≡ Live (0x47 ∷ 0x01 ∷ 0x00 ∷ 0x20 ∷ 183 ∷ replicate 183 0) ∷ []
+no-payload : (apply (pattern_rule patterns) (Live (0x47 ∷ 0x01 ∷ 0x00 ∷ 0x20 ∷ 183 ∷ replicate 183 0) 0 ∷ [])).cells ≡ Live (0x47 ∷ 0x01 ∷ 0x00 ∷ 0x20 ∷ 183 ∷ replicate 183 0) 0 ∷ []
 unfolding field bit_of adaptation_length_of payload_start_of repeated
 no-payload = refl
 

@@ -9,6 +9,8 @@ conf_of s = record {
   pcr = s.pcr;
   unit_start = s.unit_start;
   scrambled = s.scrambled;
+  label = s.label;
   negate = s.negate;
   stuffing = s.stuffing;
+  set_label = s.set_label;
 }

@@ -2,30 +2,34 @@ ghost use Rattle.std.specs.Prelude.{◌≡◌, IfOk, [], Some};
 ghost use Rattle.plug_pass.specs.FilterRule.{filter_rule};
 
 use crate::filter_conf::FilterConf;
-use plug_conf::PidSet;
+use plug_conf::{LabelList, PidSet};
 use plugin_trait::{Line, Outcome, Plugin, silent_report};
 use std::alloc::{AllocError, Global};
-use ts_packet::{Cell, Packet};
+use ts_packet::{Cell, Labels, Packet};
 
-/// Passes the packets that meet one of its conditions, or with `negate` those that meet none.
+/// Selects the packets that meet one of its conditions, or with `negate` those that meet none. It passes these alone,
+/// or, where it sets labels, every packet, and adds the labels to those of the selected ones.
 #[derive(Drop, Debug)]
 pub struct Filter {
     pids: PidSet,
     pcr: bool,
     unit_start: bool,
     scrambled: bool,
+    label: LabelList,
     negate: bool,
     stuffing: bool,
+    set_label: LabelList,
     buffer: usize,
     alloc: Global,
 }
 
 impl Filter {
     ghost use Rattle.plug_pass.specs.FilterSettings.{IsLawfulFilter};
-    ghost use Rattle.plug_pass.specs.FilterRule.{meets_condition};
+    ghost use Rattle.plug_pass.specs.FilterRule.{meets_condition, selects};
     ghost use Rattle.plug_pass.specs.FilterState.{conf_of};
 
-    /// A plugin that met no cell yet. It takes room for its table of PIDs, and its steps take none.
+    /// A plugin that met no cell yet. It takes room for its table of PIDs and its lists of labels, and its steps take
+    /// none.
     pub fn new(alloc: Global, conf: &FilterConf, buffer: usize) -> Result<Filter, AllocError>
         requires { IsLawfulFilter conf.now }
         ensures rule { IfOk result (λ plugin. ⟦<Filter as Plugin>⟧.rule plugin ≡ filter_rule conf.now) }
@@ -37,21 +41,31 @@ impl Filter {
             pcr: conf.pcr,
             unit_start: conf.unit_start,
             scrambled: conf.scrambled,
+            label: LabelList::of(alloc, &conf.label)?,
             negate: conf.negate,
             stuffing: conf.stuffing,
+            set_label: LabelList::of(alloc, &conf.set_label)?,
             buffer,
             alloc,
         })
     }
 
-    // Whether one of the conditions that are given holds of the packet.
-    fn meets_condition(&self, packet: &Packet) -> bool
-        ensures { result ≡ meets_condition (conf_of self.now) packet.now }
+    // Whether one of the conditions that are given holds of the packet or of its labels.
+    fn meets_condition(&self, packet: &Packet, labels: Labels) -> bool
+        ensures { result ≡ meets_condition (conf_of self.now) packet.now labels }
     {
         self.pids.has(packet.pid())
             || self.pcr && packet.pcr().is_some()
             || self.unit_start && packet.unit_start()
             || self.scrambled && packet.scrambling() != 0
+            || labels.shares(self.label.labels())
+    }
+
+    // Whether the packet is selected.
+    fn selects(&self, packet: &Packet, labels: Labels) -> bool
+        ensures { result ≡ selects (conf_of self.now) packet.now labels }
+    {
+        self.meets_condition(packet, labels) != self.negate
     }
 }
 
@@ -67,10 +81,17 @@ impl Plugin for Filter {
     ghost steady = { λ s. Some s.buffer };
 
     fn step(&mut self, _at: u64, cell: &mut Cell) -> Outcome {
-        let Cell::Live(packet) = cell else {
+        let Cell::Live(packet, labels) = cell else {
             return Outcome::Pass;
         };
-        if self.meets_condition(packet) != self.negate {
+        let is_selected = self.selects(packet, *labels);
+        if !self.set_label.is_empty() {
+            if is_selected {
+                *labels = labels.union(self.set_label.labels());
+            }
+            return Outcome::Pass;
+        }
+        if is_selected {
             return Outcome::Pass;
         }
         if self.stuffing {

@@ -1,8 +1,12 @@
+ghost use Rattle.std.specs.Prelude.{◌≡◌};
+ghost use Rattle.plug_pass.specs.FilterSettings.{filter_together, sets_labels};
+
 use plug_conf::NumberSet;
 
-/// Settings of `filter`, which passes the packets that meet one of its conditions.
+/// Settings of `filter`, which selects the packets that meet one of its conditions.
 ///
-/// At least one of the four conditions is given.
+/// At least one of the five conditions is given. Without labels to be set the selected packets pass, and the others
+/// do not; with them every packet passes, and the selected ones get these labels.
 #[derive(Drop, Debug)]
 pub struct FilterConf {
     /// The PID is one of these; none where it is no condition.
@@ -13,8 +17,28 @@ pub struct FilterConf {
     pub unit_start: bool,
     /// The scrambling control is not 0.
     pub scrambled: bool,
-    /// The packets that meet none are passed in place of those that do.
+    /// The packet has one of these labels, 0 to 31; none where it is no condition.
+    pub label: NumberSet,
+    /// The packets that meet none are selected in place of those that do.
     pub negate: bool,
-    /// What is not passed becomes a null packet and is not dropped.
+    /// What is not passed becomes a null packet and is not dropped. It excludes labels to be set.
     pub stuffing: bool,
+    /// The labels, 0 to 31, that selected packets get besides their own; none where no labels are set.
+    pub set_label: NumberSet,
+}
+
+impl FilterConf {
+    /// Whether there are labels to be set.
+    pub fn sets_labels(&self) -> bool
+        ensures { result ≡ sets_labels self.now }
+    {
+        !self.set_label.is_empty()
+    }
+
+    /// Whether not both, labels to be set and stuffing, are given.
+    pub fn goes_together(&self) -> bool
+        ensures { result ≡ filter_together self.now }
+    {
+        !(self.sets_labels() && self.stuffing)
+    }
 }

@@ -1,54 +1,70 @@
-ghost use Rattle.std.specs.Prelude.{◌≡◌, IfOk, map};
-ghost use Rattle.std.specs.String.{string_bytes};
+ghost use Rattle.std.specs.Prelude.{◌≡◌, IfOk};
 ghost use Rattle.clap.specs.Simple.{app_of};
 ghost use Rattle.plug_pass.specs.FilterSettings.{IsLawfulFilter};
-ghost use Rattle.plug_pass.specs.FilterWords.{filter, filter_rows};
+ghost use Rattle.plug_pass.specs.FilterWords.{condition_rows, filter, filter_rows};
 ghost use Rattle.option_words.specs.Options.{command_of};
-ghost use Rattle.option_words.specs.Refusal.{Reads, ReadsParsed};
+ghost use Rattle.option_words.specs.Refusal.{ReadsParsed};
 
 use crate::filter_conf::FilterConf;
 use clap::Command;
 use option_words::{ParsedOptions, Refusal, WordsRule, new_command, with_flag, with_value};
-use plug_conf::LAST_PID;
+use plug_conf::{LAST_LABEL, LAST_PID};
 use std::alloc::{AllocError, Global};
 
-fn filter_command<'a>(alloc: Global) -> Result<Command<'a>, AllocError>
-    ensures { IfOk result (λ c. app_of c ≡ command_of filter_rows) }
+// The command of the conditions alone.
+fn conditions_command<'a>(alloc: Global) -> Result<Command<'a>, AllocError>
+    ensures { IfOk result (λ c. app_of c ≡ command_of condition_rows) }
 {
     let command = with_value(alloc, new_command(alloc), "pid")?;
     let command = with_flag(alloc, command, "pcr")?;
     let command = with_flag(alloc, command, "unit-start")?;
     let command = with_flag(alloc, command, "scrambled")?;
-    let command = with_flag(alloc, command, "negate")?;
-    with_flag(alloc, command, "stuffing")
+    with_value(alloc, command, "label")
 }
 
-fn filter_settings(alloc: Global, found: &ParsedOptions) -> Result<FilterConf, Refusal>
+/// The command of `filter`, which has its options.
+pub fn filter_command<'a>(alloc: Global) -> Result<Command<'a>, AllocError>
+    ensures { IfOk result (λ c. app_of c ≡ command_of filter_rows) }
+{
+    let command = with_flag(alloc, conditions_command(alloc)?, "negate")?;
+    let command = with_flag(alloc, command, "stuffing")?;
+    with_value(alloc, command, "set-label")
+}
+
+// Whether one of the five conditions is given.
+fn has_condition(found: &ParsedOptions) -> bool
+    ensures { result ≡ filter.has_needed found.now }
+{
+    found.has_value("pid")
+        || found.has_flag("pcr")
+        || found.has_flag("unit-start")
+        || found.has_flag("scrambled")
+        || found.has_value("label")
+}
+
+/// Reads the settings of `filter` from what its command found in the words.
+pub fn filter_settings(alloc: Global, found: &ParsedOptions) -> Result<FilterConf, Refusal>
     ensures reads { ReadsParsed filter found.now result }
     ensures lawful { IfOk result IsLawfulFilter }
 {
-    let has_condition = found.has_value("pid")
-        || found.has_flag("pcr")
-        || found.has_flag("unit-start")
-        || found.has_flag("scrambled");
-    if !has_condition {
+    if !has_condition(found) {
         return Err(Refusal::Broken(WordsRule::Missing));
     }
-    Ok(FilterConf {
-        pid: found.ranges(alloc, "pid", LAST_PID)?,
+    let pid = found.ranges(alloc, "pid", LAST_PID)?;
+    let label = found.ranges(alloc, "label", LAST_LABEL)?;
+    let set_label = found.ranges(alloc, "set-label", LAST_LABEL)?;
+    let conf = FilterConf {
+        pid,
         pcr: found.has_flag("pcr"),
         unit_start: found.has_flag("unit-start"),
         scrambled: found.has_flag("scrambled"),
+        label,
         negate: found.has_flag("negate"),
         stuffing: found.has_flag("stuffing"),
-    })
-}
-
-/// Reads the words after the name `filter`.
-pub fn read_filter(alloc: Global, words: &[String]) -> Result<FilterConf, Refusal>
-    ensures reads { Reads filter (map string_bytes words.now) result }
-    ensures lawful { IfOk result IsLawfulFilter }
-{
-    let found = ParsedOptions::of(filter_command(alloc)?, words)?;
-    filter_settings(alloc, &found)
+        set_label,
+    };
+    if !conf.goes_together() {
+        return Err(Refusal::Broken(WordsRule::Conflict));
+    }
+    Ok(conf)
 }

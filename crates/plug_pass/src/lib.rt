@@ -1,4 +1,4 @@
-//! The plugins that pass, drop or overwrite packets: `filter`, `skip`, `slice`, `pattern`, each with its options.
+//! The plugins that pass, drop, label or overwrite packets: `filter`, `skip`, `slice`, `pattern`, each with its options.
 //! The layer above reads settings of words, makes each of its settings, and uses it by the clauses of `Plugin`.
 #![tactic(auto)]
 
@@ -17,16 +17,16 @@ mod slice_words;
 
 pub use filter::Filter;
 pub use filter_conf::FilterConf;
-pub use filter_words::read_filter;
+pub use filter_words::{filter_command, filter_settings};
 pub use pattern::Pattern;
 pub use pattern_conf::PatternConf;
-pub use pattern_words::read_pattern;
+pub use pattern_words::{pattern_command, pattern_settings};
 pub use skip::Skip;
 pub use skip_conf::SkipConf;
-pub use skip_words::read_skip;
+pub use skip_words::{skip_command, skip_settings};
 pub use slice::Slice;
 pub use slice_conf::SliceConf;
-pub use slice_words::read_slice;
+pub use slice_words::{slice_command, slice_settings};
 
 #[cfg(test)]
 mod tests;

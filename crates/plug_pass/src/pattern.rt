@@ -104,7 +104,7 @@ impl Plugin for Pattern {
     ghost steady = { λ s. Some s.buffer };
 
     fn step(&mut self, _at: u64, cell: &mut Cell) -> Outcome {
-        let Cell::Live(packet) = cell else {
+        let Cell::Live(packet, _) = cell else {
             return Outcome::Pass;
         };
         self.edit(packet);

@@ -1,10 +1,9 @@
-ghost use Rattle.std.specs.Prelude.{◌≡◌, IfOk, map};
-ghost use Rattle.std.specs.String.{string_bytes};
+ghost use Rattle.std.specs.Prelude.{◌≡◌, IfOk};
 ghost use Rattle.clap.specs.Simple.{app_of};
 ghost use Rattle.plug_pass.specs.PatternSettings.{IsLawfulPattern};
 ghost use Rattle.plug_pass.specs.PatternWords.{pattern, pattern_rows};
 ghost use Rattle.option_words.specs.Options.{command_of};
-ghost use Rattle.option_words.specs.Refusal.{Reads, ReadsParsed};
+ghost use Rattle.option_words.specs.Refusal.{ReadsParsed};
 
 use crate::pattern_conf::PatternConf;
 use clap::Command;
@@ -15,7 +14,8 @@ use plug_conf::{LAST_OFFSET, LAST_PID};
 use std::alloc::{AllocError, Global};
 use ts_packet::PAYLOAD_SIZE;
 
-fn pattern_command<'a>(alloc: Global) -> Result<Command<'a>, AllocError>
+/// The command of `pattern`, which has its options.
+pub fn pattern_command<'a>(alloc: Global) -> Result<Command<'a>, AllocError>
     ensures { IfOk result (λ c. app_of c ≡ command_of pattern_rows) }
 {
     let command = with_operand(alloc, new_command(alloc), "operand")?;
@@ -25,7 +25,8 @@ fn pattern_command<'a>(alloc: Global) -> Result<Command<'a>, AllocError>
     with_flag(alloc, command, "negate")
 }
 
-fn pattern_settings(alloc: Global, found: &ParsedOptions) -> Result<PatternConf, Refusal>
+/// Reads the settings of `pattern` from what its command found in the words.
+pub fn pattern_settings(alloc: Global, found: &ParsedOptions) -> Result<PatternConf, Refusal>
     ensures reads { ReadsParsed pattern found.now result }
     ensures lawful { IfOk result IsLawfulPattern }
 {
@@ -43,13 +44,4 @@ fn pattern_settings(alloc: Global, found: &ParsedOptions) -> Result<PatternConf,
         offset_pusi,
         offset_non_pusi,
     })
-}
-
-/// Reads the words after the name `pattern`.
-pub fn read_pattern(alloc: Global, words: &[String]) -> Result<PatternConf, Refusal>
-    ensures reads { Reads pattern (map string_bytes words.now) result }
-    ensures lawful { IfOk result IsLawfulPattern }
-{
-    let found = ParsedOptions::of(pattern_command(alloc)?, words)?;
-    pattern_settings(alloc, &found)
 }

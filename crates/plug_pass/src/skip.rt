@@ -49,7 +49,7 @@ impl Plugin for Skip {
     ghost steady = { λ s. Some s.buffer };
 
     fn step(&mut self, _at: u64, cell: &mut Cell) -> Outcome {
-        if let Cell::Live(_) = cell {
+        if let Cell::Live(..) = cell {
             if self.left > 0 {
                 self.left -= 1;
                 *cell = Cell::Dropped;

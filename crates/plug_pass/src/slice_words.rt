@@ -1,10 +1,9 @@
-ghost use Rattle.std.specs.Prelude.{◌≡◌, IfOk, map};
-ghost use Rattle.std.specs.String.{string_bytes};
+ghost use Rattle.std.specs.Prelude.{◌≡◌, IfOk};
 ghost use Rattle.clap.specs.Simple.{app_of};
 ghost use Rattle.plug_pass.specs.SliceSettings.{IsLawfulSlice};
 ghost use Rattle.plug_pass.specs.SliceWords.{slice, slice_rows};
 ghost use Rattle.option_words.specs.Options.{command_of};
-ghost use Rattle.option_words.specs.Refusal.{Reads, ReadsParsed};
+ghost use Rattle.option_words.specs.Refusal.{ReadsParsed};
 
 use crate::slice_conf::SliceConf;
 use clap::Command;
@@ -12,7 +11,8 @@ use option_words::{ParsedOptions, Refusal, WordsRule, new_command, with_value};
 use plug_conf::MOST_NUMBER;
 use std::alloc::{AllocError, Global};
 
-fn slice_command<'a>(alloc: Global) -> Result<Command<'a>, AllocError>
+/// The command of `slice`, which has its options.
+pub fn slice_command<'a>(alloc: Global) -> Result<Command<'a>, AllocError>
     ensures { IfOk result (λ c. app_of c ≡ command_of slice_rows) }
 {
     let command = with_value(alloc, new_command(alloc), "drop")?;
@@ -21,7 +21,8 @@ fn slice_command<'a>(alloc: Global) -> Result<Command<'a>, AllocError>
     with_value(alloc, command, "stop")
 }
 
-fn slice_settings(found: &ParsedOptions) -> Result<SliceConf, Refusal>
+/// Reads the settings of `slice` from what its command found in the words.
+pub fn slice_settings(found: &ParsedOptions) -> Result<SliceConf, Refusal>
     ensures reads { ReadsParsed slice found.now result }
     ensures lawful { IfOk result IsLawfulSlice }
 {
@@ -46,13 +47,4 @@ fn slice_settings(found: &ParsedOptions) -> Result<SliceConf, Refusal>
         return Err(Refusal::Broken(WordsRule::Conflict));
     }
     Ok(conf)
-}
-
-/// Reads the words after the name `slice`.
-pub fn read_slice(alloc: Global, words: &[String]) -> Result<SliceConf, Refusal>
-    ensures reads { Reads slice (map string_bytes words.now) result }
-    ensures lawful { IfOk result IsLawfulSlice }
-{
-    let found = ParsedOptions::of(slice_command(alloc)?, words)?;
-    slice_settings(&found)
 }

@@ -6,7 +6,7 @@ use plugin_trait::{ListEnd, Plugin, apply_plugin};
 use std::alloc::{AllocError, Global};
 use std::test::Fail;
 use ts_outside::FileBytes;
-use ts_packet::{Cell, Packet};
+use ts_packet::{Cell, Labels, Packet};
 
 /// A packet on a PID, with counter 0 and a payload of bytes 0xFF.
 fn packet(pid: u16) -> Packet
@@ -30,14 +30,14 @@ fn shape<P: Plugin + Drop>(
 {
     let mut cells = Vec::new(alloc);
     for pid in pids {
-        cells.push(Cell::Live(packet(*pid)))?;
+        cells.push(Cell::Live(packet(*pid), Labels::none()))?;
     }
     let end = apply_plugin(&mut plugin, &mut cells);
     let mut shape = String::new(alloc);
     for cell in &cells {
         shape.push(match cell {
-            Cell::Live(packet) if packet.pid() == 8191 => 'n',
-            Cell::Live(_) => 'p',
+            Cell::Live(packet, _) if packet.pid() == 8191 => 'n',
+            Cell::Live(..) => 'p',
             Cell::Dropped => '.',
         })?;
     }
@@ -59,8 +59,10 @@ fn filter_passes_a_pid(rt: HostRuntime) -> Result<(), Fail> {
             pcr: false,
             unit_start: false,
             scrambled: false,
+            label: NumberSet::of(Vec::new(rt.alloc())),
             negate,
             stuffing,
+            set_label: NumberSet::of(Vec::new(rt.alloc())),
         };
         let filter = Filter::new(rt.alloc(), &conf, 1)?;
         let (shape, end) = shape(rt.alloc(), filter, &THREE)?;
@@ -104,11 +106,11 @@ fn pattern_is_written_to_the_end(rt: HostRuntime) -> Result<(), Fail> {
         offset_non_pusi: Some(181),
     };
     let mut pattern = Pattern::new(rt.alloc(), &conf, 1)?;
-    let mut cells = vec![in rt.alloc(); Cell::Live(packet(256))]?;
+    let mut cells = vec![in rt.alloc(); Cell::Live(packet(256), Labels::none())]?;
     let end = apply_plugin(&mut pattern, &mut cells);
     assert_eq!(rt; end, ListEnd::Through);
     assert_eq!(rt; cells.len(), 1);
-    if let Cell::Live(packet) = &cells[0] {
+    if let Cell::Live(packet, _) = &cells[0] {
         assert_eq!(rt; &packet.bytes()[184..], [0xFF, 0xAB, 0xCD, 0xAB].as_slice());
     } else {
         assert!(rt; false, "the packet was dropped");

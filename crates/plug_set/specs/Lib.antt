@@ -1,1 +1,3 @@
 pub mod Plugins
+pub mod OnlyLabels
+pub mod Items

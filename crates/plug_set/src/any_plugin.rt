@@ -1,151 +1,85 @@
 ghost use Rattle.std.specs.Prelude.{◌≡◌, IfOk, []};
-ghost use Rattle.plug_set.specs.Plugins.{rule_of, steady_of};
+ghost use Rattle.plug_set.specs.Items.{rule_of_item};
+ghost use Rattle.plug_set.specs.Plugins.{steady_of};
 
-use crate::plugin_conf::PluginConf;
-use plug_end::Until;
-use plug_move::Remap;
-use plug_pass::{Filter, Pattern, Skip, Slice};
-use plug_watch::{Continuity, Count};
+use crate::plugin_item::PluginItem;
+use crate::some_plugin::SomePlugin;
 use plugin_trait::{Line, Outcome, Plugin};
 use std::alloc::{AllocError, Global};
-use ts_packet::Cell;
+use ts_packet::{Cell, Labels};
 
-/// A plugin of any kind.
+/// A plugin of the chain. It is shown every cell as it is, or, where it has labels, a packet with none of them as a
+/// dropped one, which stays as it is.
 #[derive(Drop, Debug)]
-pub enum AnyPlugin {
-    Filter(Filter),
-    Skip(Skip),
-    Slice(Slice),
-    Pattern(Pattern),
-    Until(Until),
-    Count(Count),
-    Continuity(Continuity),
-    Remap(Remap),
+pub struct AnyPlugin {
+    plugin: SomePlugin,
+    only: Option<Labels>,
 }
 
 impl AnyPlugin {
-    ghost use Rattle.plug_set.specs.Plugins.{IsLawful};
+    ghost use Rattle.plug_set.specs.Items.{IsLawfulItem};
+    ghost use Rattle.plug_set.specs.OnlyLabels.{shows};
 
-    /// The plugin of these settings, which met no cell yet. `buffer` is the number of positions that the
-    /// chain holds: for so many behind the last mark most plugins take their room here.
-    pub fn of(alloc: Global, conf: &PluginConf, buffer: usize) -> Result<AnyPlugin, AllocError>
-        requires { IsLawful conf.now }
-        ensures rule { IfOk result (λ plugin. ⟦<AnyPlugin as Plugin>⟧.rule plugin ≡ rule_of conf.now) }
+    /// The plugin of this item, which met no cell yet. `buffer` is the number of positions that the chain holds: for
+    /// so many behind the last mark most plugins take their room here.
+    pub fn of(alloc: Global, item: &PluginItem, buffer: usize) -> Result<AnyPlugin, AllocError>
+        requires { IsLawfulItem item.now }
+        ensures rule { IfOk result (λ plugin. ⟦<AnyPlugin as Plugin>⟧.rule plugin ≡ rule_of_item item.now) }
         ensures fresh { IfOk result (λ plugin. ⟦<AnyPlugin as Plugin>⟧.stands_for plugin [] 0) }
-        ensures steady { IfOk result (λ plugin. ⟦<AnyPlugin as Plugin>⟧.steady plugin ≡ steady_of conf.now buffer) }
+        ensures steady { IfOk result (λ plugin. ⟦<AnyPlugin as Plugin>⟧.steady plugin ≡ steady_of item.now.conf buffer) }
     {
-        Ok(match conf {
-            PluginConf::Filter(conf) => AnyPlugin::Filter(Filter::new(alloc, conf, buffer)?),
-            PluginConf::Skip(conf) => AnyPlugin::Skip(Skip::new(alloc, conf, buffer)?),
-            PluginConf::Slice(conf) => AnyPlugin::Slice(Slice::new(alloc, conf, buffer)?),
-            PluginConf::Pattern(conf) => AnyPlugin::Pattern(Pattern::new(alloc, conf, buffer)?),
-            PluginConf::Until(conf) => AnyPlugin::Until(Until::new(alloc, conf, buffer)?),
-            PluginConf::Count(conf) => AnyPlugin::Count(Count::new(alloc, conf, buffer)?),
-            PluginConf::Continuity(conf) => {
-                AnyPlugin::Continuity(Continuity::new(alloc, conf, buffer)?)
-            }
-            PluginConf::Remap(conf) => AnyPlugin::Remap(Remap::new(alloc, conf, buffer)?),
+        Ok(AnyPlugin {
+            plugin: SomePlugin::of(alloc, &item.conf, buffer)?,
+            only: item.labels(),
         })
+    }
+
+    // Whether the plugin is shown the cell as it is.
+    #[inline]
+    fn shows(&self, cell: &Cell) -> bool
+        ensures { result ≡ shows self.now.only cell.now }
+    {
+        match self.only {
+            Some(only) => match cell {
+                Cell::Live(_, labels) => labels.shares(only),
+                Cell::Dropped => true,
+            },
+            None => true,
+        }
     }
 }
 
 impl Plugin for AnyPlugin {
-    ghost use Rattle.std.specs.Prelude.{refl};
-    ghost use Rattle.plug_set.specs.declared.any_plugin.AnyPlugin.TheVariants.{Filter as MadeFilter, Skip as MadeSkip, Slice as MadeSlice, Pattern as MadePattern, Until as MadeUntil, Count as MadeCount, Continuity as MadeContinuity, Remap as MadeRemap};
+    ghost use Rattle.plug_set.specs.contracts.some_plugin.SomePluginPlugin.TheImpl.Laws.{lawful as some_laws};
+    ghost use Rattle.plug_set.specs.OnlyLabels.{rule_for, shown, starts_open_for};
 
-    ghost rule = { elim [
-      | MadeFilter p ↦ ⟦<Filter as Plugin>⟧.rule p
-      | MadeSkip p ↦ ⟦<Skip as Plugin>⟧.rule p
-      | MadeSlice p ↦ ⟦<Slice as Plugin>⟧.rule p
-      | MadePattern p ↦ ⟦<Pattern as Plugin>⟧.rule p
-      | MadeUntil p ↦ ⟦<Until as Plugin>⟧.rule p
-      | MadeCount p ↦ ⟦<Count as Plugin>⟧.rule p
-      | MadeContinuity p ↦ ⟦<Continuity as Plugin>⟧.rule p
-      | MadeRemap p ↦ ⟦<Remap as Plugin>⟧.rule p
-    ] };
+    ghost rule = { λ s. rule_for s.only (⟦<SomePlugin as Plugin>⟧.rule s.plugin) };
 
-    ghost stands_for = { elim [
-      | MadeFilter p ↦ ⟦<Filter as Plugin>⟧.stands_for p
-      | MadeSkip p ↦ ⟦<Skip as Plugin>⟧.stands_for p
-      | MadeSlice p ↦ ⟦<Slice as Plugin>⟧.stands_for p
-      | MadePattern p ↦ ⟦<Pattern as Plugin>⟧.stands_for p
-      | MadeUntil p ↦ ⟦<Until as Plugin>⟧.stands_for p
-      | MadeCount p ↦ ⟦<Count as Plugin>⟧.stands_for p
-      | MadeContinuity p ↦ ⟦<Continuity as Plugin>⟧.stands_for p
-      | MadeRemap p ↦ ⟦<Remap as Plugin>⟧.stands_for p
-    ] };
+    ghost stands_for = { λ s history mark. ⟦<SomePlugin as Plugin>⟧.stands_for s.plugin (shown s.only history) mark };
 
-    ghost steady = { elim [
-      | MadeFilter p ↦ ⟦<Filter as Plugin>⟧.steady p
-      | MadeSkip p ↦ ⟦<Skip as Plugin>⟧.steady p
-      | MadeSlice p ↦ ⟦<Slice as Plugin>⟧.steady p
-      | MadePattern p ↦ ⟦<Pattern as Plugin>⟧.steady p
-      | MadeUntil p ↦ ⟦<Until as Plugin>⟧.steady p
-      | MadeCount p ↦ ⟦<Count as Plugin>⟧.steady p
-      | MadeContinuity p ↦ ⟦<Continuity as Plugin>⟧.steady p
-      | MadeRemap p ↦ ⟦<Remap as Plugin>⟧.steady p
-    ] };
+    ghost steady = { λ s. ⟦<SomePlugin as Plugin>⟧.steady s.plugin };
 
     fn step(&mut self, at: u64, cell: &mut Cell) -> Outcome {
-        match self {
-            AnyPlugin::Filter(plugin) => plugin.step(at, cell),
-            AnyPlugin::Skip(plugin) => plugin.step(at, cell),
-            AnyPlugin::Slice(plugin) => plugin.step(at, cell),
-            AnyPlugin::Pattern(plugin) => plugin.step(at, cell),
-            AnyPlugin::Until(plugin) => plugin.step(at, cell),
-            AnyPlugin::Count(plugin) => plugin.step(at, cell),
-            AnyPlugin::Continuity(plugin) => plugin.step(at, cell),
-            AnyPlugin::Remap(plugin) => plugin.step(at, cell),
+        if self.shows(cell) {
+            return self.plugin.step(at, cell);
         }
+        let mut unseen = Cell::Dropped;
+        self.plugin.step(at, &mut unseen)
     }
 
     fn note(&mut self, written: u64) -> Result<(), AllocError> {
-        match self {
-            AnyPlugin::Filter(plugin) => plugin.note(written),
-            AnyPlugin::Skip(plugin) => plugin.note(written),
-            AnyPlugin::Slice(plugin) => plugin.note(written),
-            AnyPlugin::Pattern(plugin) => plugin.note(written),
-            AnyPlugin::Until(plugin) => plugin.note(written),
-            AnyPlugin::Count(plugin) => plugin.note(written),
-            AnyPlugin::Continuity(plugin) => plugin.note(written),
-            AnyPlugin::Remap(plugin) => plugin.note(written),
-        }
+        self.plugin.note(written)
     }
 
     fn agreed(&self) -> bool {
-        match self {
-            AnyPlugin::Filter(plugin) => plugin.agreed(),
-            AnyPlugin::Skip(plugin) => plugin.agreed(),
-            AnyPlugin::Slice(plugin) => plugin.agreed(),
-            AnyPlugin::Pattern(plugin) => plugin.agreed(),
-            AnyPlugin::Until(plugin) => plugin.agreed(),
-            AnyPlugin::Count(plugin) => plugin.agreed(),
-            AnyPlugin::Continuity(plugin) => plugin.agreed(),
-            AnyPlugin::Remap(plugin) => plugin.agreed(),
-        }
+        self.plugin.agreed()
     }
 
     fn finish(&mut self, cut: u64) -> Result<Vec<Line>, AllocError> {
-        match self {
-            AnyPlugin::Filter(plugin) => plugin.finish(cut),
-            AnyPlugin::Skip(plugin) => plugin.finish(cut),
-            AnyPlugin::Slice(plugin) => plugin.finish(cut),
-            AnyPlugin::Pattern(plugin) => plugin.finish(cut),
-            AnyPlugin::Until(plugin) => plugin.finish(cut),
-            AnyPlugin::Count(plugin) => plugin.finish(cut),
-            AnyPlugin::Continuity(plugin) => plugin.finish(cut),
-            AnyPlugin::Remap(plugin) => plugin.finish(cut),
-        }
+        self.plugin.finish(cut)
     }
 
-    ghost starts_open = { elim [
-      | MadeFilter p ↦ λ history mark stands. refl
-      | MadeSkip p ↦ λ history mark stands. refl
-      | MadeSlice p ↦ λ history mark stands. refl
-      | MadePattern p ↦ λ history mark stands. refl
-      | MadeUntil p ↦ λ history mark stands. stands.open_at_first
-      | MadeCount p ↦ λ history mark stands. refl
-      | MadeContinuity p ↦ λ history mark stands. refl
-      | MadeRemap p ↦ λ history mark stands. refl
-    ] };
+    ghost starts_open = { λ plugin history mark stands. starts_open_for plugin.only
+        (⟦<SomePlugin as Plugin>⟧.rule plugin.plugin)
+        (some_laws.starts_open plugin.plugin (shown plugin.only history) mark stands) };
 }

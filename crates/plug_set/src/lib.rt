@@ -4,9 +4,12 @@
 
 mod any_plugin;
 mod plugin_conf;
+mod plugin_item;
+mod some_plugin;
 
 pub use any_plugin::AnyPlugin;
 pub use plugin_conf::{PluginConf, PluginKind};
+pub use plugin_item::PluginItem;
 
 #[cfg(test)]
 mod tests;

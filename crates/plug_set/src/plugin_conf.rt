@@ -1,17 +1,34 @@
 //! The plugins that there are. A new one has a line in each list of this file.
-ghost use Rattle.std.specs.Prelude.{◌≡◌, IfOk, map};
+ghost use Rattle.std.specs.Prelude.{◌≡◌, IfOk, IfSome, MatchResult, codes, false, map, true};
 ghost use Rattle.std.specs.String.{string_bytes};
-ghost use Rattle.option_words.specs.Refusal.{Reads};
+ghost use Rattle.clap.specs.Simple.{app_of};
+ghost use Rattle.plug_conf.specs.NumberSet.{AllBelow};
+ghost use Rattle.option_words.specs.Forms.{ranges};
+ghost use Rattle.option_words.specs.Options.{command_of, is_formed, read_value};
+ghost use Rattle.option_words.specs.OptionTable.{OptionTable};
+ghost use Rattle.option_words.specs.Ranges.{ranges_of};
+ghost use Rattle.option_words.specs.Refusal.{IsRefusedBy, Reads, ReadsParsed};
+ghost use Rattle.option_words.specs.declared.words_rule.WordsRule.TheVariants.{Value};
+ghost use Rattle.plug_set.specs.declared.plugin_conf.PluginConf.{PluginConf as GivenConf};
+ghost use Rattle.plug_set.specs.Items.{IsLawfulItem, options_of_item, with_only_label};
 ghost use Rattle.plug_set.specs.Plugins.{IsLawful, kind_of, name_of, name_of_kind, options_of_plugin, plugin_kind_named, uses_joint};
 
-use option_words::Refusal;
-use plug_end::{UntilConf, read_until};
-use plug_move::{RemapConf, read_remap};
+use crate::plugin_item::PluginItem;
+use clap::Command;
+use option_words::{ParsedOptions, Refusal, WordsRule, with_value};
+use plug_conf::{LAST_LABEL, NumberSet};
+use plug_end::{UntilConf, until_command, until_settings};
+use plug_move::{RemapConf, remap_command, remap_settings};
 use plug_pass::{
-    FilterConf, PatternConf, SkipConf, SliceConf, read_filter, read_pattern, read_skip, read_slice,
+    FilterConf, PatternConf, SkipConf, SliceConf, filter_command, filter_settings, pattern_command,
+    pattern_settings, skip_command, skip_settings, slice_command, slice_settings,
 };
-use plug_watch::{ContinuityConf, CountConf, read_continuity, read_count};
-use std::alloc::Global;
+use plug_watch::{
+    ContinuityConf, CountConf, continuity_command, continuity_settings, count_command,
+    count_settings,
+};
+use std::alloc::{AllocError, Global};
+use ts_packet::LABEL_COUNT;
 
 /// The settings of one plugin of the chain.
 #[derive(Drop, Debug)]
@@ -73,21 +90,89 @@ impl PluginKind {
         }
     }
 
-    /// Reads the words after the name.
-    pub fn read(self, alloc: Global, words: &[String]) -> Result<PluginConf, Refusal>
-        ensures reads { Reads (options_of_plugin self) (map string_bytes words.now) result }
+    // The plugin's own options.
+    fn command<'a>(self, alloc: Global) -> Result<Command<'a>, AllocError>
+        ensures { IfOk result (λ c. app_of c ≡ command_of (options_of_plugin self).rows) }
+    {
+        match self {
+            PluginKind::Filter => filter_command(alloc),
+            PluginKind::Skip => skip_command(alloc),
+            PluginKind::Slice => slice_command(alloc),
+            PluginKind::Pattern => pattern_command(alloc),
+            PluginKind::Until => until_command(alloc),
+            PluginKind::Count => count_command(alloc),
+            PluginKind::Continuity => continuity_command(alloc),
+            PluginKind::Remap => remap_command(alloc),
+        }
+    }
+
+    // The settings that the words give of the plugin's own options.
+    fn settings(self, alloc: Global, found: &ParsedOptions) -> Result<PluginConf, Refusal>
+        ensures reads { ReadsParsed (options_of_plugin self) found.now result }
         ensures lawful { IfOk result IsLawful }
     {
         match self {
-            PluginKind::Filter => read_filter(alloc, words).map(PluginConf::Filter),
-            PluginKind::Skip => read_skip(alloc, words).map(PluginConf::Skip),
-            PluginKind::Slice => read_slice(alloc, words).map(PluginConf::Slice),
-            PluginKind::Pattern => read_pattern(alloc, words).map(PluginConf::Pattern),
-            PluginKind::Until => read_until(alloc, words).map(PluginConf::Until),
-            PluginKind::Count => read_count(alloc, words).map(PluginConf::Count),
-            PluginKind::Continuity => read_continuity(alloc, words).map(PluginConf::Continuity),
-            PluginKind::Remap => read_remap(alloc, words).map(PluginConf::Remap),
+            PluginKind::Filter => filter_settings(alloc, found).map(PluginConf::Filter),
+            PluginKind::Skip => skip_settings(found).map(PluginConf::Skip),
+            PluginKind::Slice => slice_settings(found).map(PluginConf::Slice),
+            PluginKind::Pattern => pattern_settings(alloc, found).map(PluginConf::Pattern),
+            PluginKind::Until => until_settings(found).map(PluginConf::Until),
+            PluginKind::Count => count_settings(alloc, found).map(PluginConf::Count),
+            PluginKind::Continuity => {
+                continuity_settings(alloc, found).map(PluginConf::Continuity)
+            }
+            PluginKind::Remap => remap_settings(alloc, found).map(PluginConf::Remap),
         }
+    }
+
+    /// Reads the words after the name.
+    pub fn read(self, alloc: Global, words: &[String]) -> Result<PluginItem, Refusal>
+        ensures reads { Reads (options_of_item self) (map string_bytes words.now) result }
+        ensures lawful { IfOk result IsLawfulItem }
+    {
+        let command = with_value(alloc, self.command(alloc)?, "only-label")?;
+        let found = ParsedOptions::of(command, words)?;
+        with_only_labels(alloc, self.settings(alloc, &found), &found)
+    }
+}
+
+// The labels of `--only-label`, where it is given.
+fn only_labels(alloc: Global, found: &ParsedOptions) -> Result<Option<NumberSet>, Refusal>
+    ensures reads { MatchResult result
+        (λ only. (is_formed (ranges LAST_LABEL) (codes "only-label") found.now ≡ true)
+        × (only ≡ read_value (ranges_of LAST_LABEL) (codes "only-label") found.now))
+        (IsRefusedBy Value (is_formed (ranges LAST_LABEL) (codes "only-label") found.now ≡ false)) }
+    ensures range { IfOk result (λ only. IfSome only (AllBelow LABEL_COUNT)) }
+{
+    if !found.has_value("only-label") {
+        return Ok(None);
+    }
+    let only = found.ranges(alloc, "only-label", LAST_LABEL)?;
+    Ok(Some(only))
+}
+
+// What was read of a plugin's own options, with the labels of `--only-label`. Where they are no labels, that is told
+// before options in conflict, and behind what is missing.
+fn with_only_labels(
+    alloc: Global,
+    conf: Result<PluginConf, Refusal>,
+    found: &ParsedOptions,
+) -> Result<PluginItem, Refusal>
+    requires { IfOk conf IsLawful }
+    ensures reads { (table : OptionTable GivenConf) → ReadsParsed table found.now conf
+        → ReadsParsed (with_only_label table) found.now result }
+    ensures lawful { IfOk result IsLawfulItem }
+{
+    match conf {
+        Ok(conf) => {
+            let only = only_labels(alloc, found)?;
+            Ok(PluginItem { conf, only })
+        }
+        Err(Refusal::Broken(WordsRule::Conflict)) => {
+            let _ = only_labels(alloc, found)?;
+            Err(Refusal::Broken(WordsRule::Conflict))
+        }
+        Err(refusal) => Err(refusal),
     }
 }
 

@@ -74,18 +74,18 @@ module _ (conf : CountConf) (notes : List Note) (counts : List ℕ) (total : ℕ
       }
 
 -- a rule without lines has none
-placed_none : (rule : PluginRule) (history cells : List Cell) → ((h : List Cell) (packet : List ℕ) → rule.lines_of h packet ≡ []) → placed_after rule history cells ≡ []
+placed_none : (rule : PluginRule) (history cells : List Cell) → ((h : List Cell) (packet : List ℕ) (labels : ℕ) → rule.lines_of h packet labels ≡ []) → placed_after rule history cells ≡ []
 placed_none rule history [] none = refl
-placed_none rule history (Live packet ∷ cells) none =
-    ap (λ (texts : List (List ℕ)). placed_at (length history) texts ++ placed_after rule (history ++ Live packet ∷ []) cells) (none history packet)
-    ∙ placed_none rule (history ++ Live packet ∷ []) cells none
+placed_none rule history (Live packet labels ∷ cells) none =
+    ap (λ (texts : List (List ℕ)). placed_at (length history) texts ++ placed_after rule (history ++ Live packet labels ∷ []) cells) (none history packet labels)
+    ∙ placed_none rule (history ++ Live packet labels ∷ []) cells none
 placed_none rule history (Dropped ∷ cells) none = placed_none rule (history ++ Dropped ∷ []) cells none
 
 -- the lines with `all`
 placed_all : (conf : CountConf) (cells : List Cell) → conf.all ≡ true → placed_after (count_rule conf) [] cells ≡ map line_of_note (notes_after (note_on conf) [] cells)
 placed_all conf cells all =
     placed_after-notes (note_on conf) (λ (n : Note). n.at) (one_note conf) (count_rule conf) line_of_note
-    (λ h packet. ap (λ (b : Bool). placed_at (length h) (if b then line_on conf h packet else [])) all
+    (λ h packet labels. ap (λ (b : Bool). placed_at (length h) (if b then line_on conf h packet else [])) all
     ∙ ap (placed_at (length h)) (line_on-notes conf h packet)
     ∙ placed_at-notes (λ (n : Note). n.at) text_on (length h) (note_on conf h packet) (one_note conf h packet))
     [] cells
@@ -98,7 +98,7 @@ lines_are : (conf : CountConf) (notes notes_new : List Note) (counts : List ℕ)
 lines_are conf notes notes_new counts total counts_new total_new history mark cut lines w le within folds false none =
     folds.lines_are
     ∙ (ap (λ (b : Bool). if b then map line_of_note folds.folds.taken else []) none
-    ∙ sym (placed_none (count_rule conf) [] (take cut history) (λ h packet. ap (λ (b : Bool). if b then line_on conf h packet else []) none)))
+    ∙ sym (placed_none (count_rule conf) [] (take cut history) (λ h packet labels. ap (λ (b : Bool). if b then line_on conf h packet else []) none)))
 lines_are conf notes notes_new counts total counts_new total_new history mark cut lines w le within folds true all =
     let whole : notes ≡ notes_after (note_on conf) [] history =
     subst (λ (b : Bool). notes ≡ notes_after (note_on conf) (take (tallied_to b mark) history) (drop (tallied_to b mark) history)) all w.from.kept in
@@ -145,20 +145,20 @@ module _ (conf : CountConf) (notes : List Note) (counts : List ℕ) (total : ℕ
   counts_dropped few = counts_more Dropped notes few w.from.on_pids (sym (append-nil notes))
 
   -- nor has a packet that is not counted
-  pub counts_other : (packet : List ℕ) → length history < 2 ^ 60 → is_counted conf packet ≡ false → Counts conf notes counts total (history ++ Live packet ∷ []) mark
-  counts_other packet few other =
+  pub counts_other : (packet : List ℕ) (labels : ℕ) → length history < 2 ^ 60 → is_counted conf packet ≡ false → Counts conf notes counts total (history ++ Live packet labels ∷ []) mark
+  counts_other packet labels few other =
       let note : Note = record { at = length history; pid = pid_of packet } in
-      counts_more (Live packet) notes few w.from.on_pids
+      counts_more (Live packet labels) notes few w.from.on_pids
       (sym (ap (λ (b : Bool). notes ++ ((if b then note ∷ [] else []) ++ [])) other ∙ append-nil notes))
 
   -- a packet that is counted has one
-  pub counts_live : (packet : List ℕ) (note : Note) (notes_new : List Note) → length history < 2 ^ 60 → is_counted conf packet ≡ true
+  pub counts_live : (packet : List ℕ) (labels : ℕ) (note : Note) (notes_new : List Note) → length history < 2 ^ 60 → is_counted conf packet ≡ true
       → pid_of packet < PID_COUNT → note ≡ record { at = length history; pid = pid_of packet } → notes_new ≡ notes ++ note ∷ []
-      → Counts conf notes_new counts total (history ++ Live packet ∷ []) mark
-  counts_live packet note notes_new few is_one below note_is pushed =
+      → Counts conf notes_new counts total (history ++ Live packet labels ∷ []) mark
+  counts_live packet labels note notes_new few is_one below note_is pushed =
       let this : Note = record { at = length history; pid = pid_of packet } in
       let is : notes_new ≡ notes ++ this ∷ [] = pushed ∙ ap (λ (n : Note). notes ++ n ∷ []) note_is in
-      counts_more (Live packet) notes_new few
+      counts_more (Live packet labels) notes_new few
       (subst (All (λ (n : Note). n.pid < PID_COUNT)) (sym is) (All-push (λ (n : Note). n.pid < PID_COUNT) notes this w.from.on_pids below))
       (is ∙ sym (ap (λ (b : Bool). notes ++ ((if b then this ∷ [] else []) ++ [])) is_one))
 

@@ -43,10 +43,10 @@ counted-append conf xs ys =
 -- the notes bear the PIDs of the packets that are counted
 pub pids_of-notes : (conf : CountConf) (history cells : List Cell) → pids_of (notes_after (note_on conf) history cells) ≡ map pid_of (counted conf cells)
 pids_of-notes conf history [] = refl
-pids_of-notes conf history (Live packet ∷ cells) =
+pids_of-notes conf history (Live packet labels ∷ cells) =
     let note : Note = record { at = length history; pid = pid_of packet } in
-    let rest = notes_after (note_on conf) (history ++ Live packet ∷ []) cells in
-    let ih = pids_of-notes conf (history ++ Live packet ∷ []) cells in
+    let rest = notes_after (note_on conf) (history ++ Live packet labels ∷ []) cells in
+    let ih = pids_of-notes conf (history ++ Live packet labels ∷ []) cells in
     elim (is_counted conf packet) as (λ b.
     pids_of ((if b then note ∷ [] else []) ++ rest)
     ≡ map pid_of (if b then packet ∷ filter (is_counted conf) (live_packets cells) else filter (is_counted conf) (live_packets cells))) [

@@ -61,10 +61,10 @@ module _ {N : Type 0} (note : List Cell → List ℕ → List N) (at : N → ℕ
   -- the notes on two lists, one behind the other
   pub notes_after-append : (history xs ys : List Cell) → notes_after note history (xs ++ ys) ≡ notes_after note history xs ++ notes_after note (history ++ xs) ys
   notes_after-append history [] ys = ap (λ (h : List Cell). notes_after note h ys) (sym (append-nil history))
-  notes_after-append history (Live packet ∷ xs) ys =
-      ap (λ (ns : List N). note history packet ++ ns) (notes_after-append (history ++ Live packet ∷ []) xs ys)
-      ∙ (sym (append_assoc (note history packet) (notes_after note (history ++ Live packet ∷ []) xs) (notes_after note ((history ++ Live packet ∷ []) ++ xs) ys))
-      ∙ ap (λ (h : List Cell). (note history packet ++ notes_after note (history ++ Live packet ∷ []) xs) ++ notes_after note h ys) (append_assoc history (Live packet ∷ []) xs))
+  notes_after-append history (Live packet labels ∷ xs) ys =
+      ap (λ (ns : List N). note history packet ++ ns) (notes_after-append (history ++ Live packet labels ∷ []) xs ys)
+      ∙ (sym (append_assoc (note history packet) (notes_after note (history ++ Live packet labels ∷ []) xs) (notes_after note ((history ++ Live packet labels ∷ []) ++ xs) ys))
+      ∙ ap (λ (h : List Cell). (note history packet ++ notes_after note (history ++ Live packet labels ∷ []) xs) ++ notes_after note h ys) (append_assoc history (Live packet labels ∷ []) xs))
   notes_after-append history (Dropped ∷ xs) ys =
       notes_after-append (history ++ Dropped ∷ []) xs ys
       ∙ ap (λ (h : List Cell). notes_after note (history ++ Dropped ∷ []) xs ++ notes_after note h ys) (append_assoc history (Dropped ∷ []) xs)
@@ -72,22 +72,22 @@ module _ {N : Type 0} (note : List Cell → List ℕ → List N) (at : N → ℕ
   -- there are no more notes than cells
   pub length-notes_after : (history cells : List Cell) → length (notes_after note history cells) ≤ length cells
   length-notes_after history [] = omega arith
-  length-notes_after history (Live packet ∷ cells) =
-      let rest : length (notes_after note (history ++ Live packet ∷ []) cells) ≤ length cells = length-notes_after (history ++ Live packet ∷ []) cells in
+  length-notes_after history (Live packet labels ∷ cells) =
+      let rest : length (notes_after note (history ++ Live packet labels ∷ []) cells) ≤ length cells = length-notes_after (history ++ Live packet labels ∷ []) cells in
       let few : length (note history packet) ≤ 1 = elim (one history packet).one [ inl e ↦ omega (arith, ap length e) | inr e ↦ omega (arith, ap length e.1) ] in
-      omega (arith, length-append (note history packet) (notes_after note (history ++ Live packet ∷ []) cells))
+      omega (arith, length-append (note history packet) (notes_after note (history ++ Live packet labels ∷ []) cells))
   length-notes_after history (Dropped ∷ cells) =
       let rest : length (notes_after note (history ++ Dropped ∷ []) cells) ≤ length cells = length-notes_after (history ++ Dropped ∷ []) cells in omega arith
 
   -- behind a history that is long enough no first note passes
   pub fails_first-late : (cut : ℕ) (history cells : List Cell) → cut ≤ length history → fails_first (λ n. nat_lt (at n) cut) (notes_after note history cells) ≡ true
   fails_first-late cut history [] late = refl
-  fails_first-late cut history (Live packet ∷ cells) late =
-      let next : cut ≤ length (history ++ Live packet ∷ []) = omega (arith, length-append history (Live packet ∷ [])) in
-      let rest = fails_first-late cut (history ++ Live packet ∷ []) cells next in
+  fails_first-late cut history (Live packet labels ∷ cells) late =
+      let next : cut ≤ length (history ++ Live packet labels ∷ []) = omega (arith, length-append history (Live packet labels ∷ [])) in
+      let rest = fails_first-late cut (history ++ Live packet labels ∷ []) cells next in
       elim (one history packet).one [
-        | inl e ↦ subst (λ (ns : List N). fails_first (λ n. nat_lt (at n) cut) (ns ++ notes_after note (history ++ Live packet ∷ []) cells) ≡ true) (sym e) rest
-        | inr e ↦ subst (λ (ns : List N). fails_first (λ n. nat_lt (at n) cut) (ns ++ notes_after note (history ++ Live packet ∷ []) cells) ≡ true) (sym e.1)
+        | inl e ↦ subst (λ (ns : List N). fails_first (λ n. nat_lt (at n) cut) (ns ++ notes_after note (history ++ Live packet labels ∷ []) cells) ≡ true) (sym e) rest
+        | inr e ↦ subst (λ (ns : List N). fails_first (λ n. nat_lt (at n) cut) (ns ++ notes_after note (history ++ Live packet labels ∷ []) cells) ≡ true) (sym e.1)
             (ap not (not_below (at e.0) cut (omega (arith, e.2))))
       ]
   fails_first-late cut history (Dropped ∷ cells) late =
@@ -115,15 +115,15 @@ module _ {N : Type 0} (note : List Cell → List ℕ → List N) (at : N → ℕ
   pub take_while-notes_after : (cut : ℕ) (history cells : List Cell)
       → take_while (λ n. nat_lt (at n) cut) (notes_after note history cells) ≡ notes_after note history (take (cut - length history) cells)
   take_while-notes_after cut history [] = ap (notes_after note history) (sym (take-nil (cut - length history)))
-  take_while-notes_after cut history (Live packet ∷ cells) =
+  take_while-notes_after cut history (Live packet labels ∷ cells) =
       elim (cases_lt (length history) cut) [
         | inl below ↦
-            let next = history ++ Live packet ∷ [] in
-            let more : cut - length history ≡ suc (cut - length next) = omega (arith, length-append history (Live packet ∷ [])) in
+            let next = history ++ Live packet labels ∷ [] in
+            let more : cut - length history ≡ suc (cut - length next) = omega (arith, length-append history (Live packet labels ∷ [])) in
             one_in_front cut history packet (notes_after note next cells) below
             ∙ (ap (λ (ns : List N). note history packet ++ ns) (take_while-notes_after cut next cells)
-            ∙ ap (λ (k : ℕ). notes_after note history (take k (Live packet ∷ cells))) (sym more))
-        | inr late ↦ late_take cut history (Live packet ∷ cells) late
+            ∙ ap (λ (k : ℕ). notes_after note history (take k (Live packet labels ∷ cells))) (sym more))
+        | inr late ↦ late_take cut history (Live packet labels ∷ cells) late
       ]
   take_while-notes_after cut history (Dropped ∷ cells) =
       elim (cases_lt (length history) cut) [
@@ -137,11 +137,11 @@ module _ {N : Type 0} (note : List Cell → List ℕ → List N) (at : N → ℕ
 
   -- the lines of a rule whose lines are those of the notes
   pub placed_after-notes : (rule : PluginRule) (line : N → Line)
-      → ((history : List Cell) (packet : List ℕ) → placed_at (length history) (rule.lines_of history packet) ≡ map line (note history packet))
+      → ((history : List Cell) (packet : List ℕ) (labels : ℕ) → placed_at (length history) (rule.lines_of history packet labels) ≡ map line (note history packet))
       → (history cells : List Cell) → placed_after rule history cells ≡ map line (notes_after note history cells)
   placed_after-notes rule line lines history [] = refl
-  placed_after-notes rule line lines history (Live packet ∷ cells) =
-      ap (λ (ls : List Line). ls ++ placed_after rule (history ++ Live packet ∷ []) cells) (lines history packet)
-      ∙ (ap (λ (ls : List Line). map line (note history packet) ++ ls) (placed_after-notes rule line lines (history ++ Live packet ∷ []) cells)
-      ∙ sym (map-append line (note history packet) (notes_after note (history ++ Live packet ∷ []) cells)))
+  placed_after-notes rule line lines history (Live packet labels ∷ cells) =
+      ap (λ (ls : List Line). ls ++ placed_after rule (history ++ Live packet labels ∷ []) cells) (lines history packet labels)
+      ∙ (ap (λ (ls : List Line). map line (note history packet) ++ ls) (placed_after-notes rule line lines (history ++ Live packet labels ∷ []) cells)
+      ∙ sym (map-append line (note history packet) (notes_after note (history ++ Live packet labels ∷ []) cells)))
   placed_after-notes rule line lines history (Dropped ∷ cells) = placed_after-notes rule line lines (history ++ Dropped ∷ []) cells

@@ -29,7 +29,7 @@ on_256 = 0x47 ∷ 0x01 ∷ 0x00 ∷ []
 
 -- six packets, of which five are on PID 256, and a dropped cell
 abbrev cells : List Cell
-cells = Live on_256 ∷ Live on_256 ∷ Dropped ∷ Live on_1 ∷ Live on_256 ∷ Live on_256 ∷ Live on_256 ∷ []
+cells = Live on_256 0 ∷ Live on_256 0 ∷ Dropped ∷ Live on_1 0 ∷ Live on_256 0 ∷ Live on_256 0 ∷ Live on_256 0 ∷ []
 
 -- `count --pid 256`
 abbrev counts : CountConf
@@ -87,42 +87,42 @@ abbrev fixes : ContinuityConf
 fixes = record { pid = []; fix = true }
 
 -- behind 15 comes 0; a duplicate has the counter of the packet before it, and so has a packet without payload
-no-fault : faults_in watches (Live (numbered 15) ∷ Live (numbered 0) ∷ Live (numbered 0) ∷ Live (bare 0) ∷ Live (numbered 1) ∷ []) ≡ []
+no-fault : faults_in watches (Live (numbered 15) 0 ∷ Live (numbered 0) 0 ∷ Live (numbered 0) 0 ∷ Live (bare 0) 0 ∷ Live (numbered 1) 0 ∷ []) ≡ []
 unfolding field bit_of adaptation_length_of discontinuity_of
 no-fault = refl
 
 -- with its flag a counter may be any
-flagged-no_fault : faults_in watches (Live (numbered 3) ∷ Live (flagged 9) ∷ Live (numbered 10) ∷ []) ≡ []
+flagged-no_fault : faults_in watches (Live (numbered 3) 0 ∷ Live (flagged 9) 0 ∷ Live (numbered 10) 0 ∷ []) ≡ []
 unfolding field bit_of adaptation_length_of discontinuity_of
 flagged-no_fault = refl
 
 -- a counter is left out; the dropped cell has a position
-counter-fault : said_of (continuity_rule watches) (Live (numbered 3) ∷ Dropped ∷ Live (numbered 5) ∷ Live (numbered 6) ∷ [])
+counter-fault : said_of (continuity_rule watches) (Live (numbered 3) 0 ∷ Dropped ∷ Live (numbered 5) 0 ∷ Live (numbered 6) 0 ∷ [])
     ≡ codes "packet 2 pid 256 counter 5 wanted 4" ∷ codes "faults 1" ∷ []
 unfolding digits field bit_of adaptation_length_of discontinuity_of
 counter-fault = refl
 
 -- a packet without payload whose counter goes on
-bare-fault : faults_in watches (Live (numbered 3) ∷ Live (bare 4) ∷ []) ≡ codes "packet 1 pid 256 counter 4 wanted 3" ∷ []
+bare-fault : faults_in watches (Live (numbered 3) 0 ∷ Live (bare 4) 0 ∷ []) ≡ codes "packet 1 pid 256 counter 4 wanted 3" ∷ []
 unfolding digits field bit_of adaptation_length_of discontinuity_of
 bare-fault = refl
 
 -- null packets are not looked at, nor are other PIDs where some are listed
 abbrev null : ℕ → Cell
-null counter = Live (0x47 ∷ 0x1F ∷ 0xFF ∷ (0x10 + counter) ∷ [])
+null counter = Live (0x47 ∷ 0x1F ∷ 0xFF ∷ (0x10 + counter) ∷ []) 0
 
 null-no_fault : faults_in watches (null 0 ∷ null 5 ∷ []) ≡ []
 unfolding field bit_of adaptation_length_of discontinuity_of
 null-no_fault = refl
 
-other-no_fault : faults_in (record watches { pid = (257, 300) ∷ [] }) (Live (numbered 3) ∷ Live (numbered 5) ∷ []) ≡ []
+other-no_fault : faults_in (record watches { pid = (257, 300) ∷ [] }) (Live (numbered 3) 0 ∷ Live (numbered 5) 0 ∷ []) ≡ []
 unfolding field bit_of adaptation_length_of discontinuity_of
 other-no_fault = refl
 
 -- counters put right: the first one's go on, a duplicate keeps that of the packet before it, and so does a packet
 -- without payload
-counters-fixed : (apply (continuity_rule fixes) (Live (numbered 14) ∷ Live (numbered 4) ∷ Live (numbered 4) ∷ Live (bare 9) ∷ null 7 ∷ Live (numbered 6) ∷ [])).cells
-    ≡ Live (numbered 14) ∷ Live (numbered 15) ∷ Live (numbered 15) ∷ Live (bare 15) ∷ null 7 ∷ Live (numbered 0) ∷ []
+counters-fixed : (apply (continuity_rule fixes) (Live (numbered 14) 0 ∷ Live (numbered 4) 0 ∷ Live (numbered 4) 0 ∷ Live (bare 9) 0 ∷ null 7 ∷ Live (numbered 6) 0 ∷ [])).cells
+    ≡ Live (numbered 14) 0 ∷ Live (numbered 15) 0 ∷ Live (numbered 15) 0 ∷ Live (bare 15) 0 ∷ null 7 ∷ Live (numbered 0) 0 ∷ []
 unfolding field bit_of adaptation_length_of discontinuity_of with_counter
 counters-fixed = refl
 

@@ -67,10 +67,10 @@ fault_after-seen at [] packet = refl
 fault_after-seen at (first ∷ rest) packet = refl
 
 -- the packets on a PID with one cell more
-packets_of-live : (pid : ℕ) (history : List Cell) (packet : List ℕ)
-    → packets_of pid (history ++ Live packet ∷ []) ≡ packets_of pid history ++ (if pid_of packet == pid then packet ∷ [] else [])
-packets_of-live pid history packet =
-    ap (filter (λ p. pid_of p == pid)) (flat_map-append packet_in history (Live packet ∷ []))
+packets_of-live : (pid : ℕ) (history : List Cell) (packet : List ℕ) (labels : ℕ)
+    → packets_of pid (history ++ Live packet labels ∷ []) ≡ packets_of pid history ++ (if pid_of packet == pid then packet ∷ [] else [])
+packets_of-live pid history packet labels =
+    ap (filter (λ p. pid_of p == pid)) (flat_map-append packet_in history (Live packet labels ∷ []))
     ∙ filter-append (λ p. pid_of p == pid) (live_packets history) (packet ∷ [])
 
 packets_of-dropped : (pid : ℕ) (history : List Cell) → packets_of pid (history ++ Dropped ∷ []) ≡ packets_of pid history
@@ -95,9 +95,9 @@ one_fault conf history packet =
     ]
 
 -- the faults with one packet more
-faults_in-live : (conf : ContinuityConf) (history : List Cell) (packet : List ℕ) → errors_in conf (history ++ Live packet ∷ []) ≡ errors_in conf history ++ error_on conf history packet
-faults_in-live conf history packet =
-    notes_after-append (error_on conf) (λ (f : ContinuityError). f.at) (one_fault conf) [] history (Live packet ∷ [])
+faults_in-live : (conf : ContinuityConf) (history : List Cell) (packet : List ℕ) (labels : ℕ) → errors_in conf (history ++ Live packet labels ∷ []) ≡ errors_in conf history ++ error_on conf history packet
+faults_in-live conf history packet labels =
+    notes_after-append (error_on conf) (λ (f : ContinuityError). f.at) (one_fault conf) [] history (Live packet labels ∷ [])
     ∙ ap (λ (fs : List ContinuityError). errors_in conf history ++ fs) (append-nil (error_on conf history packet))
 
 faults_in-dropped : (conf : ContinuityConf) (history : List Cell) → errors_in conf (history ++ Dropped ∷ []) ≡ errors_in conf history
@@ -121,33 +121,33 @@ module _ (conf : ContinuityConf) (seen : List (Option LastPacket)) (faults : Lis
   }
 
   -- nor does a packet on a PID that is not looked at
-  pub watches_other : (packet : List ℕ) → is_watched conf (pid_of packet) ≡ false → Watches conf seen faults (history ++ Live packet ∷ []) mark
-  watches_other packet unwatched = record {
+  pub watches_other : (packet : List ℕ) (labels : ℕ) → is_watched conf (pid_of packet) ≡ false → Watches conf seen faults (history ++ Live packet labels ∷ []) mark
+  watches_other packet labels unwatched = record {
     whole = w.whole;
     each = λ pid below watched.
         let other : pid_of packet ≡ pid → ⊥ = λ same. false≢true (sym unwatched ∙ (ap (is_watched conf) same ∙ watched)) in
         w.each pid below watched ∙ ap seen_in (sym (
-        packets_of-live pid history packet
+        packets_of-live pid history packet labels
         ∙ (ap (λ (b : Bool). packets_of pid history ++ (if b then packet ∷ [] else [])) (ne_eqb (pid_of packet) pid other)
         ∙ append-nil (packets_of pid history))));
     small = w.small;
     all = w.all ∙ sym (
-        faults_in-live conf history packet
+        faults_in-live conf history packet labels
         ∙ (ap (λ (b : Bool). errors_in conf history ++ (if b then error_behind (length history) (last_of (pid_of packet) history) packet else [])) unwatched
         ∙ append-nil (errors_in conf history)));
-    marked = longer history (Live packet) mark w.marked;
+    marked = longer history (Live packet labels) mark w.marked;
   }
 
-  module _ (packet : List ℕ) (before : Option LastPacket) (below : pid_of packet < PID_COUNT) (watched : is_watched conf (pid_of packet) ≡ true)
+  module _ (packet : List ℕ) (labels : ℕ) (before : Option LastPacket) (below : pid_of packet < PID_COUNT) (watched : is_watched conf (pid_of packet) ≡ true)
       (is : before ≡ get_or seen (pid_of packet) None) where
     -- what was kept is that of the packets on the PID
     pub before_is : before ≡ seen_in (packets_of (pid_of packet) history)
     before_is = is ∙ w.each (pid_of packet) below watched
 
     -- the packets on the PID with this one
-    packets_with : packets_of (pid_of packet) (history ++ Live packet ∷ []) ≡ packets_of (pid_of packet) history ++ packet ∷ []
+    packets_with : packets_of (pid_of packet) (history ++ Live packet labels ∷ []) ≡ packets_of (pid_of packet) history ++ packet ∷ []
     packets_with =
-        packets_of-live (pid_of packet) history packet
+        packets_of-live (pid_of packet) history packet labels
         ∙ ap (λ (b : Bool). packets_of (pid_of packet) history ++ (if b then packet ∷ [] else [])) (eq-eqb (pid_of packet) (pid_of packet) refl)
 
     -- the counter that the packet is to have
@@ -157,11 +157,11 @@ module _ (conf : ContinuityConf) (seen : List (Option LastPacket)) (faults : Lis
 
     -- a packet that is looked at is kept
     pub watches_live : counter_of packet < 16 → right_after before packet < 16
-        → Watches conf (set seen (pid_of packet) (Some (seen_with before packet))) (faults ++ fault_after (length history) before packet) (history ++ Live packet ∷ []) mark
+        → Watches conf (set seen (pid_of packet) (Some (seen_with before packet))) (faults ++ fault_after (length history) before packet) (history ++ Live packet labels ∷ []) mark
     watches_live few right_few = record {
       whole = length-set seen (pid_of packet) (Some (seen_with before packet)) ∙ w.whole;
       each = λ pid pid_below pid_watched. elim (cases_eq pid (pid_of packet)) [
-        | inl same ↦ subst (λ (q : ℕ). get_or (set seen (pid_of packet) (Some (seen_with before packet))) q None ≡ seen_in (packets_of q (history ++ Live packet ∷ []))) (sym same)
+        | inl same ↦ subst (λ (q : ℕ). get_or (set seen (pid_of packet) (Some (seen_with before packet))) q None ≡ seen_in (packets_of q (history ++ Live packet labels ∷ []))) (sym same)
             (get_or-set_same seen (pid_of packet) (Some (seen_with before packet)) None (omega (arith, w.whole))
             ∙ (ap (λ (s : Option LastPacket). let t : Option LastPacket = Some (seen_with s packet) in t) before_is
             ∙ (sym (seen_in-append (packets_of (pid_of packet) history) packet few)
@@ -170,7 +170,7 @@ module _ (conf : ContinuityConf) (seen : List (Option LastPacket)) (faults : Lis
             get_or-set_other seen (pid_of packet) pid (Some (seen_with before packet)) None other
             ∙ (w.each pid pid_below pid_watched
             ∙ ap seen_in (sym (
-            packets_of-live pid history packet
+            packets_of-live pid history packet labels
             ∙ (ap (λ (b : Bool). packets_of pid history ++ (if b then packet ∷ [] else [])) (ne_eqb (pid_of packet) pid (λ same. other (sym same)))
             ∙ append-nil (packets_of pid history)))))
       ];
@@ -185,20 +185,20 @@ module _ (conf : ContinuityConf) (seen : List (Option LastPacket)) (faults : Lis
           (ap (λ (s : Option LastPacket). fault_after (length history) s packet) before_is
           ∙ (fault_after-seen (length history) (packets_of (pid_of packet) history) packet
           ∙ sym (ap (λ (b : Bool). if b then error_behind (length history) (last_of (pid_of packet) history) packet else []) watched)))
-          ∙ sym (faults_in-live conf history packet));
-      marked = longer history (Live packet) mark w.marked;
+          ∙ sym (faults_in-live conf history packet labels));
+      marked = longer history (Live packet labels) mark w.marked;
     }
 
     -- the same, in the words of a step that looks the place up, keeps the packet and notes its fault
     pub watches_kept : (place at : ℕ) (next : LastPacket) (faults_new : List ContinuityError) → counter_of packet < 16 → next.right < 16
         → place ≡ pid_of packet → next ≡ seen_with before packet → length history ≡ at → faults_new ≡ faults ++ fault_after at before packet
-        → Watches conf (set seen place (Some next)) faults_new (history ++ Live packet ∷ []) mark
+        → Watches conf (set seen place (Some next)) faults_new (history ++ Live packet labels ∷ []) mark
     watches_kept place at next faults_new few right_few place_is next_is count faults_are =
         let stands = watches_live few (subst (λ (s : LastPacket). s.right < 16) next_is right_few) in
-        let with_next = subst (λ (s : LastPacket). Watches conf (set seen (pid_of packet) (Some s)) (faults ++ fault_after (length history) before packet) (history ++ Live packet ∷ []) mark) (sym next_is) stands in
-        let with_place = subst (λ (q : ℕ). Watches conf (set seen q (Some next)) (faults ++ fault_after (length history) before packet) (history ++ Live packet ∷ []) mark) (sym place_is) with_next in
-        let with_count = subst (λ (n : ℕ). Watches conf (set seen place (Some next)) (faults ++ fault_after n before packet) (history ++ Live packet ∷ []) mark) count with_place in
-        subst (λ (fs : List ContinuityError). Watches conf (set seen place (Some next)) fs (history ++ Live packet ∷ []) mark) (sym faults_are) with_count
+        let with_next = subst (λ (s : LastPacket). Watches conf (set seen (pid_of packet) (Some s)) (faults ++ fault_after (length history) before packet) (history ++ Live packet labels ∷ []) mark) (sym next_is) stands in
+        let with_place = subst (λ (q : ℕ). Watches conf (set seen q (Some next)) (faults ++ fault_after (length history) before packet) (history ++ Live packet labels ∷ []) mark) (sym place_is) with_next in
+        let with_count = subst (λ (n : ℕ). Watches conf (set seen place (Some next)) (faults ++ fault_after n before packet) (history ++ Live packet labels ∷ []) mark) count with_place in
+        subst (λ (fs : List ContinuityError). Watches conf (set seen place (Some next)) fs (history ++ Live packet labels ∷ []) mark) (sym faults_are) with_count
 
 -- the rule's line of a packet is that of its fault
 texts_behind : (at : ℕ) (before : Option (List ℕ)) (packet : List ℕ) → fault_behind at before packet ≡ map text_of_error (error_behind at before packet)
@@ -221,8 +221,8 @@ texts_on conf history packet =
 -- there are as many lines as faults
 same_number : (conf : ContinuityConf) (history cells : List Cell) → length (notes_after (fault_on conf) history cells) ≡ length (notes_after (error_on conf) history cells)
 same_number conf history [] = refl
-same_number conf history (Live packet ∷ cells) =
-    let next = history ++ Live packet ∷ [] in
+same_number conf history (Live packet labels ∷ cells) =
+    let next = history ++ Live packet labels ∷ [] in
     let here : length (fault_on conf history packet) ≡ length (error_on conf history packet) =
     ap length (texts_on conf history packet) ∙ length-map (error_on conf history packet) text_of_error in
     length-append (fault_on conf history packet) (notes_after (fault_on conf) next cells)
@@ -243,7 +243,7 @@ report_is conf history cut within =
     let count : length (map line_of_error (errors_in conf cells)) ≡ length (errors_in conf cells) = length-map (errors_in conf cells) line_of_error in
     let lines : placed_after (continuity_rule conf) [] cells ≡ map line_of_error (errors_in conf cells) =
     placed_after-notes (error_on conf) (λ (f : ContinuityError). f.at) (one_fault conf) (continuity_rule conf) line_of_error
-    (λ h packet. ap (placed_at (length h)) (texts_on conf h packet) ∙ placed_at-notes (λ (f : ContinuityError). f.at) text_of_error (length h) (error_on conf h packet) (one_fault conf h packet)) [] cells in
+    (λ h packet labels. ap (placed_at (length h)) (texts_on conf h packet) ∙ placed_at-notes (λ (f : ContinuityError). f.at) text_of_error (length h) (error_on conf h packet) (one_fault conf h packet)) [] cells in
     ap (λ (fs : List ContinuityError). map line_of_error fs ++ (let l : Line = record { at = cut; text = faults_text (length (map line_of_error fs)) } in l) ∷ []) front
     ∙ (ap (λ (n : ℕ). map line_of_error (errors_in conf cells) ++ (let l : Line = record { at = cut; text = faults_text n } in l) ∷ []) count
     ∙ (ap (λ (n : ℕ). map line_of_error (errors_in conf cells) ++ (let l : Line = record { at = n; text = faults_text (length (errors_in conf cells)) } in l) ∷ []) (sym (length-take-le cut history within))

@@ -96,9 +96,10 @@ faults_text n = codes "faults " ++ decimal n
 -- each fault has a line, and the summary has their number; with `fix` the counters are put right
 abbrev pub continuity_rule : ContinuityConf → PluginRule
 continuity_rule conf = record {
-  outcome_of = λ history packet.
+  outcome_of = λ history packet _.
       passes (if conf.fix && is_watched conf (pid_of packet) then fixed history packet else packet);
-  lines_of = fault_on conf;
+  labels_of = λ _ _ labels. labels;
+  lines_of = λ history packet _. fault_on conf history packet;
   summary_of = λ history. faults_text (length (faults_in conf history)) ∷ [];
   agrees = λ _. false;
 }

@@ -57,8 +57,9 @@ line_on conf history packet =
 -- every packet passes; with `all` each one that is counted has a line; the summary counts them
 abbrev pub count_rule : CountConf → PluginRule
 count_rule conf = record {
-  outcome_of = λ _ packet. passes packet;
-  lines_of = λ history packet. if conf.all then line_on conf history packet else [];
+  outcome_of = λ _ packet _. passes packet;
+  labels_of = λ _ _ labels. labels;
+  lines_of = λ history packet _. if conf.all then line_on conf history packet else [];
   summary_of = λ history. summary_on conf.total (counted conf history);
   agrees = λ _. false;
 }

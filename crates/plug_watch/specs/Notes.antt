@@ -6,5 +6,6 @@ use Rattle.ts_packet.specs.declared.cell.Cell.TheVariants.{Live, Dropped}
 -- the notes on the live cells behind a history, in the order of their positions
 abbrev pub notes_after : {N : Type 0} → (List Cell → List ℕ → List N) → List Cell → List Cell → List N
 notes_after note history [] = []
-notes_after note history (Live packet ∷ cells) = note history packet ++ notes_after note (history ++ Live packet ∷ []) cells
+notes_after note history (Live packet labels ∷ cells) =
+    note history packet ++ notes_after note (history ++ Live packet labels ∷ []) cells
 notes_after note history (Dropped ∷ cells) = notes_after note (history ++ Dropped ∷ []) cells

@@ -72,7 +72,7 @@ impl Continuity {
         ensures edited { OnOk result ((history : List GivenCell) (mark : ℕ) → Watches (conf_of self.old) self.old.seen.items self.old.faults.items history mark
             → packet.new ≡ (if self.old.fix then fixed history packet.old else packet.old)) }
         ensures met { OnOk result ((history : List GivenCell) (mark : ℕ) → Watches (conf_of self.old) self.old.seen.items self.old.faults.items history mark
-            → length history ≡ at → Watches (conf_of self.old) self.new.seen.items self.new.faults.items (history ++ Live packet.old ∷ []) mark) }
+            → length history ≡ at → (labels : ℕ) → Watches (conf_of self.old) self.new.seen.items self.new.faults.items (history ++ Live packet.old labels ∷ []) mark) }
         ensures same { conf_of self.new ≡ conf_of self.old }
         ensures err { OnErr result ((self.new.seen.items ≡ self.old.seen.items) × (self.new.faults.items ≡ self.old.faults.items) × (packet.new ≡ packet.old)) }
     {
@@ -126,7 +126,7 @@ impl Plugin for Continuity {
     ghost steady = { λ s. None };
 
     fn step(&mut self, at: u64, cell: &mut Cell) -> Outcome {
-        let Cell::Live(packet) = cell else {
+        let Cell::Live(packet, _) = cell else {
             return Outcome::Pass;
         };
         if !self.watches(packet.pid()) {

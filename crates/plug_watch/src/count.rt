@@ -68,7 +68,7 @@ impl Plugin for Count {
     ghost steady = { λ s. if s.all then None else Some s.buffer };
 
     fn step(&mut self, at: u64, cell: &mut Cell) -> Outcome {
-        let Cell::Live(packet) = cell else {
+        let Cell::Live(packet, _) = cell else {
             return Outcome::Pass;
         };
         let pid = packet.pid();

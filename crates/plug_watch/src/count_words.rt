@@ -1,10 +1,9 @@
-ghost use Rattle.std.specs.Prelude.{◌≡◌, IfOk, map};
-ghost use Rattle.std.specs.String.{string_bytes};
+ghost use Rattle.std.specs.Prelude.{◌≡◌, IfOk};
 ghost use Rattle.clap.specs.Simple.{app_of};
 ghost use Rattle.plug_watch.specs.CountSettings.{IsLawfulCount};
 ghost use Rattle.plug_watch.specs.CountWords.{count, count_rows};
 ghost use Rattle.option_words.specs.Options.{command_of};
-ghost use Rattle.option_words.specs.Refusal.{Reads, ReadsParsed};
+ghost use Rattle.option_words.specs.Refusal.{ReadsParsed};
 
 use crate::count_conf::CountConf;
 use clap::Command;
@@ -12,7 +11,8 @@ use option_words::{ParsedOptions, Refusal, new_command, with_flag, with_value};
 use plug_conf::LAST_PID;
 use std::alloc::{AllocError, Global};
 
-fn count_command<'a>(alloc: Global) -> Result<Command<'a>, AllocError>
+/// The command of `count`, which has its options.
+pub fn count_command<'a>(alloc: Global) -> Result<Command<'a>, AllocError>
     ensures { IfOk result (λ c. app_of c ≡ command_of count_rows) }
 {
     let command = with_value(alloc, new_command(alloc), "pid")?;
@@ -21,7 +21,8 @@ fn count_command<'a>(alloc: Global) -> Result<Command<'a>, AllocError>
     with_flag(alloc, command, "total")
 }
 
-fn count_settings(alloc: Global, found: &ParsedOptions) -> Result<CountConf, Refusal>
+/// Reads the settings of `count` from what its command found in the words.
+pub fn count_settings(alloc: Global, found: &ParsedOptions) -> Result<CountConf, Refusal>
     ensures reads { ReadsParsed count found.now result }
     ensures lawful { IfOk result IsLawfulCount }
 {
@@ -31,13 +32,4 @@ fn count_settings(alloc: Global, found: &ParsedOptions) -> Result<CountConf, Ref
         all: found.has_flag("all"),
         total: found.has_flag("total"),
     })
-}
-
-/// Reads the words after the name `count`.
-pub fn read_count(alloc: Global, words: &[String]) -> Result<CountConf, Refusal>
-    ensures reads { Reads count (map string_bytes words.now) result }
-    ensures lawful { IfOk result IsLawfulCount }
-{
-    let found = ParsedOptions::of(count_command(alloc)?, words)?;
-    count_settings(alloc, &found)
 }

@@ -19,10 +19,10 @@ mod tally;
 pub use continuity::Continuity;
 pub use continuity_conf::ContinuityConf;
 pub use continuity_error::ContinuityError;
-pub use continuity_words::read_continuity;
+pub use continuity_words::{continuity_command, continuity_settings};
 pub use count::Count;
 pub use count_conf::CountConf;
-pub use count_words::read_count;
+pub use count_words::{count_command, count_settings};
 pub use last_packet::LastPacket;
 pub use note::Note;
 

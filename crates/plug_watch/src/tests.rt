@@ -5,7 +5,7 @@ use plug_conf::NumberSet;
 use plugin_trait::{Line, ListEnd, Plugin, apply_plugin, report};
 use std::alloc::{AllocError, Global};
 use std::test::Fail;
-use ts_packet::{Cell, Packet};
+use ts_packet::{Cell, Labels, Packet};
 
 /// A packet on a PID with payload and a counter.
 fn packet(pid: u16, counter: u8) -> Cell
@@ -15,7 +15,7 @@ fn packet(pid: u16, counter: u8) -> Cell
     let mut packet = Packet::null();
     packet.set_pid(pid);
     packet.set_counter(counter);
-    Cell::Live(packet)
+    Cell::Live(packet, Labels::none())
 }
 
 /// What a plugin reports of the first cells of a list that goes through it.
@@ -100,7 +100,7 @@ fn continuity_reports_and_fixes(rt: HostRuntime) -> Result<(), Fail> {
         assert_eq!(rt; line.text.as_str(), text);
     }
     for (cell, counter) in cells.iter().zip([5, 6, 7, 7]) {
-        assert!(rt; matches!(cell, Cell::Live(packet) if packet.counter() == counter));
+        assert!(rt; matches!(cell, Cell::Live(packet, _) if packet.counter() == counter));
     }
     Ok(())
 }

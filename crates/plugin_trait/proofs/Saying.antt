@@ -24,10 +24,10 @@ texts-append (x ∷ xs) ys = ap (λ (rest : List (List ℕ)). text_of x ∷ rest
 -- the texts of the lines on the cells behind a history
 pub texts-placed_after : (rule : PluginRule) (history cells : List Cell) → map text_of (placed_after rule history cells) ≡ lines_after rule history cells
 texts-placed_after rule history [] = refl
-texts-placed_after rule history (Live packet ∷ cells) =
-    texts-append (placed_at (length history) (rule.lines_of history packet)) (placed_after rule (history ++ Live packet ∷ []) cells)
-    ∙ (ap (λ (texts : List (List ℕ)). texts ++ map text_of (placed_after rule (history ++ Live packet ∷ []) cells)) (texts-placed_at (length history) (rule.lines_of history packet))
-    ∙ ap (λ (texts : List (List ℕ)). rule.lines_of history packet ++ texts) (texts-placed_after rule (history ++ Live packet ∷ []) cells))
+texts-placed_after rule history (Live packet labels ∷ cells) =
+    texts-append (placed_at (length history) (rule.lines_of history packet labels)) (placed_after rule (history ++ Live packet labels ∷ []) cells)
+    ∙ (ap (λ (texts : List (List ℕ)). texts ++ map text_of (placed_after rule (history ++ Live packet labels ∷ []) cells)) (texts-placed_at (length history) (rule.lines_of history packet labels))
+    ∙ ap (λ (texts : List (List ℕ)). rule.lines_of history packet labels ++ texts) (texts-placed_after rule (history ++ Live packet labels ∷ []) cells))
 texts-placed_after rule history (Dropped ∷ cells) = texts-placed_after rule (history ++ Dropped ∷ []) cells
 
 -- the texts of all that a plugin says
@@ -40,9 +40,9 @@ texts-placed_of rule cells =
 -- a silent rule has no line on any cell
 pub silent-placed_after : (rule : PluginRule) (history cells : List Cell) → IsSilent rule → placed_after rule history cells ≡ []
 silent-placed_after rule history [] silent = refl
-silent-placed_after rule history (Live packet ∷ cells) silent =
-    ap (λ (texts : List (List ℕ)). placed_at (length history) texts ++ placed_after rule (history ++ Live packet ∷ []) cells) (silent.no_lines history packet)
-    ∙ silent-placed_after rule (history ++ Live packet ∷ []) cells silent
+silent-placed_after rule history (Live packet labels ∷ cells) silent =
+    ap (λ (texts : List (List ℕ)). placed_at (length history) texts ++ placed_after rule (history ++ Live packet labels ∷ []) cells) (silent.no_lines history packet labels)
+    ∙ silent-placed_after rule (history ++ Live packet labels ∷ []) cells silent
 silent-placed_after rule history (Dropped ∷ cells) silent = silent-placed_after rule (history ++ Dropped ∷ []) cells silent
 
 -- a silent rule says nothing

@@ -12,9 +12,9 @@ placed_at position texts = map (λ text. record { at = position; text = text }) 
 -- the lines of a rule on the live cells behind a history, each at its cell's position
 abbrev pub placed_after : PluginRule → List Cell → List Cell → List Line
 placed_after rule history [] = []
-placed_after rule history (Live packet ∷ cells) =
-    placed_at (length history) (rule.lines_of history packet) ++ placed_after rule
-    (history ++ Live packet ∷ []) cells
+placed_after rule history (Live packet labels ∷ cells) =
+    placed_at (length history) (rule.lines_of history packet labels)
+    ++ placed_after rule (history ++ Live packet labels ∷ []) cells
 placed_after rule history (Dropped ∷ cells) = placed_after rule (history ++ Dropped ∷ []) cells
 
 -- all that a plugin says of the cells that count: its lines, then its summary at their end
@@ -23,5 +23,6 @@ placed_of rule cells = placed_after rule [] cells ++ placed_at (length cells) (r
 
 -- a rule that has neither lines nor a summary
 pub record IsSilent (rule : PluginRule) : Type 0 where
-  pub no_lines : (history : List Cell) (packet : List ℕ) → rule.lines_of history packet ≡ []
+  pub no_lines : (history : List Cell) (packet : List ℕ) (labels : ℕ)
+      → rule.lines_of history packet labels ≡ []
   pub no_summary : (history : List Cell) → rule.summary_of history ≡ []

@@ -3,11 +3,13 @@ use Rattle.std.specs.Prelude.{ℕ, List, [], false}
 use Rattle.ts_packet.specs.declared.cell.Cell.{Cell}
 use Rattle.chain_model.specs.PluginRule.{PluginRule, RuleOutcome}
 
--- the rule that only says what becomes of a packet: it has no lines and no summary, and never agrees to end
+-- the rule that only says what becomes of a packet: it looks at no labels and leaves them as they are, has no lines
+-- and no summary, and never agrees to end
 abbrev pub silent_rule : (List Cell → List ℕ → RuleOutcome) → PluginRule
 silent_rule outcome = record {
-  outcome_of = outcome;
-  lines_of = λ _ _. [];
+  outcome_of = λ history packet _. outcome history packet;
+  labels_of = λ _ _ labels. labels;
+  lines_of = λ _ _ _. [];
   summary_of = λ _. [];
   agrees = λ _. false;
 }

@@ -22,13 +22,13 @@ pub record MeetsCells (stands : List Cell → ℕ → Type 0) (at : ℕ) : Type 
 
 -- the cell that passes is live exactly where the cell that came was
 abbrev pub SameKind : Cell → Cell → Type 0
-SameKind (Live packet) (Live edited) = Unit {0}
+SameKind (Live packet labels) (Live edited left) = Unit {0}
 SameKind Dropped Dropped = Unit {0}
 SameKind _ _ = ⊥
 
 -- a cell that holds a packet
 abbrev pub IsLive : Cell → Type 0
-IsLive (Live packet) = Unit {0}
+IsLive (Live packet labels) = Unit {0}
 IsLive Dropped = ⊥
 
 -- what an outcome, with the cell that is left, tells of what became of the cell that came

@@ -1,6 +1,7 @@
 //! The driver of a plugin: a piece of a list of cells through it, one after another.
-ghost use Rattle.std.specs.Prelude.{◌≡◌, ◌≢◌, ◌≤◌, ◌+◌, ◌^◌, ℕ, List, [], ◌++◌, length, take, drop, vec_len, is_some};
+ghost use Rattle.std.specs.Prelude.{◌≡◌, ◌≢◌, ◌≤◌, ◌+◌, ℕ, List, [], ◌++◌, length, take, drop, vec_len, is_some};
 ghost use Rattle.ts_packet.specs.declared.cell.Cell.{Cell};
+ghost use Rattle.chain_model.specs.declared.positions.TheConstants.{POSITION_LIMIT};
 ghost use Rattle.chain_model.specs.Apply.{apply, apply_after};
 ghost use Rattle.chain_model.specs.Joint.{agreement_of};
 ghost use Rattle.plugin_trait.specs.Steps.{MeetsCells, MeetsSome};
@@ -34,7 +35,7 @@ pub fn apply_from<P: Plugin>(
     noted: &mut bool,
 ) -> Applied
     requires met { MeetsCells (P.stands_for plugin.old) at }
-    requires in_range { at + length cells.old ≤ 2 ^ 60 }
+    requires in_range { at + length cells.old ≤ POSITION_LIMIT }
     ensures count { result.count ≤ length cells.old }
     ensures rest { drop result.count cells.new ≡ drop result.count cells.old }
     ensures makes { (history : List Cell) (mark : ℕ) → P.stands_for plugin.old history mark
@@ -92,7 +93,7 @@ pub fn apply_from<P: Plugin>(
 /// Takes a whole list of cells through a plugin that met none yet. The list becomes the plugin's own.
 pub fn apply_plugin<P: Plugin>(plugin: &mut P, cells: &mut Vec<Cell>) -> ListEnd
     requires met { MeetsCells (P.stands_for plugin.old) 0 }
-    requires in_range { vec_len cells.old ≤ 2 ^ 60 }
+    requires in_range { vec_len cells.old ≤ POSITION_LIMIT }
     ensures makes { Makes (apply (P.rule plugin.old) cells.old.items) cells.new.items result }
     ensures met { (mark : ℕ) → P.stands_for plugin.old [] mark
         → P.stands_for plugin.new (take (vec_len cells.new) cells.old.items) mark }

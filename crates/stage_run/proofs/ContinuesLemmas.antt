@@ -7,6 +7,7 @@ use Rattle.std.specs.List.{All, concat}
 use Rattle.ts_packet.specs.Packet.{IsPacket, null_packet}
 use Rattle.ts_packet.specs.declared.cell.Cell.{Cell}
 use Rattle.ts_packet.specs.declared.cell.Cell.TheVariants.{Live}
+use Rattle.ts_packet.specs.Labels.{no_labels}
 use Rattle.ts_outside.specs.Source.{SourceView}
 use Rattle.chain_model.specs.declared.input_end.InputEnd.{InputEnd}
 use Rattle.chain_model.specs.declared.input_end.InputEnd.TheVariants.{End, Sync, ReadFault, TooLong}
@@ -27,9 +28,9 @@ pub stuffed_after-append : (stuffing : model.Stuffing) (n : ℕ) (xs ys : List (
 stuffed_after-append stuffing n [] ys = ap (λ (k : ℕ). stuffed_after stuffing k ys) (omega arith)
 stuffed_after-append stuffing n (x ∷ xs) ys =
     let at : n + 1 + length xs ≡ n + length (x ∷ xs) = omega arith in
-    ap (λ (l : List Cell). Live x ∷ (nulls_behind stuffing (n + 1) ++ l)) (stuffed_after-append stuffing (n + 1) xs ys)
-    ∙ ap (λ (l : List Cell). Live x ∷ l) (sym (append_assoc (nulls_behind stuffing (n + 1)) (stuffed_after stuffing (n + 1) xs) (stuffed_after stuffing (n + 1 + length xs) ys)))
-    ∙ ap (λ (k : ℕ). (Live x ∷ (nulls_behind stuffing (n + 1) ++ stuffed_after stuffing (n + 1) xs)) ++ stuffed_after stuffing k ys) at
+    ap (λ (l : List Cell). Live x no_labels ∷ (nulls_behind stuffing (n + 1) ++ l)) (stuffed_after-append stuffing (n + 1) xs ys)
+    ∙ ap (λ (l : List Cell). Live x no_labels ∷ l) (sym (append_assoc (nulls_behind stuffing (n + 1)) (stuffed_after stuffing (n + 1) xs) (stuffed_after stuffing (n + 1 + length xs) ys)))
+    ∙ ap (λ (k : ℕ). (Live x no_labels ∷ (nulls_behind stuffing (n + 1) ++ stuffed_after stuffing (n + 1) xs)) ++ stuffed_after stuffing k ys) at
 
 begins-more : (hand more : List ℕ) → BeginsPacket hand → BeginsPacket (hand ++ more)
 begins-more hand more begins = record {

@@ -5,6 +5,7 @@ use Rattle.std.proofs.lemmas.List.{append_cancel_left, length-replicate}
 use Rattle.ts_packet.specs.Packet.{null_packet}
 use Rattle.ts_packet.specs.declared.cell.Cell.{Cell}
 use Rattle.ts_packet.specs.declared.cell.Cell.TheVariants.{Live}
+use Rattle.ts_packet.specs.Labels.{no_labels}
 use Rattle.ts_outside.specs.Told.{before}
 use Rattle.ts_outside.specs.Source.{SourceView}
 use Rattle.chain_model.specs.declared.input_end.InputEnd.{InputEnd}
@@ -23,15 +24,15 @@ use Rattle.stage_run.specs.InputSteps.{InputGoes, IsOver, IsFilled, EndsAtLimit,
 
 -- one packet more, with the null packets behind it
 pub stuffed_after-push : (stuffing : model.Stuffing) (n : ℕ) (rows : List (List ℕ)) (row : List ℕ)
-    → stuffed_after stuffing n (rows ++ row ∷ []) ≡ stuffed_after stuffing n rows ++ (Live row ∷ nulls_behind stuffing (n + length rows + 1))
+    → stuffed_after stuffing n (rows ++ row ∷ []) ≡ stuffed_after stuffing n rows ++ (Live row no_labels ∷ nulls_behind stuffing (n + length rows + 1))
 stuffed_after-push stuffing n [] row =
-    ap (λ (l : List Cell). Live row ∷ l) (append-nil (nulls_behind stuffing (n + 1)))
-    ∙ ap (λ (k : ℕ). Live row ∷ nulls_behind stuffing k) (omega arith)
+    ap (λ (l : List Cell). Live row no_labels ∷ l) (append-nil (nulls_behind stuffing (n + 1)))
+    ∙ ap (λ (k : ℕ). Live row no_labels ∷ nulls_behind stuffing k) (omega arith)
 stuffed_after-push stuffing n (r ∷ rows) row =
     let at : n + 1 + length rows + 1 ≡ n + length (r ∷ rows) + 1 = omega arith in
-    ap (λ (l : List Cell). Live r ∷ (nulls_behind stuffing (n + 1) ++ l)) (stuffed_after-push stuffing (n + 1) rows row)
-    ∙ ap (λ (l : List Cell). Live r ∷ l) (sym (append_assoc (nulls_behind stuffing (n + 1)) (stuffed_after stuffing (n + 1) rows) (Live row ∷ nulls_behind stuffing (n + 1 + length rows + 1))))
-    ∙ ap (λ (k : ℕ). (Live r ∷ (nulls_behind stuffing (n + 1) ++ stuffed_after stuffing (n + 1) rows)) ++ (Live row ∷ nulls_behind stuffing k)) at
+    ap (λ (l : List Cell). Live r no_labels ∷ (nulls_behind stuffing (n + 1) ++ l)) (stuffed_after-push stuffing (n + 1) rows row)
+    ∙ ap (λ (l : List Cell). Live r no_labels ∷ l) (sym (append_assoc (nulls_behind stuffing (n + 1)) (stuffed_after stuffing (n + 1) rows) (Live row no_labels ∷ nulls_behind stuffing (n + 1 + length rows + 1))))
+    ∙ ap (λ (k : ℕ). (Live r no_labels ∷ (nulls_behind stuffing (n + 1) ++ stuffed_after stuffing (n + 1) rows)) ++ (Live row no_labels ∷ nulls_behind stuffing k)) at
 
 null_cells-if : (b : Bool) (n : ℕ) → null_cells (if b then n else 0) ≡ (if b then null_cells n else [])
 null_cells-if true n = refl
@@ -139,7 +140,7 @@ module _ {S : Type 0} (seen : S → SourceView) where
 
   -- one null packet of those that are due
   pub InputGoes-null : (old : InputStage S) (nulls : ℕ) (lists : PartLists) (wanted : ℕ) → old.nulls ≡ nulls + 1 → InputHolds seen old lists
-      → InputGoes seen old (record { feed = old.feed; stuffing = old.stuffing; nulls = nulls; ended = old.ended }) lists wanted (Live null_packet ∷ [])
+      → InputGoes seen old (record { feed = old.feed; stuffing = old.stuffing; nulls = nulls; ended = old.ended }) lists wanted (Live null_packet no_labels ∷ [])
   InputGoes-null old nulls lists wanted some holds =
       let read_same : lists.read ++ [] ≡ lists.read = append-nil lists.read in
       record {
@@ -148,10 +149,10 @@ module _ {S : Type 0} (seen : S → SourceView) where
         holds = record {
           rows = holds.rows;
           feed = subst (λ (r : List ℕ). FeedStands seen old.feed lists.source r holds.rows old.ended) (sym read_same) holds.feed;
-          cells = append_assoc lists.given (Live null_packet ∷ []) (null_cells nulls)
+          cells = append_assoc lists.given (Live null_packet no_labels ∷ []) (null_cells nulls)
               ∙ ap (λ (n : ℕ). lists.given ++ null_cells n) (sym (some ∙ add-one nulls))
               ∙ holds.cells;
-          put = let put = holds.put in omega (arith, length-append lists.given (Live null_packet ∷ []));
+          put = let put = holds.put in omega (arith, length-append lists.given (Live null_packet no_labels ∷ []));
           every = holds.every;
         };
         gives = λ input gives. subst (λ (r : List ℕ). FeedGives seen old.feed (stuffing_of old.stuffing) r old.ended input) read_same gives;
@@ -181,7 +182,7 @@ module _ {S : Type 0} (seen : S → SourceView) where
       sym (FeedStands-count feed lists.source lists.read rows None found.stands) ∙ length-append holds.rows (found.row ∷ []) ∙ omega arith in
       let behind : null_cells nulls ≡ nulls_behind stuffing (0 + length holds.rows + 1) =
       ap null_cells due ∙ null_cells-due stuffing (packets_put feed) ∙ ap (λ (n : ℕ). nulls_behind stuffing n) number in
-      let more : List Cell = Live found.row ∷ nulls_behind stuffing (0 + length holds.rows + 1) in
+      let more : List Cell = Live found.row no_labels ∷ nulls_behind stuffing (0 + length holds.rows + 1) in
       record {
         same = found.same;
         bytes = [];
@@ -190,7 +191,7 @@ module _ {S : Type 0} (seen : S → SourceView) where
           feed = subst (λ (e : Option InputEnd). FeedStands seen feed lists.source (lists.read ++ []) rows e) (sym unknown) stands;
           cells = append_assoc lists.given (cell ∷ []) (null_cells nulls)
               ∙ ap (λ (c : Cell). lists.given ++ (c ∷ null_cells nulls)) found.is_put
-              ∙ ap (λ (l : List Cell). lists.given ++ (Live found.row ∷ l)) behind
+              ∙ ap (λ (l : List Cell). lists.given ++ (Live found.row no_labels ∷ l)) behind
               ∙ ap (λ (l : List Cell). l ++ more) given_is
               ∙ append_assoc (null_cells stuffing.start) (stuffed_after stuffing 0 holds.rows) more
               ∙ ap (λ (l : List Cell). null_cells stuffing.start ++ l) (sym (stuffed_after-push stuffing 0 holds.rows found.row))

@@ -4,6 +4,7 @@ use Rattle.std.proofs.lemmas.List.{length-replicate}
 use Rattle.ts_packet.specs.Packet.{null_packet}
 use Rattle.ts_packet.specs.declared.cell.Cell.{Cell}
 use Rattle.ts_packet.specs.declared.cell.Cell.TheVariants.{Live}
+use Rattle.ts_packet.specs.Labels.{no_labels}
 use Rattle.chain_model.specs.declared.input_end.InputEnd.{InputEnd}
 use Rattle.chain_model.specs.declared.input_end.InputEnd.TheVariants.{End, Sync, ReadFault, TooLong}
 use Rattle.chain_model.specs.Prefix.{IsPrefix}
@@ -55,7 +56,7 @@ module _ (stuffing : model.Stuffing) (rows : List (List ℕ)) (ended : Option In
   ends_too_long : length lists.given ≡ 2 ^ 60 → 0 < nulls + length continues.rest → IsEndOf input lists.given (input_over TooLong)
   ends_too_long full longer =
       let more : List Cell = null_cells nulls ++ continues.rest in
-      let some : 0 < length more = omega (arith, length-append (null_cells nulls) continues.rest, length-replicate nulls (Live null_packet)) in
+      let some : 0 < length more = omega (arith, length-append (null_cells nulls) continues.rest, length-replicate nulls (Live null_packet no_labels)) in
       let long : 2 ^ 60 < length (lists.given ++ more) = omega (arith, length-append lists.given more) in
       let whole : input ≡ record { cells = lists.given; ended = Some (input_over TooLong) } =
       all_is

@@ -1,5 +1,5 @@
 -- The work of a stage that agrees to nothing, put together.
-use Rattle.std.proofs.Common.{◌≡◌, ℕ, ◌+◌, ◌-◌, ◌<◌, ◌≤◌, List, length, drop, sym, subst, Option, None, Some, if◌then◌else◌, Bool, true, false}
+use Rattle.std.proofs.Common.{◌≡◌, ℕ, ◌+◌, ◌≤◌, List, length, drop, sym, subst, Option, None, Some, if◌then◌else◌, Bool, true, false}
 use Rattle.ts_packet.specs.declared.cell.Cell.{Cell}
 use Rattle.chain_core.specs.declared.news.News.{News}
 use Rattle.chain_core.specs.declared.stage_end.StageEnd.{StageEnd}

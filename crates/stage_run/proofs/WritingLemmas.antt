@@ -35,17 +35,17 @@ written-drop-more cells place cell within here =
     ap written (drop_more cells place cell within ∙ ap (λ (x : Cell). x ∷ drop (place + 1) cells) (sym here))
 
 -- a cell that is not live writes nothing
-pub no-bytes : (cell : Cell) → ((packet : List ℕ) → cell ≡ Live packet → ⊥) → cell_bytes cell ≡ []
-no-bytes (Live packet) not = absurd (not packet refl)
+pub no-bytes : (cell : Cell) → ((packet : List ℕ) (labels : ℕ) → cell ≡ Live packet labels → ⊥) → cell_bytes cell ≡ []
+no-bytes (Live packet labels) not = absurd (not packet labels refl)
 no-bytes Dropped not = refl
 
 -- a byte inside the packet of a live cell
-pub StandsAt-live : (cells : List Cell) (place left byte : ℕ) (cell : Cell) (packet : List ℕ) → place < length cells
-    → cell ≡ get_or cells place cell → cell ≡ Live packet → left < length packet → byte ≡ length (written (take place cells)) + left
+pub StandsAt-live : (cells : List Cell) (place left byte : ℕ) (cell : Cell) (packet : List ℕ) (labels : ℕ) → place < length cells
+    → cell ≡ get_or cells place cell → cell ≡ Live packet labels → left < length packet → byte ≡ length (written (take place cells)) + left
     → StandsAt cells byte place
-StandsAt-live cells place left byte cell packet within here live inside at =
+StandsAt-live cells place left byte cell packet labels within here live inside at =
     let rest : List Cell = drop (place + 1) cells in
-    let from : drop place cells ≡ Live packet ∷ rest =
+    let from : drop place cells ≡ Live packet labels ∷ rest =
     drop_more cells place cell within ∙ ap (λ x. x ∷ rest) (sym here ∙ live) in
     let whole : written cells ≡ written (take place cells) ++ (packet ++ written rest) =
     written-take-drop place cells ∙ ap (λ l. written (take place cells) ++ written l) from in
@@ -114,7 +114,7 @@ placed-more cells place left left' byte cell within here at inside is = (
 part-of-more : (xs ys : List Cell) (part : List ℕ) → IsPartOfFirst xs part → IsPartOfFirst (xs ++ ys) part
 part-of-more [] ys part is = absurd is
 part-of-more (Dropped ∷ xs) ys part is = absurd is
-part-of-more (Live packet ∷ xs) ys part is = is
+part-of-more (Live packet labels ∷ xs) ys part is = is
 
 -- a cut in the first cells of a list is one in the list
 pub part-of-all : (len place : ℕ) (cells : List Cell) (part : List ℕ) → place ≤ length (take len cells)

@@ -1,9 +1,11 @@
 -- How the packets of an input stand behind the bytes that were read. This project's own rule.
 use Rattle.std.specs.Prelude.{◌≡◌, ℕ, ◌+◌, ◌*◌, ◌<◌, ◌≤◌, List, [], ◌∷◌, ◌++◌, length, take, drop, replicate, Option, None, Some, IfSome, vec_len}
 use Rattle.std.specs.List.{All, concat}
+use Rattle.ts_packet.specs.declared.numbers.TheConstants.{PACKET_SIZE}
 use Rattle.ts_packet.specs.Packet.{IsPacket, null_packet}
 use Rattle.ts_packet.specs.declared.cell.Cell.{Cell}
 use Rattle.ts_packet.specs.declared.cell.Cell.TheVariants.{Live}
+use Rattle.ts_packet.specs.Labels.{no_labels}
 use Rattle.ts_outside.specs.Source.{SourceView, unread, read_failed}
 use Rattle.chain_model.specs.declared.input_end.InputEnd.{InputEnd}
 use Rattle.chain_model.specs.declared.input_end.InputEnd.TheVariants.{End, Sync, ReadFault, TooLong}
@@ -72,14 +74,14 @@ pub record StreamLooks {S : Type 0} (seen : S → SourceView) (new : PacketStrea
     (first : SourceView) (read : List ℕ) (rows : List (List ℕ)) (ended : Option InputEnd) : Type 0 where
   pub bytes : List ℕ
   pub stands : StreamStands seen new first (read ++ bytes) rows ended
-  pub reads : (most : ℕ) → length read ≤ 188 * most → length rows + wanted ≤ most
-      → length (read ++ bytes) ≤ 188 * most
+  pub reads : (most : ℕ) → length read ≤ PACKET_SIZE * most → length rows + wanted ≤ most
+      → length (read ++ bytes) ≤ PACKET_SIZE * most
 
 -- the next packet was put into a cell
 pub record StreamPuts {S : Type 0} (seen : S → SourceView) (new : PacketStream S) (first : SourceView)
     (read : List ℕ) (rows : List (List ℕ)) (cell : Cell) : Type 0 where
   pub row : List ℕ
-  pub is_put : cell ≡ Live row
+  pub is_put : cell ≡ Live row no_labels
   pub stands : StreamStands seen new first read (rows ++ row ∷ []) None
 
 -- an input of nothing but null packets ends when it has put them all
@@ -135,13 +137,13 @@ pub record FeedLooks {S : Type 0} (seen : S → SourceView) (old new : PacketFee
   pub same : SameFeed old new
   pub bytes : List ℕ
   pub stands : FeedStands seen new first (read ++ bytes) rows ended
-  pub reads : (most : ℕ) → length read ≤ 188 * most → length rows + wanted ≤ most
-      → length (read ++ bytes) ≤ 188 * most
+  pub reads : (most : ℕ) → length read ≤ PACKET_SIZE * most → length rows + wanted ≤ most
+      → length (read ++ bytes) ≤ PACKET_SIZE * most
 
 -- the next packet was put into a cell
 pub record FeedPuts {S : Type 0} (seen : S → SourceView) (old new : PacketFeed S) (first : SourceView)
     (read : List ℕ) (rows : List (List ℕ)) (cell : Cell) : Type 0 where
   pub same : SameFeed old new
   pub row : List ℕ
-  pub is_put : cell ≡ Live row
+  pub is_put : cell ≡ Live row no_labels
   pub stands : FeedStands seen new first read (rows ++ row ∷ []) None

@@ -1,5 +1,7 @@
 -- What an input with its stuffing stands for. This project's own rule.
-use Rattle.std.specs.Prelude.{◌≡◌, ℕ, ◌*◌, ◌≤◌, ◌^◌, List, [], ◌++◌, length, Option, None, Some, IfSome}
+use Rattle.std.specs.Prelude.{◌≡◌, ℕ, ◌*◌, ◌≤◌, List, [], ◌++◌, length, Option, None, Some, IfSome}
+use Rattle.ts_packet.specs.declared.numbers.TheConstants.{PACKET_SIZE}
+use Rattle.chain_model.specs.declared.positions.TheConstants.{POSITION_LIMIT}
 use Rattle.ts_packet.specs.declared.cell.Cell.{Cell}
 use Rattle.ts_outside.specs.Source.{SourceView}
 use Rattle.chain_model.specs.declared.input_end.InputEnd.{InputEnd}
@@ -37,13 +39,13 @@ IsOpen (Some how) = ⊥
 -- before it tells its end an input can go on, and it has read no more than the cells that it gave have room for
 pub record IsGoingOn (ended : Option InputEnd) (lists : PartLists) : Type 0 where
   pub can : IsOpen ended
-  pub reads : length lists.read ≤ 188 * length lists.given
+  pub reads : length lists.read ≤ PACKET_SIZE * length lists.given
 
 -- what is told of an input's end fits what is known of it: nothing is left to give, or no position
 abbrev pub FitsTold : Option InputEnd → ℕ → PartLists → Option StageEnd → Type 0
 FitsTold ended nulls lists None = IsGoingOn ended lists
 FitsTold ended nulls lists (Some Followed) = IsGoingOn ended lists
-FitsTold ended nulls lists (Some (Input TooLong)) = (length lists.given ≡ 2 ^ 60) × IsOpen ended
+FitsTold ended nulls lists (Some (Input TooLong)) = (length lists.given ≡ POSITION_LIMIT) × IsOpen ended
 FitsTold ended nulls lists (Some (Input how)) = (ended ≡ Some how) × (nulls ≡ 0)
 FitsTold ended nulls lists (Some _) = ⊥
 
@@ -65,7 +67,7 @@ pub record InputStands {S : Type 0} (seen : S → SourceView) (stage : InputStag
   pub holds : InputHolds seen stage lists
   pub fits : FitsTold stage.ended stage.nulls lists told
   -- positions are below the limit
-  pub within : length lists.given ≤ 2 ^ 60
+  pub within : length lists.given ≤ POSITION_LIMIT
 
 -- the bytes that may follow where the input is known to be at its end: none
 abbrev pub MayFollowEnd : Option InputEnd → List ℕ → Type 0

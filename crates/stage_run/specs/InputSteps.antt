@@ -1,5 +1,6 @@
 -- What the steps of an input do to what it stands for. This project's own rule.
 use Rattle.std.specs.Prelude.{◌≡◌, ◌⊎◌, ℕ, ◌+◌, ◌*◌, ◌<◌, ◌≤◌, ◌%◌, ◌==◌, if◌then◌else◌, List, [], ◌∷◌, ◌++◌, length, Option, None, Some}
+use Rattle.ts_packet.specs.declared.numbers.TheConstants.{PACKET_SIZE}
 use Rattle.ts_packet.specs.declared.cell.Cell.{Cell}
 use Rattle.ts_outside.specs.Source.{SourceView}
 use Rattle.chain_model.specs.declared.input_end.InputEnd.{InputEnd}
@@ -45,8 +46,8 @@ pub record InputGoes {S : Type 0} (seen : S → SourceView) (old new : InputStag
   pub holds : InputHolds seen new (with_more lists bytes cells)
   pub gives : (input : StageList) → MayGive seen new (with_more lists bytes cells) input
       → MayGive seen old lists input
-  pub reads : (most : ℕ) → length lists.read ≤ 188 * most → length lists.given + wanted ≤ most
-      → length (lists.read ++ bytes) ≤ 188 * most
+  pub reads : (most : ℕ) → length lists.read ≤ PACKET_SIZE * most → length lists.given + wanted ≤ most
+      → length (lists.read ++ bytes) ≤ PACKET_SIZE * most
 
 -- the list is over, and this is how
 pub record IsOver {S : Type 0} (stage : InputStage S) (how : InputEnd) : Type 0 where

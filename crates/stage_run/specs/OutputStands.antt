@@ -15,7 +15,8 @@ use Rattle.stage_run.specs.PartLists.{PartLists}
 abbrev pub IsPartOfFirst : List Cell → List ℕ → Type 0
 IsPartOfFirst [] part = ⊥
 IsPartOfFirst (Dropped ∷ cells) part = ⊥
-IsPartOfFirst (Live packet ∷ cells) part = (rest : List ℕ) × (0 < length rest) × (packet ≡ part ++ rest)
+IsPartOfFirst (Live packet labels ∷ cells) part =
+    (rest : List ℕ) × (0 < length rest) × (packet ≡ part ++ rest)
 
 -- a sink that took what these cells write and a part of the packet behind them, of which a write failed
 abbrev pub failed_behind : SinkView → List Cell → List ℕ → SinkView

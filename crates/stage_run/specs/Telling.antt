@@ -1,5 +1,5 @@
 -- What a stage tells with its cells. This project's own rule.
-use Rattle.std.specs.Prelude.{◌≡◌, ℕ, ◌-◌, min, nat_le, nat_lt, ◌||◌, Bool, true, false, Option, None, Some, if◌then◌else◌}
+use Rattle.std.specs.Prelude.{◌≡◌, ℕ, ◌-◌, min, nat_le, ◌||◌, Bool, true, false, Option, None, Some, if◌then◌else◌}
 use Rattle.chain_model.specs.Apply.{OwnEnd, input_over, last_passed, stopped, refused}
 use Rattle.chain_core.specs.declared.news.News.{News}
 use Rattle.chain_core.specs.declared.stage_end.StageEnd.{StageEnd}

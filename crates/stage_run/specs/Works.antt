@@ -1,5 +1,7 @@
 -- What a stage does with the cells in its hands. This project's own rule.
-use Rattle.std.specs.Prelude.{◌≡◌, ◌⊎◌, ℕ, suc, ◌+◌, ◌-◌, ◌*◌, ◌^◌, ◌<◌, ◌≤◌, ◌==◌, List, [], ◌++◌, length, take, drop, Option, None, Some, true, if◌then◌else◌}
+use Rattle.std.specs.Prelude.{◌≡◌, ◌⊎◌, ℕ, suc, ◌+◌, ◌-◌, ◌*◌, ◌<◌, ◌≤◌, ◌==◌, List, [], ◌++◌, length, take, drop, Option, None, Some, true, if◌then◌else◌}
+use Rattle.ts_packet.specs.declared.numbers.TheConstants.{PACKET_SIZE}
+use Rattle.chain_model.specs.declared.positions.TheConstants.{POSITION_LIMIT}
 use Rattle.ts_packet.specs.declared.cell.Cell.{Cell}
 use Rattle.ts_outside.specs.Count.{raised}
 use Rattle.ts_outside.specs.Source.{SourceView}
@@ -48,7 +50,7 @@ pub record Behind (old new : PartLists) (cells cells_given : List Cell) (written
 -- for how many packets, counted from its beginning, an input may have read that works on `len` cells behind `at`: for
 -- its cells, but for one packet more at the last position
 abbrev pub read_for : ℕ → ℕ → ℕ
-read_for at len = if at == 2 ^ 60 then at + 1 else at + len
+read_for at len = if at == POSITION_LIMIT then at + 1 else at + len
 
 -- a count of faults rose by one where this fault was told, and stood still otherwise
 abbrev pub FaultsTold : ℕ → ℕ → Option StageEnd → StageEnd → Type 0
@@ -57,9 +59,9 @@ FaultsTold old new told fault = (told ≡ Some fault → new ≡ raised old) × 
 -- an input works on all its cells, unless its list ends; at the last position it looks for its end. It need not read
 -- where it may follow already
 abbrev pub InputTells : News → ℕ → ℕ → ℕ → Type 0 → Option StageEnd → Type 0
-InputTells news at len done unread None = (done ≡ len) × (at < 2 ^ 60)
+InputTells news at len done unread None = (done ≡ len) × (at < POSITION_LIMIT)
 InputTells news at len done unread (Some Followed) =
-    ((done ≡ len) × (at < 2 ^ 60)) ⊎ ((done ≡ 0) × unread × (may_follow news at ≡ true))
+    ((done ≡ len) × (at < POSITION_LIMIT)) ⊎ ((done ≡ 0) × unread × (may_follow news at ≡ true))
 InputTells news at len done unread (Some (Input how)) = Unit {0}
 InputTells news at len done unread (Some _) = ⊥
 
@@ -78,7 +80,7 @@ pub record InputWorks {S : Type 0} (seen : S → SourceView) (old new : InputSta
   pub faults : FaultsTold (source_faults seen old.feed) (source_faults seen new.feed) work.word.ended
       (Input ReadFault)
   -- no more is read than the cells want
-  pub reads : length after.read ≤ 188 * read_for (length before.given) (length cells)
+  pub reads : length after.read ≤ PACKET_SIZE * read_for (length before.given) (length cells)
   -- what may follow now might have followed before, and of each such list the visit is a stage's
   pub keeps : (input : StageList) → MayGive seen new after input → MayGive seen old before input
       × ((rules : List PluginRule) (plugins : ℕ)

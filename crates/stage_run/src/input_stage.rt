@@ -6,11 +6,9 @@ use crate::packet_feed::PacketFeed;
 use crate::telling::{followed, may_follow};
 use crate::{InputPart, IoBuffer, Stuffing, Work};
 use chain_core::{InputEnd, News, StageEnd};
+use chain_model::POSITION_LIMIT;
 use ts_outside::Source;
-use ts_packet::{Cell, Packet};
-
-/// Positions are below this number.
-const POSITION_LIMIT: u64 = chain_model::POSITION_LIMIT;
+use ts_packet::{Cell, Labels, Packet};
 
 /// An input with its stuffing.
 pub struct InputStage<S> {
@@ -143,7 +141,7 @@ impl<S: Source> InputStage<S> {
         self.ensure_packet(wanted);
         if self.nulls > 0 {
             self.nulls -= 1;
-            *cell = Cell::Live(Packet::null());
+            *cell = Cell::Live(Packet::null(), Labels::none());
             return None;
         }
         if self.ended.is_some() {
@@ -157,8 +155,8 @@ impl<S: Source> InputStage<S> {
     /// Puts the next cells of the list, until the window is full or the list ends.
     fn fill(&mut self, cells: &mut [Cell]) -> Filled
         requires fits { InputFits self.old }
-        requires in_range { packets_put self.old.feed ≤ 2 ^ 60 }
-        requires few { length cells.old ≤ 2 ^ 60 }
+        requires in_range { packets_put self.old.feed ≤ POSITION_LIMIT }
+        requires few { length cells.old ≤ POSITION_LIMIT }
         ensures done { result.done ≤ length cells.old }
         ensures rest { drop result.done cells.new ≡ drop result.done cells.old }
         ensures goes { (lists : PartLists) → InputHolds S.seen self.old lists
@@ -199,7 +197,7 @@ impl<S: Source> InputStage<S> {
     /// Reads and gives for all cells, unless the list ends or the news let the input follow already.
     pub(crate) fn work(&mut self, at: u64, cells: &mut [Cell], news: &News) -> Work
         requires stands { MayWorkOnSome (InputStands S.seen self.old) at news.now.written }
-        requires in_range { at + length cells.old ≤ 2 ^ 60 }
+        requires in_range { at + length cells.old ≤ POSITION_LIMIT }
         ensures same_stuffing { self.new.stuffing ≡ self.old.stuffing }
         ensures work { InputWork S.seen self.old self.new at news.now cells.old cells.new result }
     {

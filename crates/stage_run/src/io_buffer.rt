@@ -1,15 +1,15 @@
 ghost use Rattle.std.specs.Prelude.{◌≤◌, vec_len};
+ghost use Rattle.ts_packet.specs.declared.numbers.TheConstants.{PACKET_SIZE};
 
 use std::alloc::{AllocError, Global};
-
-const PACKET_SIZE: usize = ts_packet::PACKET_SIZE;
+use ts_packet::PACKET_SIZE;
 
 /// Room for the bytes of packets, taken before the run: an input reads into it, and an output gathers there what it
 /// writes. One call of the outside moves as much as fits, at most.
 #[derive(Drop)]
 pub struct IoBuffer {
     pub(crate) bytes: Vec<u8>,
-    ghost some_packet: { 188 ≤ vec_len bytes },
+    ghost some_packet: { PACKET_SIZE ≤ vec_len bytes },
 }
 
 impl IoBuffer {
@@ -20,7 +20,7 @@ impl IoBuffer {
     pub fn new(alloc: Global, packets: usize) -> Result<IoBuffer, AllocError>
         requires some { 1 ≤ packets }
         requires few { packets ≤ 1000000 }
-        ensures { IfOk result (λ room. bytes_of_room room ≡ 188 * packets) }
+        ensures { IfOk result (λ room. bytes_of_room room ≡ PACKET_SIZE * packets) }
     {
         let bytes = vec![in alloc; 0; PACKET_SIZE * packets]?;
         Ok(IoBuffer { bytes })

@@ -12,7 +12,8 @@ pub struct OutputStage<K> {
 }
 
 impl<K: Sink> OutputStage<K> {
-    ghost use Rattle.std.specs.Prelude.{◌≡◌, ◌≢◌, ℕ, ◌+◌, ◌^◌, ◌<◌, ◌≤◌, [], length, take, drop, Option, None, Some};
+    ghost use Rattle.std.specs.Prelude.{◌≡◌, ◌≢◌, ℕ, ◌+◌, ◌<◌, ◌≤◌, [], length, take, drop, Option, None, Some};
+    ghost use Rattle.chain_model.specs.declared.positions.TheConstants.{POSITION_LIMIT};
     ghost use Rattle.chain_core.specs.declared.stage_end.StageEnd.{StageEnd};
     ghost use Rattle.ts_outside.specs.Source.{SourceView};
     ghost use Rattle.ts_outside.specs.Sink.{SinkView};
@@ -56,7 +57,7 @@ impl<K: Sink> OutputStage<K> {
     /// Writes the live packets of all cells below the limit.
     pub(crate) fn work(&mut self, at: u64, cells: &mut [Cell], news: &News) -> Work
         requires stands { MayWorkOnSome (OutputStands K.seen self.old) at news.now.written }
-        requires in_range { at + length cells.old ≤ 2 ^ 60 }
+        requires in_range { at + length cells.old ≤ POSITION_LIMIT }
         ensures { OutputWork K.seen self.old self.new at news.now cells.old cells.new result }
     {
         let len = below_limit(news.limit, at, cells.len());

@@ -3,7 +3,7 @@ use crate::packet_stream::PacketStream;
 use crate::{InputPart, IoBuffer};
 use chain_core::InputEnd;
 use ts_outside::Source;
-use ts_packet::{Cell, Packet};
+use ts_packet::{Cell, Labels, Packet};
 
 /// The packets of an input, one after another.
 pub(crate) enum PacketFeed<S> {
@@ -84,7 +84,7 @@ impl<S: Source> PacketFeed<S> {
             PacketFeed::Stream(stream) => stream.next_packet(cell),
             PacketFeed::Nulls(nulls) => {
                 nulls.packets += 1;
-                *cell = Cell::Live(Packet::null());
+                *cell = Cell::Live(Packet::null(), Labels::none());
             }
         }
     }

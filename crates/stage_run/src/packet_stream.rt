@@ -1,8 +1,8 @@
 use crate::IoBuffer;
-use crate::packet_row::{PACKET_SIZE, packet_at};
+use crate::packet_row::packet_at;
 use chain_core::InputEnd;
 use ts_outside::{Failed, Source};
-use ts_packet::Cell;
+use ts_packet::{Cell, Labels, PACKET_SIZE};
 
 const SYNC_BYTE: u8 = ts_packet::SYNC_BYTE;
 
@@ -62,11 +62,11 @@ impl<S: Source> PacketStream<S> {
     /// Reads once, for as much as `wanted` packets want beside the bytes in hand, if there is room for it.
     fn read_more(&mut self, wanted: usize) -> Result<usize, Failed>
         requires some { 1 ≤ wanted }
-        requires few { self.old.have < 188 }
+        requires few { self.old.have < PACKET_SIZE }
         requires room { HasRoom self.old }
         ensures read { MatchResult result (ReadsMore S.seen self.old self.new)
             (λ _. FailsToRead S.seen self.old self.new) }
-        ensures asked { self.new.have ≤ 188 * wanted }
+        ensures asked { self.new.have ≤ PACKET_SIZE * wanted }
         ensures room { HasRoom self.new }
         ensures packets { self.new.packets ≡ self.old.packets }
     {
@@ -124,7 +124,7 @@ impl<S: Source> PacketStream<S> {
         ensures room { HasRoom self.new }
         ensures packets { self.new.packets ≡ self.old.packets + 1 }
     {
-        *cell = Cell::Live(packet_at(&self.room.bytes, self.from));
+        *cell = Cell::Live(packet_at(&self.room.bytes, self.from), Labels::none());
         self.from += PACKET_SIZE;
         self.have -= PACKET_SIZE;
         self.packets += 1;

@@ -28,8 +28,9 @@ fn told(end: ListEnd, news: &News, now: u64) -> Option<StageEnd>
 }
 
 impl<P: Plugin> PluginStage<P> {
-    ghost use Rattle.std.specs.Prelude.{◌≡◌, ◌≢◌, ℕ, ◌+◌, ◌-◌, ◌^◌, ◌<◌, ◌≤◌, List, [], ◌++◌, length, take, drop, Option, None, Some, is_some};
+    ghost use Rattle.std.specs.Prelude.{◌≡◌, ◌≢◌, ℕ, ◌+◌, ◌-◌, ◌<◌, ◌≤◌, List, [], ◌++◌, length, take, drop, Option, None, Some, is_some};
     ghost use Rattle.ts_packet.specs.declared.cell.Cell.{Cell};
+    ghost use Rattle.chain_model.specs.declared.positions.TheConstants.{POSITION_LIMIT};
     ghost use Rattle.chain_model.specs.Apply.{apply_after};
     ghost use Rattle.chain_model.specs.Joint.{agreement_of};
     ghost use Rattle.chain_core.specs.declared.stage_end.StageEnd.{StageEnd};
@@ -68,7 +69,7 @@ impl<P: Plugin> PluginStage<P> {
     /// Tells the mark and steps over the cells.
     fn pass(&mut self, at: u64, cells: &mut [Cell], written: u64) -> Applied
         requires may { MayPass (P.stands_for self.old.plugin) at written }
-        requires in_range { at + length cells.old ≤ 2 ^ 60 }
+        requires in_range { at + length cells.old ≤ POSITION_LIMIT }
         ensures count { result.count ≤ length cells.old }
         ensures rest { drop result.count cells.new ≡ drop result.count cells.old }
         ensures makes { (history : List Cell) (mark : ℕ)
@@ -115,7 +116,7 @@ impl<P: Plugin> PluginStage<P> {
         requires stands { MayWorkOnSome (PluginStands P.rule P.stands_for self.old) at news.now.written }
         requires written { news.now.written ≤ at }
         requires in_hand { at + length cells.old ≤ news.now.taken }
-        requires in_range { at + length cells.old ≤ 2 ^ 60 }
+        requires in_range { at + length cells.old ≤ POSITION_LIMIT }
         ensures same_rule { P.rule self.new.plugin ≡ P.rule self.old.plugin }
         ensures same_steady { P.steady self.new.plugin ≡ P.steady self.old.plugin }
         ensures work { PluginWork P.rule P.stands_for P.steady self.old self.new

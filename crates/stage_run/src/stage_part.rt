@@ -17,7 +17,8 @@ pub enum StagePart<S, K, P> {
 }
 
 impl<S: Source, K: Sink, P: Plugin> StagePart<S, K, P> {
-    ghost use Rattle.std.specs.Prelude.{◌≡◌, ℕ, ◌+◌, ◌-◌, ◌<◌, ◌≤◌, ◌^◌, ◌↔◌, [], length, drop, Option, None, Some};
+    ghost use Rattle.std.specs.Prelude.{◌≡◌, ℕ, ◌+◌, ◌-◌, ◌<◌, ◌≤◌, ◌↔◌, [], length, drop, Option, None, Some};
+    ghost use Rattle.chain_model.specs.declared.positions.TheConstants.{POSITION_LIMIT};
     ghost use Rattle.chain_model.specs.Apply.{StageList};
     ghost use Rattle.chain_model.specs.Stuffed as model;
     ghost use Rattle.chain_core.specs.declared.stage_end.StageEnd.{StageEnd};
@@ -135,7 +136,7 @@ impl<S: Source, K: Sink, P: Plugin> StagePart<S, K, P> {
             self.old) at news.now.written }
         requires written { news.now.written ≤ at }
         requires in_hand { at + length cells.old ≤ news.now.taken }
-        requires in_range { news.now.taken ≤ 2 ^ 60 }
+        requires in_range { news.now.taken ≤ POSITION_LIMIT }
         ensures { PartWork (seeing S.seen K.seen P.rule P.stands_for P.steady) self.old self.new
             at news.now cells.old cells.new result }
     {

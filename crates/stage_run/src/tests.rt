@@ -12,7 +12,7 @@ use ts_outside::{
     Desk, FailPlan, FileBytes, FileList, MemoryDesk, MemorySink, MemorySource, NameText,
     NumberList, OpenGate, Sink, Source,
 };
-use ts_packet::{Cell, Packet};
+use ts_packet::{Cell, Labels, Packet};
 
 /// Passes the packets before a position, and stops at the first one from there on.
 #[derive(Drop)]
@@ -24,20 +24,17 @@ struct StopsAt {
 impl Plugin for StopsAt {
     ghost use Rattle.std.specs.Prelude.{◌≡◌, ◌≤◌, [], None, false, length, nat_le, if◌then◌else◌, refl};
     ghost use Rattle.chain_model.specs.PluginRule.{passes, stops};
+    ghost use Rattle.plugin_trait.specs.SilentRule.{silent_rule};
 
-    ghost rule = { λ s. record {
-      outcome_of = λ history packet. if nat_le s.position (length history) then stops else passes packet;
-      lines_of = λ _ _. [];
-      summary_of = λ _. [];
-      agrees = λ _. false;
-    } };
+    ghost rule = { λ s. silent_rule
+        (λ history packet. if nat_le s.position (length history) then stops else passes packet) };
 
     ghost stands_for = { λ s history mark. mark ≤ length history };
 
     ghost steady = { λ s. None };
 
     fn step(&mut self, at: u64, cell: &mut Cell) -> Outcome {
-        if let Cell::Live(_) = cell {
+        if let Cell::Live(_, _) = cell {
             if self.position <= at {
                 return Outcome::Stop;
             }
@@ -255,7 +252,7 @@ fn read_file(
 /// The PID of a cell's packet, and none of a dropped cell.
 fn pid(cell: &Cell) -> Option<u16> {
     match cell {
-        Cell::Live(packet) => Some(packet.pid()),
+        Cell::Live(packet, _) => Some(packet.pid()),
         Cell::Dropped => None,
     }
 }
@@ -339,10 +336,10 @@ fn edits<S: Source, K: Sink, P: Plugin>(stage: P, cells: &mut [Cell; 4]) -> (P, 
 /// Four cells, of which the second is a dropped one.
 fn four() -> [Cell; 4] {
     [
-        Cell::Live(packet()),
+        Cell::Live(packet(), Labels::none()),
         Cell::Dropped,
-        Cell::Live(packet()),
-        Cell::Live(packet()),
+        Cell::Live(packet(), Labels::none()),
+        Cell::Live(packet(), Labels::none()),
     ]
 }
 

@@ -3,9 +3,8 @@ ghost use Rattle.std.specs.Prelude.{◌≡◌, ◌<◌, ◌≤◌, length, take}
 ghost use Rattle.chain_model.specs.Written.{written};
 ghost use Rattle.stage_run.specs.Writing.{StandsAt, WritesCells};
 
-use crate::packet_row::PACKET_SIZE;
 use ts_outside::{Sink, write_whole};
-use ts_packet::Cell;
+use ts_packet::{Cell, PACKET_SIZE};
 
 /// What was gathered for one piece.
 #[derive(Clone, Copy)]
@@ -18,7 +17,7 @@ struct Gathered {
 
 /// Puts the packets of the live cells one after another into the room, as many as there is room for.
 fn gather(room: &mut [u8], cells: &[Cell]) -> Gathered
-    requires { 188 ≤ length room.old }
+    requires { PACKET_SIZE ≤ length room.old }
     ensures within { result.cells ≤ length cells.now }
     ensures some { 0 < length cells.now → 0 < result.cells }
     ensures fits { result.bytes ≤ length room.new }
@@ -26,7 +25,7 @@ fn gather(room: &mut [u8], cells: &[Cell]) -> Gathered
 {
     let mut bytes = 0;
     for (i, cell) in cells.iter().enumerate() {
-        if let Cell::Live(packet) = cell {
+        if let Cell::Live(packet, _) = cell {
             if room.len() - bytes < PACKET_SIZE {
                 return Gathered { cells: i, bytes };
             }
@@ -48,7 +47,7 @@ fn cell_of_byte(cells: &[Cell], byte: usize) -> usize
 {
     let mut left = byte;
     for (place, cell) in cells.iter().enumerate() {
-        if let Cell::Live(packet) = cell {
+        if let Cell::Live(packet, _) = cell {
             let size = packet.bytes().len();
             if left < size {
                 return place;
@@ -63,7 +62,7 @@ fn cell_of_byte(cells: &[Cell], byte: usize) -> usize
 ///
 /// The answer is the number of cells before the one whose packet was not taken whole, or all of them.
 pub(crate) fn write_cells<K: Sink>(sink: &mut K, room: &mut [u8], cells: &[Cell]) -> usize
-    requires { 188 ≤ length room.old }
+    requires { PACKET_SIZE ≤ length room.old }
     ensures within { result ≤ length cells.now }
     ensures writes { WritesCells (K.seen sink.old) (K.seen sink.new) cells.now result }
 {

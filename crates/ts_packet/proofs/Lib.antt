@@ -2,4 +2,5 @@ pub mod Packets
 pub mod Bytes
 pub mod Clocks
 pub mod HeaderLaws
+pub mod LabelLemmas
 mod Rows

@@ -6,7 +6,7 @@ use Rattle.ts_packet.specs.declared.cell.Cell.TheVariants.{Live, Dropped}
 
 -- the packet of a live cell, and none of a dropped one
 abbrev pub packet_in : Cell → List (List ℕ)
-packet_in (Live packet) = packet ∷ []
+packet_in (Live packet labels) = packet ∷ []
 packet_in Dropped = []
 
 -- the packets of the live cells, in order

@@ -3,4 +3,5 @@ pub mod Header
 pub mod Adaptation
 pub mod Pcr
 pub mod Payload
+pub mod Labels
 pub mod Cells

@@ -3,6 +3,8 @@
 #![tactic(auto)]
 
 mod cell;
+mod label_laws;
+mod labels;
 mod no_sync;
 mod numbers;
 mod packet;
@@ -10,6 +12,8 @@ mod packet;
 mod tests;
 
 pub use cell::Cell;
+pub use label_laws::labels_are_a_set;
+pub use labels::{LABEL_COUNT, Labels};
 pub use no_sync::NoSync;
 pub use numbers::{NULL_PID, PACKET_SIZE, PAYLOAD_SIZE, PID_COUNT, SYNC_BYTE};
 pub use packet::Packet;

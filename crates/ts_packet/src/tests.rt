@@ -1,4 +1,4 @@
-use crate::{NoSync, PACKET_SIZE, Packet};
+use crate::{Cell, Labels, NoSync, PACKET_SIZE, Packet};
 use std::process::Abort;
 
 const NULL_HEAD: [u8; 12] = [
@@ -185,4 +185,20 @@ fn sync_byte(rt: HostRuntime) {
     let refused = Packet::of(&[0xFF; PACKET_SIZE]);
     assert_eq!(rt; refused, Err(NoSync { found: 0xFF }));
     assert_eq!(rt; Packet::null(), packet(&rt, NULL_HEAD));
+}
+
+/// Labels are found again, two sets meet in one of theirs, and a cell with them takes 196 bytes.
+#[test]
+fn labels_of_a_cell(rt: HostRuntime) {
+    let labels = Labels::none().with(3).with(31);
+    for (n, wanted) in [(0, false), (3, true), (4, false), (31, true)] {
+        assert!(rt; labels.has(n) == wanted, "label {n}");
+    }
+    assert!(rt; labels.shares(Labels::none().with(31)));
+    assert!(rt; !labels.shares(Labels::none().with(4)));
+    assert_eq!(rt;
+        Labels::none().with(3).union(Labels::none().with(31)),
+        labels
+    );
+    assert_eq!(rt; size_of::<Cell>(), 196);
 }

@@ -21,7 +21,7 @@ mod word_rows;
 use anyhow::Result;
 use end_rows::END_ROWS;
 use fault_rows::{LATE_ROWS, OPENING_ROWS, RUN_ROWS};
-use plugin_rows::{JOINT_ROWS, PLUGIN_ROWS, WATCH_ROWS};
+use plugin_rows::{JOINT_ROWS, LABEL_ROWS, PLUGIN_ROWS, WATCH_ROWS};
 use row::print_rows;
 use tally::Tally;
 use word_rows::WORD_ROWS;
@@ -32,6 +32,7 @@ fn main(rt: HostRuntime) -> Result<()> {
     print_rows(&rt, &PLUGIN_ROWS, &mut tally)?;
     print_rows(&rt, &WATCH_ROWS, &mut tally)?;
     print_rows(&rt, &JOINT_ROWS, &mut tally)?;
+    print_rows(&rt, &LABEL_ROWS, &mut tally)?;
     print_rows(&rt, &OPENING_ROWS, &mut tally)?;
     print_rows(&rt, &RUN_ROWS, &mut tally)?;
     print_rows(&rt, &LATE_ROWS, &mut tally)?;

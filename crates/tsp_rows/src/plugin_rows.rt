@@ -134,3 +134,25 @@ pub(crate) static JOINT_ROWS: [Row; 6] = [
         fails: Fails::Never,
     },
 ];
+
+/// Plugins that see marked packets alone.
+pub(crate) static LABEL_ROWS: [Row; 3] = [
+    Row {
+        name: "count of the marked packets",
+        words: "-I file in -P filter --pid 256 --set-label 3 -P count --only-label 3 -O file out",
+        input: Input::Pids(&[256, 257, 256, 257]),
+        fails: Fails::Never,
+    },
+    Row {
+        name: "skip drops the first marked packet",
+        words: "-I file in -P filter --pid 256 --set-label 3 -P skip 1 --only-label 3 -O file out",
+        input: Input::Pids(&[256, 257, 256, 257]),
+        fails: Fails::Never,
+    },
+    Row {
+        name: "joint termination at the first marked packet",
+        words: "-I file in -P filter --pid 256 --set-label 3 -P until --packets 1 --joint-termination --only-label 3 -O file out",
+        input: Input::Pids(&[257, 256, 257]),
+        fails: Fails::Never,
+    },
+];

@@ -3,8 +3,8 @@ use crate::inputs::Input;
 use crate::row::Row;
 use crate::trial_desk::Fails;
 
-/// One row for each broken rule but that of too many plugins.
-pub(crate) static WORD_ROWS: [Row; 8] = [
+/// A row or two for each broken rule but that of too many plugins.
+pub(crate) static WORD_ROWS: [Row; 9] = [
     Row {
         name: "missing option",
         words: "-I null 2 -P filter -O drop",
@@ -26,6 +26,12 @@ pub(crate) static WORD_ROWS: [Row; 8] = [
     Row {
         name: "bad value",
         words: "-I null 2 -P filter --pid 8192",
+        input: Input::Pids(&[]),
+        fails: Fails::Never,
+    },
+    Row {
+        name: "label above 31",
+        words: "-I null 1 -P filter --pid 1 --set-label 32 -O drop",
         input: Input::Pids(&[]),
         fails: Fails::Never,
     },

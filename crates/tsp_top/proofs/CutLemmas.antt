@@ -59,13 +59,13 @@ below-end m end (Some j) less le apart = elim (order m (min end j) le) [
 part-begins : (cells : List Cell) (part : List ℕ) → IsPartOfFirst cells part → IsPrefix part (written cells)
 part-begins [] part is = absurd is
 part-begins (Dropped ∷ cells) part is = absurd is
-part-begins (Live packet ∷ cells) part is = (is.0 ++ written cells, ap (λ (b : List ℕ). b ++ written cells) is.2 ∙ append_assoc part is.0 (written cells))
+part-begins (Live packet labels ∷ cells) part is = (is.0 ++ written cells, ap (λ (b : List ℕ). b ++ written cells) is.2 ∙ append_assoc part is.0 (written cells))
 
 -- and of the first of them, if there is one
 part-of-some : (n : ℕ) (cells : List Cell) (part : List ℕ) → IsPartOfFirst cells part → IsPartOfFirst (take (suc n) cells) part
 part-of-some n [] part is = absurd is
 part-of-some n (Dropped ∷ cells) part is = absurd is
-part-of-some n (Live packet ∷ cells) part is = is
+part-of-some n (Live packet labels ∷ cells) part is = is
 
 -- the bytes up to a cut begin those up to a later one, and so they do with a part of the packet between
 cells-begin : (cells : List Cell) (cut all : ℕ) → cut ≤ all → IsPrefix (written (take cut cells) ++ []) (written (take all cells))

@@ -1,6 +1,6 @@
 -- A call at a desk that never fails meets the premises of the headline.
-use Rattle.std.proofs.Common.{◌≡◌, ◌<◌, ℕ, List, refl, arith}
-use Rattle.ts_outside.specs.Count.{IsQuiet, count_end}
+use Rattle.std.proofs.Common.{refl, arith}
+use Rattle.ts_outside.specs.Count.{IsQuiet}
 use Rattle.ts_outside.specs.Steady.{SteadyDeskView, steady_desk}
 use Rattle.chain_args.specs.declared.input_conf.InputConf.{InputConf}
 use Rattle.chain_args.specs.declared.input_conf.InputConf.TheVariants as input

@@ -1,5 +1,5 @@
 -- From what a run did to what the stream theorem says of it.
-use Rattle.std.proofs.Common.{◌≡◌, ◌≤◌, ℕ, List, length, Bool, true, false, ◌||◌, Option, refl, ap, ◌∙◌, inl, inr, take}
+use Rattle.std.proofs.Common.{◌≡◌, ℕ, List, Bool, true, false, ◌||◌, Option, refl, ap, ◌∙◌, inl, inr, take}
 use Rattle.std.specs.Prelude.{IsSome}
 use Rattle.chain_args.specs.declared.plan_type.Plan.{Plan}
 use Rattle.ts_outside.specs.Count.{HasCause}

@@ -25,5 +25,5 @@ loop-place-preserved c =
 pub returns-then-left-size-clause-stands : goal.returns-then-left-size-clause-stands
 returns-then-left-size-clause-stands c =
     let read : length c.bytes.result.now ≡ length c.in-Live.packet = ap length c.bytes.ensures.bytes in
-    StandsAt-live c.args.cells.now c.loop-place.place c.loop-place.left c.args.byte c.index-cells-place.result c.in-Live.packet
+    StandsAt-live c.args.cells.now c.loop-place.place c.loop-place.left c.args.byte c.index-cells-place.result c.in-Live.packet _
     c.loop-place-test.true c.index-cells-place.is c.in-Live.is (omega arith) c.loop-place.invariant.before

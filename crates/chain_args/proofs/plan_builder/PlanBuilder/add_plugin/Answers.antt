@@ -6,8 +6,8 @@ use Rattle.chain_args.proofs.plan_builder.PlanBuilder.add_plugin.Goals as goal
 
 pub returns : goal.returns
 returns c = λ before stands.
-    plugin_added c.args.self.now _ before (map string_bytes c.args.others.now) (map string_bytes c.in-Some.own.now) (string_bytes c.in-Some.name.now) c.in-Some-of.kind c.in_ok-conf.conf stands
+    plugin_added c.args.self.now _ before (map string_bytes c.args.others.now) (map string_bytes c.in-Some.own.now) (string_bytes c.in-Some.name.now) c.in-Some-of.kind c.in_ok-item.item stands
     (omega arith)
     (ap (map string_bytes) c.in-Some.ensures.cases.0)
     (c.in-Some-of.ensures ∙ ap plugin_kind_named c.as_str.ensures.value)
-    c.in_ok-conf.ensures.reads c.in_ok-conf.ensures.lawful refl refl c.in_ok-push.ensures.items
+    c.in_ok-item.ensures.reads c.in_ok-item.ensures.lawful refl refl c.in_ok-push.ensures.items

@@ -1,8 +1,14 @@
--- Each plugin's own clause, at the plugin that stands there.
+use Rattle.std.proofs.Common.{◌≡◌, ℕ, ◌≤◌, List, length, Result, IfOk, sym, subst}
+use Rattle.plugin_trait.specs.declared.line.Line.{Line}
+use Rattle.plug_set.specs.contracts.some_plugin.SomePluginPlugin.TheImpl.{ghosts as some}
+use Rattle.plug_set.specs.OnlyLabels.{shown}
+use Rattle.plug_set.proofs.ShownLemmas.{length-shown, placed-first}
 use Rattle.plug_set.proofs.any_plugin.AnyPluginPlugin.finish.Goals as goal
 
-pub returns-in-Filter : goal.returns-in-Filter
-returns-in-Filter c = rw c.in-Filter.is c.finish.ensures
-
-pub returns-in-Remap : goal.returns-in-Remap
-returns-in-Remap c = rw c.in-Remap.is c.finish-in-Remap.ensures
+pub returns : goal.returns
+returns c = λ history mark stands below met.
+    let met_shown : c.args.cut ≤ length (shown c.args.self.now.only history) =
+    subst (λ (n : ℕ). c.args.cut ≤ n) (sym (length-shown c.args.self.now.only history)) met in
+    subst (λ (said : List Line). IfOk c.finish.result (λ lines. lines.items ≡ said))
+    (sym (placed-first c.args.self.now.only (some.rule c.args.self.now.plugin) c.args.cut history))
+    (c.finish.ensures (shown c.args.self.now.only history) mark stands below met_shown)

@@ -37,19 +37,19 @@ returns-then-self-clause-edited c = λ history mark w.
     c.set_counter.ensures.row
     ∙ (ap (with_counter c.args.packet.now)
     (ap (λ (s : LastPacket). s.right) c.seen_with-next.ensures.with
-    ∙ right_is _ _ _ history mark w c.args.packet.now c.index-before.result.now (below d) c.requires.watched (before_is d) c.seen_with-next.ensures.counter)
+    ∙ right_is _ _ _ history mark w c.args.packet.now 0 c.index-before.result.now (below d) c.requires.watched (before_is d) c.seen_with-next.ensures.counter)
     ∙ sym (ap (λ (b : Bool). if b then fixed history c.args.packet.now else c.args.packet.now) c.if-self.true))
 
 pub returns-then-self-clause-met : goal.returns-then-self-clause-met
-returns-then-self-clause-met c = λ history mark w count.
+returns-then-self-clause-met c = λ history mark w count labels.
     let d = (goal.at.returns-then-self-clause-met c).After-index-before in
-    watches_kept _ _ _ history mark w c.args.packet.now c.index-before.result.now (below d) c.requires.watched (before_is d)
+    watches_kept _ _ _ history mark w c.args.packet.now labels c.index-before.result.now (below d) c.requires.watched (before_is d)
     c.from-place.result c.args.at c.seen_with-next.result c.push_fault.new.faults.items
     c.seen_with-next.ensures.counter c.seen_with-next.ensures.range (place_is d) c.seen_with-next.ensures.with count c.in_ok-push_fault.ensures.ok
 
 pub returns-else-self-clause-met : goal.returns-else-self-clause-met
-returns-else-self-clause-met c = λ history mark w count.
+returns-else-self-clause-met c = λ history mark w count labels.
     let d = (goal.at.returns-else-self-clause-met c).After-index-before in
-    watches_kept _ _ _ history mark w c.args.packet.now c.index-before.result.now (below d) c.requires.watched (before_is d)
+    watches_kept _ _ _ history mark w c.args.packet.now labels c.index-before.result.now (below d) c.requires.watched (before_is d)
     c.from-place.result c.args.at c.seen_with-next.result c.push_fault.new.faults.items
     c.seen_with-next.ensures.counter c.seen_with-next.ensures.range (place_is d) c.seen_with-next.ensures.with count c.in_ok-push_fault.ensures.ok

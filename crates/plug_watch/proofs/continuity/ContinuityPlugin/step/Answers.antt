@@ -25,17 +25,17 @@ pub returns-then-not-watches-clause-meets : goal.returns-then-not-watches-clause
 returns-then-not-watches-clause-meets c = λ history mark w count.
     at_cell c.args.cell.now (λ cell. Watches (conf_of c.args.self.now) c.args.self.now.seen.items c.args.self.now.faults.items (history ++ cell ∷ []) mark)
     c.in-Live.is
-    (watches_other _ _ _ history mark w c.in-Live.packet (ap (is_watched (conf_of c.args.self.now)) (sym c.pid.ensures.field) ∙ sym c.if-not-watches.ensures))
+    (watches_other _ _ _ history mark w c.in-Live.packet c.in-Live.field-1 (ap (is_watched (conf_of c.args.self.now)) (sym c.pid.ensures.field) ∙ sym c.if-not-watches.ensures))
 
 pub returns-in-Ok-clause-tells : goal.returns-in-Ok-clause-tells
 returns-in-Ok-clause-tells c = λ history mark w count.
     let watched : is_watched (conf_of c.args.self.now) (pid_of c.in-Live.packet) ≡ true =
     ap (is_watched (conf_of c.args.self.now)) (sym c.pid.ensures.field) ∙ (sym c.watches.ensures ∙ c.if-not-watches.false) in
-    at_cell c.args.cell.now (λ cell. (became (continuity_rule (conf_of c.args.self.now)) history cell ≡ goes_on (Live c.watch.new.packet)) × SameKind cell (Live c.watch.new.packet))
+    at_cell c.args.cell.now (λ cell. (became (continuity_rule (conf_of c.args.self.now)) history cell ≡ goes_on (Live c.watch.new.packet c.in-Live.field-1)) × SameKind cell (Live c.watch.new.packet c.in-Live.field-1))
     c.in-Live.is (
-      ap (λ (b : Bool). goes_on (Live (if c.args.self.now.fix && b then fixed history c.in-Live.packet else c.in-Live.packet))) watched
-          ∙ (ap (λ (b : Bool). goes_on (Live (if b then fixed history c.in-Live.packet else c.in-Live.packet))) (and-true c.args.self.now.fix)
-          ∙ ap (λ (p : List ℕ). goes_on (Live p)) (sym (c.in-Ok.ensures.edited history mark w))),
+      ap (λ (b : Bool). goes_on (Live (if c.args.self.now.fix && b then fixed history c.in-Live.packet else c.in-Live.packet) c.in-Live.field-1)) watched
+          ∙ (ap (λ (b : Bool). goes_on (Live (if b then fixed history c.in-Live.packet else c.in-Live.packet) c.in-Live.field-1)) (and-true c.args.self.now.fix)
+          ∙ ap (λ (p : List ℕ). goes_on (Live p c.in-Live.field-1)) (sym (c.in-Ok.ensures.edited history mark w))),
       tt,
     )
 
@@ -43,5 +43,5 @@ pub returns-in-Ok-clause-meets : goal.returns-in-Ok-clause-meets
 returns-in-Ok-clause-meets c = λ history mark w count.
     at_cell c.args.cell.now (λ cell. Watches (conf_of c.watch.new.self) c.watch.new.self.seen.items c.watch.new.self.faults.items (history ++ cell ∷ []) mark)
     c.in-Live.is
-    (subst (λ (conf : ContinuityConf). Watches conf c.watch.new.self.seen.items c.watch.new.self.faults.items (history ++ Live c.in-Live.packet ∷ []) mark)
-    (sym c.in-Ok.ensures.same) (c.in-Ok.ensures.met history mark w count))
+    (subst (λ (conf : ContinuityConf). Watches conf c.watch.new.self.seen.items c.watch.new.self.faults.items (history ++ Live c.in-Live.packet c.in-Live.field-1 ∷ []) mark)
+    (sym c.in-Ok.ensures.same) (c.in-Ok.ensures.met history mark w count c.in-Live.field-1))

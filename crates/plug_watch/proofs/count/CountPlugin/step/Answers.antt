@@ -22,7 +22,7 @@ returns-in_default-clause-meets c = λ history mark w count. (
 pub returns-then-not-selects-clause-meets : goal.returns-then-not-selects-clause-meets
 returns-then-not-selects-clause-meets c = λ history mark w count. (
   at_cell c.args.cell.now (λ cell. Counts (conf_of c.args.self.now) c.args.self.now.notes.items c.args.self.now.tally.counts.items c.args.self.now.tally.total (history ++ cell ∷ []) mark)
-      c.in-Live.is (counts_other (conf_of c.args.self.now) _ _ _ history mark w.0 c.in-Live.packet (omega (arith, count, c.requires.in_range))
+      c.in-Live.is (counts_other (conf_of c.args.self.now) _ _ _ history mark w.0 c.in-Live.packet c.in-Live.field-1 (omega (arith, count, c.requires.in_range))
       (ap (is_selected c.args.self.now.pids c.args.self.now.negate) (sym c.pid-pid.ensures.field) ∙ sym c.if-not-selects.ensures)),
   w.1,
 )
@@ -30,7 +30,7 @@ returns-then-not-selects-clause-meets c = λ history mark w count. (
 pub returns-in-Ok-clause-meets : goal.returns-in-Ok-clause-meets
 returns-in-Ok-clause-meets c = λ history mark w count. (
   at_cell c.args.cell.now (λ cell. Counts (conf_of c.args.self.now) c.push_back.new.self.items c.args.self.now.tally.counts.items c.args.self.now.tally.total (history ++ cell ∷ []) mark)
-      c.in-Live.is (counts_live (conf_of c.args.self.now) _ _ _ history mark w.0 c.in-Live.packet (record { at = c.args.at; pid = c.pid-pid.result }) c.push_back.new.self.items
+      c.in-Live.is (counts_live (conf_of c.args.self.now) _ _ _ history mark w.0 c.in-Live.packet c.in-Live.field-1 (record { at = c.args.at; pid = c.pid-pid.result }) c.push_back.new.self.items
       (omega (arith, count, c.requires.in_range))
       (ap (is_selected c.args.self.now.pids c.args.self.now.negate) (sym c.pid-pid.ensures.field) ∙ (sym c.selects.ensures ∙ c.if-not-selects.false))
       (omega (arith, c.pid-pid.ensures.field, c.pid-pid.ensures.range))

@@ -1,5 +1,8 @@
-use Rattle.std.proofs.Common.{ℕ, ◌-◌, List, [], ◌∷◌, ◌∙◌, refl, sym, ap, subst, arith}
+use Rattle.std.proofs.Common.{◌≡◌, ℕ, ◌-◌, List, [], ◌∷◌, ◌∙◌, refl, sym, ap, subst, arith}
+use Rattle.ts_packet.specs.declared.cell.Cell.{Cell}
 use Rattle.ts_packet.specs.declared.cell.Cell.TheVariants.{Live}
+use Rattle.ts_packet.specs.Labels.{no_labels}
+use Rattle.ts_packet.specs.Packet.{null_packet}
 use Rattle.stage_run.specs.declared.input_stage.InputStage.{InputStage}
 use Rattle.stage_run.specs.InputSteps.{InputGoes, with_more, null_count}
 use Rattle.stage_run.specs.InputStands.{stuffing_of}
@@ -13,8 +16,10 @@ returns-then-self-gt0-clause-goes g c = λ lists holds.
     let one = c.ensure_packet.ensures.goes lists holds in
     let new : InputStage g.row.S.Denot = record { feed = mid.feed; stuffing = mid.stuffing; nulls = mid.nulls - 1; ended = mid.ended } in
     let two = InputGoes-null seen mid (mid.nulls - 1) (with_more lists one.bytes []) c.args.wanted (omega arith) one.holds in
-    subst (λ (p : List ℕ). InputGoes seen c.args.self.now new lists c.args.wanted (Live p ∷ [])) (sym c.null.ensures.bytes)
-    (InputGoes-trans seen c.args.self.now mid new lists c.args.wanted c.args.wanted c.args.wanted [] (Live _ ∷ []) (omega arith) (omega arith) one two)
+    let put : Live null_packet no_labels ≡ Live c.null.result c.none.result =
+    ap (λ (p : List ℕ). Live p no_labels) (sym c.null.ensures.bytes) ∙ ap (Live c.null.result) (sym c.none.ensures) in
+    subst (λ (cell : Cell). InputGoes seen c.args.self.now new lists c.args.wanted (cell ∷ [])) put
+    (InputGoes-trans seen c.args.self.now mid new lists c.args.wanted c.args.wanted c.args.wanted [] (Live _ no_labels ∷ []) (omega arith) (omega arith) one two)
 
 pub returns-then-is_some-clause-goes : goal.returns-then-is_some-clause-goes
 returns-then-is_some-clause-goes g c = λ lists holds.

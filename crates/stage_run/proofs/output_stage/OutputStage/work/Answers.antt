@@ -1,4 +1,4 @@
-use Rattle.std.proofs.Common.{◌+◌, Some, refl, sym, ap, arith, ◌∙◌}
+use Rattle.std.proofs.Common.{◌+◌, Some, refl, ap, arith, ◌∙◌}
 use Rattle.std.proofs.lemmas.List.{length-take}
 use Rattle.chain_core.specs.declared.stage_end.StageEnd.TheVariants.{WriteFault}
 use Rattle.stage_run.specs.Telling.{followed}

@@ -1,12 +1,11 @@
-use Rattle.std.proofs.Common.{◌≡◌, ℕ, ◌+◌, ◌-◌, ◌≤◌, List, [], ◌++◌, length, ap, refl, sym, subst, ◌∙◌, arith, length-append, append-nil, take, is_some, Bool, true, false, not, if◌then◌else◌, Result, is_ok, IsOk, Option, None, Some, IsSome}
+use Rattle.std.proofs.Common.{◌≡◌, ℕ, ◌+◌, ◌-◌, List, [], ◌++◌, length, ap, refl, sym, subst, ◌∙◌, arith, length-append, append-nil, take, is_some, Bool, true, false, not, if◌then◌else◌, Result, is_ok, IsOk, Option, None, Some, IsSome}
 use Rattle.ts_packet.specs.declared.cell.Cell.{Cell}
 use Rattle.chain_model.specs.PluginRule.{PluginRule}
-use Rattle.chain_model.specs.Apply.{StageList, apply_after}
+use Rattle.chain_model.specs.Apply.{apply_after}
 use Rattle.chain_model.specs.Joint.{agreement_of}
 use Rattle.chain_model.proofs.AgreementLaws.{agreement_of-within}
 use Rattle.plugin_trait.specs.Steps.{IsSteadyFor}
 use Rattle.plugin_trait.specs.Driving.{Makes, TellsAgreement, made_so_far}
-use Rattle.stage_run.specs.PluginSteps.{Allows}
 use Rattle.plugin_trait.proofs.AgreeingLemmas.{newly_agreed-within}
 use Rattle.stage_run.proofs.plugin_stage.PluginStage.pass.Goals as goal
 

@@ -15,14 +15,13 @@ use Rattle.std.proofs.lemmas.List.{nil_from_length}
 use Rattle.ts_packet.specs.declared.cell.Cell.{Cell}
 use Rattle.chain_model.specs.Joint.{agreement_of}
 use Rattle.chain_model.proofs.AgreementLaws.{agreement_of-within}
-use Rattle.stage_run.specs.declared.work.Work.{Work}
 use Rattle.plugin_trait.specs.declared.list_end.ListEnd.TheVariants as window
 use Rattle.chain_core.specs.declared.stage_end.StageEnd.TheVariants.{NoMemory}
 use Rattle.stage_run.specs.PluginSteps.{Allows, told_by}
 use Rattle.stage_run.specs.PluginStands.{PluginStands}
 use Rattle.stage_run.specs.Works.{Works, PluginWorks}
 use Rattle.stage_run.proofs.WorkLemmas.{plain-stage, followed-memory}
-use Rattle.stage_run.proofs.PluginWorking.{plugin_works, plugin_work, newly_agreed-Some, through_all, no_memory_told, steady_less, FollowsNews-followed, FollowsNews-told}
+use Rattle.stage_run.proofs.PluginWorking.{plugin_works, newly_agreed-Some, through_all, no_memory_told, steady_less, FollowsNews-followed, FollowsNews-told}
 use Rattle.stage_run.proofs.plugin_stage.PluginStage.work.Goals as goal
 
 -- lists behind which a plugin's stage may work allow its mark

@@ -1,0 +1,63 @@
+-- What a plugin says that is shown some packets as dropped cells: what it says of the cells that it is shown.
+use Rattle.std.proofs.Common.{◌≡◌, ℕ, List, [], ◌∷◌, ◌++◌, length, take, map, Bool, true, false, Option, None, Some, if◌then◌else◌, refl, ap, sym, ◌∙◌}
+use Rattle.std.proofs.lemmas.List.{length-map, map-append, take-map}
+use Rattle.ts_packet.specs.declared.cell.Cell.{Cell}
+use Rattle.ts_packet.specs.declared.cell.Cell.TheVariants.{Live, Dropped}
+use Rattle.ts_packet.specs.Labels.{shares_label}
+use Rattle.chain_model.specs.PluginRule.{PluginRule}
+use Rattle.chain_model.specs.SeenCells.{only_rule, seen, sees}
+use Rattle.plugin_trait.specs.declared.line.Line.{Line}
+use Rattle.plugin_trait.specs.PlacedLines.{placed_at, placed_after, placed_of}
+use Rattle.plug_set.specs.OnlyLabels.{rule_for, shown}
+
+pub length-shown : (only : Option ℕ) (cells : List Cell) → length (shown only cells) ≡ length cells
+length-shown None cells = refl
+length-shown (Some only) cells = length-map cells (sees only)
+
+take-shown : (only : Option ℕ) (n : ℕ) (cells : List Cell) → shown only (take n cells) ≡ take n (shown only cells)
+take-shown None n cells = refl
+take-shown (Some only) n cells = sym (take-map (sees only) n cells)
+
+-- the lines over the cells that it sees, which keep their positions
+placed_after-shown : (only : ℕ) (rule : PluginRule) (history cells : List Cell)
+    → placed_after (only_rule only rule) history cells ≡ placed_after rule (seen only history) (seen only cells)
+placed_after-shown only rule history [] = refl
+placed_after-shown only rule history (Live packet labels ∷ cells) =
+    go (shares_label labels only) refl (placed_after-shown only rule (history ++ Live packet labels ∷ []) cells)
+    (map-append (sees only) history (Live packet labels ∷ []))
+  where
+    go : (b : Bool) → shares_label labels only ≡ b
+        → placed_after (only_rule only rule) (history ++ Live packet labels ∷ []) cells
+        ≡ placed_after rule (seen only (history ++ Live packet labels ∷ [])) (seen only cells)
+        → seen only (history ++ Live packet labels ∷ []) ≡ seen only history ++ (if shares_label labels only then Live packet labels else Dropped) ∷ []
+        → placed_at (length history) (if shares_label labels only then rule.lines_of (seen only history) packet labels else [])
+        ++ placed_after (only_rule only rule) (history ++ Live packet labels ∷ []) cells
+        ≡ placed_after rule (seen only history) ((if shares_label labels only then Live packet labels else Dropped) ∷ seen only cells)
+    go true e rest more =
+        ap (λ (b : Bool). placed_at (length history) (if b then rule.lines_of (seen only history) packet labels else [])
+        ++ placed_after (only_rule only rule) (history ++ Live packet labels ∷ []) cells) e
+        ∙ (ap (λ (n : ℕ). placed_at n (rule.lines_of (seen only history) packet labels) ++ placed_after (only_rule only rule) (history ++ Live packet labels ∷ []) cells)
+        (sym (length-map history (sees only)))
+        ∙ (ap (λ (lines : List Line). placed_at (length (seen only history)) (rule.lines_of (seen only history) packet labels) ++ lines)
+        (rest ∙ ap (λ (h : List Cell). placed_after rule h (seen only cells)) (more ∙ ap (λ (b : Bool). seen only history ++ (if b then Live packet labels else Dropped) ∷ []) e))
+        ∙ ap (λ (b : Bool). placed_after rule (seen only history) ((if b then Live packet labels else Dropped) ∷ seen only cells)) (sym e)))
+    go false e rest more =
+        ap (λ (b : Bool). placed_at (length history) (if b then rule.lines_of (seen only history) packet labels else [])
+        ++ placed_after (only_rule only rule) (history ++ Live packet labels ∷ []) cells) e
+        ∙ (rest
+        ∙ (ap (λ (h : List Cell). placed_after rule h (seen only cells)) (more ∙ ap (λ (b : Bool). seen only history ++ (if b then Live packet labels else Dropped) ∷ []) e)
+        ∙ ap (λ (b : Bool). placed_after rule (seen only history) ((if b then Live packet labels else Dropped) ∷ seen only cells)) (sym e)))
+placed_after-shown only rule history (Dropped ∷ cells) =
+    placed_after-shown only rule (history ++ Dropped ∷ []) cells
+    ∙ ap (λ (h : List Cell). placed_after rule h (seen only cells)) (map-append (sees only) history (Dropped ∷ []))
+
+-- all that the plugin says is what it says of the cells that it sees
+placed_of-shown : (only : Option ℕ) (rule : PluginRule) (cells : List Cell) → placed_of (rule_for only rule) cells ≡ placed_of rule (shown only cells)
+placed_of-shown None rule cells = refl
+placed_of-shown (Some only) rule cells =
+    ap (λ (lines : List Line). lines ++ placed_at (length cells) (rule.summary_of (seen only cells))) (placed_after-shown only rule [] cells)
+    ∙ ap (λ (n : ℕ). placed_after rule [] (seen only cells) ++ placed_at n (rule.summary_of (seen only cells))) (sym (length-map cells (sees only)))
+
+-- the same of the first cells
+pub placed-first : (only : Option ℕ) (rule : PluginRule) (n : ℕ) (cells : List Cell) → placed_of (rule_for only rule) (take n cells) ≡ placed_of rule (take n (shown only cells))
+placed-first only rule n cells = placed_of-shown only rule (take n cells) ∙ ap (placed_of rule) (take-shown only n cells)

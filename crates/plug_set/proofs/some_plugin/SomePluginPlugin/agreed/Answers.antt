@@ -1,0 +1,23 @@
+-- Each plugin's own clause, at the plugin that stands there.
+use Rattle.plug_set.proofs.some_plugin.SomePluginPlugin.agreed.Goals as goal
+
+pub returns-in-Filter : goal.returns-in-Filter
+returns-in-Filter c = rw c.in-Filter.is c.agreed.ensures
+
+pub returns-in-Skip : goal.returns-in-Skip
+returns-in-Skip c = rw c.in-Skip.is c.agreed-in-Skip.ensures
+
+pub returns-in-Slice : goal.returns-in-Slice
+returns-in-Slice c = rw c.in-Slice.is c.agreed-in-Slice.ensures
+
+pub returns-in-Pattern : goal.returns-in-Pattern
+returns-in-Pattern c = rw c.in-Pattern.is c.agreed-in-Pattern.ensures
+
+pub returns-in-Until : goal.returns-in-Until
+returns-in-Until c = rw c.in-Until.is c.agreed-in-Until.ensures
+
+pub returns-in-Continuity : goal.returns-in-Continuity
+returns-in-Continuity c = rw c.in-Continuity.is c.agreed-in-Continuity.ensures
+
+pub returns-in-Remap : goal.returns-in-Remap
+returns-in-Remap c = rw c.in-Remap.is c.agreed-in-Remap.ensures

@@ -1,0 +1,38 @@
+-- Each plugin's own clause, at the plugin that stands there.
+use Rattle.plug_set.proofs.some_plugin.SomePluginPlugin.step.Goals as goal
+
+pub returns-in-Filter-clause-tells : goal.returns-in-Filter-clause-tells
+returns-in-Filter-clause-tells c = rw c.in-Filter.is c.step.ensures.tells
+
+pub returns-in-Remap-clause-tells : goal.returns-in-Remap-clause-tells
+returns-in-Remap-clause-tells c = rw c.in-Remap.is c.step-in-Remap.ensures.tells
+
+pub returns-in-Skip-clause-tells : goal.returns-in-Skip-clause-tells
+returns-in-Skip-clause-tells c = rw c.in-Skip.is c.step-in-Skip.ensures.tells
+
+pub returns-in-Skip-clause-meets : goal.returns-in-Skip-clause-meets
+returns-in-Skip-clause-meets c = rw c.in-Skip.is c.step-in-Skip.ensures.meets
+
+pub returns-in-Slice-clause-tells : goal.returns-in-Slice-clause-tells
+returns-in-Slice-clause-tells c = rw c.in-Slice.is c.step-in-Slice.ensures.tells
+
+pub returns-in-Slice-clause-meets : goal.returns-in-Slice-clause-meets
+returns-in-Slice-clause-meets c = rw c.in-Slice.is c.step-in-Slice.ensures.meets
+
+pub returns-in-Pattern-clause-tells : goal.returns-in-Pattern-clause-tells
+returns-in-Pattern-clause-tells c = rw c.in-Pattern.is c.step-in-Pattern.ensures.tells
+
+pub returns-in-Pattern-clause-meets : goal.returns-in-Pattern-clause-meets
+returns-in-Pattern-clause-meets c = rw c.in-Pattern.is c.step-in-Pattern.ensures.meets
+
+pub returns-in-Until-clause-tells : goal.returns-in-Until-clause-tells
+returns-in-Until-clause-tells c = rw c.in-Until.is c.step-in-Until.ensures.tells
+
+pub returns-in-Until-clause-meets : goal.returns-in-Until-clause-meets
+returns-in-Until-clause-meets c = rw c.in-Until.is c.step-in-Until.ensures.meets
+
+pub returns-in-Continuity-clause-tells : goal.returns-in-Continuity-clause-tells
+returns-in-Continuity-clause-tells c = rw c.in-Continuity.is c.step-in-Continuity.ensures.tells
+
+pub returns-in-Continuity-clause-meets : goal.returns-in-Continuity-clause-meets
+returns-in-Continuity-clause-meets c = rw c.in-Continuity.is c.step-in-Continuity.ensures.meets

@@ -1,0 +1,46 @@
+-- A plugin of the chain: its settings with the labels that it sees, its words, and the rule that these mean.
+-- This project's own rule.
+use Rattle.std.specs.Prelude.{List, [], ◌∷◌, ◌++◌, IfSome, codes, option_map}
+use Rattle.ts_packet.specs.declared.labels.TheConstants.{LABEL_COUNT}
+use Rattle.chain_model.specs.PluginRule.{PluginRule}
+use Rattle.plug_conf.specs.LabelSet.{label_set}
+use Rattle.plug_conf.specs.NumberSet.{AllBelow}
+use Rattle.plug_conf.specs.declared.limits.TheConstants.{LAST_LABEL}
+use Rattle.option_words.specs.Forms.{ranges}
+use Rattle.option_words.specs.Options.{OptionRow, read_value, value}
+use Rattle.option_words.specs.OptionTable.{OptionTable}
+use Rattle.option_words.specs.Ranges.{ranges_of}
+use Rattle.plug_set.specs.OnlyLabels.{rule_for}
+use Rattle.plug_set.specs.Plugins.{IsLawful, options_of_plugin, rule_of}
+use Rattle.plug_set.specs.declared.plugin_conf.PluginConf.{PluginConf}
+use Rattle.plug_set.specs.declared.plugin_conf.PluginKind.{PluginKind}
+use Rattle.plug_set.specs.declared.plugin_item.PluginItem.{PluginItem}
+
+-- the option that every plugin has besides its own
+abbrev pub only_label_row : OptionRow
+only_label_row = record { name = codes "only-label"; kind = value (ranges LAST_LABEL) }
+
+-- a plugin's options with that one behind them; it is neither needed nor does it exclude another
+abbrev pub with_only_label : OptionTable PluginConf → OptionTable PluginItem
+with_only_label table = record {
+  rows = table.rows ++ only_label_row ∷ [];
+  has_needed = table.has_needed;
+  settings = λ found. record {
+    conf = table.settings found;
+    only = read_value (ranges_of LAST_LABEL) (codes "only-label") found;
+  };
+  go_together = table.go_together;
+}
+
+-- all that a plugin takes
+abbrev pub options_of_item : PluginKind → OptionTable PluginItem
+options_of_item kind = with_only_label (options_of_plugin kind)
+
+-- the settings are lawful, and each label is one
+pub record IsLawfulItem (item : PluginItem) : Type 0 where
+  pub settings : IsLawful item.conf
+  pub labels : IfSome item.only (AllBelow LABEL_COUNT)
+
+-- the rule that the item means: that of the settings, of the packets that the plugin sees
+abbrev pub rule_of_item : PluginItem → PluginRule
+rule_of_item item = rule_for (option_map label_set item.only) (rule_of item.conf)

@@ -1,0 +1,28 @@
+ghost use Rattle.std.specs.Prelude.{◌≡◌, option_map};
+ghost use Rattle.plug_conf.specs.LabelSet.{label_set};
+
+use crate::plugin_conf::PluginConf;
+use plug_conf::NumberSet;
+use ts_packet::Labels;
+
+/// One plugin of the chain.
+#[derive(Drop, Debug)]
+pub struct PluginItem {
+    /// The settings of the plugin.
+    pub conf: PluginConf,
+    /// The labels, 0 to 31, of which a packet has to have one so that the plugin sees it. Without them the plugin sees
+    /// every packet.
+    pub only: Option<NumberSet>,
+}
+
+impl PluginItem {
+    /// These labels as one set.
+    pub fn labels(&self) -> Option<Labels>
+        ensures { result ≡ option_map label_set self.now.only }
+    {
+        match &self.only {
+            Some(only) => Some(only.labels()),
+            None => None,
+        }
+    }
+}

@@ -1,0 +1,155 @@
+ghost use Rattle.std.specs.Prelude.{◌≡◌, IfOk, []};
+ghost use Rattle.plug_set.specs.Plugins.{rule_of, steady_of};
+
+use crate::plugin_conf::PluginConf;
+use plug_end::Until;
+use plug_move::Remap;
+use plug_pass::{Filter, Pattern, Skip, Slice};
+use plug_watch::{Continuity, Count};
+use plugin_trait::{Line, Outcome, Plugin};
+use std::alloc::{AllocError, Global};
+use ts_packet::Cell;
+
+/// A plugin of any kind, which is shown each cell.
+#[derive(Drop, Debug)]
+pub(crate) enum SomePlugin {
+    Filter(Filter),
+    Skip(Skip),
+    Slice(Slice),
+    Pattern(Pattern),
+    Until(Until),
+    Count(Count),
+    Continuity(Continuity),
+    Remap(Remap),
+}
+
+impl SomePlugin {
+    ghost use Rattle.plug_set.specs.Plugins.{IsLawful};
+
+    /// The plugin of these settings, which met no cell yet. `buffer` is the number of positions that the
+    /// chain holds: for so many behind the last mark most plugins take their room here.
+    pub(crate) fn of(
+        alloc: Global,
+        conf: &PluginConf,
+        buffer: usize,
+    ) -> Result<SomePlugin, AllocError>
+        requires { IsLawful conf.now }
+        ensures rule { IfOk result (λ plugin. ⟦<SomePlugin as Plugin>⟧.rule plugin ≡ rule_of conf.now) }
+        ensures fresh { IfOk result (λ plugin. ⟦<SomePlugin as Plugin>⟧.stands_for plugin [] 0) }
+        ensures steady { IfOk result (λ plugin. ⟦<SomePlugin as Plugin>⟧.steady plugin ≡ steady_of conf.now buffer) }
+    {
+        Ok(match conf {
+            PluginConf::Filter(conf) => SomePlugin::Filter(Filter::new(alloc, conf, buffer)?),
+            PluginConf::Skip(conf) => SomePlugin::Skip(Skip::new(alloc, conf, buffer)?),
+            PluginConf::Slice(conf) => SomePlugin::Slice(Slice::new(alloc, conf, buffer)?),
+            PluginConf::Pattern(conf) => SomePlugin::Pattern(Pattern::new(alloc, conf, buffer)?),
+            PluginConf::Until(conf) => SomePlugin::Until(Until::new(alloc, conf, buffer)?),
+            PluginConf::Count(conf) => SomePlugin::Count(Count::new(alloc, conf, buffer)?),
+            PluginConf::Continuity(conf) => {
+                SomePlugin::Continuity(Continuity::new(alloc, conf, buffer)?)
+            }
+            PluginConf::Remap(conf) => SomePlugin::Remap(Remap::new(alloc, conf, buffer)?),
+        })
+    }
+}
+
+impl Plugin for SomePlugin {
+    ghost use Rattle.std.specs.Prelude.{refl};
+    ghost use Rattle.plug_set.specs.declared.some_plugin.SomePlugin.TheVariants.{Filter as MadeFilter, Skip as MadeSkip, Slice as MadeSlice, Pattern as MadePattern, Until as MadeUntil, Count as MadeCount, Continuity as MadeContinuity, Remap as MadeRemap};
+
+    ghost rule = { elim [
+      | MadeFilter p ↦ ⟦<Filter as Plugin>⟧.rule p
+      | MadeSkip p ↦ ⟦<Skip as Plugin>⟧.rule p
+      | MadeSlice p ↦ ⟦<Slice as Plugin>⟧.rule p
+      | MadePattern p ↦ ⟦<Pattern as Plugin>⟧.rule p
+      | MadeUntil p ↦ ⟦<Until as Plugin>⟧.rule p
+      | MadeCount p ↦ ⟦<Count as Plugin>⟧.rule p
+      | MadeContinuity p ↦ ⟦<Continuity as Plugin>⟧.rule p
+      | MadeRemap p ↦ ⟦<Remap as Plugin>⟧.rule p
+    ] };
+
+    ghost stands_for = { elim [
+      | MadeFilter p ↦ ⟦<Filter as Plugin>⟧.stands_for p
+      | MadeSkip p ↦ ⟦<Skip as Plugin>⟧.stands_for p
+      | MadeSlice p ↦ ⟦<Slice as Plugin>⟧.stands_for p
+      | MadePattern p ↦ ⟦<Pattern as Plugin>⟧.stands_for p
+      | MadeUntil p ↦ ⟦<Until as Plugin>⟧.stands_for p
+      | MadeCount p ↦ ⟦<Count as Plugin>⟧.stands_for p
+      | MadeContinuity p ↦ ⟦<Continuity as Plugin>⟧.stands_for p
+      | MadeRemap p ↦ ⟦<Remap as Plugin>⟧.stands_for p
+    ] };
+
+    ghost steady = { elim [
+      | MadeFilter p ↦ ⟦<Filter as Plugin>⟧.steady p
+      | MadeSkip p ↦ ⟦<Skip as Plugin>⟧.steady p
+      | MadeSlice p ↦ ⟦<Slice as Plugin>⟧.steady p
+      | MadePattern p ↦ ⟦<Pattern as Plugin>⟧.steady p
+      | MadeUntil p ↦ ⟦<Until as Plugin>⟧.steady p
+      | MadeCount p ↦ ⟦<Count as Plugin>⟧.steady p
+      | MadeContinuity p ↦ ⟦<Continuity as Plugin>⟧.steady p
+      | MadeRemap p ↦ ⟦<Remap as Plugin>⟧.steady p
+    ] };
+
+    fn step(&mut self, at: u64, cell: &mut Cell) -> Outcome {
+        match self {
+            SomePlugin::Filter(plugin) => plugin.step(at, cell),
+            SomePlugin::Skip(plugin) => plugin.step(at, cell),
+            SomePlugin::Slice(plugin) => plugin.step(at, cell),
+            SomePlugin::Pattern(plugin) => plugin.step(at, cell),
+            SomePlugin::Until(plugin) => plugin.step(at, cell),
+            SomePlugin::Count(plugin) => plugin.step(at, cell),
+            SomePlugin::Continuity(plugin) => plugin.step(at, cell),
+            SomePlugin::Remap(plugin) => plugin.step(at, cell),
+        }
+    }
+
+    fn note(&mut self, written: u64) -> Result<(), AllocError> {
+        match self {
+            SomePlugin::Filter(plugin) => plugin.note(written),
+            SomePlugin::Skip(plugin) => plugin.note(written),
+            SomePlugin::Slice(plugin) => plugin.note(written),
+            SomePlugin::Pattern(plugin) => plugin.note(written),
+            SomePlugin::Until(plugin) => plugin.note(written),
+            SomePlugin::Count(plugin) => plugin.note(written),
+            SomePlugin::Continuity(plugin) => plugin.note(written),
+            SomePlugin::Remap(plugin) => plugin.note(written),
+        }
+    }
+
+    fn agreed(&self) -> bool {
+        match self {
+            SomePlugin::Filter(plugin) => plugin.agreed(),
+            SomePlugin::Skip(plugin) => plugin.agreed(),
+            SomePlugin::Slice(plugin) => plugin.agreed(),
+            SomePlugin::Pattern(plugin) => plugin.agreed(),
+            SomePlugin::Until(plugin) => plugin.agreed(),
+            SomePlugin::Count(plugin) => plugin.agreed(),
+            SomePlugin::Continuity(plugin) => plugin.agreed(),
+            SomePlugin::Remap(plugin) => plugin.agreed(),
+        }
+    }
+
+    fn finish(&mut self, cut: u64) -> Result<Vec<Line>, AllocError> {
+        match self {
+            SomePlugin::Filter(plugin) => plugin.finish(cut),
+            SomePlugin::Skip(plugin) => plugin.finish(cut),
+            SomePlugin::Slice(plugin) => plugin.finish(cut),
+            SomePlugin::Pattern(plugin) => plugin.finish(cut),
+            SomePlugin::Until(plugin) => plugin.finish(cut),
+            SomePlugin::Count(plugin) => plugin.finish(cut),
+            SomePlugin::Continuity(plugin) => plugin.finish(cut),
+            SomePlugin::Remap(plugin) => plugin.finish(cut),
+        }
+    }
+
+    ghost starts_open = { elim [
+      | MadeFilter p ↦ λ history mark stands. refl
+      | MadeSkip p ↦ λ history mark stands. refl
+      | MadeSlice p ↦ λ history mark stands. refl
+      | MadePattern p ↦ λ history mark stands. refl
+      | MadeUntil p ↦ λ history mark stands. stands.open_at_first
+      | MadeCount p ↦ λ history mark stands. refl
+      | MadeContinuity p ↦ λ history mark stands. refl
+      | MadeRemap p ↦ λ history mark stands. refl
+    ] };
+}
