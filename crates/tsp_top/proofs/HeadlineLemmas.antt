@@ -11,7 +11,7 @@ use Rattle.chain_model.specs.Cut.{is_fault}
 use Rattle.chain_model.specs.InputList.{InputList, input_of_bytes}
 use Rattle.chain_model.specs.PureRun.{Chain, chain_cut, pure_run, written_to, reported_at}
 use Rattle.chain_model.specs.Stuffed.{Stuffing, stuffed}
-use Rattle.plug_set.specs.declared.plugin_conf.PluginConf.{PluginConf}
+use Rattle.plug_set.specs.declared.plugin_item.PluginItem.{PluginItem}
 use Rattle.chain_args.specs.PlanOf.{plan_of}
 use Rattle.chain_args.specs.WordsFault.{IsFirstFault}
 use Rattle.chain_args.specs.declared.input_conf.InputConf.{InputConf}
@@ -172,18 +172,18 @@ completeness words plan files old new answer is tells calls fine well =
 pub same-but-sizes : (one other : Plan) (files : List (List ℕ × List ℕ)) → SameButSizes one other → chain_of other files ≡ chain_of one files
 same-but-sizes one other files same =
     let S : Stuffing → InputConf → Chain = λ s i. record { input = stuffed s (input_of i files); plugins = map named_rule_of other.plugins; users = users_of other } in
-    let U : List PluginConf → Bool → Chain = λ confs ignored. record { input = stuffed (stuffing_of one.general) (input_of one.input files); plugins = map named_rule_of confs; users = if ignored then [] else users_from 1 confs } in
+    let U : List PluginItem → Bool → Chain = λ items ignored. record { input = stuffed (stuffing_of one.general) (input_of one.input files); plugins = map named_rule_of items; users = if ignored then [] else users_from 1 items } in
     let stuffing : stuffing_of other.general ≡ stuffing_of one.general = cc (same.start, same.stop, same.between) in
     ap (λ (s : Stuffing). S s other.input) stuffing
     ∙ ap (λ (i : InputConf). S (stuffing_of one.general) i) same.input
-    ∙ ap (λ (confs : List PluginConf). U confs other.general.ignore_joint_termination) same.plugins
+    ∙ ap (λ (items : List PluginItem). U items other.general.ignore_joint_termination) same.plugins
     ∙ ap (λ (b : Bool). U one.plugins b) same.ignored
 
 -- of plugins that all take their room before the run none takes it later
-none-later : (confs : List PluginConf) (j : ℕ) → AllByRecursion IsSteady confs → TakesLater confs j → ⊥
+none-later : (items : List PluginItem) (j : ℕ) → AllByRecursion IsSteady items → TakesLater items j → ⊥
 none-later [] j all later = later
-none-later (conf ∷ confs) zero all later = later all.0
-none-later (conf ∷ confs) (suc j) all later = none-later confs j all.1 later
+none-later (item ∷ items) zero all later = later all.0
+none-later (item ∷ items) (suc j) all later = none-later items j all.1 later
 
 no-want : (plan : Plan) (why : Cause) → AreSteady plan.plugins → CanEndBy plan why → NoStageWants why
 no-want plan why steady can zero is = subst (λ (w : Cause). CanEndBy plan w) is can

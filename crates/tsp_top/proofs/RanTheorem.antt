@@ -21,7 +21,7 @@ use Rattle.chain_core.specs.Stages.{stages_of}
 use Rattle.chain_core.specs.EveryOrder.{IsPureClose}
 use Rattle.chain_core.specs.declared.closed.Closed.{Closed}
 use Rattle.chain_core.specs.declared.core_plan.CorePlan.{CorePlan}
-use Rattle.plug_set.specs.declared.plugin_conf.PluginConf.{PluginConf}
+use Rattle.plug_set.specs.declared.plugin_item.PluginItem.{PluginItem}
 use Rattle.chain_args.specs.declared.plan_type.Plan.{Plan}
 use Rattle.plugin_trait.specs.Steps.{IsSteadyFor}
 use Rattle.stage_run.specs.Seeing.{Seeing}
@@ -37,7 +37,8 @@ use Rattle.ts_outside.specs.Sink.{SinkView}
 use Rattle.ts_outside.specs.Told.{grown}
 use Rattle.ts_outside.specs.Desk.{DeskView}
 use Rattle.chain_run.specs.RunOf.{LeftInput, LeftOutput, RunOf}
-use Rattle.plug_set.specs.Plugins.{rule_of, steady_of}
+use Rattle.plug_set.specs.Items.{rule_of_item}
+use Rattle.plug_set.specs.Plugins.{steady_of}
 use Rattle.tsp_top.specs.CallEnd.{ran, unreported, out_of_memory, status_of, status_when_late, FaultRose, LateRose}
 use Rattle.tsp_top.specs.CanEnd.{CanEndBy}
 use Rattle.tsp_top.specs.MemoryFirst.{TakesLater}
@@ -251,9 +252,9 @@ subst-three F a b c d e f p q r h =
     subst C r (subst B q (subst A p h))
 
 -- the rules of a plan's plugins, with their names or without
-named-rules : (confs : List PluginConf) → map rule_of confs ≡ rules_of (map named_rule_of confs)
+named-rules : (items : List PluginItem) → map rule_of_item items ≡ rules_of (map named_rule_of items)
 named-rules [] = refl
-named-rules (conf ∷ confs) = ap (λ (rs : List PluginRule). rule_of conf ∷ rs) (named-rules confs)
+named-rules (item ∷ items) = ap (λ (rs : List PluginRule). rule_of_item item ∷ rs) (named-rules items)
 
 -- what was written of the lists of some chain
 abbrev WritesOf : Plan → DeskView → DeskView → ℕ → Cause → List PluginRule → StageList → List ℕ → Type 0
@@ -263,14 +264,14 @@ WritesOf plan old new cut why rules list users =
     × IsPrefix bytes (written (take (cut_of rules list users) (end_list rules list).cells))
 
 -- a plugin that made no room for the buffer does not take it before the run
-takes-later : (confs : List PluginConf) (buffer j : ℕ) → j < length confs
-    → (IsSteadyFor (slice_index_or (map (λ conf. steady_of conf buffer) confs) j None) buffer → ⊥) → TakesLater confs j
+takes-later : (items : List PluginItem) (buffer j : ℕ) → j < length items
+    → (IsSteadyFor (slice_index_or (map (λ item. steady_of item.conf buffer) items) j None) buffer → ⊥) → TakesLater items j
 takes-later [] buffer j less no_room = absurd (omega arith)
-takes-later (conf ∷ confs) buffer zero less no_room = λ steady.
+takes-later (item ∷ items) buffer zero less no_room = λ steady.
     let S : Option ℕ → Type 0 = λ o. IsSteadyFor o buffer in
     let enough : S (Some buffer) = omega arith in
     no_room (subst S (sym (steady buffer)) enough)
-takes-later (conf ∷ confs) buffer (suc j) less no_room = takes-later confs buffer j (omega arith) no_room
+takes-later (item ∷ items) buffer (suc j) less no_room = takes-later items buffer j (omega arith) no_room
 
 module _ {S K P : Type 0} (see : Seeing S K P) (plan : Plan) (old made new : DeskView) (from made_from : InputPart S) (stuffing : Stuffing)
     (plugins : List P) (to made_to : OutputPart K) (failed : Bool) (numbers : CorePlan) (closed : Closed)
@@ -311,11 +312,11 @@ module _ {S K P : Type 0} (see : Seeing S K P) (plan : Plan) (old made new : Des
     want zero is = absurd (let a = (run.memory zero is).behind_input in omega arith)
     want (suc j) is =
         let wants = run.memory (suc j) is in
-        let same : length (map see.steady plugins) ≡ length plan.plugins = ap (λ (l : List (Option ℕ)). length l) ready.rooms ∙ length-map plan.plugins (λ conf. steady_of conf numbers.buffer) in
+        let same : length (map see.steady plugins) ≡ length plan.plugins = ap (λ (l : List (Option ℕ)). length l) ready.rooms ∙ length-map plan.plugins (λ item. steady_of item.conf numbers.buffer) in
         let at : suc j - 1 ≡ j = omega arith in
         let F : List (Option ℕ) → ℕ → Type 0 = λ rooms i. IsSteadyFor (slice_index_or rooms i None) numbers.buffer → ⊥ in
-        let no_room : F (map (λ conf. steady_of conf numbers.buffer) plan.plugins) j =
-        subst (λ (i : ℕ). F (map (λ conf. steady_of conf numbers.buffer) plan.plugins) i) at (subst (λ (rooms : List (Option ℕ)). F rooms (suc j - 1)) ready.rooms wants.no_room) in
+        let no_room : F (map (λ item. steady_of item.conf numbers.buffer) plan.plugins) j =
+        subst (λ (i : ℕ). F (map (λ item. steady_of item.conf numbers.buffer) plan.plugins) i) at (subst (λ (rooms : List (Option ℕ)). F rooms (suc j - 1)) ready.rooms wants.no_room) in
         takes-later plan.plugins numbers.buffer j (let b = wants.there_is in omega arith) no_room
 
     writes : LeavesAll d3 new → WritesOf plan old new closed.cut closed.cause own run.list users

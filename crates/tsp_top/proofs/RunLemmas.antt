@@ -2,8 +2,8 @@
 use Rattle.std.proofs.Common.{◌≡◌, ℕ, List, Result, Ok, Err, ap, sym, ◌∙◌, subst, map, OnErr, IfOk, is_err, Bool}
 use Rattle.std.specs.declared.alloc.AllocError.{AllocError}
 use Rattle.std.specs.Bool.{OnTrue}
-use Rattle.plug_set.specs.declared.plugin_conf.PluginConf.{PluginConf}
-use Rattle.plug_set.specs.Plugins.{rule_of}
+use Rattle.plug_set.specs.declared.plugin_item.PluginItem.{PluginItem}
+use Rattle.plug_set.specs.Items.{rule_of_item}
 use Rattle.ts_outside.specs.Desk.{DeskView}
 use Rattle.chain_model.specs.PluginRule.{PluginRule}
 use Rattle.chain_model.specs.declared.cause.Cause.{Cause}
@@ -61,10 +61,10 @@ run-reaches see from made_from stuffing plugins made to made_to core closed run 
 
 -- the plugins that a run gives back have the rules of the settings still
 pub ends-rules : {S K P : Type 0} (see : Seeing S K P) (stuffing : Stuffing) (core : CorePlan) (from made_from : InputPart S) (plugins made : List P)
-    (to made_to : OutputPart K) (closed : Result Closed AllocError) (confs : List PluginConf)
-    → EndsRun see stuffing core from made_from plugins made to made_to closed → map see.rule plugins ≡ map rule_of confs → map see.rule made ≡ map rule_of confs
-ends-rules see stuffing core from made_from plugins made to made_to (Ok closed) confs ends rules = ends.run.rules ∙ rules
-ends-rules see stuffing core from made_from plugins made to made_to (Err e) confs ends rules =
+    (to made_to : OutputPart K) (closed : Result Closed AllocError) (items : List PluginItem)
+    → EndsRun see stuffing core from made_from plugins made to made_to closed → map see.rule plugins ≡ map rule_of_item items → map see.rule made ≡ map rule_of_item items
+ends-rules see stuffing core from made_from plugins made to made_to (Ok closed) items ends rules = ends.run.rules ∙ rules
+ends-rules see stuffing core from made_from plugins made to made_to (Err e) items ends rules =
     ap (λ (l : List _). map see.rule l) ends.never_began.plugins_same ∙ rules
 
 -- and they reach its cut, if it was closed

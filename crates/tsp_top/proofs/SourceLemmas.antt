@@ -10,12 +10,12 @@ use Rattle.chain_model.specs.declared.input_end.InputEnd.TheVariants.{ReadFault}
 use Rattle.chain_model.specs.declared.cause.Cause.{Cause}
 use Rattle.chain_model.specs.declared.cause.Cause.TheVariants.{Input}
 use Rattle.chain_model.specs.Apply.{StageList}
-use Rattle.chain_model.specs.InputList.{input_of_bytes, input_of_nulls, packets_of}
+use Rattle.chain_model.specs.InputList.{input_of_bytes, input_of_nulls}
 use Rattle.chain_model.specs.Stuffed.{stuffed}
 use Rattle.chain_model.specs.Stuffed as model
 use Rattle.stage_run.specs.declared.input_part.InputPart.{InputPart}
 use Rattle.stage_run.specs.declared.input_part.InputPart.TheVariants.{Stream, Nulls}
-use Rattle.stage_run.specs.Parts.{IsListOf}
+use Rattle.stage_run.specs.Parts.{IsListOf, list_at_fault}
 use Rattle.chain_run.specs.RunOf.{MayRead, CutsAtFault, ReadsSource, LeftInput}
 use Rattle.ts_outside.specs.Count.{raised, HasCause}
 use Rattle.ts_outside.specs.Told.{before, grown}
@@ -144,7 +144,7 @@ source-left old new read (inr failed) = ap (λ (s : SourceView). s.left) failed
 read-fault : (general : GeneralConf) (old new : SourceView) (read : List ℕ) (stuffing : model.Stuffing) (cut : ℕ) → stuffing ≡ stuffing_of general → old.faults ≡ 0
     → CutsAtFault stuffing old new read cut → CutsAtRead (stuffing_of general) read (nat_lt 0 new.faults) cut
 read-fault general old new read stuffing cut stuffing_is none cuts =
-    let C : model.Stuffing → Type 0 = λ s. cut ≡ length (stuffed s (record { packets = packets_of read; ended = ReadFault })).cells in
+    let C : model.Stuffing → Type 0 = λ s. cut ≡ length (list_at_fault s read).cells in
     record {
       did_fail = ap (λ (n : ℕ). nat_lt 0 n) (one-fault old new read none cuts.failed);
       in_sync = cuts.in_sync;

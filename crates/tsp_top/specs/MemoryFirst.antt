@@ -1,24 +1,24 @@
 -- Memory first: chains whose plugins take all their room before the run. This project's own rule.
 use Rattle.std.specs.Prelude.{◌≡◌, ◌≢◌, ℕ, zero, suc, List, [], ◌∷◌, Some}
 use Rattle.std.specs.List.{All}
-use Rattle.plug_set.specs.declared.plugin_conf.PluginConf.{PluginConf}
+use Rattle.plug_set.specs.declared.plugin_item.PluginItem.{PluginItem}
 use Rattle.plug_set.specs.Plugins.{steady_of}
 use Rattle.chain_model.specs.declared.cause.Cause.{Cause}
 use Rattle.chain_model.specs.declared.cause.Cause.TheVariants.{NoMemory}
 
 -- the plugin takes its room before the run, for as many positions as the buffer has
-abbrev pub IsSteady : PluginConf → Type 0
-IsSteady conf = (buffer : ℕ) → steady_of conf buffer ≡ Some buffer
+abbrev pub IsSteady : PluginItem → Type 0
+IsSteady item = (buffer : ℕ) → steady_of item.conf buffer ≡ Some buffer
 
-abbrev pub AreSteady : List PluginConf → Type 0
-AreSteady confs = All IsSteady confs
+abbrev pub AreSteady : List PluginItem → Type 0
+AreSteady items = All IsSteady items
 
 -- no stage wanted memory
 abbrev pub NoStageWants : Cause → Type 0
 NoStageWants why = (k : ℕ) → why ≢ NoMemory k
 
 -- the plugin behind `j` others does not take its room before the run
-abbrev pub TakesLater : List PluginConf → ℕ → Type 0
+abbrev pub TakesLater : List PluginItem → ℕ → Type 0
 TakesLater [] j = ⊥
-TakesLater (conf ∷ confs) zero = IsSteady conf → ⊥
-TakesLater (conf ∷ confs) (suc j) = TakesLater confs j
+TakesLater (item ∷ items) zero = IsSteady item → ⊥
+TakesLater (item ∷ items) (suc j) = TakesLater items j

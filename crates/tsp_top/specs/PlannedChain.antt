@@ -1,7 +1,8 @@
 -- The chain that a plan asks for, over files by name. This project's own rule.
 use Rattle.std.specs.Prelude.{ℕ, suc, List, [], ◌∷◌, ◌++◌, map, if◌then◌else◌, Option, None, Some}
-use Rattle.plug_set.specs.declared.plugin_conf.PluginConf.{PluginConf}
-use Rattle.plug_set.specs.Plugins.{uses_joint}
+use Rattle.plug_set.specs.declared.plugin_item.PluginItem.{PluginItem}
+use Rattle.plug_set.specs.Plugins.{name_of, uses_joint}
+use Rattle.plug_set.specs.Items.{rule_of_item}
 use Rattle.chain_args.specs.declared.plan_type.Plan.{Plan}
 use Rattle.chain_args.specs.declared.general_conf.GeneralConf.{GeneralConf}
 use Rattle.chain_args.specs.declared.input_conf.InputConf.{InputConf}
@@ -13,8 +14,6 @@ use Rattle.chain_model.specs.Stuffed.{Stuffing, stuffed}
 use Rattle.chain_model.specs.Reports.{NamedRule}
 use Rattle.chain_model.specs.PureRun.{Chain}
 use Rattle.ts_outside.specs.Desk.{file_of}
-use Rattle.plug_set.specs.Plugins.{name_of}
-use Rattle.plug_set.specs.Plugins.{rule_of}
 
 -- the stuffing of the general options
 abbrev pub stuffing_of : GeneralConf → Stuffing
@@ -31,21 +30,21 @@ input_of (input.File name) files = input_of_bytes (file_of files name)
 input_of (input.Null count) files = input_of_nulls count
 
 -- the number of a plugin, if it uses joint termination
-abbrev pub user_at : ℕ → PluginConf → List ℕ
-user_at j conf = if uses_joint conf then j ∷ [] else []
+abbrev pub user_at : ℕ → PluginItem → List ℕ
+user_at j item = if uses_joint item.conf then j ∷ [] else []
 
 -- the numbers of the plugins that use joint termination, the least first, where the first plugin has this number
-abbrev pub users_from : ℕ → List PluginConf → List ℕ
+abbrev pub users_from : ℕ → List PluginItem → List ℕ
 users_from j [] = []
-users_from j (conf ∷ confs) = user_at j conf ++ users_from (suc j) confs
+users_from j (item ∷ items) = user_at j item ++ users_from (suc j) items
 
 -- the stages of a plan that use joint termination: none where the plan ignores it
 abbrev pub users_of : Plan → List ℕ
 users_of plan = if plan.general.ignore_joint_termination then [] else users_from 1 plan.plugins
 
--- a plugin: the rule of its settings, and its name
-abbrev pub named_rule_of : PluginConf → NamedRule
-named_rule_of conf = record { rule = rule_of conf; name = name_of conf }
+-- a plugin: the rule of its settings over the packets that it sees, and its name
+abbrev pub named_rule_of : PluginItem → NamedRule
+named_rule_of item = record { rule = rule_of_item item; name = name_of item.conf }
 
 -- the chain of a plan
 abbrev pub chain_of : Plan → List (List ℕ × List ℕ) → Chain

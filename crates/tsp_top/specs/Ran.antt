@@ -18,7 +18,8 @@ use Rattle.stage_run.specs.InputStands as stage
 use Rattle.stage_run.specs.Seeing.{Seeing}
 use Rattle.chain_run.specs.Fresh.{AreFresh}
 use Rattle.chain_run.specs.RunOf.{RunOf, NeverBegan}
-use Rattle.plug_set.specs.Plugins.{rule_of, steady_of}
+use Rattle.plug_set.specs.Items.{rule_of_item}
+use Rattle.plug_set.specs.Plugins.{steady_of}
 use Rattle.tsp_top.specs.PlannedChain.{stuffing_of, named_rule_of}
 use Rattle.tsp_top.specs.Sizes.{IsPlannedCore}
 use Rattle.tsp_top.specs.Openings.{asked_input, asked_output, OpensInput, OpensOutput, input_closed_as, output_closed_as, WasOpened}
@@ -39,9 +40,9 @@ pub record IsReady {P : Type 0}
   pub stuffing_is : stage.stuffing_of stuffing ≡ stuffing_of plan.general
   pub every : 1 ≤ stuffing.every
   pub numbers_are : IsPlannedCore plan numbers
-  pub rules : map rule plugins ≡ map rule_of plan.plugins
+  pub rules : map rule plugins ≡ map rule_of_item plan.plugins
   -- each took its room for as many positions as the buffer has, where its settings say that it does
-  pub rooms : map steady plugins ≡ map (λ conf. steady_of conf numbers.buffer) plan.plugins
+  pub rooms : map steady plugins ≡ map (λ item. steady_of item.conf numbers.buffer) plan.plugins
   pub fresh : AreFresh stands plugins
 
 -- a call whose chain is ready and whose two ends were opened, the input first

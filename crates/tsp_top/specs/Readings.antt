@@ -3,14 +3,14 @@ use Rattle.std.specs.Prelude.{◌≡◌, ℕ, List, [], ◌∷◌, ◌++◌, len
 use Rattle.chain_args.specs.declared.general_conf.GeneralConf.{GeneralConf}
 use Rattle.chain_args.specs.declared.input_conf.InputConf.{InputConf}
 use Rattle.chain_args.specs.declared.input_conf.InputConf.TheVariants as input
-use Rattle.chain_model.specs.declared.input_end.InputEnd.TheVariants.{End, ReadFault}
+use Rattle.chain_model.specs.declared.input_end.InputEnd.TheVariants.{ReadFault}
 use Rattle.chain_model.specs.declared.cause.Cause.{Cause}
 use Rattle.chain_model.specs.declared.cause.Cause.TheVariants.{Input}
-use Rattle.chain_model.specs.InputList.{input_of_bytes, packets_of}
-use Rattle.chain_model.specs.Stuffed.{Stuffing, stuffed}
+use Rattle.chain_model.specs.Stuffed.{Stuffing}
 use Rattle.ts_outside.specs.Told.{grown}
 use Rattle.ts_outside.specs.declared.closed_inputs.ClosedInput.{ClosedInput}
 use Rattle.ts_outside.specs.Desk.{DeskView, file_of}
+use Rattle.stage_run.specs.Parts.{IsInSyncSoFar, list_at_fault}
 use Rattle.chain_run.specs.RunOf.{MayRead}
 use Rattle.tsp_top.specs.PlannedChain.{stuffing_of}
 use Rattle.tsp_top.specs.Sizes.{most_buffer}
@@ -33,8 +33,8 @@ ReadsNothing (input.Null count) files old new = new.closed_in ≡ old.closed_in
 -- packets among them ends
 pub record CutsAtRead (stuffing : Stuffing) (read : List ℕ) (failed : Bool) (cut : ℕ) : Type 0 where
   pub did_fail : failed ≡ true
-  pub in_sync : (left : ℕ) × ((input_of_bytes read).ended ≡ End left)
-  pub cut_is : cut ≡ length (stuffed stuffing (record { packets = packets_of read; ended = ReadFault })).cells
+  pub in_sync : IsInSyncSoFar read
+  pub cut_is : cut ≡ length (list_at_fault stuffing read).cells
 
 -- the file of an input was read and closed by a run that was cut at `cut`
 pub record ReadsFile (general : GeneralConf) (file : List ℕ)

@@ -1,7 +1,7 @@
 //! A call behind its run: both ends are closed, and the run is reported.
 ghost use Rattle.std.specs.Prelude.{◌≡◌, ◌≤◌, List, length, map, IfOk};
 ghost use Rattle.chain_core.specs.declared.core_plan.CorePlan.{CorePlan};
-ghost use Rattle.plug_set.specs.Plugins.{rule_of};
+ghost use Rattle.plug_set.specs.Items.{rule_of_item};
 ghost use Rattle.stage_run.specs.Seeing.{seeing};
 ghost use Rattle.stage_run.specs.declared.stuffing.Stuffing.{Stuffing};
 ghost use Rattle.tsp_top.specs.Ran.{EndsRun, RanOpened};
@@ -24,7 +24,7 @@ pub(crate) fn finish<P: Plugin + Drop, D: Desk>(
     plan: &Plan,
     end: RunEnd<D::In, D::Out, P>,
 ) -> Status
-    requires rules { map P.rule end.plugins.items ≡ map rule_of plan.now.plugins }
+    requires rules { map P.rule end.plugins.items ≡ map rule_of_item plan.now.plugins }
     requires few { length plan.now.plugins ≤ 62 }
     requires reach { IfOk end.closed (λ closed. ReachesCut P.stands_for end.plugins.items closed.cut 0) }
     ensures { (stuffing : Stuffing) (numbers : CorePlan) (from : InputPart D.In)

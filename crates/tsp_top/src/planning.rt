@@ -9,7 +9,7 @@ ghost use Rattle.tsp_top.specs.Sizes.{default_buffer, default_batch, IsSize, les
 
 use chain_args::{GeneralConf, Plan};
 use chain_core::{CorePlan, StageSet};
-use plug_set::PluginConf;
+use plug_set::PluginItem;
 use stage_run::Stuffing;
 
 /// The stuffing of the general options.
@@ -61,12 +61,12 @@ fn planned_batch(general: &GeneralConf) -> u64
 }
 
 /// The set with this stage too, if its plugin uses joint termination.
-fn with_user(users: StageSet, stage: usize, conf: &PluginConf) -> StageSet
+fn with_user(users: StageSet, stage: usize, item: &PluginItem) -> StageSet
     requires number { stage < 64 }
     requires above { All (λ k. k < stage) (stages_of users) }
-    ensures { stages_of result ≡ stages_of users ++ user_at stage conf.now }
+    ensures { stages_of result ≡ stages_of users ++ user_at stage item.now }
 {
-    if conf.uses_joint_termination() {
+    if item.conf.uses_joint_termination() {
         users.with(stage)
     } else {
         users
@@ -74,15 +74,15 @@ fn with_user(users: StageSet, stage: usize, conf: &PluginConf) -> StageSet
 }
 
 /// The set with the stages of these plugins too that use joint termination. The first plugin has the number `first`.
-fn with_users(users: StageSet, first: usize, confs: &[PluginConf]) -> StageSet
-    requires numbers { first + length confs.now ≤ 64 }
+fn with_users(users: StageSet, first: usize, items: &[PluginItem]) -> StageSet
+    requires numbers { first + length items.now ≤ 64 }
     requires above { All (λ k. k < first) (stages_of users) }
-    ensures { stages_of result ≡ stages_of users ++ users_from first confs.now }
+    ensures { stages_of result ≡ stages_of users ++ users_from first items.now }
 {
-    let Some((conf, rest)) = confs.split_first() else {
+    let Some((item, rest)) = items.split_first() else {
         return users;
     };
-    with_users(with_user(users, first, conf), first + 1, rest)
+    with_users(with_user(users, first, item), first + 1, rest)
 }
 
 /// The stages that use joint termination.

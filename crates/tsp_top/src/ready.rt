@@ -1,7 +1,8 @@
 //! A chain that is ready to run: its numbers and its plugins, before anything is opened.
 ghost use Rattle.std.specs.Prelude.{◌≡◌, ◌++◌, map, IfOk, OnOk};
 ghost use Rattle.std.specs.List.{All};
-ghost use Rattle.plug_set.specs.Plugins.{IsLawful, rule_of, steady_of};
+ghost use Rattle.plug_set.specs.Items.{IsLawfulItem, rule_of_item};
+ghost use Rattle.plug_set.specs.Plugins.{steady_of};
 ghost use Rattle.chain_args.specs.LawfulPlan.{IsLawfulPlan};
 ghost use Rattle.chain_run.specs.Fresh.{AreFresh};
 ghost use Rattle.tsp_top.specs.Ran.{IsReady};
@@ -9,7 +10,7 @@ ghost use Rattle.tsp_top.specs.Ran.{IsReady};
 use crate::planning::{planned_core, planned_stuffing};
 use chain_args::Plan;
 use chain_core::CorePlan;
-use plug_set::{AnyPlugin, PluginConf};
+use plug_set::{AnyPlugin, PluginItem};
 use plugin_trait::Plugin;
 use stage_run::Stuffing;
 use std::alloc::{AllocError, Global};
@@ -27,24 +28,24 @@ pub(crate) struct ReadyChain<P> {
 fn add_plugins(
     alloc: Global,
     plugins: &mut Vec<AnyPlugin>,
-    confs: &[PluginConf],
+    items: &[PluginItem],
     buffer: usize,
 ) -> Result<(), AllocError>
-    requires lawful { All IsLawful confs.now }
+    requires lawful { All IsLawfulItem items.now }
     requires before { AreFresh ⟦<AnyPlugin as Plugin>⟧.stands_for plugins.old.items }
     ensures rules { OnOk result
         (map ⟦<AnyPlugin as Plugin>⟧.rule plugins.new.items
-        ≡ map ⟦<AnyPlugin as Plugin>⟧.rule plugins.old.items ++ map rule_of confs.now) }
+        ≡ map ⟦<AnyPlugin as Plugin>⟧.rule plugins.old.items ++ map rule_of_item items.now) }
     ensures rooms { OnOk result
         (map ⟦<AnyPlugin as Plugin>⟧.steady plugins.new.items
         ≡ map ⟦<AnyPlugin as Plugin>⟧.steady plugins.old.items
-        ++ map (λ conf. steady_of conf buffer) confs.now) }
+        ++ map (λ item. steady_of item.conf buffer) items.now) }
     ensures fresh { OnOk result (AreFresh ⟦<AnyPlugin as Plugin>⟧.stands_for plugins.new.items) }
 {
-    let Some((conf, rest)) = confs.split_first() else {
+    let Some((item, rest)) = items.split_first() else {
         return Ok(());
     };
-    plugins.push(AnyPlugin::of(alloc, conf, buffer)?)?;
+    plugins.push(AnyPlugin::of(alloc, item, buffer)?)?;
     add_plugins(alloc, plugins, rest, buffer)
 }
 

@@ -4,7 +4,7 @@ ghost use Rattle.std.specs.String.{string_bytes};
 ghost use Rattle.chain_model.specs.Apply.{StageList};
 ghost use Rattle.chain_model.specs.Reports.{reports};
 ghost use Rattle.chain_run.specs.Met.{AllMetTo};
-ghost use Rattle.plug_set.specs.Plugins.{rule_of};
+ghost use Rattle.plug_set.specs.Items.{rule_of_item};
 ghost use Rattle.tsp_top.specs.PlannedChain.{named_rule_of};
 ghost use Rattle.tsp_top.specs.Reported.{ReachesCut, ReportsRun};
 
@@ -13,7 +13,7 @@ use crate::reporting::push_reports;
 use crate::saying::say;
 use crate::status::{Status, status_if_late, status_of_cause};
 use chain_core::Closed;
-use plug_set::PluginConf;
+use plug_set::PluginItem;
 use plugin_trait::Plugin;
 use std::alloc::{AllocError, Global};
 use ts_outside::Desk;
@@ -22,19 +22,19 @@ use ts_outside::Desk;
 fn report_text<P: Plugin>(
     alloc: Global,
     plugins: &mut [P],
-    confs: &[PluginConf],
+    items: &[PluginItem],
     closed: Closed,
 ) -> Result<String, AllocError>
-    requires rules { map P.rule plugins.old ≡ map rule_of confs.now }
+    requires rules { map P.rule plugins.old ≡ map rule_of_item items.now }
     requires numbers { length plugins.old < 2 ^ 62 }
     requires reach { ReachesCut P.stands_for plugins.old closed.cut 0 }
     ensures { (input : StageList)
         → AllMetTo P.stands_for (map P.rule plugins.old) input closed.cut 0 plugins.old
         → IfOk result (λ text.
-        string_bytes text ≡ reports (map named_rule_of confs.now) input closed.cut closed.cause) }
+        string_bytes text ≡ reports (map named_rule_of items.now) input closed.cut closed.cause) }
 {
     let mut text = String::new(alloc);
-    push_reports(&mut text, plugins, confs, 0, closed.cut)?;
+    push_reports(&mut text, plugins, items, 0, closed.cut)?;
     let last = end_line_text(alloc, closed.cause, closed.cut)?;
     text.push_str(last.as_str())?;
     Ok(text)
@@ -45,19 +45,19 @@ pub(crate) fn report_run<P: Plugin, D: Desk>(
     alloc: Global,
     desk: &mut D,
     plugins: &mut [P],
-    confs: &[PluginConf],
+    items: &[PluginItem],
     closed: Closed,
     closing_failed: bool,
 ) -> Status
-    requires rules { map P.rule plugins.old ≡ map rule_of confs.now }
+    requires rules { map P.rule plugins.old ≡ map rule_of_item items.now }
     requires numbers { length plugins.old < 2 ^ 62 }
     requires reach { ReachesCut P.stands_for plugins.old closed.cut 0 }
     ensures { (input : StageList)
         → AllMetTo P.stands_for (map P.rule plugins.old) input closed.cut 0 plugins.old
-        → ReportsRun (reports (map named_rule_of confs.now) input closed.cut closed.cause)
+        → ReportsRun (reports (map named_rule_of items.now) input closed.cut closed.cause)
         closed.cause closing_failed (D.seen desk.old) (D.seen desk.new) result }
 {
-    match report_text(alloc, plugins, confs, closed) {
+    match report_text(alloc, plugins, items, closed) {
         Ok(text) => {
             let failed = say(desk, text.as_str());
             status_if_late(status_of_cause(closed.cause), closing_failed || failed)

@@ -6,11 +6,11 @@ ghost use Rattle.chain_model.specs.Reports.{plugin_line, reports_from};
 ghost use Rattle.chain_model.specs.PluginRule.{PluginRule};
 ghost use Rattle.chain_model.specs.Apply.{StageList};
 ghost use Rattle.chain_run.specs.Met.{AllMetTo};
-ghost use Rattle.plug_set.specs.Plugins.{rule_of};
+ghost use Rattle.plug_set.specs.Items.{rule_of_item};
 ghost use Rattle.tsp_top.specs.PlannedChain.{named_rule_of};
 ghost use Rattle.tsp_top.specs.Reported.{ReachesCut};
 
-use plug_set::PluginConf;
+use plug_set::PluginItem;
 use plugin_trait::{Line, Plugin, report};
 use std::alloc::AllocError;
 
@@ -36,25 +36,25 @@ fn push_lines(text: &mut String, j: usize, name: &str, lines: &[Line]) -> Result
 pub(crate) fn push_reports<P: Plugin>(
     text: &mut String,
     plugins: &mut [P],
-    confs: &[PluginConf],
+    items: &[PluginItem],
     j: usize,
     cut: u64,
 ) -> Result<(), AllocError>
-    requires same_rules { map P.rule plugins.old ≡ map rule_of confs.now }
+    requires same_rules { map P.rule plugins.old ≡ map rule_of_item items.now }
     requires numbers { j + length plugins.old < 2 ^ 63 }
     requires reach { ReachesCut P.stands_for plugins.old cut j }
     ensures { (rules : List PluginRule) (input : StageList)
         → AllMetTo P.stands_for rules input cut j plugins.old
         → OnOk result (string_bytes text.new
-        ≡ string_bytes text.old ++ reports_from rules input cut j (map named_rule_of confs.now)) }
+        ≡ string_bytes text.old ++ reports_from rules input cut j (map named_rule_of items.now)) }
 {
     let Some((first, rest)) = plugins.split_first_mut() else {
         return Ok(());
     };
-    let Some((conf, later)) = confs.split_first() else {
+    let Some((item, later)) = items.split_first() else {
         return Ok(());
     };
     let lines = report(first, cut)?;
-    push_lines(text, j + 1, conf.name(), &lines)?;
+    push_lines(text, j + 1, item.conf.name(), &lines)?;
     push_reports(text, rest, later, j + 1, cut)
 }

@@ -1,5 +1,5 @@
 use Rattle.std.proofs.Common.{◌≡◌, is_err, ap, map, List, sym, ◌∙◌, refl, inl, inr}
-use Rattle.plug_set.specs.declared.plugin_conf.PluginConf.{PluginConf}
+use Rattle.plug_set.specs.declared.plugin_item.PluginItem.{PluginItem}
 use Rattle.chain_model.specs.Reports.{reports}
 use Rattle.ts_outside.specs.Desk.{DeskView}
 use Rattle.tsp_top.specs.PlannedChain.{named_rule_of}
@@ -25,7 +25,7 @@ returns-in-Ok g c = λ stuffing numbers from plugins to ends.
           made = c.args.end.plugins.items;
           run = run;
           reported = reports-run-same _ _ c.in-Ok.closed.cause c.is_err.result (is_err c.close_output-closing.result) (g.D.Desk.seen c.close_output-closing.new.desk) _ _ _
-              (ap (λ (confs : List PluginConf). reports (map named_rule_of confs) run.list c.in-Ok.closed.cut c.in-Ok.closed.cause) c.as_slice.ensures)
+              (ap (λ (items : List PluginItem). reports (map named_rule_of items) run.list c.in-Ok.closed.cut c.in-Ok.closed.cause) c.as_slice.ensures)
               c.is_err.ensures.value
               (c.close_output-closing.ensures.closed
               ∙ ap (λ (d : DeskView). output_closed_as g.D.Out.Sink.seen d c.args.end.output (is_err c.close_output-closing.result)) c.close_input.ensures)

@@ -1,11 +1,11 @@
 use Rattle.std.proofs.Common.{◌≡◌, List, length, arith, ap, ◌∙◌}
-use Rattle.plug_set.specs.declared.plugin_conf.PluginConf.{PluginConf}
+use Rattle.plug_set.specs.declared.plugin_item.PluginItem.{PluginItem}
 use Rattle.tsp_top.proofs.PlanningLemmas.{users-are-plugins}
 use Rattle.tsp_top.proofs.planning.planned_core.Goals as goal
 
 pub returns : goal.returns
 returns c =
-    let count : length c.as_slice.result.now ≡ length c.args.plan.now.plugins = ap (λ (l : List PluginConf). length l) c.as_slice.ensures in
+    let count : length c.as_slice.result.now ≡ length c.args.plan.now.plugins = ap (λ (l : List PluginItem). length l) c.as_slice.ensures in
     record {
       lawful = record {
         plugins = rw count c.requires.few;

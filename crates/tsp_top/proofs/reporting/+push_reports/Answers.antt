@@ -20,7 +20,7 @@ push_reports-requires g t c = λ κs within. (
   (
     search rules,
     (
-      rest-rules g.P.Plugin.rule c.args.plugins.now c.in-Some.rest.now c.in-Some.first.now c.args.confs.now c.in-Some-split_first.later.now c.in-Some-split_first.conf.now
+      rest-rules g.P.Plugin.rule c.args.plugins.now c.in-Some.rest.now c.in-Some.first.now c.args.items.now c.in-Some-split_first.later.now c.in-Some-split_first.item.now
           c.in-Some.ensures.cases.0 c.in-Some-split_first.ensures.cases.0 c.requires.same_rules,
       (
         search rules,
@@ -34,9 +34,9 @@ pub returns : goal.returns
 returns g t c = λ rules input met.
     let texts : List (List ℕ) = map (λ (line : Line). line.text) c.in_ok-lines.lines.items in
     let split = report-split g.P.Plugin.rule g.P.Plugin.stands_for rules input c.args.plugins.now c.in-Some.rest.now c.in-Some.first.now
-    c.args.confs.now c.in-Some-split_first.later.now c.in-Some-split_first.conf.now
+    c.args.items.now c.in-Some-split_first.later.now c.in-Some-split_first.item.now
     c.args.j c.args.cut texts c.in-Some.ensures.cases.0 c.in-Some-split_first.ensures.cases.0 c.requires.same_rules met c.in_ok-lines.ensures in
-    let name : List ℕ = name_of c.in-Some-split_first.conf.now in
+    let name : List ℕ = name_of c.in-Some-split_first.item.now.conf in
     let first : List ℕ = string_bytes c.args.text.now in
     let later : List ℕ = reports_from rules input c.args.cut (c.args.j + 1) (map named_rule_of c.in-Some-split_first.later.now) in
     let pushed : string_bytes c.push_lines.new.text ≡ first ++ flat_map (plugin_line (c.args.j + 1) name) texts =
