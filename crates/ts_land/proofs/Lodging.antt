@@ -81,7 +81,7 @@ module _ (E : El) where
     of_lodged null_ptr n xs long = qed 𝓛 (‵ (lodged (R E) null_ptr n n xs) ∷ []) ∵ fsplit ! $ drop ! $ by ! (never_e 𝓤 _)
     of_lodged (block_ptr b o) n xs long = qed 𝓛 (‵ (lodged (R E) (block_ptr b o) n n xs) ∷ []) ∵ fsplit ! $ flt_l ! (λ fit.
         use1 𝓛 (‵ (Lies (block_ptr b o) xs)) (of_block (has_block n) b o n xs long (not_live n)) $
-            flt_i ! (length xs * s) (2 ^ 63) (subst (λ (k : ℕ). k * s < 2 ^ 63) long fit) $ fjoin ! $ done !)
+        flt_i ! (length xs * s) (2 ^ 63) (subst (λ (k : ℕ). k * s < 2 ^ 63) long fit) $ fjoin ! $ done !)
 
     module _ (at_mem : Memory → SProp 𝓤) (run : Routine → Fun 𝓤) (κ : Lft) (q : Share) where
       open 𝓛 use {H, A}
@@ -119,7 +119,7 @@ module _ (E : El) where
             ⊛ some (λ (ws : Unit {0} × (Unit {0} × (Unit {0} × Unit {0}))). ‵ (fsep ftrue (fsep ftrue (fsep ftrue ftrue))) ⊛ raw (fact 𝓤 (IsLodged r)))))) (id⊢ 𝓤 _) $ await ! tt $ pick ! (λ r.
             split ! $ move ! (1 ∷ []) $ pick ! (λ ws. split ! $ drop ! $ heard ! (IsLodged r) (λ is. split ! $ split ! $ move ! (2 ∷ []) $ now ! $
             show ! (λ (z : Vec (el_x E) Lodged). guard 𝓤 (IsLodged z) (sep 𝓤 (sem 𝓛 (LodgedVec.own_val z (v ∷ []))) (A.lft κ q))) r $ check ! is $
-                keep ! (0 ∷ 1 ∷ []) $ done !)))
+            keep ! (0 ∷ 1 ∷ []) $ done !)))
 
       module _ (d : Vec (el_x E) Lodged) (u : Val) where
         abbrev pub at_dislodge : Dislodges.Ghost
@@ -128,7 +128,7 @@ module _ (E : El) where
         pub dislodge_goes : κ ⊑ E.row.lives → ent 𝓤 (sep 𝓤 (sem 𝓛 (LodgedVec.own_val d (u ∷ []))) (A.lft κ q)) (Dislodges.pre at_dislodge)
         dislodge_goes le =
             qed 𝓛 (‵ (LodgedVec.own_val d (u ∷ [])) ∷ ‵ (flft κ q) ∷ []) ∵ nothing ! $
-                use0 𝓛 (raw (fact 𝓤 (κ ⊑ E.row.lives))) (fact_i 𝓤 (κ ⊑ E.row.lives) (emp 𝓤) le) $ join ! $
+            use0 𝓛 (raw (fact 𝓤 (κ ⊑ E.row.lives))) (fact_i 𝓤 (κ ⊑ E.row.lives) (emp 𝓤) le) $ join ! $
             nothing ! $ move ! (2 ∷ 0 ∷ []) $ fjoin ! $ nothing ! $ move ! (3 ∷ 0 ∷ []) $ join ! $ join ! $ done !
 
         pub dislodge_gives : d.cap ≡ d.len → (v : Val)
@@ -138,7 +138,7 @@ module _ (E : El) where
             use1 𝓛 (later (some (λ (r : ℕ). ((‵ (flft κ q) ⊛ ‵ ftrue) ⊛ ‵ (usize.own_val r (v ∷ [])))
             ⊛ some (λ (ws : Unit {0} × Unit {0}). ‵ (fsep (left ((V.the_row (R E) L.the_row ghosts).exit no) d ws.0) ftrue) ⊛ raw (fact 𝓤 (r ≡ d.len)) ⊛ ‵ (lodged (R E) d.ptr d.len d.cap d.items))))) (id⊢ 𝓤 _) $ await ! tt $ pick ! (λ r.
             split ! $ move ! (1 ∷ []) $ pick ! (λ ws. split3 ! $ drop ! $ heard ! (r ≡ d.len) (λ is. move ! (1 ∷ []) $ split ! $ split ! $
-                move ! (2 ∷ []) $ fsplit ! $ feq_l ! (λ e. flt_l ! (λ f. now ! $
+            move ! (2 ∷ []) $ fsplit ! $ feq_l ! (λ e. flt_l ! (λ f. now ! $
             check ! (ap only e ∙ ap (vint w64) is, omega arith) $ move ! (2 ∷ 0 ∷ []) $ keep ! (0 ∷ 1 ∷ []) $
             rewrite ! 0 (λ (k : ℕ). ‵ (lodged (R E) d.ptr d.len k d.items)) full refl $
             use1 𝓛 (‵ (span_owns (R E) d.ptr d.items)) (of_lodged d.ptr d.len d.items d.ok.0) $ done !)))))

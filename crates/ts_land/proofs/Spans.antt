@@ -38,8 +38,14 @@ module _ (T : RattleType) where
   token_told vs is = is.1.0 ∙ ap (λ (ws : List Val). vstruct (of_list (ws ++ [])) ∷ []) is.1.1.0.1.0
 
   pub token_made : {M : Type 1} {𝓤 : Ura M} (𝓛 : Logic 𝓤) → ent 𝓤 (emp 𝓤) (sem 𝓛 (Token.own_val (tt, tt) (token_val ∷ [])))
-  token_made 𝓛 = makes_shadow 𝓛 (Token.own_val (tt, tt) (token_val ∷ [])) (λ vss. (tt, ((λ uss. (tt, tt)), tt))) ((vstruct vnil ∷
-      [], tt), (refl, ((tt, (refl, tt)), tt)))
+  token_made 𝓛 = makes_shadow 𝓛 (Token.own_val (tt, tt) (token_val ∷ [])) (λ vss. (tt, ((λ uss. (tt, tt)), tt))) (
+    (
+      vstruct vnil ∷
+          [],
+      tt,
+    ),
+    (refl, ((tt, (refl, tt)), tt)),
+  )
 
 module _ (E : El) {M : Type 1} {𝓤 : Ura M} (𝓛 : Logic 𝓤) where
   abbrev E' : arrays.El
@@ -52,7 +58,7 @@ module _ (E : El) {M : Type 1} {𝓤 : Ura M} (𝓛 : Logic 𝓤) where
   to_row : (b o : ℕ) (xs : List (el_x E)) → ent 𝓤 (sem 𝓛 (lies_at (Array (R E) (length xs)) full_share (block_ptr b o) xs)) (sem 𝓛 (row (R E) full_share xs b o))
   to_row b o xs = qed 𝓛 (‵ (part_at (Array (R E) (length xs)) full_share xs b o) ∷ []) ∵
       use1 𝓛 (given (length xs ≡ length xs) (‵ (row (R E) full_share xs b o))) (arrays.apart E' 𝓛 full_share (length xs) xs b o) $
-          learn ! (λ _. done !)
+      learn ! (λ _. done !)
 
   of_row : (b o : ℕ) (xs : List (el_x E)) → ent 𝓤 (sem 𝓛 (row (R E) full_share xs b o)) (sem 𝓛 (lies_at (Array (R E) (length xs)) full_share (block_ptr b o) xs))
   of_row b o xs = arrays.whole E' 𝓛 full_share (length xs) xs b o refl
@@ -71,7 +77,7 @@ module _ (E : El) {M : Type 1} {𝓤 : Ura M} (𝓛 : Logic 𝓤) where
         use1 𝓛 (‵ (row (R E) full_share (take n xs) b o) ⊛ ‵ (row (R E) full_share (drop n xs) b (place s o (length (take n xs))))) (arrays.row_cut E' 𝓛 full_share (take n xs) (drop n xs) b o) $ split ! $
         rewrite ! 1 (λ (k : ℕ). ‵ (row (R E) full_share (drop n xs) b k)) at refl $
         use1 𝓛 (‵ (lies_at (Array (R E) (length (take n xs))) full_share (block_ptr b o) (take n xs))) (of_row b o (take n xs)) $
-            flt_i ! (length (take n xs) * s) (2 ^ 63) (omega (arith, low, fit)) $ fjoin ! $
+        flt_i ! (length (take n xs) * s) (2 ^ 63) (omega (arith, low, fit)) $ fjoin ! $
         move ! (1 ∷ []) $ use1 𝓛 (‵ (lies_at (Array (R E) (length (drop n xs))) full_share (block_ptr b (o + n * s)) (drop n xs))) (of_row b (o + n * s) (drop n xs)) $ flt_i ! (length (drop n xs) * s) (2 ^ 63) (omega (arith, high, fit)) $ fjoin ! $
         move ! (1 ∷ 0 ∷ []) $ done !)
 

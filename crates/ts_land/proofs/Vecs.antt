@@ -36,12 +36,12 @@ module _ (R P : RattleType) (g : Ghosts P.Denot) {M : Type 1} {𝓤 : Ura M} (�
       in_a_block ! v.ptr (λ p. in_block p (owns_if (has_block v.cap) (Blk p v.items))) (id⊢ 𝓤 (never 𝓤)) (λ b o at.
       rewrite ! 0 (λ y. ‵ (owns_if y (Blk (block_ptr b o) v.items))) live refl $ rewrite ! 0 (λ p. ‵ (Blk p v.items)) (sym at) refl $ fsplit ! $
       rewrite ! 0 (λ n. ‵ (lies_at (Array R n) full_share v.ptr v.items)) v.ok.0 refl $
-          flt_i ! (length v.items * s) (2 ^ 63) (omega (arith, low, fit)) $ fjoin ! $ frame ! $
+      flt_i ! (length v.items * s) (2 ^ 63) (omega (arith, low, fit)) $ fjoin ! $ frame ! $
       -- [the spare room and the right to free; the fields]
       show ! (λ i. sem 𝓛 (fsep (feq ℕ i.vec.len v.len) (fall (List R.Denot) (λ ys. fwand (Given ys) ((plainly (V.the_row R P g ∷
-          [])).own_val (with_items i.vec ys, tt) (one u ∷ [])))))) (record { vec = v }) $
+      [])).own_val (with_items i.vec ys, tt) (one u ∷ [])))))) (record { vec = v }) $
       feq_i ! ℕ v.len v.len refl $ frame ! $ each ! (λ ys. wand 𝓤 (sem 𝓛 (Given ys)) (sem 𝓛 (Whole ys))) (λ ys. assume ! (‵ (Given ys)) $ fsplit ! $
-          feq_l ! (λ long. fsplit ! $ drop ! $
+      feq_l ! (λ long. fsplit ! $ drop ! $
       rewrite ! 0 (λ n. ‵ (lies_at (Array R n) full_share v.ptr ys)) long refl $ fjoin ! $
       rewrite ! 0 (λ xs. ‵ (Blk v.ptr xs)) (sym (with_items_is v ys long)) refl $
       let zs = (with_items v ys).items in

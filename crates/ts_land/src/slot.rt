@@ -1,7 +1,9 @@
 ghost use Rattle.std.specs.Prelude.{◌≡◌, ℕ};
 ghost use Rattle.std.specs.Mem.{type_size};
 
-/// A type whose values may lie side by side in a block. It tells its size, by which a window says where it lies.
+/// A type whose values may lie side by side in a block: each type of a known size.
+///
+/// It has a name for the size, by which a window says where it lies.
 pub trait Slot: Sized {
     /// How many bytes a value takes.
     ghost bytes: { ℕ };
@@ -11,8 +13,8 @@ pub trait Slot: Sized {
         ensures { type_size Self.row ≡ bytes };
 }
 
-impl Slot for u8 {
-    ghost bytes = { 1 };
+impl<T> Slot for T {
+    ghost bytes = { type_size T.row };
 
     fn size_law() {}
 }
