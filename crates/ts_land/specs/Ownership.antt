@@ -14,8 +14,10 @@ pub record Extent : Type 0 where
   pub len : ℕ
 
 abbrev pub extent_code : Coded Extent
-extent_code = code_by (Ptr × ℕ) (coded× coded_ptr coded_ℕ) (λ e. (e.ptr, e.len)) (λ p. record { ptr = p.0; len = p.1 }) (λ _. refl)
+extent_code = code_by (Ptr × ℕ) (coded× coded_ptr coded_ℕ)
+    (λ e. (e.ptr, e.len)) (λ p. record { ptr = p.0; len = p.1 }) (λ _. refl)
 
 -- the memory at `p` is these values, and they fit in memory
 abbrev pub span_owns : (R : RattleType) → Ptr → List R.Denot → Fml
-span_owns R p xs = fsep (flt (length xs * type_size R) (2 ^ 63)) (lies_at (Array R (length xs)) full_share p xs)
+span_owns R p xs =
+    fsep (flt (length xs * type_size R) (2 ^ 63)) (lies_at (Array R (length xs)) full_share p xs)

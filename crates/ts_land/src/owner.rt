@@ -34,7 +34,8 @@ unsafe impl<T: Send, A: Allocator + Send> Send for Owner<T, A> {}
 // The values of a `Vec`, and what stays of it.
 pub(crate) fn take_out<T, A: Allocator>(vec: Vec<T, A>) -> (Span<T>, Owner<T, A>)
     requires { 0 < vec_len vec }
-    ensures { (result.0.ptr ≡ vec_ptr vec) × (result.0.items ≡ vec.items) × (result.1.ptr ≡ vec_ptr vec) × (result.1.len ≡ vec_len vec) }
+    ensures { (result.0.ptr ≡ vec_ptr vec) × (result.0.items ≡ vec.items)
+        × (result.1.ptr ≡ vec_ptr vec) × (result.1.len ≡ vec_len vec) }
 {
     (
         Span {

@@ -27,7 +27,8 @@ impl<T> Span<T> {
     pub(crate) fn cut(self, mid: usize) -> (Span<T>, Span<T>)
         requires { mid ≤ length self.items }
         ensures front { (result.0.ptr ≡ self.ptr) × (result.0.items ≡ take mid self.items) }
-        ensures back { (result.1.ptr ≡ self.ptr +ₚ mid * type_size T.row) × (result.1.items ≡ drop mid self.items) }
+        ensures back { (result.1.ptr ≡ self.ptr +ₚ mid * type_size T.row)
+            × (result.1.items ≡ drop mid self.items) }
     {
         let Span { marker: _ } = self;
         (
@@ -57,7 +58,8 @@ impl<T> Span<T> {
 // A `Vec` over the span, which neither grows nor frees it.
 pub(crate) fn vec_over<T>(ptr: *mut T, len: usize, span: Span<T>) -> Vec<T, Lodged>
     requires { (span.ptr ≡ ptr) × (length span.items ≡ len) × (len < 2 ^ 63) }
-    ensures { (result.items ≡ span.items) × (vec_len result ≡ len) × (vec_ptr result ≡ ptr) × (vec_capacity result ≡ len) }
+    ensures { (result.items ≡ span.items) × (vec_len result ≡ len)
+        × (vec_ptr result ≡ ptr) × (vec_capacity result ≡ len) }
 {
     let Span { marker: _ } = span;
     unsafe { lodge(ptr, len, len) }

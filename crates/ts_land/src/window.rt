@@ -13,8 +13,9 @@ use std_alloc::vec::Lodged;
 
 /// Successive values of one block, which nothing else can reach.
 ///
-/// Contracts see its block, the slot of its first value, and its values. It has to be joined again with the other
-/// windows of its block until one of them is the whole, which `close` gives back. Here nothing takes memory.
+/// Contracts see its block, the slot of its first value, and its values. It has to be joined again with the
+/// other windows of its block until one of them is the whole, which `close` gives back. Here nothing takes
+/// memory.
 pub struct Window<T: Slot> {
     cells: Vec<T, Lodged>,
     start: usize,
@@ -38,7 +39,8 @@ impl<T: Slot> Model for Window<T> {
 
     ghost invariant = { λ w. (vec_ptr w.cells ≡ w.base +ₚ w.start * T.bytes)
         × (vec_capacity w.cells ≡ vec_len w.cells)
-        × (w.start + vec_len w.cells ≤ w.count) × (0 < w.count) × (w.count < 2 ^ 63) × (w.count * T.bytes < 2 ^ 63) × InBlock w.base
+        × (w.start + vec_len w.cells ≤ w.count)
+        × (0 < w.count) × (w.count < 2 ^ 63) × (w.count * T.bytes < 2 ^ 63) × InBlock w.base
         × (is_some w.owner ≡ has_first w.start (vec_len w.cells)) × IsOwnerOf w.base w.count w.owner };
 }
 
@@ -125,7 +127,8 @@ impl<T: Slot> Window<T> {
 
     /// The values, to be changed where they are. What is written through it is what the window then has.
     pub fn as_mut_slice(&mut self) -> &mut [T]
-        ensures* writes_back { sem 𝓛 (Lends (the_row T.row T.Slot) (Array T.row 0) self.entry result (with_cells self.old)) }
+        ensures* writes_back { sem 𝓛
+            (Lends (the_row T.row T.Slot) (Array T.row 0) self.entry result (with_cells self.old)) }
         ensures value { result.now ≡ self.old.cells }
     {
         self.cells.as_mut_slice()

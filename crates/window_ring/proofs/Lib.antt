@@ -13,3 +13,4 @@ pub mod Closes
 pub mod Gathers
 pub mod Starts
 pub mod FrontLemmas
+pub mod FreshLemmas

@@ -43,7 +43,8 @@ pub record IsDone (key : Key) (table : TableId) (k : ℕ) (seat : StageSeat) : T
   pub ended : HasEnded key k (seen_of seat)
 
 -- the seats of the first stages, and holdings of the others
-pub record Covering (key : Key) (table : TableId) (held : List Holding) (seats : List StageSeat) : Type 0 where
+pub record Covering (key : Key) (table : TableId) (held : List Holding) (seats : List StageSeat)
+    : Type 0 where
   pub lawful : IsLawfulPlan key.plan
   pub few : length seats ≤ suc key.plan.plugins
   pub seats_are : (k : ℕ) (d : StageSeat) → k < length seats → IsDone key table k (slice_index_or seats k d)
@@ -52,22 +53,26 @@ pub record Covering (key : Key) (table : TableId) (held : List Holding) (seats :
 
 -- what lies on the link to stage `suc k`
 abbrev pub Linked : Key → ChainState → ℕ → Row → Type 0
-Linked key state k row = (row.at ≡ (state.stages (suc k)).taken) × (row.land ≡ land_of key) × (length row.cells + (state.stages (suc k)).taken ≡ length (state.stages k).given)
+Linked key state k row = (row.at ≡ (state.stages (suc k)).taken) × (row.land ≡ land_of key)
+    × (length row.cells + (state.stages (suc k)).taken ≡ length (state.stages k).given)
 
 -- the cells from those that stage `j` took to the last ones are in one hand, and the links behind it are left
 pub record Parted (key : Key) (state : ChainState) (j : ℕ) (left : Left) : Type 0 where
   pub closed : left.closed ≡ closed_of key.plan (progress_of_stages state)
   pub at : left.all.at ≡ (state.stages j).taken
   pub land : left.all.land ≡ land_of key
-  pub many : length left.all.cells + (state.stages j).taken ≡ length (state.stages (suc key.plan.plugins)).given + key.plan.buffer
+  pub many : length left.all.cells + (state.stages j).taken
+      ≡ length (state.stages (suc key.plan.plugins)).given + key.plan.buffer
   pub links : length left.links.items + j ≡ suc key.plan.plugins
-  pub link : (i k : ℕ) → k ≡ j + i → i < length left.links.items → Linked key state k (slice_index_or left.links.items i no_row)
+  pub link : (i k : ℕ) → k ≡ j + i → i < length left.links.items
+      → Linked key state k (slice_index_or left.links.items i no_row)
 
 pub record Gathered (key : Key) (held : List Holding) (seats : List StageSeat) (left : Left) : Type 0 where
   pub history : List Visit
   pub run : ChainRun key.plan history
   pub held_since : Each (λ (h : Holding). Since h.stage h.seen history) held
-  pub seats_since : (k : ℕ) (d : StageSeat) → k < length seats → Since k (seen_of (slice_index_or seats k d)) history
+  pub seats_since : (k : ℕ) (d : StageSeat) → k < length seats
+      → Since k (seen_of (slice_index_or seats k d)) history
   pub parted : Parted key (state_after key.plan history) (length seats) left
 
 -- all seats of a ring, and its root
@@ -76,9 +81,11 @@ pub record IsWhole (key : Key) (table : TableId) (seats : List StageSeat) : Type
   pub all : length seats ≡ suc (suc key.plan.plugins)
   pub seats_are : (k : ℕ) (d : StageSeat) → k < length seats → IsDone key table k (slice_index_or seats k d)
 
--- there is one run of the machine, of which each seat has seen a part, and the cut and the cause are the machine's
+-- there is one run of the machine, of which each seat has seen a part, and the cut and the cause are the
+-- machine's
 pub record ClosedOf (key : Key) (seats : List StageSeat) (closed : Closed) : Type 0 where
   pub history : List Visit
   pub run : ChainRun key.plan history
-  pub since : (k : ℕ) (d : StageSeat) → k ≤ suc key.plan.plugins → Since k (seen_of (slice_index_or seats k d)) history
+  pub since : (k : ℕ) (d : StageSeat) → k ≤ suc key.plan.plugins
+      → Since k (seen_of (slice_index_or seats k d)) history
   pub closed_is : closed ≡ closed_of key.plan (progress_of_stages (state_after key.plan history))

@@ -24,6 +24,7 @@ HasKept plan rules input k history =
     (seen : List Visit) × Since k seen history × KeptBy plan rules input k seen
 
 -- the seat rests, and all that its stage did is as its list says
-pub record IsDriven (key : Key) (table : TableId) (rules : List PluginRule) (input : StageList) (seat : StageSeat) : Type 0 where
+pub record IsDriven (key : Key) (table : TableId) (rules : List PluginRule) (input : StageList)
+    (seat : StageSeat) : Type 0 where
   pub seat_is : IsSeat key table seat
   pub kept : KeptBy key.plan rules input seat.stage (seen_of seat)

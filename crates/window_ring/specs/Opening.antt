@@ -19,7 +19,8 @@ pub record IsFresh (key : Key) (table : TableId) (k : ℕ) (seat : StageSeat) : 
   pub hand : seat.hand ≡ row_of 0 (land_of key) []
 
 abbrev pub AreFresh : Key → TableId → List StageSeat → Type 0
-AreFresh key table seats = (k : ℕ) (d : StageSeat) → k < length seats → IsFresh key table k (slice_index_or seats k d)
+AreFresh key table seats = (k : ℕ) (d : StageSeat) → k < length seats
+    → IsFresh key table k (slice_index_or seats k d)
 
 -- one value, which stands for no visit
 pub record IsReady (plan : CorePlan) (key : Key) (slots : List State) : Type 0 where

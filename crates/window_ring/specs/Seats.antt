@@ -31,8 +31,8 @@ seen_in (h ∷ hs) = h.seen
 abbrev pub seen_of : StageSeat → List Visit
 seen_of seat = seen_in seat.seat.me.0.held
 
--- the seat of a stage at rest in this ring: what it has seen is a run, and in its hands are the cells that the stage has
--- taken and not given by that run
+-- the seat of a stage at rest in this ring: what it has seen is a run, and in its hands are the cells that
+-- the stage has taken and not given by that run
 pub record IsSeat (key : Key) (table : TableId) (seat : StageSeat) : Type 0 where
   pub of_table : seat.seat.table_id ≡ table
   pub rests : seat.seat.me ≡ (at_rest key seat.stage (seen_of seat), [])
@@ -52,15 +52,18 @@ pub record IsAt (key : Key) (table : TableId) (seat : StageSeat) (done : ℕ) (w
 abbrev pub visit_from : StageSeat → ℕ → StageWord → Visit
 visit_from seat done word = giving seat.hand seat.stage done word
 
--- the visit was made: it is one event of the run, behind those that were seen and some of the other stages; the seat has
--- seen it; the news are the machine's; and in its hands are the cells not given and behind them those taken
+-- the visit was made: it is one event of the run, behind those that were seen and some of the other stages;
+-- the seat has seen it; the news are the machine's; and in its hands are the cells not given and behind
+-- them those taken
 pub record Went (key : Key) (old new : StageSeat) (done : ℕ) (word : StageWord) (news : News) : Type 0 where
   pub between : List Visit
   pub of_others : NoneOf old.stage between
   pub rests : new.seat.me ≡ (at_rest key old.stage (visit_from old done word ∷ (between ++ seen_of old)), [])
   pub run : ChainRun key.plan (visit_from old done word ∷ (between ++ seen_of old))
-  pub news_is : news ≡ news_after key.plan (state_after key.plan (between ++ seen_of old)) (visit_from old done word)
-  pub hand_is : IsHandOf (state_after key.plan (visit_from old done word ∷ (between ++ seen_of old))) old.stage (land_of key) new.hand
+  pub news_is : news
+      ≡ news_after key.plan (state_after key.plan (between ++ seen_of old)) (visit_from old done word)
+  pub hand_is : IsHandOf (state_after key.plan (visit_from old done word ∷ (between ++ seen_of old)))
+      old.stage (land_of key) new.hand
   pub front : take (length old.hand.cells - done) new.hand.cells ≡ drop done old.hand.cells
   pub fresh : Brings (state_after key.plan (between ++ seen_of old)) old.stage
       (drop (length old.hand.cells - done) new.hand.cells) news
@@ -68,5 +71,6 @@ pub record Went (key : Key) (old new : StageSeat) (done : ℕ) (word : StageWord
 -- another stage had the turn and nothing changed, or the visit was made
 abbrev pub HasVisited : Key → StageSeat → StageSeat → ℕ → StageWord → Visited → Type 0
 HasVisited key old new done word (Busy holder) =
-    (new.seat.me ≡ old.seat.me) × (new.hand ≡ old.hand) × (holder ≢ old.stage) × (holder ≤ suc key.plan.plugins)
+    (new.seat.me ≡ old.seat.me) × (new.hand ≡ old.hand)
+    × (holder ≢ old.stage) × (holder ≤ suc key.plan.plugins)
 HasVisited key old new done word (Given news) = Went key old new done word news

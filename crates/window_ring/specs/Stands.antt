@@ -29,20 +29,23 @@ last_cells row done = drop (length row.cells - done) row.cells
 -- the last visit: the cells that it gave stand last on the link behind its stage
 abbrev pub visit_in : CorePlan → State → Visit
 visit_in plan value =
-    visit_of value.last.stage (last_cells (link value (behind plan value.last.stage)) value.last.done) value.last.word
+    visit_of value.last.stage
+    (last_cells (link value (behind plan value.last.stage)) value.last.done) value.last.word
 
 -- the cells that wait on the link to stage `suc k`
 abbrev pub waiting : ChainState → ℕ → List Cell
 waiting state k = drop (state.stages (suc k)).taken (state.stages k).given
 
--- the value stands for a history: it has its numbers, and on each link lie the cells that the stage before it gave and
--- the one behind it has not taken; the free cells are the others, in the slots that the input takes next
+-- the value stands for a history: it has its numbers, and on each link lie the cells that the stage before
+-- it gave and the one behind it has not taken; the free cells are the others, in the slots that the input
+-- takes next
 pub record Stands (key : Key) (value : State) (history : List Visit) : Type 0 where
   pub plan_is : value.core.plan ≡ key.plan
   pub numbers : StandsFor value.core (state_after key.plan history)
   pub count : length value.links.items ≡ suc (suc key.plan.plugins)
   pub links : (k : ℕ) → k ≤ key.plan.plugins
-      → link value (suc k) ≡ row_of ((state_after key.plan history).stages (suc k)).taken (land_of key) (waiting (state_after key.plan history) k)
+      → link value (suc k) ≡ row_of ((state_after key.plan history).stages (suc k)).taken (land_of key)
+      (waiting (state_after key.plan history) k)
   pub free_at : (link value 0).at ≡ ((state_after key.plan history).stages 0).taken
   pub free_land : (link value 0).land ≡ land_of key
   pub free_many : length (link value 0).cells + ((state_after key.plan history).stages 0).taken

@@ -13,9 +13,12 @@ use Rattle.window_ring.specs.declared.view.Key.{Key}
 use Rattle.window_ring.specs.declared.view.View.{View}
 use Rattle.window_ring.specs.declared.view.Holding.{Holding}
 
--- what a seat knows is true of the history: each stage has one owner, and the root alone counts the seats made
-pub record Knows (key : Key) (history : List Visit) (owner : ℕ → ℕ) (root made id : ℕ) (v : View) : Type 0 where
-  pub held : Each (λ (h : Holding). (owner h.stage ≡ id) × (h.stage < made) × Since h.stage h.seen history) v.held
+-- what a seat knows is true of the history: each stage has one owner, and the root alone counts the seats
+-- made
+pub record Knows (key : Key) (history : List Visit) (owner : ℕ → ℕ) (root made id : ℕ) (v : View)
+    : Type 0 where
+  pub held : Each (λ (h : Holding). (owner h.stage ≡ id) × (h.stage < made) × Since h.stage h.seen history)
+      v.held
   pub is_root : v.is_root ≡ true → (id ≡ root) × (v.made ≡ made)
 
 -- nobody has the turn, and the value is at home
@@ -27,7 +30,8 @@ pub record IsFree (key : Key) (s : table.State State View) (history : List Visit
   pub outside : (id : ℕ) (v : View) → get_elem? s.views id ≡ some v → v.inside ≡ false
 
 -- the seat of stage `k` has the turn, and the value
-pub record IsTaken (key : Key) (s : table.State State View) (history : List Visit) (owner : ℕ → ℕ) (made : ℕ) : Type 0 where
+pub record IsTaken (key : Key) (s : table.State State View) (history : List Visit) (owner : ℕ → ℕ) (made : ℕ)
+    : Type 0 where
   pub k : ℕ
   pub stage : k ≤ suc key.plan.plugins
   pub word : s.words ≡ suc k ∷ []
@@ -53,7 +57,15 @@ pub record Took (v w : Me State View) : Type 0 where
   pub history : List Visit
   pub value : State
   pub carries : w.1 ≡ (0, value) ∷ []
-  pub view : w.0 ≡ record { key = v.0.key; is_root = v.0.is_root; made = v.0.made; held = v.0.held; inside = true; at = history }
+  pub view : w.0
+      ≡ record {
+        key = v.0.key;
+        is_root = v.0.is_root;
+        made = v.0.made;
+        held = v.0.held;
+        inside = true;
+        at = history;
+      }
   pub stands : Stands v.0.key value history
   pub run : ChainRun v.0.key.plan history
   pub since : Each (λ (h : Holding). Since h.stage h.seen history) v.0.held
@@ -74,4 +86,5 @@ Takes step v n w = ((n ≡ 0) × Took v w) ⊎ Found v n w
 pub record Leaves (step : Step State) (v : Me State View) (n : ℕ) (w : Me State View) : Type 0 where
   pub value : State
   pub carried : v.1 ≡ (0, value) ∷ []
-  pub left : w ≡ (at_rest v.0.key (visit_in v.0.key.plan value).stage (visit_in v.0.key.plan value ∷ v.0.at), [])
+  pub left : w
+      ≡ (at_rest v.0.key (visit_in v.0.key.plan value).stage (visit_in v.0.key.plan value ∷ v.0.at), [])

@@ -40,7 +40,8 @@ within key k seen history =
 
 -- the seat from which the stages' seats are split, of which so many are made, and into which they are joined
 abbrev pub root_view : Key → ℕ → List Holding → View
-root_view key made held = record { key = key; is_root = true; made = made; held = held; inside = false; at = [] }
+root_view key made held =
+    record { key = key; is_root = true; made = made; held = held; inside = false; at = [] }
 
 -- the root of a new ring
 abbrev pub first_view : Key → View
@@ -49,7 +50,10 @@ first_view key = root_view key 0 []
 -- a seat that was joined
 abbrev pub spent_view : View
 spent_view = record {
-  key = record { plan = record { plugins = 0; buffer = 0; most = 0; users = record { bits = 0 } }; base = null_ptr };
+  key = record {
+    plan = record { plugins = 0; buffer = 0; most = 0; users = record { bits = 0 } };
+    base = null_ptr;
+  };
   is_root = false;
   made = 0;
   held = [];

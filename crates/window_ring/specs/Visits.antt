@@ -26,10 +26,13 @@ pub record IsHandOf (state : ChainState) (stage : ℕ) (land : Land) (hand : Row
 
 -- a stage behind another took these cells: of those that the other gave, the next ones
 abbrev pub Brings : ChainState → ℕ → List Cell → News → Type 0
-Brings state stage cells news = (j : ℕ) → stage ≡ suc j → cells ≡ take (news.taken - (state.stages stage).taken) (drop (state.stages stage).taken (state.stages j).given)
+Brings state stage cells news = (j : ℕ) → stage ≡ suc j
+    → cells ≡ take (news.taken - (state.stages stage).taken)
+    (drop (state.stages stage).taken (state.stages j).given)
 
 -- the value stands for this history, and the stage may make the visit
-pub record MayGive (key : Key) (value : State) (history : List Visit) (hand : Row) (stage done : ℕ) (word : StageWord) : Type 0 where
+pub record MayGive (key : Key) (value : State) (history : List Visit) (hand : Row) (stage done : ℕ)
+    (word : StageWord) : Type 0 where
   pub stands : Stands key value history
   pub run : ChainRun key.plan history
   pub lawful : IsLawfulPlan key.plan
@@ -38,10 +41,13 @@ pub record MayGive (key : Key) (value : State) (history : List Visit) (hand : Ro
   pub allowed : Allowed key.plan (state_after key.plan history) (giving hand stage done word)
 
 -- the visit was made
-pub record Handed (key : Key) (new : State) (history : List Visit) (hand hand_new : Row) (stage done : ℕ) (word : StageWord) (news : News) : Type 0 where
+pub record Handed (key : Key) (new : State) (history : List Visit) (hand hand_new : Row) (stage done : ℕ)
+    (word : StageWord) (news : News) : Type 0 where
   pub stands : Stands key new (giving hand stage done word ∷ history)
   pub last : visit_in key.plan new ≡ giving hand stage done word
-  pub hand_is : IsHandOf (state_after key.plan (giving hand stage done word ∷ history)) stage (land_of key) hand_new
+  pub hand_is : IsHandOf (state_after key.plan (giving hand stage done word ∷ history)) stage (land_of key)
+      hand_new
   pub news_is : news ≡ news_after key.plan (state_after key.plan history) (giving hand stage done word)
   pub front : take (length hand.cells - done) hand_new.cells ≡ drop done hand.cells
-  pub fresh : Brings (state_after key.plan history) stage (drop (length hand.cells - done) hand_new.cells) news
+  pub fresh : Brings (state_after key.plan history) stage
+      (drop (length hand.cells - done) hand_new.cells) news

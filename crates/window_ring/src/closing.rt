@@ -26,7 +26,7 @@ pub(crate) struct Left {
 impl Ring {
     // The value, once all seats are in the root.
     fn value(self, root: Seat<State, View>) -> State
-        requires of_table { root.table_id ≡ (table_of self) }
+        requires of_table { root.table_id ≡ table_of self }
         requires slots { (table_of self).slots ≡ 1 }
         ensures { (made : ℕ) (held : List Holding) → root.me ≡ (root_view (key_of self) made held, [])
             → CoversAll (key_of self) held → Opened (key_of self) held result }
@@ -40,11 +40,14 @@ impl Ring {
 
     // The seats of the first stages go into the root, and their hands together with the cells behind them.
     fn gather(self, mut root: Seat<State, View>, mut seats: Vec<StageSeat>) -> Left
-        requires of_table { root.table_id ≡ (table_of self) }
+        requires of_table { root.table_id ≡ table_of self }
         requires words { 0 < (table_of self).words }
         requires slots { (table_of self).slots ≡ 1 }
-        requires covering { (made : ℕ) × (held : List Holding) × (root.me ≡ (root_view (key_of self) made held, [])) × Covering (key_of self) (table_of self) held seats.items }
-        ensures { (made : ℕ) (held : List Holding) → root.me ≡ (root_view (key_of self) made held, []) → Covering (key_of self) (table_of self) held seats.items
+        requires covering { (made : ℕ) × (held : List Holding)
+            × (root.me ≡ (root_view (key_of self) made held, []))
+            × Covering (key_of self) (table_of self) held seats.items }
+        ensures { (made : ℕ) (held : List Holding) → root.me ≡ (root_view (key_of self) made held, [])
+            → Covering (key_of self) (table_of self) held seats.items
             → Gathered (key_of self) held seats.items result }
     {
         one_visit();
@@ -77,9 +80,10 @@ impl Ring {
         Left { links, all, closed }
     }
 
-    /// All stages have ended: the ring ends, and its memory is given back.
+    /// All stages have ended: the ring ends, and its memory is given back. The cut and its cause are the
+    /// machine's.
     pub fn close(self, mut root: Seat<State, View>, mut seats: Vec<StageSeat>) -> Closed
-        requires of_table { root.table_id ≡ (table_of self) }
+        requires of_table { root.table_id ≡ table_of self }
         requires words { 0 < (table_of self).words }
         requires slots { (table_of self).slots ≡ 1 }
         requires root { (made : ℕ) × (root.me ≡ (root_view (key_of self) made [], [])) }

@@ -7,7 +7,8 @@ use std::mem;
 use ts_land::Window;
 use ts_packet::Cell;
 
-/// Cells at successive positions, where they stand in the block: in at most two windows, since so many wrap at most once.
+/// Cells at successive positions, where they stand in the block: in at most two windows, since so many wrap
+/// at most once.
 pub struct Hand {
     at: u64,
     base: *mut Cell,

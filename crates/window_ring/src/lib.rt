@@ -1,5 +1,5 @@
-//! The ring through which the stages of a chain hand cells on: cells stand in one block, and are handed on where they are.
-//! The layer above uses `Ring::visit`, which is one visit of `chain_core`'s machine, or finds the turn held; `close`; and `one_run`.
+//! The ring: visits of stages come in from any thread, and cells are handed on where they stand in one block.
+//! The layer above uses `Ring::visit` (held by another, or one visit of the machine), `Ring::close` and `one_run`.
 #![tactic(auto)]
 
 mod bell;
@@ -12,6 +12,8 @@ mod ring;
 mod rule;
 mod stage_seat;
 mod state;
+#[cfg(test)]
+mod tests;
 mod view;
 mod visited;
 

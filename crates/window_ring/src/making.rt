@@ -23,7 +23,8 @@ impl Ring {
         bells: Vec<Bell>,
     ) -> Result<(Ring, Seat<State, View>), Refused<State, Global>>
         requires { (value : State) × (slots.items ≡ value ∷ []) × Stands about.now value [] }
-        ensures ok { IfOk result (λ t. (key_of t.0 ≡ about.now) × ((table_of t.0).words ≡ 1) × ((table_of t.0).slots ≡ 1)
+        ensures ok { IfOk result (λ t.
+            (key_of t.0 ≡ about.now) × ((table_of t.0).words ≡ 1) × ((table_of t.0).slots ≡ 1)
             × (t.1.table_id ≡ table_of t.0) × (t.1.me ≡ (first_view about.now, []))) }
         ensures err { IfErr result (λ r. r.slots.items ≡ slots.items) }
     {
@@ -35,9 +36,11 @@ impl Ring {
     pub(crate) fn next_seat(&self, root: &mut Seat<State, View>) -> Seat<State, View>
         requires of_table { root.old.table_id ≡ table_of self.now }
         requires words { 0 < (table_of self.now).words }
-        requires root { (made : ℕ) × (held : List Holding) × (root.old.me ≡ (root_view (key_of self.now) made held, [])) }
+        requires root { (made : ℕ) × (held : List Holding)
+            × (root.old.me ≡ (root_view (key_of self.now) made held, [])) }
         ensures of_table { (root.new.table_id ≡ table_of self.now) × (result.table_id ≡ table_of self.now) }
-        ensures seats { (made : ℕ) (held : List Holding) → root.old.me ≡ (root_view (key_of self.now) made held, [])
+        ensures seats { (made : ℕ) (held : List Holding)
+            → root.old.me ≡ (root_view (key_of self.now) made held, [])
             → (root.new.me ≡ (root_view (key_of self.now) (made + 1) held, []))
             × (result.me ≡ (at_rest (key_of self.now) made [], [])) }
     {
@@ -48,11 +51,13 @@ impl Ring {
     pub(crate) fn take_back(&self, root: &mut Seat<State, View>, seat: Seat<State, View>)
         requires of_table { (root.old.table_id ≡ table_of self.now) × (seat.table_id ≡ table_of self.now) }
         requires words { 0 < (table_of self.now).words }
-        requires root { (made : ℕ) × (held : List Holding) × (root.old.me ≡ (root_view (key_of self.now) made held, [])) }
+        requires root { (made : ℕ) × (held : List Holding)
+            × (root.old.me ≡ (root_view (key_of self.now) made held, [])) }
         requires rests { (k : ℕ) × (seen : List Visit) × (seat.me ≡ (at_rest (key_of self.now) k seen, [])) }
         ensures of_table { root.new.table_id ≡ table_of self.now }
         ensures joined { (made : ℕ) (held : List Holding) (k : ℕ) (seen : List Visit)
-            → root.old.me ≡ (root_view (key_of self.now) made held, []) → seat.me ≡ (at_rest (key_of self.now) k seen, [])
+            → root.old.me ≡ (root_view (key_of self.now) made held, [])
+            → seat.me ≡ (at_rest (key_of self.now) k seen, [])
             → root.new.me ≡ (root_view (key_of self.now) made (holding k seen ∷ held), []) }
     {
         self.table.shared.join_seat::<Returning>(root, seat)

@@ -4,7 +4,7 @@ ghost use Rattle.chain_core.specs.declared.core_plan.CorePlan.{CorePlan};
 ghost use Rattle.window_ring.specs.declared.view.Key.{Key};
 ghost use Rattle.ts_land.specs.Pieces.{Land};
 ghost use Rattle.window_ring.specs.declared.stage_seat.StageSeat.{StageSeat};
-ghost use Rattle.window_ring.specs.Hands.{Row, row_of};
+ghost use Rattle.window_ring.specs.Hands.{Row, row_of, land_at};
 ghost use Rattle.window_ring.specs.Views.{root_view, land_of};
 ghost use Rattle.window_ring.specs.Seats.{key_of, table_of};
 ghost use Rattle.window_ring.specs.Opening.{AreFresh, IsReady, IsNew};
@@ -54,7 +54,7 @@ fn fill_links(links: &mut Vec<Hand>, base: *mut Cell, count: usize, len: usize)
     requires room { len ≤ vec_capacity links.old }
     requires less { vec_len links.old ≤ len }
     ensures { (n : ℕ)
-        × (links.new.items ≡ links.old.items ++ replicate n (row_of 0 (record { base = base; count = count }) []))
+        × (links.new.items ≡ links.old.items ++ replicate n (row_of 0 (land_at base count) []))
         × (vec_len links.new ≡ len) }
 {
     if links.len() >= len {
@@ -78,7 +78,7 @@ fn fill_seats(
     requires room { stages ≤ vec_capacity seats.old }
     requires less { vec_len seats.old ≤ stages }
     requires some { 0 < count }
-    requires land { land_of (key_of ring.now) ≡ record { base = base; count = count } }
+    requires land { land_of (key_of ring.now) ≡ land_at base count }
     requires root { root.old.me ≡ (root_view (key_of ring.now) (vec_len seats.old) [], []) }
     requires fresh { AreFresh (key_of ring.now) (table_of ring.now) seats.old.items }
     ensures of_table { root.new.table_id ≡ (table_of ring.now) }

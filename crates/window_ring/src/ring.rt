@@ -20,8 +20,9 @@ pub struct Ring {
 }
 
 impl Ring {
-    /// One visit of the seat's stage: it gives on the first `done` of the cells in its hands, tells the word, takes of
-    /// the cells that wait for it, and is told the news. Or another stage has the turn, and nothing changes.
+    /// One visit of the seat's stage: it gives on the first `done` of the cells in its hands, tells the
+    /// word, takes of the cells that wait for it, and is told the news. Or another stage has the turn, and
+    /// nothing changes.
     ///
     /// It makes one compare, and neither waits nor takes memory.
     pub fn visit(&self, seat: &mut StageSeat, done: usize, word: StageWord) -> Visited
@@ -50,7 +51,8 @@ impl Ring {
         Visited::Given(news)
     }
 
-    /// Waits until there may be news for the seat's stage since its last visit, or returns at once. It changes no list.
+    /// Waits until there may be news for the seat's stage since its last visit, or returns at once. It
+    /// changes no list.
     pub fn wait_news<R: Wait>(&self, rt: &R, seat: &StageSeat) {
         if let Some(bell) = self.bells.get(seat.stage) {
             bell.wait(rt, seat.heard);
@@ -65,8 +67,8 @@ impl Ring {
         }
     }
 
-    // Rings for whom a visit may be news: the stage behind for cells, the input for free slots, both neighbours for an
-    // end, and all where an agreement may have made the limit known.
+    // Rings for whom a visit may be news: the stage behind for cells, the input for free slots, both
+    // neighbours for an end, and all where an agreement may have made the limit known.
     fn call(&self, stage: usize, done: usize, word: StageWord, news: &News) {
         let behind = stage.saturating_add(1);
         let next = if behind < self.bells.len() { behind } else { 0 };

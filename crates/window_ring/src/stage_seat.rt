@@ -34,8 +34,8 @@ impl StageSeat {
         self.hand.position()
     }
 
-    /// The first cells in hand, up to the block's end, where they may be changed; none where the hands are empty. They
-    /// are to be put back by `put_front` before the next visit.
+    /// The first cells in hand, up to the block's end, to be changed where they are; none where the hands
+    /// are empty. They are to be put back by `put_front` before the next visit.
     pub fn lift_front(&mut self) -> Option<Window<Cell>>
         requires low { self.old.hand.at + length self.old.hand.cells < 2 ^ 63 }
         ensures none { IfNone result ((self.old.hand.cells ≡ []) × (self.new.hand ≡ self.old.hand)) }

@@ -34,7 +34,8 @@ impl State {
         done: usize,
         word: StageWord,
     ) -> News
-        requires { (key : Key) × (history : List Visit) × MayGive key self.old history hand.old stage done word }
+        requires { (key : Key) × (history : List Visit)
+            × MayGive key self.old history hand.old stage done word }
         ensures { (key : Key) (history : List Visit) → MayGive key self.old history hand.old stage done word
             → Handed key self.new history hand.old hand.new stage done word result }
     {
@@ -63,7 +64,8 @@ fn next_of(stage: usize, last: usize) -> usize
 // Puts cells behind those of a link.
 fn give(links: &mut Vec<Hand>, next: usize, given: Hand)
     requires there { next < length links.old.items }
-    requires behind { given.at ≡ (on_link links.old.items next).at + length (on_link links.old.items next).cells }
+    requires behind { given.at
+        ≡ (on_link links.old.items next).at + length (on_link links.old.items next).cells }
     requires same { given.land ≡ (on_link links.old.items next).land }
     requires fits { length (on_link links.old.items next).cells + length given.cells
         ≤ (on_link links.old.items next).land.count }
@@ -78,7 +80,8 @@ fn give(links: &mut Vec<Hand>, next: usize, given: Hand)
 fn take_from(links: &mut Vec<Hand>, stage: usize, n: usize) -> Hand
     requires there { stage < length links.old.items }
     requires within { n ≤ length (on_link links.old.items stage).cells }
-    requires low { (on_link links.old.items stage).at + length (on_link links.old.items stage).cells < 2 ^ 63 }
+    requires low { (on_link links.old.items stage).at
+        + length (on_link links.old.items stage).cells < 2 ^ 63 }
     ensures front { result ≡ row_of (on_link links.old.items stage).at (on_link links.old.items stage).land
         (take n (on_link links.old.items stage).cells) }
     ensures rest { links.new.items ≡ slice_set links.old.items stage
