@@ -1,16 +1,14 @@
 -- What a ring comes to when all its seats are in the root.
-use Rattle.std.proofs.Common.{◌≡◌, ◌⊎◌, inl, inr, ⊎_elim, ℕ, zero, suc, ◌+◌, ◌<◌, ◌≤◌, List, [], ◌∷◌, length, sym, refl, ap, ◌∙◌, subst}
-use mathlib.Core.Option.{none, some, some-injective, some-ne-none}
+use Rattle.std.proofs.Common.{◌≡◌, ⊎_elim, ℕ, ◌<◌, List, [], ◌∷◌, sym, ap, ◌∙◌, subst}
+use mathlib.Core.Option.{some, some-injective}
 use lib.ListN.{get_elem?}
-use Rattle.atomic_table.specs.Table as table
 use Rattle.atomic_table.specs.Table.{Final, Seen}
-use Rattle.chain_core.specs.Machine.{Visit}
 use Rattle.window_ring.specs.declared.state.State.{State}
 use Rattle.window_ring.specs.declared.view.Key.{Key}
 use Rattle.window_ring.specs.declared.view.View.{View}
 use Rattle.window_ring.specs.declared.view.Holding.{Holding}
 use Rattle.window_ring.specs.Views.{Each, Since, root_view}
-use Rattle.window_ring.specs.Turns.{Kept, Knows, IsFree}
+use Rattle.window_ring.specs.Turns.{Kept, IsFree}
 use Rattle.window_ring.specs.Stands.{Stands}
 use Rattle.window_ring.specs.Closing.{Has, CoversAll, Opened}
 use Rattle.window_ring.proofs.Steps.{closes}

@@ -2,20 +2,16 @@
 use Rattle.std.proofs.Common.{◌≡◌, ◌≢◌, ℕ, zero, suc, ◌+◌, ◌-◌, ◌^◌, ◌<◌, ◌≤◌, ◌==◌, if◌then◌else◌, eq-eqb, ne_eqb, List, [], ◌∷◌, ◌++◌, length, take, drop, set, slice_index_or, sym, refl, ap, ◌∙◌, subst, arith, length-take-le, length-drop, length-append}
 use mathlib.Core.Logic.{dite}
 use native.Mathlib.Decide.{ℕ_discrete}
-use Rattle.std.proofs.lemmas.List.{get_or-set_other}
-use Rattle.ts_packet.specs.declared.cell.Cell.{Cell}
-use Rattle.ts_land.specs.Pieces.{Land}
 use Rattle.chain_core.specs.declared.stage_word.StageWord.{StageWord}
-use Rattle.chain_core.specs.Machine.{Visit, visited, ChainState}
-use Rattle.chain_core.specs.ChainRun.{ChainRun, state_after}
+use Rattle.chain_core.specs.Machine.{Visit, ChainState}
+use Rattle.chain_core.specs.ChainRun.{state_after}
 use Rattle.chain_core.specs.Laws.{ChangesOneStage, NewsHold}
-use Rattle.chain_model.specs.Stuffed.{position_limit}
 use Rattle.window_ring.specs.declared.state.State.{State}
 use Rattle.window_ring.specs.declared.view.Key.{Key}
-use Rattle.window_ring.specs.Hands.{Row, row_of, no_row}
-use Rattle.window_ring.specs.Stands.{Stands, waiting, link}
+use Rattle.window_ring.specs.Hands.{Row}
+use Rattle.window_ring.specs.Stands.{link}
 use Rattle.window_ring.specs.Views.{land_of}
-use Rattle.window_ring.specs.Visits.{MayGive, IsHandOf, giving}
+use Rattle.window_ring.specs.Visits.{MayGive, giving}
 
 module _ (key : Key) (value : State) (history : List Visit) (hand : Row) (stage done : ℕ) (word : StageWord) (may : MayGive key value history hand stage done word)
     (hold : (k : ℕ) → NewsHold key.plan (state_after key.plan history) k) where

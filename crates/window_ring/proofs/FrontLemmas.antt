@@ -1,9 +1,9 @@
 -- The cells up to the block's end, taken out and put back.
-use Rattle.std.proofs.Common.{⊎_elim, inl, inr, ◌≡◌, ◌≢◌, ℕ, zero, suc, ◌+◌, ◌%◌, ◌<◌, ◌≤◌, List, [], ◌∷◌, ◌++◌, length, Option, None, Some, refl, sym, ap, ◌∙◌, subst, arith, length-append}
+use Rattle.std.proofs.Common.{⊎_elim, inl, inr, ◌≡◌, ℕ, ◌+◌, ◌%◌, ◌≤◌, [], length, Option, None, Some, refl, ap, ◌∙◌, arith, length-append}
 use denote.RawPtr.{Ptr}
 use Rattle.ts_packet.specs.declared.cell.Cell.{Cell}
-use Rattle.ts_land.specs.Pieces.{Piece, Land}
-use Rattle.window_ring.specs.Hands.{Row, row_of, piece, pieces, Begins, IsHand, IsFront}
+use Rattle.ts_land.specs.Pieces.{Piece}
+use Rattle.window_ring.specs.Hands.{row_of, pieces, IsHand, IsFront}
 use Rattle.window_ring.proofs.HandLemmas.{next_lap, some_cell}
 
 module _ (at : ℕ) (base : Ptr) (count : ℕ) (w : Piece Cell) where

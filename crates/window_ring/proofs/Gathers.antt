@@ -1,12 +1,11 @@
 -- The seats go into the root one by one, and their hands together.
-use Rattle.std.proofs.Common.{◌≡◌, ◌≢◌, ◌⊎◌, inl, inr, ⊎_elim, ℕ, zero, suc, ◌+◌, ◌<◌, ◌≤◌, List, [], ◌∷◌, ◌++◌, length, take, drop, remove, slice_index_or, sym, refl, ap, ◌∙◌, subst, arith, length-append, length-drop}
-use Rattle.std.specs.Prelude.{IsSome, Option}
+use Rattle.std.proofs.Common.{◌≡◌, ◌⊎◌, inl, inr, ⊎_elim, ℕ, zero, suc, ◌+◌, ◌<◌, ◌≤◌, List, [], ◌∷◌, ◌++◌, length, remove, slice_index_or, sym, refl, ap, ◌∙◌, subst, arith, length-append, length-drop}
+use Rattle.std.specs.Prelude.{IsSome}
 use Rattle.std.proofs.lemmas.Bool.{cases_eq, cases_lt}
 use Rattle.std.proofs.lemmas.List.{get_or_push, get_or_append_left}
 use Rattle.atomic_table.specs.Seated.{TableId}
 use Rattle.chain_core.specs.declared.core_plan.CorePlan.{CorePlan}
 use Rattle.chain_core.specs.declared.progress.Progress.{Progress}
-use Rattle.chain_core.specs.declared.closed.Closed.{Closed}
 use Rattle.chain_core.specs.Numbers.{UsersArePlugins}
 use Rattle.chain_core.specs.Machine.{Visit, visited, ChainState, progress_of_stages}
 use Rattle.chain_core.specs.ChainRun.{ChainRun, state_after, AllEnded}
@@ -19,12 +18,11 @@ use Rattle.window_ring.specs.declared.view.Key.{Key}
 use Rattle.window_ring.specs.declared.view.Holding.{Holding}
 use Rattle.window_ring.specs.declared.stage_seat.StageSeat.{StageSeat}
 use Rattle.window_ring.specs.declared.closing.Left.{Left}
-use Rattle.window_ring.specs.Views.{Each, NoneOf, Since, land_of, holding}
+use Rattle.window_ring.specs.Views.{Each, Since, land_of, holding}
 use Rattle.window_ring.specs.Stands.{Stands, waiting}
 use Rattle.window_ring.specs.Visits.{IsHandOf}
 use Rattle.window_ring.specs.Seats.{seen_of}
-use Rattle.window_ring.specs.Seats.{IsSeat}
-use Rattle.window_ring.specs.Closing.{Has, CoversAll, Opened, HasEnded, IsDone, Covering, Linked, Parted, Gathered, IsWhole, ClosedOf}
+use Rattle.window_ring.specs.Closing.{Has, CoversAll, Opened, HasEnded, IsDone, Covering, Linked, Parted, Gathered}
 use Rattle.window_ring.proofs.Since.{stage_stays, hand_stays}
 
 two_of : (F G : Holding → Type 0) (k : ℕ) (hs : List Holding) → Each F hs → Each G hs → Has k hs → (h : Holding) × (h.stage ≡ k) × F h × G h

@@ -1,11 +1,11 @@
 -- Rows of cells in a block that they wrap round once at most.
-use Rattle.std.proofs.Common.{⊎_elim, ◌≡◌, ◌≢◌, ℕ, zero, suc, ◌+◌, ◌-◌, ◌*◌, ◌/◌, ◌%◌, ◌<◌, ◌≤◌, List, [], ◌∷◌, ◌++◌, length, take, drop, Option, None, Some, refl, sym, ap, ◌∙◌, subst, arith, length-append, length-drop, length-take-le, append-nil}
+use Rattle.std.proofs.Common.{⊎_elim, ◌≡◌, ◌≢◌, ℕ, zero, suc, ◌+◌, ◌*◌, ◌/◌, ◌%◌, ◌<◌, ◌≤◌, List, [], ◌∷◌, ◌++◌, length, take, drop, Option, None, Some, refl, sym, ap, ◌∙◌, subst, arith, length-append, length-drop, append-nil}
 use Rattle.std.proofs.lemmas.Nat.{mod-mul-add}
 use Rattle.std.proofs.Math.Nat.{add-mul, div-add-mod', eq-or-lt_of_le}
 use denote.RawPtr.{Ptr}
 use Rattle.ts_packet.specs.declared.cell.Cell.{Cell}
-use Rattle.ts_land.specs.Pieces.{Piece, Land}
-use Rattle.window_ring.specs.Hands.{Row, row_of, land_at, piece, pieces, Begins, IsHand}
+use Rattle.ts_land.specs.Pieces.{Piece}
+use Rattle.window_ring.specs.Hands.{Row, row_of, land_at, pieces, Begins, IsHand}
 
 -- further on in the same lap
 pub same_lap : (at n c : ℕ) → at % c + n < c → (at + n) % c ≡ at % c + n

@@ -14,3 +14,4 @@ pub mod Gathers
 pub mod Starts
 pub mod FrontLemmas
 pub mod FreshLemmas
+pub mod Handover

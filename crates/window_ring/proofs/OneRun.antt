@@ -1,12 +1,12 @@
 -- What the stages did one by one is what they did in the one run.
-use Rattle.std.proofs.Common.{◌≡◌, ◌≢◌, ℕ, suc, ◌≤◌, List, [], ◌∷◌, ◌++◌, sym, refl, ap, ◌∙◌, subst}
+use Rattle.std.proofs.Common.{ℕ, suc, ◌≤◌, List, [], ◌∷◌, ◌++◌, sym, refl, subst}
 use Rattle.chain_model.specs.PluginRule.{PluginRule}
 use Rattle.chain_model.specs.Apply.{StageList}
 use Rattle.chain_core.specs.declared.core_plan.CorePlan.{CorePlan}
 use Rattle.chain_core.specs.Machine.{Visit}
-use Rattle.chain_core.specs.ChainRun.{ChainRun, state_after}
-use Rattle.chain_core.specs.Keeps.{Keeps, AllKeep}
-use Rattle.window_ring.specs.Views.{NoneOf, Since}
+use Rattle.chain_core.specs.ChainRun.{ChainRun}
+use Rattle.chain_core.specs.Keeps.{AllKeep}
+use Rattle.window_ring.specs.Views.{NoneOf}
 use Rattle.window_ring.specs.OneRun.{KeptBy, HasKept}
 
 module _ (plan : CorePlan) (rules : List PluginRule) (input : StageList) where

@@ -1,13 +1,12 @@
 -- A new ring keeps its rule.
-use Rattle.std.proofs.Common.{◌≡◌, ◌⊎◌, inl, inr, ℕ, suc, zero, List, [], ◌∷◌, false, sym, refl, ap, subst}
-use mathlib.Core.Option.{none, some, some-injective, some-ne-none}
+use Rattle.std.proofs.Common.{◌≡◌, inl, ℕ, suc, zero, [], ◌∷◌, false, sym, refl, ap, subst}
+use mathlib.Core.Option.{some, some-injective, some-ne-none}
 use lib.ListN.{get_elem?}
-use Rattle.atomic_table.specs.Table as table
 use Rattle.atomic_table.specs.Table.{opening}
 use Rattle.window_ring.specs.declared.state.State.{State}
 use Rattle.window_ring.specs.declared.view.Key.{Key}
 use Rattle.window_ring.specs.declared.view.View.{View}
-use Rattle.window_ring.specs.Turns.{Kept, Knows, IsFree}
+use Rattle.window_ring.specs.Turns.{Kept, Knows}
 use Rattle.window_ring.specs.Stands.{Stands}
 use Rattle.window_ring.specs.Views.{first_view}
 

@@ -1,9 +1,9 @@
 -- What a stage knows of the run stays true through the visits of the others.
-use Rattle.std.proofs.Common.{◌≡◌, ◌≢◌, ℕ, ◌+◌, ◌<◌, ◌≤◌, List, [], ◌∷◌, ◌++◌, length, take, drop, sym, refl, ap, ◌∙◌, subst}
+use Rattle.std.proofs.Common.{◌≡◌, ℕ, ◌+◌, ◌≤◌, List, [], ◌∷◌, ◌++◌, length, sym, refl, ap, ◌∙◌, subst}
 use Rattle.chain_core.specs.declared.core_plan.CorePlan.{CorePlan}
 use Rattle.chain_core.specs.declared.stage_word.StageWord.{StageWord}
 use Rattle.chain_core.specs.Numbers.{UsersArePlugins}
-use Rattle.chain_core.specs.Machine.{Visit, visit_of, visited, ChainState, Allowed}
+use Rattle.chain_core.specs.Machine.{Visit, visited, ChainState, Allowed}
 use Rattle.chain_core.specs.ChainRun.{ChainRun, state_after}
 use Rattle.chain_core.specs.Laws.{ChangesOneStage, LeavesOthers}
 use Rattle.ts_land.specs.Pieces.{Land}

@@ -1,8 +1,8 @@
 -- A ring of which no visit was made.
-use Rattle.std.proofs.Common.{◌≡◌, ℕ, zero, suc, ◌+◌, ◌<◌, ◌≤◌, List, [], ◌∷◌, ◌++◌, length, replicate, slice_index_or, drop, sym, refl, ap, ◌∙◌, subst, arith, length-append}
+use Rattle.std.proofs.Common.{◌≡◌, ℕ, zero, suc, ◌+◌, ◌<◌, List, [], ◌∷◌, ◌++◌, length, replicate, slice_index_or, sym, refl, ap, ◌∙◌, subst, arith, length-append}
 use Rattle.std.proofs.lemmas.List.{get_or_default, length-replicate}
 use Rattle.chain_core.specs.declared.core_plan.CorePlan.{CorePlan}
-use Rattle.chain_core.specs.Machine.{Visit, ChainState, start}
+use Rattle.chain_core.specs.Machine.{ChainState, start}
 use Rattle.chain_core.specs.ChainRun.{state_after}
 use Rattle.chain_core.specs.CoreNumbers.{StandsFor}
 use Rattle.window_ring.specs.Hands.{Row, row_of, no_row}

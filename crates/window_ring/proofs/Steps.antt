@@ -8,13 +8,13 @@ use Rattle.atomic_table.specs.Table.{Me, Step, Act, takes, gives, keeps, Allows}
 use Rattle.atomic_table.proofs.Lists.{at_set, set_again, set_else, at_longer}
 use Rattle.window_ring.specs.declared.view.Key.{Key}
 use Rattle.chain_core.specs.Machine.{Visit, Allowed}
-use Rattle.chain_core.specs.ChainRun.{ChainRun, state_after}
+use Rattle.chain_core.specs.ChainRun.{state_after}
 use Rattle.window_ring.specs.declared.state.State.{State}
 use Rattle.window_ring.specs.declared.view.View.{View}
 use Rattle.window_ring.specs.declared.view.Holding.{Holding}
 use Rattle.window_ring.specs.Views.{Each, NoneOf, Since, holding, at_rest, within, root_view, spent_view}
 use Rattle.window_ring.specs.Stands.{visit_in, Stands}
-use Rattle.window_ring.specs.Turns.{Knows, IsFree, IsTaken, Kept, Took, Found, Takes, Leaves}
+use Rattle.window_ring.specs.Turns.{Knows, IsFree, IsTaken, Kept, Takes, Leaves}
 
 -- a fact about every view, after one of them has changed
 all_set : (F : ℕ → View → Type 0) (views : List View) (id : ℕ) (w : View) → F id w → ((j : ℕ) (u : View) → j ≢ id → get_elem? views j ≡ some u → F j u)

@@ -1,5 +1,5 @@
 -- A seat that has the turn.
-use Rattle.std.proofs.Common.{◌≡◌, ◌≢◌, ◌⊎◌, ⊎_elim, ◌<◌, ◌≤◌, ◌+◌, ℕ, suc, List, [], ◌∷◌, ◌++◌, subst, sym, ap, ◌∙◌, refl, arith}
+use Rattle.std.proofs.Common.{◌≡◌, ◌≢◌, ⊎_elim, ◌≤◌, ℕ, suc, List, [], ◌∷◌, ◌++◌, subst, sym, ap, ◌∙◌, arith}
 use Rattle.atomic_table.specs.Table.{Me, Step, Allows}
 use Rattle.window_ring.specs.declared.view.Key.{Key}
 use Rattle.chain_core.specs.Machine.{Visit, Allowed, news_after}
@@ -11,9 +11,9 @@ use Rattle.chain_core.specs.declared.stage_word.StageWord.{StageWord}
 use Rattle.window_ring.specs.Hands.{Row}
 use Rattle.window_ring.specs.Visits.{MayGive, Handed, IsHandOf, giving}
 use Rattle.window_ring.proofs.Steps.{leave}
-use Rattle.window_ring.specs.Turns.{Kept, Leaves, Took, Found, Takes}
+use Rattle.window_ring.specs.Turns.{Kept, Leaves, Took, Takes}
 use Rattle.window_ring.specs.Stands.{visit_in, Stands}
-use Rattle.window_ring.specs.Views.{land_of, NoneOf, Since, at_rest, within}
+use Rattle.window_ring.specs.Views.{land_of, NoneOf, at_rest, within}
 
 pub record Turn (key : Key) (k : ℕ) (seen : List Visit) (w : Me State View) : Type 0 where
   pub value : State

@@ -1,16 +1,16 @@
 -- The value's part of a visit.
-use Rattle.std.proofs.Common.{◌≡◌, ℕ, suc, ◌-◌, ◌==◌, if◌then◌else◌, List, [], ◌∷◌, length, take, sym, refl, ap, ◌∙◌, subst, arith, length-take-le}
+use Rattle.std.proofs.Common.{◌≡◌, ℕ, suc, ◌==◌, if◌then◌else◌, List, ◌∷◌, sym, ap, ◌∙◌, subst, length-take-le}
 use Rattle.chain_core.specs.declared.core_plan.CorePlan.{CorePlan}
 use Rattle.chain_core.specs.declared.stage_word.StageWord.{StageWord}
-use Rattle.chain_core.specs.Numbers.{StagesProgress, MayVisit}
+use Rattle.chain_core.specs.Numbers.{MayVisit}
 use Rattle.chain_core.specs.Machine.{Visit, visited, ChainState, progress_of_stages}
 use Rattle.chain_core.specs.ChainRun.{state_after}
-use Rattle.chain_core.specs.CoreNumbers.{progress_of_core, StandsFor}
+use Rattle.chain_core.specs.CoreNumbers.{progress_of_core}
 use Rattle.chain_core.specs.Laws.{ChangesOneStage, NewsHold}
 use Rattle.window_ring.specs.declared.state.State.{State}
 use Rattle.window_ring.specs.declared.view.Key.{Key}
 use Rattle.window_ring.specs.Hands.{Row}
-use Rattle.window_ring.specs.Visits.{MayGive, giving}
+use Rattle.window_ring.specs.Visits.{MayGive}
 
 pub may_visit : (key : Key) (value : State) (history : List Visit) (hand : Row) (stage done : ℕ) (word : StageWord) → MayGive key value history hand stage done word
     → MayVisit value.core.plan (progress_of_core value.core) value.core.told stage done word

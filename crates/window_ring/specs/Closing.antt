@@ -1,5 +1,5 @@
 -- The close of a ring. This project's own rule.
-use Rattle.std.specs.Prelude.{◌≡◌, ◌⊎◌, ℕ, zero, suc, ◌+◌, ◌<◌, ◌≤◌, List, [], ◌∷◌, length, slice_index_or, IsSome, vec_len}
+use Rattle.std.specs.Prelude.{◌≡◌, ◌⊎◌, ℕ, suc, ◌+◌, ◌<◌, ◌≤◌, List, [], ◌∷◌, length, slice_index_or, IsSome}
 use Rattle.atomic_table.specs.Seated.{TableId}
 use Rattle.chain_core.specs.declared.closed.Closed.{Closed}
 use Rattle.chain_core.specs.Machine.{Visit, ChainState, progress_of_stages}
@@ -12,7 +12,7 @@ use Rattle.window_ring.specs.declared.view.Key.{Key}
 use Rattle.window_ring.specs.declared.view.Holding.{Holding}
 use Rattle.window_ring.specs.declared.stage_seat.StageSeat.{StageSeat}
 use Rattle.window_ring.specs.declared.closing.Left.{Left}
-use Rattle.window_ring.specs.Views.{Each, Since, at_rest, land_of, holding}
+use Rattle.window_ring.specs.Views.{Each, Since, land_of}
 use Rattle.window_ring.specs.Stands.{Stands}
 use Rattle.window_ring.specs.Seats.{seen_of}
 use Rattle.window_ring.specs.Seats.{IsSeat}

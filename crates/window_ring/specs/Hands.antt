@@ -1,5 +1,5 @@
 -- Cells at successive positions. This project's own rule.
-use Rattle.std.specs.Prelude.{◌≡◌, ◌⊎◌, refl, ℕ, ◌+◌, ◌%◌, ◌<◌, ◌≤◌, ◌^◌, List, [], ◌++◌, length, Option, None, Some}
+use Rattle.std.specs.Prelude.{◌≡◌, ◌⊎◌, refl, ℕ, ◌+◌, ◌%◌, ◌<◌, ◌≤◌, List, [], ◌++◌, length, Option, None, Some}
 use Rattle.std.specs.Coded.{Coded, code_by, coded×, coded_list, coded_ℕ}
 use denote.RawPtr.{Ptr, null_ptr, coded_ptr}
 use Rattle.ts_packet.specs.declared.cell.Cell.{Cell}

@@ -1,5 +1,5 @@
 -- What a seat knows of the ring. This project's own rule.
-use Rattle.std.specs.Prelude.{◌≡◌, ◌≢◌, ℕ, ◌+◌, List, [], ◌∷◌, ◌++◌, true, false}
+use Rattle.std.specs.Prelude.{◌≡◌, ◌≢◌, ℕ, List, [], ◌∷◌, ◌++◌, true, false}
 use denote.RawPtr.{null_ptr}
 use Rattle.ts_land.specs.Pieces.{Land}
 use Rattle.chain_core.specs.Machine.{Visit}

@@ -1,13 +1,12 @@
 -- What one visit of the ring does. This project's own rule.
-use Rattle.std.specs.Prelude.{◌≡◌, ◌≢◌, ℕ, zero, suc, ◌+◌, ◌-◌, ◌*◌, ◌^◌, ◌<◌, ◌≤◌, List, [], ◌∷◌, ◌++◌, length, take, drop, slice_index_or}
+use Rattle.std.specs.Prelude.{◌≡◌, ℕ, suc, ◌+◌, ◌-◌, ◌≤◌, List, ◌∷◌, length, take, drop}
 use Rattle.ts_packet.specs.declared.cell.Cell.{Cell}
 use Rattle.ts_land.specs.Pieces.{Land}
-use Rattle.chain_core.specs.declared.core_plan.CorePlan.{CorePlan}
 use Rattle.chain_core.specs.declared.news.News.{News}
 use Rattle.chain_core.specs.declared.stage_word.StageWord.{StageWord}
 use Rattle.chain_core.specs.CoreNumbers.{IsLawfulPlan}
 use Rattle.window_ring.specs.declared.view.Key.{Key}
-use Rattle.chain_core.specs.Machine.{Visit, visit_of, visited, news_after, ChainState, Allowed}
+use Rattle.chain_core.specs.Machine.{Visit, visit_of, news_after, ChainState, Allowed}
 use Rattle.chain_core.specs.ChainRun.{ChainRun, state_after}
 use Rattle.window_ring.specs.Hands.{Row}
 use Rattle.window_ring.specs.declared.state.State.{State}

@@ -1,4 +1,4 @@
-use Rattle.std.proofs.Common.{◌≡◌, ◌<◌, ◌+◌, ◌-◌, ◌++◌, [], Some, None, subst, sym, ap, ◌∙◌, length, take, drop, arith, append-nil, length-append}
+use Rattle.std.proofs.Common.{◌≡◌, ◌<◌, ◌+◌, ◌-◌, ◌++◌, Some, None, subst, sym, ap, ◌∙◌, length, take, drop, arith, append-nil, length-append}
 use Rattle.window_ring.specs.Hands.{IsHand, pieces, row_of, land_at}
 use Rattle.window_ring.proofs.HandLemmas.{cut_second, take_past, drop_past}
 use Rattle.window_ring.proofs.hand.cut_behind.Goals as goal

@@ -1,8 +1,5 @@
-use Rattle.std.proofs.Common.{◌≡◌, ◌⊎◌, ⊎_elim, ◌<◌, ◌+◌, ℕ, suc, List, [], ◌∷◌, ◌++◌, length, slice_index_or, vec_len, sym, ap, ◌∙◌, arith, refl, subst}
+use Rattle.std.proofs.Common.{◌≡◌, ⊎_elim, [], ◌∷◌, ◌++◌, length, vec_len, sym, ap, ◌∙◌, arith, subst}
 use Rattle.std.proofs.lemmas.Bool.{cases_lt}
-use Rattle.atomic_table.specs.Table.{Me}
-use Rattle.window_ring.specs.declared.state.State.{State}
-use Rattle.window_ring.specs.declared.view.View.{View}
 use Rattle.window_ring.specs.declared.stage_seat.StageSeat.{StageSeat}
 use Rattle.window_ring.specs.Views.{at_rest, root_view}
 use Rattle.window_ring.specs.Opening.{IsFresh, AreFresh}

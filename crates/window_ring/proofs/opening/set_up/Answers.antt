@@ -1,7 +1,6 @@
-use Rattle.std.proofs.Common.{◌≡◌, ◌<◌, ◌+◌, ℕ, List, [], ◌∷◌, ◌++◌, length, replicate, slice_index_or, sym, ap, ◌∙◌, arith, refl, subst}
+use Rattle.std.proofs.Common.{◌≡◌, [], ◌∷◌, ◌++◌, length, replicate, sym, ap, ◌∙◌, arith, refl}
 use Rattle.std.proofs.lemmas.List.{length-replicate}
 use Rattle.ts_packet.specs.declared.cell.Cell.TheVariants.{Dropped}
-use Rattle.ts_land.specs.Pieces.{Land}
 use Rattle.window_ring.specs.Hands.{Row, row_of}
 use Rattle.window_ring.specs.Views.{land_of}
 use Rattle.window_ring.specs.declared.view.Key.{Key}

@@ -1,4 +1,4 @@
-use Rattle.std.proofs.Common.{◌≡◌, ◌<◌, ◌+◌, Some, subst, sym, length, arith}
+use Rattle.std.proofs.Common.{◌<◌, ◌+◌, Some, subst, sym, length, arith}
 use Rattle.window_ring.specs.Hands.{IsHand}
 use Rattle.window_ring.proofs.HandLemmas.{cut_first, cut_whole}
 use Rattle.window_ring.proofs.hand.Hand.cut.Goals as goal

@@ -1,4 +1,4 @@
-use Rattle.std.proofs.Common.{◌≡◌, ◌++◌, ap, ◌∙◌}
+use Rattle.std.proofs.Common.{ap, ◌∙◌}
 use Rattle.window_ring.proofs.HandLemmas.{no_windows}
 use Rattle.window_ring.proofs.hand.Hand.end.Goals as goal
 

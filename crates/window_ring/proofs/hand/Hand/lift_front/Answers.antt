@@ -1,4 +1,4 @@
-use Rattle.std.proofs.Common.{[], ◌≡◌, ◌≤◌, ◌+◌, ◌++◌, Some, None, subst, sym, ap, ◌∙◌, refl, length, arith, append-nil}
+use Rattle.std.proofs.Common.{◌≡◌, ◌+◌, ◌++◌, Some, None, subst, sym, ap, ◌∙◌, length, arith, append-nil}
 use Rattle.ts_land.specs.Pieces.{Land}
 use Rattle.window_ring.specs.Hands.{Row, IsHand, IsFront, pieces, piece, row_of}
 use Rattle.window_ring.proofs.HandLemmas.{cut_whole, no_second}

@@ -1,7 +1,5 @@
-use Rattle.std.proofs.Common.{append-nil, [], ◌≡◌, ◌≤◌, ◌+◌, ◌-◌, ◌++◌, Option, Some, None, subst, sym, ap, ◌∙◌, refl, length, arith}
-use Rattle.ts_land.specs.Pieces.{Land, Piece}
-use Rattle.ts_packet.specs.declared.cell.Cell.{Cell}
-use Rattle.window_ring.specs.Hands.{Row, IsHand, IsFront, piece, pieces, row_of, land_at}
+use Rattle.std.proofs.Common.{append-nil, ◌≡◌, ◌-◌, ◌++◌, Some, subst, sym, ap, ◌∙◌, arith}
+use Rattle.window_ring.specs.Hands.{IsHand, IsFront, piece, row_of, land_at}
 use Rattle.window_ring.proofs.FrontLemmas.{put_before}
 use Rattle.window_ring.proofs.hand.Hand.put_front.Goals as goal
 

@@ -1,8 +1,8 @@
-use Rattle.std.proofs.Common.{◌≡◌, ◌≢◌, ◌+◌, ◌++◌, Option, Some, None, [], subst, sym, ap, ◌∙◌, refl, length, arith, append-nil}
+use Rattle.std.proofs.Common.{◌++◌, Some, None, subst, sym, ap, ◌∙◌, arith}
 use Rattle.ts_packet.specs.declared.cell.Cell.{Cell}
 use Rattle.ts_land.specs.Pieces.{Piece}
-use Rattle.window_ring.specs.Hands.{IsHand, pieces, row_of, land_at}
-use Rattle.window_ring.proofs.HandLemmas.{Fits, fitting, known, after_two, after_one, one_more, both_first, both_next, cells_last, cells_first}
+use Rattle.window_ring.specs.Hands.{IsHand, pieces, row_of}
+use Rattle.window_ring.proofs.HandLemmas.{fitting, known, after_two, after_one, one_more, both_first, both_next, cells_last, cells_first}
 use Rattle.window_ring.proofs.hand.Hand.with.Goals as goal
 
 pub nothing-requires-in-Some-second : goal.nothing-requires-in-Some-second

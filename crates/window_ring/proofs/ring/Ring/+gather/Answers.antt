@@ -1,14 +1,11 @@
-use Rattle.std.proofs.Common.{◌≡◌, ◌⊎◌, ⊎_elim, ◌+◌, ◌≤◌, ◌<◌, ℕ, suc, List, [], ◌∷◌, ◌++◌, length, slice_index_or, sym, ap, ◌∙◌, subst, arith, refl}
+use Rattle.std.proofs.Common.{◌≡◌, ⊎_elim, ◌+◌, ◌≤◌, ◌<◌, suc, [], ◌∷◌, ◌++◌, length, sym, ap, ◌∙◌, subst, arith, refl}
 use Rattle.std.specs.Prelude.{option_to_list}
-use Rattle.chain_core.specs.Machine.{Visit, progress_of_stages, ChainState}
-use Rattle.chain_core.specs.ChainRun.{ChainRun, state_after}
-use Rattle.chain_core.specs.CoreNumbers.{IsLawfulPlan}
+use Rattle.chain_core.specs.Machine.{progress_of_stages}
+use Rattle.chain_core.specs.ChainRun.{state_after}
 use Rattle.chain_core.specs.Close.{closed_of}
 use Rattle.chain_core.specs.declared.core_plan.CorePlan.{CorePlan}
 use Rattle.window_ring.specs.Hands.{Row}
-use Rattle.window_ring.specs.declared.view.Holding.{Holding}
-use Rattle.window_ring.specs.declared.stage_seat.StageSeat.{StageSeat}
-use Rattle.window_ring.specs.Views.{root_view, holding}
+use Rattle.window_ring.specs.Views.{holding}
 use Rattle.window_ring.specs.Seats.{seen_of}
 use Rattle.window_ring.specs.Closing.{Has, CoversAll, Opened, Covering, Gathered}
 use Rattle.window_ring.proofs.Gathers.{all_ended, first_left, head_off, covering, last_done, last_since, since_all, longer, behind, same, fits, link_behind, link_same, link_fits, parted_more}

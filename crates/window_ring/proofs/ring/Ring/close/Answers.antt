@@ -1,10 +1,7 @@
-use Rattle.std.proofs.Common.{◌≡◌, ◌⊎◌, inl, ⊎_elim, ◌+◌, ◌≤◌, ◌<◌, ℕ, suc, List, [], ◌∷◌, ◌++◌, length, slice_index_or, sym, ap, ◌∙◌, subst, arith, refl}
+use Rattle.std.proofs.Common.{◌≡◌, inl, ◌≤◌, suc, [], ◌∷◌, ◌++◌, length, sym, ap, ◌∙◌, subst, arith}
 use Rattle.std.specs.Prelude.{option_to_list}
-use Rattle.chain_core.specs.CoreNumbers.{IsLawfulPlan}
 use Rattle.window_ring.specs.Hands.{Row}
-use Rattle.window_ring.specs.declared.view.Holding.{Holding}
-use Rattle.window_ring.specs.declared.stage_seat.StageSeat.{StageSeat}
-use Rattle.window_ring.specs.Views.{root_view, holding}
+use Rattle.window_ring.specs.Views.{holding}
 use Rattle.window_ring.specs.Seats.{seen_of}
 use Rattle.window_ring.specs.Closing.{Gathered}
 use Rattle.window_ring.proofs.Gathers.{covering, last_done, last_since, since_all, longer, behind, same, fits, whole}

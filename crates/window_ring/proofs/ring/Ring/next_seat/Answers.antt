@@ -1,9 +1,8 @@
-use Rattle.std.proofs.Common.{◌≡◌, ◌+◌, ◌<◌, ℕ, List, [], ◌∷◌, ap, sym, subst}
+use Rattle.std.proofs.Common.{◌+◌, [], sym, subst}
 use Rattle.atomic_table.specs.Table as table
 use Rattle.atomic_table.specs.Table.{Me}
 use Rattle.window_ring.specs.declared.state.State.{State}
 use Rattle.window_ring.specs.declared.view.View.{View}
-use Rattle.window_ring.specs.declared.view.Holding.{Holding}
 use Rattle.window_ring.specs.Turns.{Kept}
 use Rattle.window_ring.specs.Views.{at_rest, root_view}
 use Rattle.window_ring.proofs.Steps.{split}

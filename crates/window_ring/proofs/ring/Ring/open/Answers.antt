@@ -1,4 +1,4 @@
-use Rattle.std.proofs.Common.{◌≡◌, List, [], ◌∷◌, sym, subst}
+use Rattle.std.proofs.Common.{List, [], ◌∷◌, sym, subst}
 use Rattle.atomic_table.specs.Table.{opening}
 use Rattle.window_ring.specs.declared.state.State.{State}
 use Rattle.window_ring.specs.Turns.{Kept}

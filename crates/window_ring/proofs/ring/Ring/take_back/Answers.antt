@@ -1,12 +1,10 @@
-use Rattle.std.proofs.Common.{◌≡◌, ◌+◌, ◌<◌, ℕ, List, [], ◌∷◌, ◌++◌, ap, sym, subst}
+use Rattle.std.proofs.Common.{◌++◌, ap, sym, subst}
 use Rattle.atomic_table.specs.Table as table
 use Rattle.atomic_table.specs.Table.{Me}
-use Rattle.chain_core.specs.Machine.{Visit}
 use Rattle.window_ring.specs.declared.state.State.{State}
 use Rattle.window_ring.specs.declared.view.View.{View}
-use Rattle.window_ring.specs.declared.view.Holding.{Holding}
 use Rattle.window_ring.specs.Turns.{Kept}
-use Rattle.window_ring.specs.Views.{at_rest, root_view, spent_view}
+use Rattle.window_ring.specs.Views.{root_view, spent_view}
 use Rattle.window_ring.proofs.Steps.{join}
 use Rattle.window_ring.proofs.ring.Ring.take_back.Goals as goal
 

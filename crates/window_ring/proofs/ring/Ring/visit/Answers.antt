@@ -1,18 +1,16 @@
-use Rattle.std.proofs.Common.{◌≡◌, ◌≢◌, ◌⊎◌, ⊎_elim, ◌<◌, ◌≤◌, ◌+◌, ◌==◌, ℕ, suc, List, [], ◌∷◌, ◌++◌, subst, sym, ap, ◌∙◌, refl, length, take, drop, arith, Fits, w64}
+use Rattle.std.proofs.Common.{◌≡◌, ◌+◌, ◌==◌, ℕ, List, ◌∷◌, subst, sym, ap, ◌∙◌, length, drop, arith}
 use prog.Atomic.{either}
-use Rattle.atomic_table.specs.Table.{Me, Step, Allows, step, rest}
-use Rattle.chain_core.specs.Machine.{Visit}
+use Rattle.atomic_table.specs.Table.{Me, Allows, step, rest}
 use Rattle.window_ring.specs.declared.state.State.{State}
 use Rattle.window_ring.specs.declared.view.View.{View}
-use Rattle.window_ring.specs.Turns.{Kept, Took, Found, Takes, Leaves}
-use Rattle.window_ring.specs.Views.{at_rest, within}
-use Rattle.window_ring.specs.Visits.{MayGive, Handed, giving, Brings}
+use Rattle.window_ring.specs.Turns.{Kept, Takes, Leaves}
+use Rattle.window_ring.specs.Visits.{MayGive, Brings}
 use Rattle.chain_core.specs.ChainRun.{state_after}
 use Rattle.std.proofs.Common.{◌-◌}
 use Rattle.window_ring.specs.Seats.{seen_of}
-use Rattle.window_ring.proofs.Steps.{take as take_turn, leave}
+use Rattle.window_ring.proofs.Steps.{take as take_turn}
 use Rattle.window_ring.proofs.Since.{may_give}
-use Rattle.window_ring.proofs.Turns.{turn_of, busy_of, top, leaves_turn, left_turn}
+use Rattle.window_ring.proofs.Turns.{turn_of, top, leaves_turn, left_turn}
 use Rattle.window_ring.proofs.ring.Ring.visit.Goals as goal
 
 pub overflow_add-seat : goal.overflow_add-seat
