@@ -1,9 +1,10 @@
 -- The seats go into the root one by one, and their hands together.
 use Rattle.std.proofs.Common.{◌≡◌, ◌⊎◌, inl, inr, ⊎_elim, ℕ, zero, suc, ◌+◌, ◌<◌, ◌≤◌, List, [], ◌∷◌, ◌++◌, length, remove, slice_index_or, sym, refl, ap, ◌∙◌, subst, arith, length-append, length-drop}
-use Rattle.std.specs.Prelude.{IsSome}
+use Rattle.std.specs.Prelude.{IsSome, Option, Some, option_to_list}
 use Rattle.std.proofs.lemmas.Bool.{cases_eq, cases_lt}
 use Rattle.std.proofs.lemmas.List.{get_or_push, get_or_append_left}
 use Rattle.atomic_table.specs.Seated.{TableId}
+use Rattle.atomic_table.specs.Table.{Me}
 use Rattle.chain_core.specs.declared.core_plan.CorePlan.{CorePlan}
 use Rattle.chain_core.specs.declared.progress.Progress.{Progress}
 use Rattle.chain_core.specs.Numbers.{UsersArePlugins}
@@ -15,10 +16,11 @@ use Rattle.chain_core.specs.Laws.{ChangesOneStage, LeavesOthers, NewsHold}
 use Rattle.window_ring.specs.Hands.{Row, row_of, no_row}
 use Rattle.window_ring.specs.declared.state.State.{State}
 use Rattle.window_ring.specs.declared.view.Key.{Key}
+use Rattle.window_ring.specs.declared.view.View.{View}
 use Rattle.window_ring.specs.declared.view.Holding.{Holding}
 use Rattle.window_ring.specs.declared.stage_seat.StageSeat.{StageSeat}
 use Rattle.window_ring.specs.declared.closing.Left.{Left}
-use Rattle.window_ring.specs.Views.{Each, Since, land_of, holding}
+use Rattle.window_ring.specs.Views.{Each, Since, land_of, holding, at_rest, root_view}
 use Rattle.window_ring.specs.Stands.{Stands, waiting}
 use Rattle.window_ring.specs.Visits.{IsHandOf}
 use Rattle.window_ring.specs.Seats.{seen_of}
@@ -172,3 +174,105 @@ module _ (key : Key) (table : TableId) (lawful : IsLawfulPlan key.plan)
       since_all k d lt = ⊎_elim (λ below. subst (λ x. Since k (seen_of x) g.history) (sym (at_rest_of seats rest last is k d below)) (g.seats_since k d below))
           (λ above. let n = longer seats rest last is in let e : length rest ≡ k = omega (arith, lt, above, n) in
           subst (λ x. Since k (seen_of x) g.history) (sym (at_last seats rest last is k d e)) (subst (λ i. Since i (seen_of last) g.history) e last_since)) (cases_lt k (length rest))
+
+-- what the machine promises, as its laws tell it
+pub record Laws : Type 0 where
+  pub changes : (plan : CorePlan) (state : ChainState) (visit : Visit) → ChangesOneStage plan state (visited plan state visit) visit
+  pub leaves : (plan : CorePlan) (visits : List Visit) (visit : Visit) → UsersArePlugins plan → ChainRun plan (visit ∷ visits) → LeavesOthers plan (state_after plan visits) (state_after plan (visit ∷ visits)) visit
+  pub hold : (plan : CorePlan) (visits : List Visit) (k : ℕ) → UsersArePlugins plan → ChainRun plan visits → NewsHold plan (state_after plan visits) k
+
+-- the last seat was taken off the row, and went into the root
+pub record Taken (key : Key) (table : TableId) (made : ℕ) (held : List Holding) (seats rest : List StageSeat) (last : StageSeat) (root : Me State View) : Type 0 where
+  pub laws : Laws
+  pub lawful : IsLawfulPlan key.plan
+  pub is : seats ≡ rest ++ last ∷ []
+  pub few : length rest ≤ suc key.plan.plugins
+  pub seats_are : (k : ℕ) (d : StageSeat) → k < length seats → IsDone key table k (slice_index_or seats k d)
+  pub root_is : root ≡ (root_view key made (holding last.stage (seen_of last) ∷ held), [])
+  pub more : Covering key table (holding last.stage (seen_of last) ∷ held) rest
+
+pub taken : {key : Key} {table : TableId} {made : ℕ} {held : List Holding} {seats rest : List StageSeat} {last : StageSeat} {root : Me State View} {popped : Option StageSeat} → Laws → IsLawfulPlan key.plan
+    → ((k : ℕ) (d : StageSeat) → k < length seats → IsDone key table k (slice_index_or seats k d)) → length seats ≤ suc (suc key.plan.plugins)
+    → Each (λ (h : Holding). HasEnded key h.stage h.seen) held → ((k : ℕ) → k ≤ suc key.plan.plugins → (k < length seats) ⊎ Has k held)
+    → seats ≡ rest ++ option_to_list popped → popped ≡ Some last
+    → ((k : ℕ) (seen : List Visit) → last.seat.me ≡ (at_rest key k seen, []) → root ≡ (root_view key made (holding k seen ∷ held), [])) → Taken key table made held seats rest last root
+taken {key} {table} {made} {held} {seats} {rest} {last} {root} {popped} laws lawful seats_are many done covers items some joined =
+    let is : seats ≡ rest ++ last ∷ [] = items ∙ ap (λ r. rest ++ option_to_list r) some in
+    let few : length rest ≤ suc key.plan.plugins = let n = longer seats rest last is in omega (arith, n, many) in
+    record {
+      laws = laws;
+      lawful = lawful;
+      is = is;
+      few = few;
+      seats_are = seats_are;
+      root_is = joined last.stage (seen_of last) (last_done key table lawful laws.changes laws.leaves laws.hold held seats rest last is few seats_are).seat_is.rests;
+      more = covering key table lawful laws.changes laws.leaves laws.hold held seats rest last is few seats_are done covers;
+    }
+
+-- the hands of the others and the cells behind them are together: the last hand comes before them
+module _ {key : Key} {table : TableId} {made : ℕ} {held : List Holding} {seats rest : List StageSeat} {last : StageSeat} {root : Me State View} (t : Taken key table made held seats rest last root)
+    {left : Left} (g : Gathered key (holding last.stage (seen_of last) ∷ held) rest left) where
+  abbrev o : Laws
+  o = t.laws
+
+  done : IsDone key table (length rest) last
+  done = last_done key table t.lawful o.changes o.leaves o.hold held seats rest last t.is t.few t.seats_are
+
+  since : Since (length rest) (seen_of last) g.history
+  since = last_since key table t.lawful o.changes o.leaves o.hold held seats rest last t.is t.few t.seats_are left g
+
+  pub last_behind : left.all.at ≡ last.hand.at + length last.hand.cells
+  last_behind = behind key table t.lawful o.changes o.leaves o.hold g.history g.run (length rest) t.few left g.parted last done since
+
+  pub last_same : left.all.land ≡ last.hand.land
+  last_same = same key table t.lawful o.changes o.leaves o.hold g.history g.run (length rest) t.few left g.parted last done since
+
+  pub last_fits : length last.hand.cells + length left.all.cells ≤ last.hand.land.count
+  last_fits = fits key table t.lawful o.changes o.leaves o.hold g.history g.run (length rest) t.few left g.parted last done since
+
+  abbrev with_last : Row
+  with_last = row_of last.hand.at last.hand.land (last.hand.cells ++ left.all.cells)
+
+  pub all_since : (k : ℕ) (d : StageSeat) → k < length seats → Since k (seen_of (slice_index_or seats k d)) g.history
+  all_since = since_all key table t.lawful o.changes o.leaves o.hold held seats rest last t.is t.few t.seats_are left g
+
+  -- with the last stage's hand it is the whole block
+  pub all_cells : length seats ≡ suc (suc key.plan.plugins) → (both : Row) → both ≡ with_last → length both.cells ≡ both.land.count
+  all_cells all both is = subst (λ (r : Row). length r.cells ≡ r.land.count) (sym is)
+      (whole key table t.lawful o.changes o.leaves o.hold g.history g.run (length rest) t.few left g.parted last done since (let n = longer seats rest last t.is in omega (arith, n, all)))
+
+  pub no_links : length seats ≡ suc (suc key.plan.plugins) → length left.links.items ≡ 0
+  no_links all = let n = longer seats rest last t.is in let m = g.parted.links in omega (arith, n, all, m)
+
+  -- before it lies the link to its stage
+  module _ (few : length seats ≤ suc key.plan.plugins) where
+    inner : length rest < suc key.plan.plugins
+    inner = let n = longer seats rest last t.is in omega (arith, n, few)
+
+    pub some_link : 0 < length left.links.items
+    some_link = let m = g.parted.links in let n = inner in omega (arith, m, n)
+
+    module _ {row : Row} {rows : List Row} (row_is : row ≡ slice_index_or left.links.items 0 row) (rows_are : rows ≡ remove left.links.items 0) (both : Row) (both_is : both ≡ with_last) where
+      linked_is : left.links.items ≡ row ∷ rows
+      linked_is = head_off left.links.items rows row some_link row_is rows_are
+
+      pub before_behind : both.at ≡ row.at + length row.cells
+      before_behind = ap (λ (r : Row). r.at) both_is ∙ link_behind key table t.lawful o.changes o.leaves o.hold g.history g.run (length rest) t.few left g.parted last done since inner row rows linked_is
+
+      pub before_same : both.land ≡ row.land
+      before_same = ap (λ (r : Row). r.land) both_is ∙ link_same key table t.lawful o.changes o.leaves o.hold g.history g.run (length rest) t.few left g.parted last done since inner row rows linked_is
+
+      pub before_fits : length row.cells + length both.cells ≤ row.land.count
+      before_fits = subst (λ (r : Row). length row.cells + length r.cells ≤ row.land.count) (sym both_is)
+          (link_fits key table t.lawful o.changes o.leaves o.hold g.history g.run (length rest) t.few left g.parted last done since inner row rows linked_is)
+
+      pub gathered_more : (new : Left) → new.all ≡ row_of row.at row.land (row.cells ++ both.cells) → new.links.items ≡ rows → new.closed ≡ left.closed → Gathered key held seats new
+      gathered_more new all links closed = record {
+        history = g.history;
+        run = g.run;
+        held_since = g.held_since.1;
+        seats_since = all_since;
+        parted = subst (λ j. Parted key (state_after key.plan g.history) j new) (sym (longer seats rest last t.is))
+            (parted_more key table t.lawful o.changes o.leaves o.hold g.history g.run (length rest) t.few left g.parted last done since inner row rows linked_is new
+            (all ∙ ap (λ (r : Row). row_of row.at row.land (row.cells ++ r.cells)) both_is) links closed);
+      }

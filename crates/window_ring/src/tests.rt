@@ -41,6 +41,12 @@ fn ends_at_once(ring: &Ring, seat: &mut StageSeat) -> bool
     }
 }
 
+// The ring is shared by threads.
+fn shared<T: Sync>(_ring: &T) {}
+
+// A seat goes to a thread.
+fn sent<T: Send>(_seat: &T) {}
+
 #[test]
 fn opens_and_closes(rt: HostRuntime) {
     let plan = CorePlan {
@@ -54,6 +60,8 @@ fn opens_and_closes(rt: HostRuntime) {
         root,
         mut seats,
     } = new_ring(rt.alloc(), &plan).expect(&rt, "memory");
+    shared(&ring);
+    sent(&seats[0]);
     if !ends_at_once(&ring, &mut seats[0]) || !ends_at_once(&ring, &mut seats[1]) {
         panic!(&rt; "another stage has the turn");
     }

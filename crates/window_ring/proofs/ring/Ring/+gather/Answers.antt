@@ -1,14 +1,12 @@
-use Rattle.std.proofs.Common.{◌≡◌, ⊎_elim, ◌+◌, ◌≤◌, ◌<◌, suc, [], ◌∷◌, ◌++◌, length, sym, ap, ◌∙◌, subst, arith, refl}
-use Rattle.std.specs.Prelude.{option_to_list}
+use Rattle.std.proofs.Common.{◌≡◌, ◌⊎◌, ⊎_elim, ◌+◌, ◌≤◌, ◌<◌, ℕ, suc, List, [], ◌∷◌, length, sym, ap, ◌∙◌, subst, arith, refl}
+use Rattle.chain_core.specs.declared.core_plan.CorePlan.{CorePlan}
 use Rattle.chain_core.specs.Machine.{progress_of_stages}
 use Rattle.chain_core.specs.ChainRun.{state_after}
 use Rattle.chain_core.specs.Close.{closed_of}
-use Rattle.chain_core.specs.declared.core_plan.CorePlan.{CorePlan}
-use Rattle.window_ring.specs.Hands.{Row}
 use Rattle.window_ring.specs.Views.{holding}
 use Rattle.window_ring.specs.Seats.{seen_of}
-use Rattle.window_ring.specs.Closing.{Has, CoversAll, Opened, Covering, Gathered}
-use Rattle.window_ring.proofs.Gathers.{all_ended, first_left, head_off, covering, last_done, last_since, since_all, longer, behind, same, fits, link_behind, link_same, link_fits, parted_more}
+use Rattle.window_ring.specs.Closing.{CoversAll, Parted}
+use Rattle.window_ring.proofs.Gathers.{Laws, taken, last_behind, last_same, last_fits, some_link, before_behind, before_same, before_fits, gathered_more, longer, all_ended, first_left, head_off}
 use Rattle.window_ring.proofs.ring.Ring.+gather.Goals as goal
 
 pub close-closed-requires : goal.close-closed-requires
@@ -44,165 +42,63 @@ returns-in_default t c = λ made held root cov.
 
 pub gather-links-requires : goal.gather-links-requires
 gather-links-requires t c =
-    let o = c.one_visit.ensures in let n = c.news_promises.ensures in let key = c.args.self.table.shared.key in let q = c.requires.covering in let cov = q.3 in
-    let is : c.args.seats.items ≡ c.pop.new.self.items ++ c.in-Some.last ∷ [] = c.pop.ensures.items ∙ ap (λ r. c.pop.new.self.items ++ option_to_list r) c.in-Some.is in
-    let long = longer c.args.seats.items c.pop.new.self.items c.in-Some.last is in
-    let few : length c.pop.new.self.items ≤ suc key.plan.plugins = let f = cov.few in omega (arith, long, f) in
-    let done = last_done key c.args.self.table.shared.table_id cov.lawful o.changes o.leaves n.hold q.1 c.args.seats.items c.pop.new.self.items c.in-Some.last is few cov.seats_are in (
-      omega (arith, long),
-      (
-        c.take_back.ensures.of_table,
-        (
-          c.requires.words,
-          (
-            c.requires.slots,
-            (
-              q.0,
-              holding c.in-Some.last.stage (seen_of c.in-Some.last) ∷ q.1,
-              c.take_back.ensures.joined q.0 q.1 c.in-Some.last.stage (seen_of c.in-Some.last) q.2 done.seat_is.rests,
-              covering key c.args.self.table.shared.table_id cov.lawful o.changes o.leaves n.hold q.1 c.args.seats.items c.pop.new.self.items c.in-Some.last is few cov.seats_are cov.done cov.covers,
-            ),
-          ),
-        ),
-      ),
-    )
+    let laws : Laws = record { changes = c.one_visit.ensures.changes; leaves = c.one_visit.ensures.leaves; hold = c.news_promises.ensures.hold } in let q = c.requires.covering in let few = q.3.few in
+    let x = taken laws q.3.lawful q.3.seats_are (omega (arith, few)) q.3.done q.3.covers c.pop.ensures.items c.in-Some.is (λ k seen e. c.take_back.ensures.joined q.0 q.1 k seen q.2 e) in
+    let long = longer c.args.seats.items c.pop.new.self.items c.in-Some.last x.is in
+    (omega (arith, long), (c.take_back.ensures.of_table, (c.requires.words, (c.requires.slots, (q.0, holding c.in-Some.last.stage (seen_of c.in-Some.last) ∷ q.1, x.root_is, x.more)))))
 
 pub remove-requires : goal.remove-requires
 remove-requires t c =
-    let o = c.one_visit.ensures in let n = c.news_promises.ensures in let key = c.args.self.table.shared.key in let table = c.args.self.table.shared.table_id in let q = c.requires.covering in let cov = q.3 in
-    let last = c.in-Some.last in let seats = c.args.seats.items in let rest = c.pop.new.self.items in
-    let is : seats ≡ rest ++ last ∷ [] = c.pop.ensures.items ∙ ap (λ r. c.pop.new.self.items ++ option_to_list r) c.in-Some.is in
-    let long = longer seats rest last is in
-    let few : length rest ≤ suc key.plan.plugins = let f = cov.few in omega (arith, long, f) in
-    let inner : length rest < suc key.plan.plugins = let f = cov.few in omega (arith, long, f) in
-    let done = last_done key table cov.lawful o.changes o.leaves n.hold q.1 seats rest last is few cov.seats_are in
-    let root = c.take_back.ensures.joined q.0 q.1 last.stage (seen_of last) q.2 done.seat_is.rests in
-    let more = covering key table cov.lawful o.changes o.leaves n.hold q.1 seats rest last is few cov.seats_are cov.done cov.covers in
-    let left = c.gather-links.result in let held = holding last.stage (seen_of last) ∷ q.1 in
-    let g : Gathered key held rest left = c.gather-links.ensures q.0 held root more in
-    let since = last_since key table cov.lawful o.changes o.leaves n.hold q.1 seats rest last is few cov.seats_are left g in
-    let m = g.parted.links in omega (arith, m, inner)
+    let laws : Laws = record { changes = c.one_visit.ensures.changes; leaves = c.one_visit.ensures.leaves; hold = c.news_promises.ensures.hold } in let q = c.requires.covering in let few = q.3.few in
+    let x = taken laws q.3.lawful q.3.seats_are (omega (arith, few)) q.3.done q.3.covers c.pop.ensures.items c.in-Some.is (λ k seen e. c.take_back.ensures.joined q.0 q.1 k seen q.2 e) in
+    let g = c.gather-links.ensures q.0 (holding c.in-Some.last.stage (seen_of c.in-Some.last) ∷ q.1) x.root_is x.more in
+    let some = some_link x g few in omega (arith, some)
 
 pub with-requires-clause-behind : goal.with-requires-clause-behind
 with-requires-clause-behind t c =
-    let o = c.one_visit.ensures in let n = c.news_promises.ensures in let key = c.args.self.table.shared.key in let table = c.args.self.table.shared.table_id in let q = c.requires.covering in let cov = q.3 in
-    let last = c.in-Some.last in let seats = c.args.seats.items in let rest = c.pop.new.self.items in
-    let is : seats ≡ rest ++ last ∷ [] = c.pop.ensures.items ∙ ap (λ r. c.pop.new.self.items ++ option_to_list r) c.in-Some.is in
-    let long = longer seats rest last is in
-    let few : length rest ≤ suc key.plan.plugins = let f = cov.few in omega (arith, long, f) in
-    let inner : length rest < suc key.plan.plugins = let f = cov.few in omega (arith, long, f) in
-    let done = last_done key table cov.lawful o.changes o.leaves n.hold q.1 seats rest last is few cov.seats_are in
-    let root = c.take_back.ensures.joined q.0 q.1 last.stage (seen_of last) q.2 done.seat_is.rests in
-    let more = covering key table cov.lawful o.changes o.leaves n.hold q.1 seats rest last is few cov.seats_are cov.done cov.covers in
-    let left = c.gather-links.result in let held = holding last.stage (seen_of last) ∷ q.1 in
-    let g : Gathered key held rest left = c.gather-links.ensures q.0 held root more in
-    let since = last_since key table cov.lawful o.changes o.leaves n.hold q.1 seats rest last is few cov.seats_are left g in
-    behind key table cov.lawful o.changes o.leaves n.hold g.history g.run (length rest) few left g.parted last done since
+    let laws : Laws = record { changes = c.one_visit.ensures.changes; leaves = c.one_visit.ensures.leaves; hold = c.news_promises.ensures.hold } in let q = c.requires.covering in let few = q.3.few in
+    let x = taken laws q.3.lawful q.3.seats_are (omega (arith, few)) q.3.done q.3.covers c.pop.ensures.items c.in-Some.is (λ k seen e. c.take_back.ensures.joined q.0 q.1 k seen q.2 e) in
+    let g = c.gather-links.ensures q.0 (holding c.in-Some.last.stage (seen_of c.in-Some.last) ∷ q.1) x.root_is x.more in
+    last_behind x g
 
 pub with-requires-clause-same : goal.with-requires-clause-same
 with-requires-clause-same t c =
-    let o = c.one_visit.ensures in let n = c.news_promises.ensures in let key = c.args.self.table.shared.key in let table = c.args.self.table.shared.table_id in let q = c.requires.covering in let cov = q.3 in
-    let last = c.in-Some.last in let seats = c.args.seats.items in let rest = c.pop.new.self.items in
-    let is : seats ≡ rest ++ last ∷ [] = c.pop.ensures.items ∙ ap (λ r. c.pop.new.self.items ++ option_to_list r) c.in-Some.is in
-    let long = longer seats rest last is in
-    let few : length rest ≤ suc key.plan.plugins = let f = cov.few in omega (arith, long, f) in
-    let inner : length rest < suc key.plan.plugins = let f = cov.few in omega (arith, long, f) in
-    let done = last_done key table cov.lawful o.changes o.leaves n.hold q.1 seats rest last is few cov.seats_are in
-    let root = c.take_back.ensures.joined q.0 q.1 last.stage (seen_of last) q.2 done.seat_is.rests in
-    let more = covering key table cov.lawful o.changes o.leaves n.hold q.1 seats rest last is few cov.seats_are cov.done cov.covers in
-    let left = c.gather-links.result in let held = holding last.stage (seen_of last) ∷ q.1 in
-    let g : Gathered key held rest left = c.gather-links.ensures q.0 held root more in
-    let since = last_since key table cov.lawful o.changes o.leaves n.hold q.1 seats rest last is few cov.seats_are left g in
-    same key table cov.lawful o.changes o.leaves n.hold g.history g.run (length rest) few left g.parted last done since
+    let laws : Laws = record { changes = c.one_visit.ensures.changes; leaves = c.one_visit.ensures.leaves; hold = c.news_promises.ensures.hold } in let q = c.requires.covering in let few = q.3.few in
+    let x = taken laws q.3.lawful q.3.seats_are (omega (arith, few)) q.3.done q.3.covers c.pop.ensures.items c.in-Some.is (λ k seen e. c.take_back.ensures.joined q.0 q.1 k seen q.2 e) in
+    let g = c.gather-links.ensures q.0 (holding c.in-Some.last.stage (seen_of c.in-Some.last) ∷ q.1) x.root_is x.more in
+    last_same x g
 
 pub with-requires-clause-fits : goal.with-requires-clause-fits
 with-requires-clause-fits t c =
-    let o = c.one_visit.ensures in let n = c.news_promises.ensures in let key = c.args.self.table.shared.key in let table = c.args.self.table.shared.table_id in let q = c.requires.covering in let cov = q.3 in
-    let last = c.in-Some.last in let seats = c.args.seats.items in let rest = c.pop.new.self.items in
-    let is : seats ≡ rest ++ last ∷ [] = c.pop.ensures.items ∙ ap (λ r. c.pop.new.self.items ++ option_to_list r) c.in-Some.is in
-    let long = longer seats rest last is in
-    let few : length rest ≤ suc key.plan.plugins = let f = cov.few in omega (arith, long, f) in
-    let inner : length rest < suc key.plan.plugins = let f = cov.few in omega (arith, long, f) in
-    let done = last_done key table cov.lawful o.changes o.leaves n.hold q.1 seats rest last is few cov.seats_are in
-    let root = c.take_back.ensures.joined q.0 q.1 last.stage (seen_of last) q.2 done.seat_is.rests in
-    let more = covering key table cov.lawful o.changes o.leaves n.hold q.1 seats rest last is few cov.seats_are cov.done cov.covers in
-    let left = c.gather-links.result in let held = holding last.stage (seen_of last) ∷ q.1 in
-    let g : Gathered key held rest left = c.gather-links.ensures q.0 held root more in
-    let since = last_since key table cov.lawful o.changes o.leaves n.hold q.1 seats rest last is few cov.seats_are left g in
-    fits key table cov.lawful o.changes o.leaves n.hold g.history g.run (length rest) few left g.parted last done since
+    let laws : Laws = record { changes = c.one_visit.ensures.changes; leaves = c.one_visit.ensures.leaves; hold = c.news_promises.ensures.hold } in let q = c.requires.covering in let few = q.3.few in
+    let x = taken laws q.3.lawful q.3.seats_are (omega (arith, few)) q.3.done q.3.covers c.pop.ensures.items c.in-Some.is (λ k seen e. c.take_back.ensures.joined q.0 q.1 k seen q.2 e) in
+    let g = c.gather-links.ensures q.0 (holding c.in-Some.last.stage (seen_of c.in-Some.last) ∷ q.1) x.root_is x.more in
+    last_fits x g
 
 pub with-all-requires-clause-behind : goal.with-all-requires-clause-behind
 with-all-requires-clause-behind t c =
-    let o = c.one_visit.ensures in let n = c.news_promises.ensures in let key = c.args.self.table.shared.key in let table = c.args.self.table.shared.table_id in let q = c.requires.covering in let cov = q.3 in
-    let last = c.in-Some.last in let seats = c.args.seats.items in let rest = c.pop.new.self.items in
-    let is : seats ≡ rest ++ last ∷ [] = c.pop.ensures.items ∙ ap (λ r. c.pop.new.self.items ++ option_to_list r) c.in-Some.is in
-    let long = longer seats rest last is in
-    let few : length rest ≤ suc key.plan.plugins = let f = cov.few in omega (arith, long, f) in
-    let inner : length rest < suc key.plan.plugins = let f = cov.few in omega (arith, long, f) in
-    let done = last_done key table cov.lawful o.changes o.leaves n.hold q.1 seats rest last is few cov.seats_are in
-    let root = c.take_back.ensures.joined q.0 q.1 last.stage (seen_of last) q.2 done.seat_is.rests in
-    let more = covering key table cov.lawful o.changes o.leaves n.hold q.1 seats rest last is few cov.seats_are cov.done cov.covers in
-    let left = c.gather-links.result in let held = holding last.stage (seen_of last) ∷ q.1 in
-    let g : Gathered key held rest left = c.gather-links.ensures q.0 held root more in
-    let since = last_since key table cov.lawful o.changes o.leaves n.hold q.1 seats rest last is few cov.seats_are left g in
-    let linked : left.links.items ≡ c.remove.result ∷ c.remove.new.self.items = head_off left.links.items c.remove.new.self.items c.remove.result (let m = g.parted.links in omega (arith, m, inner)) c.remove.ensures.value c.remove.ensures.items in
-    ap (λ (r : Row). r.at) c.with.ensures ∙ link_behind key table cov.lawful o.changes o.leaves n.hold g.history g.run (length rest) few left g.parted last done since inner c.remove.result c.remove.new.self.items linked
+    let laws : Laws = record { changes = c.one_visit.ensures.changes; leaves = c.one_visit.ensures.leaves; hold = c.news_promises.ensures.hold } in let q = c.requires.covering in let few = q.3.few in
+    let x = taken laws q.3.lawful q.3.seats_are (omega (arith, few)) q.3.done q.3.covers c.pop.ensures.items c.in-Some.is (λ k seen e. c.take_back.ensures.joined q.0 q.1 k seen q.2 e) in
+    let g = c.gather-links.ensures q.0 (holding c.in-Some.last.stage (seen_of c.in-Some.last) ∷ q.1) x.root_is x.more in
+    before_behind x g few c.remove.ensures.value c.remove.ensures.items c.with.result c.with.ensures
 
 pub with-all-requires-clause-same : goal.with-all-requires-clause-same
 with-all-requires-clause-same t c =
-    let o = c.one_visit.ensures in let n = c.news_promises.ensures in let key = c.args.self.table.shared.key in let table = c.args.self.table.shared.table_id in let q = c.requires.covering in let cov = q.3 in
-    let last = c.in-Some.last in let seats = c.args.seats.items in let rest = c.pop.new.self.items in
-    let is : seats ≡ rest ++ last ∷ [] = c.pop.ensures.items ∙ ap (λ r. c.pop.new.self.items ++ option_to_list r) c.in-Some.is in
-    let long = longer seats rest last is in
-    let few : length rest ≤ suc key.plan.plugins = let f = cov.few in omega (arith, long, f) in
-    let inner : length rest < suc key.plan.plugins = let f = cov.few in omega (arith, long, f) in
-    let done = last_done key table cov.lawful o.changes o.leaves n.hold q.1 seats rest last is few cov.seats_are in
-    let root = c.take_back.ensures.joined q.0 q.1 last.stage (seen_of last) q.2 done.seat_is.rests in
-    let more = covering key table cov.lawful o.changes o.leaves n.hold q.1 seats rest last is few cov.seats_are cov.done cov.covers in
-    let left = c.gather-links.result in let held = holding last.stage (seen_of last) ∷ q.1 in
-    let g : Gathered key held rest left = c.gather-links.ensures q.0 held root more in
-    let since = last_since key table cov.lawful o.changes o.leaves n.hold q.1 seats rest last is few cov.seats_are left g in
-    let linked : left.links.items ≡ c.remove.result ∷ c.remove.new.self.items = head_off left.links.items c.remove.new.self.items c.remove.result (let m = g.parted.links in omega (arith, m, inner)) c.remove.ensures.value c.remove.ensures.items in
-    ap (λ (r : Row). r.land) c.with.ensures ∙ link_same key table cov.lawful o.changes o.leaves n.hold g.history g.run (length rest) few left g.parted last done since inner c.remove.result c.remove.new.self.items linked
+    let laws : Laws = record { changes = c.one_visit.ensures.changes; leaves = c.one_visit.ensures.leaves; hold = c.news_promises.ensures.hold } in let q = c.requires.covering in let few = q.3.few in
+    let x = taken laws q.3.lawful q.3.seats_are (omega (arith, few)) q.3.done q.3.covers c.pop.ensures.items c.in-Some.is (λ k seen e. c.take_back.ensures.joined q.0 q.1 k seen q.2 e) in
+    let g = c.gather-links.ensures q.0 (holding c.in-Some.last.stage (seen_of c.in-Some.last) ∷ q.1) x.root_is x.more in
+    before_same x g few c.remove.ensures.value c.remove.ensures.items c.with.result c.with.ensures
 
 pub with-all-requires-clause-fits : goal.with-all-requires-clause-fits
 with-all-requires-clause-fits t c =
-    let o = c.one_visit.ensures in let n = c.news_promises.ensures in let key = c.args.self.table.shared.key in let table = c.args.self.table.shared.table_id in let q = c.requires.covering in let cov = q.3 in
-    let last = c.in-Some.last in let seats = c.args.seats.items in let rest = c.pop.new.self.items in
-    let is : seats ≡ rest ++ last ∷ [] = c.pop.ensures.items ∙ ap (λ r. c.pop.new.self.items ++ option_to_list r) c.in-Some.is in
-    let long = longer seats rest last is in
-    let few : length rest ≤ suc key.plan.plugins = let f = cov.few in omega (arith, long, f) in
-    let inner : length rest < suc key.plan.plugins = let f = cov.few in omega (arith, long, f) in
-    let done = last_done key table cov.lawful o.changes o.leaves n.hold q.1 seats rest last is few cov.seats_are in
-    let root = c.take_back.ensures.joined q.0 q.1 last.stage (seen_of last) q.2 done.seat_is.rests in
-    let more = covering key table cov.lawful o.changes o.leaves n.hold q.1 seats rest last is few cov.seats_are cov.done cov.covers in
-    let left = c.gather-links.result in let held = holding last.stage (seen_of last) ∷ q.1 in
-    let g : Gathered key held rest left = c.gather-links.ensures q.0 held root more in
-    let since = last_since key table cov.lawful o.changes o.leaves n.hold q.1 seats rest last is few cov.seats_are left g in
-    let linked : left.links.items ≡ c.remove.result ∷ c.remove.new.self.items = head_off left.links.items c.remove.new.self.items c.remove.result (let m = g.parted.links in omega (arith, m, inner)) c.remove.ensures.value c.remove.ensures.items in
-    subst (λ (r : Row). length c.remove.result.cells + length r.cells ≤ c.remove.result.land.count) (sym c.with.ensures) (link_fits key table cov.lawful o.changes o.leaves n.hold g.history g.run (length rest) few left g.parted last done since inner c.remove.result c.remove.new.self.items linked)
+    let laws : Laws = record { changes = c.one_visit.ensures.changes; leaves = c.one_visit.ensures.leaves; hold = c.news_promises.ensures.hold } in let q = c.requires.covering in let few = q.3.few in
+    let x = taken laws q.3.lawful q.3.seats_are (omega (arith, few)) q.3.done q.3.covers c.pop.ensures.items c.in-Some.is (λ k seen e. c.take_back.ensures.joined q.0 q.1 k seen q.2 e) in
+    let g = c.gather-links.ensures q.0 (holding c.in-Some.last.stage (seen_of c.in-Some.last) ∷ q.1) x.root_is x.more in
+    before_fits x g few c.remove.ensures.value c.remove.ensures.items c.with.result c.with.ensures
 
 pub returns : goal.returns
-returns t c = λ made held root0 cov.
-    let o = c.one_visit.ensures in let n = c.news_promises.ensures in let key = c.args.self.table.shared.key in let table = c.args.self.table.shared.table_id in
-    let last = c.in-Some.last in let seats = c.args.seats.items in let rest = c.pop.new.self.items in
-    let is : seats ≡ rest ++ last ∷ [] = c.pop.ensures.items ∙ ap (λ r. c.pop.new.self.items ++ option_to_list r) c.in-Some.is in
-    let long = longer seats rest last is in
-    let few : length rest ≤ suc key.plan.plugins = let f = cov.few in omega (arith, long, f) in
-    let inner : length rest < suc key.plan.plugins = let f = cov.few in omega (arith, long, f) in
-    let done = last_done key table cov.lawful o.changes o.leaves n.hold held seats rest last is few cov.seats_are in
-    let root = c.take_back.ensures.joined made held last.stage (seen_of last) root0 done.seat_is.rests in
-    let more = covering key table cov.lawful o.changes o.leaves n.hold held seats rest last is few cov.seats_are cov.done cov.covers in
-    let left = c.gather-links.result in let held2 = holding last.stage (seen_of last) ∷ held in
-    let g : Gathered key held2 rest left = c.gather-links.ensures made held2 root more in
-    let since = last_since key table cov.lawful o.changes o.leaves n.hold held seats rest last is few cov.seats_are left g in
-    let linked : left.links.items ≡ c.remove.result ∷ c.remove.new.self.items = head_off left.links.items c.remove.new.self.items c.remove.result (let m = g.parted.links in omega (arith, m, inner)) c.remove.ensures.value c.remove.ensures.items in
-    let new : Rattle.window_ring.specs.declared.closing.Left.Left = record { links = c.remove.new.self; all = c.with-all.result; closed = left.closed } in
-    record {
-      history = g.history;
-      run = g.run;
-      held_since = g.held_since.1;
-      seats_since = since_all key table cov.lawful o.changes o.leaves n.hold held seats rest last is few cov.seats_are left g;
-      parted = subst (λ j. Rattle.window_ring.specs.Closing.Parted key (state_after key.plan g.history) j new) (sym long)
-          (parted_more key table cov.lawful o.changes o.leaves n.hold g.history g.run (length rest) few left g.parted last done since inner c.remove.result c.remove.new.self.items linked new (c.with-all.ensures ∙ ap (λ (r : Row). Rattle.window_ring.specs.Hands.row_of c.remove.result.at c.remove.result.land (c.remove.result.cells ++ r.cells)) c.with.ensures) refl refl);
-    }
+returns t c = λ made held root cov.
+    let laws : Laws = record { changes = c.one_visit.ensures.changes; leaves = c.one_visit.ensures.leaves; hold = c.news_promises.ensures.hold } in let few = cov.few in
+    let x = taken laws cov.lawful cov.seats_are (omega (arith, few)) cov.done cov.covers c.pop.ensures.items c.in-Some.is (λ k seen e. c.take_back.ensures.joined made held k seen root e) in
+    let g = c.gather-links.ensures made (holding c.in-Some.last.stage (seen_of c.in-Some.last) ∷ held) x.root_is x.more in
+    gathered_more x g few c.remove.ensures.value c.remove.ensures.items c.with.result c.with.ensures (record { links = c.remove.new.self; all = c.with-all.result; closed = c.gather-links.result.closed }) c.with-all.ensures refl refl
