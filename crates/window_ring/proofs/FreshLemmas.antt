@@ -35,7 +35,8 @@ module _ (key : Key) (table : TableId) (seat : StageSeat) (fresh : IsFresh key t
   pub seat_is : IsSeat key table seat
   seat_is = record {
     of_table = fresh.of_table;
-    rests = subst (λ l. seat.seat.me ≡ (at_rest key seat.stage l, [])) (sym seen) fresh.rests;
+    rests = subst (λ b. seat.seat.me ≡ (at_rest key seat.stage (seen_of seat) b, [])) (sym (ap (λ me. me.0.busy) fresh.rests))
+        (subst (λ l. seat.seat.me ≡ (at_rest key seat.stage l [], [])) (sym seen) fresh.rests);
     run = subst (ChainRun key.plan) (sym seen) tt;
     hand_is = subst (λ (s : ChainState). IsHandOf s seat.stage (land_of key) seat.hand) (sym state)
         (record { at = ap (λ r. r.at) fresh.hand; cells = ap (λ r. length r.cells + 0) fresh.hand; same = ap (λ r. r.land) fresh.hand });

@@ -23,7 +23,7 @@ use Rattle.window_ring.specs.declared.closing.Left.{Left}
 use Rattle.window_ring.specs.Views.{Each, Since, land_of, holding, at_rest, root_view}
 use Rattle.window_ring.specs.Stands.{Stands, waiting}
 use Rattle.window_ring.specs.Visits.{IsHandOf}
-use Rattle.window_ring.specs.Seats.{seen_of}
+use Rattle.window_ring.specs.Seats.{busy_of, seen_of}
 use Rattle.window_ring.specs.Closing.{Has, CoversAll, Opened, HasEnded, IsDone, Covering, Linked, Parted, Gathered}
 use Rattle.window_ring.proofs.Since.{stage_stays, hand_stays}
 
@@ -195,7 +195,7 @@ pub taken : {key : Key} {table : TableId} {made : ℕ} {held : List Holding} {se
     → ((k : ℕ) (d : StageSeat) → k < length seats → IsDone key table k (slice_index_or seats k d)) → length seats ≤ suc (suc key.plan.plugins)
     → Each (λ (h : Holding). HasEnded key h.stage h.seen) held → ((k : ℕ) → k ≤ suc key.plan.plugins → (k < length seats) ⊎ Has k held)
     → seats ≡ rest ++ option_to_list popped → popped ≡ Some last
-    → ((k : ℕ) (seen : List Visit) → last.seat.me ≡ (at_rest key k seen, []) → root ≡ (root_view key made (holding k seen ∷ held), [])) → Taken key table made held seats rest last root
+    → ((k : ℕ) (seen : List Visit) (busy : List ℕ) → last.seat.me ≡ (at_rest key k seen busy, []) → root ≡ (root_view key made (holding k seen ∷ held), [])) → Taken key table made held seats rest last root
 taken {key} {table} {made} {held} {seats} {rest} {last} {root} {popped} laws lawful seats_are many done covers items some joined =
     let is : seats ≡ rest ++ last ∷ [] = items ∙ ap (λ r. rest ++ option_to_list r) some in
     let few : length rest ≤ suc key.plan.plugins = let n = longer seats rest last is in omega (arith, n, many) in
@@ -205,7 +205,7 @@ taken {key} {table} {made} {held} {seats} {rest} {last} {root} {popped} laws law
       is = is;
       few = few;
       seats_are = seats_are;
-      root_is = joined last.stage (seen_of last) (last_done key table lawful laws.changes laws.leaves laws.hold held seats rest last is few seats_are).seat_is.rests;
+      root_is = joined last.stage (seen_of last) (busy_of last) (last_done key table lawful laws.changes laws.leaves laws.hold held seats rest last is few seats_are).seat_is.rests;
       more = covering key table lawful laws.changes laws.leaves laws.hold held seats rest last is few seats_are done covers;
     }
 

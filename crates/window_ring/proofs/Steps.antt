@@ -14,7 +14,7 @@ use Rattle.window_ring.specs.declared.view.View.{View}
 use Rattle.window_ring.specs.declared.view.Holding.{Holding}
 use Rattle.window_ring.specs.Views.{Each, NoneOf, Since, holding, at_rest, within, root_view, spent_view}
 use Rattle.window_ring.specs.Stands.{visit_in, Stands}
-use Rattle.window_ring.specs.Turns.{Knows, IsFree, IsTaken, Kept, Takes, Leaves}
+use Rattle.window_ring.specs.Turns.{Knows, IsFree, IsTaken, Kept, Takes, Leaves, turned_away}
 
 -- a fact about every view, after one of them has changed
 all_set : (F : ℕ → View → Type 0) (views : List View) (id : ℕ) (w : View) → F id w → ((j : ℕ) (u : View) → j ≢ id → get_elem? views j ≡ some u → F j u)
@@ -41,9 +41,9 @@ not_inside u n = not_true u.inside n
 false≢true : false ≡ true → ⊥
 false≢true e = true≢false (sym e)
 
-module _ (key : Key) (id k : ℕ) (seen : List Visit) (st : Step State) where
+module _ (key : Key) (id k : ℕ) (seen : List Visit) (busy : List ℕ) (st : Step State) where
   abbrev rest : View
-  rest = at_rest key k seen
+  rest = at_rest key k seen busy
 
   -- the turn is taken, or found held by another stage
   pub take : k ≤ suc key.plan.plugins → Allows (Kept key) 1 id (rest, []) 0 (λ n. either (n == 0) (k + 1) n) (Takes st (rest, []))
@@ -92,17 +92,35 @@ module _ (key : Key) (id k : ℕ) (seen : List Visit) (st : Step State) where
           let other : (n == 0) ≡ false = ne_eqb n 0 (λ e. omega (arith, is, e)) in
           let here : get_elem? s.words 0 ≡ some n = ap (λ ws. get_elem? ws 0) held.word ∙ ap some (sym is) in
           let words : set s.words 0 (either (n == 0) (k + 1) n) ≡ s.words = ap (λ b. set s.words 0 (either b (k + 1) n)) other ∙ set_again s.words 0 n here in
-          let views : set s.views id rest ≡ s.views = set_again s.views id rest at in (
-            rest,
+          let away : View = turned_away rest held.k in
+          let apart : kept.owner held.k ≢ id = λ e. false≢true (ap (λ (u : View). u.inside) (some-injective rest held.by.0 (sym at ∙ ap (get_elem? s.views) (sym e) ∙ held.by.1)) ∙ held.by.2) in (
+            away,
             keeps,
             tt,
-            subst (Kept key) (λ i. record { words = sym words i; homes = s.homes; views = sym views i }) kept,
+            record {
+              history = kept.history;
+              owner = kept.owner;
+              root = kept.root;
+              made = kept.made;
+              run = kept.run;
+              seated = kept.seated;
+              knows = all_set (Knows key kept.history kept.owner kept.root kept.made) s.views id away (record { held = mine.held; is_root = λ f. absurd (false≢true f) }) (λ j u n e. kept.knows j u e);
+              turn = inr record {
+                k = held.k;
+                stage = held.stage;
+                word = words ∙ held.word;
+                home = held.home;
+                inside = all_set (λ j u. u.inside ≡ true → (j ≡ kept.owner held.k) × (u.at ≡ kept.history)) s.views id away (λ t. absurd (false≢true t)) (λ j u n e t. held.inside j u e t);
+                seated = held.seated;
+                by = (held.by.0, set_else s.views id (kept.owner held.k) away apart ∙ held.by.1, held.by.2);
+              };
+            },
             inr record {
-              same = refl;
               holder = held.k;
+              told = refl;
               is = is;
               stage = held.stage;
-              another = ((λ e. false≢true (ap (λ (u : View). u.inside) (some-injective rest held.by.0 (sym at ∙ ap (get_elem? s.views) (sym (ap kept.owner (sym e) ∙ mine.held.0.0)) ∙ held.by.1)) ∙ held.by.2)), tt);
+              another = ((λ e. apart (ap kept.owner (sym e) ∙ mine.held.0.0)), tt);
             },
           )
 
@@ -119,7 +137,7 @@ module _ (key : Key) (id k : ℕ) (seen history : List Visit) (value : State) (s
       visit = visit_in key.plan value
 
       w : View
-      w = at_rest key visit.stage (visit ∷ history)
+      w = at_rest key visit.stage (visit ∷ history) []
 
       mine : Knows key kept.history kept.owner kept.root kept.made id inside
       mine = kept.knows id inside at
@@ -193,7 +211,7 @@ module _ (key : Key) (id made : ℕ) (held : List Holding) where
   further = root_view key (made + 1) held
 
   abbrev fresh : View
-  fresh = at_rest key made []
+  fresh = at_rest key made [] []
 
   pub split : table.Splits (Kept key) id root further fresh
   split s kept at =
@@ -259,7 +277,7 @@ moved_else : (owner : ℕ → ℕ) (from to j : ℕ) → owner j ≢ from → ow
 moved_else owner from to j n = ap (λ b. if b then to else owner j) (ne_eqb (owner j) from n)
 
 -- a stage's seat at rest is joined into the root
-module _ (key : Key) (id made : ℕ) (held : List Holding) (other k : ℕ) (seen : List Visit) where
+module _ (key : Key) (id made : ℕ) (held : List Holding) (other k : ℕ) (seen : List Visit) (busy : List ℕ) where
   abbrev first : View
   first = root_view key made held
 
@@ -267,7 +285,7 @@ module _ (key : Key) (id made : ℕ) (held : List Holding) (other k : ℕ) (seen
   both = root_view key made (holding k seen ∷ held)
 
   abbrev gone : View
-  gone = at_rest key k seen
+  gone = at_rest key k seen busy
 
   pub join : table.Joins (Kept key) id first other gone both spent_view
   join s kept at apart at' =

@@ -1,5 +1,5 @@
 -- A seat that has the turn.
-use Rattle.std.proofs.Common.{◌≡◌, ◌≢◌, ⊎_elim, ◌≤◌, ℕ, suc, List, [], ◌∷◌, ◌++◌, subst, sym, ap, ◌∙◌, arith}
+use Rattle.std.proofs.Common.{◌-◌, ◌≡◌, ◌≢◌, ⊎_elim, ◌≤◌, ℕ, suc, List, [], ◌∷◌, ◌++◌, subst, sym, ap, ◌∙◌, arith}
 use Rattle.atomic_table.specs.Table.{Me, Step, Allows}
 use Rattle.window_ring.specs.declared.view.Key.{Key}
 use Rattle.chain_core.specs.Machine.{Visit, Allowed, news_after}
@@ -25,8 +25,8 @@ pub record Turn (key : Key) (k : ℕ) (seen : List Visit) (w : Me State View) : 
   pub stands : Stands key value history
   pub run : ChainRun key.plan history
 
-took : (key : Key) (k : ℕ) (seen : List Visit) (w : Me State View) → Took (at_rest key k seen, []) w → Turn key k seen w
-took key k seen w t = record {
+took : (key : Key) (k : ℕ) (seen : List Visit) (busy : List ℕ) (w : Me State View) → Took (at_rest key k seen busy, []) w → Turn key k seen w
+took key k seen busy w t = record {
   value = t.value;
   history = t.history;
   later = t.since.0.0;
@@ -37,15 +37,16 @@ took key k seen w t = record {
   run = t.run;
 }
 
-pub turn_of : (key : Key) (k : ℕ) (seen : List Visit) (st : Step State) (v w : Me State View) (n : ℕ) → v ≡ (at_rest key k seen, []) → n ≡ 0 → Takes st v n w → Turn key k seen w
-turn_of key k seen st v w n rests free takes =
-    ⊎_elim (λ t. took key k seen w t.1) (λ f. absurd (let i = f.is in omega (arith, free, i))) (subst (λ u. Takes st u n w) rests takes)
+pub turn_of : (key : Key) (k : ℕ) (seen : List Visit) (busy : List ℕ) (st : Step State) (v w : Me State View) (n : ℕ) → v ≡ (at_rest key k seen busy, []) → n ≡ 0 → Takes st v n w → Turn key k seen w
+turn_of key k seen busy st v w n rests free takes =
+    ⊎_elim (λ t. took key k seen busy w t.1) (λ f. absurd (let i = f.is in omega (arith, free, i))) (subst (λ u. Takes st u n w) rests takes)
 
--- where it was found held, nothing changed, and another stage holds it
-pub busy_of : (key : Key) (k : ℕ) (seen : List Visit) (st : Step State) (v w : Me State View) (n : ℕ) → v ≡ (at_rest key k seen, []) → n ≢ 0 → Takes st v n w
-    → (holder : ℕ) × (n ≡ suc holder) × (w ≡ v) × (holder ≢ k) × (holder ≤ suc key.plan.plugins)
-busy_of key k seen st v w n rests held takes =
-    ⊎_elim (λ t. absurd (held t.0)) (λ f. (f.holder, f.is, f.same ∙ sym rests, (λ e. f.another.0 (sym e)), f.stage)) (subst (λ u. Takes st u n w) rests takes)
+-- where it was found held, another stage holds it, and the seat remembers which
+pub away_of : (key : Key) (k : ℕ) (seen : List Visit) (busy : List ℕ) (st : Step State) (v w : Me State View) (n : ℕ) → v ≡ (at_rest key k seen busy, []) → n ≢ 0 → Takes st v n w
+    → (w ≡ (at_rest key k seen ((n - 1) ∷ busy), [])) × (n - 1 ≢ k) × (n - 1 ≤ suc key.plan.plugins)
+away_of key k seen busy st v w n rests held takes =
+    ⊎_elim (λ t. absurd (held t.0)) (λ f. let e : f.holder ≡ n - 1 = let i = f.is in omega (arith, i) in
+    subst (λ h. (w ≡ (at_rest key k seen (h ∷ busy), [])) × (h ≢ k) × (h ≤ suc key.plan.plugins)) e (f.told, (λ e. f.another.0 (sym e)), f.stage)) (subst (λ u. Takes st u n w) rests takes)
 
 abbrev pub top : State → List (ℕ × State) → State
 top d [] = d
@@ -65,12 +66,12 @@ module _ (key : Key) (k : ℕ) (seen history : List Visit) (old new : State) (ha
 
   -- and then the visit is one event of the run
   pub left_turn : (w : Me State View) (later : List Visit) → MayGive key old history hand k done word → Handed key new history hand hand_new k done word news → Leaves st me 0 w → history ≡ later ++ seen
-      → (w ≡ (at_rest key k (visit ∷ (later ++ seen)), [])) × ChainRun key.plan (visit ∷ (later ++ seen)) × (news ≡ news_after key.plan (state_after key.plan (later ++ seen)) visit)
+      → (w ≡ (at_rest key k (visit ∷ (later ++ seen)) [], [])) × ChainRun key.plan (visit ∷ (later ++ seen)) × (news ≡ news_after key.plan (state_after key.plan (later ++ seen)) visit)
       × IsHandOf (state_after key.plan (visit ∷ (later ++ seen))) k (land_of key) hand_new
   left_turn w later may d l is =
       let value : l.value ≡ new = ap (top new) (sym l.carried) in
       let last : visit_in key.plan l.value ≡ visit = ap (visit_in key.plan) value ∙ d.last in
-      let rests : w ≡ (at_rest key k (visit ∷ (later ++ seen)), []) = l.left ∙ (λ i. (at_rest key (last i).stage (last i ∷ is i), [])) in
+      let rests : w ≡ (at_rest key k (visit ∷ (later ++ seen)) [], []) = l.left ∙ (λ i. (at_rest key (last i).stage (last i ∷ is i) [], [])) in
       let Run = λ (h : List Visit). ChainRun key.plan (visit ∷ h) × (news ≡ news_after key.plan (state_after key.plan h) visit) × IsHandOf (state_after key.plan (visit ∷ h)) k (land_of key) hand_new in
       let all : Run (later ++ seen) = subst Run is ((may.run, may.allowed), d.news_is, d.hand_is) in
       (rests, all.0, all.1, all.2)

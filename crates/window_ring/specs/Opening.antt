@@ -15,7 +15,7 @@ use Rattle.window_ring.specs.Views.{at_rest, root_view, land_of}
 pub record IsFresh (key : Key) (table : TableId) (k : ℕ) (seat : StageSeat) : Type 0 where
   pub of_table : seat.seat.table_id ≡ table
   pub stage : seat.stage ≡ k
-  pub rests : seat.seat.me ≡ (at_rest key k [], [])
+  pub rests : seat.seat.me ≡ (at_rest key k [] [], [])
   pub hand : seat.hand ≡ row_of 0 (land_of key) []
 
 abbrev pub AreFresh : Key → TableId → List StageSeat → Type 0

@@ -31,11 +31,15 @@ seen_in (h ∷ hs) = h.seen
 abbrev pub seen_of : StageSeat → List Visit
 seen_of seat = seen_in seat.seat.me.0.held
 
+-- the stages that it found with the turn since its last visit
+abbrev pub busy_of : StageSeat → List ℕ
+busy_of seat = seat.seat.me.0.busy
+
 -- the seat of a stage at rest in this ring: what it has seen is a run, and in its hands are the cells that
 -- the stage has taken and not given by that run
 pub record IsSeat (key : Key) (table : TableId) (seat : StageSeat) : Type 0 where
   pub of_table : seat.seat.table_id ≡ table
-  pub rests : seat.seat.me ≡ (at_rest key seat.stage (seen_of seat), [])
+  pub rests : seat.seat.me ≡ (at_rest key seat.stage (seen_of seat) (busy_of seat), [])
   pub run : ChainRun key.plan (seen_of seat)
   pub hand_is : IsHandOf (state_after key.plan (seen_of seat)) seat.stage (land_of key) seat.hand
 
@@ -58,7 +62,7 @@ visit_from seat done word = giving seat.hand seat.stage done word
 pub record Went (key : Key) (old new : StageSeat) (done : ℕ) (word : StageWord) (news : News) : Type 0 where
   pub between : List Visit
   pub of_others : NoneOf old.stage between
-  pub rests : new.seat.me ≡ (at_rest key old.stage (visit_from old done word ∷ (between ++ seen_of old)), [])
+  pub rests : new.seat.me ≡ (at_rest key old.stage (visit_from old done word ∷ (between ++ seen_of old)) [], [])
   pub run : ChainRun key.plan (visit_from old done word ∷ (between ++ seen_of old))
   pub news_is : news
       ≡ news_after key.plan (state_after key.plan (between ++ seen_of old)) (visit_from old done word)
@@ -68,9 +72,10 @@ pub record Went (key : Key) (old new : StageSeat) (done : ℕ) (word : StageWord
   pub fresh : Brings (state_after key.plan (between ++ seen_of old)) old.stage
       (drop (length old.hand.cells - done) new.hand.cells) news
 
--- another stage had the turn and nothing changed, or the visit was made
+-- the compare found another stage with the turn and nothing changed, which the seat remembers; or the visit was
+-- made
 abbrev pub HasVisited : Key → StageSeat → StageSeat → ℕ → StageWord → Visited → Type 0
 HasVisited key old new done word (Busy holder) =
-    (new.seat.me ≡ old.seat.me) × (new.hand ≡ old.hand)
+    (new.seat.me ≡ (at_rest key old.stage (seen_of old) (holder ∷ busy_of old), [])) × (new.hand ≡ old.hand)
     × (holder ≢ old.stage) × (holder ≤ suc key.plan.plugins)
 HasVisited key old new done word (Given news) = Went key old new done word news

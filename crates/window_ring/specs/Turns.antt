@@ -65,15 +65,28 @@ pub record Took (v w : Me State View) : Type 0 where
         held = v.0.held;
         inside = true;
         at = history;
+        busy = [];
       }
   pub stands : Stands v.0.key value history
   pub run : ChainRun v.0.key.plan history
   pub since : Each (λ (h : Holding). Since h.stage h.seen history) v.0.held
 
+-- the same seat, which found this stage with the turn
+abbrev pub turned_away : View → ℕ → View
+turned_away v holder = record {
+  key = v.key;
+  is_root = v.is_root;
+  made = v.made;
+  held = v.held;
+  inside = v.inside;
+  at = v.at;
+  busy = holder ∷ v.busy;
+}
+
 -- the turn was found held, by another stage
 pub record Found (v : Me State View) (n : ℕ) (w : Me State View) : Type 0 where
-  pub same : w ≡ v
   pub holder : ℕ
+  pub told : w ≡ (turned_away v.0 holder, v.1)
   pub is : n ≡ suc holder
   pub stage : holder ≤ suc v.0.key.plan.plugins
   pub another : Each (λ (h : Holding). h.stage ≢ holder) v.0.held
@@ -87,4 +100,4 @@ pub record Leaves (step : Step State) (v : Me State View) (n : ℕ) (w : Me Stat
   pub value : State
   pub carried : v.1 ≡ (0, value) ∷ []
   pub left : w
-      ≡ (at_rest v.0.key (visit_in v.0.key.plan value).stage (visit_in v.0.key.plan value ∷ v.0.at), [])
+      ≡ (at_rest v.0.key (visit_in v.0.key.plan value).stage (visit_in v.0.key.plan value ∷ v.0.at) [], [])

@@ -28,20 +28,20 @@ holding k seen = record { stage = k; seen = seen }
 abbrev pub land_of : Key → Land
 land_of key = record { base = key.base; count = key.plan.buffer }
 
--- the seat of a stage at rest
-abbrev pub at_rest : Key → ℕ → List Visit → View
-at_rest key k seen =
-    record { key = key; is_root = false; made = 0; held = holding k seen ∷ []; inside = false; at = [] }
+-- the seat of a stage at rest, whose compares since its last visit found these stages with the turn
+abbrev pub at_rest : Key → ℕ → List Visit → List ℕ → View
+at_rest key k seen busy =
+    record { key = key; is_root = false; made = 0; held = holding k seen ∷ []; inside = false; at = []; busy = busy }
 
 -- the same inside a visit, which found this history
 abbrev pub within : Key → ℕ → List Visit → List Visit → View
 within key k seen history =
-    record { key = key; is_root = false; made = 0; held = holding k seen ∷ []; inside = true; at = history }
+    record { key = key; is_root = false; made = 0; held = holding k seen ∷ []; inside = true; at = history; busy = [] }
 
 -- the seat from which the stages' seats are split, of which so many are made, and into which they are joined
 abbrev pub root_view : Key → ℕ → List Holding → View
 root_view key made held =
-    record { key = key; is_root = true; made = made; held = held; inside = false; at = [] }
+    record { key = key; is_root = true; made = made; held = held; inside = false; at = []; busy = [] }
 
 -- the root of a new ring
 abbrev pub first_view : Key → View
@@ -59,4 +59,5 @@ spent_view = record {
   held = [];
   inside = false;
   at = [];
+  busy = [];
 }

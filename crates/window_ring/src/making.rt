@@ -42,7 +42,7 @@ impl Ring {
         ensures seats { (made : ℕ) (held : List Holding)
             → root.old.me ≡ (root_view (key_of self.now) made held, [])
             → (root.new.me ≡ (root_view (key_of self.now) (made + 1) held, []))
-            × (result.me ≡ (at_rest (key_of self.now) made [], [])) }
+            × (result.me ≡ (at_rest (key_of self.now) made [] [], [])) }
     {
         self.table.shared.split_seat::<Seating>(root)
     }
@@ -53,11 +53,12 @@ impl Ring {
         requires words { 0 < (table_of self.now).words }
         requires root { (made : ℕ) × (held : List Holding)
             × (root.old.me ≡ (root_view (key_of self.now) made held, [])) }
-        requires rests { (k : ℕ) × (seen : List Visit) × (seat.me ≡ (at_rest (key_of self.now) k seen, [])) }
+        requires rests { (k : ℕ) × (seen : List Visit) × (busy : List ℕ)
+            × (seat.me ≡ (at_rest (key_of self.now) k seen busy, [])) }
         ensures of_table { root.new.table_id ≡ table_of self.now }
-        ensures joined { (made : ℕ) (held : List Holding) (k : ℕ) (seen : List Visit)
+        ensures joined { (made : ℕ) (held : List Holding) (k : ℕ) (seen : List Visit) (busy : List ℕ)
             → root.old.me ≡ (root_view (key_of self.now) made held, [])
-            → seat.me ≡ (at_rest (key_of self.now) k seen, [])
+            → seat.me ≡ (at_rest (key_of self.now) k seen busy, [])
             → root.new.me ≡ (root_view (key_of self.now) made (holding k seen ∷ held), []) }
     {
         self.table.shared.join_seat::<Returning>(root, seat)

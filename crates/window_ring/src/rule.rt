@@ -35,7 +35,7 @@ pub struct Seating;
 impl Split<View> for Seating {
     ghost left = { λ v. root_view v.key (v.made + 1) v.held };
 
-    ghost right = { λ v. at_rest v.key v.made [] };
+    ghost right = { λ v. at_rest v.key v.made [] [] };
 }
 
 /// The seat of a stage is joined into the root.

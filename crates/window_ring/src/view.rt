@@ -42,6 +42,8 @@ pub struct View {
     pub inside: bool,
     /// The visits that it found when it took the turn.
     pub at: LinkedList<PastVisit>,
+    /// The stages that its compares found with the turn since it last had it, the last one first.
+    pub busy: LinkedList<usize>,
 }
 
 /// What never changes of a ring: its plan, and where its block begins.

@@ -43,62 +43,62 @@ returns-in_default t c = λ made held root cov.
 pub gather-links-requires : goal.gather-links-requires
 gather-links-requires t c =
     let laws : Laws = record { changes = c.one_visit.ensures.changes; leaves = c.one_visit.ensures.leaves; hold = c.news_promises.ensures.hold } in let q = c.requires.covering in let few = q.3.few in
-    let x = taken laws q.3.lawful q.3.seats_are (omega (arith, few)) q.3.done q.3.covers c.pop.ensures.items c.in-Some.is (λ k seen e. c.take_back.ensures.joined q.0 q.1 k seen q.2 e) in
+    let x = taken laws q.3.lawful q.3.seats_are (omega (arith, few)) q.3.done q.3.covers c.pop.ensures.items c.in-Some.is (λ k seen busy e. c.take_back.ensures.joined q.0 q.1 k seen busy q.2 e) in
     let long = longer c.args.seats.items c.pop.new.self.items c.in-Some.last x.is in
     (omega (arith, long), (c.take_back.ensures.of_table, (c.requires.words, (c.requires.slots, (q.0, holding c.in-Some.last.stage (seen_of c.in-Some.last) ∷ q.1, x.root_is, x.more)))))
 
 pub remove-requires : goal.remove-requires
 remove-requires t c =
     let laws : Laws = record { changes = c.one_visit.ensures.changes; leaves = c.one_visit.ensures.leaves; hold = c.news_promises.ensures.hold } in let q = c.requires.covering in let few = q.3.few in
-    let x = taken laws q.3.lawful q.3.seats_are (omega (arith, few)) q.3.done q.3.covers c.pop.ensures.items c.in-Some.is (λ k seen e. c.take_back.ensures.joined q.0 q.1 k seen q.2 e) in
+    let x = taken laws q.3.lawful q.3.seats_are (omega (arith, few)) q.3.done q.3.covers c.pop.ensures.items c.in-Some.is (λ k seen busy e. c.take_back.ensures.joined q.0 q.1 k seen busy q.2 e) in
     let g = c.gather-links.ensures q.0 (holding c.in-Some.last.stage (seen_of c.in-Some.last) ∷ q.1) x.root_is x.more in
     let some = some_link x g few in omega (arith, some)
 
 pub with-requires-clause-behind : goal.with-requires-clause-behind
 with-requires-clause-behind t c =
     let laws : Laws = record { changes = c.one_visit.ensures.changes; leaves = c.one_visit.ensures.leaves; hold = c.news_promises.ensures.hold } in let q = c.requires.covering in let few = q.3.few in
-    let x = taken laws q.3.lawful q.3.seats_are (omega (arith, few)) q.3.done q.3.covers c.pop.ensures.items c.in-Some.is (λ k seen e. c.take_back.ensures.joined q.0 q.1 k seen q.2 e) in
+    let x = taken laws q.3.lawful q.3.seats_are (omega (arith, few)) q.3.done q.3.covers c.pop.ensures.items c.in-Some.is (λ k seen busy e. c.take_back.ensures.joined q.0 q.1 k seen busy q.2 e) in
     let g = c.gather-links.ensures q.0 (holding c.in-Some.last.stage (seen_of c.in-Some.last) ∷ q.1) x.root_is x.more in
     last_behind x g
 
 pub with-requires-clause-same : goal.with-requires-clause-same
 with-requires-clause-same t c =
     let laws : Laws = record { changes = c.one_visit.ensures.changes; leaves = c.one_visit.ensures.leaves; hold = c.news_promises.ensures.hold } in let q = c.requires.covering in let few = q.3.few in
-    let x = taken laws q.3.lawful q.3.seats_are (omega (arith, few)) q.3.done q.3.covers c.pop.ensures.items c.in-Some.is (λ k seen e. c.take_back.ensures.joined q.0 q.1 k seen q.2 e) in
+    let x = taken laws q.3.lawful q.3.seats_are (omega (arith, few)) q.3.done q.3.covers c.pop.ensures.items c.in-Some.is (λ k seen busy e. c.take_back.ensures.joined q.0 q.1 k seen busy q.2 e) in
     let g = c.gather-links.ensures q.0 (holding c.in-Some.last.stage (seen_of c.in-Some.last) ∷ q.1) x.root_is x.more in
     last_same x g
 
 pub with-requires-clause-fits : goal.with-requires-clause-fits
 with-requires-clause-fits t c =
     let laws : Laws = record { changes = c.one_visit.ensures.changes; leaves = c.one_visit.ensures.leaves; hold = c.news_promises.ensures.hold } in let q = c.requires.covering in let few = q.3.few in
-    let x = taken laws q.3.lawful q.3.seats_are (omega (arith, few)) q.3.done q.3.covers c.pop.ensures.items c.in-Some.is (λ k seen e. c.take_back.ensures.joined q.0 q.1 k seen q.2 e) in
+    let x = taken laws q.3.lawful q.3.seats_are (omega (arith, few)) q.3.done q.3.covers c.pop.ensures.items c.in-Some.is (λ k seen busy e. c.take_back.ensures.joined q.0 q.1 k seen busy q.2 e) in
     let g = c.gather-links.ensures q.0 (holding c.in-Some.last.stage (seen_of c.in-Some.last) ∷ q.1) x.root_is x.more in
     last_fits x g
 
 pub with-all-requires-clause-behind : goal.with-all-requires-clause-behind
 with-all-requires-clause-behind t c =
     let laws : Laws = record { changes = c.one_visit.ensures.changes; leaves = c.one_visit.ensures.leaves; hold = c.news_promises.ensures.hold } in let q = c.requires.covering in let few = q.3.few in
-    let x = taken laws q.3.lawful q.3.seats_are (omega (arith, few)) q.3.done q.3.covers c.pop.ensures.items c.in-Some.is (λ k seen e. c.take_back.ensures.joined q.0 q.1 k seen q.2 e) in
+    let x = taken laws q.3.lawful q.3.seats_are (omega (arith, few)) q.3.done q.3.covers c.pop.ensures.items c.in-Some.is (λ k seen busy e. c.take_back.ensures.joined q.0 q.1 k seen busy q.2 e) in
     let g = c.gather-links.ensures q.0 (holding c.in-Some.last.stage (seen_of c.in-Some.last) ∷ q.1) x.root_is x.more in
     before_behind x g few c.remove.ensures.value c.remove.ensures.items c.with.result c.with.ensures
 
 pub with-all-requires-clause-same : goal.with-all-requires-clause-same
 with-all-requires-clause-same t c =
     let laws : Laws = record { changes = c.one_visit.ensures.changes; leaves = c.one_visit.ensures.leaves; hold = c.news_promises.ensures.hold } in let q = c.requires.covering in let few = q.3.few in
-    let x = taken laws q.3.lawful q.3.seats_are (omega (arith, few)) q.3.done q.3.covers c.pop.ensures.items c.in-Some.is (λ k seen e. c.take_back.ensures.joined q.0 q.1 k seen q.2 e) in
+    let x = taken laws q.3.lawful q.3.seats_are (omega (arith, few)) q.3.done q.3.covers c.pop.ensures.items c.in-Some.is (λ k seen busy e. c.take_back.ensures.joined q.0 q.1 k seen busy q.2 e) in
     let g = c.gather-links.ensures q.0 (holding c.in-Some.last.stage (seen_of c.in-Some.last) ∷ q.1) x.root_is x.more in
     before_same x g few c.remove.ensures.value c.remove.ensures.items c.with.result c.with.ensures
 
 pub with-all-requires-clause-fits : goal.with-all-requires-clause-fits
 with-all-requires-clause-fits t c =
     let laws : Laws = record { changes = c.one_visit.ensures.changes; leaves = c.one_visit.ensures.leaves; hold = c.news_promises.ensures.hold } in let q = c.requires.covering in let few = q.3.few in
-    let x = taken laws q.3.lawful q.3.seats_are (omega (arith, few)) q.3.done q.3.covers c.pop.ensures.items c.in-Some.is (λ k seen e. c.take_back.ensures.joined q.0 q.1 k seen q.2 e) in
+    let x = taken laws q.3.lawful q.3.seats_are (omega (arith, few)) q.3.done q.3.covers c.pop.ensures.items c.in-Some.is (λ k seen busy e. c.take_back.ensures.joined q.0 q.1 k seen busy q.2 e) in
     let g = c.gather-links.ensures q.0 (holding c.in-Some.last.stage (seen_of c.in-Some.last) ∷ q.1) x.root_is x.more in
     before_fits x g few c.remove.ensures.value c.remove.ensures.items c.with.result c.with.ensures
 
 pub returns : goal.returns
 returns t c = λ made held root cov.
     let laws : Laws = record { changes = c.one_visit.ensures.changes; leaves = c.one_visit.ensures.leaves; hold = c.news_promises.ensures.hold } in let few = cov.few in
-    let x = taken laws cov.lawful cov.seats_are (omega (arith, few)) cov.done cov.covers c.pop.ensures.items c.in-Some.is (λ k seen e. c.take_back.ensures.joined made held k seen root e) in
+    let x = taken laws cov.lawful cov.seats_are (omega (arith, few)) cov.done cov.covers c.pop.ensures.items c.in-Some.is (λ k seen busy e. c.take_back.ensures.joined made held k seen busy root e) in
     let g = c.gather-links.ensures made (holding c.in-Some.last.stage (seen_of c.in-Some.last) ∷ held) x.root_is x.more in
     gathered_more x g few c.remove.ensures.value c.remove.ensures.items c.with.result c.with.ensures (record { links = c.remove.new.self; all = c.with-all.result; closed = c.gather-links.result.closed }) c.with-all.ensures refl refl

@@ -11,4 +11,4 @@ use Rattle.window_ring.proofs.ring.Ring.next_seat.Goals as goal
 pub split_seat-requires : goal.split_seat-requires
 split_seat-requires c =
     let key = c.args.self.now.table.shared.key in let id = c.args.root.now.id in let made = c.requires.root.0 in let held = c.requires.root.1 in let e = c.requires.root.2 in
-    (c.requires.of_table, c.requires.words, subst (λ (me : Me State View). table.Splits (Kept key) id me.0 (root_view me.0.key (me.0.made + 1) me.0.held) (at_rest me.0.key me.0.made [])) (sym e) (split key id made held))
+    (c.requires.of_table, c.requires.words, subst (λ (me : Me State View). table.Splits (Kept key) id me.0 (root_view me.0.key (me.0.made + 1) me.0.held) (at_rest me.0.key me.0.made [] [])) (sym e) (split key id made held))
