@@ -1,0 +1,5 @@
+pub mod Spans
+pub mod Lodging
+pub mod Sending
+pub mod Vecs
+pub mod PieceLemmas

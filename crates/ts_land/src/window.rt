@@ -1,0 +1,214 @@
+ghost use Rattle.std.specs.Prelude.{◌≡◌, ◌+◌, ◌*◌, ◌<◌, ◌≤◌, ◌^◌, List, length, take, drop, ◌++◌, replicate, IfOk, None, ◌⊎◌};
+ghost use Rattle.std.specs.Option.{option_or};
+ghost use Rattle.std.specs.Borrow.{Lends, Array, sem};
+ghost use Rattle.ts_land.specs.Pieces.{piece_of, with_cells};
+ghost use Rattle.ts_land.specs.contracts.window.Window.{the_row};
+
+use crate::Slot;
+use crate::owner::{Owner, put_back, take_out};
+use crate::span::{span_of, vec_over};
+use std::alloc::{AllocError, Global};
+use std::marker::Model;
+use std_alloc::vec::Lodged;
+
+/// Successive values of one block, which nothing else can reach.
+///
+/// Contracts see its block, the slot of its first value, and its values. It has to be joined again with the
+/// other windows of its block until one of them is the whole, which `close` gives back. Here nothing takes
+/// memory.
+pub struct Window<T: Slot> {
+    cells: Vec<T, Lodged>,
+    start: usize,
+    base: *mut T,
+    count: usize,
+    // The block's owner, in the window that has its first value.
+    owner: Option<Owner<T, Global>>,
+}
+
+impl<T: Slot> Model for Window<T> {
+    ghost use Rattle.std.specs.Prelude.{◌≡◌, ◌+◌, ◌*◌, ◌^◌, ◌<◌, ◌≤◌, is_some};
+    ghost use Rattle.std.specs.Vec.{vec_len, vec_ptr, vec_capacity};
+    ghost use denote.RawPtr.{InBlock, ◌+ₚ◌};
+    ghost use Rattle.ts_land.specs.Pieces.{Piece, piece_code, piece_of, has_first, IsOwnerOf};
+
+    ghost Value = { Piece T };
+
+    ghost coded = { piece_code T.code };
+
+    ghost view = { λ w. piece_of (record { base = w.base; count = w.count }) w.start w.cells.items };
+
+    ghost invariant = { λ w. (vec_ptr w.cells ≡ w.base +ₚ w.start * T.bytes)
+        × (vec_capacity w.cells ≡ vec_len w.cells)
+        × (w.start + vec_len w.cells ≤ w.count)
+        × (0 < w.count) × (w.count < 2 ^ 63) × (w.count * T.bytes < 2 ^ 63) × InBlock w.base
+        × (is_some w.owner ≡ has_first w.start (vec_len w.cells)) × IsOwnerOf w.base w.count w.owner };
+}
+
+// What it points to is its own.
+unsafe impl<T: Slot + Send> Send for Window<T> {}
+
+impl<T: Slot> Window<T> {
+    /// The first `n` values, and the others. Either may be none.
+    pub fn split(self, n: usize) -> (Window<T>, Window<T>)
+        requires within { n ≤ length self.cells }
+        ensures front { result.0 ≡ piece_of self.land self.start (take n self.cells) }
+        ensures back { result.1 ≡ piece_of self.land (self.start + n) (drop n self.cells) }
+    {
+        T::size_law();
+        let Window {
+            mut cells,
+            start,
+            base,
+            count,
+            owner,
+        } = self;
+        let len = cells.len();
+        let ptr = cells.as_mut_ptr();
+        let (front, back) = span_of(cells).cut(n);
+        let next = unsafe { ptr.byte_add(n * size_of::<T>()) };
+        let (one, other) = if n > 0 { (owner, None) } else { (None, owner) };
+        (
+            Window {
+                cells: vec_over(ptr, n, front),
+                start,
+                base,
+                count,
+                owner: one,
+            },
+            Window {
+                cells: vec_over(next, len - n, back),
+                start: start + n,
+                base,
+                count,
+                owner: other,
+            },
+        )
+    }
+
+    /// Both windows, where the other one begins in the slot in which this one ends.
+    pub fn join(self, other: Window<T>) -> Window<T>
+        requires land { other.land ≡ self.land }
+        requires beside { other.start ≡ self.start + length self.cells }
+        ensures { result ≡ piece_of self.land self.start (self.cells ++ other.cells) }
+    {
+        T::size_law();
+        let Window {
+            mut cells,
+            start,
+            base,
+            count,
+            owner: one,
+        } = self;
+        let Window {
+            cells: more,
+            start: _,
+            base: _,
+            count: _,
+            owner: another,
+        } = other;
+        let len = cells.len() + more.len();
+        let ptr = cells.as_mut_ptr();
+        let span = span_of(cells).glue(span_of(more));
+        Window {
+            cells: vec_over(ptr, len, span),
+            start,
+            base,
+            count,
+            owner: either(one, another),
+        }
+    }
+
+    /// The values.
+    pub fn as_slice(&self) -> &[T]
+        ensures { result.now ≡ self.now.cells }
+    {
+        self.cells.as_slice()
+    }
+
+    /// The values, to be changed where they are. What is written through it is what the window then has.
+    pub fn as_mut_slice(&mut self) -> &mut [T]
+        ensures* writes_back { sem 𝓛
+            (Lends (the_row T.row T.Slot) (Array T.row 0) self.entry result (with_cells self.old)) }
+        ensures value { result.now ≡ self.old.cells }
+    {
+        self.cells.as_mut_slice()
+    }
+
+    /// How many values it has.
+    pub fn len(&self) -> usize
+        ensures { result ≡ length self.now.cells }
+    {
+        self.cells.len()
+    }
+
+    /// The slot of its first value, from 0 on; of an empty window the one in which the value would stand.
+    pub fn start(&self) -> usize
+        ensures { result ≡ self.now.start }
+    {
+        self.start
+    }
+
+    /// Where its block begins. It says which block that is, and gives no right to it.
+    pub fn base(&self) -> *mut T
+        ensures { result ≡ self.now.land.base }
+    {
+        self.base
+    }
+
+    /// A window of all slots gives its block back.
+    pub fn close(self)
+    where
+        T: Drop,
+        requires whole { length self.cells ≡ self.land.count }
+    {
+        let Window {
+            cells,
+            start: _,
+            base: _,
+            count: _,
+            owner,
+        } = self;
+        match owner {
+            Some(owner) => drop(put_back(span_of(cells), owner)),
+            None => unreachable!(),
+        }
+    }
+}
+
+// The one that is there, where one of them is none.
+fn either<T>(
+    one: Option<Owner<T, Global>>,
+    another: Option<Owner<T, Global>>,
+) -> Option<Owner<T, Global>>
+    requires { one ≡ None ⊎ another ≡ None }
+    ensures { result ≡ option_or one another }
+{
+    match one {
+        None => another,
+        Some(owner) => match another {
+            None => Some(owner),
+            Some(_) => unreachable!(),
+        },
+    }
+}
+
+/// One block of `n` values, in one window. Only this call takes memory; `AllocError` where there was none.
+///
+/// A copy of the value has to be the value itself, since each slot gets one.
+pub fn land<T: Slot + Copy>(alloc: Global, n: usize, value: T) -> Result<Window<T>, AllocError>
+    requires some { 0 < n }
+    requires plain { (y : T) → T.is_clone value y → y ≡ value }
+    ensures { IfOk result (λ w. (w.start ≡ 0) × (w.cells ≡ replicate n value) × (w.land.count ≡ n)) }
+{
+    T::size_law();
+    let mut vec = vec![in alloc; value; n]?;
+    let base = vec.as_mut_ptr();
+    let (span, owner) = take_out(vec);
+    Ok(Window {
+        cells: vec_over(base, n, span),
+        start: 0,
+        base,
+        count: n,
+        owner: Some(owner),
+    })
+}

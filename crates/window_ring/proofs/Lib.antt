@@ -1,0 +1,17 @@
+pub mod Steps
+pub mod HandLemmas
+pub mod Since
+pub mod Turns
+pub mod OneRun
+pub mod Handing
+pub mod Fitting
+pub mod Visiting
+pub mod Leaving
+pub mod Again
+pub mod Opens
+pub mod Closes
+pub mod Gathers
+pub mod Starts
+pub mod FrontLemmas
+pub mod FreshLemmas
+pub mod Handover

@@ -1,0 +1,26 @@
+//! The ring: visits of stages come in from any thread, and cells are handed on where they stand in one block.
+//! The layer above uses `Ring::visit` (held by another, or one visit of the machine), `Ring::close` and `one_run`.
+#![tactic(auto)]
+
+mod bell;
+mod closing;
+mod hand;
+mod laws;
+mod making;
+mod opening;
+mod ring;
+mod rule;
+mod stage_seat;
+mod state;
+#[cfg(test)]
+mod tests;
+mod view;
+mod visited;
+
+pub use laws::one_run;
+pub use opening::{NewRing, new_ring};
+pub use ring::Ring;
+pub use stage_seat::StageSeat;
+pub use state::State;
+pub use view::{Key, View};
+pub use visited::Visited;
