@@ -1,4 +1,4 @@
 mod ListLemmas
 mod FitLemmas
 mod EntryLemmas
-mod AgainLemmas
+mod OrderLemmas
