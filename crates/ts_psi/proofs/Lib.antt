@@ -1,3 +1,3 @@
 mod FitLemmas
 mod EntryLemmas
-mod AgainLemmas
+mod OrderLemmas

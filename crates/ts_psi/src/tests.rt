@@ -1,5 +1,10 @@
 //! Worked rows, and each call that takes memory once with enough of it.
 
+ghost use Rattle.std.specs.Prelude.{◌≡◌, IfOk};
+ghost use Rattle.ts_psi.specs.CatTables.{cat_held};
+ghost use Rattle.ts_psi.specs.PatTables.{pat_held};
+ghost use Rattle.ts_psi.specs.PsiTables.{pmt_held};
+
 use crate::{Cat, Component, ComponentList, Pat, PatService, PatServiceList, Pmt};
 use std::alloc::Global;
 use std::test::Fail;
@@ -17,6 +22,30 @@ fn run_of(alloc: Global, bytes: &[u8]) -> Result<TableRun, Fail> {
     let mut sections = Vec::new(alloc);
     sections.push(Section::parse(alloc, bytes)?)?;
     Ok(TableRun::of(sections)?)
+}
+
+/// A PAT through its sections.
+fn pat_again(alloc: Global, pat: &Pat) -> Result<Pat, Fail>
+    ensures { IfOk result (λ p. pat_held p ≡ pat_held pat.now) }
+{
+    let run = TableRun::of(pat.sections(alloc)?)?;
+    Ok(Pat::read(alloc, &run)?)
+}
+
+/// A CAT through its sections.
+fn cat_again(alloc: Global, cat: &Cat) -> Result<Cat, Fail>
+    ensures { IfOk result (λ c. cat_held c ≡ cat_held cat.now) }
+{
+    let run = TableRun::of(cat.sections(alloc)?)?;
+    Ok(Cat::read(alloc, &run)?)
+}
+
+/// A PMT through its section.
+fn pmt_again(alloc: Global, pmt: &Pmt) -> Result<Pmt, Fail>
+    ensures { IfOk result (λ p. pmt_held p ≡ pmt_held pmt.now) }
+{
+    let run = TableRun::of(pmt.sections(alloc)?)?;
+    Ok(Pmt::read(alloc, &run)?)
 }
 
 #[test]
@@ -55,6 +84,9 @@ fn a_network_entry(rt: HostRuntime) -> Result<(), Fail> {
         sections[0].body(),
         [0, 0, 0xE0, 0x10, 0, 7, 0xE1, 0].as_slice()
     );
+    let again = pat_again(alloc, &pat)?;
+    assert_eq!(rt; again.network_pid, Some(16));
+    assert_eq!(rt; again.services.as_slice().len(), 1);
     Ok(())
 }
 
@@ -72,7 +104,7 @@ fn an_empty_cat(rt: HostRuntime) -> Result<(), Fail> {
         0x01, 0xB0, 0x09, 0xFF, 0xFF, 0xC1, 0x00, 0x00, 0xD6, 0x6D, 0xA2, 0x42,
     ];
     assert_eq!(rt; sections[0].bytes(), bytes.as_slice());
-    let again = Cat::read(alloc, &TableRun::of(sections)?)?;
+    let again = cat_again(alloc, &cat)?;
     assert_eq!(rt; again.descriptors.as_slice().len(), 0);
     Ok(())
 }
@@ -107,7 +139,7 @@ fn the_longest_pmt(rt: HostRuntime) -> Result<(), Fail> {
     let sections = pmt_with(alloc, 230)?.copy()?.sections(alloc)?;
     assert_eq!(rt; sections.len(), 1);
     assert_eq!(rt; sections[0].bytes().len(), 1024);
-    let again = Pmt::read(alloc, &TableRun::of(sections)?)?;
+    let again = pmt_again(alloc, &pmt_with(alloc, 230)?)?;
     assert_eq!(rt; again.descriptors.as_slice().len(), 4);
     assert_eq!(rt; again.components.as_slice().len(), 1);
     let past = pmt_with(alloc, 231)?.sections(alloc).err();

@@ -1,10 +1,10 @@
 -- The sections of a table are a whole run.
 use Rattle.std.proofs.Common.{◌≡◌, ℕ, zero, suc, ◌+◌, ◌-◌, ◌<◌, ◌≤◌, Bool, true, false, List, [], ◌∷◌, length, get_or, map, refl, sym, ap, ◌∙◌, subst, arith, inl, inr}
-use Rattle.std.specs.Prelude.{IsTrue, Option, Some, None, Result, Ok, Err, All, ◌&&◌, ◌||◌, not, nat_eq, nat_lt, nat_le, if◌then◌else◌}
-use Rattle.std.specs.List.{list_all, list_any}
-use Rattle.std.proofs.lemmas.Bool.{cases_Bool, and_parts, or_cases, and_right, le-leb, leb-true, ltb-true, lt-leb, not_from_true, false_from_ne_true}
+use Rattle.std.specs.Prelude.{IsTrue, Option, Some, None, Ok, All, ◌&&◌, nat_lt, nat_le}
+use Rattle.std.specs.List.{list_all}
+use Rattle.std.proofs.lemmas.Bool.{cases_Bool, and_parts, or_cases, and_right, le-leb, leb-true, ltb-true, lt-leb}
 use Rattle.std.proofs.lemmas.List.{length-map}
-use Rattle.std.proofs.lemmas.List.Elements.{All-head, All-tail, All-cons, All-nil}
+use Rattle.std.proofs.lemmas.List.Elements.{All-head, All-tail}
 use Rattle.ts_fields.specs.Layout.{Held}
 use Rattle.ts_section.specs.SectionFields.{is_long, table_id_of, last_number_of}
 use Rattle.ts_section.specs.SectionRun.{stands_alone, IsMember, AllMembers, IsTableRun}
@@ -22,7 +22,7 @@ use Rattle.ts_table_rows.proofs.BodyLemmas.{keeps_single}
 use Rattle.ts_table_rows.proofs.AgainBits.{ReadAgain}
 use Rattle.ts_table_rows.proofs.AgainBody.{Serves}
 use Rattle.ts_table_rows.proofs.AgainPieces.{Bodies, bodies-of}
-use Rattle.ts_table_rows.proofs.AgainRun.{MadeLawful, first-made, last-small, counted, first_numbered, none_numbered, then_written}
+use Rattle.ts_table_rows.proofs.AgainRun.{MadeLawful, first-made, last-small, counted, first_numbered, then_written}
 
 -- ---- table_ids
 

@@ -2,7 +2,7 @@ use Rattle.std.proofs.Common.{map, sym, ap, ◌∙◌, arith}
 use Rattle.std.specs.List.{list_all}
 use Rattle.ts_psi.specs.PatTables.{service_item, service_serves}
 use Rattle.ts_psi.proofs.FitLemmas.{pat_fits}
-use Rattle.ts_psi.proofs.AgainLemmas.{pat_ordered}
+use Rattle.ts_psi.proofs.OrderLemmas.{pat_ordered}
 use Rattle.ts_psi.proofs.pat.Pat.table.Goals as goal
 
 pub returns-clause-fits : goal.returns-clause-fits
