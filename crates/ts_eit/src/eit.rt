@@ -44,8 +44,9 @@ pub struct Eit {
 }
 
 impl Eit {
-    ghost use Rattle.std.specs.Prelude.{◌≡◌, IfOk, OnOk, map, true};
+    ghost use Rattle.std.specs.Prelude.{◌≡◌, IfOk, Ok, OnOk, map, true};
     ghost use Rattle.ts_fields.specs.Layout.{held};
+    ghost use Rattle.ts_section.specs.SectionRun.{IsTableRun};
     ghost use Rattle.ts_table_rows.specs.RunReading.{Tells, read_run};
     ghost use Rattle.ts_table_rows.specs.TableFitting.{table_fits, values_fit};
     ghost use Rattle.ts_table_rows.specs.TableSections.{Writes, sections_of};
@@ -125,9 +126,11 @@ impl Eit {
     }
 
     /// The one section of the EIT, with its own numbers; `TooLarge` exactly where its section_length would
-    /// pass 4093.
+    /// pass 4093. It is a whole run, and reading it gives the EIT.
     pub fn sections(&self, alloc: Global) -> Result<Vec<Section>, TableRefusal>
-        ensures { Writes (λ v. v.items) result (sections_of eit_page (eit_held self.now)) }
+        ensures written { Writes (λ v. v.items) result (sections_of eit_page (eit_held self.now)) }
+        ensures whole { IfOk result (λ v. IsTableRun v.items) }
+        ensures again { IfOk result (λ v. read_run eit_page v.items ≡ Ok (eit_held self.now)) }
     {
         let table = self.table(alloc)?;
         let sections = write_table(alloc, eit_layout(), &table)?;

@@ -28,7 +28,8 @@ pub struct Bat {
 }
 
 impl Bat {
-    ghost use Rattle.std.specs.Prelude.{◌≡◌, IfOk, OnOk, true};
+    ghost use Rattle.std.specs.Prelude.{◌≡◌, IfOk, Ok, OnOk, true};
+    ghost use Rattle.ts_section.specs.SectionRun.{IsTableRun};
     ghost use Rattle.ts_table_rows.specs.RunReading.{Tells, read_run};
     ghost use Rattle.ts_table_rows.specs.TableFitting.{table_fits};
     ghost use Rattle.ts_table_rows.specs.TableSections.{Writes, sections_of};
@@ -87,9 +88,12 @@ impl Bat {
 
     /// The sections of the BAT, filled in order, the descriptors of the bouquet before the first stream.
     /// `TooLarge` comes where one of these descriptors or one stream alone would pass a section_length of
-    /// 1021, `TooMany` where more than 256 sections would be needed.
+    /// 1021, `TooMany` where more than 256 sections would be needed. They are a whole run, and reading it gives
+    /// the BAT.
     pub fn sections(&self, alloc: Global) -> Result<Vec<Section>, TableRefusal>
-        ensures { Writes (λ v. v.items) result (sections_of bat_page (bat_held self.now)) }
+        ensures written { Writes (λ v. v.items) result (sections_of bat_page (bat_held self.now)) }
+        ensures whole { IfOk result (λ v. IsTableRun v.items) }
+        ensures again { IfOk result (λ v. read_run bat_page v.items ≡ Ok (bat_held self.now)) }
     {
         let table = self.table(alloc)?;
         let sections = write_table(alloc, bat_layout(), &table)?;

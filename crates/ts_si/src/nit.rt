@@ -30,7 +30,8 @@ pub struct Nit {
 }
 
 impl Nit {
-    ghost use Rattle.std.specs.Prelude.{◌≡◌, IfOk, OnOk, true};
+    ghost use Rattle.std.specs.Prelude.{◌≡◌, IfOk, Ok, OnOk, true};
+    ghost use Rattle.ts_section.specs.SectionRun.{IsTableRun};
     ghost use Rattle.ts_table_rows.specs.RunReading.{Tells, read_run};
     ghost use Rattle.ts_table_rows.specs.TableFitting.{table_fits};
     ghost use Rattle.ts_table_rows.specs.TableSections.{Writes, sections_of};
@@ -91,9 +92,12 @@ impl Nit {
 
     /// The sections of the NIT, filled in order, the descriptors of the network before the first stream.
     /// `TooLarge` comes where one of these descriptors or one stream alone would pass a section_length of
-    /// 1021, `TooMany` where more than 256 sections would be needed.
+    /// 1021, `TooMany` where more than 256 sections would be needed. They are a whole run, and reading it gives
+    /// the NIT.
     pub fn sections(&self, alloc: Global) -> Result<Vec<Section>, TableRefusal>
-        ensures { Writes (λ v. v.items) result (sections_of nit_page (nit_held self.now)) }
+        ensures written { Writes (λ v. v.items) result (sections_of nit_page (nit_held self.now)) }
+        ensures whole { IfOk result (λ v. IsTableRun v.items) }
+        ensures again { IfOk result (λ v. read_run nit_page v.items ≡ Ok (nit_held self.now)) }
     {
         let table = self.table(alloc)?;
         let sections = write_table(alloc, nit_layout(), &table)?;

@@ -31,7 +31,8 @@ pub struct Sdt {
 }
 
 impl Sdt {
-    ghost use Rattle.std.specs.Prelude.{◌≡◌, IfOk, OnOk, true};
+    ghost use Rattle.std.specs.Prelude.{◌≡◌, IfOk, Ok, OnOk, true};
+    ghost use Rattle.ts_section.specs.SectionRun.{IsTableRun};
     ghost use Rattle.ts_table_rows.specs.RunReading.{Tells, read_run};
     ghost use Rattle.ts_table_rows.specs.TableFitting.{table_fits};
     ghost use Rattle.ts_table_rows.specs.TableSections.{Writes, sections_of};
@@ -91,9 +92,12 @@ impl Sdt {
     }
 
     /// The sections of the SDT, filled in order. `TooLarge` comes where a service alone would pass a
-    /// section_length of 1021, `TooMany` where more than 256 sections would be needed.
+    /// section_length of 1021, `TooMany` where more than 256 sections would be needed. They are
+    /// a whole run, and reading it gives the SDT.
     pub fn sections(&self, alloc: Global) -> Result<Vec<Section>, TableRefusal>
-        ensures { Writes (λ v. v.items) result (sections_of sdt_page (sdt_held self.now)) }
+        ensures written { Writes (λ v. v.items) result (sections_of sdt_page (sdt_held self.now)) }
+        ensures whole { IfOk result (λ v. IsTableRun v.items) }
+        ensures again { IfOk result (λ v. read_run sdt_page v.items ≡ Ok (sdt_held self.now)) }
     {
         let table = self.table(alloc)?;
         let sections = write_table(alloc, sdt_layout(), &table)?;
