@@ -1,38 +1,20 @@
-ghost use Rattle.std.specs.Prelude.{◌≡◌, IfOk, []};
-ghost use Rattle.plug_set.specs.Items.{rule_of_item};
-ghost use Rattle.plug_set.specs.Plugins.{steady_of};
+ghost use Rattle.std.specs.Prelude.{◌≡◌};
 
-use crate::plugin_item::PluginItem;
 use crate::some_plugin::SomePlugin;
 use plugin_trait::{Line, Outcome, Plugin};
-use std::alloc::{AllocError, Global};
+use std::alloc::AllocError;
 use ts_packet::{Cell, Labels};
 
-/// A plugin of the chain. It is shown every cell as it is, or, where it has labels, a packet with none of them as a
-/// dropped one, which stays as it is.
+/// A plugin that is shown every cell as it is, or, where it has labels, a packet with none of them as a dropped one,
+/// which stays as it is.
 #[derive(Drop, Debug)]
-pub struct AnyPlugin {
-    plugin: SomePlugin,
-    only: Option<Labels>,
+pub(crate) struct MaskedPlugin {
+    pub(crate) plugin: SomePlugin,
+    pub(crate) only: Option<Labels>,
 }
 
-impl AnyPlugin {
-    ghost use Rattle.plug_set.specs.Items.{IsLawfulItem};
+impl MaskedPlugin {
     ghost use Rattle.plug_set.specs.OnlyLabels.{shows};
-
-    /// The plugin of this item, which met no cell yet. `buffer` is the number of positions that the chain holds: for
-    /// so many behind the last mark most plugins take their room here.
-    pub fn of(alloc: Global, item: &PluginItem, buffer: usize) -> Result<AnyPlugin, AllocError>
-        requires { IsLawfulItem item.now }
-        ensures rule { IfOk result (λ plugin. ⟦<AnyPlugin as Plugin>⟧.rule plugin ≡ rule_of_item item.now) }
-        ensures fresh { IfOk result (λ plugin. ⟦<AnyPlugin as Plugin>⟧.stands_for plugin [] 0) }
-        ensures steady { IfOk result (λ plugin. ⟦<AnyPlugin as Plugin>⟧.steady plugin ≡ steady_of item.now.conf buffer) }
-    {
-        Ok(AnyPlugin {
-            plugin: SomePlugin::of(alloc, &item.conf, buffer)?,
-            only: item.labels(),
-        })
-    }
 
     // Whether the plugin is shown the cell as it is.
     #[inline]
@@ -49,7 +31,7 @@ impl AnyPlugin {
     }
 }
 
-impl Plugin for AnyPlugin {
+impl Plugin for MaskedPlugin {
     ghost use Rattle.plug_set.specs.contracts.some_plugin.SomePluginPlugin.TheImpl.Laws.{lawful as some_laws};
     ghost use Rattle.plug_set.specs.OnlyLabels.{rule_for, shown, starts_open_for};
 
@@ -59,6 +41,7 @@ impl Plugin for AnyPlugin {
 
     ghost steady = { λ s. ⟦<SomePlugin as Plugin>⟧.steady s.plugin };
 
+    #[inline]
     fn step(&mut self, at: u64, cell: &mut Cell) -> Outcome {
         if self.shows(cell) {
             return self.plugin.step(at, cell);

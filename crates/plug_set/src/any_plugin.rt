@@ -1,0 +1,72 @@
+ghost use Rattle.std.specs.Prelude.{◌≡◌, IfOk, []};
+ghost use Rattle.plug_set.specs.Items.{rule_of_item};
+ghost use Rattle.plug_set.specs.Plugins.{steady_of};
+
+use crate::masked_plugin::MaskedPlugin;
+use crate::plugin_item::PluginItem;
+use crate::some_plugin::SomePlugin;
+use plugin_trait::{Applied, Line, Outcome, Plugin};
+use std::alloc::{AllocError, Global};
+use ts_packet::Cell;
+
+/// A plugin of the chain, which sees every packet, or those alone that have one of its labels.
+#[derive(Drop, Debug)]
+pub struct AnyPlugin {
+    masked: MaskedPlugin,
+}
+
+impl AnyPlugin {
+    ghost use Rattle.plug_set.specs.Items.{IsLawfulItem};
+
+    /// The plugin of this item, which met no cell yet. `buffer` is the number of positions that the chain holds: for
+    /// so many behind the last mark most plugins take their room here.
+    pub fn of(alloc: Global, item: &PluginItem, buffer: usize) -> Result<AnyPlugin, AllocError>
+        requires { IsLawfulItem item.now }
+        ensures rule { IfOk result (λ plugin. ⟦<AnyPlugin as Plugin>⟧.rule plugin ≡ rule_of_item item.now) }
+        ensures fresh { IfOk result (λ plugin. ⟦<AnyPlugin as Plugin>⟧.stands_for plugin [] 0) }
+        ensures steady { IfOk result (λ plugin. ⟦<AnyPlugin as Plugin>⟧.steady plugin ≡ steady_of item.now.conf buffer) }
+    {
+        Ok(AnyPlugin {
+            masked: MaskedPlugin {
+                plugin: SomePlugin::of(alloc, &item.conf, buffer)?,
+                only: item.labels(),
+            },
+        })
+    }
+}
+
+impl Plugin for AnyPlugin {
+    ghost use Rattle.plug_set.specs.contracts.masked_plugin.MaskedPluginPlugin.TheImpl.Laws.{lawful as masked_laws};
+
+    ghost rule = { λ s. ⟦<MaskedPlugin as Plugin>⟧.rule s.masked };
+
+    ghost stands_for = { λ s. ⟦<MaskedPlugin as Plugin>⟧.stands_for s.masked };
+
+    ghost steady = { λ s. ⟦<MaskedPlugin as Plugin>⟧.steady s.masked };
+
+    fn step(&mut self, at: u64, cell: &mut Cell) -> Outcome {
+        self.masked.step(at, cell)
+    }
+
+    // A plugin that sees every packet takes the whole window in one call.
+    fn steps(&mut self, at: u64, cells: &mut [Cell], noted: &mut bool) -> Applied {
+        match self.masked.only {
+            None => self.masked.plugin.steps(at, cells, noted),
+            Some(_) => self.masked.steps(at, cells, noted),
+        }
+    }
+
+    fn note(&mut self, written: u64) -> Result<(), AllocError> {
+        self.masked.note(written)
+    }
+
+    fn agreed(&self) -> bool {
+        self.masked.agreed()
+    }
+
+    fn finish(&mut self, cut: u64) -> Result<Vec<Line>, AllocError> {
+        self.masked.finish(cut)
+    }
+
+    ghost starts_open = { λ plugin. masked_laws.starts_open plugin.masked };
+}
