@@ -46,6 +46,7 @@ impl Plugin for Remap {
 
     ghost steady = { λ s. Some s.buffer };
 
+    #[inline]
     fn step(&mut self, _at: u64, cell: &mut Cell) -> Outcome {
         let Cell::Live(packet, _) = cell else {
             return Outcome::Pass;

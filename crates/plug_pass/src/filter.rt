@@ -51,6 +51,7 @@ impl Filter {
     }
 
     // Whether one of the conditions that are given holds of the packet or of its labels.
+    #[inline]
     fn meets_condition(&self, packet: &Packet, labels: Labels) -> bool
         ensures { result ≡ meets_condition (conf_of self.now) packet.now labels }
     {
@@ -62,6 +63,7 @@ impl Filter {
     }
 
     // Whether the packet is selected.
+    #[inline]
     fn selects(&self, packet: &Packet, labels: Labels) -> bool
         ensures { result ≡ selects (conf_of self.now) packet.now labels }
     {
@@ -80,6 +82,7 @@ impl Plugin for Filter {
 
     ghost steady = { λ s. Some s.buffer };
 
+    #[inline]
     fn step(&mut self, _at: u64, cell: &mut Cell) -> Outcome {
         let Cell::Live(packet, labels) = cell else {
             return Outcome::Pass;

@@ -48,6 +48,7 @@ impl Plugin for Skip {
 
     ghost steady = { λ s. Some s.buffer };
 
+    #[inline]
     fn step(&mut self, _at: u64, cell: &mut Cell) -> Outcome {
         if let Cell::Live(..) = cell {
             if self.left > 0 {

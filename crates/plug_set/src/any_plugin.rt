@@ -2,23 +2,21 @@ ghost use Rattle.std.specs.Prelude.{◌≡◌, IfOk, []};
 ghost use Rattle.plug_set.specs.Items.{rule_of_item};
 ghost use Rattle.plug_set.specs.Plugins.{steady_of};
 
+use crate::masked_plugin::MaskedPlugin;
 use crate::plugin_item::PluginItem;
 use crate::some_plugin::SomePlugin;
-use plugin_trait::{Line, Outcome, Plugin};
+use plugin_trait::{Applied, Line, Outcome, Plugin};
 use std::alloc::{AllocError, Global};
-use ts_packet::{Cell, Labels};
+use ts_packet::Cell;
 
-/// A plugin of the chain. It is shown every cell as it is, or, where it has labels, a packet with none of them as a
-/// dropped one, which stays as it is.
+/// A plugin of the chain, which sees every packet, or those alone that have one of its labels.
 #[derive(Drop, Debug)]
 pub struct AnyPlugin {
-    plugin: SomePlugin,
-    only: Option<Labels>,
+    masked: MaskedPlugin,
 }
 
 impl AnyPlugin {
     ghost use Rattle.plug_set.specs.Items.{IsLawfulItem};
-    ghost use Rattle.plug_set.specs.OnlyLabels.{shows};
 
     /// The plugin of this item, which met no cell yet. `buffer` is the number of positions that the chain holds: for
     /// so many behind the last mark most plugins take their room here.
@@ -29,57 +27,46 @@ impl AnyPlugin {
         ensures steady { IfOk result (λ plugin. ⟦<AnyPlugin as Plugin>⟧.steady plugin ≡ steady_of item.now.conf buffer) }
     {
         Ok(AnyPlugin {
-            plugin: SomePlugin::of(alloc, &item.conf, buffer)?,
-            only: item.labels(),
-        })
-    }
-
-    // Whether the plugin is shown the cell as it is.
-    #[inline]
-    fn shows(&self, cell: &Cell) -> bool
-        ensures { result ≡ shows self.now.only cell.now }
-    {
-        match self.only {
-            Some(only) => match cell {
-                Cell::Live(_, labels) => labels.shares(only),
-                Cell::Dropped => true,
+            masked: MaskedPlugin {
+                plugin: SomePlugin::of(alloc, &item.conf, buffer)?,
+                only: item.labels(),
             },
-            None => true,
-        }
+        })
     }
 }
 
 impl Plugin for AnyPlugin {
-    ghost use Rattle.plug_set.specs.contracts.some_plugin.SomePluginPlugin.TheImpl.Laws.{lawful as some_laws};
-    ghost use Rattle.plug_set.specs.OnlyLabels.{rule_for, shown, starts_open_for};
+    ghost use Rattle.plug_set.specs.contracts.masked_plugin.MaskedPluginPlugin.TheImpl.Laws.{lawful as masked_laws};
 
-    ghost rule = { λ s. rule_for s.only (⟦<SomePlugin as Plugin>⟧.rule s.plugin) };
+    ghost rule = { λ s. ⟦<MaskedPlugin as Plugin>⟧.rule s.masked };
 
-    ghost stands_for = { λ s history mark. ⟦<SomePlugin as Plugin>⟧.stands_for s.plugin (shown s.only history) mark };
+    ghost stands_for = { λ s. ⟦<MaskedPlugin as Plugin>⟧.stands_for s.masked };
 
-    ghost steady = { λ s. ⟦<SomePlugin as Plugin>⟧.steady s.plugin };
+    ghost steady = { λ s. ⟦<MaskedPlugin as Plugin>⟧.steady s.masked };
 
     fn step(&mut self, at: u64, cell: &mut Cell) -> Outcome {
-        if self.shows(cell) {
-            return self.plugin.step(at, cell);
+        self.masked.step(at, cell)
+    }
+
+    // A plugin that sees every packet takes the whole window in one call.
+    fn steps(&mut self, at: u64, cells: &mut [Cell], noted: &mut bool) -> Applied {
+        match self.masked.only {
+            None => self.masked.plugin.steps(at, cells, noted),
+            Some(_) => self.masked.steps(at, cells, noted),
         }
-        let mut unseen = Cell::Dropped;
-        self.plugin.step(at, &mut unseen)
     }
 
     fn note(&mut self, written: u64) -> Result<(), AllocError> {
-        self.plugin.note(written)
+        self.masked.note(written)
     }
 
     fn agreed(&self) -> bool {
-        self.plugin.agreed()
+        self.masked.agreed()
     }
 
     fn finish(&mut self, cut: u64) -> Result<Vec<Line>, AllocError> {
-        self.plugin.finish(cut)
+        self.masked.finish(cut)
     }
 
-    ghost starts_open = { λ plugin history mark stands. starts_open_for plugin.only
-        (⟦<SomePlugin as Plugin>⟧.rule plugin.plugin)
-        (some_laws.starts_open plugin.plugin (shown plugin.only history) mark stands) };
+    ghost starts_open = { λ plugin. masked_laws.starts_open plugin.masked };
 }

@@ -3,6 +3,7 @@
 #![tactic(auto)]
 
 mod any_plugin;
+mod masked_plugin;
 mod plugin_conf;
 mod plugin_item;
 mod some_plugin;

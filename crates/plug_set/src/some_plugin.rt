@@ -6,7 +6,7 @@ use plug_end::Until;
 use plug_move::Remap;
 use plug_pass::{Filter, Pattern, Skip, Slice};
 use plug_watch::{Continuity, Count};
-use plugin_trait::{Line, Outcome, Plugin};
+use plugin_trait::{Applied, Line, Outcome, Plugin};
 use std::alloc::{AllocError, Global};
 use ts_packet::Cell;
 
@@ -100,6 +100,19 @@ impl Plugin for SomePlugin {
             SomePlugin::Count(plugin) => plugin.step(at, cell),
             SomePlugin::Continuity(plugin) => plugin.step(at, cell),
             SomePlugin::Remap(plugin) => plugin.step(at, cell),
+        }
+    }
+
+    fn steps(&mut self, at: u64, cells: &mut [Cell], noted: &mut bool) -> Applied {
+        match self {
+            SomePlugin::Filter(plugin) => plugin.steps(at, cells, noted),
+            SomePlugin::Skip(plugin) => plugin.steps(at, cells, noted),
+            SomePlugin::Slice(plugin) => plugin.steps(at, cells, noted),
+            SomePlugin::Pattern(plugin) => plugin.steps(at, cells, noted),
+            SomePlugin::Until(plugin) => plugin.steps(at, cells, noted),
+            SomePlugin::Count(plugin) => plugin.steps(at, cells, noted),
+            SomePlugin::Continuity(plugin) => plugin.steps(at, cells, noted),
+            SomePlugin::Remap(plugin) => plugin.steps(at, cells, noted),
         }
     }
 

@@ -125,6 +125,7 @@ impl Plugin for Continuity {
 
     ghost steady = { λ s. None };
 
+    #[inline]
     fn step(&mut self, at: u64, cell: &mut Cell) -> Outcome {
         let Cell::Live(packet, _) = cell else {
             return Outcome::Pass;

@@ -67,6 +67,7 @@ impl Plugin for Count {
 
     ghost steady = { λ s. if s.all then None else Some s.buffer };
 
+    #[inline]
     fn step(&mut self, at: u64, cell: &mut Cell) -> Outcome {
         let Cell::Live(packet, _) = cell else {
             return Outcome::Pass;

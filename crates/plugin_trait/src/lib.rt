@@ -11,7 +11,7 @@ mod plugin;
 mod reporting;
 
 pub use chain_model::Reason;
-pub use driver::{apply_from, apply_plugin};
+pub use driver::apply_plugin;
 pub use line::Line;
 pub use line_text::LineText;
 pub use list_end::{Applied, ListEnd};

@@ -1,4 +1,5 @@
-use crate::{Line, Outcome};
+use crate::driver::note_agreement;
+use crate::{Applied, Line, ListEnd, Outcome};
 use std::alloc::AllocError;
 use ts_packet::Cell;
 
@@ -8,9 +9,13 @@ use ts_packet::Cell;
 /// it was told. It is a relation, since the value keeps less than the list: a call asks for one list
 /// and mark that the value stands for, and what it promises holds for each.
 pub trait Plugin {
-    ghost use Rattle.std.specs.Prelude.{◌≡◌, ◌≢◌, ◌<◌, ◌+◌, ◌^◌, ◌≤◌, ℕ, List, [], Bool, true, false, Option, Some, IsOk, IfOk, IsSome, take, length};
+    ghost use Rattle.std.specs.Prelude.{◌≡◌, ◌≢◌, ◌<◌, ◌+◌, ◌^◌, ◌≤◌, ℕ, List, [], ◌++◌, Bool, true, false, Option, Some, IsOk, IfOk, IsSome, is_some, take, drop, length};
     ghost use Rattle.ts_packet.specs.declared.cell.Cell.{Cell};
+    ghost use Rattle.chain_model.specs.declared.positions.TheConstants.{POSITION_LIMIT};
+    ghost use Rattle.chain_model.specs.Apply.{apply_after};
+    ghost use Rattle.chain_model.specs.Joint.{agreement_of};
     ghost use Rattle.chain_model.specs.PluginRule.{PluginRule};
+    ghost use Rattle.plugin_trait.specs.Driving.{Makes, made_so_far, TellsAgreement, HasRoomFor};
     ghost use Rattle.plugin_trait.specs.Steps.{MeetsCells, MeetsSome, Tells, Meets, HasRoom};
     ghost use Rattle.plugin_trait.specs.Marks.{AllowsMark, Notes};
     ghost use Rattle.plugin_trait.specs.PlacedLines.{placed_of};
@@ -38,6 +43,70 @@ pub trait Plugin {
         ensures same_rule { rule self.new ≡ rule self.old }
         ensures same_steady { steady self.new ≡ steady self.old }
         ensures room { HasRoom (steady self.old) (stands_for self.old) at → result ≢ Outcome.NoMemory };
+
+    /// Takes the cells from a position on, in place, until the plugin ends its list.
+    ///
+    /// The cells behind the plugin's own list are as they were. `noted` says whether the plugin agreed before; where it
+    /// did not, its agreement is answered and noted. Memory is wanted only where the plugin made no room for the notes
+    /// on all these cells.
+    fn steps(&mut self, at: u64, cells: &mut [Cell], noted: &mut bool) -> Applied
+        requires met { MeetsCells (stands_for self.old) at }
+        requires in_range { at + length cells.old ≤ POSITION_LIMIT }
+        ensures count { result.count ≤ length cells.old }
+        ensures rest { drop result.count cells.new ≡ drop result.count cells.old }
+        ensures makes { (history : List Cell) (mark : ℕ) → stands_for self.old history mark
+            → length history ≡ at
+            → Makes (apply_after (rule self.old) history cells.old) (take result.count cells.new) result.end }
+        ensures far { (history : List Cell) (mark : ℕ) → stands_for self.old history mark
+            → length history ≡ at
+            → apply_after (rule self.old) history (take result.count cells.old)
+            ≡ made_so_far (take result.count cells.new) result.end }
+        ensures met { (history : List Cell) (mark : ℕ) → stands_for self.old history mark
+            → length history ≡ at
+            → stands_for self.new (history ++ take result.count cells.old) mark }
+        ensures agreed { (history : List Cell) (mark : ℕ) → stands_for self.old history mark
+            → length history ≡ at
+            → noted.old ≡ is_some (agreement_of (rule self.old) history)
+            → TellsAgreement (rule self.old) (history ++ take result.count cells.old)
+            at result.agreed noted.new }
+        ensures same_rule { rule self.new ≡ rule self.old }
+        ensures same_steady { steady self.new ≡ steady self.old }
+        ensures room { HasRoomFor (steady self.old) (stands_for self.old) at (length cells.old)
+            → result.end ≢ ListEnd.NoMemory }
+    {
+        let mut agreed = None;
+        for (i, cell) in cells.iter_mut().enumerate() {
+            let end = match self.step(at + i as u64, cell) {
+                Outcome::Pass | Outcome::Drop => {
+                    let agrees = self.agreed();
+                    agreed = agreed.or(note_agreement(agrees, noted, at + i as u64 + 1));
+                    continue;
+                }
+                Outcome::Last => {
+                    let agrees = self.agreed();
+                    agreed = agreed.or(note_agreement(agrees, noted, at + i as u64 + 1));
+                    return Applied {
+                        count: i + 1,
+                        agreed,
+                        end: ListEnd::Last,
+                    };
+                }
+                Outcome::Stop => ListEnd::Stop,
+                Outcome::Refuse(reason) => ListEnd::Refuse(reason),
+                Outcome::NoMemory => ListEnd::NoMemory,
+            };
+            return Applied {
+                count: i,
+                agreed,
+                end,
+            };
+        }
+        Applied {
+            count: cells.len(),
+            agreed,
+            end: ListEnd::Through,
+        }
+    }
 
     /// Is told that the positions below a mark are written, so that notes on them may be folded.
     /// A mark is not below the marks before it, and not above the number of cells that were met.

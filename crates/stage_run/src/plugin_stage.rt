@@ -4,7 +4,7 @@ ghost use Rattle.stage_run.specs.PluginSteps.{told_by};
 use crate::Work;
 use crate::telling::followed;
 use chain_core::{News, StageEnd, StageWord};
-use plugin_trait::{Applied, ListEnd, Plugin, apply_from};
+use plugin_trait::{Applied, ListEnd, Plugin};
 use ts_outside::Gate;
 use ts_packet::Cell;
 
@@ -101,7 +101,7 @@ impl<P: Plugin> PluginStage<P> {
                 end: ListEnd::NoMemory,
             };
         }
-        apply_from(&mut self.plugin, at, cells, &mut self.agreed)
+        self.plugin.steps(at, cells, &mut self.agreed)
     }
 
     /// Tells the plugin the mark and lets it step over all cells, between the gate's two calls.

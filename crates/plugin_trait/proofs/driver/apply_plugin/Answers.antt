@@ -9,7 +9,7 @@ pub returns-clause-makes : goal.returns-clause-makes
 returns-clause-makes g c =
     let rule = g.P.Plugin.rule c.args.plugin.now in
     let met = c.requires.met in
-    let applied = c.apply_from-applied in
+    let applied = c.steps-applied in
     let made : List Cell = applied.new.cells in
     let rest : List Cell = drop (length made) c.args.cells.now.items in
     let few : applied.result.count ≤ length made = omega (arith, applied.ensures.count) in

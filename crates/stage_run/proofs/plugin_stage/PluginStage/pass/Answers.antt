@@ -41,28 +41,28 @@ pub returns-clause-makes : goal.returns-clause-makes
 returns-clause-makes g c = λ history mark allows.
     let holds = noted g.P.Plugin.stands_for c.note.new.self history c.args.written mark _ c.is_err.result c.is_err.ensures.negation c.if-is_err.false
     (c.note.ensures.notes history mark allows.holds allows.not_below (omega (arith, allows.within, allows.count))) in
-    subst (λ (r : PluginRule). Makes (apply_after r history c.args.cells.now) (take c.apply_from.result.count c.apply_from.new.cells) c.apply_from.result.end)
-    c.note.ensures.same_rule (c.apply_from.ensures.makes history c.args.written holds allows.count)
+    subst (λ (r : PluginRule). Makes (apply_after r history c.args.cells.now) (take c.steps.result.count c.steps.new.cells) c.steps.result.end)
+    c.note.ensures.same_rule (c.steps.ensures.makes history c.args.written holds allows.count)
 
 pub returns-clause-far : goal.returns-clause-far
 returns-clause-far g c = λ history mark allows.
     let holds = noted g.P.Plugin.stands_for c.note.new.self history c.args.written mark _ c.is_err.result c.is_err.ensures.negation c.if-is_err.false
     (c.note.ensures.notes history mark allows.holds allows.not_below (omega (arith, allows.within, allows.count))) in
-    subst (λ (r : PluginRule). apply_after r history (take c.apply_from.result.count c.args.cells.now) ≡ made_so_far (take c.apply_from.result.count c.apply_from.new.cells) c.apply_from.result.end)
-    c.note.ensures.same_rule (c.apply_from.ensures.far history c.args.written holds allows.count)
+    subst (λ (r : PluginRule). apply_after r history (take c.steps.result.count c.args.cells.now) ≡ made_so_far (take c.steps.result.count c.steps.new.cells) c.steps.result.end)
+    c.note.ensures.same_rule (c.steps.ensures.far history c.args.written holds allows.count)
 
 pub returns-clause-met : goal.returns-clause-met
 returns-clause-met g c = λ history mark allows.
     let holds = noted g.P.Plugin.stands_for c.note.new.self history c.args.written mark _ c.is_err.result c.is_err.ensures.negation c.if-is_err.false
     (c.note.ensures.notes history mark allows.holds allows.not_below (omega (arith, allows.within, allows.count))) in
-    record { mark = c.args.written; holds = c.apply_from.ensures.met history c.args.written holds allows.count; below = omega arith; told = λ fine. refl }
+    record { mark = c.args.written; holds = c.steps.ensures.met history c.args.written holds allows.count; below = omega arith; told = λ fine. refl }
 
 pub returns-clause-agreed : goal.returns-clause-agreed
 returns-clause-agreed g c = λ history mark allows notes.
     let holds = noted g.P.Plugin.stands_for c.note.new.self history c.args.written mark _ c.is_err.result c.is_err.ensures.negation c.if-is_err.false
     (c.note.ensures.notes history mark allows.holds allows.not_below (omega (arith, allows.within, allows.count))) in
-    subst (λ (r : PluginRule). TellsAgreement r (history ++ take c.apply_from.result.count c.args.cells.now) c.args.at c.apply_from.result.agreed c.apply_from.new.noted)
-    c.note.ensures.same_rule (c.apply_from.ensures.agreed history c.args.written holds allows.count
+    subst (λ (r : PluginRule). TellsAgreement r (history ++ take c.steps.result.count c.args.cells.now) c.args.at c.steps.result.agreed c.steps.new.noted)
+    c.note.ensures.same_rule (c.steps.ensures.agreed history c.args.written holds allows.count
     (notes ∙ ap (λ (r : PluginRule). is_some (agreement_of r history)) (sym c.note.ensures.same_rule)))
 
 pub returns-clause-room : goal.returns-clause-room
@@ -70,7 +70,7 @@ returns-clause-room g c = λ has.
     let may = c.requires.may in
     let holds = noted g.P.Plugin.stands_for c.note.new.self may.history c.args.written may.mark _ c.is_err.result c.is_err.ensures.negation c.if-is_err.false
     (c.note.ensures.notes may.history may.mark may.allows.holds may.allows.not_below (omega (arith, may.allows.within, may.allows.count))) in
-    c.apply_from.ensures.room (record {
+    c.steps.ensures.room (record {
       history = may.history;
       mark = c.args.written;
       holds = holds;

@@ -1,15 +1,16 @@
-use Rattle.std.proofs.Common.{◌≡◌, ℕ, ◌<◌, ◌+◌, ◌-◌, List, Option, None, Some, [], ◌∷◌, ◌++◌, length, take, drop, get_or, ap, refl, sym, subst, ◌∙◌, arith, length-append, length-take, append-nil, is_some}
+use Rattle.std.proofs.Common.{◌≡◌, ℕ, Bool, ◌<◌, ◌+◌, ◌-◌, List, Option, None, Some, [], ◌∷◌, ◌++◌, length, take, drop, get_or, ap, refl, sym, subst, ◌∙◌, arith, length-append, length-take, append-nil, is_some}
 use Rattle.std.proofs.lemmas.List.{take-set}
 use Rattle.ts_packet.specs.declared.cell.Cell.{Cell}
 use Rattle.chain_model.specs.PluginRule.{PluginRule}
 use Rattle.chain_model.specs.Apply.{StageList, became, apply_after}
 use Rattle.chain_model.specs.Joint.{agreement_of}
 use Rattle.chain_model.proofs.AgreementLaws.{agreement_of-within}
+use Rattle.plugin_trait.specs.Driving.{AgreesNow}
 use Rattle.plugin_trait.specs.Steps.{StepTells, HasRoom, IsSteadyFor}
 use Rattle.plugin_trait.proofs.Going.{half_goes_on, met-more, met_goes_on, tells_goes_on, read_at, same_behind}
 use Rattle.plugin_trait.proofs.FarLemmas.{far_goes_on, far_ends_after}
 use Rattle.plugin_trait.proofs.AgreeingLemmas.{agreed_step, newly_agreed-within}
-use Rattle.plugin_trait.proofs.driver.apply_from.Goals as goal
+use Rattle.plugin_trait.proofs.plugin.Plugin.steps.Goals as goal
 
 -- where room was made for more positions than this one, there is room for it
 room_at : (steady : Option ℕ) (stands : List Cell → ℕ → Type 0) (history : List Cell) (mark at end : ℕ) → stands history mark → length history ≡ at → at < end → IsSteadyFor steady (end - mark) → HasRoom steady stands at
@@ -23,16 +24,16 @@ met_count history given i at count within = simp (length-append, length-take) (o
 
 pub loop-i-init : goal.loop-i-init
 loop-i-init g c = record {
-  met = λ history mark holds count. subst (λ (h : List Cell). g.P.Plugin.stands_for c.args.plugin.now h mark) (sym (append-nil history)) holds;
-  made = λ history mark holds count. ap (λ (h : List Cell). apply_after (g.P.Plugin.rule c.args.plugin.now) h c.args.cells.now) (sym (append-nil history));
+  met = λ history mark holds count. subst (λ (h : List Cell). g.Self.Plugin.stands_for c.args.self.now h mark) (sym (append-nil history)) holds;
+  made = λ history mark holds count. ap (λ (h : List Cell). apply_after (g.Self.Plugin.rule c.args.self.now) h c.args.cells.now) (sym (append-nil history));
   far = λ history mark holds count. refl;
   rest = refl;
   same_rule = refl;
   same_steady = refl;
   agreed = λ history mark holds count notes. record {
-    tells = sym (newly_agreed-within c.args.at (agreement_of (g.P.Plugin.rule c.args.plugin.now) (history ++ []))
-        (λ m is. let few = agreement_of-within (g.P.Plugin.rule c.args.plugin.now) (history ++ []) m is in omega (arith, length-append history [])));
-    notes = notes ∙ ap (λ (h : List Cell). is_some (agreement_of (g.P.Plugin.rule c.args.plugin.now) h)) (sym (append-nil history));
+    tells = sym (newly_agreed-within c.args.at (agreement_of (g.Self.Plugin.rule c.args.self.now) (history ++ []))
+        (λ m is. let few = agreement_of-within (g.Self.Plugin.rule c.args.self.now) (history ++ []) m is in omega (arith, length-append history [])));
+    notes = notes ∙ ap (λ (h : List Cell). is_some (agreement_of (g.Self.Plugin.rule c.args.self.now) h)) (sym (append-nil history));
   };
 }
 
@@ -48,7 +49,7 @@ step-requires-clause-met g c =
 
 pub loop-i-preserved : goal.loop-i-preserved
 loop-i-preserved g c =
-    let rule : PluginRule = g.P.Plugin.rule c.args.plugin.now in
+    let rule : PluginRule = g.Self.Plugin.rule c.args.self.now in
     let cells : List Cell = c.args.cells.now in
     let i : ℕ = c.loop-i.i in
     let cell : Cell = get_or c.loop-i.cells i c.index-cells-i.result in
@@ -59,7 +60,7 @@ loop-i-preserved g c =
           let n = met_count history cells i c.args.at count c.loop-i-test.true in
           let stands = c.step.ensures.meets before mark (c.loop-i.invariant.met history mark holds count) n in
           let more = met_goes_on before cell c.step.result c.in-Pass.is ∙ sym (met-more history cells i cell c.loop-i-test.true is) in
-          subst (λ (met : List Cell). g.P.Plugin.stands_for c.step.new.self met mark) more stands;
+          subst (λ (met : List Cell). g.Self.Plugin.stands_for c.step.new.self met mark) more stands;
       made = λ history mark holds count.
           let before = history ++ take i cells in
           let n = met_count history cells i c.args.at count c.loop-i-test.true in
@@ -81,11 +82,12 @@ loop-i-preserved g c =
       agreed = λ history mark holds count notes.
           let before = history ++ take i cells in
           let n = met_count history cells i c.args.at count c.loop-i-test.true in
-          let stands = subst (λ (met : List Cell). g.P.Plugin.stands_for c.step.new.self met mark) (met_goes_on before cell c.step.result c.in-Pass.is)
+          let stands = subst (λ (met : List Cell). g.Self.Plugin.stands_for c.step.new.self met mark) (met_goes_on before cell c.step.result c.in-Pass.is)
           (c.step.ensures.meets before mark (c.loop-i.invariant.met history mark holds count) n) in
-          agreed_step rule (g.P.Plugin.rule c.step.new.self) history cells i c.args.at cell c.loop-i.agreed c.agree.result c.or-agreed.result c.loop-i.noted c.agree.new.agreed
+          agreed_step rule (g.Self.Plugin.rule c.step.new.self) history cells i c.args.at cell c.loop-i.agreed c.note_agreement.result c.or-agreed.result c.loop-i.noted c.note_agreement.new.noted
           c.loop-i-test.true is count (c.loop-i.invariant.agreed history mark holds count notes)
-          (c.step.ensures.same_rule ∙ c.loop-i.invariant.same_rule) (c.agree.ensures (before ++ cell ∷ []) mark stands) c.or-agreed.ensures;
+          (c.step.ensures.same_rule ∙ c.loop-i.invariant.same_rule) (subst (λ (b : Bool). AgreesNow c.loop-i.noted b (c.args.at + i + 1) c.note_agreement.result c.note_agreement.new.noted)
+          (c.agreed-agrees.ensures (before ++ cell ∷ []) mark stands) c.note_agreement.ensures) c.or-agreed.ensures;
     }
 
 pub returns-in-Last-clause-met : goal.returns-in-Last-clause-met
@@ -95,12 +97,12 @@ returns-in-Last-clause-met g c = λ history mark holds count.
     let n = met_count history c.args.cells.now c.loop-i.i c.args.at count c.loop-i-test.true in
     let is = read_at c.loop-i.cells c.args.cells.now c.loop-i.i c.index-cells-i.result c.index-cells-i.is c.loop-i.invariant.rest in
     let stands = c.in-Last.ensures.meets before mark (c.loop-i.invariant.met history mark holds count) n in
-    subst (λ (met : List Cell). g.P.Plugin.stands_for c.step.new.self met mark)
+    subst (λ (met : List Cell). g.Self.Plugin.stands_for c.step.new.self met mark)
     (sym (met-more history c.args.cells.now c.loop-i.i cell c.loop-i-test.true is)) stands
 
 pub returns-in-Last-clause-agreed : goal.returns-in-Last-clause-agreed
 returns-in-Last-clause-agreed g c = λ history mark holds count notes.
-    let rule : PluginRule = g.P.Plugin.rule c.args.plugin.now in
+    let rule : PluginRule = g.Self.Plugin.rule c.args.self.now in
     let cells : List Cell = c.args.cells.now in
     let i : ℕ = c.loop-i.i in
     let cell : Cell = get_or c.loop-i.cells i c.index-cells-i.result in
@@ -108,13 +110,14 @@ returns-in-Last-clause-agreed g c = λ history mark holds count notes.
     let before = history ++ take i cells in
     let n = met_count history cells i c.args.at count c.loop-i-test.true in
     let stands = c.in-Last.ensures.meets before mark (c.loop-i.invariant.met history mark holds count) n in
-    agreed_step rule (g.P.Plugin.rule c.step.new.self) history cells i c.args.at cell c.loop-i.agreed c.agree-in-Last.result c.or-agreed-in-Last.result c.loop-i.noted c.agree-in-Last.new.agreed
+    agreed_step rule (g.Self.Plugin.rule c.step.new.self) history cells i c.args.at cell c.loop-i.agreed c.note_agreement-in-Last.result c.or-agreed-in-Last.result c.loop-i.noted c.note_agreement-in-Last.new.noted
     c.loop-i-test.true is count (c.loop-i.invariant.agreed history mark holds count notes)
-    (c.step.ensures.same_rule ∙ c.loop-i.invariant.same_rule) (c.agree-in-Last.ensures (before ++ cell ∷ []) mark stands) c.or-agreed-in-Last.ensures
+    (c.step.ensures.same_rule ∙ c.loop-i.invariant.same_rule) (subst (λ (b : Bool). AgreesNow c.loop-i.noted b (c.args.at + i + 1) c.note_agreement-in-Last.result c.note_agreement-in-Last.new.noted)
+    (c.agreed-agrees-in-Last.ensures (before ++ cell ∷ []) mark stands) c.note_agreement-in-Last.ensures) c.or-agreed-in-Last.ensures
 
 pub returns-in-NoMemory-clause-makes : goal.returns-in-NoMemory-clause-makes
 returns-in-NoMemory-clause-makes g c = λ history mark holds count.
-    let rule = g.P.Plugin.rule c.args.plugin.now in
+    let rule = g.Self.Plugin.rule c.args.self.now in
     let rest = apply_after rule (history ++ take c.loop-i.i c.args.cells.now) (drop c.loop-i.i c.args.cells.now) in (
       rest.cells,
       ap (λ (s : StageList). s.cells) (c.loop-i.invariant.made history mark holds count)
@@ -123,7 +126,7 @@ returns-in-NoMemory-clause-makes g c = λ history mark holds count.
 
 pub returns-in-Last-clause-far : goal.returns-in-Last-clause-far
 returns-in-Last-clause-far g c = λ history mark holds count.
-    let rule : PluginRule = g.P.Plugin.rule c.args.plugin.now in
+    let rule : PluginRule = g.Self.Plugin.rule c.args.self.now in
     let cells : List Cell = c.args.cells.now in
     let i : ℕ = c.loop-i.i in
     let cell : Cell = get_or c.loop-i.cells i c.index-cells-i.result in
@@ -142,5 +145,5 @@ returns-in-NoMemory-clause-room g c = λ has.
     let stands = c.loop-i.invariant.met has.history has.mark has.holds has.count in
     let n = met_count has.history cells i c.args.at has.count c.loop-i-test.true in
     let steady = subst (λ (s : Option ℕ). IsSteadyFor s (c.args.at + length cells - has.mark)) (sym c.loop-i.invariant.same_steady) has.within in
-    absurd (c.step.ensures.room (room_at (g.P.Plugin.steady c.loop-i.plugin) (g.P.Plugin.stands_for c.loop-i.plugin) (has.history ++ take i cells) has.mark (c.args.at + i)
+    absurd (c.step.ensures.room (room_at (g.Self.Plugin.steady c.loop-i.self) (g.Self.Plugin.stands_for c.loop-i.self) (has.history ++ take i cells) has.mark (c.args.at + i)
     (c.args.at + length cells) stands n (omega (arith, c.loop-i-test.true)) steady) c.in-NoMemory.is)

@@ -3,7 +3,7 @@ use Rattle.plugin_trait.specs.declared.line.Line.{Line}
 use Rattle.plug_set.specs.contracts.some_plugin.SomePluginPlugin.TheImpl.{ghosts as some}
 use Rattle.plug_set.specs.OnlyLabels.{shown}
 use Rattle.plug_set.proofs.ShownLemmas.{length-shown, placed-first}
-use Rattle.plug_set.proofs.any_plugin.AnyPluginPlugin.finish.Goals as goal
+use Rattle.plug_set.proofs.masked_plugin.MaskedPluginPlugin.finish.Goals as goal
 
 pub returns : goal.returns
 returns c = λ history mark stands below met.

@@ -1,0 +1,77 @@
+-- Each plugin's own clause, at the plugin that stands there.
+use Rattle.plug_set.proofs.some_plugin.SomePluginPlugin.steps.Goals as goal
+
+pub returns-in-Filter-clause-makes : goal.returns-in-Filter-clause-makes
+returns-in-Filter-clause-makes c = rw c.in-Filter.is c.steps.ensures.makes
+
+pub returns-in-Filter-clause-agreed : goal.returns-in-Filter-clause-agreed
+returns-in-Filter-clause-agreed c = rw c.in-Filter.is c.steps.ensures.agreed
+
+pub returns-in-Skip-clause-makes : goal.returns-in-Skip-clause-makes
+returns-in-Skip-clause-makes c = rw c.in-Skip.is c.steps-in-Skip.ensures.makes
+
+pub returns-in-Skip-clause-far : goal.returns-in-Skip-clause-far
+returns-in-Skip-clause-far c = rw c.in-Skip.is c.steps-in-Skip.ensures.far
+
+pub returns-in-Skip-clause-met : goal.returns-in-Skip-clause-met
+returns-in-Skip-clause-met c = rw c.in-Skip.is c.steps-in-Skip.ensures.met
+
+pub returns-in-Skip-clause-agreed : goal.returns-in-Skip-clause-agreed
+returns-in-Skip-clause-agreed c = rw c.in-Skip.is c.steps-in-Skip.ensures.agreed
+
+pub returns-in-Slice-clause-makes : goal.returns-in-Slice-clause-makes
+returns-in-Slice-clause-makes c = rw c.in-Slice.is c.steps-in-Slice.ensures.makes
+
+pub returns-in-Slice-clause-far : goal.returns-in-Slice-clause-far
+returns-in-Slice-clause-far c = rw c.in-Slice.is c.steps-in-Slice.ensures.far
+
+pub returns-in-Slice-clause-met : goal.returns-in-Slice-clause-met
+returns-in-Slice-clause-met c = rw c.in-Slice.is c.steps-in-Slice.ensures.met
+
+pub returns-in-Slice-clause-agreed : goal.returns-in-Slice-clause-agreed
+returns-in-Slice-clause-agreed c = rw c.in-Slice.is c.steps-in-Slice.ensures.agreed
+
+pub returns-in-Pattern-clause-makes : goal.returns-in-Pattern-clause-makes
+returns-in-Pattern-clause-makes c = rw c.in-Pattern.is c.steps-in-Pattern.ensures.makes
+
+pub returns-in-Pattern-clause-far : goal.returns-in-Pattern-clause-far
+returns-in-Pattern-clause-far c = rw c.in-Pattern.is c.steps-in-Pattern.ensures.far
+
+pub returns-in-Pattern-clause-met : goal.returns-in-Pattern-clause-met
+returns-in-Pattern-clause-met c = rw c.in-Pattern.is c.steps-in-Pattern.ensures.met
+
+pub returns-in-Pattern-clause-agreed : goal.returns-in-Pattern-clause-agreed
+returns-in-Pattern-clause-agreed c = rw c.in-Pattern.is c.steps-in-Pattern.ensures.agreed
+
+pub returns-in-Until-clause-makes : goal.returns-in-Until-clause-makes
+returns-in-Until-clause-makes c = rw c.in-Until.is c.steps-in-Until.ensures.makes
+
+pub returns-in-Until-clause-far : goal.returns-in-Until-clause-far
+returns-in-Until-clause-far c = rw c.in-Until.is c.steps-in-Until.ensures.far
+
+pub returns-in-Until-clause-met : goal.returns-in-Until-clause-met
+returns-in-Until-clause-met c = rw c.in-Until.is c.steps-in-Until.ensures.met
+
+pub returns-in-Until-clause-agreed : goal.returns-in-Until-clause-agreed
+returns-in-Until-clause-agreed c = rw c.in-Until.is c.steps-in-Until.ensures.agreed
+
+pub returns-in-Count-clause-makes : goal.returns-in-Count-clause-makes
+returns-in-Count-clause-makes c = rw c.in-Count.is c.steps-in-Count.ensures.makes
+
+pub returns-in-Continuity-clause-makes : goal.returns-in-Continuity-clause-makes
+returns-in-Continuity-clause-makes c = rw c.in-Continuity.is c.steps-in-Continuity.ensures.makes
+
+pub returns-in-Continuity-clause-far : goal.returns-in-Continuity-clause-far
+returns-in-Continuity-clause-far c = rw c.in-Continuity.is c.steps-in-Continuity.ensures.far
+
+pub returns-in-Continuity-clause-met : goal.returns-in-Continuity-clause-met
+returns-in-Continuity-clause-met c = rw c.in-Continuity.is c.steps-in-Continuity.ensures.met
+
+pub returns-in-Continuity-clause-agreed : goal.returns-in-Continuity-clause-agreed
+returns-in-Continuity-clause-agreed c = rw c.in-Continuity.is c.steps-in-Continuity.ensures.agreed
+
+pub returns-in-Remap-clause-makes : goal.returns-in-Remap-clause-makes
+returns-in-Remap-clause-makes c = rw c.in-Remap.is c.steps-in-Remap.ensures.makes
+
+pub returns-in-Remap-clause-agreed : goal.returns-in-Remap-clause-agreed
+returns-in-Remap-clause-agreed c = rw c.in-Remap.is c.steps-in-Remap.ensures.agreed

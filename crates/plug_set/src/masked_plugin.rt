@@ -1,0 +1,68 @@
+ghost use Rattle.std.specs.Prelude.{◌≡◌};
+
+use crate::some_plugin::SomePlugin;
+use plugin_trait::{Line, Outcome, Plugin};
+use std::alloc::AllocError;
+use ts_packet::{Cell, Labels};
+
+/// A plugin that is shown every cell as it is, or, where it has labels, a packet with none of them as a dropped one,
+/// which stays as it is.
+#[derive(Drop, Debug)]
+pub(crate) struct MaskedPlugin {
+    pub(crate) plugin: SomePlugin,
+    pub(crate) only: Option<Labels>,
+}
+
+impl MaskedPlugin {
+    ghost use Rattle.plug_set.specs.OnlyLabels.{shows};
+
+    // Whether the plugin is shown the cell as it is.
+    #[inline]
+    fn shows(&self, cell: &Cell) -> bool
+        ensures { result ≡ shows self.now.only cell.now }
+    {
+        match self.only {
+            Some(only) => match cell {
+                Cell::Live(_, labels) => labels.shares(only),
+                Cell::Dropped => true,
+            },
+            None => true,
+        }
+    }
+}
+
+impl Plugin for MaskedPlugin {
+    ghost use Rattle.plug_set.specs.contracts.some_plugin.SomePluginPlugin.TheImpl.Laws.{lawful as some_laws};
+    ghost use Rattle.plug_set.specs.OnlyLabels.{rule_for, shown, starts_open_for};
+
+    ghost rule = { λ s. rule_for s.only (⟦<SomePlugin as Plugin>⟧.rule s.plugin) };
+
+    ghost stands_for = { λ s history mark. ⟦<SomePlugin as Plugin>⟧.stands_for s.plugin (shown s.only history) mark };
+
+    ghost steady = { λ s. ⟦<SomePlugin as Plugin>⟧.steady s.plugin };
+
+    #[inline]
+    fn step(&mut self, at: u64, cell: &mut Cell) -> Outcome {
+        if self.shows(cell) {
+            return self.plugin.step(at, cell);
+        }
+        let mut unseen = Cell::Dropped;
+        self.plugin.step(at, &mut unseen)
+    }
+
+    fn note(&mut self, written: u64) -> Result<(), AllocError> {
+        self.plugin.note(written)
+    }
+
+    fn agreed(&self) -> bool {
+        self.plugin.agreed()
+    }
+
+    fn finish(&mut self, cut: u64) -> Result<Vec<Line>, AllocError> {
+        self.plugin.finish(cut)
+    }
+
+    ghost starts_open = { λ plugin history mark stands. starts_open_for plugin.only
+        (⟦<SomePlugin as Plugin>⟧.rule plugin.plugin)
+        (some_laws.starts_open plugin.plugin (shown plugin.only history) mark stands) };
+}
