@@ -13,6 +13,7 @@ pub record Extent : Type 0 where
   pub ptr : Ptr
   pub len : ℕ
 
+-- it is stored as the pair of its fields
 abbrev pub extent_code : Coded Extent
 extent_code = code_by (Ptr × ℕ) (coded× coded_ptr coded_ℕ)
     (λ e. (e.ptr, e.len)) (λ p. record { ptr = p.0; len = p.1 }) (λ _. refl)

@@ -15,6 +15,7 @@ pub record Piece (X : Type 0) : Type 0 where
   pub start : ℕ
   pub cells : List X
 
+-- the window of this block, from this slot on, with these values
 abbrev pub piece_of : {X : Type 0} → Land → ℕ → List X → Piece X
 piece_of land start cells = record { land = land; start = start; cells = cells }
 

@@ -14,14 +14,14 @@ use Rattle.window_ring.specs.declared.stage_seat.StageSeat.{StageSeat}
 use Rattle.window_ring.specs.declared.closing.Left.{Left}
 use Rattle.window_ring.specs.Views.{Each, Since, land_of}
 use Rattle.window_ring.specs.Stands.{Stands}
-use Rattle.window_ring.specs.Seats.{seen_of}
-use Rattle.window_ring.specs.Seats.{IsSeat}
+use Rattle.window_ring.specs.Seats.{seen_of, IsSeat}
 
 -- one of these is of stage `k`
 abbrev pub Has : ℕ → List Holding → Type 0
 Has k [] = ⊥
 Has k (h ∷ hs) = (h.stage ≡ k) ⊎ Has k hs
 
+-- each stage has its holding
 abbrev pub CoversAll : Key → List Holding → Type 0
 CoversAll key held = (k : ℕ) → k ≤ suc key.plan.plugins → Has k held
 
@@ -67,6 +67,8 @@ pub record Parted (key : Key) (state : ChainState) (j : ℕ) (left : Left) : Typ
   pub link : (i k : ℕ) → k ≡ j + i → i < length left.links.items
       → Linked key state k (slice_index_or left.links.items i no_row)
 
+-- the hands of the other stages and the cells behind them are together: there is one run, of which the seats and the
+-- holdings have seen their parts
 pub record Gathered (key : Key) (held : List Holding) (seats : List StageSeat) (left : Left) : Type 0 where
   pub history : List Visit
   pub run : ChainRun key.plan history

@@ -16,20 +16,23 @@ pub record Row : Type 0 where
 abbrev pub land_at : Ptr → ℕ → Land
 land_at base count = record { base = base; count = count }
 
+-- cells at a position of a block
 abbrev pub row_of : ℕ → Land → List Cell → Row
 row_of at land cells = record { at = at; land = land; cells = cells }
 
+-- they are stored as the tuple of the fields
 abbrev pub row_code : Coded Row
 row_code = code_by (ℕ × ((Ptr × ℕ) × List Cell))
     (coded× coded_ℕ (coded× (coded× coded_ptr coded_ℕ) (coded_list cell.the_row.coded)))
     (λ r. (r.at, ((r.land.base, r.land.count), r.cells)))
     (λ p. row_of p.0 (land_at p.1.0.0 p.1.0.1) p.1.1) (λ _. refl)
 
--- the cells of a window, if there is one, and of two
+-- the cells of a window, if there is one
 abbrev pub piece : Option (Piece Cell) → List Cell
 piece None = []
 piece (Some w) = w.cells
 
+-- and of two
 abbrev pub pieces : Option (Piece Cell) → Option (Piece Cell) → List Cell
 pieces first second = piece first ++ piece second
 

@@ -18,6 +18,7 @@ pub record IsFresh (key : Key) (table : TableId) (k : ℕ) (seat : StageSeat) : 
   pub rests : seat.seat.me ≡ (at_rest key k [] [], [])
   pub hand : seat.hand ≡ row_of 0 (land_of key) []
 
+-- the seats of the first stages, none of which has made a visit
 abbrev pub AreFresh : Key → TableId → List StageSeat → Type 0
 AreFresh key table seats = (k : ℕ) (d : StageSeat) → k < length seats
     → IsFresh key table k (slice_index_or seats k d)

@@ -28,6 +28,7 @@ abbrev pub seen_in : List Holding → List Visit
 seen_in [] = []
 seen_in (h ∷ hs) = h.seen
 
+-- and of a stage's seat
 abbrev pub seen_of : StageSeat → List Visit
 seen_of seat = seen_in seat.seat.me.0.held
 

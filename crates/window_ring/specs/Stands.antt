@@ -19,6 +19,7 @@ behind plan stage = if stage == suc plan.plugins then 0 else suc stage
 abbrev pub on_link : List Row → ℕ → Row
 on_link links k = slice_index_or links k no_row
 
+-- the same in the value
 abbrev pub link : State → ℕ → Row
 link value k = on_link value.links.items k
 

@@ -9,16 +9,21 @@ use chain_core::{Core, News, StageWord, news_promises, one_visit};
 /// The last visit.
 #[derive(Clone, Copy)]
 pub struct Last {
+    /// Whose it was.
     pub stage: usize,
+    /// How many cells it gave.
     pub done: usize,
+    /// What it told.
     pub word: StageWord,
 }
 
 /// What the turn guards: the chain's numbers, the cells between the stages, and the last visit.
 pub struct State {
+    /// How much each stage gave and took, what it agreed to and how it ended.
     pub core: Core,
     /// Before each stage the cells that wait for it; those that wait for the input are the free ones.
     pub links: Vec<Hand>,
+    /// The last visit: the cells that it gave stand last on the link behind its stage.
     pub last: Last,
 }
 

@@ -62,7 +62,12 @@ fn opens_and_closes(rt: HostRuntime) {
     } = new_ring(rt.alloc(), &plan).expect(&rt, "memory");
     shared(&ring);
     sent(&seats[0]);
-    if !ends_at_once(&ring, &mut seats[0]) || !ends_at_once(&ring, &mut seats[1]) {
+    if !ends_at_once(&ring, &mut seats[0]) {
+        panic!(&rt; "another stage has the turn");
+    }
+    // The end of the input has rung for the output: this returns.
+    ring.wait_news(&rt, &seats[1]);
+    if !ends_at_once(&ring, &mut seats[1]) {
         panic!(&rt; "another stage has the turn");
     }
     let closed = ring.close(root, seats);

@@ -24,7 +24,9 @@ impl Model for PastVisit {
 
 /// A stage, and all visits up to its last one.
 pub struct Holding {
+    /// The stage.
     pub stage: usize,
+    /// The visits, the last one first.
     pub seen: LinkedList<PastVisit>,
 }
 
@@ -49,6 +51,8 @@ pub struct View {
 /// What never changes of a ring: its plan, and where its block begins.
 #[derive(Clone, Copy)]
 pub struct Key {
+    /// The chain's plan.
     pub plan: CorePlan,
+    /// Where the block begins. It gives no right to it.
     pub base: *mut Cell,
 }
