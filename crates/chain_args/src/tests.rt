@@ -27,7 +27,11 @@ fn first_broken_rules(rt: HostRuntime) -> Result<(), Fail> {
         ("-I null 2 -P", 3, WordsRule::NoName),
         ("-I null 2 -P filter --pid 8192", 3, WordsRule::Value),
         ("-I null 2 -P filter --pid 1 --pid 2", 3, WordsRule::Shape),
-        ("-I null 1 -P filter --pid 1 --set-label 32 -O drop", 3, WordsRule::Value),
+        (
+            "-I null 1 -P filter --pid 1 --set-label 32 -O drop",
+            3,
+            WordsRule::Value,
+        ),
         ("-I file A -P nosuch -O drop", 3, WordsRule::UnknownPlugin),
         ("--buffer-packets 0", 0, WordsRule::Value),
         ("-I null 1 -I", 3, WordsRule::Twice),

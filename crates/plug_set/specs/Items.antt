@@ -1,6 +1,6 @@
 -- A plugin of the chain: its settings with the labels that it sees, its words, and the rule that these mean.
 -- This project's own rule.
-use Rattle.std.specs.Prelude.{List, [], ◌∷◌, ◌++◌, IfSome, codes, option_map}
+use Rattle.std.specs.Prelude.{[], ◌∷◌, ◌++◌, IfSome, codes, option_map}
 use Rattle.ts_packet.specs.declared.labels.TheConstants.{LABEL_COUNT}
 use Rattle.chain_model.specs.PluginRule.{PluginRule}
 use Rattle.plug_conf.specs.LabelSet.{label_set}

@@ -1,4 +1,4 @@
-use Rattle.std.proofs.Common.{◌≡◌, ℕ, ◌≤◌, List, length, Result, IfOk, sym, subst}
+use Rattle.std.proofs.Common.{◌≡◌, ℕ, ◌≤◌, List, length, IfOk, sym, subst}
 use Rattle.plugin_trait.specs.declared.line.Line.{Line}
 use Rattle.plug_set.specs.contracts.some_plugin.SomePluginPlugin.TheImpl.{ghosts as some}
 use Rattle.plug_set.specs.OnlyLabels.{shown}

@@ -1,4 +1,4 @@
-use Rattle.std.proofs.Common.{◌≡◌, ◌∙◌, codes, map, ap, sym}
+use Rattle.std.proofs.Common.{◌≡◌, ◌∙◌, codes, ap, sym}
 use Rattle.clap.specs.Faults.{is_simple_and_free}
 use Rattle.clap.specs.Simple.{App, app_of, with_rule}
 use Rattle.option_words.specs.Options.{command_of, value_rule}
