@@ -1,5 +1,5 @@
 use crate::{InputConf, OutputConf, Plan, WordsFault, WordsRule, plan};
-use plug_set::{PluginConf, PluginItem};
+use plug_set::PluginConf;
 use std::alloc::Global;
 use std::test::Fail;
 
@@ -98,14 +98,14 @@ fn a_whole_plan(rt: HostRuntime) -> Result<(), Fail> {
     assert!(rt; plan.general.buffer_packets == Some(7) && plan.general.ignore_joint_termination);
     assert!(rt; matches!(plan.input, InputConf::Null(4)));
     assert!(rt; matches!(plan.output, OutputConf::Drop));
-    let [
-        PluginItem {
-            conf: PluginConf::Filter(filter),
-            only: Some(only),
-        },
-    ] = plan.plugins.as_slice()
-    else {
-        return Err(Fail::from("one filter"));
+    let [item] = plan.plugins.as_slice() else {
+        return Err(Fail::from("one plugin"));
+    };
+    let PluginConf::Filter(filter) = &item.conf else {
+        return Err(Fail::from("a filter"));
+    };
+    let Some(only) = &item.only else {
+        return Err(Fail::from("labels"));
     };
     assert!(rt; only.as_slice() == [(0, 3)].as_slice());
     assert!(rt; filter.pid.as_slice() == [(8191, 8191), (5, 7)].as_slice());
@@ -149,20 +149,6 @@ fn the_63rd_plugin(rt: HostRuntime) -> Result<(), Fail> {
 #[test]
 fn words_of_plugins(rt: HostRuntime) -> Result<(), Fail> {
     let rows = [
-        ("-P filter --set-label 3", Some(WordsRule::Missing)),
-        ("-P filter --label 32", Some(WordsRule::Value)),
-        ("-P filter --label 0-31 --set-label 3", None),
-        (
-            "-P filter --pid 1 --set-label 3 --stuffing",
-            Some(WordsRule::Conflict),
-        ),
-        (
-            "-P filter --pid 1 --set-label 3 --stuffing --only-label 32",
-            Some(WordsRule::Value),
-        ),
-        ("-P skip --only-label 32", Some(WordsRule::Missing)),
-        ("-P skip 1 --only-label 31", None),
-        ("-P count --only-label", Some(WordsRule::Shape)),
         ("-P skip", Some(WordsRule::Missing)),
         ("-P skip 1 2", Some(WordsRule::Shape)),
         ("-P skip 1099511627777", Some(WordsRule::Value)),
@@ -214,6 +200,32 @@ fn words_of_plugins(rt: HostRuntime) -> Result<(), Fail> {
 }
 
 #[test]
+fn words_of_labels(rt: HostRuntime) -> Result<(), Fail> {
+    let rows = [
+        ("-P filter --set-label 3", Some(WordsRule::Missing)),
+        ("-P filter --label 32", Some(WordsRule::Value)),
+        ("-P filter --label 0-31 --set-label 3", None),
+        (
+            "-P filter --pid 1 --set-label 3 --stuffing",
+            Some(WordsRule::Conflict),
+        ),
+        (
+            "-P filter --pid 1 --set-label 3 --stuffing --only-label 32",
+            Some(WordsRule::Value),
+        ),
+        ("-P skip --only-label 32", Some(WordsRule::Missing)),
+        ("-P skip 1 --only-label 31", None),
+        ("-P count --only-label", Some(WordsRule::Shape)),
+    ];
+    for (line, rule) in rows {
+        let fault = plan_of_line(rt.alloc(), line)?.err();
+        let wanted = rule.map(|rule| WordsFault::At { word: 0, rule });
+        assert!(rt; fault == wanted, "{line}");
+    }
+    Ok(())
+}
+
+#[test]
 fn settings_of_plugins(rt: HostRuntime) -> Result<(), Fail> {
     let line =
         "-P pattern abCD --offset-non-pusi 182 -P slice --drop 1 --stop 4 -P remap 1=2 --no-psi 3=4";
@@ -223,10 +235,14 @@ fn settings_of_plugins(rt: HostRuntime) -> Result<(), Fail> {
     let [first, second, third] = plan.plugins.as_slice() else {
         return Err(Fail::from("three plugins"));
     };
-    let (PluginConf::Pattern(pattern), PluginConf::Slice(slice), PluginConf::Remap(remap)) =
-        (&first.conf, &second.conf, &third.conf)
-    else {
-        return Err(Fail::from("a pattern, a slice and a remap"));
+    let PluginConf::Pattern(pattern) = &first.conf else {
+        return Err(Fail::from("a pattern"));
+    };
+    let PluginConf::Slice(slice) = &second.conf else {
+        return Err(Fail::from("a slice"));
+    };
+    let PluginConf::Remap(remap) = &third.conf else {
+        return Err(Fail::from("a remap"));
     };
     assert!(rt; pattern.operand.as_slice() == [0xAB, 0xCD].as_slice());
     assert!(rt; pattern.offset_pusi == None && pattern.offset_non_pusi == Some(182));
