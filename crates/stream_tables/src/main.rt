@@ -3,8 +3,11 @@
 //! people's tools; what is printed has to be what other tools read from them (`tests/layouts`).
 #![tactic(auto)]
 
+mod descriptors;
+mod eit;
 mod pid;
 mod psi;
+mod si;
 mod table;
 mod written;
 

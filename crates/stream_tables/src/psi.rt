@@ -1,8 +1,8 @@
 //! The tables of MPEG, field by field.
 
+use crate::descriptors::print_descriptors;
 use crate::written::print_written;
 use anyhow::Result;
-use ts_bits::DescriptorList;
 use ts_psi::{Cat, Pat, Pmt};
 use ts_section::TableRun;
 
@@ -70,16 +70,4 @@ pub fn print_pmt(rt: &(impl Print + AllocGlobal), pid: u16, run: &TableRun) -> R
         print_descriptors(rt, pid, &component.descriptors)?;
     }
     print_written(rt, pid, run, pmt.sections(rt.alloc()))
-}
-
-/// Prints descriptors: the tag, and the bytes behind the length.
-fn print_descriptors(rt: &impl Print, pid: u16, descriptors: &DescriptorList) -> Result<()> {
-    for descriptor in descriptors.as_slice() {
-        print!(rt; "pid {pid} descriptor {} ", descriptor.tag())?;
-        for byte in descriptor.body() {
-            print!(rt; "{byte:02x}")?;
-        }
-        println!(rt;)?;
-    }
-    Ok(())
 }

@@ -1,6 +1,8 @@
 //! What the sections of a table hold.
 
+use crate::eit::print_eit;
 use crate::psi::{print_cat, print_pat, print_pmt};
+use crate::si::{print_bat, print_nit, print_sdt};
 use anyhow::Result;
 use ts_section::TableRun;
 
@@ -13,6 +15,10 @@ pub fn print_table(rt: &(impl Print + AllocGlobal), pid: u16, run: &TableRun) ->
         0x00 => print_pat(rt, pid, run),
         0x01 => print_cat(rt, pid, run),
         0x02 => print_pmt(rt, pid, run),
+        0x40 | 0x41 => print_nit(rt, pid, run),
+        0x42 | 0x46 => print_sdt(rt, pid, run),
+        0x4A => print_bat(rt, pid, run),
+        0x4E..=0x6F => print_eit(rt, pid, run),
         _ => Ok(()),
     }
 }
