@@ -1,4 +1,4 @@
-use Rattle.std.proofs.Common.{◌≡◌, ◌⊎◌, inl, ◌+◌, ◌≤◌, ◌<◌, ℕ, suc, [], ◌∷◌, length, arith}
+use Rattle.std.proofs.Common.{inl, [], ◌∷◌, arith}
 use Rattle.window_ring.specs.Views.{holding}
 use Rattle.window_ring.specs.Seats.{seen_of}
 use Rattle.window_ring.proofs.Gathers.{Laws, taken, last_behind, last_same, last_fits, all_since, all_cells, no_links}
