@@ -15,11 +15,15 @@ field called kind = record { name = called; kind = kind; absent = None; range = 
 abbrev pub reserved : ℕ → Row
 reserved count = field [] (Free count)
 
+-- the number of an entry, which is from 1 on where it is a service's
+abbrev pub entry_number_row : Row
+entry_number_row = record { name = codes "service_id"; kind = Number 16; absent = None; range = Some (1, 65535) }
+
 -- an entry of a PAT: program_number 16, reserved 3, program_map_PID or network_PID 13
 abbrev pub entry_page : ItemPage
 entry_page = record {
   name = codes "service";
-  rows = field (codes "service_id") (Number 16) ∷ reserved 3 ∷ field (codes "program_map_PID") (Number 13) ∷ [];
+  rows = entry_number_row ∷ reserved 3 ∷ field (codes "program_map_PID") (Number 13) ∷ [];
   described = false;
   counted = false;
 }
@@ -38,6 +42,7 @@ abbrev pub pat_page : TablePage
 pat_page = record {
   name = codes "PAT";
   ids = (0x00, 0x00) ∷ [];
+  extension = codes "transport_stream_id";
   private_bit = false;
   most = 1021;
   single = false;
@@ -54,6 +59,7 @@ abbrev pub cat_page : TablePage
 cat_page = record {
   name = codes "CAT";
   ids = (0x01, 0x01) ∷ [];
+  extension = [];
   private_bit = false;
   most = 1021;
   single = false;
@@ -74,6 +80,7 @@ abbrev pub pmt_page : TablePage
 pmt_page = record {
   name = codes "PMT";
   ids = (0x02, 0x02) ∷ [];
+  extension = codes "service_id";
   private_bit = false;
   most = 1021;
   single = true;

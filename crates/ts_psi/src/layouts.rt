@@ -8,8 +8,8 @@ use ts_fields::{Field, Kind};
 use ts_table_rows::{ItemForm, LoopForm, TableLayout};
 
 macro_rules! rows {
-    ($($name:literal $kind:expr, $absent:expr;)*) => {
-        &[$(Field { name: $name, kind: $kind, absent: $absent, range: None }),*]
+    ($($name:literal $kind:expr, $absent:expr, $range:expr;)*) => {
+        &[$(Field { name: $name, kind: $kind, absent: $absent, range: $range }),*]
     };
 }
 
@@ -17,6 +17,7 @@ macro_rules! rows {
 static PAT: TableLayout = TableLayout {
     name: "PAT",
     ids: &[(0x00, 0x00)],
+    extension: "transport_stream_id",
     private_bit: false,
     most: 1021,
     single: false,
@@ -27,9 +28,9 @@ static PAT: TableLayout = TableLayout {
     items: Some(ItemForm {
         name: "service",
         rows: rows! {
-            "service_id" Kind::Number(16), None;
-            "" Kind::Free(3), None;
-            "program_map_PID" Kind::Number(13), None;
+            "service_id" Kind::Number(16), None, Some((1, 65535));
+            "" Kind::Free(3), None, None;
+            "program_map_PID" Kind::Number(13), None, None;
         },
         described: false,
         counted: false,
@@ -41,6 +42,7 @@ static PAT: TableLayout = TableLayout {
 static CAT: TableLayout = TableLayout {
     name: "CAT",
     ids: &[(0x01, 0x01)],
+    extension: "",
     private_bit: false,
     most: 1021,
     single: false,
@@ -56,24 +58,25 @@ static CAT: TableLayout = TableLayout {
 static PMT: TableLayout = TableLayout {
     name: "PMT",
     ids: &[(0x02, 0x02)],
+    extension: "service_id",
     private_bit: false,
     most: 1021,
     single: true,
     keeps_numbers: false,
     common: &[],
     head: rows! {
-        "" Kind::Free(3), None;
-        "PCR_PID" Kind::Number(13), Some(8191);
-        "" Kind::Free(4), None;
+        "" Kind::Free(3), None, None;
+        "PCR_PID" Kind::Number(13), Some(8191), None;
+        "" Kind::Free(4), None, None;
     },
     loop_form: LoopForm::Counted,
     items: Some(ItemForm {
         name: "component",
         rows: rows! {
-            "stream_type" Kind::Number(8), None;
-            "" Kind::Free(3), None;
-            "elementary_PID" Kind::Number(13), None;
-            "" Kind::Free(4), None;
+            "stream_type" Kind::Number(8), None, None;
+            "" Kind::Free(3), None, None;
+            "elementary_PID" Kind::Number(13), None, None;
+            "" Kind::Free(4), None, None;
         },
         described: true,
         counted: false,

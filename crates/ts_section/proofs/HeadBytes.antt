@@ -56,6 +56,11 @@ pub form-byte : (b : List ℕ) → IsBytes b → eqb (get_or b 1 0 / 128) 1 ≡ 
 form-byte b small =
     ap (λ n. eqb n 1) (omega (arith, small 1, bit_of-in_byte b 8 1 0 7 refl refl))
 
+-- the private bit, as the code reads it
+pub private-byte : (b : List ℕ) → IsBytes b → eqb (bit_and (get_or b 1 0 / 64) 1) 1 ≡ eqb (bit_of b 9) 1
+private-byte b small =
+    sym (ap (λ n. eqb n 1) (bit_of-in_byte b 9 1 1 6 refl refl ∙ sym (and_mask (get_or b 1 0 / 64) 1)))
+
 pub table_id-byte : (b : List ℕ) → IsBytes b → field b 0 8 ≡ get_or b 0 0
 table_id-byte b small = field-one_byte b small 0 0 refl
 

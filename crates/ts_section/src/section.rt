@@ -135,6 +135,14 @@ impl Section {
         is_long(&self.bytes)
     }
 
+    /// The bit behind section_syntax_indicator.
+    pub fn is_private(&self) -> bool
+        ensures own { result ≡ fields.private_of self.now }
+        ensures lawful { IsSection self.now }
+    {
+        is_private(&self.bytes)
+    }
+
     /// The head of the long form; none exactly for the short form.
     pub fn head(&self) -> Option<LongHead>
         ensures head { result ≡ head_of self.now }
@@ -177,6 +185,14 @@ fn is_long(bytes: &[u8]) -> bool
     ensures { result ≡ fields.is_long bytes.now }
 {
     bytes[1] >> 7 == 1
+}
+
+/// The bit behind section_syntax_indicator.
+fn is_private(bytes: &[u8]) -> bool
+    requires { 2 ≤ length bytes.now }
+    ensures { result ≡ fields.private_of bytes.now }
+{
+    (bytes[1] >> 6) & 1 == 1
 }
 
 /// The head of a section of the long form.

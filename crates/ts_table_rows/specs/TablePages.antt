@@ -18,12 +18,13 @@ pub record ItemPage : Type 0 where
   pub described : Bool
   pub counted : Bool
 
--- a table: its name, its table_ids as ranges, the private bit and the most section_length of its sections, whether
--- it has one section, whether that keeps its numbers, the rows whose first number is the same in all sections,
+-- a table: its name, its table_ids as ranges, its name of table_id_extension, which is empty where that is reserved,
+-- the private bit and the most section_length of its sections, whether it has one section, whether that keeps its numbers, the rows whose first number is the same in all sections,
 -- the other rows that stand in no item, its own descriptors, its items, and whether one item at most may be 0
 pub record TablePage : Type 0 where
   pub name : List ℕ
   pub ids : List (ℕ × ℕ)
+  pub extension : List ℕ
   pub private_bit : Bool
   pub most : ℕ
   pub single : Bool
@@ -43,6 +44,7 @@ abbrev pub table_page : TableLayout → TablePage
 table_page t = record {
   name = t.name.now;
   ids = t.ids.now;
+  extension = t.extension.now;
   private_bit = t.private_bit;
   most = t.most;
   single = t.single;

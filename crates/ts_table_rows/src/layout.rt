@@ -34,6 +34,8 @@ pub struct TableLayout {
     pub name: &'static str,
     /// The table_ids, as ranges with both ends.
     pub ids: &'static [(u8, u8)],
+    /// What the table calls table_id_extension; empty where the standard reserves it.
+    pub extension: &'static str,
     /// The bit behind section_syntax_indicator, as it is written.
     pub private_bit: bool,
     /// The most that section_length may be: 1021 or 4093.

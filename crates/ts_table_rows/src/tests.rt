@@ -19,6 +19,7 @@ macro_rules! rows {
 static ENTRIES: TableLayout = TableLayout {
     name: "entries",
     ids: &[(0, 0)],
+    extension: "",
     private_bit: false,
     most: 21,
     single: false,
@@ -39,6 +40,7 @@ static ENTRIES: TableLayout = TableLayout {
 static STREAMS: TableLayout = TableLayout {
     name: "streams",
     ids: &[(0x40, 0x41)],
+    extension: "",
     private_bit: true,
     most: 1021,
     single: false,
@@ -59,6 +61,7 @@ static STREAMS: TableLayout = TableLayout {
 static SERVICES: TableLayout = TableLayout {
     name: "services",
     ids: &[(0x42, 0x42), (0x46, 0x46)],
+    extension: "",
     private_bit: true,
     most: 1021,
     single: false,

@@ -119,7 +119,7 @@ fn put_behind(out: &mut BitWriter, items: Option<ItemForm>, row: &[u8]) -> Resul
 }
 
 /// How many values some rows hold.
-fn held_count(rows: &[Field]) -> usize
+pub fn held_count(rows: &[Field]) -> usize
     ensures count { result ≡ BodySpelling.held_count (rows_of rows.now) }
     ensures few { result ≤ length rows.now }
 {
