@@ -1,1 +1,18 @@
-
+mod StepLemmas
+mod EachLemmas
+mod ZeroLemmas
+mod ChildLemmas
+mod ByteLemmas
+mod RowLemmas
+mod NumberLemmas
+mod HeadLemmas
+mod FitLemmas
+mod ReadLemmas
+mod KnownLemmas
+mod SectionLemmas
+mod ShowLemmas
+mod EntryLemmas
+mod LawfulLemmas
+mod LawfulEnd
+mod RunLemmas
+mod ValueLemmas

@@ -87,23 +87,29 @@ numbers_in_order first last =
     if nat_le first last then Ok (first, last) else refuse (codes "last_section_number") OutOfRange
 
 -- section_number and last_section_number, where they are kept
-unfoldable pub read_kept : Bool → Members → Reading (Option (ℕ × ℕ))
-read_kept false ms = Ok None
-read_kept true ms = do
+unfoldable pub read_numbers : Members → Reading (Option (ℕ × ℕ))
+read_numbers ms = do
   first ← read_number section_number_row ms
   last ← read_number last_section_number_row ms
   numbers ← numbers_in_order first last
   Ok (Some numbers)
 
+unfoldable pub read_kept : Bool → Members → Reading (Option (ℕ × ℕ))
+read_kept false ms = Ok None
+read_kept true ms = read_numbers ms
+
 -- whether the PID of an entry of 0 is there, where such a one may stand
 abbrev pub names_network : Bool → Members → Bool
 names_network one_zero ms = one_zero && is_some (get_member network_key ms)
 
-unfoldable pub read_network : Bool → Members → Reading (Option ℕ)
-read_network false ms = Ok None
-read_network true ms = do
+unfoldable pub read_pid : Members → Reading (Option ℕ)
+read_pid ms = do
   pid ← read_number network_row ms
   Ok (Some pid)
+
+unfoldable pub read_network : Bool → Members → Reading (Option ℕ)
+read_network false ms = Ok None
+read_network true ms = read_pid ms
 
 -- the attributes of a table: what it keeps of the heads of its sections, the fields that stand in no item, and the
 -- PID of an entry of 0

@@ -10,36 +10,28 @@ use Rattle.ts_jtree.specs.Shown.{are_within}
 use Rattle.ts_table_rows.specs.TableFitting.{DescriptorsFit, table_fits}
 use Rattle.ts_table_rows.specs.TablePages.{ItemPage, TablePage}
 use Rattle.ts_table_rows.specs.TableValues.{ItemHolding, TableHolding}
-use Rattle.ts_psi.specs.PatTables.{network_items}
 use Rattle.ts_json_tables.specs.ElementRows.{is_eit_id}
 use Rattle.ts_json_tables.specs.HeldTables.{ShortHolding, LongHolding, TableValue, laid, short, long}
 use Rattle.ts_json_tables.specs.KnownPages.{page_named}
-use Rattle.ts_json_tables.specs.TableElements.{network_values, shown_items}
+use Rattle.ts_json_tables.specs.TableElements.{shown_items}
 use Rattle.ts_json_tables.specs.TableReading.{is_lawful_count}
 use Rattle.ts_json_tables.specs.RunTables.{settled_extension}
 
--- the PID of an entry of 0, where there is one
-abbrev pub network_of : List Held → Option ℕ
-network_of (number pid ∷ []) = Some pid
-network_of _ = None
-
--- items as they are kept: an entry of 0 comes first and is a number and a PID alone, and the others are in the ranges
--- of their rows
+-- items in the ranges of their rows
 abbrev pub items_within : Option ItemPage → List ItemHolding → Bool
 items_within None items = true
 items_within (Some i) items = list_all (λ x. are_within i.rows x.values) items
 
+-- a table of a page that is known, in the form in which it is kept: an item of 0, where one may stand, comes first
 pub record IsLaid (p : TablePage) (t : TableHolding) : Type 0 where
   pub known : page_named p.name ≡ Some p
   pub fits : table_fits p t ≡ true
   pub extension : t.head.extension ≡ settled_extension p.extension t.head.extension
   pub within : items_within p.items (shown_items p.one_zero t.body.items) ≡ true
-  pub network : t.body.items
-      ≡ network_items (network_of (network_values p.one_zero t.body.items)) ++ shown_items p.one_zero t.body.items
 
--- bytes, at most so many
+-- at most so many bytes
 abbrev pub is_payload : ℕ → List ℕ → Bool
-is_payload most row = nat_le (length row) most && are_bytes row
+is_payload most row = nat_le (length row) most
 
 abbrev pub is_short : ShortHolding → Bool
 is_short s = nat_lt s.table_id 255 && is_payload 4093 s.payload
@@ -60,8 +52,8 @@ IsTable (laid p t) = IsLaid p t
 IsTable (short s) = is_short s ≡ true
 IsTable (long l) = is_long l ≡ true
 
--- its descriptors have a tag and at most 255 bytes
-abbrev pub DescribesWell : TableValue → Type 0
-DescribesWell (laid p t) = DescriptorsFit t.body
-DescribesWell (short s) = Unit {0}
-DescribesWell (long l) = Unit {0}
+-- its descriptors are some, and its bytes are below 256
+abbrev pub IsOfBytes : TableValue → Type 0
+IsOfBytes (laid p t) = DescriptorsFit t.body
+IsOfBytes (short s) = are_bytes s.payload ≡ true
+IsOfBytes (long l) = list_all are_bytes l.payloads ≡ true

@@ -21,7 +21,7 @@ use Rattle.ts_json_tables.specs.declared.children.Child.{Child}
 use Rattle.ts_json_tables.specs.declared.children.Child.TheVariants as sorts
 use Rattle.ts_json_tables.specs.ElementRows.{current_row, element_rows, extension_row, long_name, long_rows, payload_row, private_row, section_name, section_rows, short_name, short_rows, table_id_row, version_row}
 use Rattle.ts_json_tables.specs.HeadReading.{Heading, names_eit, names_network, read_bytes, read_heading, read_kept, read_number, read_truth}
-use Rattle.ts_json_tables.specs.HeldTables.{TableValue, laid, short, long}
+use Rattle.ts_json_tables.specs.HeldTables.{LongHolding, TableValue, laid, short, long}
 use Rattle.ts_json_tables.specs.KnownPages.{page_named}
 use Rattle.std.specs.Prelude.{codes}
 
@@ -154,28 +154,38 @@ abbrev pub kept_or_none : Option (ℕ × ℕ) → ℕ × ℕ
 kept_or_none None = (0, 0)
 kept_or_none (Some n) = n
 
--- sections of the long form
-unfoldable pub read_long : Members → Reading TableValue
-read_long ms = do
-  _ ← keys_known (long_rows (names_eit ms)) ms ms
+-- the attributes of sections of the long form
+unfoldable pub read_long_head : Bool → Members → Reading LongHolding
+read_long_head eit ms = do
   version ← read_number version_row ms
   current ← read_truth current_row ms
   id ← read_number (table_id_row (0, 254)) ms
   extension ← read_number (extension_row (codes "table_id_extension")) ms
   own ← read_truth private_row ms
-  numbers ← read_kept (names_eit ms) ms
-  nodes ← nodes_of ms
-  counted ← sections_counted (names_eit ms) nodes
-  payloads ← read_each read_section 0 counted
-  Ok (long (record {
+  numbers ← read_kept eit ms
+  Ok (record {
     version = version;
     current = current;
     table_id = id;
     extension = extension;
     own = own;
     numbers = kept_or_none numbers;
-    payloads = payloads;
-  }))
+    payloads = [];
+  })
+
+-- these attributes and these bodies
+abbrev pub with_payloads : LongHolding → List (List ℕ) → LongHolding
+with_payloads l rows = record l { payloads = rows }
+
+-- sections of the long form
+unfoldable pub read_long : Members → Reading TableValue
+read_long ms = do
+  _ ← keys_known (long_rows (names_eit ms)) ms ms
+  head ← read_long_head (names_eit ms) ms
+  nodes ← nodes_of ms
+  counted ← sections_counted (names_eit ms) nodes
+  payloads ← read_each read_section 0 counted
+  Ok (long (with_payloads head payloads))
 
 -- a table of this name
 abbrev pub read_by_name : List ℕ → Members → Reading TableValue

@@ -4,7 +4,7 @@ ghost use Rattle.std.specs.Prelude.{◌≡◌, [], ◌++◌, ◌∷◌, map, opt
 ghost use Rattle.serde_json.specs.View.{view, items_view, members_view};
 ghost use Rattle.ts_fields.specs.Layout.{held, rows_of};
 ghost use Rattle.ts_fields.specs.SoundRows.{are_sound};
-ghost use Rattle.ts_jtree.specs.Faults.{Answers, at_child, ◌>>=◌};
+ghost use Rattle.ts_jtree.specs.Faults.{Answers, at_child};
 ghost use Rattle.ts_table_rows.specs.TablePages.{item_page, items_sound, table_page, page_sound};
 ghost use Rattle.ts_table_rows.specs.TableSections.{items_in, owns_in};
 ghost use Rattle.ts_table_rows.specs.TableValues.{item_held};
@@ -16,12 +16,12 @@ use crate::rows::{LONG_PAYLOAD, section_rows};
 use serde_json::{Map, Value};
 use std::alloc::{AllocError, Global};
 use ts_bits::{Descriptor, DescriptorList};
+use ts_json_descr::json_descr;
 use ts_jtree::{
     JsonKind, ReadRefusal, at_child, check_keys, check_name, children, element_name, members,
     no_children, read_attributes, refuse_key,
 };
-use ts_json_descr::json_descr;
-use ts_table_rows::{ItemForm, LoopForm, TableItem, TableLayout};
+use ts_table_rows::{ItemForm, LoopForm, TableItem, TableLayout, written_rows_are_whole};
 
 /// A descriptor.
 #[tactic(auto, unfolding(crate::specs::TableReading::read_descr))]
@@ -29,6 +29,8 @@ fn read_descr(alloc: Global, value: &Value) -> Result<Descriptor, ReadRefusal>
     ensures { Answers (λ d. d) result (TableReading.read_descr (view value.now)) }
 {
     let descriptor = json_descr(alloc, value)?;
+    // A law, which runs nothing.
+    written_rows_are_whole();
     let _body = descriptor.body();
     Ok(descriptor)
 }

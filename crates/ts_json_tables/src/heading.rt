@@ -132,11 +132,7 @@ pub fn read_bytes(
 
 /// Which of its table_ids a table has.
 #[tactic(auto, unfolding(crate::specs::HeadReading::read_id))]
-fn read_id(
-    alloc: Global,
-    members: &Map<String, Value>,
-    ids: &[(u8, u8)],
-) -> Result<u8, ReadRefusal>
+fn read_id(alloc: Global, members: &Map<String, Value>, ids: &[(u8, u8)]) -> Result<u8, ReadRefusal>
     ensures { Answers (λ n. n) result (HeadReading.read_id ids.now (members_view members.now.entries)) }
 {
     match ids {
@@ -171,8 +167,31 @@ fn read_extension(
     read_word(alloc, members, &field)
 }
 
-/// section_number and last_section_number, where they are kept: `OutOfRange` on the last where it is below
-/// the first.
+/// The first number is not above the last, else `OutOfRange` on `last_section_number`.
+fn numbers_in_order(alloc: Global, first: u8, last: u8) -> Result<(u8, u8), ReadRefusal>
+    ensures { Answers (λ n. n) result (HeadReading.numbers_in_order first last) }
+{
+    if first <= last {
+        return Ok((first, last));
+    }
+    Err(refuse_key(alloc, "last_section_number", JsonKind::OutOfRange))
+}
+
+/// section_number and last_section_number.
+#[tactic(auto, unfolding(crate::specs::HeadReading::read_numbers))]
+fn read_numbers(
+    alloc: Global,
+    members: &Map<String, Value>,
+) -> Result<Option<(u8, u8)>, ReadRefusal>
+    ensures { Answers (λ n. n) result (HeadReading.read_numbers (members_view members.now.entries)) }
+{
+    let first = read_byte(alloc, members, &SECTION_NUMBER)?;
+    let last = read_byte(alloc, members, &LAST_SECTION_NUMBER)?;
+    let numbers = numbers_in_order(alloc, first, last)?;
+    Ok(Some(numbers))
+}
+
+/// section_number and last_section_number, where they are kept.
 #[tactic(auto, unfolding(crate::specs::HeadReading::read_kept))]
 pub fn read_kept(
     alloc: Global,
@@ -184,16 +203,7 @@ pub fn read_kept(
     if !kept {
         return Ok(None);
     }
-    let first = read_byte(alloc, members, &SECTION_NUMBER)?;
-    let last = read_byte(alloc, members, &LAST_SECTION_NUMBER)?;
-    if first > last {
-        return Err(refuse_key(
-            alloc,
-            "last_section_number",
-            JsonKind::OutOfRange,
-        ));
-    }
-    Ok(Some((first, last)))
+    read_numbers(alloc, members)
 }
 
 /// Whether the PID of an entry of 0 is there, where such a one may stand.
@@ -201,6 +211,15 @@ pub fn names_network(members: &Map<String, Value>, one_zero: bool) -> bool
     ensures { result ≡ HeadReading.names_network one_zero (members_view members.now.entries) }
 {
     one_zero && member(members, "network_PID").is_some()
+}
+
+/// The PID of an entry of 0.
+#[tactic(auto, unfolding(crate::specs::HeadReading::read_pid))]
+fn read_pid(alloc: Global, members: &Map<String, Value>) -> Result<Option<u16>, ReadRefusal>
+    ensures { Answers (λ n. n) result (HeadReading.read_pid (members_view members.now.entries)) }
+{
+    let pid = read_word(alloc, members, &NETWORK_PID)?;
+    Ok(Some(pid))
 }
 
 /// The PID of an entry of 0, where it is there.
@@ -215,8 +234,7 @@ fn read_network(
     if !there {
         return Ok(None);
     }
-    let pid = read_word(alloc, members, &NETWORK_PID)?;
-    Ok(Some(pid))
+    read_pid(alloc, members)
 }
 
 /// The attributes of a table of a layout.

@@ -17,8 +17,8 @@ use serde_json::{Map, Value};
 use std::alloc::{AllocError, Global};
 use ts_bits::{Descriptor, DescriptorList};
 use ts_fields::FieldValue;
-use ts_jtree::{fit_is_shown, put_member, put_text, show_attributes};
 use ts_json_descr::descr_json;
+use ts_jtree::{fit_is_shown, put_member, put_text, show_attributes};
 use ts_table_rows::{ItemForm, TableBody, TableItem, TableLayout};
 
 /// The elements of descriptors.

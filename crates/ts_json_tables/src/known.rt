@@ -23,6 +23,7 @@ pub fn layout_named(name: &str) -> Option<&'static TableLayout>
 /// The layout of a table_id; none where no table has it.
 pub fn layout_with_id(id: u8) -> Option<&'static TableLayout>
     ensures page { option_map (λ l. table_page l.now) result ≡ page_with_id id }
+    ensures known { IfSome result (λ l. page_named (table_page l.now).name ≡ Some (table_page l.now)) }
     ensures sound { IfSome result (λ l. IsTrue (page_sound (table_page l.now))) }
 {
     match id {

@@ -12,9 +12,9 @@ mod runs;
 mod sections;
 mod showing;
 mod table;
-mod values;
 #[cfg(test)]
 mod tests;
+mod values;
 
 pub use reading::of_json;
 pub use runs::table_of;

@@ -132,24 +132,22 @@ fn numbers_or_none(numbers: Option<(u8, u8)>) -> (u8, u8)
     }
 }
 
-/// Sections of the long form.
-#[tactic(auto, unfolding(crate::specs::TableReading::read_long))]
-fn read_long(alloc: Global, members: &Map<String, Value>) -> Result<LongTable, ReadRefusal>
-    ensures { Answers (λ t. long (long_held t)) result
-        (TableReading.read_long (members_view members.now.entries)) }
+/// The attributes of sections of the long form.
+#[tactic(auto, unfolding(crate::specs::TableReading::read_long_head))]
+fn read_long_head(
+    alloc: Global,
+    eit: bool,
+    members: &Map<String, Value>,
+) -> Result<LongTable, ReadRefusal>
+    ensures { Answers long_held result
+        (TableReading.read_long_head eit (members_view members.now.entries)) }
 {
-    let eit = names_eit(members);
-    let rows = long_rows(alloc, eit)?;
-    check_keys(alloc, &rows, members)?;
     let version = read_byte(alloc, members, &VERSION)?;
     let current = read_truth(alloc, members, &CURRENT)?;
     let table_id = read_byte(alloc, members, &ANY_TABLE_ID)?;
     let table_id_extension = read_word(alloc, members, &ANY_EXTENSION)?;
     let private = read_truth(alloc, members, &PRIVATE)?;
     let numbers = read_kept(alloc, members, eit)?;
-    let nodes = children(alloc, members)?;
-    counted(alloc, eit, nodes)?;
-    let payloads = read_payloads(alloc, nodes)?;
     let (section_number, last_section_number) = numbers_or_none(numbers);
     Ok(LongTable {
         version,
@@ -159,16 +157,28 @@ fn read_long(alloc: Global, members: &Map<String, Value>) -> Result<LongTable, R
         private,
         section_number,
         last_section_number,
-        payloads,
+        payloads: Vec::new(alloc),
     })
 }
 
+/// Sections of the long form.
+#[tactic(auto, unfolding(crate::specs::TableReading::read_long))]
+fn read_long(alloc: Global, members: &Map<String, Value>) -> Result<LongTable, ReadRefusal>
+    ensures { Answers (λ t. long (long_held t)) result
+        (TableReading.read_long (members_view members.now.entries)) }
+{
+    let eit = names_eit(members);
+    let rows = long_rows(alloc, eit)?;
+    check_keys(alloc, &rows, members)?;
+    let mut table = read_long_head(alloc, eit, members)?;
+    let nodes = children(alloc, members)?;
+    counted(alloc, eit, nodes)?;
+    table.payloads = read_payloads(alloc, nodes)?;
+    Ok(table)
+}
+
 /// A table of this name.
-fn read_named(
-    alloc: Global,
-    name: &str,
-    members: &Map<String, Value>,
-) -> Result<Table, ReadRefusal>
+fn read_named(alloc: Global, name: &str, members: &Map<String, Value>) -> Result<Table, ReadRefusal>
     ensures { Answers table_value result (read_by_name name.now (members_view members.now.entries)) }
 {
     if name == "generic_short_table" {

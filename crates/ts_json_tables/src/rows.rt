@@ -1,6 +1,6 @@
 //! The attributes of a table's element, in their order.
 
-ghost use Rattle.std.specs.Prelude.{◌≡◌, ◌++◌, IfOk, OnOk};
+ghost use Rattle.std.specs.Prelude.{◌≡◌, ◌++◌, true, IfOk, OnOk};
 ghost use Rattle.ts_fields.specs.Layout.{row, rows_of};
 ghost use Rattle.ts_table_rows.specs.TablePages.{table_page};
 ghost use Rattle.ts_json_tables.specs.ElementRows;
@@ -153,6 +153,14 @@ fn push_extension(rows: &mut Vec<Field>, name: &'static str) -> Result<(), Alloc
     Ok(())
 }
 
+/// Adds the rows of the section numbers.
+fn push_numbers(rows: &mut Vec<Field>) -> Result<(), AllocError>
+    ensures { OnOk result (rows_of rows.new.items ≡ rows_of rows.old.items ++ kept_rows true) }
+{
+    rows.extend_from_slice(&[SECTION_NUMBER, LAST_SECTION_NUMBER])?;
+    Ok(())
+}
+
 /// Adds the rows of the section numbers, where they are kept.
 fn push_kept(rows: &mut Vec<Field>, kept: bool) -> Result<(), AllocError>
     ensures { OnOk result (rows_of rows.new.items ≡ rows_of rows.old.items ++ kept_rows kept) }
@@ -160,9 +168,7 @@ fn push_kept(rows: &mut Vec<Field>, kept: bool) -> Result<(), AllocError>
     if !kept {
         return Ok(());
     }
-    rows.push(SECTION_NUMBER)?;
-    rows.push(LAST_SECTION_NUMBER)?;
-    Ok(())
+    push_numbers(rows)
 }
 
 /// Adds the row of the PID that an entry of 0 names, where there is one.

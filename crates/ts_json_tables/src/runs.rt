@@ -1,6 +1,6 @@
 //! The table of a run of sections.
 
-ghost use Rattle.std.specs.Prelude.{◌≡◌, ◌∷◌, [], ◌<◌, map, length, true, All, IfOk, IfSome, IsTrue, OnOk, is_some, Some, if◌then◌else◌};
+ghost use Rattle.std.specs.Prelude.{◌≡◌, ◌∷◌, [], ◌<◌, map, length, true, false, All, IfOk, IfSome, IsTrue, OnOk, is_some, Some, if◌then◌else◌};
 ghost use Rattle.ts_section.specs.SectionFields.{body_of};
 ghost use Rattle.ts_section.specs.SectionFields as fields;
 ghost use Rattle.ts_section.specs.LawfulSection.{IsSection};
@@ -11,6 +11,7 @@ ghost use Rattle.ts_table_rows.specs.TableValues.{item_held, table_held};
 ghost use Rattle.ts_psi.specs.PatTables.{ordered};
 ghost use Rattle.ts_json_tables.specs.ElementRows;
 ghost use Rattle.ts_json_tables.specs.HeldTables.{short, table_value};
+ghost use Rattle.ts_json_tables.specs.KnownPages.{page_named};
 ghost use Rattle.ts_json_tables.specs.LawfulTables.{IsTable};
 ghost use Rattle.ts_json_tables.specs.RunTables;
 ghost use Rattle.ts_json_tables.specs.RunTables.{bytes_table, kept_numbers, read_or_bytes, settled, settled_extension, settled_items, table_by, table_of_run};
@@ -170,8 +171,10 @@ fn typed_table(
     layout: &'static TableLayout,
     run: &TableRun,
 ) -> Result<Table, AllocError>
-    requires { IsTrue (page_sound (table_page layout.now)) }
-    ensures { IfOk result (λ t. table_value t ≡ table_by (Some (table_page layout.now)) run.now) }
+    requires sound { IsTrue (page_sound (table_page layout.now)) }
+    requires known { page_named (table_page layout.now).name ≡ Some (table_page layout.now) }
+    ensures table { IfOk result (λ t. table_value t ≡ table_by (Some (table_page layout.now)) run.now) }
+    ensures lawful { IfOk result (λ t. IsTable (table_value t)) }
 {
     match read_table(alloc, layout, run) {
         Ok(table) => {

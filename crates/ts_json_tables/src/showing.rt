@@ -38,7 +38,6 @@ fn laid_json(alloc: Global, table: &LaidTable) -> Result<Value, AllocError>
 }
 
 /// The element of a section of the short form.
-#[tactic(auto, unfolding(ts_jtree::specs::Shown::are_shown))]
 fn short_json(alloc: Global, table: &ShortTable) -> Result<Value, AllocError>
     ensures { IfOk result (λ v. view v ≡ short_shown (short_held table.now)) }
 {
@@ -51,7 +50,6 @@ fn short_json(alloc: Global, table: &ShortTable) -> Result<Value, AllocError>
 }
 
 /// The element of sections of the long form.
-#[tactic(auto, unfolding(ts_jtree::specs::Shown::are_shown))]
 fn long_json(alloc: Global, table: &LongTable) -> Result<Value, AllocError>
     ensures { IfOk result (λ v. view v ≡ long_shown (long_held table.now)) }
 {

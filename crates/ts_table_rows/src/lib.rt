@@ -23,5 +23,6 @@ pub use filling_laws::filled_greedily;
 pub use layout::{ItemForm, LoopForm, TableLayout};
 pub use read_run::read_table;
 pub use table::{Table, TableBody, TableHead, TableItem};
+pub use write_laws::written_rows_are_whole;
 pub use write_rows::held_count;
 pub use write_run::write_table;
