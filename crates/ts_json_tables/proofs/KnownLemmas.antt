@@ -1,6 +1,6 @@
 -- What every table has that is known.
 use Rattle.std.proofs.Common.{◌≡◌, ℕ, Bool, true, false, List, [], ◌∷◌, ◌<◌, refl, subst, sym, ap, ◌∙◌, arith}
-use Rattle.std.specs.Prelude.{Option, Some, None, Ok, find, bytes_eq, nat_eq, IsTrue, if◌then◌else◌}
+use Rattle.std.specs.Prelude.{◌&&◌, ◌||◌, Option, Some, None, Ok, find, bytes_eq, nat_eq, nat_le, IsTrue, if◌then◌else◌}
 use Rattle.std.proofs.lemmas.Option.{same_Some}
 use Rattle.serde_json.specs.Data.{Members}
 use Rattle.ts_jtree.specs.Elements.{is_known}
@@ -9,14 +9,16 @@ use Rattle.ts_pages.specs.Pages as descrs
 use Rattle.ts_json_descr.specs.DescrElements.{generic_name}
 use Rattle.ts_table_rows.specs.TablePages.{ItemPage, TablePage, has_id, page_sound}
 use Rattle.ts_psi.specs.PsiPages.{cat_page, entry_page, pat_page, pmt_page}
-use Rattle.ts_json_tables.specs.ElementRows.{element_rows, long_name, network_key, short_name}
+use Rattle.ts_json_tables.specs.ElementRows.{element_rows, id_rows, long_name, network_key, short_name}
 use Rattle.ts_json_tables.specs.KnownPages.{page_named, page_with_id, table_pages}
-use Rattle.std.proofs.lemmas.Bool.{eq-eqb, le-leb}
+use Rattle.std.proofs.lemmas.Bool.{eq-eqb, le-leb, leb-true}
 use Rattle.ts_jtree.specs.Faults.{Reading}
+use Rattle.ts_jtree.specs.Attributes.{read_attributes}
 use Rattle.ts_json_tables.specs.HeadReading.{read_id}
+use Rattle.ts_json_tables.specs.TableElements.{id_values}
 use Rattle.ts_json_tables.proofs.ReadLemmas.{are_plain}
 use Rattle.ts_json_tables.proofs.RowLemmas.{plain}
-use Rattle.ts_json_tables.proofs.StepLemmas.{same_ok}
+use Rattle.ts_json_tables.proofs.StepLemmas.{both, same_ok}
 
 -- an item's name is no descriptor's, and its rows can be shown
 pub record ItemFacts (i : ItemPage) : Type 0 where
@@ -50,6 +52,18 @@ one_id n small ms id is =
     let e = id_by (nat_eq n n) n id _ (eq-eqb n n refl) is in
     subst (λ k. (has_id ((n, n) ∷ []) k ≡ true) × (k < 255)) e (rw (le-leb n n (omega arith)) refl, small)
 
+or_no : (b : Bool) → (b || false) ≡ true → b ≡ true
+or_no true is = refl
+or_no false is = cc
+
+-- its table_id is told by no attribute
+one_again : (n : ℕ) (ms : Members) (id : ℕ) → has_id ((n, n) ∷ []) id ≡ true → read_id ((n, n) ∷ []) ms ≡ Ok id
+unfolding read_id
+one_again n ms id is =
+    let parts = both (nat_le n id) (nat_le id n) (or_no (nat_le n id && nat_le id n) is) in
+    let same : n ≡ id = omega (arith, leb-true n id parts.0, leb-true id n parts.1) in
+    rw (eq-eqb n n refl) (ap Ok same)
+
 pub record Facts (p : TablePage) : Type 0 where
   pub sound : IsTrue (page_sound p)
   pub named : page_named p.name ≡ Some p
@@ -61,6 +75,7 @@ pub record Facts (p : TablePage) : Type 0 where
   pub items : ItemsFacts p.items
   pub zero : p.one_zero ≡ true → p.items ≡ Some entry_page
   pub ids : (ms : Members) (id : ℕ) → read_id p.ids ms ≡ Ok id → (has_id p.ids id ≡ true) × (id < 255)
+  pub ids_again : (ms : Members) (id : ℕ) → has_id p.ids id ≡ true → read_attributes (id_rows p.ids) ms ≡ Ok (id_values p.ids id) → read_id p.ids ms ≡ Ok id
   pub common : are_plain p.common ≡ true
   pub head : are_plain p.head ≡ true
   pub plain : ItemsPlain p.items
@@ -78,6 +93,7 @@ pat_facts = record {
   items = record { shows = refl; own = refl; other = refl };
   zero = λ is. refl;
   ids = one_id 0x00 (omega arith);
+  ids_again = λ ms id is read. one_again 0x00 ms id is;
   common = refl;
   head = refl;
   plain = refl;
@@ -96,6 +112,7 @@ cat_facts = record {
   items = tt;
   zero = λ is. cc;
   ids = one_id 0x01 (omega arith);
+  ids_again = λ ms id is read. one_again 0x01 ms id is;
   common = refl;
   head = refl;
   plain = tt;
@@ -114,6 +131,7 @@ pmt_facts = record {
   items = record { shows = refl; own = refl; other = refl };
   zero = λ is. cc;
   ids = one_id 0x02 (omega arith);
+  ids_again = λ ms id is read. one_again 0x02 ms id is;
   common = refl;
   head = refl;
   plain = refl;

@@ -130,7 +130,7 @@ given_id (Some value) ms range key n is =
     go (Some k) m was same = ap is_eit_id (same_ok k m was ∙ same)
     go None m was same = cc
 
-eit_same : (ms : Members) (n : ℕ) → read_number (table_id_row (0, 254)) ms ≡ Ok n → names_eit ms ≡ is_eit_id n
+pub eit_same : (ms : Members) (n : ℕ) → read_number (table_id_row (0, 254)) ms ≡ Ok n → names_eit ms ≡ is_eit_id n
 unfolding read_number read_attributes attribute_of number_attribute
 eit_same ms n is =
     first_of (names_eit ms ≡ is_eit_id n) (table_id_row (0, 254)) ms only_number n is (λ values was made.

@@ -16,3 +16,7 @@ mod LawfulLemmas
 mod LawfulEnd
 mod RunLemmas
 mod ValueLemmas
+mod AgainLemmas
+mod RoundLemmas
+mod RoundHead
+mod RoundEnd

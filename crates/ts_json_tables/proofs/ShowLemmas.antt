@@ -51,7 +51,7 @@ pub truth_small : (b : Bool) → nat_lt (truth_bit b) 2 ≡ true
 truth_small true = refl
 truth_small false = refl
 
-id_fit : (ids : List (ℕ × ℕ)) (id : ℕ) → id < 255 → fits (id_rows ids) (id_values ids id) ≡ true
+pub id_fit : (ids : List (ℕ × ℕ)) (id : ℕ) → id < 255 → fits (id_rows ids) (id_values ids id) ≡ true
 unfolding fits
 id_fit [] id small = refl
 id_fit (x ∷ []) id small = go (nat_eq x.0 x.1)
@@ -61,12 +61,12 @@ id_fit (x ∷ []) id small = go (nat_eq x.0 x.1)
     go false = and_from (nat_lt id (2 ^ 8)) true (lt-ltb id (2 ^ 8) (omega (arith, small))) refl
 id_fit (x ∷ y ∷ more) id small = and_from (nat_lt (truth_bit (nat_eq id x.0)) 2) true (truth_small (nat_eq id x.0)) refl
 
-extension_fit : (called : List ℕ) (n : ℕ) → n < 65536 → fits (extension_rows called) (extension_values called n) ≡ true
+pub extension_fit : (called : List ℕ) (n : ℕ) → n < 65536 → fits (extension_rows called) (extension_values called n) ≡ true
 unfolding fits
 extension_fit [] n small = refl
 extension_fit (c ∷ cs) n small = and_from (nat_lt n (2 ^ 16)) true (lt-ltb n (2 ^ 16) (omega (arith, small))) refl
 
-kept_fit : (kept : Bool) (n : Option (ℕ × ℕ)) → numbers_fit kept n ≡ true → fits (kept_rows kept) (kept_values n) ≡ true
+pub kept_fit : (kept : Bool) (n : Option (ℕ × ℕ)) → numbers_fit kept n ≡ true → fits (kept_rows kept) (kept_values n) ≡ true
 unfolding fits
 kept_fit false None is = refl
 kept_fit false (Some n) is = cc
@@ -78,7 +78,7 @@ kept_fit true (Some n) is =
     and_from (nat_lt n.0 (2 ^ 8)) (nat_lt n.1 (2 ^ 8) && true) (lt-ltb n.0 (2 ^ 8) (omega (arith, last, order)))
     (and_from (nat_lt n.1 (2 ^ 8)) true (lt-ltb n.1 (2 ^ 8) (omega (arith, last))) refl)
 
-first_fit : (p : TablePage) (t : TableHolding) → Parts p t → fits (first_rows p) (first_values p t.head) ≡ true
+pub first_fit : (p : TablePage) (t : TableHolding) → Parts p t → fits (first_rows p) (first_values p t.head) ≡ true
 unfolding fits
 first_fit p t parts =
     let id = id_fit p.ids t.head.table_id parts.lawful_id in

@@ -12,6 +12,7 @@ mod runs;
 mod sections;
 mod showing;
 mod table;
+mod table_laws;
 #[cfg(test)]
 mod tests;
 mod values;
@@ -21,3 +22,4 @@ pub use runs::table_of;
 pub use sections::table_sections;
 pub use showing::to_json;
 pub use table::{LaidTable, LongTable, ShortTable, Table};
+pub use table_laws::shown_table_is_read;
