@@ -25,5 +25,6 @@ pub use layout::{ItemForm, LoopForm, TableLayout};
 pub use read_run::read_table;
 pub use round_trip::written_tables_are_read;
 pub use table::{Table, TableBody, TableHead, TableItem};
+pub use write_laws::written_rows_are_whole;
 pub use write_rows::held_count;
 pub use write_run::write_table;

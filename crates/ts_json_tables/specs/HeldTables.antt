@@ -1,0 +1,56 @@
+-- What a table holds.
+-- This project's own rule: a table is of a page that is known, or is kept as the bytes of its sections' bodies.
+use Rattle.std.specs.Prelude.{ℕ, List, map, Bool}
+use Rattle.ts_table_rows.specs.TablePages.{TablePage, table_page}
+use Rattle.ts_table_rows.specs.TableValues.{TableHolding, table_held}
+use Rattle.ts_json_tables.specs.declared.table.LaidTable.{LaidTable}
+use Rattle.ts_json_tables.specs.declared.table.ShortTable.{ShortTable}
+use Rattle.ts_json_tables.specs.declared.table.LongTable.{LongTable}
+use Rattle.ts_json_tables.specs.declared.table.Table.{Table}
+use Rattle.ts_json_tables.specs.declared.table.Table.TheVariants as kinds
+
+-- one section of the short form
+pub record ShortHolding : Type 0 where
+  pub table_id : ℕ
+  pub own : Bool
+  pub payload : List ℕ
+
+-- sections of the long form: what their heads have alike, the private bit of the first, the first number and the
+-- last where the table keeps them, and the bodies
+pub record LongHolding : Type 0 where
+  pub version : ℕ
+  pub current : Bool
+  pub table_id : ℕ
+  pub extension : ℕ
+  pub own : Bool
+  pub numbers : ℕ × ℕ
+  pub payloads : List (List ℕ)
+
+-- a table of a page, or of bytes
+pub data TableValue : Type 0 where
+  laid : TablePage → TableHolding → TableValue
+  short : ShortHolding → TableValue
+  long : LongHolding → TableValue
+
+-- what a value of the code's is
+abbrev pub laid_value : LaidTable → TableValue
+laid_value t = laid (table_page t.layout.now) (table_held t.held)
+
+abbrev pub short_held : ShortTable → ShortHolding
+short_held t = record { table_id = t.table_id; own = t.private; payload = t.payload.items }
+
+abbrev pub long_held : LongTable → LongHolding
+long_held t = record {
+  version = t.version;
+  current = t.current;
+  table_id = t.table_id;
+  extension = t.table_id_extension;
+  own = t.private;
+  numbers = (t.section_number, t.last_section_number);
+  payloads = map (λ p. p.items) t.payloads.items;
+}
+
+abbrev pub table_value : Table → TableValue
+table_value (kinds.Laid t) = laid_value t
+table_value (kinds.Short t) = short (short_held t)
+table_value (kinds.Long t) = long (long_held t)

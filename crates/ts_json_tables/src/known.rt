@@ -1,0 +1,35 @@
+//! The tables that have an element of their own.
+
+ghost use Rattle.std.specs.Prelude.{◌≡◌, option_map, IfSome, IsTrue};
+ghost use Rattle.ts_table_rows.specs.TablePages.{table_page, page_sound};
+ghost use Rattle.ts_json_tables.specs.KnownPages.{page_named, page_with_id};
+
+use ts_psi::{cat_layout, pat_layout, pmt_layout};
+use ts_table_rows::TableLayout;
+
+/// The layout of an element's name; none where no table has it.
+pub fn layout_named(name: &str) -> Option<&'static TableLayout>
+    ensures page { option_map (λ l. table_page l.now) result ≡ page_named name.now }
+    ensures sound { IfSome result (λ l. IsTrue (page_sound (table_page l.now))) }
+{
+    match name {
+        "PAT" => Some(pat_layout()),
+        "CAT" => Some(cat_layout()),
+        "PMT" => Some(pmt_layout()),
+        _ => None,
+    }
+}
+
+/// The layout of a table_id; none where no table has it.
+pub fn layout_with_id(id: u8) -> Option<&'static TableLayout>
+    ensures page { option_map (λ l. table_page l.now) result ≡ page_with_id id }
+    ensures known { IfSome result (λ l. page_named (table_page l.now).name ≡ Some (table_page l.now)) }
+    ensures sound { IfSome result (λ l. IsTrue (page_sound (table_page l.now))) }
+{
+    match id {
+        0x00 => Some(pat_layout()),
+        0x01 => Some(cat_layout()),
+        0x02 => Some(pmt_layout()),
+        _ => None,
+    }
+}

@@ -1,0 +1,25 @@
+//! Runs of sections and elements of JSON come in as tables, and tables go out as elements and as sections.
+//! The layer above rests on `table_of`, `to_json`, `of_json` and `table_sections`, and on `shown_table_is_read`.
+#![tactic(auto)]
+
+mod children;
+mod heading;
+mod items;
+mod known;
+mod reading;
+mod rows;
+mod runs;
+mod sections;
+mod showing;
+mod table;
+mod table_laws;
+#[cfg(test)]
+mod tests;
+mod values;
+
+pub use reading::of_json;
+pub use runs::table_of;
+pub use sections::table_sections;
+pub use showing::to_json;
+pub use table::{LaidTable, LongTable, ShortTable, Table};
+pub use table_laws::shown_table_is_read;

@@ -1,0 +1,237 @@
+//! The attributes of a table's element, in their order.
+
+ghost use Rattle.std.specs.Prelude.{◌≡◌, ◌++◌, true, IfOk, OnOk};
+ghost use Rattle.ts_fields.specs.Layout.{row, rows_of};
+ghost use Rattle.ts_table_rows.specs.TablePages.{table_page};
+ghost use Rattle.ts_json_tables.specs.ElementRows;
+ghost use Rattle.ts_json_tables.specs.ElementRows.{id_rows, extension_row, extension_rows, kept_rows, network_rows, table_id_row};
+
+use std::alloc::{AllocError, Global};
+use ts_fields::{Field, Kind};
+use ts_table_rows::TableLayout;
+
+/// version_number.
+pub static VERSION: Field = Field {
+    name: "version",
+    kind: Kind::Number(5),
+    absent: Some(0),
+    range: None,
+};
+
+/// current_next_indicator.
+pub static CURRENT: Field = Field {
+    name: "current",
+    kind: Kind::Flag,
+    absent: Some(1),
+    range: None,
+};
+
+/// Whether a table of two table_ids has the first.
+pub static ACTUAL: Field = Field {
+    name: "actual",
+    kind: Kind::Flag,
+    absent: Some(1),
+    range: None,
+};
+
+/// The bit behind section_syntax_indicator.
+pub static PRIVATE: Field = Field {
+    name: "private",
+    kind: Kind::Flag,
+    absent: Some(1),
+    range: None,
+};
+
+/// section_number.
+pub static SECTION_NUMBER: Field = Field {
+    name: "section_number",
+    kind: Kind::Number(8),
+    absent: Some(0),
+    range: None,
+};
+
+/// last_section_number.
+pub static LAST_SECTION_NUMBER: Field = Field {
+    name: "last_section_number",
+    kind: Kind::Number(8),
+    absent: Some(0),
+    range: None,
+};
+
+/// The PID that an entry of 0 names.
+pub static NETWORK_PID: Field = Field {
+    name: "network_PID",
+    kind: Kind::Number(13),
+    absent: None,
+    range: None,
+};
+
+/// The table_id of a table of bytes.
+pub static ANY_TABLE_ID: Field = Field {
+    name: "table_id",
+    kind: Kind::Number(8),
+    absent: None,
+    range: Some((0, 254)),
+};
+
+/// The table_id_extension of a table of bytes.
+pub static ANY_EXTENSION: Field = Field {
+    name: "table_id_extension",
+    kind: Kind::Number(16),
+    absent: None,
+    range: None,
+};
+
+/// The bytes of a section of the short form.
+pub static SHORT_PAYLOAD: Field = Field {
+    name: "payload",
+    kind: Kind::Hex,
+    absent: None,
+    range: Some((0, 4093)),
+};
+
+/// The bytes of a section of the long form.
+pub static LONG_PAYLOAD: Field = Field {
+    name: "payload",
+    kind: Kind::Hex,
+    absent: None,
+    range: Some((0, 4084)),
+};
+
+/// The table_id of a table that has several.
+pub fn table_id_field(range: (u8, u8)) -> Field
+    ensures { row result ≡ table_id_row range }
+{
+    Field {
+        name: "table_id",
+        kind: Kind::Number(8),
+        absent: None,
+        range: Some((u64::from(range.0), u64::from(range.1))),
+    }
+}
+
+/// table_id_extension under the table's own name.
+pub fn extension_field(name: &'static str) -> Field
+    ensures { row result ≡ extension_row name.now }
+{
+    Field {
+        name,
+        kind: Kind::Number(16),
+        absent: None,
+        range: None,
+    }
+}
+
+/// Adds the row that tells which of its table_ids a table has.
+fn push_id(rows: &mut Vec<Field>, ids: &[(u8, u8)]) -> Result<(), AllocError>
+    ensures { OnOk result (rows_of rows.new.items ≡ rows_of rows.old.items ++ id_rows ids.now) }
+{
+    match ids {
+        [] => Ok(()),
+        [range] => {
+            if range.0 == range.1 {
+                return Ok(());
+            }
+            rows.push(table_id_field(*range))?;
+            Ok(())
+        }
+        _ => {
+            rows.push(ACTUAL)?;
+            Ok(())
+        }
+    }
+}
+
+/// Adds the row of table_id_extension, where it is not reserved.
+fn push_extension(rows: &mut Vec<Field>, name: &'static str) -> Result<(), AllocError>
+    ensures { OnOk result (rows_of rows.new.items ≡ rows_of rows.old.items ++ extension_rows name.now) }
+{
+    if name.is_empty() {
+        return Ok(());
+    }
+    rows.push(extension_field(name))?;
+    Ok(())
+}
+
+/// Adds the rows of the section numbers.
+fn push_numbers(rows: &mut Vec<Field>) -> Result<(), AllocError>
+    ensures { OnOk result (rows_of rows.new.items ≡ rows_of rows.old.items ++ kept_rows true) }
+{
+    rows.extend_from_slice(&[SECTION_NUMBER, LAST_SECTION_NUMBER])?;
+    Ok(())
+}
+
+/// Adds the rows of the section numbers, where they are kept.
+fn push_kept(rows: &mut Vec<Field>, kept: bool) -> Result<(), AllocError>
+    ensures { OnOk result (rows_of rows.new.items ≡ rows_of rows.old.items ++ kept_rows kept) }
+{
+    if !kept {
+        return Ok(());
+    }
+    push_numbers(rows)
+}
+
+/// Adds the row of the PID that an entry of 0 names, where there is one.
+fn push_network(rows: &mut Vec<Field>, network: bool) -> Result<(), AllocError>
+    ensures { OnOk result (rows_of rows.new.items ≡ rows_of rows.old.items ++ network_rows network) }
+{
+    if !network {
+        return Ok(());
+    }
+    rows.push(NETWORK_PID)?;
+    Ok(())
+}
+
+/// The attributes of a table of a layout, with or without the PID of an entry of 0.
+pub fn element_rows(
+    alloc: Global,
+    layout: &TableLayout,
+    network: bool,
+) -> Result<Vec<Field>, AllocError>
+    ensures { IfOk result (λ v. rows_of v.items ≡ ElementRows.element_rows (table_page layout.now) network) }
+{
+    let mut rows = Vec::new(alloc);
+    rows.push(VERSION)?;
+    rows.push(CURRENT)?;
+    push_id(&mut rows, layout.ids)?;
+    push_extension(&mut rows, layout.extension)?;
+    rows.extend_from_slice(layout.common)?;
+    push_kept(&mut rows, layout.keeps_numbers)?;
+    rows.extend_from_slice(layout.head)?;
+    push_network(&mut rows, network)?;
+    Ok(rows)
+}
+
+/// The attributes of sections of the long form, with or without their numbers.
+pub fn long_rows(alloc: Global, kept: bool) -> Result<Vec<Field>, AllocError>
+    ensures { IfOk result (λ v. rows_of v.items ≡ ElementRows.long_rows kept) }
+{
+    let mut rows = Vec::new(alloc);
+    rows.push(VERSION)?;
+    rows.push(CURRENT)?;
+    rows.push(ANY_TABLE_ID)?;
+    rows.push(ANY_EXTENSION)?;
+    rows.push(PRIVATE)?;
+    push_kept(&mut rows, kept)?;
+    Ok(rows)
+}
+
+/// The attributes of a section of the short form.
+pub fn short_rows(alloc: Global) -> Result<Vec<Field>, AllocError>
+    ensures { IfOk result (λ v. rows_of v.items ≡ ElementRows.short_rows) }
+{
+    let mut rows = Vec::new(alloc);
+    rows.push(ANY_TABLE_ID)?;
+    rows.push(PRIVATE)?;
+    rows.push(SHORT_PAYLOAD)?;
+    Ok(rows)
+}
+
+/// The attribute of a section of the long form.
+pub fn section_rows(alloc: Global) -> Result<Vec<Field>, AllocError>
+    ensures { IfOk result (λ v. rows_of v.items ≡ ElementRows.section_rows) }
+{
+    let mut rows = Vec::new(alloc);
+    rows.push(LONG_PAYLOAD)?;
+    Ok(rows)
+}

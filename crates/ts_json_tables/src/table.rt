@@ -1,0 +1,55 @@
+//! Tables: of a page that is known, or of bytes.
+
+use ts_table_rows::TableLayout;
+
+/// A table of a layout that is known here.
+#[derive(Debug, Drop)]
+pub struct LaidTable {
+    /// Its layout.
+    pub layout: &'static TableLayout,
+    /// What it holds.
+    pub held: ts_table_rows::Table,
+}
+
+/// One section of the short form, by its bytes.
+#[derive(Debug, Drop)]
+pub struct ShortTable {
+    /// table_id, 0 to 254.
+    pub table_id: u8,
+    /// The bit behind section_syntax_indicator.
+    pub private: bool,
+    /// The bytes behind section_length, at most 4093.
+    pub payload: Vec<u8>,
+}
+
+/// Sections of the long form, by the bytes of their bodies.
+#[derive(Debug, Drop)]
+pub struct LongTable {
+    /// version_number, 0 to 31.
+    pub version: u8,
+    /// current_next_indicator.
+    pub current: bool,
+    /// table_id, 0 to 254.
+    pub table_id: u8,
+    /// table_id_extension.
+    pub table_id_extension: u16,
+    /// The bit behind section_syntax_indicator, that of the first section.
+    pub private: bool,
+    /// section_number of the one section of an EIT, at most the last; 0 in every other table.
+    pub section_number: u8,
+    /// last_section_number of the one section of an EIT; 0 in every other table.
+    pub last_section_number: u8,
+    /// What stands between head and CRC in each section, at most 4084 bytes: 1 to 256 sections, of an EIT one.
+    pub payloads: Vec<Vec<u8>>,
+}
+
+/// A table.
+#[derive(Debug, Drop)]
+pub enum Table {
+    /// PAT, CAT or PMT.
+    Laid(LaidTable),
+    /// A section of the short form.
+    Short(ShortTable),
+    /// Sections of the long form that are of no known table, or not of its layout.
+    Long(LongTable),
+}

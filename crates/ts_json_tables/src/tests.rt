@@ -1,0 +1,116 @@
+//! Tables as JSON texts and sections, each call that takes memory once with enough of it.
+
+use crate::{of_json, table_of, table_sections, to_json};
+use serde_json::Value;
+use std::alloc::Global;
+use std::test::Fail;
+use ts_jtree::{JsonKind, ReadRefusal};
+use ts_section::TableRun;
+
+/// Whether a text is read, written as sections and shown again as another text.
+fn again(alloc: Global, text: &str) -> Result<String, Fail> {
+    let value = Value::from_str(alloc, text)?;
+    let table = of_json(alloc, &value)?;
+    let run = TableRun::of(table_sections(alloc, &table)?)?;
+    let back = table_of(alloc, &run)?;
+    Ok(to_json(alloc, &back)?.to_string(alloc)?)
+}
+
+/// Texts, and what they are in canonical form.
+static TEXTS: [(&str, &str); 6] = [
+    (
+        r##"{"#name":"PAT","transport_stream_id":1,"#nodes":[{"#name":"service","service_id":1,"program_map_PID":"0x1000"}]}"##,
+        r##"{"#name":"PAT","#nodes":[{"#name":"service","program_map_PID":4096,"service_id":1}],"current":true,"transport_stream_id":1,"version":0}"##,
+    ),
+    (
+        r##"{"#name":"PAT","transport_stream_id":1,"network_PID":16,"version":3,"current":"false"}"##,
+        r##"{"#name":"PAT","#nodes":[],"current":false,"network_PID":16,"transport_stream_id":1,"version":3}"##,
+    ),
+    (
+        r##"{"#name":"CAT","#nodes":[{"#name":"CA_descriptor","CA_PID":256,"CA_system_id":6144}]}"##,
+        r##"{"#name":"CAT","#nodes":[{"#name":"CA_descriptor","CA_PID":256,"CA_system_id":6144,"private_data":""}],"current":true,"version":0}"##,
+    ),
+    (
+        r##"{"#name":"PMT","service_id":1,"#nodes":[{"#name":"component","elementary_PID":257,"stream_type":3,"#nodes":[{"#name":"stream_identifier_descriptor","component_tag":7}]},{"#name":"generic_descriptor","tag":88,"data":"DEAD"}]}"##,
+        r##"{"#name":"PMT","#nodes":[{"#name":"generic_descriptor","data":"dead","tag":88},{"#name":"component","#nodes":[{"#name":"stream_identifier_descriptor","component_tag":7}],"elementary_PID":257,"stream_type":3}],"PCR_PID":8191,"current":true,"service_id":1,"version":0}"##,
+    ),
+    (
+        r##"{"#name":"generic_short_table","table_id":114,"private":true,"payload":"AA"}"##,
+        r##"{"#name":"generic_short_table","payload":"aa","private":true,"table_id":114}"##,
+    ),
+    (
+        r##"{"#name":"generic_long_table","table_id":"0x4E","table_id_extension":1,"section_number":2,"last_section_number":3,"#nodes":[{"#name":"section","payload":"00"}]}"##,
+        r##"{"#name":"generic_long_table","#nodes":[{"#name":"section","payload":"00"}],"current":true,"last_section_number":3,"private":true,"section_number":2,"table_id":78,"table_id_extension":1,"version":0}"##,
+    ),
+];
+
+#[test]
+fn tables_come_back(rt: HostRuntime) -> Result<(), Fail> {
+    for (text, canonical) in &TEXTS {
+        let back = again(rt.alloc(), text)?;
+        assert_eq!(rt; back.as_str(), *canonical);
+    }
+    Ok(())
+}
+
+/// The way, the key and the kind of a fault, as text.
+fn fault_text(alloc: Global, text: &str) -> Result<String, Fail> {
+    let value = Value::from_str(alloc, text)?;
+    let Err(ReadRefusal::Json(fault)) = of_json(alloc, &value) else {
+        return Err(Fail::from("no fault"));
+    };
+    let kind = match fault.kind {
+        JsonKind::Missing => "missing",
+        JsonKind::WrongKind => "wrong kind",
+        JsonKind::OutOfRange => "out of range",
+        JsonKind::UnknownKey => "unknown",
+    };
+    let first = fault.path.as_slice().first().copied().unwrap_or(99);
+    Ok(format!(in alloc; "{first} {} {kind}", fault.key.as_str())?)
+}
+
+/// Texts, and their first faults; 99 stands for the table itself.
+static FAULTS: [(&str, &str); 9] = [
+    (r##"{"#name":"PAD"}"##, "99 #name unknown"),
+    (
+        r##"{"#name":"PAT","transport_stream_id":1,"#nodes":[{"#name":"service","service_id":0,"program_map_PID":1}]}"##,
+        "0 service_id out of range",
+    ),
+    (
+        r##"{"#name":"PAT","transport_stream_id":1,"network_PID":8192}"##,
+        "99 network_PID out of range",
+    ),
+    (
+        r##"{"#name":"CAT","network_PID":8191}"##,
+        "99 network_PID unknown",
+    ),
+    (
+        r##"{"#name":"PMT","service_id":1,"#nodes":[{"#name":"CA_descriptor","CA_PID":1,"CA_system_id":1},{"#name":"service"}]}"##,
+        "1 #name unknown",
+    ),
+    (
+        r##"{"#name":"generic_long_table","table_id":77,"section_number":0,"table_id_extension":1}"##,
+        "99 section_number unknown",
+    ),
+    (
+        r##"{"#name":"generic_long_table","table_id":"111","section_number":1,"table_id_extension":1}"##,
+        "99 last_section_number out of range",
+    ),
+    (
+        r##"{"#name":"generic_long_table","table_id":77,"table_id_extension":1}"##,
+        "99 #nodes out of range",
+    ),
+    (
+        r##"{"#name":"generic_short_table","table_id":255,"private":1}"##,
+        "99 table_id out of range",
+    ),
+];
+
+#[test]
+fn the_first_fault_is_told(rt: HostRuntime) -> Result<(), Fail> {
+    for (text, told) in &FAULTS {
+        let fault = fault_text(rt.alloc(), text)?;
+        assert_eq!(rt; fault.as_str(), *told);
+    }
+    Ok(())
+}
