@@ -24,13 +24,17 @@ event_page = record {
   counted = false;
 }
 
--- the fields that stand in no event: transport_stream_id 16, original_network_id 16, segment_last_section_number 8,
--- last_table_id 8
-abbrev pub eit_rows : List Row
-eit_rows =
+-- the fields that all sections of an EIT have alike: transport_stream_id 16, original_network_id 16
+abbrev pub eit_common_rows : List Row
+eit_common_rows =
     field (codes "transport_stream_id") (Number 16)
     ∷ field (codes "original_network_id") (Number 16)
-    ∷ field_or (codes "segment_last_section_number") (Number 8) 0
+    ∷ []
+
+-- behind them: segment_last_section_number 8, last_table_id 8
+abbrev pub eit_head_rows : List Row
+eit_head_rows =
+    field_or (codes "segment_last_section_number") (Number 8) 0
     ∷ field (codes "last_table_id") (Number 8)
     ∷ []
 
@@ -44,8 +48,8 @@ eit_page = record {
   most = 4093;
   single = true;
   keeps_numbers = true;
-  common = [];
-  head = eit_rows;
+  common = eit_common_rows;
+  head = eit_head_rows;
   loop_form = Absent;
   items = Some event_page;
   one_zero = false;

@@ -22,10 +22,11 @@ static EIT: TableLayout = TableLayout {
     most: 4093,
     single: true,
     keeps_numbers: true,
-    common: &[],
-    head: rows! {
+    common: rows! {
         "transport_stream_id" Kind::Number(16), None;
         "original_network_id" Kind::Number(16), None;
+    },
+    head: rows! {
         "segment_last_section_number" Kind::Number(8), Some(0);
         "last_table_id" Kind::Number(8), None;
     },

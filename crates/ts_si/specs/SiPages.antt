@@ -30,7 +30,7 @@ network_rows = reserved 4 ∷ []
 abbrev pub nit_page : TablePage
 nit_page = record {
   name = codes "NIT";
-  ids = (0x40, 0x41) ∷ [];
+  ids = (0x40, 0x40) ∷ (0x41, 0x41) ∷ [];
   extension = codes "network_id";
   private_bit = true;
   most = 1021;

@@ -16,7 +16,7 @@ macro_rules! rows {
 /// Network information table (ETSI EN 300 468, 5.2.1).
 static NIT: TableLayout = TableLayout {
     name: "NIT",
-    ids: &[(0x40, 0x41)],
+    ids: &[(0x40, 0x40), (0x41, 0x41)],
     extension: "network_id",
     private_bit: true,
     most: 1021,
