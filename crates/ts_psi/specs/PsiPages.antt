@@ -11,10 +11,6 @@ use Rattle.ts_table_rows.specs.TablePages.{ItemPage, TablePage}
 abbrev pub entry_number_row : Row
 entry_number_row = record { name = codes "service_id"; kind = Number 16; absent = None; range = Some (1, 65535) }
 
--- the number of an entry, which is from 1 on where it is a service's
-abbrev pub entry_number_row : Row
-entry_number_row = record { name = codes "service_id"; kind = Number 16; absent = None; range = Some (1, 65535) }
-
 -- an entry of a PAT: program_number 16, reserved 3, program_map_PID or network_PID 13
 abbrev pub entry_page : ItemPage
 entry_page = record {
