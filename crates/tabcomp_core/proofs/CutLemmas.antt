@@ -19,17 +19,18 @@ unfolding front_of
 front_some b bs = omega (arith, length-take (3 + section_length_of (b ∷ bs)) (b ∷ bs))
 
 -- more turns than bytes change nothing
-turns : (most : ℕ) (offset : ℕ) (l : List ℕ) → length l ≤ most
-    → sections_from most offset l ≡ sections_from (length l) offset l
+turns : (most other : ℕ) (offset : ℕ) (l : List ℕ) → length l ≤ most → length l ≤ other
+    → sections_from most offset l ≡ sections_from other offset l
 unfolding sections_from
-turns most offset [] enough = refl
-turns zero offset (b ∷ bs) enough = absurd (omega (arith, enough))
-turns (suc most) offset (b ∷ bs) enough =
+turns most other offset [] enough also = refl
+turns zero other offset (b ∷ bs) enough also = absurd (omega (arith, enough))
+turns (suc most) zero offset (b ∷ bs) enough also = absurd (omega (arith, also))
+turns (suc most) (suc other) offset (b ∷ bs) enough also =
     let n = length (front_of (b ∷ bs)) in
     let rest = drop n (b ∷ bs) in
     let size : length rest ≤ length bs = omega (arith, length-drop n (b ∷ bs), front_some b bs) in
     ap (if_lawful (first_broken (front_of (b ∷ bs))) offset (front_of (b ∷ bs)))
-    (turns most (offset + n) rest (omega (arith, enough, size)) ∙ sym (turns (length bs) (offset + n) rest size))
+    (turns most other (offset + n) rest (omega (arith, enough, size)) (omega (arith, also, size)))
 
 front_more : (front : List (List ℕ)) (s : List ℕ) (r : Result (List (List ℕ)) FaultAt)
     → with_front front (before_more s r) ≡ with_front (front ++ s ∷ []) r
@@ -46,7 +47,7 @@ one_more (b ∷ bs) offset front some whole =
     let rest = drop n (b ∷ bs) in
     let size : length rest ≤ length bs = omega (arith, length-drop n (b ∷ bs), front_some b bs) in
     rw whole (front_more front (front_of (b ∷ bs)) (sections_from (length bs) (offset + n) rest)
-    ∙ ap (with_front (front ++ front_of (b ∷ bs) ∷ [])) (turns (length bs) (offset + n) rest size))
+    ∙ ap (with_front (front ++ front_of (b ∷ bs) ∷ [])) (turns (length bs) (length rest) (offset + n) rest size (omega arith)))
 
 one_stops : (l : List ℕ) (offset : ℕ) (front : List (List ℕ)) (fault : SectionFault) → 0 < length l
     → first_broken (front_of l) ≡ Some fault
