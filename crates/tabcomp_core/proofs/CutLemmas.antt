@@ -1,0 +1,102 @@
+-- Sections one after another.
+use Rattle.std.proofs.Common.{◌≡◌, ℕ, zero, suc, ◌+◌, ◌-◌, ◌<◌, ◌≤◌, List, [], ◌∷◌, ◌++◌, length, take, drop, refl, sym, ap, ◌∙◌, arith, append_assoc, append-nil}
+use Rattle.std.specs.Prelude.{Option, Some, None, Result, Ok, Err, min}
+use Rattle.std.proofs.lemmas.List.{drop_all, drop-drop, length-drop, length-take}
+use Rattle.ts_section.specs.declared.fault.SectionFault.{SectionFault}
+use Rattle.ts_section.specs.FirstBroken.{first_broken}
+use Rattle.ts_section.specs.SectionFields.{front_of, section_length_of}
+use Rattle.tabcomp_core.specs.declared.fault.DecompileFault.{DecompileFault}
+use Rattle.tabcomp_core.specs.declared.fault.DecompileFault.TheVariants as faults
+use Rattle.tabcomp_core.specs.Cutting.{CutsAt, CutsFront, FaultAt, before_more, if_lawful, sections_from, sections_in}
+
+-- what is cut with what was cut before
+abbrev pub with_front : List (List ℕ) → Result (List (List ℕ)) FaultAt → Result (List (List ℕ)) FaultAt
+with_front front (Ok more) = Ok (front ++ more)
+with_front front (Err fault) = Err fault
+
+front_some : (b : ℕ) (bs : List ℕ) → 0 < length (front_of (b ∷ bs))
+unfolding front_of
+front_some b bs = omega (arith, length-take (3 + section_length_of (b ∷ bs)) (b ∷ bs))
+
+-- more turns than bytes change nothing
+turns : (most other : ℕ) (offset : ℕ) (l : List ℕ) → length l ≤ most → length l ≤ other
+    → sections_from most offset l ≡ sections_from other offset l
+unfolding sections_from
+turns most other offset [] enough also = refl
+turns zero other offset (b ∷ bs) enough also = absurd (omega (arith, enough))
+turns (suc most) zero offset (b ∷ bs) enough also = absurd (omega (arith, also))
+turns (suc most) (suc other) offset (b ∷ bs) enough also =
+    let n = length (front_of (b ∷ bs)) in
+    let rest = drop n (b ∷ bs) in
+    let size : length rest ≤ length bs = omega (arith, length-drop n (b ∷ bs), front_some b bs) in
+    ap (if_lawful (first_broken (front_of (b ∷ bs))) offset (front_of (b ∷ bs)))
+    (turns most other (offset + n) rest (omega (arith, enough, size)) (omega (arith, also, size)))
+
+front_more : (front : List (List ℕ)) (s : List ℕ) (r : Result (List (List ℕ)) FaultAt)
+    → with_front front (before_more s r) ≡ with_front (front ++ s ∷ []) r
+front_more front s (Ok more) = ap Ok (sym (append_assoc front (s ∷ []) more))
+front_more front s (Err fault) = refl
+
+one_more : (l : List ℕ) (offset : ℕ) (front : List (List ℕ)) → 0 < length l → first_broken (front_of l) ≡ None
+    → with_front front (sections_from (length l) offset l)
+    ≡ with_front (front ++ front_of l ∷ []) (sections_from (length (drop (length (front_of l)) l)) (offset + length (front_of l)) (drop (length (front_of l)) l))
+unfolding sections_from
+one_more [] offset front some whole = absurd (omega (arith, some))
+one_more (b ∷ bs) offset front some whole =
+    let n = length (front_of (b ∷ bs)) in
+    let rest = drop n (b ∷ bs) in
+    let size : length rest ≤ length bs = omega (arith, length-drop n (b ∷ bs), front_some b bs) in
+    rw whole (front_more front (front_of (b ∷ bs)) (sections_from (length bs) (offset + n) rest)
+    ∙ ap (with_front (front ++ front_of (b ∷ bs) ∷ [])) (turns (length bs) (length rest) (offset + n) rest size (omega arith)))
+
+one_stops : (l : List ℕ) (offset : ℕ) (front : List (List ℕ)) (fault : SectionFault) → 0 < length l
+    → first_broken (front_of l) ≡ Some fault
+    → with_front front (sections_from (length l) offset l) ≡ Err (record { offset = offset; fault = fault })
+unfolding sections_from
+one_stops [] offset front fault some is = absurd (omega (arith, some))
+one_stops (b ∷ bs) offset front fault some is = rw is refl
+
+pub cut_goes_on : (bytes : List ℕ) (offset : ℕ) (s : List ℕ) (front : List (List ℕ)) (whole : Result (List (List ℕ)) FaultAt)
+    → offset < length bytes → first_broken (front_of (drop offset bytes)) ≡ None → s ≡ front_of (drop offset bytes)
+    → with_front front (sections_from (length (drop offset bytes)) offset (drop offset bytes)) ≡ whole
+    → with_front (front ++ s ∷ []) (sections_from (length (drop (offset + length s) bytes)) (offset + length s) (drop (offset + length s) bytes)) ≡ whole
+cut_goes_on bytes offset s front whole inside lawful same so_far =
+    let l = drop offset bytes in
+    let some : 0 < length l = omega (arith, length-drop offset bytes, inside) in
+    let at : drop (offset + length s) bytes ≡ drop (length (front_of l)) l =
+        ap (λ n. drop (offset + n) bytes) (ap length same) ∙ sym (drop-drop (length (front_of l)) offset bytes) in
+    ap (λ x. with_front (front ++ s ∷ []) (sections_from (length x) (offset + length s) x)) at
+    ∙ ap (λ x. with_front (front ++ x ∷ []) (sections_from (length (drop (length (front_of l)) l)) (offset + length x) (drop (length (front_of l)) l))) same
+    ∙ sym (one_more l offset front some lawful) ∙ so_far
+
+pub cut_stops : (bytes : List ℕ) (offset : ℕ) (front : List (List ℕ)) (fault : SectionFault) (whole : Result (List (List ℕ)) FaultAt)
+    → offset < length bytes → first_broken (front_of (drop offset bytes)) ≡ Some fault
+    → with_front front (sections_from (length (drop offset bytes)) offset (drop offset bytes)) ≡ whole
+    → whole ≡ Err (record { offset = offset; fault = fault })
+cut_stops bytes offset front fault whole inside is so_far =
+    sym so_far ∙ one_stops (drop offset bytes) offset front fault (omega (arith, length-drop offset bytes, inside)) is
+
+pub cut_done : (bytes : List ℕ) (offset : ℕ) (front : List (List ℕ)) (whole : Result (List (List ℕ)) FaultAt)
+    → length bytes ≤ offset
+    → with_front front (sections_from (length (drop offset bytes)) offset (drop offset bytes)) ≡ whole → whole ≡ Ok front
+unfolding sections_from
+cut_done bytes offset front whole all so_far =
+    sym so_far ∙ ap (λ l. with_front front (sections_from (length l) offset l)) (drop_all offset bytes all) ∙ ap Ok (append-nil front)
+
+-- nothing was cut before
+pub cut_begin : (r : Result (List (List ℕ)) FaultAt) → with_front [] r ≡ r
+cut_begin (Ok more) = refl
+cut_begin (Err fault) = refl
+
+pub front_size : (l : List ℕ) → length (front_of l) ≤ length l
+unfolding front_of
+front_size l = omega (arith, length-take (3 + section_length_of l) l)
+
+pub cut_refused : (bytes : List ℕ) (offset : ℕ) (front : List (List ℕ)) (fault : DecompileFault) (whole : Result (List (List ℕ)) FaultAt)
+    → offset < length bytes → CutsFront offset (drop offset bytes) {X = List ℕ} (λ s. s) (Err fault)
+    → with_front front (sections_from (length (drop offset bytes)) offset (drop offset bytes)) ≡ whole
+    → CutsAt fault whole
+cut_refused bytes offset front (faults.Section at broken) whole inside is so_far =
+    cut_stops bytes offset front broken whole inside is.1 so_far ∙ ap (λ n. Err (record { offset = n; fault = broken })) (sym is.0)
+cut_refused bytes offset front (faults.Sequence at) whole inside is so_far = absurd is
+cut_refused bytes offset front faults.NoMemory whole inside is so_far = tt

@@ -1,0 +1,4 @@
+mod EachLemmas
+mod CutLemmas
+mod JoinLemmas
+mod TextLemmas

@@ -1,0 +1,158 @@
+//! A JSON text to the sections of its tables.
+
+ghost use Rattle.std.specs.Prelude.{◌≡◌, ◌++◌, map, option_map, if◌then◌else◌, Some, None, All, OnOk, IfOk};
+ghost use Rattle.std.specs.Str.{is_utf8};
+ghost use Rattle.serde_json.specs.Read.{read};
+ghost use Rattle.std.specs.List.{concat};
+ghost use Rattle.serde_json.specs.View.{view, items_view};
+ghost use Rattle.ts_jtree.specs.Faults.{Answers, at_child};
+ghost use Rattle.ts_json_tables.specs.HeldTables.{table_value};
+ghost use Rattle.ts_json_tables.specs.LawfulTables.{IsTable};
+ghost use Rattle.ts_json_tables.specs.RunTables.{sections_of_table};
+ghost use Rattle.ts_json_tables.specs.TableReading.{read_each, table_read};
+ghost use Rattle.tabcomp_core.specs.Compiling;
+ghost use Rattle.tabcomp_core.specs.Compiling.{Compiles, compiled, json_value, of_tables, tables_bytes, value_or_not, TakesTable};
+
+use crate::fault::CompileFault;
+use serde_json::Value;
+use std::alloc::{AllocError, Global};
+use std::str;
+use ts_jtree::{ReadRefusal, at_child, read_element};
+use ts_json_tables::{Table, of_json, table_sections};
+use ts_section::Section;
+use ts_table_rows::TableRefusal;
+
+/// The text whose UTF-8 the bytes are.
+fn utf8_of(bytes: &[u8]) -> Option<&str>
+    ensures { option_map (λ text. text.now) result ≡ (if is_utf8 bytes.now then Some bytes.now else None) }
+{
+    match str::from_utf8(bytes) {
+        Ok(text) => Some(text),
+        Err(_) => None,
+    }
+}
+
+/// The value that a text is as JSON.
+fn read_text(alloc: Global, text: &str) -> Result<Value, CompileFault>
+    ensures { Compiles view result (value_or_not (read text.now)) }
+{
+    match Value::from_str(alloc, text) {
+        Ok(value) => Ok(value),
+        Err(error) if error.is_memory() => Err(CompileFault::NoMemory),
+        Err(_) => Err(CompileFault::NotJson),
+    }
+}
+
+/// The value that bytes are as JSON.
+fn read_value(alloc: Global, text: &[u8]) -> Result<Value, CompileFault>
+    ensures { Compiles view result (json_value text.now) }
+{
+    let Some(text) = utf8_of(text) else {
+        return Err(CompileFault::NotJson);
+    };
+    read_text(alloc, text)
+}
+
+/// The table that is the child of this number.
+fn read_table_at(alloc: Global, place: usize, value: &Value) -> Result<Table, ReadRefusal>
+    ensures read { Answers table_value result (at_child place (table_read (view value.now))) }
+    ensures lawful { IfOk result (λ t. IsTable (table_value t)) }
+{
+    match of_json(alloc, value) {
+        Ok(table) => Ok(table),
+        Err(refusal) => Err(at_child(alloc, place, refusal)),
+    }
+}
+
+/// Tables, each a child.
+fn read_each_table(alloc: Global, nodes: &[Value]) -> Result<Vec<Table>, ReadRefusal>
+    ensures read { Answers (λ v. map table_value v.items) result (read_each table_read 0 (items_view nodes.now)) }
+    ensures lawful { IfOk result (λ v. All (λ t. IsTable (table_value t)) v.items) }
+{
+    let mut tables = Vec::new(alloc);
+    let mut place = 0;
+    for value in nodes {
+        let table = read_table_at(alloc, place, value)?;
+        tables.push(table)?;
+        place += 1;
+    }
+    Ok(tables)
+}
+
+/// The tables of the root.
+#[tactic(auto, unfolding(crate::specs::Compiling::tables_read))]
+fn read_tables(alloc: Global, value: &Value) -> Result<Vec<Table>, ReadRefusal>
+    ensures read { Answers (λ v. map table_value v.items) result (Compiling.tables_read (view value.now)) }
+    ensures lawful { IfOk result (λ v. All (λ t. IsTable (table_value t)) v.items) }
+{
+    let (_, nodes) = read_element(alloc, "tsduck", &[], value)?;
+    read_each_table(alloc, nodes)
+}
+
+/// Adds the bytes of sections.
+fn push_sections(bytes: &mut Vec<u8>, sections: &[Section]) -> Result<(), AllocError>
+    ensures { OnOk result (bytes.new.items ≡ bytes.old.items ++ concat sections.now) }
+{
+    for section in sections {
+        bytes.extend_from_slice(section.bytes())?;
+    }
+    Ok(())
+}
+
+/// Adds the bytes of the sections of a table, which has this number.
+fn push_table(
+    alloc: Global,
+    bytes: &mut Vec<u8>,
+    place: usize,
+    table: &Table,
+) -> Result<(), CompileFault>
+    requires { IsTable (table_value table.now) }
+    ensures { TakesTable place bytes.old.items bytes.new.items (sections_of_table (table_value table.now)) result }
+{
+    let sections = match table_sections(alloc, table) {
+        Ok(sections) => sections,
+        Err(TableRefusal::NoMemory) => return Err(CompileFault::NoMemory),
+        Err(refusal) => {
+            return Err(CompileFault::TooLarge {
+                table: place,
+                refusal,
+            });
+        }
+    };
+    push_sections(bytes, &sections)?;
+    Ok(())
+}
+
+/// The sections of tables, or the first table that has none.
+fn write_tables(alloc: Global, tables: &[Table]) -> Result<Vec<u8>, CompileFault>
+    requires { All (λ t. IsTable (table_value t)) tables.now }
+    ensures { Compiles (λ v. v.items) result (tables_bytes 0 (map table_value tables.now)) }
+{
+    let mut bytes = Vec::new(alloc);
+    let mut place = 0;
+    for table in tables {
+        push_table(alloc, &mut bytes, place, table)?;
+        place += 1;
+    }
+    Ok(bytes)
+}
+
+/// The sections of the tables of a value.
+fn write_value(alloc: Global, value: &Value) -> Result<Vec<u8>, CompileFault>
+    ensures { Compiles (λ v. v.items) result (of_tables (Compiling.tables_read (view value.now))) }
+{
+    match read_tables(alloc, value) {
+        Ok(tables) => write_tables(alloc, &tables),
+        Err(ReadRefusal::NoMemory) => Err(CompileFault::NoMemory),
+        Err(ReadRefusal::Json(fault)) => Err(CompileFault::Json(fault)),
+    }
+}
+
+/// The sections of the tables of a text, joined. `NotJson` comes first, then the first fault of the value, then the
+/// first table that has no sections.
+pub fn compile(alloc: Global, text: &[u8]) -> Result<Vec<u8>, CompileFault>
+    ensures { Compiles (λ v. v.items) result (compiled text.now) }
+{
+    let value = read_value(alloc, text)?;
+    write_value(alloc, &value)
+}
