@@ -64,7 +64,7 @@ cut_goes_on bytes offset s front whole inside lawful same so_far =
     let l = drop offset bytes in
     let some : 0 < length l = omega (arith, length-drop offset bytes, inside) in
     let at : drop (offset + length s) bytes ≡ drop (length (front_of l)) l =
-        ap (λ n. drop (offset + n) bytes) (ap length same) ∙ sym (drop-drop (length (front_of l)) offset bytes) in
+    ap (λ n. drop (offset + n) bytes) (ap length same) ∙ sym (drop-drop (length (front_of l)) offset bytes) in
     ap (λ x. with_front (front ++ s ∷ []) (sections_from (length x) (offset + length s) x)) at
     ∙ ap (λ x. with_front (front ++ x ∷ []) (sections_from (length (drop (length (front_of l)) l)) (offset + length x) (drop (length (front_of l)) l))) same
     ∙ sym (one_more l offset front some lawful) ∙ so_far

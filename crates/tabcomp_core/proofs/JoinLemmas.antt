@@ -72,7 +72,7 @@ pub section_more : (init old new : List ℕ) (sections : List (List ℕ)) (i : �
     → new ≡ init ++ concat (take (i + 1) sections)
 section_more init old new sections i s row inside same is grown so_far =
     let more : concat (take (i + 1) sections) ≡ concat (take i sections) ++ s =
-        ap concat (take_more sections i s inside) ∙ concat-append (take i sections) (get_or sections i s ∷ [])
-        ∙ ap (λ l. concat (take i sections) ++ l) (append-nil (get_or sections i s) ∙ sym same) in
+    ap concat (take_more sections i s inside) ∙ concat-append (take i sections) (get_or sections i s ∷ [])
+    ∙ ap (λ l. concat (take i sections) ++ l) (append-nil (get_or sections i s) ∙ sym same) in
     grown ∙ ap (λ l. l ++ row) so_far ∙ ap (λ l. (init ++ concat (take i sections)) ++ l) is
     ∙ append_assoc init (concat (take i sections)) s ∙ ap (λ l. init ++ l) (sym more)

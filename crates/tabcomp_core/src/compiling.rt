@@ -17,8 +17,8 @@ use crate::fault::CompileFault;
 use serde_json::Value;
 use std::alloc::{AllocError, Global};
 use std::str;
-use ts_jtree::{ReadRefusal, at_child, read_element};
 use ts_json_tables::{Table, of_json, table_sections};
+use ts_jtree::{ReadRefusal, at_child, read_element};
 use ts_section::Section;
 use ts_table_rows::TableRefusal;
 

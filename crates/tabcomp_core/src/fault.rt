@@ -17,10 +17,7 @@ pub enum CompileFault {
     /// Its value is not the root of tables: the first fault.
     Json(JsonFault),
     /// The table of this number, from 0, is the first that has no sections.
-    TooLarge {
-        table: usize,
-        refusal: TableRefusal,
-    },
+    TooLarge { table: usize, refusal: TableRefusal },
     /// Memory was wanting; nothing is left behind.
     NoMemory,
 }
