@@ -5,10 +5,13 @@ mod ChildLemmas
 mod ByteLemmas
 mod RowLemmas
 mod NumberLemmas
+mod TruthLemmas
+mod TimeLemmas
 mod HeadLemmas
 mod FitLemmas
 mod ReadLemmas
 mod KnownLemmas
+mod RangeLemmas
 mod SectionLemmas
 mod ShowLemmas
 mod EntryLemmas

@@ -26,7 +26,7 @@ default_bound : (absent : Option ℕ) (bound : ℕ) (n : ℕ) → default_below 
 default_bound None bound n below is = cc
 default_bound (Some m) bound n below is = let e : m ≡ n = cc in subst (λ k. k < bound) e (ltb-true m bound below)
 
-given : (o : Option ℕ) (key : List ℕ) (what : JsonKind) (n : ℕ) → or_refuse o key what ≡ Ok n → o ≡ Some n
+pub given : (o : Option ℕ) (key : List ℕ) (what : JsonKind) (n : ℕ) → or_refuse o key what ≡ Ok n → o ≡ Some n
 given (Some m) key what n is = ap Some (same_ok m n is)
 given None key what n is = cc
 

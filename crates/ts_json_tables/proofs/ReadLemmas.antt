@@ -10,7 +10,7 @@ use Rattle.ts_fields.specs.declared.field.Kind.TheVariants.{Number, Ones, Free, 
 use Rattle.ts_fields.specs.Fitting.{fits, field_fits}
 use Rattle.ts_fields.specs.Layout.{Row, Held, number, bytes}
 use Rattle.ts_fields.specs.Spelling.{holds}
-use Rattle.ts_jtree.specs.Attributes.{attribute_of, data_attribute, flag_attribute, hex_attribute, holds_bytes, holds_number, in_range, number_at, number_attribute, number_in, read_attribute, read_attributes, within}
+use Rattle.ts_jtree.specs.Attributes.{attribute_of, data_attribute, duration_attribute, flag_attribute, hex_attribute, holds_bytes, holds_number, in_range, number_at, number_attribute, number_in, read_attribute, read_attributes, start_attribute, within}
 use Rattle.ts_jtree.specs.Faults.{Reading, at_child, or_refuse, ◌>>=◌}
 use Rattle.ts_jtree.specs.Numbers.{number_of}
 use Rattle.ts_jtree.specs.Shown.{are_within, value_within}
@@ -18,6 +18,7 @@ use Rattle.ts_json_tables.specs.HeadReading.{default_below, is_number_row, numbe
 use Rattle.ts_json_tables.specs.TableReading.{count_of, read_each}
 use Rattle.ts_json_tables.proofs.NumberLemmas.{flag_small, number_small, tested}
 use Rattle.ts_json_tables.proofs.StepLemmas.{both, child_ok, same_ok, then_ok}
+use Rattle.ts_json_tables.proofs.TimeLemmas.{duration_good, start_good}
 
 -- ---- children
 
@@ -41,14 +42,16 @@ each_count read place (item value more) xs is =
     let e = same_ok (x ∷ others) xs joins in
     omega (arith, ap length e, each_count read (place + 1) more others had)))
 
--- ---- rows of numbers
+-- ---- rows of numbers and times
 
--- rows of numbers and flags, whose defaults they can hold; one with a range has no default
+-- rows of numbers, flags and times, whose defaults they can hold; a number with a range has no default
 abbrev pub is_plain : Kind → Option ℕ → Option (ℕ × ℕ) → Bool
 is_plain (Number c) absent range = nat_lt 0 (2 ^ c) && (default_below absent (2 ^ c) && (is_none absent || is_none range))
 is_plain (Ones c) absent range = is_none range
 is_plain (Free c) absent range = is_none range
 is_plain Flag absent range = default_below absent 2 && is_none range
+is_plain Start absent range = is_none range
+is_plain Duration absent range = is_none range
 is_plain _ absent range = false
 
 abbrev pub is_plain_kind : Row → Bool
@@ -77,6 +80,10 @@ held_fits : (read : Reading ℕ) (kind : Kind) (range : Option (ℕ × ℕ)) (v 
 held_fits (Ok n) kind range v good is = (number n, (sym (same_ok _ _ is), good n refl))
 held_fits (Err fault) kind range v good is = cc
 
+none_within : (range : Option (ℕ × ℕ)) (n : ℕ) → is_none range ≡ true → within range n ≡ true
+none_within None n is = refl
+none_within (Some x) n is = cc
+
 -- a row's value, or none for reserved bits
 abbrev IsGood : Kind → Option (ℕ × ℕ) → Option Held → Type 0
 IsGood kind range v =
@@ -99,12 +106,14 @@ kind_good Flag name absent range ms v plain is =
     let found = held_fits (flag_attribute absent name ms) Flag range v (λ n had.
     (lt-ltb n 2 (flag_small absent name ms n a.0 had), none_within range n a.1)) is in
     inr (found.0, (found.1.0, (refl, found.1.1)))
-  where
-    none_within : (range : Option (ℕ × ℕ)) (n : ℕ) → is_none range ≡ true → within range n ≡ true
-    none_within None n is = refl
-    none_within (Some x) n is = cc
-kind_good Start name absent range ms v plain is = cc
-kind_good Duration name absent range ms v plain is = cc
+kind_good Start name absent range ms v plain is =
+    let found = held_fits (start_attribute name ms) Start range v (λ n had.
+    (start_good name ms n had, none_within range n plain)) is in
+    inr (found.0, (found.1.0, (refl, found.1.1)))
+kind_good Duration name absent range ms v plain is =
+    let found = held_fits (duration_attribute name ms) Duration range v (λ n had.
+    (duration_good name ms n had, none_within range n plain)) is in
+    inr (found.0, (found.1.0, (refl, found.1.1)))
 kind_good (Decimal c) name absent range ms v plain is = cc
 kind_good Language name absent range ms v plain is = cc
 kind_good CountedText name absent range ms v plain is = cc

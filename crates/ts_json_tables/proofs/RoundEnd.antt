@@ -35,12 +35,14 @@ use Rattle.ts_json_tables.proofs.EntryLemmas.{begins_not}
 use Rattle.ts_json_tables.proofs.FitLemmas.{Parts, fit_parts}
 use Rattle.ts_json_tables.proofs.KnownLemmas.{Facts, named_facts}
 use Rattle.ts_json_tables.proofs.LawfulLemmas.{eit_same}
-use Rattle.ts_json_tables.proofs.RoundHead.{Network, extension_again, key_absent, kept_again, network_again, network_of, number_again, pid_there, truth_read}
+use Rattle.ts_json_tables.proofs.RangeLemmas.{element_within}
+use Rattle.ts_json_tables.proofs.RoundHead.{Network, extension_again, key_absent, kept_again, network_again, network_of, pid_there}
 use Rattle.ts_json_tables.proofs.RoundLemmas.{children_again}
 use Rattle.ts_json_tables.proofs.RowLemmas.{fits_count, plain, plain_within, split_read}
 use Rattle.ts_json_tables.proofs.SectionLemmas.{LongFacts, long_facts}
 use Rattle.ts_json_tables.proofs.ShowLemmas.{element_fits, extension_fit, first_fit, id_fit, kept_fit, truth_small}
 use Rattle.ts_json_tables.proofs.StepLemmas.{both, same_ok, then_ok}
+use Rattle.ts_json_tables.proofs.TruthLemmas.{number_again, truth_read}
 
 -- ---- attributes of a table of a page
 
@@ -138,7 +140,7 @@ laid_again laws p t is well facts =
     let parts = fit_parts p t is.fits in
     let network = network_of p.one_zero p.items t.body.items facts.zero parts.items in
     let keys = laws.keys rows p.name nodes values (facts.shows b) in
-    let read = laws.values rows p.name nodes values (facts.shows b) (element_fits p t is) (plain_within rows values (facts.bare b)) in
+    let read = laws.values rows p.name nodes values (facts.shows b) (element_fits p t is) (element_within p t b parts.id (facts.bare b)) in
     let head = heading_again p t ms is facts network keys read in
     let xs = shown_items p.one_zero t.body.items in
     let children = children_again laws p t.body.descriptors xs facts.items (own_there p.loop_form t.body.descriptors parts.own)

@@ -17,7 +17,6 @@ use Rattle.ts_jtree.specs.declared.fault.JsonKind.TheVariants.{UnknownKey}
 use Rattle.ts_jtree.specs.Attributes.{attribute_of, holds_number, number_at, number_attribute, read_attribute, read_attributes}
 use Rattle.ts_jtree.specs.Elements.{is_known, keys_known}
 use Rattle.ts_jtree.specs.Faults.{Reading, refuse, ◌>>=◌}
-use Rattle.ts_jtree.specs.Numbers.{truth_bit}
 use Rattle.ts_psi.specs.PatTables.{entry_item, network_items}
 use Rattle.ts_psi.specs.PsiPages.{entry_page}
 use Rattle.ts_table_rows.specs.BodyReading.{first_number, is_zero}
@@ -26,16 +25,16 @@ use Rattle.ts_table_rows.specs.TableFitting.{item_fits, items_fit, numbers_fit}
 use Rattle.ts_table_rows.specs.TablePages.{ItemPage, TablePage}
 use Rattle.ts_table_rows.specs.TableValues.{ItemHolding, TableHolding}
 use Rattle.ts_json_tables.specs.ElementRows.{current_row, element_rows, extension_row, extension_rows, first_rows, id_rows, kept_rows, last_section_number_row, network_key, network_row, network_rows, section_number_row, version_row}
-use Rattle.ts_json_tables.specs.HeadReading.{Heading, names_network, numbers_in_order, only_number, read_extension, read_heading, read_id, read_kept, read_network, read_number, read_numbers, read_pid, read_truth}
+use Rattle.ts_json_tables.specs.HeadReading.{Heading, names_network, numbers_in_order, only_number, read_extension, read_heading, read_id, read_kept, read_network, read_number, read_numbers, read_pid}
 use Rattle.ts_json_tables.specs.LawfulTables.{IsLaid}
 use Rattle.ts_json_tables.specs.RunTables.{settled_extension}
-use Rattle.ts_json_tables.specs.TableElements.{begins_with_zero, element_values, extension_values, first_values, id_values, kept_values, network_values, shown_items, truth}
+use Rattle.ts_json_tables.specs.TableElements.{begins_with_zero, element_values, extension_values, first_values, id_values, kept_values, network_values, shown_items}
 use Rattle.ts_json_tables.proofs.FitLemmas.{Parts, fit_parts}
 use Rattle.ts_json_tables.proofs.KnownLemmas.{Facts}
-use Rattle.ts_json_tables.proofs.NumberLemmas.{number_read}
 use Rattle.ts_json_tables.proofs.RowLemmas.{fits_count, split_read}
 use Rattle.ts_json_tables.proofs.ShowLemmas.{IsEntry, extension_fit, id_fit, is_entry, kept_fit}
 use Rattle.ts_json_tables.proofs.StepLemmas.{both, same_ok, then_ok}
+use Rattle.ts_json_tables.proofs.TruthLemmas.{number_again}
 
 -- ---- keys
 
@@ -87,17 +86,6 @@ pid_there ms values is =
     go (Some value) n is = refl
 
 -- ---- attributes one after another
-
-truth_again : (b : Bool) → nat_eq (truth_bit b) 1 ≡ b
-truth_again true = refl
-truth_again false = refl
-
-pub number_again : (r : Row) (ms : Members) (n : ℕ) → read_attributes (r ∷ []) ms ≡ Ok (number n ∷ []) → read_number r ms ≡ Ok n
-number_again r ms n is = number_read r ms (number n ∷ []) is
-
-pub truth_read : (r : Row) (ms : Members) (b : Bool) → read_attributes (r ∷ []) ms ≡ Ok (truth b ∷ []) → read_truth r ms ≡ Ok b
-unfolding read_truth
-truth_read r ms b is = rw (number_again r ms (truth_bit b) is) (ap Ok (truth_again b))
 
 pub extension_again : (called : List ℕ) (n : ℕ) (ms : Members) → n ≡ settled_extension called n
     → read_attributes (extension_rows called) ms ≡ Ok (extension_values called n) → read_extension called ms ≡ Ok n

@@ -3,10 +3,13 @@
 use Rattle.std.specs.Prelude.{ℕ, List, [], ◌∷◌, bytes_eq, find, Option}
 use Rattle.ts_table_rows.specs.TablePages.{TablePage, has_id}
 use Rattle.ts_psi.specs.PsiPages.{pat_page, cat_page, pmt_page}
+use Rattle.ts_si.specs.SiPages.{nit_page, bat_page, sdt_page}
+use Rattle.ts_eit.specs.EitPages.{eit_page}
 
 -- their pages
 abbrev pub table_pages : List TablePage
-table_pages = pat_page ∷ cat_page ∷ pmt_page ∷ []
+table_pages =
+    pat_page ∷ cat_page ∷ pmt_page ∷ nit_page ∷ bat_page ∷ sdt_page ∷ eit_page ∷ []
 
 -- the page of an element's name
 abbrev pub page_named : List ℕ → Option TablePage

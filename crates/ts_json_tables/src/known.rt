@@ -4,7 +4,9 @@ ghost use Rattle.std.specs.Prelude.{◌≡◌, option_map, IfSome, IsTrue};
 ghost use Rattle.ts_table_rows.specs.TablePages.{table_page, page_sound};
 ghost use Rattle.ts_json_tables.specs.KnownPages.{page_named, page_with_id};
 
+use ts_eit::eit_layout;
 use ts_psi::{cat_layout, pat_layout, pmt_layout};
+use ts_si::{bat_layout, nit_layout, sdt_layout};
 use ts_table_rows::TableLayout;
 
 /// The layout of an element's name; none where no table has it.
@@ -16,6 +18,10 @@ pub fn layout_named(name: &str) -> Option<&'static TableLayout>
         "PAT" => Some(pat_layout()),
         "CAT" => Some(cat_layout()),
         "PMT" => Some(pmt_layout()),
+        "NIT" => Some(nit_layout()),
+        "BAT" => Some(bat_layout()),
+        "SDT" => Some(sdt_layout()),
+        "EIT" => Some(eit_layout()),
         _ => None,
     }
 }
@@ -30,6 +36,10 @@ pub fn layout_with_id(id: u8) -> Option<&'static TableLayout>
         0x00 => Some(pat_layout()),
         0x01 => Some(cat_layout()),
         0x02 => Some(pmt_layout()),
+        0x40 | 0x41 => Some(nit_layout()),
+        0x4A => Some(bat_layout()),
+        0x42 | 0x46 => Some(sdt_layout()),
+        0x4E..=0x6F => Some(eit_layout()),
         _ => None,
     }
 }

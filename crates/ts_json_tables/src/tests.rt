@@ -17,7 +17,7 @@ fn again(alloc: Global, text: &str) -> Result<String, Fail> {
 }
 
 /// Texts, and what they are in canonical form.
-static TEXTS: [(&str, &str); 6] = [
+static TEXTS: [(&str, &str); 8] = [
     (
         r##"{"#name":"PAT","transport_stream_id":1,"#nodes":[{"#name":"service","service_id":1,"program_map_PID":"0x1000"}]}"##,
         r##"{"#name":"PAT","#nodes":[{"#name":"service","program_map_PID":4096,"service_id":1}],"current":true,"transport_stream_id":1,"version":0}"##,
@@ -33,6 +33,14 @@ static TEXTS: [(&str, &str); 6] = [
     (
         r##"{"#name":"PMT","service_id":1,"#nodes":[{"#name":"component","elementary_PID":257,"stream_type":3,"#nodes":[{"#name":"stream_identifier_descriptor","component_tag":7}]},{"#name":"generic_descriptor","tag":88,"data":"DEAD"}]}"##,
         r##"{"#name":"PMT","#nodes":[{"#name":"generic_descriptor","data":"dead","tag":88},{"#name":"component","#nodes":[{"#name":"stream_identifier_descriptor","component_tag":7}],"elementary_PID":257,"stream_type":3}],"PCR_PID":8191,"current":true,"service_id":1,"version":0}"##,
+    ),
+    (
+        r##"{"#name":"SDT","actual":"false","transport_stream_id":1105,"original_network_id":8442,"#nodes":[{"#name":"service","service_id":769,"running_status":4}]}"##,
+        r##"{"#name":"SDT","#nodes":[{"#name":"service","#nodes":[],"CA_mode":false,"EIT_present_following":false,"EIT_schedule":false,"running_status":4,"service_id":769}],"actual":false,"current":true,"original_network_id":8442,"transport_stream_id":1105,"version":0}"##,
+    ),
+    (
+        r##"{"#name":"EIT","table_id":"0x50","service_id":769,"transport_stream_id":1,"original_network_id":8442,"section_number":1,"last_section_number":2,"last_table_id":80,"#nodes":[{"#name":"event","event_id":7,"start_time":"1993-10-13 12:45:00","duration":"01:45:30"}]}"##,
+        r##"{"#name":"EIT","#nodes":[{"#name":"event","#nodes":[],"CA_mode":false,"duration":"01:45:30","event_id":7,"running_status":0,"start_time":"1993-10-13 12:45:00"}],"current":true,"last_section_number":2,"last_table_id":80,"original_network_id":8442,"section_number":1,"segment_last_section_number":0,"service_id":769,"table_id":80,"transport_stream_id":1,"version":0}"##,
     ),
     (
         r##"{"#name":"generic_short_table","table_id":114,"private":true,"payload":"AA"}"##,
