@@ -1,0 +1,31 @@
+ghost use Rattle.std.specs.Prelude.{◌≡◌, is_some};
+ghost use Rattle.thread_run.specs.Turning.{answer_of};
+
+use chain_core::StageWord;
+
+/// What a turn of a stage comes to.
+#[derive(Debug, Clone, Copy, PartialEq, Eq)]
+pub enum Turn {
+    /// Another stage had the turn of the ring. Nothing was given, told or worked on.
+    Busy,
+    /// The visit told the stage's end.
+    Ended,
+    /// The visit was made; the stage has no cell in hand, and no end to tell.
+    Idle,
+    /// The visit was made, and the stage worked on cells in hand, or has an end to tell with its next visit.
+    Worked,
+}
+
+impl Turn {
+    /// The answer of a turn whose stage goes on: whether its hand is empty, and what it is to tell.
+    pub(crate) fn of(empty: bool, word: &StageWord) -> Turn
+        ensures { result ≡ answer_of empty (is_some word.now.ended) }
+    {
+        if empty {
+            if word.ended.is_none() {
+                return Turn::Idle;
+            }
+        }
+        Turn::Worked
+    }
+}
