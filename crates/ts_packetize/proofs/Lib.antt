@@ -1,7 +1,9 @@
 pub mod Rows
+pub mod BlankRows
 pub mod Filling
 pub mod Counting
 pub mod HeaderFields
+pub mod Laying
 pub mod Again
 pub mod Cycling
 pub mod Packeting
