@@ -5,5 +5,6 @@ pub mod Counting
 pub mod HeaderFields
 pub mod Laying
 pub mod Again
+pub mod OrdinalLemmas
 pub mod Cycling
 pub mod Packeting

@@ -1,9 +1,10 @@
 -- Worked rows: the definitions computed on sections by their sizes, and on cycles.
-use Rattle.std.proofs.Common.{◌≡◌, ℕ, true, false, List, [], ◌∷◌, ◌++◌, replicate, Some, None, refl}
+use Rattle.std.proofs.Common.{◌≡◌, ℕ, true, false, zero, suc, List, [], ◌∷◌, ◌++◌, map, replicate, Some, None, refl}
 use Rattle.ts_packetize.specs.Packing.{Load, missing, not_begun, next_step, pack, packed}
 use Rattle.ts_packetize.specs.Packets.{packets_of}
 use Rattle.ts_packet.specs.Header.{with_counter}
 use Rattle.ts_packetize.specs.Cycle.{cycle_packets}
+use Rattle.ts_packetize.specs.Ordinals.{Cycles, start_of, packet_at, written_before, counted_at}
 
 -- a payload with unit start, and one without
 abbrev begins : List ℕ → Load
@@ -72,3 +73,15 @@ cycle_goes_on :
     ≡ None ∷ Some (with_counter a 0) ∷ Some (with_counter a 1) ∷ Some (with_counter b 2) ∷ []
 unfolding cycle_packets
 cycle_goes_on = refl
+
+-- the same by ordinals
+abbrev known : Cycles
+known zero = []
+known (suc zero) = a ∷ a ∷ []
+known (suc (suc n)) = b ∷ []
+
+ordinals_go_on :
+    map (counted_at known) (0 ∷ 1 ∷ 2 ∷ 3 ∷ [])
+    ≡ None ∷ Some (with_counter a 0) ∷ Some (with_counter a 1) ∷ Some (with_counter b 2) ∷ []
+unfolding start_of packet_at written_before
+ordinals_go_on = refl
