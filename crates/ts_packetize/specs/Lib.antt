@@ -1,3 +1,5 @@
 pub mod Packing
+pub mod Begun
 pub mod Packets
+pub mod Ordinals
 pub mod Cycle
