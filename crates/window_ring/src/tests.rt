@@ -14,12 +14,17 @@ use ts_packet::Cell;
 
 #[test]
 fn wraps(rt: HostRuntime) {
-    let window = land(rt.alloc(), 3, Cell::Dropped).expect(&rt, "memory");
-    let (front, rest) = Hand::whole(window).cut(2);
-    let hand = rest.with(front.lapped());
-    let (front, rest) = hand.cut(2);
-    assert!(&rt; front.position() == 2 && rest.position() == 4);
-    rest.with(front.lapped()).close();
+    // Positions 0 to 6 in seven slots: five cells are given, and the first two of them are free again, as 7 and 8.
+    let window = land(rt.alloc(), 7, Cell::Dropped).expect(&rt, "memory");
+    let (given, rest) = Hand::whole(window).cut(5);
+    let (free, given) = given.cut(2);
+    let mut hand = rest.with(free.lapped());
+    let Some(front) = hand.lift_front() else {
+        panic!(&rt; "no cell in hand");
+    };
+    assert!(&rt; front.start() == 5 && front.len() == 2 && hand.position() == 7);
+    hand.put_front(front);
+    hand.with(given.lapped()).close();
 }
 
 /// A fresh stage ends with its first visit: whether another stage had the turn.
