@@ -1,4 +1,4 @@
--- A chain whose stages have all ended: what it comes to.
+-- A chain whose stages have all ended, whoever served them: what it comes to.
 use Rattle.std.proofs.Common.{◌≡◌, ◌≢◌, ◌⊎◌, ℕ, zero, suc, ◌+◌, ◌-◌, ◌<◌, ◌≤◌, List, [], ◌∷◌, ◌++◌, length, map, take, drop, true, false, Option, Some, None, refl, ap, sym, ◌∙◌, subst, arith, inl, inr, length-append}
 use Rattle.std.specs.Prelude.{slice_index_or}
 use Rattle.std.proofs.lemmas.Bool.{cases_eq, cases_lt}
@@ -16,14 +16,12 @@ use Rattle.chain_model.specs.Apply.{StageList}
 use Rattle.chain_model.specs.StageLists.{rule_behind, stage_list, end_list}
 use Rattle.chain_model.specs.Stuffed as model
 use Rattle.chain_model.specs.Written.{written}
-use Rattle.chain_core.specs.declared.core_plan.CorePlan.{CorePlan}
 use Rattle.chain_core.specs.declared.stage_end.StageEnd.{StageEnd}
 use Rattle.chain_core.specs.declared.stage_end.StageEnd.TheVariants.{Input, Last, Stop, Refuse, WriteFault, NoMemory, Followed}
-use Rattle.chain_core.specs.Numbers.{StagesProgress, written_of}
+use Rattle.chain_core.specs.Numbers.{written_of}
 use Rattle.chain_core.specs.Machine.{ChainState, progress_of_stages}
-use Rattle.chain_core.specs.ChainRun.{state_after, AllEnded}
+use Rattle.chain_core.specs.ChainRun.{AllEnded}
 use Rattle.chain_core.specs.Close.{cause_of_stage, cut_at_close, cause_at_close}
-use Rattle.chain_core.specs.CoreNumbers.{CoreNumbers, progress_of_core}
 use Rattle.chain_core.specs.EveryOrder.{SoFar, AtClose}
 use Rattle.stage_run.specs.Seeing.{Seeing}
 use Rattle.stage_run.specs.declared.input_part.InputPart.{InputPart}
@@ -40,14 +38,14 @@ use Rattle.chain_run.specs.Met.{AllMetFirst}
 use Rattle.chain_run.specs.Rooms.{WantsMemory}
 use Rattle.chain_run.specs.Parts.{AreTakenFrom}
 use Rattle.chain_run.specs.RunOf.{MayRead, LeftInput, TakesTo, LeftOutput, Gave}
-use Rattle.chain_run.specs.Runs.{between, RunStart, KeptFor, RunsBy}
-use Rattle.chain_run.specs.Working.{IsRunning}
+use Rattle.chain_run.specs.Runs.{between, RunStart}
+use Rattle.chain_run.specs.OneStage.{IsInput, IsPlugin, IsOutput}
+use Rattle.chain_run.specs.Ran.{RanBy, Ran, state_of}
 use Rattle.chain_run.specs.Laws.{MachineLaws}
 use Rattle.chain_run.proofs.NumberLaws.{given-falls, taken-falls, written-given}
-use Rattle.chain_run.proofs.ProgressLemmas.{as-progress}
 use Rattle.chain_run.proofs.KindLemmas.{wants-kind}
 use Rattle.chain_run.proofs.StepLemmas.{may_read-more, part-more}
-use Rattle.chain_run.proofs.TurnWorks.{kept-run, far}
+use Rattle.chain_run.proofs.RanLemmas.{kept-of, far}
 
 -- ---- ends by their causes
 
@@ -115,12 +113,26 @@ takes-other old new cells cut (cause.NoMemory k) no_ is = is
 
 module _ {S K P : Type 0} (see : Seeing S K P)
     (laws : MachineLaws)
-    (begun : RunStart S K) (core : CoreNumbers) (parts : List (StagePart S K P)) (cells : List Cell) (goes : IsRunning see begun core parts cells) (over : AllEnded core.plan (progress_of_core core)) where
+    (begun : RunStart S K) (parts : List (StagePart S K P)) (goes : Ran see begun parts) (over : AllEnded begun.plan (progress_of_stages (state_of see begun parts goes))) where
   abbrev pub state : ChainState
-  state = state_after begun.plan goes.runs.visits
+  state = state_of see begun parts goes
 
-  abbrev by : RunsBy see begun core parts cells goes.runs.visits goes.runs.part goes.runs.lists
-  by = goes.runs.by
+  abbrev by : RanBy see begun parts goes.visits goes.part goes.lists
+  by = goes.by
+
+  abbrev low : ℕ
+  low = written_of begun.plan (progress_of_stages state)
+
+  -- what each stage stands for
+  at-input : IsInput see begun (goes.part 0) (goes.lists 0) low
+  at-input = (by.stands 0 (omega arith)).input refl
+
+  at-plugin : (j : ℕ) → j < begun.plan.plugins → IsPlugin see begun (goes.part (suc j)) j (goes.lists (suc j)) (state.stages (suc j)).given (state.stages j).given
+  at-plugin j lt = (by.stands (suc j) (omega (arith, lt))).plugin j refl lt
+
+  at-output : IsOutput see begun (goes.part (suc begun.plan.plugins)) (goes.lists (suc begun.plan.plugins)) (state.stages (suc begun.plan.plugins)).given (state.stages begun.plan.plugins).given
+      (state.stages (suc begun.plan.plugins)).ended (state.stages (suc begun.plan.plugins)).taken (PartGives see (goes.part 0) (goes.lists 0))
+  at-output = (by.stands (suc begun.plan.plugins) (omega arith)).output refl
 
   abbrev pub cut : ℕ
   cut = cut_at_close begun.plan (progress_of_stages state)
@@ -135,21 +147,12 @@ module _ {S K P : Type 0} (see : Seeing S K P)
   abbrev pub gave-of : ℕ → ℕ
   gave-of k = length (state.stages k).given
 
-  over-state : AllEnded begun.plan (progress_of_stages state)
-  over-state =
-      subst (λ (p : CorePlan). AllEnded p (progress_of_stages state)) goes.fits.plan_is
-      (subst (λ (m : StagesProgress). AllEnded core.plan m) (as-progress core state by.numbers) over)
-
-  module _ (list : StageList) (gives : PartGives see (goes.runs.part 0) (goes.runs.lists 0) list) where
-    kept : KeptFor see begun goes.runs.visits list
-    kept = by.kept list gives
-
+  module _ (list : StageList) (gives : PartGives see (goes.part 0) (goes.lists 0) list) where
     pub at-close : AtClose begun.plan begun.rules list state cut why
-    at-close =
-        laws.close begun.plan begun.rules list goes.runs.visits (kept-run see laws begun core (length parts) (length cells) goes.fits list goes.runs.visits kept by.run) over-state
+    at-close = laws.close begun.plan begun.rules list goes.visits (kept-of see begun goes.lawful_run laws parts goes.visits goes.part goes.lists by list gives) over
 
     so-far : SoFar begun.plan begun.rules list state
-    so-far = far see laws begun core (length parts) (length cells) goes.fits list goes.runs.visits kept by.run
+    so-far = far see begun goes.lawful_run laws parts goes.visits goes.part goes.lists by list gives
 
     given-cut : length (state.stages out).given ≡ cut
     given-cut =
@@ -159,7 +162,7 @@ module _ {S K P : Type 0} (see : Seeing S K P)
 
     written-cut : written_of begun.plan (progress_of_stages state) ≤ cut
     written-cut =
-        let a = written-given laws begun.plan goes.fits.lawful.users goes.runs.visits by.run out (omega arith) in let b = given-cut in omega arith
+        let a = written-given laws begun.plan goes.lawful_run.lawful.users goes.visits by.run out (omega arith) in let b = given-cut in omega arith
 
     -- a failed read is told by the input alone
     read-told : why ≡ cause.Input ReadFault → ((state.stages 0).ended ≡ Some (Input ReadFault)) × (length (state.stages 0).given ≡ cut)
@@ -187,7 +190,7 @@ module _ {S K P : Type 0} (see : Seeing S K P)
 
     told-write : (state.stages out).ended ≡ Some WriteFault → why ≡ cause.WriteFault
     told-write is =
-        let failed = by.output.failed is in
+        let failed = at-output.failed is in
         elim at-close.told [
           | inl joint ↦ (let late = failed.late list gives cut (so-far.limit_is_joint cut joint.1) in let a = given-cut in absurd (omega arith))
           | inr told ↦ elim (cases_eq told.0 out) [
@@ -197,7 +200,7 @@ module _ {S K P : Type 0} (see : Seeing S K P)
                 let gives_it : Some cause.WriteFault ≡ Some why = sym (ap (cause_of_stage told.0) same) ∙ ends.gives in
                 let it : cause.WriteFault ≡ why = cc in sym it)
             | inr before ↦ (let at : told.0 < out = below told.0 told.2 before in
-                let a = taken-falls laws begun.plan goes.fits.lawful.users goes.runs.visits by.run out told.0 at in
+                let a = taken-falls laws begun.plan goes.lawful_run.lawful.users goes.visits by.run out told.0 at in
                 let b = failed.few in let c : length (state.stages told.0).given ≡ cut = told.3 in let d = given-cut in absurd (omega arith))
           ]
         ]
@@ -211,24 +214,24 @@ module _ {S K P : Type 0} (see : Seeing S K P)
 
     -- ---- the input
 
-    pub left-input : (made_from : InputPart S) → has_source made_from ≡ has_source begun.from → LeavesInput see.source made_from begun.stuffing (goes.runs.lists 0) (state.stages 0).ended → LeftInput see.source begun.stuffing begun.plan.buffer begun.from made_from cut why
+    pub left-input : (made_from : InputPart S) → has_source made_from ≡ has_source begun.from → LeavesInput see.source made_from begun.stuffing (goes.lists 0) (state.stages 0).ended → LeftInput see.source begun.stuffing begun.plan.buffer begun.from made_from cut why
     left-input made_from same left =
-        cases begun.from made_from same by.input.source left read-told
-        (may_read-more begun.plan.buffer (written_of begun.plan (progress_of_stages state)) cut (length (goes.runs.lists 0).read) written-cut by.input.within)
-        (ap (λ (l : List Cell). length l) by.input.at.given)
+        cases begun.from made_from same at-input.source left read-told
+        (may_read-more begun.plan.buffer (written_of begun.plan (progress_of_stages state)) cut (length (goes.lists 0).read) written-cut at-input.within)
+        (ap (λ (l : List Cell). length l) (by.stands 0 (omega arith)).given_is)
       where
-        cases : (from made : InputPart S) → has_source made ≡ has_source from → IsSourceOf see.source from (goes.runs.lists 0).source → LeavesInput see.source made begun.stuffing (goes.runs.lists 0) (state.stages 0).ended
-            → (why ≡ cause.Input ReadFault → ((state.stages 0).ended ≡ Some (Input ReadFault)) × (length (state.stages 0).given ≡ cut)) → MayRead begun.plan.buffer cut (length (goes.runs.lists 0).read) → length (goes.runs.lists 0).given ≡ length (state.stages 0).given
+        cases : (from made : InputPart S) → has_source made ≡ has_source from → IsSourceOf see.source from (goes.lists 0).source → LeavesInput see.source made begun.stuffing (goes.lists 0) (state.stages 0).ended
+            → (why ≡ cause.Input ReadFault → ((state.stages 0).ended ≡ Some (Input ReadFault)) × (length (state.stages 0).given ≡ cut)) → MayRead begun.plan.buffer cut (length (goes.lists 0).read) → length (goes.lists 0).given ≡ length (state.stages 0).given
             → LeftInput see.source begun.stuffing begun.plan.buffer from made cut why
         cases (input.Stream old) (input.Stream new) has source leaves told within given =
-            let left' : LeavesSource begun.stuffing (see.source old) (see.source new) (goes.runs.lists 0) (state.stages 0).ended =
-            subst (λ (v : SourceView). LeavesSource begun.stuffing v (see.source new) (goes.runs.lists 0) (state.stages 0).ended) source leaves in
+            let left' : LeavesSource begun.stuffing (see.source old) (see.source new) (goes.lists 0) (state.stages 0).ended =
+            subst (λ (v : SourceView). LeavesSource begun.stuffing v (see.source new) (goes.lists 0) (state.stages 0).ended) source leaves in
             record {
-              read = (goes.runs.lists 0).read;
-              source = source-left begun.stuffing (see.source old) (see.source new) (goes.runs.lists 0) (state.stages 0).ended left';
+              read = (goes.lists 0).read;
+              source = source-left begun.stuffing (see.source old) (see.source new) (goes.lists 0) (state.stages 0).ended left';
               within = within;
               at_fault = λ is. (let t = told is in
-                  let f : FailedReading begun.stuffing (see.source old) (see.source new) (goes.runs.lists 0) = subst (λ e. LeavesSource begun.stuffing (see.source old) (see.source new) (goes.runs.lists 0) e) t.0 left' in
+                  let f : FailedReading begun.stuffing (see.source old) (see.source new) (goes.lists 0) = subst (λ e. LeavesSource begun.stuffing (see.source old) (see.source new) (goes.lists 0) e) t.0 left' in
                   record {
                     failed = f.source;
                     in_sync = f.in_sync;
@@ -241,36 +244,36 @@ module _ {S K P : Type 0} (see : Seeing S K P)
 
     -- ---- the output
 
-    part-left : (state.stages out).ended ≡ Some WriteFault → IsPartOfFirst (drop cut (end_list begun.rules list).cells) (goes.runs.lists out).cut
+    part-left : (state.stages out).ended ≡ Some WriteFault → IsPartOfFirst (drop cut (end_list begun.rules list).cells) (goes.lists out).cut
     part-left is =
-        let failed = by.output.failed is in
+        let failed = at-output.failed is in
         let prefix : IsPrefix (state.stages begun.plan.plugins).given (end_list begun.rules list).cells =
-        subst (λ n. IsPrefix (state.stages begun.plan.plugins).given (stage_list begun.rules list n).cells) (sym goes.fits.rules_are) (so-far.lists begun.plan.plugins (omega arith)) in
+        subst (λ n. IsPrefix (state.stages begun.plan.plugins).given (stage_list begun.rules list n).cells) (sym goes.lawful_run.rules_are) (so-far.lists begun.plan.plugins (omega arith)) in
         let long = at-close.reached begun.plan.plugins (omega arith) in
-        subst (λ (l : List Cell). IsPartOfFirst l (goes.runs.lists out).cut)
+        subst (λ (l : List Cell). IsPartOfFirst l (goes.lists out).cut)
         (sym (ap (drop cut) prefix.1 ∙ (drop-append-le cut (state.stages begun.plan.plugins).given prefix.0 long
         ∙ ap (λ n. drop n (state.stages begun.plan.plugins).given ++ prefix.0) (sym given-cut))))
-        (part-more (between state begun.plan.plugins) prefix.0 (goes.runs.lists out).cut failed.part)
+        (part-more (between state begun.plan.plugins) prefix.0 (goes.lists out).cut failed.part)
 
-    given-is : (goes.runs.lists out).given ≡ take cut (end_list begun.rules list).cells
-    given-is = by.output.at.given ∙ at-close.written
+    given-is : (goes.lists out).given ≡ take cut (end_list begun.rules list).cells
+    given-is = (by.stands out (omega arith)).given_is ∙ at-close.written
 
-    pub left-output : (made_to : OutputPart K) → has_sink made_to ≡ has_sink begun.to → LeavesOutput see.sink made_to (goes.runs.lists out) (state.stages out).ended → LeftOutput see.sink begun.to made_to (end_list begun.rules list).cells cut why
+    pub left-output : (made_to : OutputPart K) → has_sink made_to ≡ has_sink begun.to → LeavesOutput see.sink made_to (goes.lists out) (state.stages out).ended → LeftOutput see.sink begun.to made_to (end_list begun.rules list).cells cut why
     left-output made_to same left =
-        cases begun.to made_to same by.output.sink left
+        cases begun.to made_to same at-output.sink left
       where
-        takes : (old new : SinkView) → SinkTook old new (goes.runs.lists out).given (goes.runs.lists out).cut (state.stages out).ended → TakesTo old new (end_list begun.rules list).cells cut why
+        takes : (old new : SinkView) → SinkTook old new (goes.lists out).given (goes.lists out).cut (state.stages out).ended → TakesTo old new (end_list begun.rules list).cells cut why
         takes old new left' =
-            elim (sink-left old new (goes.runs.lists out).given (goes.runs.lists out).cut (state.stages out).ended left') [
+            elim (sink-left old new (goes.lists out).given (goes.lists out).cut (state.stages out).ended left') [
               | inl failed ↦ subst (λ c. TakesTo old new (end_list begun.rules list).cells cut c) (sym (told-write failed.0))
-                  (record { part = (goes.runs.lists out).cut; taken = failed.1 ∙ ap (λ (l : List Cell). write_failed (took old (written l ++ (goes.runs.lists out).cut))) given-is; cut = part-left failed.0 })
+                  (record { part = (goes.lists out).cut; taken = failed.1 ∙ ap (λ (l : List Cell). write_failed (took old (written l ++ (goes.lists out).cut))) given-is; cut = part-left failed.0 })
               | inr whole ↦ takes-other old new (end_list begun.rules list).cells cut why (λ is. whole.0 (write-told is)) (whole.1 ∙ ap (λ (l : List Cell). took old (written l)) given-is)
             ]
 
-        cases : (to made : OutputPart K) → has_sink made ≡ has_sink to → IsSinkOf see.sink to (goes.runs.lists out).sink → LeavesOutput see.sink made (goes.runs.lists out) (state.stages out).ended
+        cases : (to made : OutputPart K) → has_sink made ≡ has_sink to → IsSinkOf see.sink to (goes.lists out).sink → LeavesOutput see.sink made (goes.lists out) (state.stages out).ended
             → LeftOutput see.sink to made (end_list begun.rules list).cells cut why
         cases (output.Stream old) (output.Stream new) has sink leaves =
-            takes (see.sink old) (see.sink new) (subst (λ (v : SinkView). SinkTook v (see.sink new) (goes.runs.lists out).given (goes.runs.lists out).cut (state.stages out).ended) sink leaves)
+            takes (see.sink old) (see.sink new) (subst (λ (v : SinkView). SinkTook v (see.sink new) (goes.lists out).given (goes.lists out).cut (state.stages out).ended) sink leaves)
         cases output.Discard output.Discard has sink leaves = λ is. leaves (write-told is)
         cases (output.Stream old) output.Discard has sink leaves = let e : false ≡ true = has in cc
         cases output.Discard (output.Stream new) has sink leaves = let e : true ≡ false = has in cc
@@ -280,7 +283,7 @@ module _ {S K P : Type 0} (see : Seeing S K P)
     pub gave-to : Gave begun.plan.plugins begun.plan.buffer cut gave-of
     gave-to = record {
       input = at-close.made;
-      falls = λ k le. given-falls laws begun.plan goes.fits.lawful.users goes.runs.visits by.run (suc k) k (omega arith);
+      falls = λ k le. given-falls laws begun.plan goes.lawful_run.lawful.users goes.visits by.run (suc k) k (omega arith);
       output = given-cut;
     }
 
@@ -288,30 +291,31 @@ module _ {S K P : Type 0} (see : Seeing S K P)
     made-input = let first = so-far.lists 0 (omega arith) in omega (arith, ap (λ (l : List Cell). length l) first.1, length-append (state.stages 0).given first.0)
 
     pub met-all : (j : ℕ) (rest : List (StagePart S K P)) (made : List P) → AreTakenFrom see rest made → j + length made ≡ begun.plan.plugins
-        → ((i : ℕ) (d : StagePart S K P) → i < length made → slice_index_or rest i d ≡ goes.runs.part (suc (j + i))) → AllMetFirst see.stands begun.rules list gave-of cut j made
+        → ((i : ℕ) (d : StagePart S K P) → i < length made → slice_index_or rest i d ≡ goes.part (suc (j + i))) → AllMetFirst see.stands begun.rules list gave-of cut j made
     met-all j [] [] taken number same = tt
     met-all j [] (plugin ∷ made) taken number same = absurd taken
     met-all j (part ∷ []) [] taken number same = tt
     met-all j (part ∷ next ∷ rest) [] taken number same = tt
     met-all j (part ∷ rest) (plugin ∷ made) taken number same =
         let lt : j < begun.plan.plugins = omega arith in
-        let is : part ≡ goes.runs.part (suc j) = same 0 part (omega arith) ∙ ap (λ n. goes.runs.part (suc n)) (omega arith) in
-        let here = by.plugin j lt in
-        let holds : see.stands plugin (goes.runs.lists (suc j)).met (goes.runs.lists (suc j)).mark =
-        taken.0.holds (goes.runs.lists (suc j)) (state.stages (suc j)).ended (subst (λ p. PartStands see p (goes.runs.lists (suc j)) (state.stages (suc j)).ended) (sym is) here.at.stands_for) in
+        let is : part ≡ goes.part (suc j) = same 0 part (omega arith) ∙ ap (λ n. goes.part (suc n)) (omega arith) in
+        let here = at-plugin j lt in
+        let own = by.stands (suc j) (omega (arith, lt)) in
+        let holds : see.stands plugin (goes.lists (suc j)).met (goes.lists (suc j)).mark =
+        taken.0.holds (goes.lists (suc j)) (state.stages (suc j)).ended (subst (λ p. PartStands see p (goes.lists (suc j)) (state.stages (suc j)).ended) (sym is) own.stands_for) in
         let reached : cut ≤ length (state.stages (suc j)).given = at-close.reached (suc j) (omega arith) in
-        let falls : length (state.stages (suc j)).given ≤ length (state.stages j).given = given-falls laws begun.plan goes.fits.lawful.users goes.runs.visits by.run (suc j) j (omega arith) in
+        let falls : length (state.stages (suc j)).given ≤ length (state.stages j).given = given-falls laws begun.plan goes.lawful_run.lawful.users goes.visits by.run (suc j) j (omega arith) in
         let prefix : IsPrefix (state.stages j).given (stage_list begun.rules list j).cells = so-far.lists j (omega arith) in
         let first-of : take (gave-of (suc j)) (state.stages j).given ≡ take (gave-of (suc j)) (stage_list begun.rules list j).cells =
         sym (ap (take (gave-of (suc j))) prefix.1 ∙ take-append-le (gave-of (suc j)) (state.stages j).given prefix.0 falls) in (
           record {
-            mark = (goes.runs.lists (suc j)).mark;
-            holds = subst (λ (h : List Cell). see.stands plugin h (goes.runs.lists (suc j)).mark) (here.met ∙ first-of) holds;
-            told = (let a = here.at.mark in let b = written-cut in omega arith);
+            mark = (goes.lists (suc j)).mark;
+            holds = subst (λ (h : List Cell). see.stands plugin h (goes.lists (suc j)).mark) (here.met ∙ first-of) holds;
+            told = (let a = own.mark in let b = written-cut in omega arith);
             reach = reached;
             within = (let a = falls in omega (arith, ap (λ (l : List Cell). length l) prefix.1, length-append (state.stages j).given prefix.0));
           },
-          met-all (suc j) rest made taken.1 (omega arith) (λ i d below. same (suc i) d (omega arith) ∙ ap (λ n. goes.runs.part (suc n)) (omega arith)),
+          met-all (suc j) rest made taken.1 (omega arith) (λ i d below. same (suc i) d (omega arith) ∙ ap (λ n. goes.part (suc n)) (omega arith)),
         )
 
     -- ---- memory
@@ -326,32 +330,32 @@ module _ {S K P : Type 0} (see : Seeing S K P)
               at-stage k (subst (λ i. i ≤ out) same.1 told.2) (subst (λ i. (state.stages i).ended ≡ Some NoMemory) same.1 ended))
         ]
       where
-        at-plugin : (j : ℕ) → j < begun.plan.plugins → (state.stages (suc j)).ended ≡ Some NoMemory → WantsMemory begun.rooms begun.plan.buffer (suc j)
-        at-plugin j lt ended =
-            let here = by.plugin j lt in
-            let wants = wants-kind see (goes.runs.part (suc j)) begun.plan.buffer (here.at.memory ended) in
+        of-plugin : (j : ℕ) → j < begun.plan.plugins → (state.stages (suc j)).ended ≡ Some NoMemory → WantsMemory begun.rooms begun.plan.buffer (suc j)
+        of-plugin j lt ended =
+            let here = at-plugin j lt in
+            let wants = wants-kind see (goes.part (suc j)) begun.plan.buffer ((by.stands (suc j) (omega (arith, lt))).memory ended) in
             record {
               behind_input = omega arith;
-              there_is = (let a = goes.fits.rooms_are in omega arith);
+              there_is = (let a = goes.lawful_run.rooms_are in omega arith);
               no_room = λ has. wants.1 (subst (λ (room : Option ℕ). IsSteadyFor room begun.plan.buffer)
                   (ap (λ n. slice_index_or begun.rooms n None) (let e : suc j - 1 ≡ j = omega arith in e) ∙ sym here.room_is) has);
             }
 
         at-stage : (k' : ℕ) → k' ≤ out → (state.stages k').ended ≡ Some NoMemory → WantsMemory begun.rooms begun.plan.buffer k'
         at-stage zero le ended =
-            let wants = wants-kind see (goes.runs.part 0) begun.plan.buffer (by.input.at.memory ended) in
-            let e : an_input ≡ a_plugin = sym by.input.kind ∙ wants.0 in cc
+            let wants = wants-kind see (goes.part 0) begun.plan.buffer ((by.stands 0 (omega arith)).memory ended) in
+            let e : an_input ≡ a_plugin = sym at-input.kind ∙ wants.0 in cc
         at-stage (suc j) le ended =
             elim (cases_lt j begun.plan.plugins) [
-              | inl lt ↦ at-plugin j lt ended
+              | inl lt ↦ of-plugin j lt ended
               | inr far' ↦ (let same : suc j ≡ out = omega arith in
-                  let wants = wants-kind see (goes.runs.part out) begun.plan.buffer (by.output.at.memory (subst (λ i. (state.stages i).ended ≡ Some NoMemory) same ended)) in
-                  let e : an_output ≡ a_plugin = sym by.output.kind ∙ wants.0 in cc)
+                  let wants = wants-kind see (goes.part out) begun.plan.buffer ((by.stands out (omega arith)).memory (subst (λ i. (state.stages i).ended ≡ Some NoMemory) same ended)) in
+                  let e : an_output ≡ a_plugin = sym at-output.kind ∙ wants.0 in cc)
             ]
 
   -- the rules are those of the plugins that went in
   pub rules-all : (j : ℕ) (rules : List PluginRule) (rest : List (StagePart S K P)) (made : List P) → AreTakenFrom see rest made → length made ≡ length rules → j + length made ≡ begun.plan.plugins
-      → ((i : ℕ) (d : StagePart S K P) → i < length made → slice_index_or rest i d ≡ goes.runs.part (suc (j + i)))
+      → ((i : ℕ) (d : StagePart S K P) → i < length made → slice_index_or rest i d ≡ goes.part (suc (j + i)))
       → ((i : ℕ) → i < length made → rule_behind begun.rules (j + i) ≡ rule_behind rules i) → map see.rule made ≡ rules
   rules-all j [] rest [] taken long number same are = refl
   rules-all j (r ∷ rules) rest [] taken long number same are = absurd (omega arith)
@@ -359,8 +363,8 @@ module _ {S K P : Type 0} (see : Seeing S K P)
   rules-all j (r ∷ rules) [] (plugin ∷ made) taken long number same are = absurd taken
   rules-all j (r ∷ rules) (part ∷ rest) (plugin ∷ made) taken long number same are =
       let lt : j < begun.plan.plugins = omega arith in
-      let is : part ≡ goes.runs.part (suc j) = same 0 part (omega arith) ∙ ap (λ n. goes.runs.part (suc n)) (omega arith) in
-      let head : see.rule plugin ≡ r = taken.0.same_rule ∙ (ap (λ p. rule_of see p) is ∙ ((by.plugin j lt).rule_is ∙ (ap (rule_behind begun.rules) (omega arith) ∙ are 0 (omega arith)))) in
-      let tail : map see.rule made ≡ rules = rules-all (suc j) rules rest made taken.1 (omega arith) (omega arith) (λ i d below. same (suc i) d (omega arith) ∙ ap (λ n. goes.runs.part (suc n)) (omega arith))
+      let is : part ≡ goes.part (suc j) = same 0 part (omega arith) ∙ ap (λ n. goes.part (suc n)) (omega arith) in
+      let head : see.rule plugin ≡ r = taken.0.same_rule ∙ (ap (λ p. rule_of see p) is ∙ ((at-plugin j lt).rule_is ∙ (ap (rule_behind begun.rules) (omega arith) ∙ are 0 (omega arith)))) in
+      let tail : map see.rule made ≡ rules = rules-all (suc j) rules rest made taken.1 (omega arith) (omega arith) (λ i d below. same (suc i) d (omega arith) ∙ ap (λ n. goes.part (suc n)) (omega arith))
       (λ i below. ap (rule_behind begun.rules) (omega arith) ∙ are (suc i) (omega arith)) in
       λ i. head i ∷ tail i

@@ -4,8 +4,10 @@ pub mod NumberLaws
 pub mod StepLemmas
 pub mod QuietVisit
 pub mod KindLemmas
-pub mod WorkVisit
 pub mod TurnLemmas
+pub mod RanLemmas
+pub mod StageVisit
+pub mod WorkVisit
 pub mod ProgressLemmas
 pub mod TurnWorks
 pub mod TurnMoves
@@ -13,5 +15,6 @@ pub mod TurnLaws
 pub mod StartLemmas
 pub mod CloseLemmas
 pub mod RunLemmas
+pub mod EndLemmas
 pub mod RunUses
 pub mod PartLemmas

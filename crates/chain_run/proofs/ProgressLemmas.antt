@@ -11,7 +11,8 @@ use Rattle.chain_core.specs.ChainRun.{ChainRun, state_after, AllEnded}
 use Rattle.chain_core.specs.CoreNumbers.{CoreNumbers, IsLawfulPlan, StandsFor, progress_of_core}
 use Rattle.chain_core.specs.Laws.{IsQuiet}
 use Rattle.chain_core.proofs.Stepping.{visited-same, visited-other}
-use Rattle.chain_run.specs.Runs.{nothing_told, still_of, remaining_work, IsIdleOrOver}
+use Rattle.chain_run.specs.Runs.{nothing_told}
+use Rattle.chain_run.specs.SerialRuns.{still_of, remaining_work, IsIdleOrOver}
 use Rattle.chain_run.proofs.TurnLemmas.{quiet-mark, quiet-agreed}
 
 -- the progress when a stage took of what waits, gave nothing and told nothing

@@ -23,10 +23,12 @@ use Rattle.stage_run.specs.declared.stage_part.StagePart.{StagePart}
 use Rattle.stage_run.specs.PartLists.{PartLists}
 use Rattle.stage_run.specs.PartStands.{PartGives}
 use Rattle.chain_run.specs.Slots.{slot, HoldsFrom}
-use Rattle.chain_run.specs.Runs.{nothing_told, RunStart, InputAt, PluginAt, OutputAt, RunsBy}
+use Rattle.chain_run.specs.Runs.{nothing_told, RunStart}
+use Rattle.chain_run.specs.OneStage.{Doing, StandsIn}
+use Rattle.chain_run.specs.SerialRuns.{RunsBy}
 use Rattle.chain_run.specs.Laws.{MachineLaws}
 use Rattle.chain_run.proofs.NumberLaws.{change, stage-other, written-grows, given-falls}
-use Rattle.chain_run.proofs.StepLemmas.{set_at, pick, input-frame, plugin-frame, output-frame, Own, stepped}
+use Rattle.chain_run.proofs.StepLemmas.{set_at, pick, doing-more, Own, stepped}
 
 -- ---- a stage that goes on may tell nothing
 
@@ -78,7 +80,7 @@ module _ {S K P : Type 0} (see : Seeing S K P) (begun : RunStart S K)
   new = state_after begun.plan (visit_of k [] nothing_told ∷ visits)
 
   abbrev run : ChainRun begun.plan (visit_of k [] nothing_told ∷ visits)
-  run = (by.run, allowed)
+  run = (by.ran.run, allowed)
 
   abbrev Gives : StageList → Type 0
   Gives input = PartGives see (set_at part k (part k) 0) (set_at lists k (lists k) 0) input
@@ -103,7 +105,7 @@ module _ {S K P : Type 0} (see : Seeing S K P) (begun : RunStart S K)
   grows = written-grows laws begun.plan lawful.users visits (visit_of k [] nothing_told) run
 
   falls : (j : ℕ) → length (old.stages (suc j)).given ≤ length (old.stages j).given
-  falls j = given-falls laws begun.plan lawful.users visits by.run (suc j) j (omega arith)
+  falls j = given-falls laws begun.plan lawful.users visits by.ran.run (suc j) j (omega arith)
 
   no_more : (j : ℕ) → (new.stages j).given ≡ (old.stages j).given ++ []
   no_more j = given_same j ∙ sym (append-nil (old.stages j).given)
@@ -115,24 +117,20 @@ module _ {S K P : Type 0} (see : Seeing S K P) (begun : RunStart S K)
   less-all =
       pick (λ p l. (input : StageList) → PartGives see p l input → PartGives see (part 0) (lists 0) input) part lists k (part k) (lists k) 0 less (λ apart input gives. gives)
 
-  own_output : suc begun.plan.plugins ≡ k → OutputAt see begun (part k) (lists k) new Gives
-  own_output same =
-      subst (λ i. OutputAt see begun (part i) (lists i) new Gives) same
-      (output-frame see begun old new grows (part (suc begun.plan.plugins)) (lists (suc begun.plan.plugins)) [] (PartGives see (part 0) (lists 0)) Gives
-      (given_same (suc begun.plan.plugins)) (subst (λ i. (new.stages i).ended ≡ (old.stages i).ended) (sym same) ended_same)
-      (subst (λ i. (old.stages i).taken ≤ (new.stages i).taken) (sym same) (change laws begun.plan lawful.users visits (visit_of k [] nothing_told) run).no_less)
-      (no_more begun.plan.plugins) (falls begun.plan.plugins) less-all by.output)
+  stands : StandsIn see begun (part k) k (lists k) new Gives
+  stands =
+      subst (λ (e : Option StageEnd). Doing see begun (part k) k (lists k) (new.stages k).given e (written_of begun.plan (progress_of_stages new)) (new.stages k).taken (λ i. (new.stages i).given) Gives) (sym ended_same)
+      (subst (λ (g : List Cell). Doing see begun (part k) k (lists k) g (old.stages k).ended (written_of begun.plan (progress_of_stages new)) (new.stages k).taken (λ i. (new.stages i).given) Gives) (sym (given_same k))
+      (doing-more see begun (part k) k (lists k) (old.stages k).given (old.stages k).ended (written_of begun.plan (progress_of_stages old)) (written_of begun.plan (progress_of_stages new)) (old.stages k).taken (new.stages k).taken
+      (λ i. (old.stages i).given) (λ i. (new.stages i).given) (PartGives see (part 0) (lists 0)) Gives grows (change laws begun.plan lawful.users visits (visit_of k [] nothing_told) run).no_less
+      (λ i e. ([], no_more i, subst (λ n. length (old.stages n).given ≤ length (old.stages i).given) e (falls i))) less-all (by.ran.stands k is_stage)))
 
   own : Own_
   own = record {
     less = less;
-    keeps = λ input was gives. (by.kept input was).going k ended;
-    going = λ input was gives none. going-own laws begun.plan begun.rules input lawful visits [] nothing_told k run refl ((by.kept input was).going k ended);
-    own_input = λ same. subst (λ i. InputAt see begun (part i) (lists i) new) same
-        (input-frame see begun old new grows (part 0) (lists 0) (given_same 0) (subst (λ i. (new.stages i).ended ≡ (old.stages i).ended) (sym same) ended_same) by.input);
-    own_plugin = λ j same lt. subst (λ i. PluginAt see begun (part i) j (lists i) new) same
-        (plugin-frame see begun old new grows (part (suc j)) j (lists (suc j)) [] (given_same (suc j)) (subst (λ i. (new.stages i).ended ≡ (old.stages i).ended) (sym same) ended_same) (no_more j) (falls j) (by.plugin j lt));
-    own_output = own_output;
+    keeps = λ input was gives. by.going input was k ended;
+    going = λ input was gives none. going-own laws begun.plan begun.rules input lawful visits [] nothing_told k run refl (by.going input was k ended);
+    stands = stands;
     buffer = λ j le. subst (λ (l : List Cell). HoldsFrom (slot cells) (length (new.stages (suc j)).given) (drop (length (new.stages (suc j)).given) l)) (sym (given_same j))
         (subst (λ (l : List Cell). HoldsFrom (slot cells) (length l) (drop (length l) (old.stages j).given)) (sym (given_same (suc j))) (by.buffer j le));
   }
@@ -140,7 +138,7 @@ module _ {S K P : Type 0} (see : Seeing S K P) (begun : RunStart S K)
   -- nothing has changed but the numbers
   pub quiet-visit : RunsBy see begun new_core parts cells (visit_of k [] nothing_told ∷ visits) (set_at part k (part k)) (set_at lists k (lists k))
   quiet-visit =
-      let here : slice_index_or parts k (part k) ≡ part k = by.parts_are k (part k) is_stage in
+      let here : slice_index_or parts k (part k) ≡ part k = by.ran.parts_are k (part k) is_stage in
       let same : slice_set parts k (part k) ≡ parts = ap (λ (p : StagePart S K P). slice_set parts k p) (sym here) ∙ set-get_or parts k (part k) in
       subst (λ (ps : List (StagePart S K P)). RunsBy see begun new_core ps cells (visit_of k [] nothing_told ∷ visits) (set_at part k (part k)) (set_at lists k (lists k))) same
       (stepped see begun laws lawful core new_core parts cells cells visits part lists by k [] nothing_told is_stage allowed (part k) (lists k) numbers long own)

@@ -1,5 +1,6 @@
 -- A chain before its first turn.
-use Rattle.std.proofs.Common.{◌≡◌, ◌≢◌, ℕ, zero, suc, ◌+◌, ◌<◌, ◌↔◌, List, [], ◌∷◌, ◌++◌, length, map, false, Option, Some, None, refl, ap, sym, ◌∙◌, subst, arith, inl}
+use Rattle.std.proofs.Common.{◌≡◌, ◌≢◌, ℕ, zero, suc, ◌+◌, ◌<◌, ◌≤◌, ◌↔◌, List, [], ◌∷◌, ◌++◌, length, map, false, Option, Some, None, refl, ap, sym, ◌∙◌, subst, arith, inl, inr}
+use Rattle.std.proofs.lemmas.Bool.{cases_lt}
 use Rattle.std.specs.Prelude.{slice_index_or}
 use Rattle.std.specs.List.{All}
 use Rattle.std.proofs.lemmas.List.{length-map}
@@ -11,7 +12,8 @@ use Rattle.chain_model.specs.PluginRule.{PluginRule}
 use Rattle.chain_model.specs.Apply.{StageList, last_passed}
 use Rattle.chain_model.specs.StageLists.{rule_behind}
 use Rattle.chain_core.specs.declared.core_plan.CorePlan.{CorePlan}
-use Rattle.chain_core.specs.Machine.{start}
+use Rattle.chain_core.specs.Numbers.{written_of}
+use Rattle.chain_core.specs.Machine.{start, progress_of_stages}
 use Rattle.chain_core.specs.ChainRun.{state_after, took}
 use Rattle.chain_core.specs.CoreNumbers.{CoreNumbers, IsLawfulPlan, StandsFor}
 use Rattle.chain_core.specs.Keeps.{StageKeeps}
@@ -28,7 +30,9 @@ use Rattle.stage_run.specs.InputStands.{stuffing_of}
 use Rattle.stage_run.specs.Parts.{IsListOf, IsSourceOf, IsSinkOf}
 use Rattle.chain_run.specs.Fresh.{AreFresh}
 use Rattle.chain_run.specs.Parts.{MadeOf, AreMadeOf}
-use Rattle.chain_run.specs.Runs.{nothing_told, RunStart, NumbersFit, PartAt, InputAt, PluginAt, OutputAt, KeptFor, RunsBy}
+use Rattle.chain_run.specs.Runs.{nothing_told, RunStart}
+use Rattle.chain_run.specs.OneStage.{IsInput, IsPlugin, IsOutput, StandsIn}
+use Rattle.chain_run.specs.SerialRuns.{NumbersFit, RunsBy}
 use Rattle.chain_run.specs.Working.{IsRunning}
 use Rattle.chain_run.proofs.QuietVisit.{silent}
 use Rattle.chain_run.proofs.TurnLemmas.{list-ends}
@@ -130,61 +134,78 @@ module _ {S K P : Type 0} (see : Seeing S K P) where
     fits : NumbersFit began core (length parts) (length cells)
     fits = record {
       plan_is = plan_is;
-      lawful = lawful;
+      run = record {
+        lawful = lawful;
+        rules_are = length-map plugins see.rule ∙ sym number;
+        rooms_are = length-map plugins see.steady ∙ sym number;
+        agree_late = rules-open see.rule see.stands plugins fresh opens;
+      };
       stages_are = parts-length;
       slots_are = slots;
-      rules_are = length-map plugins see.rule ∙ sym number;
-      rooms_are = length-map plugins see.steady ∙ sym number;
-      agree_late = rules-open see.rule see.stands plugins fresh opens;
     }
 
-    at-start : (p : StagePart S K P) (k : ℕ) → PartStands see p (lists k) None → PartAt see began p k (lists k) (state_after plan [])
-    unfolding state_after
-    at-start p k is = record { stands_for = is; given = refl; mark = omega arith; memory = λ e. cc }
+    abbrev Gives : StageList → Type 0
+    Gives = PartGives see first (lists 0)
 
-    input-start : InputAt see began first (lists 0) (state_after plan [])
-    input-start = record {
-      at = at-start first 0 (in_stands (view-of-source see.source from).0 (view-of-sink see.sink to).0 0 (view-of-source see.source from).1);
+    input-start : (low : ℕ) → IsInput see began first (lists 0) low
+    input-start low = record {
       kind = in_kind;
       stuffing_is = in_stuffing;
       stream = in_stream;
       source = (view-of-source see.source from).1;
       within = inl (omega arith);
+      is_list = λ input gives. (in_gives (view-of-source see.source from).0 (view-of-sink see.sink to).0 0 input).0 gives;
     }
 
-    plugin-start : (j : ℕ) → j < plan.plugins → PluginAt see began (part (suc j)) j (lists (suc j)) (state_after plan [])
-    unfolding state_after
+    plugin-start : (j : ℕ) → j < plan.plugins → IsPlugin see began (part (suc j)) j (lists (suc j)) [] []
     plugin-start j lt =
         let here = made-at made (out ∷ []) plugins j first are fresh (omega (arith, number)) in
         record {
-          at = at-start (part (suc j)) (suc j) (here.is.fresh (view-of-source see.source from).0 (view-of-sink see.sink to).0 0 here.fresh);
           kind = here.is.kind;
           rule_is = here.is.same_rule ∙ sym here.rule_is;
           room_is = here.is.same_steady ∙ sym here.room_is;
           met = refl;
         }
 
-    output-start : (Gives : StageList → Type 0) → OutputAt see began out (lists (suc plan.plugins)) (state_after plan []) Gives
-    unfolding state_after
-    output-start Gives = record {
-      at = at-start out (suc plan.plugins) (out_stands (view-of-source see.source from).0 (view-of-sink see.sink to).0 0 (view-of-sink see.sink to).1);
-      kind = out_kind;
-      stream = out_stream;
+    output-start : IsOutput see began (part (suc plan.plugins)) (lists (suc plan.plugins)) [] [] None 0 Gives
+    output-start = record {
+      kind = ap kind_of last-is ∙ out_kind;
+      stream = ap has_stream last-is ∙ out_stream;
       met = refl;
       sink = (view-of-sink see.sink to).1;
       failed = λ e. cc;
     }
 
-    kept-start : (input : StageList) → PartGives see first (lists 0) input → KeptFor see began [] input
+    stands-at : (k : ℕ) → k ≤ suc plan.plugins → PartStands see (part k) (lists k) None
+    stands-at zero le = in_stands (view-of-source see.source from).0 (view-of-sink see.sink to).0 0 (view-of-source see.source from).1
+    stands-at (suc j) le =
+        elim (cases_lt j plan.plugins) [
+          | inl lt ↦ (let here = made-at made (out ∷ []) plugins j first are fresh (omega (arith, number)) in
+              here.is.fresh (view-of-source see.source from).0 (view-of-sink see.sink to).0 0 here.fresh)
+          | inr far ↦ (let e : j ≡ plan.plugins = omega arith in
+              subst (λ p. PartStands see p (lists (suc j)) None) (sym (ap (λ n. part (suc n)) e ∙ last-is))
+              (out_stands (view-of-source see.source from).0 (view-of-sink see.sink to).0 0 (view-of-sink see.sink to).1))
+        ]
+
+    -- each stage stands for lists of which nothing was done
+    new-stands : (k : ℕ) → k ≤ suc plan.plugins → StandsIn see began (part k) k (lists k) (state_after plan []) Gives
     unfolding state_after
-    kept-start input gives =
+    new-stands k le = record {
+      stands_for = stands-at k le;
+      given_is = refl;
+      mark = omega arith;
+      memory = λ e. cc;
+      input = λ e. subst (λ i. IsInput see began (part i) (lists i) (written_of plan (progress_of_stages (state_after plan [])))) e (input-start (written_of plan (progress_of_stages (state_after plan []))));
+      plugin = λ j e lt. subst (λ i. IsPlugin see began (part i) j (lists i) [] []) e (plugin-start j lt);
+      output = λ e. subst (λ i. IsOutput see began (part i) (lists i) [] [] None 0 Gives) e output-start;
+    }
+
+    going-start : (input : StageList) → PartGives see first (lists 0) input → (k : ℕ) → ((state_after plan []).stages k).ended ≡ None → StageKeeps (map see.rule plugins) input plan.plugins k (took (state_after plan []) k) ((state_after plan []).stages k).given [] nothing_told
+    unfolding state_after
+    going-start input gives k e =
         let is : IsListOf see.source from (stuffing_of stuffing) input = (in_gives (view-of-source see.source from).0 (view-of-sink see.sink to).0 0 input).0 gives in
         let ends = list-ends see.source from (stuffing_of stuffing) input is in
-        record {
-          is_list = is;
-          kept = tt;
-          going = λ k e. starts-quiet (map see.rule plugins) input plan.plugins (λ last. (let how = ends.0 in let f = sym ends.1 ∙ last in cc)) k (took (state_after plan []) k) (nothing-taken k);
-        }
+        starts-quiet (map see.rule plugins) input plan.plugins (λ last. (let how = ends.0 in let f = sym ends.1 ∙ last in cc)) k (took (state_after plan []) k) (nothing-taken k)
       where
         nothing-taken : (k : ℕ) → took start k ≡ []
         nothing-taken zero = refl
@@ -193,13 +214,14 @@ module _ {S K P : Type 0} (see : Seeing S K P) where
     by-start : RunsBy see began core parts cells [] part lists
     unfolding state_after
     by-start = record {
-      parts_are = λ k d le. any-default parts k d first (let a = parts-length in omega arith);
+      ran = record {
+        parts_are = λ k d le. any-default parts k d first (let a = parts-length in omega arith);
+        run = tt;
+        kept = λ input gives. tt;
+        stands = new-stands;
+      };
       numbers = numbers;
-      run = tt;
-      kept = kept-start;
-      input = input-start;
-      plugin = plugin-start;
-      output = subst (λ p. OutputAt see began p (lists (suc plan.plugins)) (state_after plan []) (PartGives see (part 0) (lists 0))) (sym last-is) (output-start (PartGives see (part 0) (lists 0)));
+      going = going-start;
       buffer = λ k le. tt;
     }
 

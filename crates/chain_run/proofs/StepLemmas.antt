@@ -17,11 +17,13 @@ use Rattle.chain_core.specs.Keeps.{Keeps}
 use Rattle.stage_run.specs.Seeing.{Seeing}
 use Rattle.stage_run.specs.declared.stage_part.StagePart.{StagePart}
 use Rattle.stage_run.specs.PartLists.{PartLists}
-use Rattle.stage_run.specs.PartStands.{PartStands, PartGives}
+use Rattle.stage_run.specs.PartStands.{PartGives}
 use Rattle.stage_run.specs.OutputStands.{IsPartOfFirst}
 use Rattle.chain_run.specs.RunOf.{MayRead}
 use Rattle.chain_run.specs.Slots.{slot, HoldsFrom}
-use Rattle.chain_run.specs.Runs.{nothing_told, between, RunStart, PartAt, InputAt, PluginAt, FailedAt, OutputAt, KeptFor, RunsBy}
+use Rattle.chain_run.specs.Runs.{nothing_told, between, RunStart}
+use Rattle.chain_run.specs.OneStage.{Doing, StandsIn}
+use Rattle.chain_run.specs.SerialRuns.{RunsBy}
 use Rattle.chain_run.specs.Laws.{MachineLaws}
 use Rattle.chain_run.proofs.NumberLaws.{given-falls, stage-other, written-grows, given-more}
 
@@ -55,76 +57,33 @@ part-more [] ys cut is = absurd is
 part-more (Dropped ∷ xs) ys cut is = absurd is
 part-more (Live packet labels ∷ xs) ys cut is = is
 
-take-frame : (m n : ℕ) (xs ys more : List Cell) → n ≡ m → ys ≡ xs ++ more → m ≤ length xs → take m xs ≡ take n ys
-take-frame m n xs ys more e grown le =
-    sym (ap (λ i. take i ys) e ∙ (ap (take m) grown ∙ take-append-le m xs more le))
-
-drop-frame : (m n : ℕ) (xs ys more : List Cell) → n ≡ m → ys ≡ xs ++ more → m ≤ length xs → drop n ys ≡ drop m xs ++ more
-drop-frame m n xs ys more e grown le =
-    ap (λ i. drop i ys) e ∙ (ap (drop m) grown ∙ drop-append-le m xs more le)
-
 module _ {S K P : Type 0} (see : Seeing S K P) (begun : RunStart S K) where
-  -- ---- stages that were not visited
-
-  module _ (old new : ChainState) (grown : written_of begun.plan (progress_of_stages old) ≤ written_of begun.plan (progress_of_stages new)) where
-    part-frame : (part : StagePart S K P) (k : ℕ) (lists : PartLists) → (new.stages k).given ≡ (old.stages k).given → (new.stages k).ended ≡ (old.stages k).ended
-        → PartAt see begun part k lists old → PartAt see begun part k lists new
-    part-frame part k lists same ended at = record {
-      stands_for = subst (λ (e : Option StageEnd). PartStands see part lists e) (sym ended) at.stands_for;
-      given = at.given ∙ sym same;
-      mark = le_trans at.mark grown;
-      memory = λ e. at.memory (sym ended ∙ e);
-    }
-
-    pub input-frame : (part : StagePart S K P) (lists : PartLists) → (new.stages 0).given ≡ (old.stages 0).given → (new.stages 0).ended ≡ (old.stages 0).ended
-        → InputAt see begun part lists old → InputAt see begun part lists new
-    input-frame part lists same ended is = record {
-      at = part-frame part 0 lists same ended is.at;
-      kind = is.kind;
-      stuffing_is = is.stuffing_is;
-      stream = is.stream;
-      source = is.source;
-      within = may_read-more begun.plan.buffer (written_of begun.plan (progress_of_stages old)) (written_of begun.plan (progress_of_stages new)) (length lists.read) grown is.within;
-    }
-
-    pub plugin-frame : (part : StagePart S K P) (j : ℕ) (lists : PartLists) (more : List Cell) → (new.stages (suc j)).given ≡ (old.stages (suc j)).given → (new.stages (suc j)).ended ≡ (old.stages (suc j)).ended
-        → (new.stages j).given ≡ (old.stages j).given ++ more → length (old.stages (suc j)).given ≤ length (old.stages j).given
-        → PluginAt see begun part j lists old → PluginAt see begun part j lists new
-    plugin-frame part j lists more same ended is_more le is = record {
-      at = part-frame part (suc j) lists same ended is.at;
-      kind = is.kind;
-      rule_is = is.rule_is;
-      room_is = is.room_is;
-      met = is.met ∙ take-frame (length (old.stages (suc j)).given) (length (new.stages (suc j)).given) (old.stages j).given (new.stages j).given more (ap (λ (l : List Cell). length l) same) is_more le;
-    }
-
-    failed-frame : (lists : PartLists) (more : List Cell) (Gives Gives' : StageList → Type 0) → (new.stages (suc begun.plan.plugins)).given ≡ (old.stages (suc begun.plan.plugins)).given
-        → (old.stages (suc begun.plan.plugins)).taken ≤ (new.stages (suc begun.plan.plugins)).taken → (new.stages begun.plan.plugins).given ≡ (old.stages begun.plan.plugins).given ++ more
-        → length (old.stages (suc begun.plan.plugins)).given ≤ length (old.stages begun.plan.plugins).given → ((input : StageList) → Gives' input → Gives input)
-        → FailedAt see begun lists old Gives → FailedAt see begun lists new Gives'
-    failed-frame lists more Gives Gives' same no_less is_more le less failed =
-        let size : length (new.stages (suc begun.plan.plugins)).given ≡ length (old.stages (suc begun.plan.plugins)).given = ap (λ (l : List Cell). length l) same in
-        record {
-          few = (let few = failed.few in omega arith);
-          part = subst (λ (l : List Cell). IsPartOfFirst l lists.cut)
-              (sym (drop-frame (length (old.stages (suc begun.plan.plugins)).given) (length (new.stages (suc begun.plan.plugins)).given) (old.stages begun.plan.plugins).given (new.stages begun.plan.plugins).given more size is_more le))
-              (part-more (between old begun.plan.plugins) more lists.cut failed.part);
-          late = λ input gives joint is. let far = failed.late input (less input gives) joint is in omega arith;
-        }
-
-    pub output-frame : (part : StagePart S K P) (lists : PartLists) (more : List Cell) (Gives Gives' : StageList → Type 0) → (new.stages (suc begun.plan.plugins)).given ≡ (old.stages (suc begun.plan.plugins)).given
-        → (new.stages (suc begun.plan.plugins)).ended ≡ (old.stages (suc begun.plan.plugins)).ended
-        → (old.stages (suc begun.plan.plugins)).taken ≤ (new.stages (suc begun.plan.plugins)).taken → (new.stages begun.plan.plugins).given ≡ (old.stages begun.plan.plugins).given ++ more
-        → length (old.stages (suc begun.plan.plugins)).given ≤ length (old.stages begun.plan.plugins).given → ((input : StageList) → Gives' input → Gives input)
-        → OutputAt see begun part lists old Gives → OutputAt see begun part lists new Gives'
-    output-frame part lists more Gives Gives' same ended no_less is_more le less is = record {
-      at = part-frame part (suc begun.plan.plugins) lists same ended is.at;
-      kind = is.kind;
-      stream = is.stream;
-      met = is.met ∙ take-frame (length (old.stages (suc begun.plan.plugins)).given) (length (new.stages (suc begun.plan.plugins)).given) (old.stages begun.plan.plugins).given (new.stages begun.plan.plugins).given more (ap (λ (l : List Cell). length l) same) is_more le;
-      sink = is.sink;
-      failed = λ e. failed-frame lists more Gives Gives' same no_less is_more le less (is.failed (sym ended ∙ e));
-    }
+  -- what a stage stands for is not changed by what the others do
+  pub doing-more : (part : StagePart S K P) (k : ℕ) (lists : PartLists) (given : List Cell) (ended : Option StageEnd) (low low' taken taken' : ℕ) (before before' : ℕ → List Cell) (Gives Gives' : StageList → Type 0)
+      → low ≤ low' → taken ≤ taken' → ((j : ℕ) → suc j ≡ k → (more : List Cell) × (before' j ≡ before j ++ more) × (length given ≤ length (before j))) → ((input : StageList) → Gives' input → Gives input)
+      → Doing see begun part k lists given ended low taken before Gives → Doing see begun part k lists given ended low' taken' before' Gives'
+  doing-more part k lists given ended low low' taken taken' before before' Gives Gives' le le' grown less d =
+      let met_more : (j : ℕ) → suc j ≡ k → lists.met ≡ take (length given) (before j) → lists.met ≡ take (length given) (before' j) = λ j e met.
+      let g = grown j e in met ∙ sym (ap (take (length given)) g.1 ∙ take-append-le (length given) (before j) g.0 g.2) in
+      record {
+        stands_for = d.stands_for;
+        given_is = d.given_is;
+        mark = le_trans d.mark le;
+        memory = d.memory;
+        input = λ e. let i = d.input e in record { kind = i.kind; stuffing_is = i.stuffing_is; stream = i.stream; source = i.source; within = may_read-more begun.plan.buffer low low' (length lists.read) le i.within; is_list = i.is_list };
+        plugin = λ j e lt. let p = d.plugin j e lt in record { kind = p.kind; rule_is = p.rule_is; room_is = p.room_is; met = met_more j e p.met };
+        output = λ e. let o = d.output e in record {
+          kind = o.kind;
+          stream = o.stream;
+          met = met_more begun.plan.plugins e o.met;
+          sink = o.sink;
+          failed = λ is. let f = o.failed is in let g = grown begun.plan.plugins e in record {
+            few = (let a = f.few in omega (arith, a, le'));
+            part = subst (λ (l : List Cell). IsPartOfFirst l lists.cut) (sym (ap (drop (length given)) g.1 ∙ drop-append-le (length given) (before begun.plan.plugins) g.0 g.2)) (part-more (drop (length given) (before begun.plan.plugins)) g.0 lists.cut f.part);
+            late = λ input gives. f.late input (less input gives);
+          };
+        };
+      }
 
   -- ---- a visit
 
@@ -140,7 +99,7 @@ module _ {S K P : Type 0} (see : Seeing S K P) (begun : RunStart S K) where
     new = state_after begun.plan (visit_of k given word ∷ visits)
 
     abbrev pub run : ChainRun begun.plan (visit_of k given word ∷ visits)
-    run = (by.run, allowed)
+    run = (by.ran.run, allowed)
 
     abbrev pub Gives : StageList → Type 0
     Gives input = PartGives see (set_at part k new_part 0) (set_at lists k after 0) input
@@ -150,9 +109,7 @@ module _ {S K P : Type 0} (see : Seeing S K P) (begun : RunStart S K) where
       pub less : 0 ≡ k → (input : StageList) → PartGives see new_part after input → PartGives see (part 0) (lists 0) input
       pub keeps : (input : StageList) → PartGives see (part 0) (lists 0) input → Gives input → Keeps begun.plan begun.rules input old (visit_of k given word)
       pub going : (input : StageList) → PartGives see (part 0) (lists 0) input → Gives input → (new.stages k).ended ≡ None → Keeps begun.plan begun.rules input new (visit_of k [] nothing_told)
-      pub own_input : 0 ≡ k → InputAt see begun new_part after new
-      pub own_plugin : (j : ℕ) → suc j ≡ k → j < begun.plan.plugins → PluginAt see begun new_part j after new
-      pub own_output : suc begun.plan.plugins ≡ k → OutputAt see begun new_part after new Gives
+      pub stands : StandsIn see begun new_part k after new Gives
       pub buffer : (j : ℕ) → j ≤ begun.plan.plugins → HoldsFrom (slot new_cells) (length (new.stages (suc j)).given) (between new j)
 
     module _ (numbers : StandsFor new_core new) (long : suc begun.plan.plugins < length parts) (own : Own) where
@@ -163,15 +120,6 @@ module _ {S K P : Type 0} (see : Seeing S K P) (begun : RunStart S K) where
       other : (j : ℕ) → j ≢ k → new.stages j ≡ old.stages j
       other = stage-other laws begun.plan lawful.users visits (visit_of k given word) run
 
-      given_same : (j : ℕ) → j ≢ k → (new.stages j).given ≡ (old.stages j).given
-      given_same j apart = ap (λ (s : StageState). s.given) (other j apart)
-
-      ended_same : (j : ℕ) → j ≢ k → (new.stages j).ended ≡ (old.stages j).ended
-      ended_same j apart = ap (λ (s : StageState). s.ended) (other j apart)
-
-      taken_same : (j : ℕ) → j ≢ k → (old.stages j).taken ≤ (new.stages j).taken
-      taken_same j apart = let e : (new.stages j).taken ≡ (old.stages j).taken = ap (λ (s : StageState). s.taken) (other j apart) in omega arith
-
       grows : written_of begun.plan (progress_of_stages old) ≤ written_of begun.plan (progress_of_stages new)
       grows = written-grows laws begun.plan lawful.users visits (visit_of k given word) run
 
@@ -179,39 +127,41 @@ module _ {S K P : Type 0} (see : Seeing S K P) (begun : RunStart S K) where
       more = given-more laws begun.plan lawful.users visits (visit_of k given word) run
 
       falls : (j : ℕ) → length (old.stages (suc j)).given ≤ length (old.stages j).given
-      falls j = given-falls laws begun.plan lawful.users visits by.run (suc j) j (omega arith)
+      falls j = given-falls laws begun.plan lawful.users visits by.ran.run (suc j) j (omega arith)
 
-      kept : (input : StageList) → Gives input → KeptFor see begun (visit_of k given word ∷ visits) input
-      kept input gives =
-          let was = by.kept input (less-all input gives) in
-          record {
-            is_list = was.is_list;
-            kept = (was.kept, own.keeps input (less-all input gives) gives);
-            going = λ j ended. elim (cases_eq j k) [
-              | inl same ↦ subst (λ i. Keeps begun.plan begun.rules input new (visit_of i [] nothing_told)) (sym same) (own.going input (less-all input gives) gives (subst (λ i. (new.stages i).ended ≡ None) same ended))
-              | inr apart ↦ (laws.leaves begun.plan visits (visit_of k given word) lawful.users run).keeps begun.rules input (visit_of j [] nothing_told) apart (was.going j (ap (λ (s : StageState). s.ended) (sym (other j apart)) ∙ ended))
-            ];
-          }
+      going : (input : StageList) → Gives input → (j : ℕ) → (new.stages j).ended ≡ None → Keeps begun.plan begun.rules input new (visit_of j [] nothing_told)
+      going input gives j ended =
+          elim (cases_eq j k) [
+            | inl same ↦ subst (λ i. Keeps begun.plan begun.rules input new (visit_of i [] nothing_told)) (sym same) (own.going input (less-all input gives) gives (subst (λ i. (new.stages i).ended ≡ None) same ended))
+            | inr apart ↦ (laws.leaves begun.plan visits (visit_of k given word) lawful.users run).keeps begun.rules input (visit_of j [] nothing_told) apart (by.going input (less-all input gives) j (ap (λ (s : StageState). s.ended) (sym (other j apart)) ∙ ended))
+          ]
+
+      -- a stage that was not visited stands for what it stood for
+      others : (j : ℕ) → j ≤ suc begun.plan.plugins → j ≢ k → StandsIn see begun (part j) j (lists j) new Gives
+      others j le apart =
+          subst (λ (z : StageState). Doing see begun (part j) j (lists j) z.given z.ended (written_of begun.plan (progress_of_stages new)) z.taken (λ i. (new.stages i).given) Gives) (sym (other j apart))
+          (doing-more (part j) j (lists j) (old.stages j).given (old.stages j).ended (written_of begun.plan (progress_of_stages old)) (written_of begun.plan (progress_of_stages new)) (old.stages j).taken (old.stages j).taken
+          (λ i. (old.stages i).given) (λ i. (new.stages i).given) (PartGives see (part 0) (lists 0)) Gives grows (omega arith)
+          (λ i e. ((more i).0, (more i).1, subst (λ n. length (old.stages n).given ≤ length (old.stages i).given) e (falls i))) less-all (by.ran.stands j le))
 
       parts_are : (j : ℕ) (d : StagePart S K P) → j ≤ suc begun.plan.plugins → slice_index_or (slice_set parts k new_part) j d ≡ set_at part k new_part j
       parts_are j d le =
           elim (cases_eq j k) [
             | inl same ↦ (let lt : k < length parts = omega arith in ap (λ i. slice_index_or (slice_set parts k new_part) i d) same ∙ (get_or-set_same parts k new_part d lt ∙ sym (set_at-same part k new_part j same)))
-            | inr apart ↦ get_or-set_other parts k j new_part d apart ∙ (by.parts_are j d le ∙ sym (set_at-other part k new_part j apart))
+            | inr apart ↦ get_or-set_other parts k j new_part d apart ∙ (by.ran.parts_are j d le ∙ sym (set_at-other part k new_part j apart))
           ]
 
       -- what all stages stand for then
       pub stepped : RunsBy see begun new_core (slice_set parts k new_part) new_cells (visit_of k given word ∷ visits) (set_at part k new_part) (set_at lists k after)
       stepped = record {
-        parts_are = parts_are;
+        ran = record {
+          parts_are = parts_are;
+          run = run;
+          kept = λ input gives. (by.ran.kept input (less-all input gives), own.keeps input (less-all input gives) gives);
+          stands = λ j le. pick (λ p l. StandsIn see begun p j l new Gives) part lists k new_part after j
+              (λ same. subst (λ i. StandsIn see begun new_part i after new Gives) (sym same) own.stands) (others j le);
+        };
         numbers = numbers;
-        run = run;
-        kept = kept;
-        input = pick (λ p l. InputAt see begun p l new) part lists k new_part after 0 own.own_input
-            (λ apart. input-frame old new grows (part 0) (lists 0) (given_same 0 apart) (ended_same 0 apart) by.input);
-        plugin = λ j lt. pick (λ p l. PluginAt see begun p j l new) part lists k new_part after (suc j) (λ same. own.own_plugin j same lt)
-            (λ apart. plugin-frame old new grows (part (suc j)) j (lists (suc j)) (more j).0 (given_same (suc j) apart) (ended_same (suc j) apart) (more j).1 (falls j) (by.plugin j lt));
-        output = pick (λ p l. OutputAt see begun p l new Gives) part lists k new_part after (suc begun.plan.plugins) own.own_output
-            (λ apart. output-frame old new grows (part (suc begun.plan.plugins)) (lists (suc begun.plan.plugins)) (more begun.plan.plugins).0 (PartGives see (part 0) (lists 0)) Gives (given_same (suc begun.plan.plugins) apart) (ended_same (suc begun.plan.plugins) apart) (taken_same (suc begun.plan.plugins) apart) (more begun.plan.plugins).1 (falls begun.plan.plugins) less-all by.output);
+        going = going;
         buffer = own.buffer;
       }

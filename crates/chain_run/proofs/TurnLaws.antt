@@ -10,7 +10,8 @@ use Rattle.stage_run.specs.Seeing.{Seeing}
 use Rattle.stage_run.specs.declared.stage_part.StagePart.{StagePart}
 use Rattle.stage_run.specs.declared.work.Work.{Work}
 use Rattle.stage_run.specs.PartStands.{PartStands, MayWorkOnSome}
-use Rattle.chain_run.specs.Runs.{RunStart, IsIdle, remaining_work}
+use Rattle.chain_run.specs.Runs.{RunStart}
+use Rattle.chain_run.specs.SerialRuns.{IsIdle, remaining_work}
 use Rattle.chain_run.specs.Working.{IsRunning, IsRunningSomehow, StageWorks, Looks}
 use Rattle.chain_run.specs.Laws.{MachineLaws}
 use Rattle.chain_run.proofs.TurnWorks.{Looked, look, work-written, work-given, work-taken, work-stands, work-may, turned}

@@ -1,56 +1,36 @@
 -- A turn of a stage: it looks, works, and tells what it has done.
-use Rattle.std.proofs.Common.{◌≡◌, ℕ, suc, ◌+◌, ◌%◌, ◌^◌, ◌<◌, ◌≤◌, true, List, [], ◌∷◌, ◌++◌, length, take, drop, Some, None, refl, ap, sym, ◌∙◌, subst, arith, inl}
+use Rattle.std.proofs.Common.{◌≡◌, ℕ, suc, ◌+◌, ◌%◌, ◌^◌, ◌≤◌, List, [], ◌∷◌, ◌++◌, length, take, drop, None, refl, ap, sym, ◌∙◌, subst, arith}
 use Rattle.std.specs.Prelude.{slice_index_or, slice_set}
 use Rattle.std.proofs.lemmas.List.{length-take, length-drop, length-set}
 use Rattle.ts_packet.specs.declared.cell.Cell.{Cell}
-use Rattle.chain_model.specs.Apply.{StageList}
 use Rattle.chain_core.specs.declared.core_plan.CorePlan.{CorePlan}
 use Rattle.chain_core.specs.declared.progress.Progress.{Progress}
 use Rattle.chain_core.specs.declared.news.News.{News}
 use Rattle.chain_core.specs.declared.stage_word.StageWord.{StageWord}
 use Rattle.chain_core.specs.Numbers.{StagesProgress, limit_of, news_of, MayVisit}
 use Rattle.chain_core.specs.Machine.{ChainState, Visit, progress_of_stages, visit_of, visited, Allowed, news_after}
-use Rattle.chain_core.specs.ChainRun.{ChainRun, state_after}
+use Rattle.chain_core.specs.ChainRun.{state_after}
 use Rattle.chain_core.specs.CoreNumbers.{CoreNumbers, StandsFor, progress_of_core}
-use Rattle.chain_core.specs.Keeps.{KeptRun}
-use Rattle.chain_core.specs.EveryOrder.{SoFar}
 use Rattle.stage_run.specs.Seeing.{Seeing}
 use Rattle.stage_run.specs.declared.stage_part.StagePart.{StagePart}
 use Rattle.stage_run.specs.declared.work.Work.{Work}
 use Rattle.stage_run.specs.PartLists.{PartLists}
-use Rattle.stage_run.specs.PartStands.{PartStands, MayWork, MayWorkOnSome, kind_of, an_output}
-use Rattle.stage_run.specs.Telling.{may_follow, FollowsNews}
+use Rattle.stage_run.specs.PartStands.{PartStands, MayWork, MayWorkOnSome}
 use Rattle.stage_run.specs.Works.{PartWork}
-use Rattle.chain_run.specs.Runs.{nothing_told, RunStart, NumbersFit, KeptFor, RunsBy, Runs}
+use Rattle.chain_run.specs.Runs.{nothing_told, RunStart}
+use Rattle.chain_run.specs.SerialRuns.{NumbersFit, RunsBy, Runs}
 use Rattle.chain_run.specs.Working.{IsRunning, StageWorks}
 use Rattle.chain_run.specs.Laws.{MachineLaws}
 use Rattle.chain_run.proofs.NumberLaws.{after-visit, change, given-taken, taken-below}
 use Rattle.chain_run.proofs.SlotLemmas.{length-over_row}
 use Rattle.chain_run.proofs.StepLemmas.{set_at}
 use Rattle.chain_run.proofs.QuietVisit.{quiet-visit}
-use Rattle.chain_run.proofs.WorkVisit.{may, written-below, given-below, worked-visit}
-use Rattle.chain_run.proofs.KindLemmas.{output-did}
-use Rattle.chain_run.proofs.TurnLemmas.{list-ends, follows-news}
+use Rattle.chain_run.proofs.WorkVisit.{may, written-below, given-below, may-visit, worked-visit}
 use Rattle.chain_run.proofs.ProgressLemmas.{as-progress}
 
 module _ {S K P : Type 0} (see : Seeing S K P)
     (laws : MachineLaws)
     (begun : RunStart S K) where
-  -- the chain theorem of a run so far
-  pub kept-run : (core : CoreNumbers) (stages slots : ℕ) → NumbersFit begun core stages slots → (input : StageList) (visits : List Visit) → KeptFor see begun visits input → ChainRun begun.plan visits → KeptRun begun.plan begun.rules input visits
-  kept-run core stages slots fits input visits kept run = record {
-    plugins = fits.rules_are;
-    users = fits.lawful.users;
-    agree_late = fits.agree_late;
-    input_ends = list-ends see.source begun.from begun.stuffing input kept.is_list;
-    run = run;
-    kept = kept.kept;
-  }
-
-  pub far : (core : CoreNumbers) (stages slots : ℕ) → NumbersFit begun core stages slots → (input : StageList) (visits : List Visit) → KeptFor see begun visits input → ChainRun begun.plan visits → SoFar begun.plan begun.rules input (state_after begun.plan visits)
-  far core stages slots fits input visits kept run =
-      laws.every begun.plan begun.rules input visits (kept-run core stages slots fits input visits kept run)
-
   -- a visit that the machine allows, in the words of the core
   pub to-core : (core : CoreNumbers) (state : ChainState) (k done : ℕ) (word : StageWord) → core.plan ≡ begun.plan → StandsFor core state → MayVisit begun.plan (progress_of_stages state) state.told k done word → MayVisit core.plan (progress_of_core core) core.told k done word
   to-core core state k done word plan_is numbers may =
@@ -78,7 +58,7 @@ module _ {S K P : Type 0} (see : Seeing S K P)
     quiet-allowed = record {
       is_stage = is_stage';
       goes_on = open-state;
-      held = (let a = given-taken laws begun.plan goes.fits.lawful.users goes.runs.visits by.run k in omega arith);
+      held = (let a = given-taken laws begun.plan goes.fits.run.lawful.users goes.runs.visits by.ran.run k in omega arith);
       agreement = λ agreed e. cc;
       below_limit = λ o limit t lt. absurd (omega arith);
       follows = λ e. cc;
@@ -115,24 +95,21 @@ module _ {S K P : Type 0} (see : Seeing S K P)
       let numbers : StandsFor new (state_after begun.plan (quiet ∷ goes.runs.visits)) =
       subst (λ (s : ChainState). StandsFor new s) (sym (after-visit begun.plan goes.runs.visits quiet))
       (subst (λ (p : CorePlan). StandsFor new (visited p state quiet)) goes.fits.plan_is (visited_is state [] refl by.numbers)) in
-      let changed = change laws begun.plan goes.fits.lawful.users goes.runs.visits quiet (by.run, allowed) in
+      let changed = change laws begun.plan goes.fits.run.lawful.users goes.runs.visits quiet (by.ran.run, allowed) in
       let told : news ≡ news_of begun.plan (progress_of_stages (state_after begun.plan (quiet ∷ goes.runs.visits))) k =
       subst (λ (s : ChainState). news ≡ news_of begun.plan (progress_of_stages s) k) (sym (after-visit begun.plan goes.runs.visits quiet))
       (subst (λ (p : CorePlan). news ≡ news_after p state quiet) goes.fits.plan_is (news_is state [] refl by.numbers)) in
       record {
         fits = record {
           plan_is = plan_same ∙ goes.fits.plan_is;
-          lawful = goes.fits.lawful;
+          run = goes.fits.run;
           stages_are = goes.fits.stages_are;
           slots_are = goes.fits.slots_are;
-          rules_are = goes.fits.rules_are;
-          rooms_are = goes.fits.rooms_are;
-          agree_late = goes.fits.agree_late;
         };
         visits = quiet ∷ goes.runs.visits;
         part = set_at goes.runs.part k (goes.runs.part k);
         lists = set_at goes.runs.lists k (goes.runs.lists k);
-        by = quiet-visit see begun laws goes.fits.lawful core new parts cells goes.runs.visits goes.runs.part goes.runs.lists by k stage
+        by = quiet-visit see begun laws goes.fits.run.lawful core new parts cells goes.runs.visits goes.runs.part goes.runs.lists by k stage
             (open-state core parts cells goes k is_stage open_) allowed numbers (let a = goes.fits.stages_are in omega arith);
         is_stage = stage;
         open_ = changed.ended;
@@ -151,25 +128,25 @@ module _ {S K P : Type 0} (see : Seeing S K P)
 
     pub work-written : news.written ≤ (progress_of_core core k).given
     work-written =
-        let a = written-below see begun laws looked.fits.lawful looked.fits.rules_are (far core (length parts) (length cells) looked.fits) core core parts cells looked.visits looked.part looked.lists looked.by k looked.is_stage looked.open_ news looked.told in
+        let a = written-below see begun laws looked.fits.run core core parts cells looked.visits looked.part looked.lists looked.by k looked.is_stage looked.open_ news looked.told in
         let b : (progress_of_core core k).given ≡ length (now.stages k).given = ap (λ (m : Progress). m.given) mark-is in omega arith
 
     pub work-given : (progress_of_core core k).given ≤ news.taken
     work-given =
-        let a = given-below see begun laws looked.fits.lawful looked.fits.rules_are (far core (length parts) (length cells) looked.fits) core core parts cells looked.visits looked.part looked.lists looked.by k looked.is_stage looked.open_ news looked.told in
+        let a = given-below see begun laws looked.fits.run core core parts cells looked.visits looked.part looked.lists looked.by k looked.is_stage looked.open_ news looked.told in
         let b : (progress_of_core core k).given ≡ length (now.stages k).given = ap (λ (m : Progress). m.given) mark-is in omega arith
 
     pub work-taken : news.taken ≤ 2 ^ 60
     work-taken =
-        let a = taken-below laws begun.plan looked.fits.lawful.users looked.visits looked.by.run k in
+        let a = taken-below laws begun.plan looked.fits.run.lawful.users looked.visits looked.by.ran.run k in
         let b : news.taken ≡ (now.stages k).taken = ap (λ (n : News). n.taken) looked.told in omega arith
 
     pub work-stands : (d : StagePart S K P) → MayWorkOnSome (PartStands see (slice_index_or parts k d)) (progress_of_core core k).given news.written
     work-stands d =
         let b : (progress_of_core core k).given ≡ length (now.stages k).given = ap (λ (m : Progress). m.given) mark-is in
-        subst (λ (p : StagePart S K P). MayWorkOnSome (PartStands see p) (progress_of_core core k).given news.written) (sym (looked.by.parts_are k d looked.is_stage))
+        subst (λ (p : StagePart S K P). MayWorkOnSome (PartStands see p) (progress_of_core core k).given news.written) (sym (looked.by.ran.parts_are k d looked.is_stage))
         (subst (λ n. MayWorkOnSome (PartStands see (looked.part k)) n news.written) (sym b)
-        (record { lists = looked.lists k; may = may see begun laws looked.fits.lawful looked.fits.rules_are (far core (length parts) (length cells) looked.fits) core core parts cells looked.visits looked.part looked.lists looked.by k looked.is_stage looked.open_ news looked.told }))
+        (record { lists = looked.lists k; may = may see begun laws looked.fits.run core core parts cells looked.visits looked.part looked.lists looked.by k looked.is_stage looked.open_ news looked.told }))
 
     -- ---- the second visit
 
@@ -185,7 +162,7 @@ module _ {S K P : Type 0} (see : Seeing S K P)
       here = subst (λ n. StageWorks see parts parts_new cells cells_new k n news work) at-is works
 
       old-is : here.old ≡ looked.part k
-      old-is = here.is_old ∙ looked.by.parts_are k here.old looked.is_stage
+      old-is = here.is_old ∙ looked.by.ran.parts_are k here.old looked.is_stage
 
       pub worked : PartWork see (looked.part k) here.new at news (take here.len (drop (at % length cells) cells)) here.window_new work
       worked = subst (λ p. PartWork see p here.new at news (take here.len (drop (at % length cells) cells)) here.window_new work) old-is here.worked
@@ -203,26 +180,12 @@ module _ {S K P : Type 0} (see : Seeing S K P)
       works-length = let a = done-le in let b = here.same_length in omega (arith, length-take work.done here.window_new)
 
       pub may-now : MayWork (PartStands see (looked.part k)) at news.written (looked.lists k)
-      may-now = may see begun laws looked.fits.lawful looked.fits.rules_are (far core (length parts) (length cells) looked.fits) core core parts cells looked.visits looked.part looked.lists looked.by k looked.is_stage looked.open_ news looked.told
-
-      below : k ≡ suc begun.plan.plugins → (limit : ℕ) → now.told ≡ Some limit → 0 < work.done → at + work.done ≤ limit
-      below o limit is some =
-          let kind : kind_of (looked.part k) ≡ an_output = subst (λ i. kind_of (looked.part i) ≡ an_output) (sym o) looked.by.output.kind in
-          let w = worked.stage.works (looked.lists k) may-now in
-          let did = output-did see (looked.part k) here.new (looked.lists k) news (take here.len (drop (at % length cells) cells)) here.window_new work w.after kind w.does in
-          let known : news.limit ≡ Some limit = ap (λ (n : News). n.limit) looked.told ∙ (sym (looked.limit_told o) ∙ is) in
-          subst (λ n. n + work.done ≤ limit) may-now.given (did.below limit known some)
+      may-now = may see begun laws looked.fits.run core core parts cells looked.visits looked.part looked.lists looked.by k looked.is_stage looked.open_ news looked.told
 
       may-state : MayVisit begun.plan (progress_of_stages now) now.told k work.done work.word
-      may-state = record {
-        is_stage = looked.is_stage;
-        goes_on = looked.open_;
-        held = (let a = given-le in let b = taken-is in omega arith);
-        agreement = λ agreed e. inl (worked.stage.agreed agreed e);
-        below_limit = below;
-        follows = λ e. follows-news begun.plan (progress_of_stages now) k (at + work.done)
-            (subst (λ (n : News). may_follow n (at + work.done) ≡ true) looked.told (subst (λ t. FollowsNews news (at + work.done) t) e worked.stage.follows));
-      }
+      may-state = subst (λ n. MayVisit begun.plan (progress_of_stages now) now.told k n work.word) works-length
+          (may-visit see begun laws looked.fits.run core core parts cells looked.visits looked.part looked.lists looked.by k looked.is_stage looked.open_ news looked.told
+          here.new here.len here.in_hand here.in_row here.window_new here.same_length work worked looked.limit_told)
 
       -- the second visit may be made
       pub work-may : MayVisit core.plan (progress_of_core core) core.told k work.done work.word
@@ -242,18 +205,15 @@ module _ {S K P : Type 0} (see : Seeing S K P)
           let row : List Cell = here.window_new in
           let cells-are : cells_new ≡ take (at % length cells) cells ++ (row ++ drop (at % length cells + length row) cells) =
           here.cells_are ∙ ap (λ n. take (at % length cells) cells ++ (row ++ drop (at % length cells + n) cells)) (sym here.same_length) in
-          let by = worked-visit see begun laws looked.fits.lawful looked.fits.rules_are (far core (length parts) (length cells) looked.fits)
+          let by = worked-visit see begun laws looked.fits.run
           core new parts cells looked.visits looked.part looked.lists looked.by k looked.is_stage looked.open_ news looked.told
           here.new here.len here.in_hand here.in_row here.window_new here.same_length work worked allowed looked.fits.slots_are numbers (let a = looked.fits.stages_are in omega arith) in
           record {
             fits = record {
               plan_is = plan_same ∙ looked.fits.plan_is;
-              lawful = looked.fits.lawful;
+              run = looked.fits.run;
               stages_are = ap (λ (l : List (StagePart S K P)). length l) here.is_new ∙ (length-set parts k here.new ∙ looked.fits.stages_are);
               slots_are = ap (λ (l : List Cell). length l) cells-are ∙ (length-over_row cells (at % length cells) row (let a = here.in_row in let b = here.same_length in omega arith) ∙ looked.fits.slots_are);
-              rules_are = looked.fits.rules_are;
-              rooms_are = looked.fits.rooms_are;
-              agree_late = looked.fits.agree_late;
             };
             runs = subst (λ (ps : List (StagePart S K P)). Runs see begun new ps cells_new) (sym here.is_new)
                 (subst (λ (cs : List Cell). Runs see begun new (slice_set parts k here.new) cs) (sym cells-are)

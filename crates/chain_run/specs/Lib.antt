@@ -5,5 +5,8 @@ pub mod Rooms
 pub mod RunOf
 pub mod Slots
 pub mod Runs
+pub mod OneStage
+pub mod Ran
+pub mod SerialRuns
 pub mod Working
 pub mod Parts

@@ -1,12 +1,16 @@
 -- The stages of a chain before a run and behind it. This project's own rule.
-use Rattle.std.specs.Prelude.{◌≡◌, ℕ, List, [], ◌∷◌, Option, None}
+use Rattle.std.specs.Prelude.{◌≡◌, ℕ, List, [], ◌∷◌, ◌++◌, Option, None, Some}
 use Rattle.ts_outside.specs.Source.{SourceView}
 use Rattle.ts_outside.specs.Sink.{SinkView}
 use Rattle.chain_core.specs.declared.stage_end.StageEnd.{StageEnd}
 use Rattle.stage_run.specs.Seeing.{Seeing}
 use Rattle.stage_run.specs.declared.stage_part.StagePart.{StagePart}
 use Rattle.stage_run.specs.PartLists.{PartLists, fresh_lists}
-use Rattle.stage_run.specs.PartStands.{PartStands, kind_of, rule_of, steady_of, a_plugin}
+use Rattle.stage_run.specs.PartStands.{PartStands, PartGives, kind_of, rule_of, steady_of, stuffing_in, has_source, has_sink, has_stream, an_input, a_plugin, an_output}
+use Rattle.stage_run.specs.Parts.{LeavesInput, LeavesOutput, SomeList}
+use Rattle.stage_run.specs.declared.input_part.InputPart.{InputPart}
+use Rattle.stage_run.specs.declared.output_part.OutputPart.{OutputPart}
+use Rattle.chain_model.specs.Stuffed as model
 
 module _ {S K P : Type 0} (see : Seeing S K P) where
   -- the stage of a plugin that has met nothing
@@ -35,8 +39,34 @@ module _ {S K P : Type 0} (see : Seeing S K P) where
   AreTakenFrom (output ∷ []) [] = Unit {0}
   AreTakenFrom _ _ = ⊥
 
-  -- the stages of plugins, and behind them one more
-  abbrev pub ArePluginsAndOne : List (StagePart S K P) → Type 0
-  ArePluginsAndOne [] = ⊥
-  ArePluginsAndOne (part ∷ []) = Unit {0}
-  ArePluginsAndOne (part ∷ next ∷ parts) = (kind_of part ≡ a_plugin) × ArePluginsAndOne (next ∷ parts)
+  -- the stages of plugins, and behind them the output's
+  abbrev pub ArePluginsAndOutput : List (StagePart S K P) → Type 0
+  ArePluginsAndOutput [] = ⊥
+  ArePluginsAndOutput (part ∷ []) = kind_of part ≡ an_output
+  ArePluginsAndOutput (part ∷ next ∷ parts) = (kind_of part ≡ a_plugin) × ArePluginsAndOutput (next ∷ parts)
+
+  -- the stages of a chain in their order: the input's, those of the plugins, and the output's
+  abbrev pub AreStages : List (StagePart S K P) → Type 0
+  AreStages [] = ⊥
+  AreStages (part ∷ parts) = (kind_of part ≡ an_input) × ArePluginsAndOutput parts
+
+  -- the stages of a chain gave back the input, the plugins and the output: each is what its stage leaves by whatever
+  -- the stage stood for
+  pub record GaveBack (parts : List (StagePart S K P)) (input : InputPart S) (plugins : List P)
+      (output : OutputPart K) : Type 0 where
+    pub first : StagePart S K P
+    pub rest : List (StagePart S K P)
+    pub row : parts ≡ first ∷ rest
+    pub front : List (StagePart S K P)
+    pub last : StagePart S K P
+    pub ends : rest ≡ front ++ last ∷ []
+    pub in_stream : has_source input ≡ has_stream first
+    pub in_leaves : (lists : PartLists) (told : Option StageEnd) (stuffing : model.Stuffing)
+        → PartStands see first lists told → stuffing_in first ≡ Some stuffing
+        → LeavesInput see.source input stuffing lists told
+    pub some_list : (lists : PartLists) (told : Option StageEnd) → PartStands see first lists told
+        → SomeList (PartGives see first lists)
+    pub taken : AreTakenFrom rest plugins
+    pub out_stream : has_sink output ≡ has_stream last
+    pub out_leaves : (lists : PartLists) (told : Option StageEnd) → PartStands see last lists told
+        → LeavesOutput see.sink output lists told

@@ -9,7 +9,8 @@ use Rattle.stage_run.specs.declared.stage_part.StagePart.{StagePart}
 use Rattle.stage_run.specs.declared.work.Work.{Work}
 use Rattle.stage_run.specs.Works.{PartWork}
 use Rattle.chain_run.specs.declared.serial_chain.SerialChain.{SerialChain}
-use Rattle.chain_run.specs.Runs.{nothing_told, RunStart, NumbersFit, Runs, remaining_work}
+use Rattle.chain_run.specs.Runs.{nothing_told, RunStart}
+use Rattle.chain_run.specs.SerialRuns.{NumbersFit, Runs, remaining_work}
 
 module _ {S K P : Type 0} (see : Seeing S K P) where
   -- a chain that runs, as it began

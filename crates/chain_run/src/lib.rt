@@ -10,6 +10,8 @@ mod serial_chain;
 mod serial_run;
 mod stages;
 
+pub use laws::{any_run, machine_laws};
+pub use parts::{GivenBack, take_apart};
 pub use run_end::RunEnd;
 pub use serial_run::run_serial;
 pub use stages::Stages;

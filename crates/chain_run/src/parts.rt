@@ -3,10 +3,10 @@ ghost use Rattle.std.specs.Prelude.{◌≡◌, ◌+◌, ◌≤◌, ◌<◌, ◌+
 ghost use Rattle.stage_run.specs.Seeing.{seeing};
 ghost use Rattle.stage_run.specs.declared.stage_part.StagePart.{StagePart};
 ghost use Rattle.chain_run.specs.Fresh.{AreFresh};
-ghost use Rattle.chain_run.specs.Parts.{AreMadeOf, AreTakenFrom, ArePluginsAndOne};
+ghost use Rattle.chain_run.specs.Parts.{AreMadeOf, AreTakenFrom, ArePluginsAndOutput, AreStages, GaveBack};
 
 use plugin_trait::Plugin;
-use stage_run::StagePart;
+use stage_run::{InputPart, OutputPart, StagePart};
 use ts_outside::{Sink, Source};
 
 /// Moves the plugins behind the stages, for which there is room.
@@ -29,21 +29,56 @@ pub(crate) fn add_plugins<S: Source, K: Sink, P: Plugin>(
     add_plugins(parts, plugins);
 }
 
+/// What the stages of a chain give back.
+pub struct GivenBack<S, K, P> {
+    /// The input's part.
+    pub input: InputPart<S>,
+    /// The plugins in their order.
+    pub plugins: Vec<P>,
+    /// The output's part.
+    pub output: OutputPart<K>,
+}
+
 /// Moves the plugins back from the front of the stages, until one stage is left.
 pub(crate) fn take_plugins<S: Source, K: Sink, P: Plugin>(
     parts: &mut Vec<StagePart<S, K, P>>,
     plugins: &mut Vec<P>,
 )
     requires room { vec_len plugins.old + vec_len parts.old ≤ vec_capacity plugins.old + 1 }
-    requires kinds { ArePluginsAndOne (seeing S.seen K.seen P.rule P.stands_for P.steady) parts.old.items }
+    requires kinds { ArePluginsAndOutput (seeing S.seen K.seen P.rule P.stands_for P.steady) parts.old.items }
     ensures taken { (made : List P) × (plugins.new.items ≡ plugins.old.items ++ made)
         × AreTakenFrom (seeing S.seen K.seen P.rule P.stands_for P.steady) parts.old.items made }
     ensures one_left { (first : List (StagePart S K P)) × (parts.old.items ≡ first ++ parts.new.items) }
     ensures one { vec_len parts.new ≡ 1 }
+    ensures output { ArePluginsAndOutput (seeing S.seen K.seen P.rule P.stands_for P.steady) parts.new.items }
 {
     if parts.len() <= 1 {
         return;
     }
     plugins.push_reserved(parts.remove(0).into_plugin());
     take_plugins(parts, plugins);
+}
+
+/// Takes the stages of a chain apart: the input, the plugins and the output that they hold, each in the state that its stage left.
+///
+/// The plugins go into the row that is passed for them, which has room. It takes no memory.
+pub fn take_apart<S: Source, K: Sink, P: Plugin>(
+    mut parts: Vec<StagePart<S, K, P>>,
+    mut plugins: Vec<P>,
+) -> GivenBack<S, K, P>
+    requires stages { AreStages (seeing S.seen K.seen P.rule P.stands_for P.steady) parts.items }
+    requires none { plugins.items ≡ [] }
+    requires room { vec_len parts ≤ vec_capacity plugins + 2 }
+    ensures { GaveBack (seeing S.seen K.seen P.rule P.stands_for P.steady) parts.items
+        result.input result.plugins.items result.output }
+{
+    let input = parts.remove(0).into_input();
+    take_plugins(&mut parts, &mut plugins);
+    let output = parts.remove(0).into_output();
+    parts.destroy_empty();
+    GivenBack {
+        input,
+        plugins,
+        output,
+    }
 }

@@ -59,7 +59,7 @@ impl<S: Source, K: Sink, P: Plugin> SerialChain<S, K, P> {
     ghost use Rattle.stage_run.specs.Seeing.{seeing};
     ghost use Rattle.stage_run.specs.declared.stage_part.StagePart.{StagePart};
     ghost use Rattle.stage_run.specs.PartStands.{PartStands, MayWorkOnSome};
-    ghost use Rattle.chain_run.specs.Runs.{IsIdleOrOver};
+    ghost use Rattle.chain_run.specs.SerialRuns.{IsIdleOrOver};
     ghost use Rattle.chain_run.specs.Working.{RunsSomehow, RunsOn, WorksOn, LeavesLess};
 
     /// Whether a stage has ended.

@@ -13,8 +13,8 @@ ghost use Rattle.chain_run.specs.Runs.{began_with};
 ghost use Rattle.chain_run.specs.Working.{IsRunning, RunsSomehow};
 ghost use Rattle.chain_run.specs.RunOf.{RunOf, NeverBegan};
 
-use crate::laws::machine_laws;
-use crate::parts::{add_plugins, take_plugins};
+use crate::laws::any_run;
+use crate::parts::{GivenBack, add_plugins, take_apart};
 use crate::serial_chain::SerialChain;
 use crate::{RunEnd, Stages};
 use chain_core::{Core, CorePlan};
@@ -98,7 +98,7 @@ fn lay<S: Source, K: Sink, P: Plugin>(
 /// Runs a chain until all its stages have ended, and takes it apart. The plugins go into the row, which has room for them.
 fn run_laid<S: Source, K: Sink, P: Plugin, G: Gate>(
     mut chain: SerialChain<S, K, P>,
-    mut plugins: Vec<P>,
+    plugins: Vec<P>,
     sizes: &[u32],
     gate: &G,
 ) -> RunEnd<S, K, P>
@@ -118,17 +118,18 @@ fn run_laid<S: Source, K: Sink, P: Plugin, G: Gate>(
 {
     chain.run(sizes, gate);
     // Runs nothing: the proof cites it.
-    machine_laws();
+    any_run::<S, K, P>();
     let SerialChain {
         core,
-        mut parts,
+        parts,
         cells: _,
     } = chain;
     let closed = core.close();
-    let input = parts.remove(0).into_input();
-    take_plugins(&mut parts, &mut plugins);
-    let output = parts.remove(0).into_output();
-    parts.destroy_empty();
+    let GivenBack {
+        input,
+        plugins,
+        output,
+    } = take_apart(parts, plugins);
     RunEnd {
         input,
         plugins,

@@ -2,7 +2,7 @@
 use Rattle.std.proofs.Common.{◌≡◌, ◌⊎◌, ℕ, zero, suc, ◌+◌, ◌%◌, ◌<◌, ◌≤◌, List, [], ◌∷◌, ◌++◌, length, take, drop, refl, sym, ap, ◌∙◌, subst, arith}
 use Rattle.ts_packet.specs.declared.cell.Cell.{Cell}
 use Rattle.ts_land.specs.Pieces.{Piece, with_cells}
-use Rattle.window_ring.specs.Hands.{Row, row_of, IsFront}
+use Rattle.window_ring.specs.Hands.{Row, IsFront}
 
 pub over : (xs w : List Cell) → length xs ≡ length w → take (length w) (xs ++ drop (length xs) w) ≡ xs
 over [] [] e = refl

@@ -1,5 +1,5 @@
-pub mod LocalVisit
 pub mod FrontLemmas
 pub mod TurnLemmas
 pub mod AnswerLemmas
 pub mod NewLemmas
+pub mod EndLemmas

@@ -1,14 +1,11 @@
 -- A stage of which nothing was done.
-use Rattle.std.proofs.Common.{◌≡◌, ◌≢◌, ℕ, zero, suc, ◌+◌, ◌≤◌, List, [], ◌++◌, length, take, drop, Option, None, Some, refl, sym, ap, ◌∙◌, subst, arith}
+use Rattle.std.proofs.Common.{◌≡◌, ◌≢◌, ℕ, zero, suc, ◌+◌, List, [], None, Some, refl, sym, ap, ◌∙◌, subst, arith}
 use denote.RawPtr.{Ptr}
-use Rattle.ts_packet.specs.declared.cell.Cell.{Cell}
 use Rattle.chain_model.specs.PluginRule.{PluginRule}
 use Rattle.chain_model.specs.Apply.{StageList, last_passed}
 use Rattle.chain_model.specs.StageLists.{rule_behind}
-use Rattle.chain_core.specs.declared.core_plan.CorePlan.{CorePlan}
-use Rattle.chain_core.specs.declared.stage_end.StageEnd.TheVariants.{Followed}
-use Rattle.chain_core.specs.Machine.{ChainState, start, Allowed}
-use Rattle.chain_core.specs.ChainRun.{ChainRun, state_after, took}
+use Rattle.chain_core.specs.Machine.{start, Allowed}
+use Rattle.chain_core.specs.ChainRun.{state_after, took}
 use Rattle.chain_core.specs.Keeps.{Keeps, StageKeeps}
 use Rattle.stage_run.specs.Seeing.{Seeing}
 use Rattle.stage_run.specs.declared.stage_part.StagePart.{StagePart}
@@ -22,9 +19,10 @@ use Rattle.window_ring.specs.Views.{land_of}
 use Rattle.window_ring.specs.Visits.{giving}
 use Rattle.window_ring.specs.Seats.{seen_in, seen_of}
 use Rattle.window_ring.proofs.FreshLemmas.{seat_is}
-use Rattle.thread_run.specs.Standing.{key_at, SoFarUpTo, Doing, MayBe, Standing, StandsAt}
+use Rattle.chain_run.specs.OneStage.{SoFarUpTo, Doing, MayBe}
+use Rattle.thread_run.specs.Standing.{key_at, Standing, StandsAt}
 use Rattle.thread_run.specs.Turning.{IsNewStage}
-use Rattle.thread_run.proofs.TurnLemmas.{doing-more}
+use Rattle.chain_run.proofs.StepLemmas.{doing-more}
 
 -- a stage that gives and tells nothing at first does as its rule says
 first-quiet : (rules : List PluginRule) (input : StageList) (plugins k : ℕ) → (0 ≡ k → input.ended ≢ Some last_passed) → StageKeeps rules input plugins k (took start k) [] [] nothing_told

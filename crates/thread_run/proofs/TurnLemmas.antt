@@ -1,35 +1,29 @@
 -- One turn of a stage: its visit, and what it stands for behind it.
-use Rattle.std.proofs.Common.{◌≡◌, ◌≢◌, ◌⊎◌, inl, inr, ℕ, zero, suc, ◌+◌, ◌-◌, ◌<◌, ◌≤◌, List, [], ◌∷◌, ◌++◌, length, take, drop, Option, None, Some, refl, sym, ap, ◌∙◌, subst, arith, length-append, length-drop, append-nil, append_assoc, le_trans}
+use Rattle.std.proofs.Common.{◌≡◌, ℕ, suc, ◌+◌, ◌-◌, ◌≤◌, List, [], ◌∷◌, ◌++◌, length, take, drop, None, refl, sym, ap, ◌∙◌, subst, arith, length-append, length-drop, append-nil, append_assoc, le_trans}
 use Rattle.std.specs.Prelude.{IsSome}
-use Rattle.std.proofs.lemmas.Bool.{cases_eq}
 use Rattle.std.proofs.lemmas.List.{take-append-drop, drop-drop, length-take, drop-take, take-append-le}
 use Rattle.std.proofs.Math.Seq.{take-add, drop-append-le}
 use denote.RawPtr.{Ptr}
 use Rattle.ts_packet.specs.declared.cell.Cell.{Cell}
-use Rattle.ts_outside.specs.Source.{SourceView}
-use Rattle.ts_outside.specs.Sink.{SinkView}
 use Rattle.chain_model.specs.PluginRule.{PluginRule}
 use Rattle.chain_model.specs.Apply.{StageList}
 use Rattle.chain_core.specs.declared.core_plan.CorePlan.{CorePlan}
 use Rattle.chain_core.specs.declared.news.News.{News}
-use Rattle.chain_core.specs.declared.stage_end.StageEnd.{StageEnd}
 use Rattle.chain_core.specs.declared.stage_word.StageWord.{StageWord}
 use Rattle.chain_core.specs.Numbers.{written_of, news_of, limit_of}
-use Rattle.chain_core.specs.Machine.{ChainState, StageState, Visit, progress_of_stages, visit_of, Allowed, news_after}
+use Rattle.chain_core.specs.Machine.{ChainState, StageState, Visit, progress_of_stages, visit_of, Allowed}
 use Rattle.chain_core.specs.ChainRun.{ChainRun, state_after}
 use Rattle.chain_core.specs.Keeps.{Keeps}
-use Rattle.chain_core.specs.EveryOrder.{SoFar}
 use Rattle.chain_core.specs.Laws.{ChangesOneStage}
 use Rattle.stage_run.specs.declared.stage_part.StagePart.{StagePart}
 use Rattle.stage_run.specs.declared.work.Work.{Work}
 use Rattle.stage_run.specs.PartLists.{PartLists}
 use Rattle.chain_run.specs.Runs.{RunStart}
 use Rattle.chain_run.specs.Laws.{MachineLaws}
-use Rattle.chain_run.proofs.NumberLaws.{change, given-more, given-taken, taken-given, after-visit, written-grows}
-use Rattle.chain_run.proofs.StepLemmas.{may_read-more, part-more}
+use Rattle.chain_run.proofs.NumberLaws.{change, given-more, taken-given, after-visit, written-grows}
+use Rattle.chain_run.proofs.StepLemmas.{doing-more}
 use Rattle.atomic_table.specs.Seated.{TableId}
 use Rattle.window_ring.specs.declared.stage_seat.StageSeat.{StageSeat}
-use Rattle.window_ring.specs.Hands.{Row}
 use Rattle.window_ring.specs.Views.{NoneOf}
 use Rattle.window_ring.specs.Visits.{giving}
 use Rattle.window_ring.specs.Seats.{seen_of, seen_in, Went}
@@ -38,11 +32,12 @@ use Rattle.window_ring.specs.Seats.{IsSeat}
 use Rattle.window_ring.proofs.Since.{stage_stays}
 use Rattle.window_ring.proofs.Again.{seat_again, seat_still}
 use Rattle.window_ring.specs.Seats.{busy_of}
-use Rattle.thread_run.specs.Standing.{key_at, SoFarUpTo, IsLawfulRun, IsInput, IsPlugin, IsOutput, Failed, Doing, MayBe, gave_by, Standing, Over, StandsAt, IsOver}
+use Rattle.chain_run.specs.OneStage.{SoFarUpTo, Doing, MayBe}
+use Rattle.thread_run.specs.Standing.{key_at, gave_by, Standing, Over, StandsAt, IsOver}
 use Rattle.thread_run.specs.Turning.{HandWorks}
 use Rattle.stage_run.specs.Seeing.{Seeing}
-use Rattle.thread_run.proofs.LocalVisit as local
-use Rattle.thread_run.proofs.LocalVisit.{less, keeps-all, done-now, may-visit}
+use Rattle.chain_run.proofs.StageVisit as local
+use Rattle.chain_run.proofs.StageVisit.{less, keeps-all, done-now, may-visit}
 use Rattle.chain_run.proofs.NumberLaws.{taken-below, taken-ahead, written-given}
 use Rattle.stage_run.specs.PartStands.{PartStands, MayWorkOnSome}
 use Rattle.stage_run.specs.Works.{PartWork}
@@ -50,8 +45,6 @@ use Rattle.window_ring.specs.Views.{at_rest, land_of}
 use Rattle.window_ring.specs.Visits.{IsHandOf}
 use Rattle.std.proofs.Common.{◌^◌}
 use Rattle.std.proofs.lemmas.List.{take-take, take_all}
-use Rattle.window_ring.specs.declared.state.State.{State}
-use Rattle.window_ring.specs.declared.view.View.{View}
 
 kept_over : (plan : CorePlan) (rules : List PluginRule) (input : StageList) (k : ℕ) (between seen : List Visit) → NoneOf k between → KeptBy plan rules input k seen → KeptBy plan rules input k (between ++ seen)
 kept_over plan rules input k [] seen none kept = kept
@@ -73,33 +66,6 @@ module _ (laws : MachineLaws) (plan : CorePlan) (users : Rattle.chain_core.specs
   keeps_over rules input other (v ∷ vs) seen none run k = (laws.leaves plan (vs ++ seen) v users run).keeps rules input other (λ e. none.0 (sym e)) (keeps_over rules input other vs seen none.1 run.0 k)
 
 module _ {S K P : Type 0} (see : Seeing S K P) (begun : RunStart S K) where
-  -- what a stage stands for is not changed by what the others do
-  pub doing-more : (part : StagePart S K P) (k : ℕ) (lists : PartLists) (given : List Cell) (ended : Option StageEnd) (low low' taken taken' : ℕ) (before before' : ℕ → List Cell) (Gives Gives' : StageList → Type 0)
-      → low ≤ low' → taken ≤ taken' → ((j : ℕ) → suc j ≡ k → (more : List Cell) × (before' j ≡ before j ++ more) × (length given ≤ length (before j))) → ((input : StageList) → Gives' input → Gives input)
-      → Doing see begun part k lists given ended low taken before Gives → Doing see begun part k lists given ended low' taken' before' Gives'
-  doing-more part k lists given ended low low' taken taken' before before' Gives Gives' le le' grown less d =
-      let met_more : (j : ℕ) → suc j ≡ k → lists.met ≡ take (length given) (before j) → lists.met ≡ take (length given) (before' j) = λ j e met.
-      let g = grown j e in met ∙ sym (ap (take (length given)) g.1 ∙ take-append-le (length given) (before j) g.0 g.2) in
-      record {
-        stands_for = d.stands_for;
-        given_is = d.given_is;
-        mark = le_trans d.mark le;
-        memory = d.memory;
-        input = λ e. let i = d.input e in record { kind = i.kind; stuffing_is = i.stuffing_is; stream = i.stream; source = i.source; within = may_read-more begun.plan.buffer low low' (length lists.read) le i.within; is_list = i.is_list };
-        plugin = λ j e lt. let p = d.plugin j e lt in record { kind = p.kind; rule_is = p.rule_is; room_is = p.room_is; met = met_more j e p.met };
-        output = λ e. let o = d.output e in record {
-          kind = o.kind;
-          stream = o.stream;
-          met = met_more begun.plan.plugins e o.met;
-          sink = o.sink;
-          failed = λ is. let f = o.failed is in let g = grown begun.plan.plugins e in record {
-            few = (let a = f.few in omega (arith, a, le'));
-            part = subst (λ (l : List Cell). Rattle.stage_run.specs.OutputStands.IsPartOfFirst l lists.cut) (sym (ap (drop (length given)) g.1 ∙ drop-append-le (length given) (before begun.plan.plugins) g.0 g.2)) (part-more (drop (length given) (before begun.plan.plugins)) g.0 lists.cut f.part);
-            late = λ input gives. f.late input (less input gives);
-          };
-        };
-      }
-
   module _ (laws : MachineLaws) (base : Ptr) (table : TableId) (old new : StageSeat) (part : StagePart S K P) (done : ℕ) (word : StageWord) (st : StandsAt see begun base table old part done word)
       (news : News) (w : Went (key_at begun base) old new done word news) where
     abbrev k : ℕ
@@ -171,7 +137,7 @@ module _ {S K P : Type 0} (see : Seeing S K P) (begun : RunStart S K) where
 
     pub doing-now : Doing see begun part k lists (s2.stages k).given word.ended (written_of plan (progress_of_stages s2)) (s2.stages k).taken (λ j. (s2.stages j).given) (SoFarUpTo plan begun.rules now)
     doing-now =
-        let more = doing-more part k lists ((s.stages k).given ++ take done old.hand.cells) word.ended (written_of plan (progress_of_stages s)) (written_of plan (progress_of_stages s2)) (s.stages k).taken (s2.stages k).taken (gave_by see begun seen) (λ j. (s2.stages j).given) (SoFarUpTo plan begun.rules seen) (SoFarUpTo plan begun.rules now)
+        let more = doing-more see begun part k lists ((s.stages k).given ++ take done old.hand.cells) word.ended (written_of plan (progress_of_stages s)) (written_of plan (progress_of_stages s2)) (s.stages k).taken (s2.stages k).taken (gave_by see begun seen) (λ j. (s2.stages j).given) (SoFarUpTo plan begun.rules seen) (SoFarUpTo plan begun.rules now)
         (le_trans (grows_over laws plan st.run.lawful.users w.between seen w.run.0) (written-grows laws plan st.run.lawful.users h v w.run)) taken-more
         (λ j e. let b = before-now j e in (b.0, b.1, (let a = given-many in let c = within-before j e in let d = st.standing.done_within in let n = hand-count in omega (arith, a, c, d, n))))
         so_far_less st.standing.doing in

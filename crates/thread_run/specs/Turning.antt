@@ -1,5 +1,5 @@
 -- A stage's work on the cells in its hands, and its turn. This project's own rule.
-use Rattle.std.specs.Prelude.{◌≡◌, ◌≢◌, ◌⊎◌, ℕ, suc, ◌<◌, ◌≤◌, ◌==◌, ◌&&◌, List, [], ◌∷◌, ◌++◌, length, Bool, true, false, not, None, is_some, IsSome, if◌then◌else◌}
+use Rattle.std.specs.Prelude.{◌≡◌, ◌≢◌, ◌⊎◌, ℕ, suc, ◌<◌, ◌≤◌, ◌&&◌, List, [], ◌∷◌, ◌++◌, length, Bool, not, None, IsSome, if◌then◌else◌}
 use denote.RawPtr.{Ptr}
 use Rattle.ts_packet.specs.declared.cell.Cell.{Cell}
 use Rattle.chain_model.specs.Apply.{StageList}
@@ -10,7 +10,7 @@ use Rattle.stage_run.specs.declared.stage_part.StagePart.{StagePart}
 use Rattle.stage_run.specs.declared.work.Work.{Work}
 use Rattle.stage_run.specs.Works.{PartWork}
 use Rattle.stage_run.specs.PartLists.{PartLists}
-use Rattle.chain_run.specs.Runs.{RunStart, nothing_told}
+use Rattle.chain_run.specs.Runs.{RunStart}
 use Rattle.atomic_table.specs.Seated.{TableId}
 use Rattle.window_ring.specs.declared.stage_seat.StageSeat.{StageSeat}
 use Rattle.window_ring.specs.Hands.{Row}
@@ -20,7 +20,9 @@ use Rattle.window_ring.specs.Opening.{IsFresh}
 use Rattle.thread_run.specs.declared.stage.Stage.{Stage}
 use Rattle.thread_run.specs.declared.turn.Turn.{Turn}
 use Rattle.thread_run.specs.declared.turn.Turn.TheVariants.{Busy, Ended, Idle, Worked}
-use Rattle.thread_run.specs.Standing.{key_at, IsLawfulRun, Doing, StandsAt, IsOver}
+use Rattle.chain_run.specs.OneStage.{Doing}
+use Rattle.chain_run.specs.Ran.{IsLawfulRun}
+use Rattle.thread_run.specs.Standing.{key_at, StandsAt, IsOver}
 
 -- the visit that a stage is about to make was made, behind those that its seat had seen and some of the other stages
 abbrev pub MadeVisit : {S K P : Type 0} → Stage S K P → Stage S K P → Type 0

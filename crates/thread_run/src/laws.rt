@@ -1,15 +1,36 @@
-//! The laws of the machine that a run rests on.
-ghost use Rattle.chain_run.specs.Laws.{MachineLaws};
+//! The laws that the stages of a run in threads rest on. They run nothing.
+ghost use Rattle.std.specs.Prelude.{List};
+ghost use denote.RawPtr.{Ptr};
+ghost use Rattle.atomic_table.specs.Seated.{TableId};
+ghost use Rattle.chain_core.specs.declared.closed.Closed.{Closed};
+ghost use Rattle.stage_run.specs.Seeing.{seeing};
+ghost use Rattle.stage_run.specs.declared.stage_part.StagePart.{StagePart};
+ghost use Rattle.chain_run.specs.Runs.{RunStart};
+ghost use Rattle.chain_run.specs.Ran.{HasClosed};
+ghost use Rattle.window_ring.specs.declared.stage_seat.StageSeat.{StageSeat};
+ghost use Rattle.window_ring.specs.Closing.{IsWhole, ClosedOf};
+ghost use Rattle.thread_run.specs.Standing.{key_at};
+ghost use Rattle.thread_run.specs.Over.{AreOver};
 
-use chain_core::{every_order, more_cells, news_promises, one_visit, quiet_is_over};
+pub(crate) use chain_run::machine_laws;
+use plugin_trait::Plugin;
+use ts_outside::{Sink, Source};
+use window_ring::one_run;
 
-/// What holds of every run of the machine, in whatever order its stages are served. It runs nothing.
-pub(crate) fn machine_laws()
-    ensures { MachineLaws }
+/// What the stages did each for itself is one run of the chain, in whatever order the threads served them: the ring of stages
+/// that have ended can be closed, and the close is that of one run, in which each part stands for its list. `any_run` of
+/// `chain_run` says what this run comes to. There is nothing to run.
+pub fn together<S: Source, K: Sink, P: Plugin>()
+    ensures whole { (begun : RunStart S K) (base : Ptr) (table : TableId) (seats : List StageSeat)
+        (parts : List (StagePart S K P))
+        → AreOver (seeing S.seen K.seen P.rule P.stands_for P.steady) begun base table seats parts
+        → IsWhole (key_at begun base) table seats }
+    ensures closed { (begun : RunStart S K) (base : Ptr) (table : TableId) (seats : List StageSeat)
+        (parts : List (StagePart S K P)) (closed : Closed)
+        → let see = seeing S.seen K.seen P.rule P.stands_for P.steady in
+        AreOver see begun base table seats parts → ClosedOf (key_at begun base) seats closed
+        → HasClosed see begun parts closed }
 {
-    one_visit();
-    news_promises();
-    quiet_is_over();
-    more_cells();
-    every_order();
+    machine_laws();
+    one_run();
 }

@@ -6,5 +6,6 @@ mod laws;
 mod stage;
 mod turn;
 
+pub use laws::together;
 pub use stage::Stage;
 pub use turn::Turn;

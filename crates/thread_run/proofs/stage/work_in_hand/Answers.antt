@@ -1,4 +1,4 @@
-use Rattle.std.proofs.Common.{◌≡◌, ◌≢◌, ◌+◌, ◌<◌, ◌≤◌, ◌==◌, ℕ, List, [], length, ◌∷◌, ◌++◌, refl, sym, ap, ◌∙◌, subst, arith, true, false, length-append}
+use Rattle.std.proofs.Common.{◌≡◌, ◌<◌, ◌==◌, List, [], length, ◌∷◌, ◌++◌, refl, sym, ap, ◌∙◌, subst, arith, length-append}
 use Rattle.std.proofs.lemmas.Bool.{ne_eqb}
 use Rattle.ts_packet.specs.declared.cell.Cell.{Cell}
 use Rattle.stage_run.specs.Seeing.{seeing}

@@ -4,7 +4,7 @@ use Rattle.std.proofs.lemmas.Bool.{cases_Bool}
 use Rattle.chain_core.specs.declared.core_plan.CorePlan.{CorePlan}
 use Rattle.chain_core.specs.Numbers.{StagesProgress}
 use Rattle.chain_core.specs.CoreNumbers.{progress_of_core}
-use Rattle.chain_run.specs.Runs.{IsIdleOrOver, remaining_work}
+use Rattle.chain_run.specs.SerialRuns.{IsIdleOrOver, remaining_work}
 use Rattle.chain_run.proofs.ProgressLemmas.{Turned, one-more}
 use Rattle.chain_run.proofs.serial_chain.SerialChain.turns.Goals as goal
 

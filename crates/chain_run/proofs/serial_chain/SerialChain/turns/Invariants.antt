@@ -1,7 +1,7 @@
 use Rattle.std.proofs.Common.{◌<◌, ◌≡◌, ◌+◌, ℕ, length, true, false}
 use Rattle.chain_core.specs.CoreNumbers.{progress_of_core}
 use Rattle.stage_run.specs.Seeing.{seeing}
-use Rattle.chain_run.specs.Runs.{IsIdleOrOver, remaining_work}
+use Rattle.chain_run.specs.SerialRuns.{IsIdleOrOver, remaining_work}
 use Rattle.chain_run.specs.Working.{RunsOn}
 use Rattle.chain_run.proofs.serial_chain.SerialChain.turns.Given as goal
 

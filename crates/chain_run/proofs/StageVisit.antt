@@ -1,6 +1,5 @@
--- What a stage did on the cells in its hands, in words of that stage alone.
-use Rattle.std.proofs.Common.{◌≡◌, ◌≢◌, ◌⊎◌, ℕ, zero, suc, ◌+◌, ◌-◌, ◌*◌, ◌%◌, ◌^◌, ◌<◌, ◌≤◌, List, [], ◌∷◌, ◌++◌, length, take, drop, Option, Some, None, refl, ap, sym, ◌∙◌, subst, arith, inl, inr, length-append}
-use Rattle.std.specs.Prelude.{slice_set}
+-- What a stage did on the cells in its hands, in words of that stage alone, whoever serves it.
+use Rattle.std.proofs.Common.{◌≡◌, ◌≢◌, ℕ, zero, suc, ◌+◌, ◌-◌, ◌*◌, ◌^◌, ◌<◌, ◌≤◌, List, [], ◌∷◌, ◌++◌, length, take, drop, Option, Some, None, refl, ap, sym, ◌∙◌, subst, arith, inl, inr, length-append}
 use Rattle.std.proofs.lemmas.Bool.{cases_eq, cases_lt}
 use Rattle.std.proofs.lemmas.List.{take-take, take-append-drop, drop-drop, length-take, length-drop}
 use Rattle.std.proofs.Math.Seq.{take-add, drop-append-le}
@@ -12,20 +11,17 @@ use Rattle.chain_model.specs.Apply.{StageList}
 use Rattle.chain_model.specs.StageLists.{rule_behind}
 use Rattle.chain_model.specs.Joint.{joint_position}
 use Rattle.chain_core.specs.declared.news.News.{News}
-use Rattle.chain_core.specs.declared.stage_end.StageEnd.{StageEnd}
 use Rattle.chain_core.specs.declared.stage_end.StageEnd.TheVariants.{WriteFault}
 use Rattle.chain_core.specs.declared.stage_word.StageWord.{StageWord}
 use Rattle.chain_core.specs.Stages.{stages_of}
 use Rattle.chain_core.specs.Numbers.{written_of, limit_of, news_of}
-use Rattle.chain_core.specs.Machine.{ChainState, StageState, Visit, progress_of_stages, visit_of, Allowed}
+use Rattle.chain_core.specs.Machine.{ChainState, Visit, progress_of_stages, visit_of, Allowed}
 use Rattle.chain_core.specs.ChainRun.{ChainRun, state_after, took}
-use Rattle.chain_core.specs.CoreNumbers.{CoreNumbers, IsLawfulPlan, StandsFor}
 use Rattle.chain_core.specs.Keeps.{Keeps, StageKeeps}
-use Rattle.chain_core.specs.EveryOrder.{SoFar}
 use Rattle.stage_run.specs.declared.stage_part.StagePart.{StagePart}
 use Rattle.stage_run.specs.declared.work.Work.{Work}
 use Rattle.stage_run.specs.PartLists.{PartLists}
-use Rattle.stage_run.specs.PartStands.{PartStands, PartGives, MayWork, rule_of, kind_of, stuffing_in, has_source, has_sink, has_stream, an_input, a_plugin, an_output}
+use Rattle.stage_run.specs.PartStands.{PartStands, PartGives, MayWork, rule_of}
 use Rattle.stage_run.specs.Parts.{IsSourceOf, IsSinkOf}
 use Rattle.stage_run.proofs.InputWorking.{read_for-full, read_for-free}
 use Rattle.stage_run.specs.OutputStands.{IsPartOfFirst}
@@ -36,14 +32,13 @@ use Rattle.chain_core.specs.Numbers.{MayVisit}
 use Rattle.stage_run.specs.Telling.{may_follow, FollowsNews}
 use Rattle.chain_run.proofs.TurnLemmas.{follows-news}
 use Rattle.chain_run.specs.RunOf.{MayRead}
-use Rattle.chain_run.specs.Slots.{slot, HoldsFrom}
 use Rattle.chain_run.specs.Runs.{RunStart}
-use Rattle.thread_run.specs.Standing.{IsLawfulRun, IsInput, IsPlugin, IsOutput, Failed, Doing, MayBe, SoFarUpTo}
+use Rattle.chain_run.specs.OneStage.{SoFarUpTo, IsInput, IsPlugin, IsOutput, Failed, Doing, MayBe}
+use Rattle.chain_run.specs.Ran.{IsLawfulRun}
 use Rattle.stage_run.specs.Works.{PartWork}
 use Rattle.chain_run.specs.Laws.{MachineLaws}
-use Rattle.chain_run.proofs.NumberLaws.{change, stage-other, written-grows, given-falls, given-taken, taken-given, taken-falls, written-given, taken-ahead}
+use Rattle.chain_run.proofs.NumberLaws.{given-taken, taken-given, taken-falls, written-given, taken-ahead}
 use Rattle.chain_run.proofs.StepLemmas.{part-more}
-use Rattle.chain_run.proofs.QuietVisit.{going-own}
 use Rattle.stage_run.specs.Seeing.{Seeing}
 use Rattle.chain_run.proofs.KindLemmas.{InputDid, input-did, plugin-did, OutputDid, output-did, wants-more, stream-kept}
 

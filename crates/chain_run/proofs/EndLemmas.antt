@@ -1,0 +1,131 @@
+-- The end of a run, whoever served its stages.
+use Rattle.std.proofs.Common.{◌≡◌, ℕ, suc, ◌+◌, ◌<◌, List, [], ◌∷◌, ◌++◌, length, map, refl, ap, sym, ◌∙◌, subst, arith, length-append}
+use Rattle.std.specs.Prelude.{slice_index_or}
+use Rattle.std.proofs.Math.Seq.{get_or-append_seam}
+use Rattle.chain_model.specs.StageLists.{rule_behind}
+use Rattle.chain_core.specs.declared.closed.Closed.{Closed}
+use Rattle.chain_core.specs.declared.core_plan.CorePlan.{CorePlan}
+use Rattle.chain_core.specs.Machine.{ChainState, progress_of_stages}
+use Rattle.chain_core.specs.ChainRun.{state_after}
+use Rattle.chain_core.specs.Close.{closed_of}
+use Rattle.stage_run.specs.Seeing.{Seeing}
+use Rattle.stage_run.specs.declared.input_part.InputPart.{InputPart}
+use Rattle.stage_run.specs.declared.output_part.OutputPart.{OutputPart}
+use Rattle.stage_run.specs.declared.stage_part.StagePart.{StagePart}
+use Rattle.stage_run.specs.declared.stuffing.Stuffing.{Stuffing}
+use Rattle.stage_run.specs.PartStands.{PartStands, PartGives, kind_of, stuffing_in, has_stream, an_input}
+use Rattle.stage_run.specs.InputStands.{stuffing_of}
+use Rattle.chain_run.specs.Parts.{AreTakenFrom, ArePluginsAndOutput, AreStages, GaveBack}
+use Rattle.chain_run.specs.RunOf.{RunOf}
+use Rattle.chain_run.specs.Runs.{RunStart, began_with}
+use Rattle.chain_run.specs.Ran.{Ran, HasClosed}
+use Rattle.chain_run.specs.Laws.{MachineLaws}
+use Rattle.chain_run.proofs.RanLemmas.{is-list}
+use Rattle.chain_run.proofs.CloseLemmas.{at-close, left-input, left-output, gave-of, gave-to, made-input, met-all, wants-of, rules-all}
+
+module _ {S K P : Type 0} (see : Seeing S K P) where
+  -- ---- the stages when all have ended
+
+  module _ (begun : RunStart S K) (parts : List (StagePart S K P)) (goes : Ran see begun parts)
+      (first : StagePart S K P) (rest : List (StagePart S K P)) (row : parts ≡ first ∷ rest) where
+    rest-length : length rest ≡ begun.plan.plugins + 1
+    rest-length = let a = goes.stages_are in omega (arith, ap (λ (l : List (StagePart S K P)). length l) row)
+
+    first-is : first ≡ goes.part 0
+    first-is =
+        sym (ap (λ (l : List (StagePart S K P)). slice_index_or l 0 first) row) ∙ goes.by.parts_are 0 first (omega arith)
+
+    rest-is : (i : ℕ) (d : StagePart S K P) → i < length rest → slice_index_or rest i d ≡ goes.part (suc i)
+    rest-is i d lt =
+        sym (ap (λ (l : List (StagePart S K P)). slice_index_or l (suc i) d) row) ∙ goes.by.parts_are (suc i) d (let a = rest-length in omega arith)
+
+    first-kind : kind_of first ≡ an_input
+    first-kind = ap kind_of first-is ∙ ((goes.by.stands 0 (omega arith)).input refl).kind
+
+    -- the stages behind the first are those of the plugins, and the output's
+    rest-kinds : ArePluginsAndOutput see rest
+    rest-kinds =
+        all 0 rest (omega (arith, rest-length)) (omega (arith, rest-length)) (λ i d lt. rest-is i d lt ∙ ap (λ n. goes.part (suc n)) (omega arith))
+      where
+        all : (j : ℕ) (ps : List (StagePart S K P)) → j + length ps ≡ begun.plan.plugins + 1 → 0 < length ps → ((i : ℕ) (d : StagePart S K P) → i < length ps → slice_index_or ps i d ≡ goes.part (suc (j + i))) → ArePluginsAndOutput see ps
+        all j [] number some same = absurd (omega arith)
+        all j (p ∷ []) number some same =
+            let e : j ≡ begun.plan.plugins = omega arith in
+            ap kind_of (same 0 p (omega arith) ∙ ap (λ n. goes.part (suc n)) (omega (arith, e))) ∙ ((goes.by.stands (suc begun.plan.plugins) (omega arith)).output refl).kind
+        all j (p ∷ next ∷ ps) number some same = (
+          ap kind_of (same 0 p (omega arith) ∙ ap (λ n. goes.part (suc n)) (omega arith)) ∙ ((goes.by.stands (suc j) (omega arith)).plugin j refl (omega arith)).kind,
+          all (suc j) (next ∷ ps) (omega arith) (omega arith) (λ i d lt. same (suc i) d (omega arith) ∙ ap (λ n. goes.part (suc n)) (omega arith)),
+        )
+
+    kinds-row : AreStages see parts
+    kinds-row = subst (AreStages see) (sym row) (first-kind, rest-kinds)
+
+    -- the last one
+    module _ (front : List (StagePart S K P)) (last : StagePart S K P) (ends : rest ≡ front ++ last ∷ []) where
+      front-length : length front ≡ begun.plan.plugins
+      front-length = let a = rest-length in omega (arith, ap (λ (l : List (StagePart S K P)). length l) ends, length-append front (last ∷ []))
+
+      last-is : last ≡ goes.part (suc begun.plan.plugins)
+      last-is =
+          sym (ap (λ (l : List (StagePart S K P)). slice_index_or l begun.plan.plugins last) ends ∙ (ap (λ n. slice_index_or (front ++ last ∷ []) n last) (sym front-length) ∙ get_or-append_seam front last [] last))
+          ∙ rest-is begun.plan.plugins last (let a = rest-length in omega arith)
+
+  -- the stages of a run are those of a chain
+  pub are-stages : (begun : RunStart S K) (parts : List (StagePart S K P)) → Ran see begun parts → AreStages see parts
+  are-stages begun [] goes = absurd (let a = goes.stages_are in omega arith)
+  are-stages begun (first ∷ rest) goes = kinds-row begun (first ∷ rest) goes first rest refl
+
+  -- how many plugins come back
+  taken-length : (rest : List (StagePart S K P)) (made : List P) → AreTakenFrom see rest made → length rest ≡ length made + 1
+  taken-length [] [] taken = absurd taken
+  taken-length [] (plugin ∷ made) taken = absurd taken
+  taken-length (part ∷ []) [] taken = refl
+  taken-length (part ∷ next ∷ rest) [] taken = absurd taken
+  taken-length (part ∷ rest) (plugin ∷ made) taken = omega (arith, taken-length rest made taken.1)
+
+  -- ---- what the run comes to
+
+  module _ (laws : MachineLaws) where
+    pub run-of : (from made_from : InputPart S) (stuffing : Stuffing) (plugins made : List P) (to made_to : OutputPart K) (plan : CorePlan) (closed : Closed) (parts : List (StagePart S K P))
+        → HasClosed see (began_with see from stuffing plugins to plan) parts closed
+        → GaveBack see parts made_from made made_to
+        → RunOf see from made_from stuffing plugins made to made_to plan closed
+    run-of from made_from stuffing plugins made to made_to plan closed parts has back =
+        let goes = has.ran in let over = has.over in let closed-is = has.closed_is in
+        let first = back.first in let rest = back.rest in let row = back.row in let front = back.front in let last = back.last in let ends = back.ends in
+        let taken = back.taken in
+        let begun : RunStart S K = began_with see from stuffing plugins to plan in
+        let by = goes.by in
+        let state : ChainState = state_after plan goes.visits in
+        let is-first : first ≡ goes.part 0 = first-is begun parts goes first rest row in
+        let is-last : last ≡ goes.part (suc plan.plugins) = last-is begun parts goes first rest row front last ends in
+        let first-stands : PartStands see first (goes.lists 0) (state.stages 0).ended =
+        subst (λ p. PartStands see p (goes.lists 0) (state.stages 0).ended) (sym is-first) (by.stands 0 (omega arith)).stands_for in
+        let last-stands : PartStands see last (goes.lists (suc plan.plugins)) (state.stages (suc plan.plugins)).ended =
+        subst (λ p. PartStands see p (goes.lists (suc plan.plugins)) (state.stages (suc plan.plugins)).ended) (sym is-last) (by.stands (suc plan.plugins) (omega arith)).stands_for in
+        let chosen = back.some_list (goes.lists 0) (state.stages 0).ended first-stands in
+        let gives : PartGives see (goes.part 0) (goes.lists 0) chosen.list = subst (λ p. PartGives see p (goes.lists 0) chosen.list) is-first chosen.gives in
+        let many : length made ≡ plan.plugins = let a = taken-length rest made taken in let b = rest-length begun parts goes first rest row in omega arith in
+        let at = at-close see laws begun parts goes over chosen.list gives in
+        let same : (i : ℕ) (d : StagePart S K P) → i < length made → slice_index_or rest i d ≡ goes.part (suc (0 + i)) =
+        λ i d lt. rest-is begun parts goes first rest row i d (let a = taken-length rest made taken in omega arith) ∙ ap (λ n. goes.part (suc n)) (let e : i ≡ 0 + i = omega arith in e) in
+        let rules-length : length (map see.rule plugins) ≡ plan.plugins = goes.lawful_run.rules_are in
+        let done : RunOf see from made_from stuffing plugins made to made_to plan (closed_of plan (progress_of_stages state)) = record {
+          list = chosen.list;
+          is_list = is-list see begun goes.lawful_run laws parts goes.visits goes.part goes.lists by chosen.list gives;
+          closes = at.pure_or_fault;
+          input = left-input see laws begun parts goes over chosen.list gives made_from
+              (back.in_stream ∙ (ap has_stream is-first ∙ ((by.stands 0 (omega arith)).input refl).stream))
+              (back.in_leaves (goes.lists 0) (state.stages 0).ended (stuffing_of stuffing) first-stands (ap stuffing_in is-first ∙ ((by.stands 0 (omega arith)).input refl).stuffing_is));
+          output = left-output see laws begun parts goes over chosen.list gives made_to
+              (back.out_stream ∙ (ap has_stream is-last ∙ ((by.stands (suc plan.plugins) (omega arith)).output refl).stream))
+              (back.out_leaves (goes.lists (suc plan.plugins)) (state.stages (suc plan.plugins)).ended last-stands);
+          gave = gave-of see laws begun parts goes over;
+          gave_to = gave-to see laws begun parts goes over chosen.list gives;
+          input_gave = made-input see laws begun parts goes over chosen.list gives;
+          met = met-all see laws begun parts goes over chosen.list gives 0 rest made taken (omega arith) same;
+          memory = wants-of see laws begun parts goes over chosen.list gives;
+          rules = rules-all see laws begun parts goes over 0 (map see.rule plugins) rest made taken (many ∙ sym rules-length) (omega arith) same
+              (λ i lt. ap (rule_behind (map see.rule plugins)) (let e : 0 + i ≡ i = omega arith in e));
+        } in
+        subst (λ (c : Closed). RunOf see from made_from stuffing plugins made to made_to plan c) (sym closed-is) done
