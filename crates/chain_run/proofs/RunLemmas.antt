@@ -7,7 +7,7 @@ use Rattle.chain_model.specs.Apply.{StageList}
 use Rattle.chain_core.specs.declared.closed.Closed.{Closed}
 use Rattle.chain_core.specs.declared.core_plan.CorePlan.{CorePlan}
 use Rattle.chain_core.specs.Numbers.{StagesProgress}
-use Rattle.chain_core.specs.Machine.{ChainState, start, progress_of_stages}
+use Rattle.chain_core.specs.Machine.{ChainState, progress_of_stages}
 use Rattle.chain_core.specs.ChainRun.{state_after, AllEnded}
 use Rattle.chain_core.specs.Close.{closed_of}
 use Rattle.chain_core.specs.CoreNumbers.{CoreNumbers, IsLawfulPlan, StandsFor, progress_of_core}

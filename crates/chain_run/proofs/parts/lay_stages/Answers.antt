@@ -1,4 +1,4 @@
-use Rattle.std.proofs.Common.{List, [], ◌∷◌, ◌++◌, length, ap, ◌∙◌, refl, arith, length-append}
+use Rattle.std.proofs.Common.{List, [], ◌∷◌, ◌++◌, length, ap, ◌∙◌, arith, length-append}
 use Rattle.stage_run.specs.Seeing.{seeing}
 use Rattle.stage_run.specs.declared.stage_part.StagePart.{StagePart}
 use Rattle.chain_run.proofs.StartLemmas.{made-length}
