@@ -4,7 +4,7 @@ use Rattle.std.specs.Prelude.{is_some, ◌==◌, nat_le}
 use Rattle.std.specs.List.{AllByRecursion}
 use Rattle.std.proofs.lemmas.Bool.{cases_eq, cases_lt, and_parts, eqb-true}
 use Rattle.chain_model.specs.Joint.{greatest_if_all}
-use Rattle.chain_model.specs.Stuffed.{position_limit}
+use Rattle.chain_model.specs.declared.positions.TheConstants.{POSITION_LIMIT}
 use Rattle.chain_model.proofs.GreatestLaws.{IsKept, IsNewFrom, greatest-kept, greatest-new}
 use Rattle.chain_core.specs.declared.core_plan.CorePlan.{CorePlan}
 use Rattle.chain_core.specs.declared.stage_end.StageEnd.{StageEnd}
@@ -38,7 +38,7 @@ pub record Sound (plan : CorePlan) (state : ChainState) : Type 0 where
   pub within : (k : ℕ) → gave state k ≤ took_count state k
   pub handed : (k : ℕ) → took_count state (suc k) ≤ gave state k
   pub bound : took_count state 0 ≤ gave state (suc plan.plugins) + plan.buffer
-  pub places : took_count state 0 ≤ position_limit
+  pub places : took_count state 0 ≤ POSITION_LIMIT
   pub limited : (limit : ℕ) → limit_of plan (progress_of_stages state) ≡ Some limit → (gave state (suc plan.plugins) ≤ limit) × ((state.told ≡ Some limit) ⊎ (took_count state (suc plan.plugins) ≤ limit))
   pub told_is : (limit : ℕ) → state.told ≡ Some limit → limit_of plan (progress_of_stages state) ≡ Some limit
   pub ended_in : (k : ℕ) (end : StageEnd) → (state.stages k).ended ≡ Some end → k ≤ suc plan.plugins
@@ -321,7 +321,7 @@ module _ (plan : CorePlan) (state : ChainState) (k : ℕ) where
           | inr apart ↦ (let t = served-took_other (suc j) apart in omega arith)
         ]
 
-    served-input : (took_count (served plan state k) 0 ≤ gave (served plan state k) (suc plan.plugins) + plan.buffer) × (took_count (served plan state k) 0 ≤ position_limit)
+    served-input : (took_count (served plan state k) 0 ≤ gave (served plan state k) (suc plan.plugins) + plan.buffer) × (took_count (served plan state k) 0 ≤ POSITION_LIMIT)
     served-input =
         let g = served-gave (suc plan.plugins) in
         let h = sound.bound in

@@ -5,7 +5,7 @@ use Rattle.std.proofs.lemmas.Bool.{cases_eq, and_parts, and_from, eq-eqb, le-leb
 use Rattle.std.proofs.lemmas.List.{take-append-le}
 use Rattle.ts_packet.specs.declared.cell.Cell.{Cell}
 use Rattle.chain_model.specs.Cut.{lesser_end}
-use Rattle.chain_model.specs.Stuffed.{position_limit}
+use Rattle.chain_model.specs.declared.positions.TheConstants.{POSITION_LIMIT}
 use Rattle.chain_core.specs.declared.core_plan.CorePlan.{CorePlan}
 use Rattle.chain_core.specs.declared.progress.Progress.{Progress}
 use Rattle.chain_core.specs.declared.stage_end.StageEnd.{StageEnd}
@@ -133,7 +133,7 @@ news-hold plan state k sound =
     let first = falls (took_count state) (λ i. (let a = sound.handed i in let b = sound.within i in omega arith)) k 0 (omega arith) in
     record {
       taken_ahead = (let b = sound.bound in omega arith);
-      taken_below = below (took_count state k) (took_count state 0) position_limit first sound.places;
+      taken_below = below (took_count state k) (took_count state 0) POSITION_LIMIT first sound.places;
       written_within = (λ le. (let f = gave-falls plan state sound (suc plan.plugins) k le in omega arith));
       given_within = sound.within k;
       taken_within = (λ j is. subst (λ i. took_count state i ≤ gave state j) (sym is) (sound.handed j));
@@ -197,5 +197,5 @@ module _ (plan : CorePlan) (state : ChainState) (sound : Sound plan state) (some
   quiet-over k le =
       elim (is-open (state.stages 0).ended) [
         | inr ended ↦ first-open ended k le
-        | inl open_ ↦ absurd (full (gave state 0) (gave state (suc plan.plugins)) (took_count state 0) plan.buffer position_limit (all-level open_ (suc plan.plugins) (omega arith)) (quiet.took_all 0 (omega arith) open_) (quiet.gave_all 0 (omega arith) open_) (quiet.input_below open_) some_buffer)
+        | inl open_ ↦ absurd (full (gave state 0) (gave state (suc plan.plugins)) (took_count state 0) plan.buffer POSITION_LIMIT (all-level open_ (suc plan.plugins) (omega arith)) (quiet.took_all 0 (omega arith) open_) (quiet.gave_all 0 (omega arith) open_) (quiet.input_below open_) some_buffer)
       ]

@@ -2,7 +2,7 @@
 use Rattle.std.specs.Prelude.{◌≡◌, ◌≢◌, ℕ, suc, ◌+◌, ◌≤◌, ◌<◌, List, ◌++◌, length, None, Some}
 use Rattle.chain_model.specs.PluginRule.{PluginRule}
 use Rattle.chain_model.specs.Apply.{StageList}
-use Rattle.chain_model.specs.Stuffed.{position_limit}
+use Rattle.chain_model.specs.declared.positions.TheConstants.{POSITION_LIMIT}
 use Rattle.chain_core.specs.declared.core_plan.CorePlan.{CorePlan}
 use Rattle.chain_core.specs.Numbers.{limit_of, written_of, reach_of, news_of, MayFollow}
 use Rattle.chain_core.specs.Machine.{ChainState, Visit, progress_of_stages, Allowed}
@@ -30,7 +30,7 @@ pub record LeavesOthers (plan : CorePlan) (old new : ChainState) (visit : Visit)
 -- the promises on the news that stage `k` may be told in this state
 pub record NewsHold (plan : CorePlan) (state : ChainState) (k : ℕ) : Type 0 where
   pub taken_ahead : (news_of plan (progress_of_stages state) k).taken ≤ (news_of plan (progress_of_stages state) k).written + plan.buffer
-  pub taken_below : (news_of plan (progress_of_stages state) k).taken ≤ position_limit
+  pub taken_below : (news_of plan (progress_of_stages state) k).taken ≤ POSITION_LIMIT
   pub written_within : k ≤ suc plan.plugins → (news_of plan (progress_of_stages state) k).written ≤ length (state.stages k).given
   pub given_within : length (state.stages k).given ≤ (news_of plan (progress_of_stages state) k).taken
   pub taken_within : (j : ℕ) → k ≡ suc j → (news_of plan (progress_of_stages state) k).taken ≤ length (state.stages j).given
@@ -46,4 +46,4 @@ pub record IsQuiet (plan : CorePlan) (state : ChainState) : Type 0 where
   pub took_all : (k : ℕ) → k ≤ suc plan.plugins → (state.stages k).ended ≡ None → reach_of plan (progress_of_stages state) k ≤ (state.stages k).taken
   pub gave_all : (k : ℕ) → k ≤ suc plan.plugins → (state.stages k).ended ≡ None → (state.stages k).taken ≤ length (state.stages k).given
   pub not_following : (k : ℕ) → k ≤ suc plan.plugins → (state.stages k).ended ≡ None → MayFollow plan (progress_of_stages state) k (length (state.stages k).given) → ⊥
-  pub input_below : (state.stages 0).ended ≡ None → length (state.stages 0).given < position_limit
+  pub input_below : (state.stages 0).ended ≡ None → length (state.stages 0).given < POSITION_LIMIT

@@ -5,7 +5,7 @@ use Rattle.std.specs.Option.{option_or}
 use Rattle.std.specs.List.{All}
 use Rattle.chain_model.specs.Joint.{greatest_if_all}
 use Rattle.chain_model.specs.Cut.{lesser_end}
-use Rattle.chain_model.specs.Stuffed.{position_limit}
+use Rattle.chain_model.specs.declared.positions.TheConstants.{POSITION_LIMIT}
 use Rattle.chain_core.specs.declared.core_plan.CorePlan.{CorePlan}
 use Rattle.chain_core.specs.declared.progress.Progress.{Progress}
 use Rattle.chain_core.specs.declared.news.News.{News}
@@ -51,7 +51,7 @@ news_of plan progress k = record {
 -- the positions below this number may be taken by the stage: for the input those that fit the buffer,
 -- for another stage those that the stage before has given
 abbrev pub reach_of : CorePlan → StagesProgress → ℕ → ℕ
-reach_of plan progress zero = min ((progress (suc plan.plugins)).given + plan.buffer) position_limit
+reach_of plan progress zero = min ((progress (suc plan.plugins)).given + plan.buffer) POSITION_LIMIT
 reach_of plan progress (suc j) = (progress j).given
 
 -- how many cells the stage takes with a visit

@@ -1,6 +1,4 @@
-pub mod InputLemmas
 pub mod PrefixLemmas
-pub mod LiveLemmas
 pub mod ApplyLaws
 pub mod AgreementLaws
 pub mod GreatestLaws

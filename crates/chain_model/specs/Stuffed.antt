@@ -40,16 +40,12 @@ abbrev pub stop_nulls : Stuffing → InputEnd → List Cell
 stop_nulls stuffing (End left) = null_cells stuffing.stop
 stop_nulls stuffing _ = []
 
--- positions are below this number
-abbrev pub position_limit : ℕ
-position_limit = POSITION_LIMIT
-
--- a list that would have a position at the limit ends before it
+-- positions are below the limit: a list that would have a position there ends before it
 abbrev pub within_limit : List Cell → InputEnd → StageList
 within_limit cells how =
-    if nat_le (length cells) position_limit
+    if nat_le (length cells) POSITION_LIMIT
     then record { cells = cells; ended = Some (input_over how) }
-    else record { cells = take position_limit cells; ended = Some (input_over TooLong) }
+    else record { cells = take POSITION_LIMIT cells; ended = Some (input_over TooLong) }
 
 -- the list of the input with its stuffing
 abbrev pub stuffed : Stuffing → InputList → StageList

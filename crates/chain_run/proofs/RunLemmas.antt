@@ -7,7 +7,7 @@ use Rattle.chain_model.specs.Apply.{StageList}
 use Rattle.chain_core.specs.declared.closed.Closed.{Closed}
 use Rattle.chain_core.specs.declared.core_plan.CorePlan.{CorePlan}
 use Rattle.chain_core.specs.Numbers.{StagesProgress}
-use Rattle.chain_core.specs.Machine.{ChainState, start, progress_of_stages}
+use Rattle.chain_core.specs.Machine.{ChainState, progress_of_stages}
 use Rattle.chain_core.specs.ChainRun.{state_after, AllEnded}
 use Rattle.chain_core.specs.Close.{closed_of}
 use Rattle.chain_core.specs.CoreNumbers.{CoreNumbers, IsLawfulPlan, StandsFor, progress_of_core}
@@ -23,17 +23,16 @@ use Rattle.stage_run.specs.Parts.{IsListOf, IsSourceOf, IsSinkOf}
 use Rattle.chain_run.specs.Fresh.{AreFresh}
 use Rattle.chain_run.specs.Parts.{AreMadeOf}
 use Rattle.chain_run.specs.Runs.{RunStart, began_with}
+use Rattle.chain_run.specs.NewRow.{IsNewRow}
 use Rattle.chain_run.specs.Ran.{Ran, HasClosed}
 use Rattle.chain_run.specs.Working.{IsRunning}
-use Rattle.chain_run.proofs.StartLemmas.{starts}
+use Rattle.chain_run.proofs.StartLemmas.{new-row}
 use Rattle.chain_run.proofs.ProgressLemmas.{as-progress}
 
 module _ {S K P : Type 0} (see : Seeing S K P) where
-  -- the stages before the first turn
-  pub record Laid (from : InputPart S) (stuffing : Stuffing) (plugins : List P) (to : OutputPart K) (plan : CorePlan) (core : CoreNumbers) (parts : List (StagePart S K P)) (cells : List Cell) : Type 0 where
+  -- the stages in a row, of which nothing was done
+  pub record Laid (from : InputPart S) (stuffing : Stuffing) (plugins : List P) (to : OutputPart K) (plan : CorePlan) (parts : List (StagePart S K P)) : Type 0 where
     pub lawful : IsLawfulPlan plan
-    pub plan_is : core.plan ≡ plan
-    pub numbers : StandsFor core start
     pub fresh : AreFresh see.stands plugins
     pub number : plan.plugins ≡ length plugins
     pub opens : (plugin : P) (history : List Cell) (mark : ℕ) → see.stands plugin history mark → (see.rule plugin).agrees [] ≡ false
@@ -50,14 +49,13 @@ module _ {S K P : Type 0} (see : Seeing S K P) where
     pub out_kind : kind_of out ≡ an_output
     pub out_stream : has_stream out ≡ has_sink to
     pub out_stands : (source : SourceView) (sink : SinkView) (mark : ℕ) → IsSinkOf see.sink to sink → PartStands see out (fresh_lists source sink mark) None
-    pub slots : length cells ≡ plan.buffer
 
-  pub laid-goes : (from : InputPart S) (stuffing : Stuffing) (plugins : List P) (to : OutputPart K) (plan : CorePlan) (core : CoreNumbers) (parts : List (StagePart S K P)) (cells : List Cell)
-      → Laid from stuffing plugins to plan core parts cells → IsRunning see (began_with see from stuffing plugins to plan) core parts cells
-  laid-goes from stuffing plugins to plan core parts cells laid =
-      subst (λ (l : List (StagePart S K P)). IsRunning see (began_with see from stuffing plugins to plan) core l cells) (sym laid.row)
-      (starts see plan laid.lawful core laid.plan_is laid.numbers from stuffing to plugins laid.fresh laid.number laid.opens laid.first laid.out laid.made laid.are
-      laid.in_kind laid.in_stream laid.in_stuffing laid.in_stands laid.in_gives laid.out_kind laid.out_stream laid.out_stands cells laid.slots)
+  pub laid-row : (from : InputPart S) (stuffing : Stuffing) (plugins : List P) (to : OutputPart K) (plan : CorePlan) (parts : List (StagePart S K P))
+      → Laid from stuffing plugins to plan parts → IsNewRow see (began_with see from stuffing plugins to plan) parts
+  laid-row from stuffing plugins to plan parts laid =
+      subst (λ (l : List (StagePart S K P)). IsNewRow see (began_with see from stuffing plugins to plan) l) (sym laid.row)
+      (new-row see plan laid.lawful from stuffing to plugins laid.fresh laid.number laid.opens laid.first laid.out laid.made laid.are
+      laid.in_kind laid.in_stream laid.in_stuffing laid.in_stands laid.in_gives laid.out_kind laid.out_stream laid.out_stands)
 
   -- ---- a run in one thread is a run
 

@@ -1,6 +1,7 @@
 -- What a layer above needs of a run, in other words.
 use Rattle.std.proofs.Common.{ℕ, zero, suc, ◌-◌, ◌<◌, List, [], ◌∷◌, length, map, take, Option, None, arith}
-use Rattle.std.specs.Prelude.{slice_index_or}
+use Rattle.std.specs.Prelude.{slice_index_or, Ok, Err, IsOk, OnErr}
+use Rattle.std.specs.declared.result.Result.{Result}
 use Rattle.std.proofs.lemmas.List.{take-take, length-take, length-map}
 use Rattle.ts_packet.specs.declared.cell.Cell.{Cell}
 use Rattle.chain_model.specs.PluginRule.{PluginRule}
@@ -37,3 +38,8 @@ steady-wants_none steady buffer plugins k are wants =
     at [] i are' lt = absurd (omega arith)
     at (p ∷ ps) zero are' lt = are'.0
     at (p ∷ ps) (suc i) are' lt = at ps i are'.1 (omega arith)
+
+-- of an answer that is there no clause on its fault says anything
+pub never-err : {T E : Type 0} (r : Result T E) (P : Type 0) → IsOk r → OnErr r P
+never-err (Ok value) P is = tt
+never-err (Err fault) P is = absurd cc

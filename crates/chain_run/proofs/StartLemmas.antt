@@ -32,8 +32,10 @@ use Rattle.chain_run.specs.Fresh.{AreFresh}
 use Rattle.chain_run.specs.Parts.{MadeOf, AreMadeOf}
 use Rattle.chain_run.specs.Runs.{nothing_told, RunStart}
 use Rattle.chain_run.specs.OneStage.{IsInput, IsPlugin, IsOutput, StandsIn}
-use Rattle.chain_run.specs.SerialRuns.{NumbersFit, RunsBy}
+use Rattle.chain_run.specs.NewRow.{IsNewRow}
+use Rattle.chain_run.specs.SerialRuns.{RunsBy}
 use Rattle.chain_run.specs.Working.{IsRunning}
+use Rattle.chain_run.proofs.StepLemmas.{doing-more}
 use Rattle.chain_run.proofs.QuietVisit.{silent}
 use Rattle.chain_run.proofs.TurnLemmas.{list-ends}
 
@@ -97,7 +99,7 @@ module _ {S K P : Type 0} (see : Seeing S K P) where
   made-at (part ∷ made) rest (plugin ∷ plugins) zero d are fresh lt = record { plugin = plugin; is = are.0; rule_is = refl; room_is = refl; fresh = fresh.0 }
   made-at (part ∷ made) rest (plugin ∷ plugins) (suc j) d are fresh lt = made-at made rest plugins j d are.1 fresh.1 (omega arith)
 
-  module _ (plan : CorePlan) (lawful : IsLawfulPlan plan) (core : CoreNumbers) (plan_is : core.plan ≡ plan) (numbers : StandsFor core start)
+  module _ (plan : CorePlan) (lawful : IsLawfulPlan plan)
       (from : InputPart S) (stuffing : Stuffing) (to : OutputPart K) (plugins : List P) (fresh : AreFresh see.stands plugins) (number : plan.plugins ≡ length plugins)
       (opens : (plugin : P) (history : List Cell) (mark : ℕ) → see.stands plugin history mark → (see.rule plugin).agrees [] ≡ false)
       (first out : StagePart S K P) (made : List (StagePart S K P)) (are : AreMadeOf see made plugins)
@@ -105,8 +107,7 @@ module _ {S K P : Type 0} (see : Seeing S K P) where
       (in_stands : (source : SourceView) (sink : SinkView) (mark : ℕ) → IsSourceOf see.source from source → PartStands see first (fresh_lists source sink mark) None)
       (in_gives : (source : SourceView) (sink : SinkView) (mark : ℕ) (input : StageList) → PartGives see first (fresh_lists source sink mark) input ↔ IsListOf see.source from (stuffing_of stuffing) input)
       (out_kind : kind_of out ≡ an_output) (out_stream : has_stream out ≡ has_sink to)
-      (out_stands : (source : SourceView) (sink : SinkView) (mark : ℕ) → IsSinkOf see.sink to sink → PartStands see out (fresh_lists source sink mark) None)
-      (cells : List Cell) (slots : length cells ≡ plan.buffer) where
+      (out_stands : (source : SourceView) (sink : SinkView) (mark : ℕ) → IsSinkOf see.sink to sink → PartStands see out (fresh_lists source sink mark) None) where
     abbrev pub began : RunStart S K
     began = record { from = from; to = to; stuffing = stuffing_of stuffing; rules = map see.rule plugins; rooms = map see.steady plugins; plan = plan }
 
@@ -131,24 +132,8 @@ module _ {S K P : Type 0} (see : Seeing S K P) where
         ap (λ n. slice_index_or (made ++ out ∷ []) n first) (let a = made-length made plugins are in let b = number in omega arith)
         ∙ get_or-append_seam made out [] first
 
-    fits : NumbersFit began core (length parts) (length cells)
-    fits = record {
-      plan_is = plan_is;
-      run = record {
-        lawful = lawful;
-        rules_are = length-map plugins see.rule ∙ sym number;
-        rooms_are = length-map plugins see.steady ∙ sym number;
-        agree_late = rules-open see.rule see.stands plugins fresh opens;
-      };
-      stages_are = parts-length;
-      slots_are = slots;
-    }
-
-    abbrev Gives : StageList → Type 0
-    Gives = PartGives see first (lists 0)
-
-    input-start : (low : ℕ) → IsInput see began first (lists 0) low
-    input-start low = record {
+    input-start : IsInput see began first (lists 0) 0
+    input-start = record {
       kind = in_kind;
       stuffing_is = in_stuffing;
       stream = in_stream;
@@ -167,7 +152,7 @@ module _ {S K P : Type 0} (see : Seeing S K P) where
           met = refl;
         }
 
-    output-start : IsOutput see began (part (suc plan.plugins)) (lists (suc plan.plugins)) [] [] None 0 Gives
+    output-start : IsOutput see began (part (suc plan.plugins)) (lists (suc plan.plugins)) [] [] None 0 (λ (_ : StageList). Unit {0})
     output-start = record {
       kind = ap kind_of last-is ∙ out_kind;
       stream = ap has_stream last-is ∙ out_stream;
@@ -187,43 +172,68 @@ module _ {S K P : Type 0} (see : Seeing S K P) where
               (out_stands (view-of-source see.source from).0 (view-of-sink see.sink to).0 0 (view-of-sink see.sink to).1))
         ]
 
-    -- each stage stands for lists of which nothing was done
-    new-stands : (k : ℕ) → k ≤ suc plan.plugins → StandsIn see began (part k) k (lists k) (state_after plan []) Gives
-    unfolding state_after
-    new-stands k le = record {
-      stands_for = stands-at k le;
-      given_is = refl;
-      mark = omega arith;
-      memory = λ e. cc;
-      input = λ e. subst (λ i. IsInput see began (part i) (lists i) (written_of plan (progress_of_stages (state_after plan [])))) e (input-start (written_of plan (progress_of_stages (state_after plan []))));
-      plugin = λ j e lt. subst (λ i. IsPlugin see began (part i) j (lists i) [] []) e (plugin-start j lt);
-      output = λ e. subst (λ i. IsOutput see began (part i) (lists i) [] [] None 0 Gives) e output-start;
+    pub new-row : IsNewRow see began parts
+    new-row = record {
+      run = record {
+        lawful = lawful;
+        rules_are = length-map plugins see.rule ∙ sym number;
+        rooms_are = length-map plugins see.steady ∙ sym number;
+        agree_late = rules-open see.rule see.stands plugins fresh opens;
+      };
+      stages_are = parts-length;
+      part = part;
+      parts_are = λ k d le. any-default parts k d first (let a = parts-length in omega arith);
+      lists = lists;
+      new = λ k le. record {
+        stands_for = stands-at k le;
+        given_is = refl;
+        mark = omega arith;
+        memory = λ e. cc;
+        input = λ e. subst (λ i. IsInput see began (part i) (lists i) 0) e input-start;
+        plugin = λ j e lt. subst (λ i. IsPlugin see began (part i) j (lists i) [] []) e (plugin-start j lt);
+        output = λ e. subst (λ i. IsOutput see began (part i) (lists i) [] [] None 0 (λ (_ : StageList). Unit {0})) e output-start;
+      };
     }
 
-    going-start : (input : StageList) → PartGives see first (lists 0) input → (k : ℕ) → ((state_after plan []).stages k).ended ≡ None → StageKeeps (map see.rule plugins) input plan.plugins k (took (state_after plan []) k) ((state_after plan []).stages k).given [] nothing_told
+  -- ---- the run in one thread begins
+
+  module _ (begun : RunStart S K) (parts : List (StagePart S K P)) (row : IsNewRow see begun parts) (core : CoreNumbers) (plan_is : core.plan ≡ begun.plan) (numbers : StandsFor core start)
+      (cells : List Cell) (slots : length cells ≡ begun.plan.buffer) where
+    abbrev Gives : StageList → Type 0
+    Gives = PartGives see (row.part 0) (row.lists 0)
+
+    stands : (k : ℕ) → k ≤ suc begun.plan.plugins → StandsIn see begun (row.part k) k (row.lists k) (state_after begun.plan []) Gives
+    unfolding state_after
+    stands k le =
+        doing-more see begun (row.part k) k (row.lists k) [] None 0 (written_of begun.plan (progress_of_stages (state_after begun.plan []))) 0 0 (λ _. []) (λ j. ((state_after begun.plan []).stages j).given) (λ (_ : StageList). Unit {0}) Gives
+        (omega arith) (omega arith) (λ j e. ([], refl, omega arith)) (λ input x. tt) (row.new k le)
+
+    going-start : (input : StageList) → Gives input → (k : ℕ) → ((state_after begun.plan []).stages k).ended ≡ None → StageKeeps begun.rules input begun.plan.plugins k (took (state_after begun.plan []) k) ((state_after begun.plan []).stages k).given [] nothing_told
     unfolding state_after
     going-start input gives k e =
-        let is : IsListOf see.source from (stuffing_of stuffing) input = (in_gives (view-of-source see.source from).0 (view-of-sink see.sink to).0 0 input).0 gives in
-        let ends = list-ends see.source from (stuffing_of stuffing) input is in
-        starts-quiet (map see.rule plugins) input plan.plugins (λ last. (let how = ends.0 in let f = sym ends.1 ∙ last in cc)) k (took (state_after plan []) k) (nothing-taken k)
+        let ends = list-ends see.source begun.from begun.stuffing input (((row.new 0 (omega arith)).input refl).is_list input gives) in
+        starts-quiet begun.rules input begun.plan.plugins (λ last. (let how = ends.0 in let f = sym ends.1 ∙ last in cc)) k (took (state_after begun.plan []) k) (nothing-taken k)
       where
         nothing-taken : (k : ℕ) → took start k ≡ []
         nothing-taken zero = refl
         nothing-taken (suc j) = refl
 
-    by-start : RunsBy see began core parts cells [] part lists
+    by-start : RunsBy see begun core parts cells [] row.part row.lists
     unfolding state_after
     by-start = record {
       ran = record {
-        parts_are = λ k d le. any-default parts k d first (let a = parts-length in omega arith);
+        parts_are = row.parts_are;
         run = tt;
         kept = λ input gives. tt;
-        stands = new-stands;
+        stands = stands;
       };
       numbers = numbers;
       going = going-start;
       buffer = λ k le. tt;
     }
 
-    pub starts : IsRunning see began core parts cells
-    starts = record { fits = fits; runs = record { visits = []; part = part; lists = lists; by = by-start } }
+    pub starts : IsRunning see begun core parts cells
+    starts = record {
+      fits = record { plan_is = plan_is; run = row.run; stages_are = row.stages_are; slots_are = slots };
+      runs = record { visits = []; part = row.part; lists = row.lists; by = by-start };
+    }

@@ -7,6 +7,7 @@ pub mod Slots
 pub mod Runs
 pub mod OneStage
 pub mod Ran
+pub mod NewRow
 pub mod SerialRuns
 pub mod Working
 pub mod Parts

@@ -11,7 +11,7 @@ mod serial_run;
 mod stages;
 
 pub use laws::{any_run, machine_laws};
-pub use parts::{GivenBack, take_apart};
+pub use parts::{GivenBack, StageRooms, lay_stages, take_apart};
 pub use run_end::RunEnd;
 pub use serial_run::run_serial;
 pub use stages::Stages;

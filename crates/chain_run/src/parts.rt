@@ -1,12 +1,16 @@
 //! Plugins on their way into the stages of a chain and back.
 ghost use Rattle.std.specs.Prelude.{◌≡◌, ◌+◌, ◌≤◌, ◌<◌, ◌++◌, ◌∷◌, [], ℕ, List, length, vec_len, vec_capacity};
 ghost use Rattle.stage_run.specs.Seeing.{seeing};
+ghost use Rattle.chain_core.specs.declared.core_plan.CorePlan.{CorePlan};
+ghost use Rattle.chain_core.specs.CoreNumbers.{IsLawfulPlan};
 ghost use Rattle.stage_run.specs.declared.stage_part.StagePart.{StagePart};
 ghost use Rattle.chain_run.specs.Fresh.{AreFresh};
+ghost use Rattle.chain_run.specs.Runs.{began_with};
+ghost use Rattle.chain_run.specs.NewRow.{IsNewRow};
 ghost use Rattle.chain_run.specs.Parts.{AreMadeOf, AreTakenFrom, ArePluginsAndOutput, AreStages, GaveBack};
 
 use plugin_trait::Plugin;
-use stage_run::{InputPart, OutputPart, StagePart};
+use stage_run::{InputPart, IoBuffer, OutputPart, StagePart, Stuffing};
 use ts_outside::{Sink, Source};
 
 /// Moves the plugins behind the stages, for which there is room.
@@ -27,6 +31,43 @@ pub(crate) fn add_plugins<S: Source, K: Sink, P: Plugin>(
     }
     parts.push_reserved(StagePart::of_plugin(plugins.remove(0)));
     add_plugins(parts, plugins);
+}
+
+/// The memory of a chain's stages, but for that of the plugins: what the input reads into and the output gathers in, and
+/// a row with room for the stages, which is empty.
+pub struct StageRooms<S, K, P> {
+    pub input: IoBuffer,
+    pub output: IoBuffer,
+    pub row: Vec<StagePart<S, K, P>>,
+}
+
+/// Lays the stages of a chain in a row: the input, the plugins and the output. Nothing is read, met or written.
+pub fn lay_stages<S: Source, K: Sink, P: Plugin>(
+    rooms: StageRooms<S, K, P>,
+    input: InputPart<S>,
+    stuffing: Stuffing,
+    plugins: &mut Vec<P>,
+    output: OutputPart<K>,
+) -> Vec<StagePart<S, K, P>>
+    requires every { 1 ≤ stuffing.every }
+    requires fresh { AreFresh P.stands_for plugins.old.items }
+    requires none { rooms.row.items ≡ [] }
+    requires room { vec_len plugins.old + 2 ≤ vec_capacity rooms.row }
+    ensures new { (plan : CorePlan) → IsLawfulPlan plan → plan.plugins ≡ vec_len plugins.old
+        → let see = seeing S.seen K.seen P.rule P.stands_for P.steady in
+        IsNewRow see (began_with see input stuffing plugins.old.items output plan) result.items }
+    ensures none_left { plugins.new.items ≡ [] }
+    ensures room_left { vec_capacity plugins.new ≡ vec_capacity plugins.old }
+{
+    let StageRooms {
+        input: input_room,
+        output: output_room,
+        mut row,
+    } = rooms;
+    row.push_reserved(StagePart::of_input(input, stuffing, input_room));
+    add_plugins(&mut row, plugins);
+    row.push_reserved(StagePart::of_output(output, output_room));
+    row
 }
 
 /// What the stages of a chain give back.

@@ -14,12 +14,12 @@ ghost use Rattle.chain_run.specs.Working.{IsRunning, RunsSomehow};
 ghost use Rattle.chain_run.specs.RunOf.{RunOf, NeverBegan};
 
 use crate::laws::any_run;
-use crate::parts::{GivenBack, add_plugins, take_apart};
+use crate::parts::{GivenBack, StageRooms, lay_stages, take_apart};
 use crate::serial_chain::SerialChain;
 use crate::{RunEnd, Stages};
 use chain_core::{Core, CorePlan};
 use plugin_trait::Plugin;
-use stage_run::{InputPart, IoBuffer, OutputPart, StagePart, Stuffing};
+use stage_run::{InputPart, IoBuffer, OutputPart, Stuffing};
 use std::alloc::{AllocError, Global};
 use ts_outside::{Gate, Sink, Source};
 use ts_packet::Cell;
@@ -28,10 +28,7 @@ use ts_packet::Cell;
 struct RunMemory<S, K, P> {
     core: Core,
     cells: Vec<Cell>,
-    input_room: IoBuffer,
-    output_room: IoBuffer,
-    /// Room for the stages.
-    parts: Vec<StagePart<S, K, P>>,
+    rooms: StageRooms<S, K, P>,
 }
 
 impl<S, K, P> RunMemory<S, K, P> {
@@ -41,21 +38,19 @@ impl<S, K, P> RunMemory<S, K, P> {
         ensures plan { IfOk result (λ memory. memory.core.plan ≡ plan.now) }
         ensures fresh { IfOk result (λ memory. StandsFor memory.core start) }
         ensures cells { IfOk result (λ memory. vec_len memory.cells ≡ plan.now.buffer) }
-        ensures none { IfOk result (λ memory. memory.parts.items ≡ []) }
-        ensures room { IfOk result (λ memory. vec_capacity memory.parts ≡ plan.now.plugins + 2) }
+        ensures none { IfOk result (λ memory. memory.rooms.row.items ≡ []) }
+        ensures room { IfOk result (λ memory. vec_capacity memory.rooms.row ≡ plan.now.plugins + 2) }
     {
         let window = plan.most.min(plan.buffer);
         let core = Core::new(alloc, plan)?;
         let cells = vec![in alloc; Cell::Dropped; plan.buffer]?;
-        let input_room = IoBuffer::new(alloc, window)?;
-        let output_room = IoBuffer::new(alloc, window)?;
-        let parts = Vec::with_capacity(alloc, plan.plugins + 2)?;
+        let input = IoBuffer::new(alloc, window)?;
+        let output = IoBuffer::new(alloc, window)?;
+        let row = Vec::with_capacity(alloc, plan.plugins + 2)?;
         Ok(RunMemory {
             core,
             cells,
-            input_room,
-            output_room,
-            parts,
+            rooms: StageRooms { input, output, row },
         })
     }
 }
@@ -74,24 +69,16 @@ fn lay<S: Source, K: Sink, P: Plugin>(
     requires fresh { AreFresh P.stands_for plugins.old.items }
     requires numbers { StandsFor memory.core start }
     requires slots { vec_len memory.cells ≡ memory.core.plan.buffer }
-    requires none { memory.parts.items ≡ [] }
-    requires room { vec_capacity memory.parts ≡ memory.core.plan.plugins + 2 }
+    requires none { memory.rooms.row.items ≡ [] }
+    requires room { vec_capacity memory.rooms.row ≡ memory.core.plan.plugins + 2 }
     ensures runs { let see = seeing S.seen K.seen P.rule P.stands_for P.steady in
         IsRunning see (began_with see input stuffing plugins.old.items output memory.core.plan)
         result.core result.parts.items result.cells.items }
     ensures none_left { plugins.new.items ≡ [] }
     ensures room_left { vec_capacity plugins.new ≡ vec_capacity plugins.old }
 {
-    let RunMemory {
-        core,
-        cells,
-        input_room,
-        output_room,
-        mut parts,
-    } = memory;
-    parts.push_reserved(StagePart::of_input(input, stuffing, input_room));
-    add_plugins(&mut parts, plugins);
-    parts.push_reserved(StagePart::of_output(output, output_room));
+    let RunMemory { core, cells, rooms } = memory;
+    let parts = lay_stages(rooms, input, stuffing, plugins, output);
     SerialChain { core, parts, cells }
 }
 

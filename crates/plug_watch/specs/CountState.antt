@@ -1,7 +1,8 @@
 -- What a value of `count` keeps. This project's own rule.
-use Rattle.std.specs.Prelude.{◌≡◌, ◌<◌, ◌≤◌, ◌^◌, ℕ, List, length, map, take, drop, Bool, false, if◌then◌else◌}
+use Rattle.std.specs.Prelude.{◌≡◌, ◌<◌, ◌≤◌, ℕ, List, length, map, take, drop, Bool, false, if◌then◌else◌}
 use Rattle.std.specs.List.{All}
 use Rattle.ts_packet.specs.declared.cell.Cell.{Cell}
+use Rattle.chain_model.specs.declared.positions.TheConstants.{POSITION_LIMIT}
 use Rattle.ts_packet.specs.Header.{pid_of}
 use Rattle.ts_packet.specs.declared.numbers.TheConstants.{PID_COUNT}
 use Rattle.plug_watch.specs.declared.count_conf.CountConf.{CountConf}
@@ -17,7 +18,7 @@ pub record CountsFrom (conf : CountConf) (notes : List Note) (counts : List ℕ)
   pub kept : notes ≡ notes_after (note_on conf) (take from history) (drop from history)
   pub on_pids : All (λ note. note.pid < PID_COUNT) notes
   pub within : from ≤ length history
-  pub short : length history ≤ 2 ^ 60
+  pub short : length history ≤ POSITION_LIMIT
 
 -- with `all` nothing is in the numbers before the end, for each packet has its line then
 abbrev pub tallied_to : Bool → ℕ → ℕ

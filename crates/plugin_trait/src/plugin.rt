@@ -9,7 +9,7 @@ use ts_packet::Cell;
 /// it was told. It is a relation, since the value keeps less than the list: a call asks for one list
 /// and mark that the value stands for, and what it promises holds for each.
 pub trait Plugin {
-    ghost use Rattle.std.specs.Prelude.{◌≡◌, ◌≢◌, ◌<◌, ◌+◌, ◌^◌, ◌≤◌, ℕ, List, [], ◌++◌, Bool, true, false, Option, Some, IsOk, IfOk, IsSome, is_some, take, drop, length};
+    ghost use Rattle.std.specs.Prelude.{◌≡◌, ◌≢◌, ◌<◌, ◌+◌, ◌≤◌, ℕ, List, [], ◌++◌, Bool, true, false, Option, Some, IsOk, IfOk, IsSome, is_some, take, drop, length};
     ghost use Rattle.ts_packet.specs.declared.cell.Cell.{Cell};
     ghost use Rattle.chain_model.specs.declared.positions.TheConstants.{POSITION_LIMIT};
     ghost use Rattle.chain_model.specs.Apply.{apply_after};
@@ -36,7 +36,7 @@ pub trait Plugin {
     /// the cell is as it was, and the plugin stands for what it stood for.
     fn step(&mut self, at: u64, cell: &mut Cell) -> Outcome
         requires met { MeetsCells (stands_for self.old) at }
-        requires in_range { at < 2 ^ 60 }
+        requires in_range { at < POSITION_LIMIT }
         ensures tells { Tells (rule self.old) (stands_for self.old) at cell.old result cell.new }
         ensures dropped { cell.old ≡ Cell.Dropped → result ≡ Outcome.Pass }
         ensures meets { Meets (stands_for self.old) (stands_for self.new) at cell.old result }

@@ -32,7 +32,7 @@ use Rattle.window_ring.specs.Closing.{IsWhole, ClosedOf}
 use Rattle.window_ring.specs.OneRun.{HasKept}
 use Rattle.window_ring.proofs.Since.{stage_stays}
 use Rattle.thread_run.specs.Standing.{key_at, Over}
-use Rattle.thread_run.specs.Over.{IsOverAt, AreOver}
+use Rattle.thread_run.specs.Over.{EndsAt, AllHaveEnded}
 use Rattle.thread_run.proofs.TurnLemmas.{grows_over, more_over}
 
 -- a number of a stage, whatever number is given
@@ -60,7 +60,7 @@ some-of : {X : Type 0} (xs : List X) → 0 < length xs → X
 some-of [] lt = absurd (omega arith)
 some-of (x ∷ xs) lt = x
 
-module _ {S K P : Type 0} (see : Seeing S K P) (begun : RunStart S K) (base : Ptr) (table : TableId) (seats : List StageSeat) (parts : List (StagePart S K P)) (are : AreOver see begun base table seats parts) where
+module _ {S K P : Type 0} (see : Seeing S K P) (begun : RunStart S K) (base : Ptr) (table : TableId) (seats : List StageSeat) (parts : List (StagePart S K P)) (are : AllHaveEnded see begun base table seats parts) where
   abbrev plan : CorePlan
   plan = begun.plan
 
@@ -87,7 +87,7 @@ module _ {S K P : Type 0} (see : Seeing S K P) (begun : RunStart S K) (base : Pt
     seen k = seen_of (slice_index_or seats k seat0)
 
     module _ (k : ℕ) (le : k ≤ suc plan.plugins) where
-      at : IsOverAt see begun base table k (slice_index_or seats k seat0) (part k)
+      at : EndsAt see begun base table k (slice_index_or seats k seat0) (part k)
       at = are.over k seat0 part0 le
 
       abbrev own : Over see begun k (seen k) (part k)

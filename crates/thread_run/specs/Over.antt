@@ -11,14 +11,14 @@ use Rattle.thread_run.specs.Standing.{IsOver}
 
 module _ {S K P : Type 0} (see : Seeing S K P) (begun : RunStart S K) (base : Ptr) (table : TableId) where
   -- the seat and the part of stage `k`, which has ended
-  pub record IsOverAt (k : ℕ) (seat : StageSeat) (part : StagePart S K P) : Type 0 where
+  pub record EndsAt (k : ℕ) (seat : StageSeat) (part : StagePart S K P) : Type 0 where
     pub stage : seat.stage ≡ k
     pub over : IsOver see begun base table seat part
 
   -- the seats and the parts of all stages, which have ended
-  pub record AreOver (seats : List StageSeat) (parts : List (StagePart S K P)) : Type 0 where
+  pub record AllHaveEnded (seats : List StageSeat) (parts : List (StagePart S K P)) : Type 0 where
     pub run : IsLawfulRun begun
     pub seats_are : length seats ≡ begun.plan.plugins + 2
     pub parts_are : length parts ≡ begun.plan.plugins + 2
     pub over : (k : ℕ) (d : StageSeat) (e : StagePart S K P) → k ≤ suc begun.plan.plugins
-        → IsOverAt k (slice_index_or seats k d) (slice_index_or parts k e)
+        → EndsAt k (slice_index_or seats k d) (slice_index_or parts k e)

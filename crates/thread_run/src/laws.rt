@@ -10,7 +10,7 @@ ghost use Rattle.chain_run.specs.Ran.{HasClosed};
 ghost use Rattle.window_ring.specs.declared.stage_seat.StageSeat.{StageSeat};
 ghost use Rattle.window_ring.specs.Closing.{IsWhole, ClosedOf};
 ghost use Rattle.thread_run.specs.Standing.{key_at};
-ghost use Rattle.thread_run.specs.Over.{AreOver};
+ghost use Rattle.thread_run.specs.Over.{AllHaveEnded};
 
 pub(crate) use chain_run::machine_laws;
 use plugin_trait::Plugin;
@@ -23,12 +23,12 @@ use window_ring::one_run;
 pub fn together<S: Source, K: Sink, P: Plugin>()
     ensures whole { (begun : RunStart S K) (base : Ptr) (table : TableId) (seats : List StageSeat)
         (parts : List (StagePart S K P))
-        → AreOver (seeing S.seen K.seen P.rule P.stands_for P.steady) begun base table seats parts
+        → AllHaveEnded (seeing S.seen K.seen P.rule P.stands_for P.steady) begun base table seats parts
         → IsWhole (key_at begun base) table seats }
     ensures closed { (begun : RunStart S K) (base : Ptr) (table : TableId) (seats : List StageSeat)
         (parts : List (StagePart S K P)) (closed : Closed)
         → let see = seeing S.seen K.seen P.rule P.stands_for P.steady in
-        AreOver see begun base table seats parts → ClosedOf (key_at begun base) seats closed
+        AllHaveEnded see begun base table seats parts → ClosedOf (key_at begun base) seats closed
         → HasClosed see begun parts closed }
 {
     machine_laws();
