@@ -1,8 +1,8 @@
 //! Sections in, tables out.
 
-ghost use Rattle.std.specs.Prelude.{◌≡◌, ℕ, ◌++◌, ◌∷◌, [], List, Some, true, false, IfOk, IfSome, IfNone, OnOk, OnErr, IsErr};
+ghost use Rattle.std.specs.Prelude.{◌≡◌, ℕ, ◌++◌, ◌∷◌, [], List, Some, true, false, IfOk, OnOk, OnErr, IsErr};
 ghost use Rattle.indexmap.specs.IndexMap.{get};
-ghost use Rattle.ts_section.specs.SectionFields.{number_of, version_of, last_number_of, head_fields};
+ghost use Rattle.ts_section.specs.SectionFields.{number_of, version_of, last_number_of};
 ghost use Rattle.ts_section.specs.SectionRun.{stands_alone};
 ghost use Rattle.ts_demux.specs.Keys.{key_eq};
 ghost use Rattle.ts_demux.specs.declared.table_key.TableKey.{TableKey};
@@ -11,7 +11,7 @@ ghost use Rattle.std.specs.Option.{option_copied, option_to_list};
 ghost use Rattle.ts_demux.specs.Tables.{completed};
 
 use crate::era::Era;
-use crate::table_key::TableKey;
+use crate::table_key::{TableKey, head_of_many};
 use indexmap::IndexMap;
 use std::alloc::{AllocError, Global};
 use ts_section::{LongHead, Section, TableRun};
@@ -128,17 +128,6 @@ fn table_alone(alloc: Global, section: Section) -> Result<Option<TableRun>, Allo
     let mut sections = Vec::with_capacity(alloc, 1)?;
     sections.push(section)?;
     Ok(TableRun::of(sections).ok())
-}
-
-/// The head of a section that is no table by itself.
-fn head_of_many(section: &Section) -> Option<LongHead>
-    ensures alone { IfNone result (stands_alone section.now ≡ true) }
-    ensures together { IfSome result (λ head. stands_alone section.now ≡ false) }
-    ensures head { IfSome result (λ head. head ≡ head_fields section.now) }
-{
-    section
-        .head()
-        .filter(|head| head.table_id < 0x4E || 0x6F < head.table_id)
 }
 
 /// Whether a section with this head goes on with the era of its key.

@@ -11,6 +11,7 @@ mod table_key;
 
 pub use assembly::Assembly;
 pub use demux::Demux;
+pub use table_key::TableKey;
 
 #[cfg(test)]
 mod tests;

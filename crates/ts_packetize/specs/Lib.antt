@@ -1,3 +1,4 @@
 pub mod Packing
 pub mod Packets
 pub mod Cycle
+pub mod Ordinals

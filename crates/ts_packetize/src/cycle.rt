@@ -1,6 +1,6 @@
 //! Packets given in cycles.
 
-ghost use Rattle.std.specs.Prelude.{◌≡◌, ◌<◌, [], IfOk, IfNone, OnOk, OnErr};
+ghost use Rattle.std.specs.Prelude.{◌≡◌, ◌<◌, [], false, length, IsTrue, IfOk, IfNone, OnOk, OnErr};
 ghost use Rattle.ts_packet.specs.Header.{with_counter};
 ghost use Rattle.ts_packetize.specs.Packets.{packets_of};
 ghost use Rattle.ts_packetize.specs.Cycle.{due, GivesNext};
@@ -58,6 +58,14 @@ impl Cycle {
         let list = packets(alloc, self.pid, sections.as_slice())?;
         self.renewed = Some(list);
         Ok(())
+    }
+
+    /// Whether a new cycle would begin with the next packet.
+    pub fn is_over(&self) -> bool
+        ensures over { IsTrue result → self.now.left ≡ [] }
+        ensures runs { result ≡ false → 0 < length self.now.left }
+    {
+        self.place >= self.current.as_slice().len()
     }
 
     /// The next packet, with this counter, below 16; none exactly where a new cycle would begin and the contents
