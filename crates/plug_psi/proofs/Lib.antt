@@ -1,0 +1,6 @@
+pub mod Choice
+pub mod ContentsLemmas
+pub mod EditedLemmas
+pub mod EditorLemmas
+pub mod LastTableLemmas
+pub mod OrdinalLemmas
