@@ -2,7 +2,6 @@
 use Rattle.std.proofs.Common.{◌≡◌, ℕ, true, false, ◌&&◌, ◌==◌, List, [], ◌∷◌, ◌++◌, Option, Some, None, refl, sym, ◌∙◌, ap, subst, inl, inr, arith, append_assoc, append-nil}
 use Rattle.std.specs.Option.{option_to_list}
 use Rattle.std.proofs.lemmas.Bool.Decides.{nat_tests}
-use Rattle.indexmap.specs.IndexMap.{get}
 use Rattle.ts_section.specs.SectionFields.{version_of, last_number_of, head_fields}
 use Rattle.ts_section.specs.declared.long_head.LongHead.{LongHead}
 use Rattle.ts_section.specs.SectionRun.{stands_alone}
@@ -11,10 +10,9 @@ use Rattle.ts_demux.proofs.ErasLemmas.{era_of-other, era_of-on, era_of-new, era_
 use Rattle.ts_demux.specs.Tables.{same_key, same_era, era_of, completed, table_at, tables_behind, tables_of}
 use Rattle.ts_demux.specs.Keys.{key_of, key_eq}
 use Rattle.ts_demux.specs.Era.{IsEra, EntryStands, HasEra, EraStands}
-use Rattle.ts_demux.specs.AssemblyState.{StandsFor}
+use Rattle.ts_demux.specs.AssemblyState.{AssemblyState, StandsFor, era_at}
 use Rattle.ts_demux.specs.declared.era.Era.{Era}
 use Rattle.ts_demux.specs.declared.table_key.TableKey.{TableKey}
-use Rattle.ts_demux.specs.declared.assembly.Assembly.{Assembly}
 
 pub table_at-alone : (before : List (List ℕ)) (s : List ℕ) → stands_alone s ≡ true → table_at before s ≡ Some (s ∷ [])
 unfolding table_at
@@ -26,11 +24,11 @@ table_at-together before s e = if_false (stands_alone s) (Some (s ∷ [])) (comp
 
 -- a section that is a table by itself changes nothing
 pub stands-alone :
-    (a : Assembly) (before : List (List ℕ)) (x : List ℕ) → stands_alone x ≡ true → StandsFor a before → StandsFor a (before ++ x ∷ [])
+    (a : AssemblyState) (before : List (List ℕ)) (x : List ℕ) → stands_alone x ≡ true → StandsFor a before → StandsFor a (before ++ x ∷ [])
 stands-alone a before x e h =
     record {
       working = h.working;
-      entries = λ s t. subst (λ era. EntryStands (get key_eq a.eras (key_of s)) (version_of s) (last_number_of s) era) (sym (era_of-other before s x (alone_has_no_key s x e))) (h.entries s t);
+      entries = λ s t. subst (λ era. EntryStands (era_at a (key_of s)) (version_of s) (last_number_of s) era) (sym (era_of-other before s x (alone_has_no_key s x e))) (h.entries s t);
     }
 
 -- the entry of the key of x, after x, for a section s of that key
@@ -54,51 +52,51 @@ entry_after (Some era) before s x k has stands = (
     same_numbers a b c d p q = grind (arith, nat_tests)
 
 pub stands-together :
-    (old new : Assembly) (before : List (List ℕ)) (x : List ℕ) → stands_alone x ≡ false → new.failed ≡ old.failed →
-    HasEra (get key_eq new.eras (key_of x)) (version_of x) (last_number_of x) →
-    EraStands (get key_eq new.eras (key_of x)) (era_of before x ++ x ∷ []) →
-    ((other : TableKey) → key_eq (key_of x) other ≡ false → get key_eq new.eras other ≡ get key_eq old.eras other) →
+    (old new : AssemblyState) (before : List (List ℕ)) (x : List ℕ) → stands_alone x ≡ false → new.failed ≡ old.failed →
+    HasEra (era_at new (key_of x)) (version_of x) (last_number_of x) →
+    EraStands (era_at new (key_of x)) (era_of before x ++ x ∷ []) →
+    ((other : TableKey) → key_eq (key_of x) other ≡ false → era_at new other ≡ era_at old other) →
     StandsFor old before → StandsFor new (before ++ x ∷ [])
 stands-together old new before x alone same has stands others h =
     record {
       working = same ∙ h.working;
       entries = λ s t.
-          elim (true_or_false (same_key s x)) as (λ _. EntryStands (get key_eq new.eras (key_of s)) (version_of s) (last_number_of s) (era_of (before ++ x ∷ []) s)) [
+          elim (true_or_false (same_key s x)) as (λ _. EntryStands (era_at new (key_of s)) (version_of s) (last_number_of s) (era_of (before ++ x ∷ []) s)) [
             | inl k ↦
-                (subst (λ key. EntryStands (get key_eq new.eras key) (version_of s) (last_number_of s) (era_of (before ++ x ∷ []) s)) (equal_keys s x k)
-                (entry_after (get key_eq new.eras (key_of x)) before s x k has stands))
+                (subst (λ key. EntryStands (era_at new key) (version_of s) (last_number_of s) (era_of (before ++ x ∷ []) s)) (equal_keys s x k)
+                (entry_after (era_at new (key_of x)) before s x k has stands))
             | inr k ↦
                 (subst (λ o. EntryStands o (version_of s) (last_number_of s) (era_of (before ++ x ∷ []) s)) (sym (others (key_of s) (other_key s x alone k)))
-                (subst (λ era. EntryStands (get key_eq old.eras (key_of s)) (version_of s) (last_number_of s) era) (sym (era_of-other before s x k)) (h.entries s t)))
+                (subst (λ era. EntryStands (era_at old (key_of s)) (version_of s) (last_number_of s) era) (sym (era_of-other before s x k)) (h.entries s t)))
           ];
     }
 
 -- the entry under the key of a section stands for the era that the section would go on with
 pub entry_at :
-    (old : Assembly) (before : List (List ℕ)) (x : List ℕ) (key : TableKey) (head : LongHead) → key ≡ key_of x → head ≡ head_fields x →
-    stands_alone x ≡ false → StandsFor old before → EntryStands (get key_eq old.eras key) head.version head.last (era_of before x)
+    (old : AssemblyState) (before : List (List ℕ)) (x : List ℕ) (key : TableKey) (head : LongHead) → key ≡ key_of x → head ≡ head_fields x →
+    stands_alone x ≡ false → StandsFor old before → EntryStands (era_at old key) head.version head.last (era_of before x)
 entry_at old before x key head k h alone stands =
-    subst (λ t. EntryStands (get key_eq old.eras t) head.version head.last (era_of before x)) (sym k)
-    (subst (λ t. EntryStands (get key_eq old.eras (key_of x)) t.version t.last (era_of before x)) (sym h) (stands.entries x alone))
+    subst (λ t. EntryStands (era_at old t) head.version head.last (era_of before x)) (sym k)
+    (subst (λ t. EntryStands (era_at old (key_of x)) t.version t.last (era_of before x)) (sym h) (stands.entries x alone))
 
 pub stands-together_at :
-    (old new : Assembly) (before : List (List ℕ)) (x : List ℕ) (key : TableKey) → key ≡ key_of x → stands_alone x ≡ false → new.failed ≡ old.failed →
-    HasEra (get key_eq new.eras key) (version_of x) (last_number_of x) →
-    EraStands (get key_eq new.eras key) (era_of before x ++ x ∷ []) →
-    ((other : TableKey) → key_eq key other ≡ false → get key_eq new.eras other ≡ get key_eq old.eras other) →
+    (old new : AssemblyState) (before : List (List ℕ)) (x : List ℕ) (key : TableKey) → key ≡ key_of x → stands_alone x ≡ false → new.failed ≡ old.failed →
+    HasEra (era_at new key) (version_of x) (last_number_of x) →
+    EraStands (era_at new key) (era_of before x ++ x ∷ []) →
+    ((other : TableKey) → key_eq key other ≡ false → era_at new other ≡ era_at old other) →
     StandsFor old before → StandsFor new (before ++ x ∷ [])
 stands-together_at old new before x key k alone same has stands others h =
     stands-together old new before x alone same
-    (subst (λ t. HasEra (get key_eq new.eras t) (version_of x) (last_number_of x)) k has)
-    (subst (λ t. EraStands (get key_eq new.eras t) (era_of before x ++ x ∷ [])) k stands)
-    (subst (λ t. (other : TableKey) → key_eq t other ≡ false → get key_eq new.eras other ≡ get key_eq old.eras other) k others)
+    (subst (λ t. HasEra (era_at new t) (version_of x) (last_number_of x)) k has)
+    (subst (λ t. EraStands (era_at new t) (era_of before x ++ x ∷ [])) k stands)
+    (subst (λ t. (other : TableKey) → key_eq t other ≡ false → era_at new other ≡ era_at old other) k others)
     h
 
 nothing_before : (s : List ℕ) → era_of [] s ≡ []
 unfolding era_of
 nothing_before s = refl
 
-pub stands-fresh : (a : Assembly) → a.failed ≡ false → ((key : TableKey) → get key_eq a.eras key ≡ None) → StandsFor a []
+pub stands-fresh : (a : AssemblyState) → a.failed ≡ false → ((key : TableKey) → era_at a key ≡ None) → StandsFor a []
 stands-fresh a f empty =
     record {
       working = f;

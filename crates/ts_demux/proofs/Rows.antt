@@ -1,5 +1,5 @@
 -- Worked rows: the definitions computed on short sections over two packets.
-use Rattle.std.proofs.Common.{◌≡◌, ℕ, true, false, List, [], ◌∷◌, refl}
+use Rattle.std.proofs.Common.{◌≡◌, ℕ, true, false, [], ◌∷◌, refl}
 use Rattle.bit_rows.specs.BitRow.{bit_of, field}
 use Rattle.ts_section.specs.FirstBroken.{first_broken}
 use Rattle.ts_demux.specs.Part.{Part}

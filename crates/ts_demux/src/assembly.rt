@@ -14,6 +14,7 @@ use crate::era::Era;
 use crate::table_key::{TableKey, head_of_many};
 use indexmap::IndexMap;
 use std::alloc::{AllocError, Global};
+use std::marker::Model;
 use ts_section::{LongHead, Section, TableRun};
 
 /// The eras of the keys, in the order in which the keys were first seen.
@@ -23,15 +24,25 @@ type Eras = IndexMap<TableKey, Era>;
 /// sections of a table_id, an extension and a current flag fall into eras, and a new era begins where the version
 /// or the last number changes. An era's table is given once, at the first section after which each number from
 /// 0 to the last was seen, and has the first section of each number.
+///
+/// Clauses see the last era of each key, and whether memory was wanting.
 #[derive(Drop)]
 pub struct Assembly {
     eras: Eras,
     failed: bool,
 }
 
+impl Model for Assembly {
+    ghost use Rattle.ts_demux.specs.AssemblyState.{AssemblyState};
+
+    ghost Value = { AssemblyState };
+
+    ghost view = { λ a. record { eras = a.eras.entries; failed = a.failed } };
+}
+
 impl Assembly {
     ghost use Rattle.ts_demux.specs.Tables.{table_at, tables_of};
-    ghost use Rattle.ts_demux.specs.AssemblyState.{StandsFor, has_failed};
+    ghost use Rattle.ts_demux.specs.AssemblyState.{StandsFor};
 
     /// An assembly that was given nothing.
     pub fn new(alloc: Global) -> Result<Assembly, AllocError>
@@ -50,8 +61,8 @@ impl Assembly {
         ensures tables { IfOk result (λ table. (before : List (List ℕ)) → StandsFor self.old before →
             tables_of (before ++ section ∷ []) ≡ tables_of before ++ option_to_list table) }
         ensures stands { OnOk result ((before : List (List ℕ)) → StandsFor self.old before → StandsFor self.new (before ++ section ∷ [])) }
-        ensures spent { OnErr result (has_failed self.new ≡ true) }
-        ensures stays_spent { has_failed self.old ≡ true → IsErr result }
+        ensures spent { OnErr result (self.new.failed ≡ true) }
+        ensures stays_spent { self.old.failed ≡ true → IsErr result }
     {
         if self.failed {
             return Err(AllocError);

@@ -1,17 +1,16 @@
 -- The sections of the packets of some sections are the sections again.
-use Rattle.std.proofs.Common.{◌≡◌, ◌≢◌, ℕ, ◌+◌, ◌-◌, ◌*◌, ◌%◌, ◌<◌, ◌≤◌, Bool, true, false, not, ◌&&◌, ◌==◌, nat_le, List, [], ◌∷◌, ◌++◌, length, take, drop, replicate, zero, suc, Option, Some, None, is_none, refl, sym, ◌∙◌, ap, arith, append_assoc, append-nil, length-drop, filter, All, inl, inr, ◌⊎◌, cond}
-use Rattle.std.specs.Prelude.{if◌then◌else◌}
-use Rattle.std.specs.List.{flat_map}
+use Rattle.std.proofs.Common.{◌≡◌, ◌≢◌, ℕ, ◌+◌, ◌-◌, ◌%◌, ◌<◌, ◌≤◌, Bool, true, false, not, ◌&&◌, ◌==◌, nat_le, List, [], ◌∷◌, ◌++◌, length, take, drop, replicate, zero, suc, Option, Some, None, is_none, refl, sym, ◌∙◌, ap, arith, append_assoc, append-nil, length-take, length-append, filter, inl, inr, subst}
+use Rattle.std.specs.List.{flat_map, AllByRecursion}
 use Rattle.std.proofs.lemmas.Bool.Decides.{nat_tests, leb_tells}
-use Rattle.std.proofs.lemmas.List.{take_all, take-append-drop, length-replicate}
-use Rattle.std.proofs.lemmas.List.Elements.{All-head, All-tail}
+use Rattle.std.proofs.lemmas.List.{take_all, take-append-drop, take-take, length-replicate, replicate-append-replicate}
 use Rattle.std.proofs.Math.ListN.{drop_of_length-le}
+use Rattle.std.proofs.Math.Seq.{take-append_seam, take-append-add}
 use Rattle.bit_rows.specs.BitRow.{bit_of, field}
 use Rattle.ts_section.specs.SectionFields.{table_id_of}
 use Rattle.ts_section.specs.LawfulSection.{IsSection}
 use Rattle.ts_section.specs.FirstBroken.{is_section}
 use Rattle.ts_section.proofs.RuleLemmas.{none_from_lawful}
-use Rattle.ts_demux.specs.Part.{Part, body_of, pointer_of, is_lawless, repeats, without_repeats}
+use Rattle.ts_demux.specs.Part.{Part, pointer_of, is_lawless, repeats, without_repeats}
 use Rattle.ts_demux.specs.ContinuousRuns.{goes_on}
 use Rattle.ts_demux.specs.Cut.{size_in_front, is_whole_in_front}
 use Rattle.ts_demux.specs.SectionsOfParts.{sections_in, sections_of_parts}
@@ -20,10 +19,12 @@ use Rattle.ts_demux.proofs.Choice.{if_true, if_false}
 use Rattle.ts_demux.proofs.Cutting.{IsWhole-to, sections_in-step, sections_in-stop, short_is_not_whole, over_is_not_whole}
 use Rattle.ts_demux.proofs.Runs.{following, following-plain, following-unit, following-stops, all_stretches-plain, all_stretches-unit}
 use Rattle.ts_demux.proofs.Remembering.{sections_left}
-use Rattle.ts_packetize.specs.Packing.{Load, filled, loads_behind, loads_of, packed}
-use Rattle.ts_packetize.specs.Packets.{packets_of, counted_from}
-use Rattle.ts_packetize.proofs.Filling.{le_or_lt, loads_behind-nil}
+use Rattle.ts_packetize.specs.Packing.{Load, filled, joined, missing, not_begun, goes_on_alone, next_step, is_done, pack, packed}
+use Rattle.ts_packetize.specs.Packets.{packets_of}
+use Rattle.ts_packetize.specs.Begun.{begun, begun_by}
+use Rattle.ts_packetize.proofs.Filling.{le_or_lt, filled_few, filled_many}
 use Rattle.ts_packetize.proofs.HeaderFields.{part_with, parts_from, counted-packets}
+use Rattle.ts_packetize.proofs.Laying.{lays_out, step-alone, step-begins, pack-done, pack-next, done_says, not_alone, step-sections, step-shorter}
 
 next_is_other : (c : ℕ) → c < 16 → (c == (c + 1) % 16) ≡ false
 next_is_other c h = grind (arith, nat_tests)
@@ -50,14 +51,6 @@ abbrev counter_behind : ℕ → List Load → ℕ
 counter_behind c [] = c
 counter_behind c (load ∷ loads) = counter_behind ((c + 1) % 16) loads
 
-abbrev AllPlain : List Load → Type 0
-AllPlain [] = Unit {0}
-AllPlain (load ∷ loads) = (load.unit_start ≡ false) × AllPlain loads
-
-joined_loads : List Load → List ℕ
-joined_loads [] = []
-joined_loads (load ∷ loads) = load.payload ++ joined_loads loads
-
 plain_part_is_lawful : (c : ℕ) (load : Load) → load.unit_start ≡ false → is_lawless (part_with c load) ≡ false
 plain_part_is_lawful c load e = ap (λ b. b && nat_le (length load.payload) (pointer_of (part_with c load))) e
 
@@ -67,117 +60,38 @@ same_counter n = grind (arith, nat_tests)
 goes_on-next : (c : ℕ) (load : Load) (ps : List Part) → is_lawless (part_with ((c + 1) % 16) load) ≡ false → goes_on c (part_with ((c + 1) % 16) load ∷ ps) ≡ true
 goes_on-next c load ps e = ap (λ b. not b && ((c + 1) % 16 == (c + 1) % 16)) e ∙ same_counter ((c + 1) % 16)
 
--- loads without unit start begin no stretch
-left_from-plain : (c : ℕ) (xs ys : List Load) → AllPlain xs → left_from c (xs ++ ys) ≡ left_from (counter_behind c xs) ys
-left_from-plain c [] ys plain = refl
-left_from-plain c (x ∷ xs) ys plain =
-    ap (flat_map sections_in) (all_stretches-plain (part_with c x) (parts_from ((c + 1) % 16) (xs ++ ys)) (plain_part_is_lawful c x plain.0) plain.0)
-    ∙ left_from-plain ((c + 1) % 16) xs ys plain.1
+-- a load with unit start whose pointer points into it
+abbrev unit_load : ℕ → List ℕ → Load
+unit_load pointer bytes = record { unit_start = true; payload = pointer ∷ bytes }
 
--- and go on with what was begun
-on_from-plain : (c : ℕ) (xs ys : List Load) → AllPlain xs → on_from c (xs ++ ys) ≡ joined_loads xs ++ on_from (counter_behind c xs) ys
-unfolding joined_loads
-on_from-plain c [] ys plain = refl
-on_from-plain c (x ∷ xs) ys plain =
-    let next = (c + 1) % 16 in
-    let lawful = plain_part_is_lawful next x plain.0 in
-    let rest = parts_from ((next + 1) % 16) (xs ++ ys) in
-    let body : body_of (part_with next x) ≡ x.payload = if_false x.unit_start (drop 1 x.payload) x.payload plain.0 in
-    following-plain c (part_with next x) rest (goes_on-next c x rest lawful) lawful plain.0
-    ∙ ap (λ t. t ++ on_from next (xs ++ ys)) body
-    ∙ ap (λ t. x.payload ++ t) (on_from-plain next xs ys plain.1)
-    ∙ sym (append_assoc x.payload (joined_loads xs) (on_from (counter_behind next xs) ys))
+unit_is_lawful : (c pointer : ℕ) (bytes : List ℕ) → pointer ≤ length bytes → is_lawless (part_with c (unit_load pointer bytes)) ≡ false
+unit_is_lawful c pointer bytes h = elim (leb_tells (suc (length bytes)) pointer) as (λ _. nat_le (suc (length bytes)) pointer ≡ false) [ inl w ↦ absurd (omega (arith, w.1, h)) | inr w ↦ w.0 ]
 
-AllPlain-behind : (n : ℕ) (bytes : List ℕ) → AllPlain (loads_behind n bytes)
-unfolding loads_behind
-AllPlain-behind zero bytes = tt
-AllPlain-behind (suc n) [] = tt
-AllPlain-behind (suc n) (b ∷ bytes) = (refl, AllPlain-behind n (drop 184 (b ∷ bytes)))
+left_from-unit :
+    (c pointer : ℕ) (bytes : List ℕ) (xs : List Load) → pointer ≤ length bytes →
+    left_from c (unit_load pointer bytes ∷ xs) ≡ sections_in (drop pointer bytes ++ on_from c xs) ++ left_from ((c + 1) % 16) xs
+left_from-unit c pointer bytes xs h =
+    ap (flat_map sections_in) (all_stretches-unit (part_with c (unit_load pointer bytes)) (parts_from ((c + 1) % 16) xs) (unit_is_lawful c pointer bytes h) refl h)
 
--- a load with unit start, pointer 0 and some bytes
-abbrev begun : List ℕ → Load
-begun bytes = record { unit_start = true; payload = 0 ∷ bytes }
-
-longer_than_none : (n : ℕ) → nat_le (suc n) 0 ≡ false
-longer_than_none n = elim (leb_tells (suc n) 0) as (λ _. nat_le (suc n) 0 ≡ false) [ inl h ↦ absurd (omega (arith, h.1)) | inr h ↦ h.0 ]
-
-left_from-begun : (c : ℕ) (bytes : List ℕ) (xs : List Load) → left_from c (begun bytes ∷ xs) ≡ sections_in (bytes ++ on_from c xs) ++ left_from ((c + 1) % 16) xs
-left_from-begun c bytes xs =
-    ap (flat_map sections_in) (all_stretches-unit (part_with c (begun bytes)) (parts_from ((c + 1) % 16) xs) (longer_than_none (length bytes)) refl (omega arith))
-
-on_from-begun : (c : ℕ) (bytes : List ℕ) (xs : List Load) → on_from c (begun bytes ∷ xs) ≡ []
-on_from-begun c bytes xs =
+on_from-unit : (c pointer : ℕ) (bytes : List ℕ) (xs : List Load) → pointer ≤ length bytes → on_from c (unit_load pointer bytes ∷ xs) ≡ take pointer bytes
+on_from-unit c pointer bytes xs h =
     let next = (c + 1) % 16 in
     let rest = parts_from ((next + 1) % 16) xs in
-    following-unit c (part_with next (begun bytes)) rest (goes_on-next c (begun bytes) rest (longer_than_none (length bytes))) (longer_than_none (length bytes)) refl (omega arith)
+    following-unit c (part_with next (unit_load pointer bytes)) rest (goes_on-next c (unit_load pointer bytes) rest (unit_is_lawful next pointer bytes h)) (unit_is_lawful next pointer bytes h) refl h
 
--- the bytes of a section in its first load
-first_bytes : List ℕ → List ℕ
-first_bytes section = take 183 section ++ replicate (184 - suc (length section)) 0xFF
+-- and one without
+abbrev plain_load : List ℕ → Load
+plain_load bytes = record { unit_start = false; payload = bytes }
 
-loads_of-begun : (section : List ℕ) → loads_of section ≡ begun (first_bytes section) ∷ loads_behind (length section) (drop 183 section)
-unfolding loads_of first_bytes
-loads_of-begun section = refl
+left_from-plain : (c : ℕ) (bytes : List ℕ) (xs : List Load) → left_from c (plain_load bytes ∷ xs) ≡ left_from ((c + 1) % 16) xs
+left_from-plain c bytes xs =
+    ap (flat_map sections_in) (all_stretches-plain (part_with c (plain_load bytes)) (parts_from ((c + 1) % 16) xs) refl refl)
 
-on_from-packed : (c : ℕ) (sections : List (List ℕ)) → on_from c (packed sections) ≡ []
-on_from-packed c [] = following-stops c [] refl
-on_from-packed c (s ∷ ss) =
-    ap (λ t. on_from c (t ++ packed ss)) (loads_of-begun s) ∙ on_from-begun c (first_bytes s) (loads_behind (length s) (drop 183 s) ++ packed ss)
-
--- bytes that go on come whole, and fill bytes behind them
-behind_is : (n : ℕ) (bytes : List ℕ) → length bytes ≤ n → (k : ℕ) × (joined_loads (loads_behind n bytes) ≡ bytes ++ replicate k 0xFF)
-unfolding loads_behind joined_loads
-behind_is zero [] h = (0, refl)
-behind_is zero (b ∷ bytes) h = absurd (omega arith)
-behind_is (suc n) [] h = (0, refl)
-behind_is (suc n) (b ∷ bytes) h =
-    let all = b ∷ bytes in
-    let rest = drop 184 all in
-    let l : length rest ≤ n = omega (arith, length-drop 184 all) in
-    let r = behind_is n rest l in
-    elim (le_or_lt 184 (length all)) as (λ _. (k : ℕ) × (joined_loads (loads_behind (suc n) all) ≡ all ++ replicate k 0xFF)) [
-      | inl h ↦
-          (let none : 184 - length all ≡ 0 = omega arith in (
-            r.0,
-            ap (λ k. (take 184 all ++ replicate k 0xFF) ++ joined_loads (loads_behind n rest)) none
-                ∙ ap (λ t. t ++ joined_loads (loads_behind n rest)) (append-nil (take 184 all))
-                ∙ ap (λ t. take 184 all ++ t) r.1
-                ∙ sym (append_assoc (take 184 all) rest (replicate r.0 0xFF))
-                ∙ ap (λ t. t ++ replicate r.0 0xFF) (take-append-drop 184 all),
-          ))
-      | inr h ↦
-          (let nothing : rest ≡ [] = drop_of_length-le all {i = 184} (omega arith) in (
-            184 - length all,
-            ap (λ t. (take 184 all ++ replicate (184 - length all) 0xFF) ++ joined_loads t) (ap (loads_behind n) nothing ∙ loads_behind-nil n)
-                ∙ append-nil (take 184 all ++ replicate (184 - length all) 0xFF)
-                ∙ ap (λ t. t ++ replicate (184 - length all) 0xFF) (take_all 184 all (omega arith)),
-          ))
-    ]
-
--- the stretch of one section: the section, and fill bytes
-stretch_is : (s : List ℕ) → (k : ℕ) × (first_bytes s ++ joined_loads (loads_behind (length s) (drop 183 s)) ≡ s ++ replicate k 0xFF)
-unfolding first_bytes joined_loads
-stretch_is s =
-    let rest = drop 183 s in
-    let r = behind_is (length s) rest (omega (arith, length-drop 183 s)) in
-    elim (le_or_lt 184 (length s)) as (λ _. (k : ℕ) × (first_bytes s ++ joined_loads (loads_behind (length s) rest) ≡ s ++ replicate k 0xFF)) [
-      | inl h ↦
-          (let none : 184 - suc (length s) ≡ 0 = omega arith in (
-            r.0,
-            ap (λ k. (take 183 s ++ replicate k 0xFF) ++ joined_loads (loads_behind (length s) rest)) none
-                ∙ ap (λ t. t ++ joined_loads (loads_behind (length s) rest)) (append-nil (take 183 s))
-                ∙ ap (λ t. take 183 s ++ t) r.1
-                ∙ sym (append_assoc (take 183 s) rest (replicate r.0 0xFF))
-                ∙ ap (λ t. t ++ replicate r.0 0xFF) (take-append-drop 183 s),
-          ))
-      | inr h ↦
-          (let nothing : rest ≡ [] = drop_of_length-le s {i = 183} (omega arith) in (
-            184 - suc (length s),
-            ap (λ t. (take 183 s ++ replicate (184 - suc (length s)) 0xFF) ++ joined_loads t) (ap (loads_behind (length s)) nothing ∙ loads_behind-nil (length s))
-                ∙ append-nil (take 183 s ++ replicate (184 - suc (length s)) 0xFF)
-                ∙ ap (λ t. t ++ replicate (184 - suc (length s)) 0xFF) (take_all 183 s (omega arith)),
-          ))
-    ]
+on_from-plain : (c : ℕ) (bytes : List ℕ) (xs : List Load) → on_from c (plain_load bytes ∷ xs) ≡ bytes ++ on_from ((c + 1) % 16) xs
+on_from-plain c bytes xs =
+    let next = (c + 1) % 16 in
+    let rest = parts_from ((next + 1) % 16) xs in
+    following-plain c (part_with next (plain_load bytes)) rest (goes_on-next c (plain_load bytes) rest refl) refl refl
 
 -- no section comes of fill bytes
 fill_id : (k : ℕ) → table_id_of (replicate (suc k) 0xFF) ≡ 255
@@ -195,42 +109,199 @@ other_number a b h = grind (arith, nat_tests)
 lawful_is_section : (s : List ℕ) → IsSection s → is_section s ≡ true
 lawful_is_section s h = ap is_none (none_from_lawful s h)
 
--- of a section and fill bytes comes the section alone
-section_of_stretch : (s : List ℕ) (k : ℕ) → IsSection s → sections_in (s ++ replicate k 0xFF) ≡ s ∷ []
-section_of_stretch s k h =
+-- of a section, and what is behind it, comes the section first
+section_first : (s more : List ℕ) → IsSection s → sections_in (s ++ more) ≡ s ∷ sections_in more
+section_first s more h =
     let size : size_in_front s ≡ length s = sym h.whole in
     let whole : is_whole_in_front s ≡ true = IsWhole-to s (record { head = omega (arith, h.whole); no_stuffing = other_number (table_id_of s) 255 h.no_stuffing; in_range = h.in_range; there = omega (arith, h.whole) }) in
     let front : take (size_in_front s) s ≡ s = take_all (size_in_front s) s (omega arith) in
     let behind : drop (size_in_front s) s ≡ [] = drop_of_length-le s {i = size_in_front s} (omega arith) in
-    sections_in-step s (replicate k 0xFF) whole
-    ∙ ap (λ t. filter is_section (t ∷ []) ++ sections_in (drop (size_in_front s) s ++ replicate k 0xFF)) front
-    ∙ ap (λ t. filter is_section (s ∷ []) ++ sections_in (t ++ replicate k 0xFF)) behind
-    ∙ ap (λ t. filter is_section (s ∷ []) ++ t) (nothing_of_fill k)
-    ∙ append-nil (filter is_section (s ∷ []))
-    ∙ if_true (is_section s) (s ∷ []) [] (lawful_is_section s h)
+    sections_in-step s more whole
+    ∙ ap (λ t. filter is_section (t ∷ []) ++ sections_in (drop (size_in_front s) s ++ more)) front
+    ∙ ap (λ t. filter is_section (s ∷ []) ++ sections_in (t ++ more)) behind
+    ∙ ap (λ t. t ++ sections_in more) (if_true (is_section s) (s ∷ []) [] (lawful_is_section s h))
 
-left_from-packed : (c : ℕ) (sections : List (List ℕ)) → All (λ s. IsSection s) sections → left_from c (packed sections) ≡ sections
-left_from-packed c [] all = refl
-left_from-packed c (s ∷ ss) all =
-    let first = first_bytes s in
-    let behind = loads_behind (length s) (drop 183 s) in
-    let plain = AllPlain-behind (length s) (drop 183 s) in
-    let stretch = stretch_is s in
-    let lawful = All-head (λ x. IsSection x) s ss all in
+-- of sections and fill bytes come the sections
+sections_first : (ss : List (List ℕ)) (k : ℕ) → AllByRecursion (λ s. IsSection s) ss → sections_in (joined ss ++ replicate k 0xFF) ≡ ss
+sections_first [] k all = nothing_of_fill k
+sections_first (s ∷ ss) k all =
+    ap sections_in (append_assoc s (joined ss) (replicate k 0xFF))
+    ∙ section_first s (joined ss ++ replicate k 0xFF) all.0
+    ∙ ap (λ t. s ∷ t) (sections_first ss k all.1)
+
+all_front : (xs ys : List (List ℕ)) → AllByRecursion (λ s. IsSection s) (xs ++ ys) → AllByRecursion (λ s. IsSection s) xs
+all_front [] ys all = tt
+all_front (x ∷ xs) ys all = (all.0, all_front xs ys all.1)
+
+all_back : (xs ys : List (List ℕ)) → AllByRecursion (λ s. IsSection s) (xs ++ ys) → AllByRecursion (λ s. IsSection s) ys
+all_back [] ys all = all
+all_back (x ∷ xs) ys all = all_back xs ys all.1
+
+-- the load of bytes that go on, and what goes on behind it
+goes_on_with : (rest : List ℕ) (k : ℕ) → (j : ℕ) × (filled rest ++ (drop 184 rest ++ replicate k 0xFF) ≡ rest ++ replicate j 0xFF)
+goes_on_with rest k = elim (le_or_lt 184 (length rest)) as (λ _. (j : ℕ) × (filled rest ++ (drop 184 rest ++ replicate k 0xFF) ≡ rest ++ replicate j 0xFF)) [
+  | inl h ↦ (
+    k,
+    ap (λ t. t ++ (drop 184 rest ++ replicate k 0xFF)) (filled_many rest h)
+        ∙ sym (append_assoc (take 184 rest) (drop 184 rest) (replicate k 0xFF))
+        ∙ ap (λ t. t ++ replicate k 0xFF) (take-append-drop 184 rest),
+  )
+  | inr h ↦ (
+    (184 - length rest) + k,
+    ap (λ t. t ++ (drop 184 rest ++ replicate k 0xFF)) (filled_few rest (omega (arith, h)))
+        ∙ ap (λ t. (rest ++ replicate (184 - length rest) 0xFF) ++ (t ++ replicate k 0xFF)) (drop_of_length-le rest {i = 184} (omega (arith, h)))
+        ∙ append_assoc rest (replicate (184 - length rest) 0xFF) (replicate k 0xFF)
+        ∙ ap (λ t. rest ++ t) (replicate-append-replicate (184 - length rest) k 0xFF),
+  )
+]
+
+-- the bytes behind the pointer of a load that begins sections
+behind_pointer : List ℕ → List (List ℕ) → List ℕ
+behind_pointer rest ss = take (183 - length rest) (joined ss) ++ replicate (184 - suc (length (take 183 (rest ++ joined ss)))) 0xFF
+
+begins_load :
+    (rest : List ℕ) (ss : List (List ℕ)) → length rest < 183 →
+    filled (length rest ∷ take 183 (rest ++ joined ss)) ≡ length rest ∷ (rest ++ behind_pointer rest ss)
+unfolding behind_pointer
+begins_load rest ss h =
+    let k = 184 - suc (length (take 183 (rest ++ joined ss))) in
+    let n : 183 ≡ length rest + (183 - length rest) = omega (arith, h) in
+    ap (λ t. length rest ∷ (t ++ replicate k 0xFF)) (take-take 183 183 (rest ++ joined ss) (omega arith))
+    ∙ ap (λ t. length rest ∷ (t ++ replicate k 0xFF)) (ap (λ m. take m (rest ++ joined ss)) n ∙ take-append-add rest (joined ss) (183 - length rest))
+    ∙ ap (λ t. length rest ∷ t) (append_assoc rest (take (183 - length rest) (joined ss)) (replicate k 0xFF))
+
+drop-seam : (xs ys : List ℕ) → drop (length xs) (xs ++ ys) ≡ ys
+drop-seam [] ys = refl
+drop-seam (x ∷ xs) ys = drop-seam xs ys
+
+fill-count : (rest : List ℕ) (ss : List (List ℕ)) → length rest < 183 → 183 - length rest ≤ length (joined ss) → 184 - suc (length (take 183 (rest ++ joined ss))) ≡ 0
+fill-count rest ss h full = omega (arith, h, full, length-take 183 (rest ++ joined ss), length-append rest (joined ss))
+
+-- of what stands behind the pointer, and what goes on, come the sections that are begun
+begins_sections :
+    (rest : List ℕ) (ss : List (List ℕ)) (j : ℕ) → length rest < 183 → AllByRecursion (λ s. IsSection s) (begun (183 - length rest) ss) →
+    sections_in (behind_pointer rest ss ++ (missing (183 - length rest) ss ++ replicate j 0xFF)) ≡ begun (183 - length rest) ss
+unfolding behind_pointer
+begins_sections rest ss j h all =
+    let room = 183 - length rest in
+    let front = take room (joined ss) in
+    let k = 184 - suc (length (take 183 (rest ++ joined ss))) in
+    let out = lays_out room ss in
+    elim (le_or_lt room (length (joined ss))) as (λ _. sections_in ((front ++ replicate k 0xFF) ++ (missing room ss ++ replicate j 0xFF)) ≡ begun room ss) [
+      | inl full ↦
+          ap (λ n. sections_in ((front ++ replicate n 0xFF) ++ (missing room ss ++ replicate j 0xFF))) (fill-count rest ss h full)
+          ∙ ap (λ t. sections_in (t ++ (missing room ss ++ replicate j 0xFF))) (append-nil front)
+          ∙ ap sections_in (sym (append_assoc front (missing room ss) (replicate j 0xFF)))
+          ∙ ap (λ t. sections_in (t ++ replicate j 0xFF)) out.bytes
+          ∙ sections_first (begun room ss) j all
+      | inr few ↦
+          ap (λ t. sections_in ((front ++ replicate k 0xFF) ++ (t ++ replicate j 0xFF))) (out.room_left few)
+          ∙ ap sections_in (append_assoc front (replicate k 0xFF) (replicate j 0xFF))
+          ∙ ap (λ t. sections_in (front ++ t)) (replicate-append-replicate k j 0xFF)
+          ∙ ap (λ t. sections_in (t ++ replicate (k + j) 0xFF)) (sym (append-nil front) ∙ ap (λ t. front ++ t) (sym (out.room_left few)) ∙ out.bytes)
+          ∙ sections_first (begun room ss) (k + j) all
+    ]
+
+-- what goes on behind a counter, and which sections are begun from there on
+abbrev Packed : ℕ → List Load → List ℕ → List (List ℕ) → Type 0
+Packed c loads rest ss = (k : ℕ) × (on_from c loads ≡ rest ++ replicate k 0xFF) × (left_from ((c + 1) % 16) loads ≡ ss)
+
+packed-none : (c : ℕ) (loads : List Load) (rest : List ℕ) (ss : List (List ℕ)) → loads ≡ [] → rest ≡ [] → ss ≡ [] → Packed c loads rest ss
+packed-none c loads rest ss e f g = (
+  0,
+  ap (on_from c) e ∙ following-stops c [] refl ∙ sym (append-nil rest ∙ f),
+  ap (left_from ((c + 1) % 16)) e ∙ sym g,
+)
+
+packed-alone :
+    (c : ℕ) (xs : List Load) (rest : List ℕ) (ss : List (List ℕ)) →
+    Packed ((c + 1) % 16) xs (drop 184 rest) ss → Packed c (plain_load (filled rest) ∷ xs) rest ss
+packed-alone c xs rest ss more =
     let next = (c + 1) % 16 in
-    let own : first ++ on_from c (behind ++ packed ss) ≡ s ++ replicate stretch.0 0xFF =
-    ap (λ t. first ++ t) (on_from-plain c behind (packed ss) plain ∙ ap (λ t. joined_loads behind ++ t) (on_from-packed (counter_behind c behind) ss) ∙ append-nil (joined_loads behind)) ∙ stretch.1 in
-    ap (λ t. left_from c (t ++ packed ss)) (loads_of-begun s)
-    ∙ left_from-begun c first (behind ++ packed ss)
-    ∙ ap (λ t. sections_in t ++ left_from next (behind ++ packed ss)) own
-    ∙ ap (λ t. t ++ left_from next (behind ++ packed ss)) (section_of_stretch s stretch.0 lawful)
-    ∙ ap (λ t. s ∷ t) (left_from-plain next behind (packed ss) plain ∙ left_from-packed (counter_behind next behind) ss (All-tail (λ x. IsSection x) s ss all))
+    let r = goes_on_with rest more.0 in (
+      r.0,
+      on_from-plain c (filled rest) xs ∙ ap (λ t. filled rest ++ t) more.1 ∙ r.1,
+      left_from-plain next (filled rest) xs ∙ more.2,
+    )
+
+packed-begins :
+    (c : ℕ) (xs : List Load) (rest : List ℕ) (ss : List (List ℕ)) → length rest < 183 → AllByRecursion (λ s. IsSection s) ss →
+    Packed ((c + 1) % 16) xs (missing (183 - length rest) ss) (not_begun (183 - length rest) ss) →
+    Packed c ((let load : Load = record { unit_start = true; payload = filled (length rest ∷ take 183 (rest ++ joined ss)) } in load) ∷ xs) rest ss
+packed-begins c xs rest ss h all more =
+    let next = (c + 1) % 16 in
+    let room = 183 - length rest in
+    let body = rest ++ behind_pointer rest ss in
+    let is = begins_load rest ss h in
+    let out = lays_out room ss in
+    let within : length rest ≤ length body = omega (arith, length-append rest (behind_pointer rest ss)) in
+    let lawful = all_front (begun room ss) (not_begun room ss) (subst (AllByRecursion (λ s. IsSection s)) out.sections all) in (
+      0,
+      ap (λ t. on_from c ((let load : Load = record { unit_start = true; payload = t } in load) ∷ xs)) is
+          ∙ on_from-unit c (length rest) body xs within
+          ∙ take-append_seam rest (behind_pointer rest ss)
+          ∙ sym (append-nil rest),
+      ap (λ t. left_from next ((let load : Load = record { unit_start = true; payload = t } in load) ∷ xs)) is
+          ∙ left_from-unit next (length rest) body xs within
+          ∙ ap (λ t. sections_in (t ++ on_from next xs) ++ left_from ((next + 1) % 16) xs) (drop-seam rest (behind_pointer rest ss))
+          ∙ ap (λ t. sections_in (behind_pointer rest ss ++ t) ++ left_from ((next + 1) % 16) xs) more.1
+          ∙ ap (λ t. t ++ left_from ((next + 1) % 16) xs) (begins_sections rest ss more.0 h lawful)
+          ∙ ap (λ t. begun room ss ++ t) more.2
+          ∙ sym out.sections,
+    )
+
+-- the two claims of a step of either kind
+packed-step :
+    (c : ℕ) (xs : List Load) (rest : List ℕ) (ss : List (List ℕ)) (alone : Bool) → goes_on_alone rest ss ≡ alone → AllByRecursion (λ s. IsSection s) ss →
+    Packed ((c + 1) % 16) xs (next_step rest ss).rest (next_step rest ss).sections → Packed c ((next_step rest ss).load ∷ xs) rest ss
+packed-step c xs rest ss true e all more =
+    let is = step-alone rest ss e in
+    subst (λ step. Packed c (step.load ∷ xs) rest ss) (sym is) (packed-alone c xs rest ss (subst (λ step. Packed ((c + 1) % 16) xs step.rest step.sections) is more))
+packed-step c xs rest ss false e all more =
+    let is = step-begins rest ss e in
+    subst (λ step. Packed c (step.load ∷ xs) rest ss) (sym is) (packed-begins c xs rest ss (not_alone rest ss e) all (subst (λ step. Packed ((c + 1) % 16) xs step.rest step.sections) is more))
+
+no_rest : (rest : List ℕ) → length rest ≤ 0 → rest ≡ []
+no_rest [] h = refl
+no_rest (b ∷ rest) h = absurd (omega (arith, h))
+
+no_section : (ss : List (List ℕ)) → length (joined ss) ≤ 0 → AllByRecursion (λ s. IsSection s) ss → ss ≡ []
+no_section [] h all = refl
+no_section (s ∷ ss) h all = absurd (omega (arith, h, length-append s (joined ss), all.0.whole))
+
+pack-zero : (rest : List ℕ) (ss : List (List ℕ)) → pack 0 rest ss ≡ []
+unfolding pack
+pack-zero rest ss = refl
+
+lawful_begun : (rest : List ℕ) (ss : List (List ℕ)) → AllByRecursion (λ s. IsSection s) ss → AllByRecursion (λ s. IsSection s) (begun_by rest ss)
+lawful_begun rest ss all = all_front (begun_by rest ss) (next_step rest ss).sections (subst (AllByRecursion (λ s. IsSection s)) (step-sections rest ss (goes_on_alone rest ss) refl) all)
+
+lawful_left : (rest : List ℕ) (ss : List (List ℕ)) → AllByRecursion (λ s. IsSection s) ss → AllByRecursion (λ s. IsSection s) (next_step rest ss).sections
+lawful_left rest ss all = all_back (begun_by rest ss) (next_step rest ss).sections (subst (AllByRecursion (λ s. IsSection s)) (step-sections rest ss (goes_on_alone rest ss) refl) all)
+
+packed-or_done :
+    (n c : ℕ) (rest : List ℕ) (ss : List (List ℕ)) (end : Bool) → is_done rest ss ≡ end → AllByRecursion (λ s. IsSection s) ss →
+    (end ≡ false → Packed ((c + 1) % 16) (pack n (next_step rest ss).rest (next_step rest ss).sections) (next_step rest ss).rest (next_step rest ss).sections) →
+    Packed c (pack (suc n) rest ss) rest ss
+packed-or_done n c rest ss true e all more =
+    let d = done_says rest ss e in
+    packed-none c (pack (suc n) rest ss) rest ss (pack-done (suc n) rest ss e) d.0 d.1
+packed-or_done n c rest ss false e all more =
+    subst (λ loads. Packed c loads rest ss) (sym (pack-next n rest ss e))
+    (packed-step c (pack n (next_step rest ss).rest (next_step rest ss).sections) rest ss (goes_on_alone rest ss) refl all (more refl))
+
+packed_is : (n c : ℕ) (rest : List ℕ) (ss : List (List ℕ)) → length rest + length (joined ss) ≤ n → AllByRecursion (λ s. IsSection s) ss → Packed c (pack n rest ss) rest ss
+packed_is zero c rest ss h all = packed-none c (pack 0 rest ss) rest ss (pack-zero rest ss) (no_rest rest (omega (arith, h))) (no_section ss (omega (arith, h)) all)
+packed_is (suc n) c rest ss h all =
+    packed-or_done n c rest ss (is_done rest ss) refl all
+    (λ e. packed_is n ((c + 1) % 16) (next_step rest ss).rest (next_step rest ss).sections
+    (omega (arith, h, step-shorter rest ss (goes_on_alone rest ss) refl e (lawful_begun rest ss all))) (lawful_left rest ss all))
 
 -- demultiplexed, the packets of some sections are the sections again
 pub sections_of_pid-packets_of :
-    (pid : ℕ) (sections : List (List ℕ)) → pid < 8192 → All (λ s. IsSection s) sections → sections_of_pid pid (packets_of pid sections) ≡ sections
+    (pid : ℕ) (sections : List (List ℕ)) → pid < 8192 → AllByRecursion (λ s. IsSection s) sections → sections_of_pid pid (packets_of pid sections) ≡ sections
 unfolding sections_of_parts packets_of
 sections_of_pid-packets_of pid sections h all =
     ap (λ t. sections_left (without_repeats None t)) (counted-packets pid 0 (packed sections) h (omega arith))
     ∙ ap sections_left (without_repeats-parts None 0 (packed sections) refl (omega arith))
-    ∙ left_from-packed 0 sections all
+    ∙ (packed_is (length (joined sections)) 15 [] sections (omega arith) all).2

@@ -1,7 +1,10 @@
 pub mod Rows
+pub mod BlankRows
 pub mod Filling
 pub mod Counting
 pub mod HeaderFields
+pub mod Laying
 pub mod Again
+pub mod OrdinalLemmas
 pub mod Cycling
 pub mod Packeting

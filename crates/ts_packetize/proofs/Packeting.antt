@@ -1,77 +1,84 @@
--- The packets of some sections, one section after another.
-use Rattle.std.proofs.Common.{◌≡◌, ℕ, ◌+◌, ◌%◌, ◌<◌, ◌≤◌, ◌==◌, true, false, suc, drop, List, [], ◌∷◌, ◌++◌, length, take, get_or, refl, sym, ◌∙◌, ap, arith, append-nil}
-use Rattle.std.specs.List.{flat_map}
-use Rattle.std.proofs.lemmas.List.{take_more}
-use Rattle.std.proofs.lemmas.Grind.{flat_map-append}
-use Rattle.std.proofs.lemmas.Bool.{eqb-true}
-use Rattle.std.proofs.lemmas.Bool.Decides.{nat_tests}
-use Rattle.ts_packetize.specs.Packing.{Load, filled, loads_behind, loads_of, packed}
+-- The packets of some sections, one packet after another.
+use Rattle.std.proofs.Common.{◌≡◌, ℕ, ◌+◌, ◌%◌, ◌<◌, ◌≤◌, true, false, zero, suc, List, [], ◌∷◌, ◌++◌, length, refl, sym, ◌∙◌, ap, arith, append-nil, append_assoc, subst}
+use Rattle.std.specs.List.{AllByRecursion}
+use Rattle.ts_section.specs.LawfulSection.{IsSection}
+use Rattle.ts_packetize.specs.Packing.{joined, next_step, is_done, pack}
 use Rattle.ts_packetize.specs.Packets.{packets_of, packet_with, counted_from}
-use Rattle.ts_packetize.proofs.Counting.{length-counted, counted-append, counted-push}
-use Rattle.ts_packetize.proofs.Filling.{loads_of-first, loads_behind-next, loads_behind-nil}
+use Rattle.ts_packetize.specs.Begun.{begun_by}
+use Rattle.ts_packetize.proofs.Counting.{counted-push}
+use Rattle.ts_packetize.proofs.Laying.{done_says, pack-done, pack-next, step-sections, step-shorter}
+use Rattle.ts_packetize.specs.Packing.{goes_on_alone}
 
-pub packets_of-nil : (pid : ℕ) → packets_of pid [] ≡ []
+-- the packets so far, and those of what is left, are those of the sections
+pub record Packs (pid : ℕ) (sections packets : List (List ℕ)) (rest : List ℕ) (ss : List (List ℕ)) : Type 0 where
+  pub bound : ℕ
+  pub front : List (List ℕ)
+  pub fits : length rest + length (joined ss) ≤ bound
+  pub so_far : packets ++ counted_from pid (length packets % 16) (pack bound rest ss) ≡ packets_of pid sections
+  pub split : sections ≡ front ++ ss
+  pub lawful : AllByRecursion (λ s. IsSection s) front
+
+pub packs-first : (pid : ℕ) (sections packets : List (List ℕ)) (rest : List ℕ) → packets ≡ [] → rest ≡ [] → Packs pid sections packets rest sections
 unfolding packets_of
-packets_of-nil pid = refl
+packs-first pid sections packets rest e f =
+    record {
+      bound = length (joined sections);
+      front = [];
+      fits = omega (arith, ap length f);
+      so_far =
+          ap (λ t. t ++ counted_from pid (length t % 16) (pack (length (joined sections)) rest sections)) e
+          ∙ ap (λ t. counted_from pid 0 (pack (length (joined sections)) t sections)) f;
+      split = refl;
+      lawful = tt;
+    }
 
-pub packets_of-more :
-    (pid : ℕ) (ss : List (List ℕ)) (i : ℕ) (d : List ℕ) (old new : List (List ℕ)) → i < length ss →
-    old ≡ packets_of pid (take i ss) → new ≡ old ++ counted_from pid (length old % 16) (loads_of (get_or ss i d)) →
-    new ≡ packets_of pid (take (i + 1) ss)
-unfolding packets_of
-packets_of-more pid ss i d old new h is more =
-    let xs = packed (take i ss) in
-    let ys = loads_of (get_or ss i d) in
-    let t : take (i + 1) ss ≡ take i ss ++ get_or ss i d ∷ [] = take_more ss i d h in
-    let p : packed (take (i + 1) ss) ≡ xs ++ ys = ap packed t ∙ flat_map-append loads_of (take i ss) (get_or ss i d ∷ []) ∙ ap (λ r. xs ++ r) (append-nil ys) in
-    let l : length old ≡ length xs = ap length is ∙ length-counted pid 0 xs in
-    let z : 0 + length xs ≡ length old = omega (arith, l) in
-    more
-    ∙ ap (λ r. r ++ counted_from pid (length old % 16) ys) is
-    ∙ ap (λ n. counted_from pid 0 xs ++ counted_from pid (n % 16) ys) (sym z)
-    ∙ sym (counted-append pid 0 xs ys)
-    ∙ ap (counted_from pid 0) (sym p)
+all_joined : (xs ys : List (List ℕ)) → AllByRecursion (λ s. IsSection s) xs → AllByRecursion (λ s. IsSection s) ys → AllByRecursion (λ s. IsSection s) (xs ++ ys)
+all_joined [] ys a b = b
+all_joined (x ∷ xs) ys a b = (a.0, all_joined xs ys a.1 b)
 
--- the first packet of a section
-pub pack_first :
-    (pid m counter : ℕ) (section front rest p : List ℕ) (old new : List (List ℕ)) →
-    m ≤ length section → m ≤ 183 → (m < 183 → m ≡ length section) → front ≡ take m section → rest ≡ drop m section →
-    counter ≡ length old % 16 → p ≡ packet_with pid counter (record { unit_start = true; payload = filled (0 ∷ front) }) → new ≡ old ++ p ∷ [] →
-    new ++ counted_from pid (length new % 16) (loads_behind (length rest) rest) ≡ old ++ counted_from pid (length old % 16) (loads_of section)
-pack_first pid m counter section front rest p old new h k all f r c made pushed =
-    let load : Load = record { unit_start = true; payload = filled (0 ∷ take m section) } in
-    let e : new ≡ old ++ packet_with pid (length old % 16) load ∷ [] =
-    pushed ∙ ap (λ t. old ++ t ∷ []) (made ∙ ap (λ n. packet_with pid n (record { unit_start = true; payload = filled (0 ∷ front) })) c ∙ ap (λ t. packet_with pid (length old % 16) (record { unit_start = true; payload = filled (0 ∷ t) })) f) in
-    ap (λ t. new ++ counted_from pid (length new % 16) (loads_behind (length t) t)) r
-    ∙ counted-push pid old new load (loads_behind (length (drop m section)) (drop m section)) e
-    ∙ ap (λ t. old ++ counted_from pid (length old % 16) t) (sym (loads_of-first m section h k all))
+packs-bound :
+    (pid bound : ℕ) (sections front old new : List (List ℕ)) (rest : List ℕ) (ss : List (List ℕ)) →
+    length rest + length (joined ss) ≤ bound → old ++ counted_from pid (length old % 16) (pack bound rest ss) ≡ packets_of pid sections →
+    sections ≡ front ++ ss → AllByRecursion (λ s. IsSection s) front → is_done rest ss ≡ false → AllByRecursion (λ s. IsSection s) (begun_by rest ss) →
+    new ≡ old ++ packet_with pid (length old % 16) (next_step rest ss).load ∷ [] →
+    Packs pid sections new (next_step rest ss).rest (next_step rest ss).sections
+packs-bound pid zero sections front old new rest ss fits so_far split lawful d all e =
+    absurd (omega (arith, fits, step-shorter rest ss (goes_on_alone rest ss) refl d all))
+packs-bound pid (suc n) sections front old new rest ss fits so_far split lawful d all e =
+    let step = next_step rest ss in
+    record {
+      bound = n;
+      front = front ++ begun_by rest ss;
+      fits = omega (arith, fits, step-shorter rest ss (goes_on_alone rest ss) refl d all);
+      so_far =
+          counted-push pid old new step.load (pack n step.rest step.sections) e
+          ∙ ap (λ t. old ++ counted_from pid (length old % 16) t) (sym (pack-next n rest ss d))
+          ∙ so_far;
+      split = split ∙ ap (λ t. front ++ t) (step-sections rest ss (goes_on_alone rest ss) refl) ∙ sym (append_assoc front (begun_by rest ss) step.sections);
+      lawful = all_joined front (begun_by rest ss) lawful all;
+    }
 
--- and the later ones
-pub pack_next :
-    (pid m counter : ℕ) (bytes piece rest p : List ℕ) (old new whole : List (List ℕ)) →
-    (length bytes == 0) ≡ false → m ≤ length bytes → m ≤ 184 → (m < 184 → m ≡ length bytes) → piece ≡ take m bytes → rest ≡ drop m bytes →
-    counter ≡ length old % 16 → p ≡ packet_with pid counter (record { unit_start = false; payload = filled piece }) → new ≡ old ++ p ∷ [] →
-    old ++ counted_from pid (length old % 16) (loads_behind (length bytes) bytes) ≡ whole →
-    new ++ counted_from pid (length new % 16) (loads_behind (length rest) rest) ≡ whole
-pack_next pid m counter bytes piece rest p old new whole some h k all f r c made pushed so_far =
-    let load : Load = record { unit_start = false; payload = filled (take m bytes) } in
-    let e : new ≡ old ++ packet_with pid (length old % 16) load ∷ [] =
-    pushed ∙ ap (λ t. old ++ t ∷ []) (made ∙ ap (λ n. packet_with pid n (record { unit_start = false; payload = filled piece })) c ∙ ap (λ t. packet_with pid (length old % 16) (record { unit_start = false; payload = filled t })) f) in
-    ap (λ t. new ++ counted_from pid (length new % 16) (loads_behind (length t) t)) r
-    ∙ counted-push pid old new load (loads_behind (length (drop m bytes)) (drop m bytes)) e
-    ∙ ap (λ t. old ++ counted_from pid (length old % 16) t) (sym (loads_behind-next m bytes (some_bytes (length bytes) some) h k all))
-    ∙ so_far
-  where
-    some_bytes : (n : ℕ) → (n == 0) ≡ false → 0 < n
-    some_bytes n e = grind (arith, nat_tests)
+pub packs-more :
+    (pid counter : ℕ) (sections old new : List (List ℕ)) (rest behind p : List ℕ) (ss others : List (List ℕ)) →
+    Packs pid sections old rest ss → is_done rest ss ≡ false → AllByRecursion (λ s. IsSection s) (begun_by rest ss) →
+    counter ≡ length old % 16 → p ≡ packet_with pid counter (next_step rest ss).load → new ≡ old ++ p ∷ [] →
+    behind ≡ (next_step rest ss).rest → others ≡ (next_step rest ss).sections → Packs pid sections new behind others
+packs-more pid counter sections old new rest behind p ss others packs d all c made pushed b o =
+    let e : new ≡ old ++ packet_with pid (length old % 16) (next_step rest ss).load ∷ [] =
+    pushed ∙ ap (λ t. old ++ t ∷ []) (made ∙ ap (λ n. packet_with pid n (next_step rest ss).load) c) in
+    subst (λ t. Packs pid sections new t others) (sym b)
+    (subst (λ t. Packs pid sections new (next_step rest ss).rest t) (sym o)
+    (packs-bound pid packs.bound sections packs.front old new rest ss packs.fits packs.so_far packs.split packs.lawful d all e))
 
-none_of_length : (xs : List ℕ) → (length xs == 0) ≡ true → xs ≡ []
-none_of_length [] e = refl
-none_of_length (x ∷ xs) e = (let f : suc (length xs) ≡ 0 = eqb-true (suc (length xs)) 0 e in absurd (omega arith))
+pub packs-shorter :
+    (rest behind : List ℕ) (ss others : List (List ℕ)) → is_done rest ss ≡ false → AllByRecursion (λ s. IsSection s) (begun_by rest ss) →
+    behind ≡ (next_step rest ss).rest → others ≡ (next_step rest ss).sections → length behind + length (joined others) < length rest + length (joined ss)
+packs-shorter rest behind ss others d all b o = omega (arith, step-shorter rest ss (goes_on_alone rest ss) refl d all, ap length b, ap (λ t. length (joined t)) o)
 
-pub pack_done :
-    (pid : ℕ) (bytes : List ℕ) (old whole : List (List ℕ)) → (length bytes == 0) ≡ true →
-    old ++ counted_from pid (length old % 16) (loads_behind (length bytes) bytes) ≡ whole → old ≡ whole
-pack_done pid bytes old whole e so_far =
-    let n : loads_behind (length bytes) bytes ≡ [] = ap (λ t. loads_behind (length t) t) (none_of_length bytes e) ∙ loads_behind-nil 0 in
-    sym (append-nil old) ∙ ap (λ t. old ++ counted_from pid (length old % 16) t) (sym n) ∙ so_far
+pub packs-done :
+    (pid : ℕ) (sections packets : List (List ℕ)) (rest : List ℕ) (ss : List (List ℕ)) → Packs pid sections packets rest ss → is_done rest ss ≡ true →
+    (packets ≡ packets_of pid sections) × AllByRecursion (λ s. IsSection s) sections
+packs-done pid sections packets rest ss packs d = (
+  sym (append-nil packets) ∙ ap (λ t. packets ++ counted_from pid (length packets % 16) t) (sym (pack-done packs.bound rest ss d)) ∙ packs.so_far,
+  subst (AllByRecursion (λ s. IsSection s)) (sym (packs.split ∙ ap (λ t. packs.front ++ t) (done_says rest ss d).1 ∙ append-nil packs.front)) packs.lawful,
+)

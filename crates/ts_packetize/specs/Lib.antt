@@ -1,4 +1,5 @@
 pub mod Packing
+pub mod Begun
 pub mod Packets
-pub mod Cycle
 pub mod Ordinals
+pub mod Cycle

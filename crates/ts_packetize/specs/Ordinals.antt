@@ -1,8 +1,9 @@
 -- Cycles over the ordinals of the packets that are replaced.
 -- This project's own rule: the first cycle starts at ordinal 0; one that starts at an ordinal has the packets of
 -- the contents known there; the next starts behind its last packet, or, where it has none, with the next ordinal.
-use Rattle.std.specs.Prelude.{ℕ, ◌+◌, ◌-◌, ◌%◌, nat_lt, List, [], length, drop, zero, suc, Option, Some, None, slice_get, if◌then◌else◌}
-use Rattle.std.specs.Option.{option_to_list}
+use Rattle.std.specs.Prelude.{◌≡◌, ℕ, ◌+◌, ◌-◌, ◌%◌, nat_lt, List, [], length, drop, zero, suc, Option, Some, None}
+use Rattle.std.specs.Prelude.{slice_get, if◌then◌else◌}
+use Rattle.std.specs.Option.{option_map, option_to_list}
 use Rattle.ts_packet.specs.Header.{with_counter}
 use Rattle.ts_packet.specs.Packet.{null_packet}
 
@@ -42,3 +43,12 @@ left_before cycle (suc n) = drop (suc n - start_of cycle n) (cycle (start_of cyc
 -- the packets of the cycle that an ordinal falls into, from the ordinal on
 abbrev pub due_at : Cycles → ℕ → List (List ℕ)
 due_at cycle n = drop (n - start_of cycle n) (cycle (start_of cycle n))
+
+-- the packet of the cycle that an ordinal falls into, with the number of cycle packets below it as its counter
+abbrev pub counted_at : Cycles → ℕ → Option (List ℕ)
+counted_at cycle n = option_map (λ row. with_counter row (written_before cycle n % 16)) (packet_at cycle n)
+
+-- what a cycle gives at an ordinal, with a counter, and what it then has left of the cycle that runs
+pub record GivesAt (cycle : Cycles) (n counter : ℕ) (row : Option (List ℕ)) (left : List (List ℕ)) : Type 0 where
+  pub given : row ≡ option_map (λ packet. with_counter packet counter) (packet_at cycle n)
+  pub left_over : left ≡ left_before cycle (suc n)

@@ -1,46 +1,105 @@
 //! The packets of a list of sections.
 
-ghost use Rattle.std.specs.Prelude.{◌≡◌, ◌+◌, ◌%◌, ◌<◌, ◌≤◌, ◌++◌, ◌∷◌, length, replicate, if◌then◌else◌, IfOk, OnOk};
+ghost use Rattle.std.specs.Prelude.{◌≡◌, ◌%◌, ◌<◌, false, length, IfOk, OnOk};
+ghost use Rattle.std.specs.List.{AllByRecursion};
 ghost use Rattle.ts_demux.specs.SectionsOfPid.{sections_of_pid};
-ghost use Rattle.ts_packetize.specs.Packing.{filled, loads_of};
-ghost use Rattle.ts_packetize.specs.Packets.{packets_of, packet_with, counted_from};
+ghost use Rattle.ts_section.specs.LawfulSection.{IsSection};
+ghost use Rattle.ts_packetize.specs.Packing.{next_step};
+ghost use Rattle.ts_packetize.specs.Packing as packing;
+ghost use Rattle.ts_packetize.specs.Packets.{packets_of, packet_with};
+ghost use Rattle.ts_packetize.specs.Begun.{begun_by};
 
+use crate::carrier::packet;
 use crate::packet_list::PacketList;
+use crate::room::{lay, missing, not_begun};
 use std::alloc::{AllocError, Global};
-use ts_packet::{NULL_PID, PACKET_SIZE, PAYLOAD_SIZE, Packet, SYNC_BYTE};
+use ts_packet::{NULL_PID, PAYLOAD_SIZE, Packet};
 use ts_section::Section;
 
-/// The bytes of a packet's header.
-const HEADER: u8 = 4;
+/// The bytes of a payload behind its pointer.
+const BEHIND_POINTER: usize = PAYLOAD_SIZE - 1;
 
-/// The packets of the PID, below 8191, that carry the sections: each section begins a packet of its own with
-/// unit start and pointer 0, and its last packet is filled up with 0xFF. Counters run from 0, modulo 16.
+/// The packets of the PID, below 8191, that carry the sections one behind another (ISO/IEC 13818-1, 2.4.4).
+/// A packet in which sections begin has a unit start and a pointer; one in which a section only goes on has
+/// neither, and bytes of a section that fill all 183 behind a pointer go on alone. The last packet is filled up
+/// with 0xFF. Counters run from 0, modulo 16.
 pub fn packets(alloc: Global, pid: u16, sections: &[Section]) -> Result<PacketList, AllocError>
     requires { pid < NULL_PID }
     ensures packed { IfOk result (λ list. list ≡ packets_of pid sections.now) }
     ensures again { IfOk result (λ list. sections_of_pid pid list ≡ sections.now) }
 {
     let mut packets = Vec::new(alloc);
-    for section in sections {
-        pack(pid, section.bytes(), &mut packets)?;
+    let mut load = Vec::with_capacity(alloc, PAYLOAD_SIZE)?;
+    let nothing: [u8; 0] = [];
+    let mut rest: &[u8] = &nothing;
+    let mut waiting = sections;
+    while !is_done(rest, waiting) {
+        let counter = next_counter(&packets);
+        packets.push(next_packet(pid, counter, rest, waiting, &mut load)?)?;
+        let behind = rest_behind(rest, waiting);
+        waiting = sections_behind(rest, waiting);
+        rest = behind;
     }
     Ok(PacketList::of(packets))
 }
 
-/// Adds the packets of one section.
-fn pack(pid: u16, section: &[u8], packets: &mut Vec<Packet>) -> Result<(), AllocError>
-    requires { pid < NULL_PID }
-    ensures { OnOk result (packets.new.items
-        ≡ packets.old.items ++ counted_from pid (length packets.old.items % 16) (loads_of section.now)) }
+/// The next packet of bytes that are left and sections that wait. `load` is room to lay bytes in.
+fn next_packet(
+    pid: u16,
+    counter: u8,
+    rest: &[u8],
+    waiting: &[Section],
+    load: &mut Vec<u8>,
+) -> Result<Packet, AllocError>
+    requires pid { pid < NULL_PID }
+    requires counter { counter < 16 }
+    ensures packet { IfOk result (λ packet. packet ≡ packet_with pid counter (next_step rest.now waiting.now).load) }
+    ensures lawful { OnOk result (AllByRecursion (λ s. IsSection s) (begun_by rest.now waiting.now)) }
 {
-    let (first, mut rest) = section.split_at(section.len().min(PAYLOAD_SIZE - 1));
-    packets.push(packet(pid, next_counter(packets), true, first))?;
-    while !rest.is_empty() {
-        let (piece, behind) = rest.split_at(rest.len().min(PAYLOAD_SIZE));
-        packets.push(packet(pid, next_counter(packets), false, piece))?;
-        rest = behind;
+    if goes_on_alone(rest, waiting) {
+        let piece = &rest[..rest.len().min(PAYLOAD_SIZE)];
+        return Ok(packet(pid, counter, false, piece));
     }
-    Ok(())
+    load.clear();
+    load.push(rest.len() as u8)?;
+    load.extend_from_slice(rest)?;
+    lay(waiting, BEHIND_POINTER - rest.len(), load)?;
+    Ok(packet(pid, counter, true, load))
+}
+
+/// The bytes that are left behind the next packet.
+fn rest_behind<'a>(rest: &'a [u8], waiting: &'a [Section]) -> &'a [u8]
+    ensures { result.now ≡ (next_step rest.now waiting.now).rest }
+{
+    if goes_on_alone(rest, waiting) {
+        return &rest[rest.len().min(PAYLOAD_SIZE)..];
+    }
+    missing(&rest[rest.len()..], waiting, BEHIND_POINTER - rest.len())
+}
+
+/// The sections that wait behind the next packet.
+fn sections_behind<'a>(rest: &[u8], waiting: &'a [Section]) -> &'a [Section]
+    ensures { result.now ≡ (next_step rest.now waiting.now).sections }
+{
+    if goes_on_alone(rest, waiting) {
+        return waiting;
+    }
+    not_begun(waiting, BEHIND_POINTER - rest.len())
+}
+
+/// Whether neither bytes nor sections are left.
+fn is_done(rest: &[u8], waiting: &[Section]) -> bool
+    ensures { result ≡ packing.is_done rest.now waiting.now }
+{
+    rest.is_empty() && waiting.is_empty()
+}
+
+/// Whether bytes that are left go on alone in the next packet.
+fn goes_on_alone(rest: &[u8], waiting: &[Section]) -> bool
+    ensures alone { result ≡ packing.goes_on_alone rest.now waiting.now }
+    ensures room { result ≡ false → length rest.now < 183 }
+{
+    waiting.is_empty() || rest.len() >= BEHIND_POINTER
 }
 
 /// The counter behind these packets.
@@ -49,40 +108,4 @@ fn next_counter(packets: &Vec<Packet>) -> u8
     ensures range { result < 16 }
 {
     (packets.len() % 16) as u8
-}
-
-/// The packet with this counter that carries the bytes, behind a pointer 0 where it has a unit start.
-fn packet(pid: u16, counter: u8, unit_start: bool, bytes: &[u8]) -> Packet
-    requires pid { pid < NULL_PID }
-    requires counter { counter < 16 }
-    requires room { length bytes.now + (if unit_start then 1 else 0) ≤ PAYLOAD_SIZE }
-    ensures { result ≡ packet_with pid counter
-        (record { unit_start = unit_start; payload = filled (if unit_start then 0 ∷ bytes.now else bytes.now) }) }
-{
-    let mut packet = blank(pid, counter, unit_start);
-    if unit_start {
-        packet.put_payload(HEADER, &[0]);
-        packet.put_payload(HEADER + 1, bytes);
-    } else {
-        packet.put_payload(HEADER, bytes);
-    }
-    packet
-}
-
-/// The packet with this header and a payload of 0xFF alone.
-fn blank(pid: u16, counter: u8, unit_start: bool) -> Packet
-    requires pid { pid < NULL_PID }
-    requires counter { counter < 16 }
-    ensures { result ≡ packet_with pid counter
-        (record { unit_start = unit_start; payload = replicate PAYLOAD_SIZE 0xFF }) }
-{
-    let mut row = [0xFF; PACKET_SIZE];
-    row[0] = SYNC_BYTE;
-    row[1] = u8::from(unit_start) << 6 | (pid >> 8) as u8;
-    row[2] = (pid & 0xFF) as u8;
-    row[3] = 0x10 | counter;
-    match Packet::of(&row) {
-        Ok(packet) => packet,
-        Err(_) => unreachable!(),
-    }
 }
