@@ -7,7 +7,7 @@ use Rattle.ts_demux.specs.Tables.{tables_of, tables_behind}
 use Rattle.ts_demux.specs.DemuxState as demuxing
 use Rattle.ts_demux.specs.DemuxState.{DemuxState, GivesFirst}
 use Rattle.ts_demux.specs.AssemblyState as assembling
-use Rattle.ts_demux.specs.declared.assembly.Assembly.{Assembly}
+use Rattle.ts_demux.specs.AssemblyState.{AssemblyState}
 use Rattle.ts_demux.specs.declared.table_key.TableKey.{TableKey}
 use Rattle.indexmap.specs.IndexMap.{IndexMap, values}
 use Rattle.plug_psi.specs.Contents.{Entry, with_table, entries_of, contents_of}
@@ -44,14 +44,14 @@ entries-section given s (Some table) e = sym (ap entries_of e ∙ entries-more (
 
 -- contents that are new hold no packet
 pub holds-new :
-    {S : Type 0} (demux : DemuxState) (assembly : Assembly) (tables : IndexMap TableKey (List (List ℕ)) S) (pid : ℕ) →
+    {S : Type 0} (demux : DemuxState) (assembly : AssemblyState) (tables : IndexMap TableKey (List (List ℕ)) S) (pid : ℕ) →
     demuxing.StandsFor demux pid [] [] → assembling.StandsFor assembly [] → tables.entries ≡ [] → Holds demux assembly tables pid [] (sections_of_pid pid [])
 holds-new demux assembly tables pid d a t =
     subst (Holds demux assembly tables pid []) (sym (no_sections pid)) (record { demuxed = d; assembled = a; kept = t ∙ sym no_entries })
 
 -- contents that hold some sections hold one more
 pub holds-section :
-    {S : Type 0} (d e : DemuxState) (a b : Assembly) (t u : IndexMap TableKey (List (List ℕ)) S) (s : List ℕ) (table : Option (List (List ℕ))) →
+    {S : Type 0} (d e : DemuxState) (a b : AssemblyState) (t u : IndexMap TableKey (List (List ℕ)) S) (s : List ℕ) (table : Option (List (List ℕ))) →
     GivesFirst d e s →
     ((before : List (List ℕ)) → assembling.StandsFor a before → assembling.StandsFor b (before ++ s ∷ [])) →
     ((before : List (List ℕ)) → assembling.StandsFor a before → tables_of (before ++ s ∷ []) ≡ tables_of before ++ option_to_list table) →

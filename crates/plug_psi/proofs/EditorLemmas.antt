@@ -1,11 +1,12 @@
 -- An editor's step: one packet more.
-use Rattle.std.proofs.Common.{◌≡◌, ℕ, ◌+◌, ◌%◌, ◌≤◌, ◌||◌, Bool, false, List, [], ◌∷◌, ◌++◌, length, take, drop, suc, Option, Some, None, refl, sym, ◌∙◌, ap, arith, append_assoc, length-append, subst, map}
-use Rattle.std.specs.Option.{option_to_list}
+use Rattle.std.proofs.Common.{◌≡◌, ℕ, ◌+◌, ◌%◌, ◌<◌, ◌≤◌, ◌||◌, Bool, false, List, [], ◌∷◌, ◌++◌, length, take, suc, Option, Some, None, refl, sym, ◌∙◌, ap, arith, append_assoc, length-append, subst, map}
+use Rattle.std.specs.Option.{option_map, option_to_list}
 use Rattle.std.proofs.lemmas.List.{take-append-le}
 use Rattle.indexmap.specs.IndexMap.{values}
 use Rattle.ts_packet.specs.Header.{with_counter}
-use Rattle.ts_packetize.specs.Cycle.{CycleState, due, first_row}
-use Rattle.ts_packetize.specs.Ordinals.{Cycles, packet_at, written_before, in_place, replaced_at, left_before}
+use Rattle.ts_packet.specs.Packet.{null_packet}
+use Rattle.ts_packetize.specs.Cycle.{CycleState}
+use Rattle.ts_packetize.specs.Ordinals.{Cycles, packet_at, written_before, in_place, replaced_at}
 use Rattle.ts_packetize.specs.Packets.{packets_of}
 use Rattle.plug_psi.specs.Contents.{contents_of}
 use Rattle.plug_psi.specs.ContentsState.{HasTaken}
@@ -15,16 +16,26 @@ use Rattle.plug_psi.specs.EditorState.{StandsAt, Edits, Renewed, NextInPlace}
 use Rattle.plug_psi.specs.declared.contents.Contents.{Contents}
 use Rattle.plug_psi.proofs.Choice.{neither}
 use Rattle.plug_psi.proofs.ContentsLemmas.{contents-kept}
-use Rattle.plug_psi.proofs.OrdinalLemmas.{first_due, rest_due, written-more, left-none, written-none, agree}
-
--- what is due, where the contents need be known only if a cycle begins
-due_same : (left contents other : List (List ℕ)) → (left ≡ [] → contents ≡ other) → due left contents ≡ due left other
-due_same [] contents other same = same refl
-due_same (x ∷ left) contents other same = refl
+use Rattle.plug_psi.proofs.OrdinalLemmas.{written-more, left-none, written-none, agree}
 
 in_place-same : (a b : ℕ) (row : Option (List ℕ)) → a % 16 ≡ b % 16 → in_place a row ≡ in_place b row
 in_place-same a b None e = refl
 in_place-same a b (Some row) e = ap (with_counter row) e
+
+-- a packet that a cycle gave with a counter
+pub placed-some :
+    (counter : ℕ) (row : Option (List ℕ)) (packet : List ℕ) → counter < 16 → Some packet ≡ option_map (λ r. with_counter r counter) row →
+    (packet ≡ in_place counter row) × ((counter + 1) % 16 ≡ (counter + length (option_to_list row)) % 16)
+placed-some counter None packet below e = cc
+placed-some counter (Some row) packet below e =
+    ((let f : packet ≡ with_counter row counter = cc in f) ∙ ap (with_counter row) (let g : counter ≡ counter % 16 = omega (arith, below) in g), refl)
+
+-- none, for which a null packet stands
+pub placed-none :
+    (counter : ℕ) (row : Option (List ℕ)) → counter < 16 → None ≡ option_map (λ r. with_counter r counter) row →
+    (null_packet ≡ in_place counter row) × (counter ≡ (counter + length (option_to_list row)) % 16)
+placed-none counter None below e = (refl, omega (arith, below))
+placed-none counter (Some row) below e = cc
 
 -- a step of a cycle that stands before an ordinal
 stands-next :
@@ -32,14 +43,13 @@ stands-next :
     NextInPlace old new counter packet behind → StandsAt cycle n old.left counter → (old.left ≡ [] → old.contents ≡ cycle n) →
     (packet ≡ replaced_at cycle n) × StandsAt cycle (suc n) new.left behind
 stands-next cycle n old new counter packet behind step stands same =
-    let ahead : due old.left old.contents ≡ due (left_before cycle n) (cycle n) = due_same old.left old.contents (cycle n) same ∙ ap (λ t. due t (cycle n)) stands.left_over in
-    let row : step.row ≡ packet_at cycle n = step.given ∙ ap first_row ahead ∙ first_due cycle n in
+    let places = step.at_ordinal cycle n stands.left_over same in
     let c : counter % 16 ≡ written_before cycle n % 16 = omega (arith, stands.counts) in
-    let grown : behind ≡ (counter + length (option_to_list (packet_at cycle n))) % 16 = step.counted ∙ ap (λ r. (counter + length (option_to_list r)) % 16) row in (
-      step.placed ∙ in_place-same counter (written_before cycle n) step.row c ∙ ap (in_place (written_before cycle n)) row,
+    (
+      places.placed ∙ in_place-same counter (written_before cycle n) (packet_at cycle n) c,
       record {
-        left_over = step.left_over ∙ ap (drop 1) ahead ∙ rest_due cycle n;
-        counts = omega (arith, grown, written-more cycle n, stands.counts);
+        left_over = places.left_over;
+        counts = omega (arith, places.counted, written-more cycle n, stands.counts);
       },
     )
 

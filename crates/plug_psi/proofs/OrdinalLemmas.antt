@@ -1,11 +1,9 @@
--- What is due at an ordinal, and that cycles which agree up to one agree there.
-use Rattle.std.proofs.Common.{◌≡◌, ℕ, ◌+◌, ◌-◌, ◌<◌, ◌≤◌, true, false, nat_lt, List, [], ◌∷◌, length, drop, zero, suc, Option, slice_get, refl, sym, ◌∙◌, ap, arith, inl, inr, ◌⊎◌, length-drop}
+-- Cycles that agree up to an ordinal agree there.
+use Rattle.std.proofs.Common.{◌≡◌, ℕ, ◌+◌, ◌-◌, ◌<◌, ◌≤◌, true, false, nat_lt, List, [], length, zero, suc, slice_get, refl, ◌∙◌, ap, arith, inl, inr, ◌⊎◌}
 use Rattle.std.specs.Prelude.{if◌then◌else◌}
 use Rattle.std.specs.Option.{option_to_list}
 use Rattle.std.proofs.lemmas.Bool.Decides.{leb_tells}
-use Rattle.std.proofs.Math.ListN.{drop_of_length-le}
-use Rattle.ts_packetize.specs.Cycle.{due, first_row}
-use Rattle.ts_packetize.specs.Ordinals.{Cycles, start_of, packet_at, written_before, left_before, due_at}
+use Rattle.ts_packetize.specs.Ordinals.{Cycles, start_of, packet_at, written_before, left_before}
 use Rattle.plug_psi.proofs.Choice.{if_true, if_false}
 
 lt_or_le : (a b : ℕ) → ((nat_lt a b ≡ true) × (a < b)) ⊎ ((nat_lt a b ≡ false) × (b ≤ a))
@@ -36,55 +34,6 @@ start-le cycle (suc n) =
       | inl h ↦ omega (arith, start-on cycle n h.0, below)
       | inr h ↦ omega (arith, start-new cycle n h.0)
     ]
-
-first_of_drop : (xs : List (List ℕ)) (i : ℕ) → first_row (drop i xs) ≡ slice_get xs i
-first_of_drop [] zero = refl
-first_of_drop [] (suc i) = refl
-first_of_drop (x ∷ xs) zero = refl
-first_of_drop (x ∷ xs) (suc i) = first_of_drop xs i
-
-drop_of_drop : (xs : List (List ℕ)) (i : ℕ) → drop 1 (drop i xs) ≡ drop (suc i) xs
-drop_of_drop [] zero = refl
-drop_of_drop [] (suc i) = refl
-drop_of_drop (x ∷ xs) zero = refl
-drop_of_drop (x ∷ xs) (suc i) = drop_of_drop xs i
-
-due-some : (left contents : List (List ℕ)) → 0 < length left → due left contents ≡ left
-due-some [] contents h = absurd (omega arith)
-due-some (x ∷ left) contents h = refl
-
-due-none : (cycle : Cycles) (n : ℕ) (left : List (List ℕ)) → start_of cycle n ≡ n → left ≡ [] → due left (cycle n) ≡ due_at cycle n
-due-none cycle n left e nothing =
-    let z : n - n ≡ 0 = omega arith in
-    ap (λ t. due t (cycle n)) nothing ∙ sym (ap (λ k. drop (n - k) (cycle k)) e ∙ ap (λ k. drop k (cycle n)) z)
-
--- what is left of a cycle, or the one that begins, is what is due at the ordinal
-due-is : (cycle : Cycles) (n : ℕ) → due (left_before cycle n) (cycle n) ≡ due_at cycle n
-unfolding left_before start_of end_of
-due-is cycle zero = refl
-due-is cycle (suc n) =
-    let s = start_of cycle n in
-    let left = drop (suc n - s) (cycle s) in
-    let below = start-le cycle n in
-    elim (lt_or_le (suc n) (end_of cycle n)) as (λ _. due left (cycle (suc n)) ≡ due_at cycle (suc n)) [
-      | inl h ↦
-          (let some : 0 < length left = omega (arith, length-drop (suc n - s) (cycle s), h.1, below) in
-          due-some left (cycle (suc n)) some ∙ sym (ap (λ k. drop (suc n - k) (cycle k)) (start-on cycle n h.0)))
-      | inr h ↦
-          due-none cycle (suc n) left (start-new cycle n h.0) (drop_of_length-le (cycle s) {i = suc n - s} (omega (arith, h.1)))
-    ]
-
-pub first_due : (cycle : Cycles) (n : ℕ) → first_row (due (left_before cycle n) (cycle n)) ≡ packet_at cycle n
-unfolding packet_at
-first_due cycle n = ap first_row (due-is cycle n) ∙ first_of_drop (cycle (start_of cycle n)) (n - start_of cycle n)
-
-pub rest_due : (cycle : Cycles) (n : ℕ) → drop 1 (due (left_before cycle n) (cycle n)) ≡ left_before cycle (suc n)
-unfolding left_before
-rest_due cycle n =
-    let s = start_of cycle n in
-    let below = start-le cycle n in
-    let e : suc (n - s) ≡ suc n - s = omega (arith, below) in
-    ap (drop 1) (due-is cycle n) ∙ drop_of_drop (cycle s) (n - s) ∙ ap (λ k. drop k (cycle s)) e
 
 pub written-more : (cycle : Cycles) (n : ℕ) → written_before cycle (suc n) ≡ written_before cycle n + length (option_to_list (packet_at cycle n))
 unfolding written_before

@@ -4,7 +4,7 @@ use Rattle.std.specs.Prelude.{◌≡◌, ℕ, List}
 use Rattle.ts_demux.specs.DemuxState as demuxing
 use Rattle.ts_demux.specs.DemuxState.{DemuxState}
 use Rattle.ts_demux.specs.AssemblyState as assembling
-use Rattle.ts_demux.specs.declared.assembly.Assembly.{Assembly}
+use Rattle.ts_demux.specs.AssemblyState.{AssemblyState}
 use Rattle.ts_demux.specs.declared.table_key.TableKey.{TableKey}
 use Rattle.ts_demux.specs.Tables.{tables_of}
 use Rattle.ts_demux.specs.SectionsOfPid.{sections_of_pid}
@@ -13,7 +13,7 @@ use Rattle.plug_psi.specs.Contents.{entries_of}
 use Rattle.plug_psi.specs.declared.contents.Contents.{Contents}
 
 -- the packets were taken, and of their sections those given were put together to tables
-pub record Holds {S : Type 0} (demux : DemuxState) (assembly : Assembly) (tables : IndexMap TableKey (List (List ℕ)) S) (pid : ℕ) (taken given : List (List ℕ)) : Type 0 where
+pub record Holds {S : Type 0} (demux : DemuxState) (assembly : AssemblyState) (tables : IndexMap TableKey (List (List ℕ)) S) (pid : ℕ) (taken given : List (List ℕ)) : Type 0 where
   pub demuxed : demuxing.StandsFor demux pid taken given
   pub assembled : assembling.StandsFor assembly given
   pub kept : tables.entries ≡ entries_of (tables_of given)

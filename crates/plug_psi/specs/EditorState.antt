@@ -1,9 +1,9 @@
 -- When an editor's parts stand for the packets that it took, and what its steps do to its cycle.
 -- This project's own rule.
-use Rattle.std.specs.Prelude.{◌≡◌, ℕ, ◌+◌, ◌%◌, Option, Bool, false, List, [], ◌++◌, length, drop}
+use Rattle.std.specs.Prelude.{◌≡◌, ℕ, ◌+◌, ◌%◌, Bool, false, List, [], ◌++◌, length, suc}
 use Rattle.std.specs.Option.{option_to_list}
-use Rattle.ts_packetize.specs.Cycle.{CycleState, due, first_row}
-use Rattle.ts_packetize.specs.Ordinals.{Cycles, written_before, in_place, left_before}
+use Rattle.ts_packetize.specs.Cycle.{CycleState}
+use Rattle.ts_packetize.specs.Ordinals.{Cycles, packet_at, written_before, in_place, left_before}
 use Rattle.plug_psi.specs.Edits.{Change}
 use Rattle.plug_psi.specs.EditedCycles.{cycles_of, edited_packets}
 use Rattle.plug_psi.specs.ContentsState.{HasTaken}
@@ -31,12 +31,16 @@ pub record Renewed (old new : CycleState) (changed still : Bool) (wanted : List 
   pub begins : old.left ≡ [] → still ≡ false
   pub known : still ≡ false → (changed ≡ false → old.contents ≡ wanted) → new.contents ≡ wanted
 
--- a cycle gives what is put in the next packet's place, with the counter behind it
+-- what is put in the place of the packet with an ordinal, the counter behind it, and what is left of the cycle then
+pub record PlacesAt (cycle : Cycles) (n counter : ℕ) (packet : List ℕ) (behind : ℕ) (left : List (List ℕ)) : Type 0 where
+  pub placed : packet ≡ in_place counter (packet_at cycle n)
+  pub counted : behind ≡ (counter + length (option_to_list (packet_at cycle n))) % 16
+  pub left_over : left ≡ left_before cycle (suc n)
+
+-- A cycle gives what is put in the next packet's place: where what is left of it is what is left before an ordinal,
+-- and its contents, where a cycle starts, are those of the cycle that starts there.
 pub record NextInPlace (old new : CycleState) (counter : ℕ) (packet : List ℕ) (behind : ℕ) : Type 0 where
-  pub row : Option (List ℕ)
-  pub given : row ≡ first_row (due old.left old.contents)
-  pub placed : packet ≡ in_place counter row
-  pub counted : behind ≡ (counter + length (option_to_list row)) % 16
-  pub left_over : new.left ≡ drop 1 (due old.left old.contents)
   pub same_pid : new.pid ≡ old.pid
   pub same_contents : new.contents ≡ old.contents
+  pub at_ordinal : (cycle : Cycles) (n : ℕ) → old.left ≡ left_before cycle n → (old.left ≡ [] → old.contents ≡ cycle n) →
+      PlacesAt cycle n counter packet behind new.left

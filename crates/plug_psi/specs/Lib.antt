@@ -5,4 +5,8 @@ pub mod EditedCycles
 pub mod EditedView
 pub mod EditorStands
 pub mod EditorState
+pub mod ForceStands
+pub mod ForceState
+pub mod InForce
+pub mod LastFound
 pub mod LastTables
