@@ -16,4 +16,4 @@ mod pat_entries;
 pub use edit::{Edited, TableEdit};
 pub use editor::Editor;
 pub use in_force::InForce;
-pub use laws::{contents_are_last_tables, later_packets_change_nothing};
+pub use laws::{contents_are_last_tables, last_found_is_the_last, later_packets_change_nothing};
