@@ -1,10 +1,8 @@
 -- An editor's step: one packet more.
-use Rattle.std.proofs.Common.{◌≡◌, ℕ, ◌+◌, ◌%◌, ◌<◌, ◌≤◌, ◌||◌, Bool, false, List, [], ◌∷◌, ◌++◌, length, take, suc, Option, Some, None, refl, sym, ◌∙◌, ap, arith, append_assoc, length-append, subst, map}
-use Rattle.std.specs.Option.{option_map, option_to_list}
+use Rattle.std.proofs.Common.{◌≡◌, ℕ, ◌+◌, ◌%◌, ◌≤◌, ◌||◌, Bool, false, List, [], ◌∷◌, ◌++◌, length, take, suc, Option, Some, None, refl, sym, ◌∙◌, ap, arith, append_assoc, length-append, subst, map}
 use Rattle.std.proofs.lemmas.List.{take-append-le}
 use Rattle.indexmap.specs.IndexMap.{values}
 use Rattle.ts_packet.specs.Header.{with_counter}
-use Rattle.ts_packet.specs.Packet.{null_packet}
 use Rattle.ts_packetize.specs.Cycle.{CycleState}
 use Rattle.ts_packetize.specs.Ordinals.{Cycles, packet_at, written_before, in_place, replaced_at}
 use Rattle.ts_packetize.specs.Packets.{packets_of}
@@ -22,21 +20,6 @@ in_place-same : (a b : ℕ) (row : Option (List ℕ)) → a % 16 ≡ b % 16 → 
 in_place-same a b None e = refl
 in_place-same a b (Some row) e = ap (with_counter row) e
 
--- a packet that a cycle gave with a counter
-pub placed-some :
-    (counter : ℕ) (row : Option (List ℕ)) (packet : List ℕ) → counter < 16 → Some packet ≡ option_map (λ r. with_counter r counter) row →
-    (packet ≡ in_place counter row) × ((counter + 1) % 16 ≡ (counter + length (option_to_list row)) % 16)
-placed-some counter None packet below e = cc
-placed-some counter (Some row) packet below e =
-    ((let f : packet ≡ with_counter row counter = cc in f) ∙ ap (with_counter row) (let g : counter ≡ counter % 16 = omega (arith, below) in g), refl)
-
--- none, for which a null packet stands
-pub placed-none :
-    (counter : ℕ) (row : Option (List ℕ)) → counter < 16 → None ≡ option_map (λ r. with_counter r counter) row →
-    (null_packet ≡ in_place counter row) × (counter ≡ (counter + length (option_to_list row)) % 16)
-placed-none counter None below e = (refl, omega (arith, below))
-placed-none counter (Some row) below e = cc
-
 -- a step of a cycle that stands before an ordinal
 stands-next :
     (cycle : Cycles) (n : ℕ) (old new : CycleState) (counter : ℕ) (packet : List ℕ) (behind : ℕ) →
@@ -44,8 +27,7 @@ stands-next :
     (packet ≡ replaced_at cycle n) × StandsAt cycle (suc n) new.left behind
 stands-next cycle n old new counter packet behind step stands same =
     let places = step.at_ordinal cycle n stands.left_over same in
-    let c : counter % 16 ≡ written_before cycle n % 16 = omega (arith, stands.counts) in
-    (
+    let c : counter % 16 ≡ written_before cycle n % 16 = omega (arith, stands.counts) in (
       places.placed ∙ in_place-same counter (written_before cycle n) (packet_at cycle n) c,
       record {
         left_over = places.left_over;

@@ -11,7 +11,7 @@ use Rattle.ts_packet.specs.declared.numbers.TheConstants.{NULL_PID}
 use Rattle.ts_psi.specs.PatTables.{pat_held}
 use Rattle.ts_table_rows.specs.TableValues.{TableHolding}
 use Rattle.plug_psi.specs.LastFound.{last_found, tables_on}
-use Rattle.plug_psi.specs.InForce.{current_pat, current_pmt, is_taken, taken_behind, taken_on, names, pat_of, pmt_on, pmt_of, pmt_at, pid_for}
+use Rattle.plug_psi.specs.InForce.{current_pmt, is_taken, taken_behind, taken_on, names, pat_of, pmt_on, pmt_of, pmt_at, pid_for}
 use Rattle.plug_psi.specs.ForceState.{Forces, HasFed, EntryStands}
 use Rattle.plug_psi.specs.declared.on_pid.OnPid.{OnPid}
 use Rattle.plug_psi.specs.declared.on_zero.OnZero.{OnZero}
@@ -85,7 +85,6 @@ counts_for pat pid = names pat pid && not (pid == NULL_PID)
 
 module _ {S : Type 0} (zero new : OnZero) (pids : IndexMap ℕ OnPid S) (failed : Bool) (fed : List (List ℕ)) (p : List ℕ) (pid : ℕ)
     (h : Forces zero pids failed fed) (fed_pat : HasFed new (fed ++ p ∷ [])) (at : pid ≡ pid_of p) where
-
   -- of the packet's own PID the test is that of the PAT that is kept
   own-flag : (b : Bool) → counts_for (option_map pat_held new.pat) pid ≡ b → flag_at pid fed p ≡ b
   own-flag b flag =
@@ -104,6 +103,7 @@ module _ {S : Type 0} (zero new : OnZero) (pids : IndexMap ℕ OnPid S) (failed 
       none : (q : ℕ) (b : Bool) → nat_eq pid q ≡ b → flag_at q fed p ≡ false
       none q false e = other-flag q e
       none q true e = subst (λ n. flag_at n fed p ≡ false) (eqb-true pid q e) (own-flag false flag)
+
       entry : (q : ℕ) (b : Bool) → nat_eq pid q ≡ b → EntryStands (get nat_eq pids q) q (taken_on q (fed ++ p ∷ []))
       entry q b e = subst (EntryStands (get nat_eq pids q) q) (sym (taken-without q fed p (none q b e))) (h.entries q)
 

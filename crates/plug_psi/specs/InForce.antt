@@ -1,7 +1,7 @@
 -- The PAT in force, and the PMT in force of a service.
 -- ISO/IEC 13818-1, 2.4.4.3 and 2.4.4.8: the PAT on PID 0 names the PID of the PMT of each service. Which packets are
 -- taken, and which table counts, is this project's own rule.
-use Rattle.std.specs.Prelude.{ℕ, ◌==◌, Bool, false, not, ◌&&◌, List, [], ◌∷◌, ◌++◌, drop, Option, Some, None, Result, Ok, Err, if◌then◌else◌}
+use Rattle.std.specs.Prelude.{ℕ, ◌==◌, Bool, not, ◌&&◌, List, [], ◌∷◌, ◌++◌, drop, Option, Some, None, Result, Ok, Err, if◌then◌else◌}
 use Rattle.std.specs.List.{filter_map, list_any}
 use Rattle.std.specs.Map.{lookup}
 use Rattle.ts_packet.specs.Header.{pid_of}

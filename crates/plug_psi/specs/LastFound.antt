@@ -1,7 +1,6 @@
 -- What is found in the last of some tables in which something is found.
 -- This project's own rule.
-use Rattle.std.specs.Prelude.{◌≡◌, ℕ, List, [], ◌∷◌, fold, Option, Some, None}
-use Rattle.std.specs.List.{filter_map}
+use Rattle.std.specs.Prelude.{ℕ, List, [], ◌∷◌, fold, Option, Some, None}
 use Rattle.ts_demux.specs.Tables.{tables_of}
 use Rattle.ts_demux.specs.SectionsOfPid.{sections_of_pid}
 

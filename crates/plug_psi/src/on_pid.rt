@@ -50,12 +50,7 @@ impl OnPid {
             → HasTakenPmts self.new pid (taken ++ packet.now ∷ [])) }
     {
         self.demux.feed(packet)?;
-        take_pmts(
-            alloc,
-            &mut self.demux,
-            &mut self.assembly,
-            &mut self.pmts,
-        )
+        take_pmts(alloc, &mut self.demux, &mut self.assembly, &mut self.pmts)
     }
 }
 
@@ -94,13 +89,7 @@ fn read_current(alloc: Global, table: &TableRun) -> Result<Option<Pmt>, AllocErr
     ensures { IfOk result (λ pmt. option_map pmt_held pmt ≡ current_in (read_run pmt_page table.now)) }
 {
     match Pmt::read(alloc, table) {
-        Ok(pmt) => {
-            if pmt.current {
-                Ok(Some(pmt))
-            } else {
-                Ok(None)
-            }
-        }
+        Ok(pmt) => { if pmt.current { Ok(Some(pmt)) } else { Ok(None) } }
         Err(TableFault::Broken { .. }) => Ok(None),
         Err(TableFault::NoMemory) => Err(AllocError),
     }

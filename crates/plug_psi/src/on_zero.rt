@@ -101,13 +101,7 @@ fn read_current(alloc: Global, table: &TableRun) -> Result<Option<Pat>, AllocErr
     ensures { IfOk result (λ pat. option_map pat_held pat ≡ current_pat table.now) }
 {
     match Pat::read(alloc, table) {
-        Ok(pat) => {
-            if pat.current {
-                Ok(Some(pat))
-            } else {
-                Ok(None)
-            }
-        }
+        Ok(pat) => { if pat.current { Ok(Some(pat)) } else { Ok(None) } }
         Err(TableFault::Broken { .. }) => Ok(None),
         Err(TableFault::NoMemory) => Err(AllocError),
     }

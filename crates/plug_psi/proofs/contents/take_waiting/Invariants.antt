@@ -1,4 +1,4 @@
-use Rattle.std.proofs.Common.{◌≡◌, ℕ, ◌++◌, List, false, length}
+use Rattle.std.proofs.Common.{◌≡◌, ℕ, List, false, length}
 use Rattle.plug_psi.specs.ContentsState.{Holds}
 use Rattle.plug_psi.proofs.contents.take_waiting.Given as goal
 

@@ -1,4 +1,4 @@
-use Rattle.std.proofs.Common.{◌≡◌, ℕ, List, length}
+use Rattle.std.proofs.Common.{ℕ, List, length}
 use Rattle.plug_psi.specs.ForceState.{HoldsPmts}
 use Rattle.plug_psi.proofs.on_pid.take_pmts.Given as goal
 

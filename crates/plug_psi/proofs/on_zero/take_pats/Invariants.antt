@@ -1,4 +1,4 @@
-use Rattle.std.proofs.Common.{◌≡◌, ℕ, List, length}
+use Rattle.std.proofs.Common.{ℕ, List, length}
 use Rattle.plug_psi.specs.ForceState.{HoldsPat}
 use Rattle.plug_psi.proofs.on_zero.take_pats.Given as goal
 
