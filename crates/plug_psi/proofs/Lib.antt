@@ -1,0 +1,9 @@
+pub mod Choice
+pub mod ContentsLemmas
+pub mod EditedLemmas
+pub mod EditorLemmas
+pub mod ForceLemmas
+pub mod FoundLemmas
+pub mod LastTableLemmas
+pub mod OrdinalLemmas
+pub mod PatLemmas

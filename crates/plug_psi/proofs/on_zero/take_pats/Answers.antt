@@ -1,0 +1,18 @@
+use Rattle.std.proofs.Common.{ap, sym, ◌∙◌}
+use Rattle.std.specs.Prelude.{option_map}
+use Rattle.ts_psi.specs.PatTables.{pat_held}
+use Rattle.plug_psi.specs.InForce.{current_pat}
+use Rattle.plug_psi.proofs.FoundLemmas.{pat-section, found_with}
+use Rattle.plug_psi.proofs.on_zero.take_pats.Goals as goal
+
+pub loop-section-preserved-in-Some-2 : goal.loop-section-preserved-in-Some-2
+loop-section-preserved-in-Some-2 c = λ fed given h.
+    pat-section c.loop-section.demux c.next_section.new.self c.loop-section.assembly c.add.new.self c.loop-section.pat c.keep_pat.new.pat
+    c.in-Some.section c.in_ok-table.field-0 c.in-Some.ensures.first c.in_ok-table.ensures.stands c.in_ok-table.ensures.tables
+    (c.in_ok-keep_pat.ensures ∙ ap (found_with current_pat (option_map pat_held c.loop-section.pat)) (sym c.in-Some-2.is)) fed (c.loop-section.invariant fed given h)
+
+pub loop-section-preserved : goal.loop-section-preserved
+loop-section-preserved c = λ fed given h.
+    pat-section c.loop-section.demux c.next_section.new.self c.loop-section.assembly c.add.new.self c.loop-section.pat c.loop-section.pat
+    c.in-Some.section c.in_ok-table.field-0 c.in-Some.ensures.first c.in_ok-table.ensures.stands c.in_ok-table.ensures.tables
+    (ap (found_with current_pat (option_map pat_held c.loop-section.pat)) (sym c.in_default-2.is)) fed (c.loop-section.invariant fed given h)

@@ -1,0 +1,12 @@
+use Rattle.std.proofs.Common.{ℕ, List, length}
+use Rattle.plug_psi.specs.ForceState.{HoldsPat}
+use Rattle.plug_psi.proofs.on_zero.take_pats.Given as goal
+
+-- what was held is held, with more sections given
+abbrev pub invariant-loop-section : goal.invariant-loop-section
+invariant-loop-section l =
+    (fed given : List (List ℕ)) → HoldsPat l.fn.demux l.fn.assembly l.fn.pat fed given →
+    (now : List (List ℕ)) × HoldsPat l.demux l.assembly l.pat fed now
+
+abbrev pub decreases-loop-section : goal.decreases-loop-section
+decreases-loop-section l = length l.demux.waiting

@@ -1,0 +1,46 @@
+-- When an editor's parts stand for the packets that it took, and what its steps do to its cycle.
+-- This project's own rule.
+use Rattle.std.specs.Prelude.{◌≡◌, ℕ, ◌+◌, ◌%◌, Bool, false, List, [], ◌++◌, length, suc}
+use Rattle.std.specs.Option.{option_to_list}
+use Rattle.ts_packetize.specs.Cycle.{CycleState}
+use Rattle.ts_packetize.specs.Ordinals.{Cycles, packet_at, written_before, in_place, left_before}
+use Rattle.plug_psi.specs.Edits.{Change}
+use Rattle.plug_psi.specs.EditedCycles.{cycles_of, edited_packets}
+use Rattle.plug_psi.specs.ContentsState.{HasTaken}
+use Rattle.plug_psi.specs.declared.contents.Contents.{Contents}
+
+-- what is left of a cycle, and a counter, are those before an ordinal
+pub record StandsAt (cycle : Cycles) (n : ℕ) (left : List (List ℕ)) (counter : ℕ) : Type 0 where
+  pub left_over : left ≡ left_before cycle n
+  pub counts : counter ≡ written_before cycle n % 16
+
+-- An editor's parts stand for the packets that it took: however these go on, its cycle and its counter are those
+-- before the next of them; and unless the contents changed since, the next cycle has their packets already.
+pub record Edits (pid : ℕ) (edit : List (List ℕ) → Change) (contents : Contents) (cycle : CycleState) (counter : ℕ) (changed failed : Bool) (taken : List (List ℕ)) : Type 0 where
+  pub working : failed ≡ false
+  pub contents_taken : HasTaken contents pid taken
+  pub same_pid : cycle.pid ≡ pid
+  pub to_come : (more : List (List ℕ)) → StandsAt (cycles_of pid edit (taken ++ more)) (length taken) cycle.left counter
+  pub unchanged : changed ≡ false → cycle.contents ≡ edited_packets pid edit taken
+
+-- Where a cycle begins next, its contents are the wanted packets, if they were where nothing had changed. Whether
+-- something has changed since is told anew.
+pub record Renewed (old new : CycleState) (changed still : Bool) (wanted : List (List ℕ)) : Type 0 where
+  pub same_left : new.left ≡ old.left
+  pub same_pid : new.pid ≡ old.pid
+  pub begins : old.left ≡ [] → still ≡ false
+  pub known : still ≡ false → (changed ≡ false → old.contents ≡ wanted) → new.contents ≡ wanted
+
+-- what is put in the place of the packet with an ordinal, the counter behind it, and what is left of the cycle then
+pub record PlacesAt (cycle : Cycles) (n counter : ℕ) (packet : List ℕ) (behind : ℕ) (left : List (List ℕ)) : Type 0 where
+  pub placed : packet ≡ in_place counter (packet_at cycle n)
+  pub counted : behind ≡ (counter + length (option_to_list (packet_at cycle n))) % 16
+  pub left_over : left ≡ left_before cycle (suc n)
+
+-- A cycle gives what is put in the next packet's place: where what is left of it is what is left before an ordinal,
+-- and its contents, where a cycle starts, are those of the cycle that starts there.
+pub record NextInPlace (old new : CycleState) (counter : ℕ) (packet : List ℕ) (behind : ℕ) : Type 0 where
+  pub same_pid : new.pid ≡ old.pid
+  pub same_contents : new.contents ≡ old.contents
+  pub at_ordinal : (cycle : Cycles) (n : ℕ) → old.left ≡ left_before cycle n → (old.left ≡ [] → old.contents ≡ cycle n) →
+      PlacesAt cycle n counter packet behind new.left

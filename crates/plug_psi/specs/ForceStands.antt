@@ -1,0 +1,13 @@
+-- When the tables in force stand for the packets that were fed.
+-- This project's own rule.
+use Rattle.std.specs.Prelude.{Bool, ℕ, List}
+use Rattle.plug_psi.specs.ForceState.{Forces}
+use Rattle.plug_psi.specs.declared.in_force.InForce.{InForce}
+
+-- the tables in force are those of all packets that were fed
+abbrev pub StandsFor : InForce → List (List ℕ) → Type 0
+StandsFor force fed = Forces force.zero force.pids force.failed fed
+
+-- whether memory was wanting
+abbrev pub has_failed : InForce → Bool
+has_failed force = force.failed

@@ -1,0 +1,12 @@
+pub mod Contents
+pub mod ContentsState
+pub mod Edits
+pub mod EditedCycles
+pub mod EditedView
+pub mod EditorStands
+pub mod EditorState
+pub mod ForceStands
+pub mod ForceState
+pub mod InForce
+pub mod LastFound
+pub mod LastTables

@@ -1,0 +1,22 @@
+//! The taken packets of a PID come in; its tables, edited and in cycles, go out in their place. Of packets of any PID,
+//! the PAT and the PMTs in force.
+//! The layer above rests on `Editor::step`, by which each packet becomes the one of the definition, and on `InForce`.
+#![tactic(auto)]
+
+mod contents;
+mod edit;
+mod edited;
+mod editor;
+mod in_force;
+mod laws;
+mod on_pid;
+mod on_zero;
+mod pat_entries;
+
+pub use edit::{Edited, TableEdit};
+pub use editor::Editor;
+pub use in_force::InForce;
+pub use laws::{contents_are_last_tables, last_found_is_the_last, later_packets_change_nothing};
+
+#[cfg(test)]
+mod tests;

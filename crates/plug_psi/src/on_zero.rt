@@ -1,0 +1,108 @@
+//! The PAT of the packets on PID 0.
+
+ghost use Rattle.std.specs.Prelude.{◌≡◌, ℕ, ◌++◌, ◌∷◌, [], List, IfOk, OnOk, option_map};
+ghost use Rattle.ts_demux.specs.SectionsOfPid.{sections_of_pid};
+ghost use Rattle.ts_psi.specs.PatTables.{pat_held};
+ghost use Rattle.plug_psi.specs.LastFound.{newer};
+ghost use Rattle.plug_psi.specs.InForce.{current_pat};
+ghost use Rattle.plug_psi.specs.ForceState.{HoldsPat};
+
+use crate::pat_entries::{names, pid_for};
+use std::alloc::{AllocError, Global};
+use ts_demux::{Assembly, Demux};
+use ts_packet::Packet;
+use ts_psi::Pat;
+use ts_section::TableRun;
+use ts_table_rows::TableFault;
+
+/// The PAT in force of all packets that were fed.
+#[derive(Drop)]
+pub(crate) struct OnZero {
+    demux: Demux,
+    assembly: Assembly,
+    pub(crate) pat: Option<Pat>,
+}
+
+impl OnZero {
+    ghost use Rattle.plug_psi.specs.ForceState.{HasFed};
+    ghost use Rattle.plug_psi.specs.InForce.{names, pid_for};
+
+    /// No packet was fed.
+    pub(crate) fn new(alloc: Global) -> Result<OnZero, AllocError>
+        ensures { IfOk result (λ zero. HasFed zero []) }
+    {
+        Ok(OnZero {
+            demux: Demux::new(alloc, 0)?,
+            assembly: Assembly::new(alloc)?,
+            pat: None,
+        })
+    }
+
+    /// Takes the next packet, of any PID.
+    pub(crate) fn take(&mut self, alloc: Global, packet: &Packet) -> Result<(), AllocError>
+        ensures { OnOk result ((fed : List (List ℕ)) → HasFed self.old fed → HasFed self.new (fed ++ packet.now ∷ [])) }
+    {
+        self.demux.feed(packet)?;
+        take_pats(alloc, &mut self.demux, &mut self.assembly, &mut self.pat)
+    }
+
+    /// Whether a service has this PID.
+    pub(crate) fn names(&self, pid: u16) -> bool
+        ensures { result ≡ names (option_map pat_held self.now.pat) pid }
+    {
+        match &self.pat {
+            Some(pat) => names(pat, pid),
+            None => false,
+        }
+    }
+
+    /// The PID of the first entry of a service.
+    pub(crate) fn pid_for(&self, service: u16) -> Option<u16>
+        ensures { result ≡ pid_for (option_map pat_held self.now.pat) service }
+    {
+        match &self.pat {
+            Some(pat) => pid_for(pat, service),
+            None => None,
+        }
+    }
+}
+
+/// Takes the sections that wait.
+fn take_pats(
+    alloc: Global,
+    demux: &mut Demux,
+    assembly: &mut Assembly,
+    pat: &mut Option<Pat>,
+) -> Result<(), AllocError>
+    ensures { OnOk result ((fed given : List (List ℕ)) → HoldsPat demux.old assembly.old pat.old fed given
+        → HoldsPat demux.new assembly.new pat.new fed (sections_of_pid 0 fed)) }
+{
+    while let Some(section) = demux.next_section() {
+        if let Some(table) = assembly.add(section)? {
+            keep_pat(alloc, pat, &table)?;
+        }
+    }
+    Ok(())
+}
+
+/// Keeps the PAT that a table is, if it is a current one.
+fn keep_pat(alloc: Global, pat: &mut Option<Pat>, table: &TableRun) -> Result<(), AllocError>
+    ensures { OnOk result (option_map pat_held pat.new ≡ newer (option_map pat_held pat.old) (current_pat table.now)) }
+{
+    let Some(read) = read_current(alloc, table)? else {
+        return Ok(());
+    };
+    *pat = Some(read);
+    Ok(())
+}
+
+/// The PAT that a table is, where it reads as one and is current.
+fn read_current(alloc: Global, table: &TableRun) -> Result<Option<Pat>, AllocError>
+    ensures { IfOk result (λ pat. option_map pat_held pat ≡ current_pat table.now) }
+{
+    match Pat::read(alloc, table) {
+        Ok(pat) => { if pat.current { Ok(Some(pat)) } else { Ok(None) } }
+        Err(TableFault::Broken { .. }) => Ok(None),
+        Err(TableFault::NoMemory) => Err(AllocError),
+    }
+}
