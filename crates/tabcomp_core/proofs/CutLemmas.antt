@@ -1,7 +1,8 @@
 -- Sections one after another.
 use Rattle.std.proofs.Common.{◌≡◌, ℕ, zero, suc, ◌+◌, ◌-◌, ◌<◌, ◌≤◌, List, [], ◌∷◌, ◌++◌, length, take, drop, refl, sym, ap, ◌∙◌, arith, append_assoc, append-nil}
 use Rattle.std.specs.Prelude.{Option, Some, None, Result, Ok, Err, min}
-use Rattle.std.proofs.lemmas.List.{drop_all, drop-drop, length-drop, length-take}
+use Rattle.std.proofs.lemmas.List.{drop_all, drop-drop, drop_min, length-drop, length-take, take-append-drop}
+use Rattle.std.specs.List.{concat}
 use Rattle.ts_section.specs.declared.fault.SectionFault.{SectionFault}
 use Rattle.ts_section.specs.FirstBroken.{first_broken}
 use Rattle.ts_section.specs.SectionFields.{front_of, section_length_of}
@@ -100,3 +101,33 @@ cut_refused bytes offset front (faults.Section at broken) whole inside is so_far
     cut_stops bytes offset front broken whole inside is.1 so_far ∙ ap (λ n. Err (record { offset = n; fault = broken })) (sym is.0)
 cut_refused bytes offset front (faults.Sequence at) whole inside is so_far = absurd is
 cut_refused bytes offset front faults.NoMemory whole inside is so_far = tt
+
+-- ---- sections joined are the bytes
+
+front_joined : (l : List ℕ) → front_of l ++ drop (length (front_of l)) l ≡ l
+unfolding front_of
+front_joined l =
+    let m : ℕ = 3 + section_length_of l in
+    ap (λ n. take m l ++ drop n l) (length-take m l) ∙ ap (λ x. take m l ++ x) (drop_min m l) ∙ take-append-drop m l
+
+joined_if : (o : Option SectionFault) (offset : ℕ) (s rest l : List ℕ) (r : Result (List (List ℕ)) FaultAt) (ss : List (List ℕ))
+    → s ++ rest ≡ l → ((more : List (List ℕ)) → r ≡ Ok more → concat more ≡ rest) → if_lawful o offset s r ≡ Ok ss → concat ss ≡ l
+joined_if (Some fault) offset s rest l r ss same behind is = cc is
+joined_if None offset s rest l (Ok more) ss same behind is =
+    let all : s ∷ more ≡ ss = cc is in
+    sym (ap concat all) ∙ ap (λ x. s ++ x) (behind more refl) ∙ same
+joined_if None offset s rest l (Err fault) ss same behind is = cc is
+
+cut_joined : (most offset : ℕ) (l : List ℕ) (ss : List (List ℕ)) → length l ≤ most → sections_from most offset l ≡ Ok ss → concat ss ≡ l
+unfolding sections_from
+cut_joined most offset [] ss enough is = let none : [] ≡ ss = cc is in sym (ap concat none)
+cut_joined zero offset (b ∷ bs) ss enough is = absurd (omega (arith, enough))
+cut_joined (suc most) offset (b ∷ bs) ss enough is =
+    let n = length (front_of (b ∷ bs)) in
+    let rest = drop n (b ∷ bs) in
+    let size : length rest ≤ length bs = omega (arith, length-drop n (b ∷ bs), front_some b bs) in
+    joined_if (first_broken (front_of (b ∷ bs))) offset (front_of (b ∷ bs)) rest (b ∷ bs) (sections_from most (offset + n) rest) ss
+    (front_joined (b ∷ bs)) (λ more. cut_joined most (offset + n) rest more (omega (arith, enough, size))) is
+
+pub sections_joined : (bytes : List ℕ) (ss : List (List ℕ)) → sections_in bytes ≡ Ok ss → concat ss ≡ bytes
+sections_joined bytes ss is = cut_joined (length bytes) 0 bytes ss (omega arith) is

@@ -1,4 +1,10 @@
-mod EachLemmas
 mod CutLemmas
 mod JoinLemmas
 mod TextLemmas
+mod DivideLemmas
+mod DividingRows
+mod StartLemmas
+mod PlainRoot
+mod AgainLemmas
+mod ToldRuns
+mod StoppedRuns

@@ -1,2 +1,5 @@
 pub mod Compiling
 pub mod Cutting
+pub mod Decompiling
+pub mod Dividing
+pub mod TableRuns

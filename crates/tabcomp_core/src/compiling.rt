@@ -17,8 +17,8 @@ use crate::fault::CompileFault;
 use serde_json::Value;
 use std::alloc::{AllocError, Global};
 use std::str;
-use ts_json_tables::{Table, of_json, table_sections};
-use ts_jtree::{ReadRefusal, at_child, read_element};
+use ts_json_tables::{Table, table_sections, tables_of_json};
+use ts_jtree::{ReadRefusal, read_element};
 use ts_section::Section;
 use ts_table_rows::TableRefusal;
 
@@ -53,32 +53,6 @@ fn read_value(alloc: Global, text: &[u8]) -> Result<Value, CompileFault>
     read_text(alloc, text)
 }
 
-/// The table that is the child of this number.
-fn read_table_at(alloc: Global, place: usize, value: &Value) -> Result<Table, ReadRefusal>
-    ensures read { Answers table_value result (at_child place (table_read (view value.now))) }
-    ensures lawful { IfOk result (λ t. IsTable (table_value t)) }
-{
-    match of_json(alloc, value) {
-        Ok(table) => Ok(table),
-        Err(refusal) => Err(at_child(alloc, place, refusal)),
-    }
-}
-
-/// Tables, each a child.
-fn read_each_table(alloc: Global, nodes: &[Value]) -> Result<Vec<Table>, ReadRefusal>
-    ensures read { Answers (λ v. map table_value v.items) result (read_each table_read 0 (items_view nodes.now)) }
-    ensures lawful { IfOk result (λ v. All (λ t. IsTable (table_value t)) v.items) }
-{
-    let mut tables = Vec::new(alloc);
-    let mut place = 0;
-    for value in nodes {
-        let table = read_table_at(alloc, place, value)?;
-        tables.push(table)?;
-        place += 1;
-    }
-    Ok(tables)
-}
-
 /// The tables of the root.
 #[tactic(auto, unfolding(crate::specs::Compiling::tables_read))]
 fn read_tables(alloc: Global, value: &Value) -> Result<Vec<Table>, ReadRefusal>
@@ -86,7 +60,7 @@ fn read_tables(alloc: Global, value: &Value) -> Result<Vec<Table>, ReadRefusal>
     ensures lawful { IfOk result (λ v. All (λ t. IsTable (table_value t)) v.items) }
 {
     let (_, nodes) = read_element(alloc, "tsduck", &[], value)?;
-    read_each_table(alloc, nodes)
+    tables_of_json(alloc, nodes)
 }
 
 /// Adds the bytes of sections.

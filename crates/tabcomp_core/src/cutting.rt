@@ -1,6 +1,7 @@
 //! Bytes as sections one after another.
 
-ghost use Rattle.std.specs.Prelude.{◌≡◌, ◌<◌, length, Some};
+ghost use Rattle.std.specs.Prelude.{◌≡◌, ◌<◌, length, Some, IfOk};
+ghost use Rattle.std.specs.List.{concat};
 ghost use Rattle.ts_section.specs.FirstBroken.{first_broken};
 ghost use Rattle.ts_section.specs.SectionFields.{front_of};
 ghost use Rattle.ts_section.specs.LawfulSection.{IsSection};
@@ -33,7 +34,8 @@ fn size_of(section: &Section) -> usize
 /// The sections that bytes are, one after another; or where the first begins that is none, and the first rule that it
 /// breaks. Each is what `Section::parse_front` reads from there.
 pub fn sections_of(alloc: Global, bytes: &[u8]) -> Result<Vec<Section>, DecompileFault>
-    ensures { Cuts (λ v. v.items) result (sections_in bytes.now) }
+    ensures cut { Cuts (λ v. v.items) result (sections_in bytes.now) }
+    ensures joined { IfOk result (λ v. concat v.items ≡ bytes.now) }
 {
     let mut sections = Vec::new(alloc);
     let mut offset = 0;

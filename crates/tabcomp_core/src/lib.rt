@@ -1,13 +1,18 @@
-//! A JSON text comes in and the sections of its tables go out; bytes come in and the sections that they are go out.
-//! The layer above rests on `compile` and `sections_of`.
+//! A JSON text comes in and the sections of its tables go out; bytes come in and the JSON text of their tables goes out.
+//! The layer above rests on `compile`, `sections_of` and `decompile`.
 #![tactic(auto)]
 
 mod compiling;
 mod cutting;
+mod decompiling;
+mod dividing;
 mod fault;
+mod table_runs;
 #[cfg(test)]
 mod tests;
 
 pub use compiling::compile;
 pub use cutting::sections_of;
+pub use decompiling::decompile;
+pub use dividing::runs_are_told;
 pub use fault::{CompileFault, DecompileFault};

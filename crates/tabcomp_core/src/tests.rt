@@ -1,6 +1,6 @@
-//! Texts compiled and bytes cut, each call that takes memory once with enough of it.
+//! Texts compiled, and bytes cut and decompiled, each call that takes memory once with enough of it.
 
-use crate::{CompileFault, DecompileFault, compile, sections_of};
+use crate::{CompileFault, DecompileFault, compile, decompile, sections_of};
 use std::alloc::Global;
 use std::test::Fail;
 use ts_jtree::JsonKind;
@@ -44,5 +44,47 @@ fn the_first_fault_is_told(rt: HostRuntime) -> Result<(), Fail> {
     let Err(CompileFault::NotJson) = compile(rt.alloc(), b"{") else {
         return Err(Fail::from("no JSON"));
     };
+    Ok(())
+}
+
+/// A PAT with its CRC, which stands in ISO/IEC 13818-1's polynomial.
+const PAT_BYTES: &[u8] = b"\x00\xB0\x0D\x00\x01\xC1\x00\x00\x00\x01\xF0\x00\x2A\xB1\x04\xB2";
+
+/// Its text.
+const PAT_TEXT: &str =
+    r##"{"#name":"tsduck","#nodes":[{"#name":"PAT","#nodes":[{"#name":"service","program_map_PID":4096,"service_id":1}],"current":true,"transport_stream_id":1,"version":0}]}"##;
+
+/// A section of the short form, of table_id 0x72, as text.
+const SHORT_TEXT: &str =
+    r##"{"#name":"tsduck","#nodes":[{"#name":"generic_short_table","payload":"aa","private":true,"table_id":114}]}"##;
+
+/// Whether bytes are decompiled to a text.
+fn is_text(alloc: Global, bytes: &[u8], text: &str) -> bool {
+    match decompile(alloc, bytes) {
+        Ok(found) => found.as_str() == text,
+        Err(_) => false,
+    }
+}
+
+#[test]
+fn bytes_are_decompiled(rt: HostRuntime) -> Result<(), Fail> {
+    assert!(rt; is_text(rt.alloc(), PAT_BYTES, PAT_TEXT));
+    assert!(rt; is_text(rt.alloc(), b"\x72\x70\x01\xAA", SHORT_TEXT));
+    assert!(rt; is_text(rt.alloc(), b"", r##"{"#name":"tsduck","#nodes":[]}"##));
+    Ok(())
+}
+
+/// The first and the second section of one table, each of 12 bytes.
+const FIRST: &[u8] = b"\x80\xB0\x09\x00\x01\xC1\x00\x01\x92\xE3\x2A\x93";
+
+const SECOND_THEN_FIRST: &[u8] =
+    b"\x80\xB0\x09\x00\x01\xC1\x01\x01\x40\xFA\xEB\x4F\x80\xB0\x09\x00\x01\xC1\x00\x01\x92\xE3\x2A\x93";
+
+#[test]
+fn runs_are_whole(rt: HostRuntime) -> Result<(), Fail> {
+    let wanting = decompile(rt.alloc(), FIRST).err();
+    assert_eq!(rt; wanting, Some(DecompileFault::Sequence { offset: 12 }));
+    let turned = decompile(rt.alloc(), SECOND_THEN_FIRST).err();
+    assert_eq!(rt; turned, Some(DecompileFault::Sequence { offset: 0 }));
     Ok(())
 }

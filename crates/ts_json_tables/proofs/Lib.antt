@@ -23,3 +23,6 @@ mod AgainLemmas
 mod RoundLemmas
 mod RoundHead
 mod RoundEnd
+mod PlainLemmas
+mod OfBytesReading
+mod OfBytesLemmas

@@ -17,9 +17,9 @@ mod table_laws;
 mod tests;
 mod values;
 
-pub use reading::of_json;
+pub use reading::{of_json, tables_of_json};
 pub use runs::table_of;
 pub use sections::table_sections;
 pub use showing::to_json;
 pub use table::{LaidTable, LongTable, ShortTable, Table};
-pub use table_laws::shown_table_is_read;
+pub use table_laws::{run_tables_are_of_bytes, shown_table_is_plain, shown_table_is_read};

@@ -1,15 +1,15 @@
 //! Tables from elements of JSON.
 
-ghost use Rattle.std.specs.Prelude.{◌≡◌, ◌++◌, ◌∷◌, [], map, IfOk, IsTrue, length};
+ghost use Rattle.std.specs.Prelude.{◌≡◌, ◌++◌, ◌∷◌, [], map, All, IfOk, IsTrue, length};
 ghost use Rattle.serde_json.specs.View.{view, items_view, members_view};
-ghost use Rattle.ts_jtree.specs.Faults.{Answers};
+ghost use Rattle.ts_jtree.specs.Faults.{Answers, at_child};
 ghost use Rattle.ts_table_rows.specs.TablePages.{table_page, page_sound};
 ghost use Rattle.ts_table_rows.specs.TableValues.{item_held};
 ghost use Rattle.ts_psi.specs.PatTables.{network_items};
 ghost use Rattle.ts_json_tables.specs.HeldTables.{laid_value, long, long_held, short, short_held, table_value};
 ghost use Rattle.ts_json_tables.specs.LawfulTables.{IsTable};
 ghost use Rattle.ts_json_tables.specs.TableReading;
-ghost use Rattle.ts_json_tables.specs.TableReading.{kept_or_none, read_by_name, sections_counted, table_read};
+ghost use Rattle.ts_json_tables.specs.TableReading.{kept_or_none, read_by_name, read_each, sections_counted, table_read};
 
 use crate::children::{read_children, read_payloads};
 use crate::heading::{
@@ -26,7 +26,8 @@ use std::alloc::{AllocError, Global};
 use ts_bits::DescriptorList;
 use ts_fields::FieldValue;
 use ts_jtree::{
-    JsonKind, ReadRefusal, check_keys, children, element_name, members, no_children, refuse_key,
+    JsonKind, ReadRefusal, at_child, check_keys, children, element_name, members, no_children,
+    refuse_key,
 };
 use ts_table_rows::{TableBody, TableItem, TableLayout};
 
@@ -205,4 +206,30 @@ pub fn of_json(alloc: Global, value: &Value) -> Result<Table, ReadRefusal>
     let members = members(alloc, value)?;
     let name = element_name(alloc, members)?;
     read_named(alloc, name, members)
+}
+
+/// The table that is the child of this number.
+fn read_table_at(alloc: Global, place: usize, value: &Value) -> Result<Table, ReadRefusal>
+    ensures read { Answers table_value result (at_child place (table_read (view value.now))) }
+    ensures lawful { IfOk result (λ t. IsTable (table_value t)) }
+{
+    match of_json(alloc, value) {
+        Ok(table) => Ok(table),
+        Err(refusal) => Err(at_child(alloc, place, refusal)),
+    }
+}
+
+/// The tables of elements, each a child of one element; a fault in one is told with its number, from 0.
+pub fn tables_of_json(alloc: Global, nodes: &[Value]) -> Result<Vec<Table>, ReadRefusal>
+    ensures read { Answers (λ v. map table_value v.items) result (read_each table_read 0 (items_view nodes.now)) }
+    ensures lawful { IfOk result (λ v. All (λ t. IsTable (table_value t)) v.items) }
+{
+    let mut tables = Vec::new(alloc);
+    let mut place = 0;
+    for value in nodes {
+        let table = read_table_at(alloc, place, value)?;
+        tables.push(table)?;
+        place += 1;
+    }
+    Ok(tables)
 }

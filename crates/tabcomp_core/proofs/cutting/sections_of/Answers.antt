@@ -4,7 +4,7 @@ use Rattle.std.proofs.lemmas.List.{length-drop, take_rest}
 use Rattle.std.proofs.lemmas.Result.{err_from_is_err_and}
 use Rattle.ts_section.specs.SectionFields.{front_of}
 use Rattle.tabcomp_core.specs.Cutting.{CutsFront, sections_in}
-use Rattle.tabcomp_core.proofs.CutLemmas.{cut_begin, cut_done, cut_goes_on, cut_refused, front_size, with_front}
+use Rattle.tabcomp_core.proofs.CutLemmas.{cut_begin, cut_done, cut_goes_on, cut_refused, front_size, sections_joined, with_front}
 use Rattle.tabcomp_core.proofs.cutting.sections_of.Goals as goal
 
 pub loop-offset-init : goal.loop-offset-init
@@ -13,8 +13,8 @@ loop-offset-init c = record {
   read = ap (λ l. with_front l (sections_in c.args.bytes.now)) c.new-sections.ensures.items ∙ cut_begin (sections_in c.args.bytes.now);
 }
 
-pub returns-in_err-section : goal.returns-in_err-section
-returns-in_err-section c =
+pub returns-in_err-section-clause-cut : goal.returns-in_err-section-clause-cut
+returns-in_err-section-clause-cut c =
     let p = err_from_is_err_and c.from_residual.result c.from_residual.ensures.1 in
     let P : List ℕ → Type 0 = λ l. CutsFront c.loop-offset.offset l {X = List ℕ} (λ s. s) (Err c.in_err-section.field-0.0) in
     let cut = subst P (take_rest c.args.bytes.now c.loop-offset.offset) c.in_err-section.ensures in
@@ -29,5 +29,10 @@ loop-offset-preserved c =
           rw (c.in_ok-push.ensures.items, c.size_of-offset.ensures.size) (cut_goes_on c.args.bytes.now c.loop-offset.offset c.in_ok-section.section c.loop-offset.sections.items _ c.loop-offset-test.true cut.0 cut.1 c.loop-offset.invariant.read);
     }
 
-pub returns : goal.returns
-returns c = cut_done c.args.bytes.now c.loop-offset.offset c.loop-offset.sections.items _ c.loop-offset-test.false c.loop-offset.invariant.read
+pub returns-clause-cut : goal.returns-clause-cut
+returns-clause-cut c = cut_done c.args.bytes.now c.loop-offset.offset c.loop-offset.sections.items _ c.loop-offset-test.false c.loop-offset.invariant.read
+
+pub returns-clause-joined : goal.returns-clause-joined
+returns-clause-joined c =
+    sections_joined c.args.bytes.now c.loop-offset.sections.items
+    (cut_done c.args.bytes.now c.loop-offset.offset c.loop-offset.sections.items _ c.loop-offset-test.false c.loop-offset.invariant.read)

@@ -4,8 +4,8 @@ use Rattle.serde_json.specs.View.{items_view}
 use Rattle.ts_json_tables.specs.HeldTables.{table_value}
 use Rattle.ts_json_tables.specs.LawfulTables.{IsTable}
 use Rattle.ts_json_tables.specs.TableReading.{read_each, table_read}
-use Rattle.tabcomp_core.proofs.EachLemmas.{made_of}
-use Rattle.tabcomp_core.proofs.compiling.read_each_table.Given as goal
+use Rattle.ts_json_tables.proofs.EachLemmas.{made_of}
+use Rattle.ts_json_tables.proofs.reading.tables_of_json.Given as goal
 
 abbrev pub invariant-loop-value : goal.invariant-loop-value
 invariant-loop-value l = record {

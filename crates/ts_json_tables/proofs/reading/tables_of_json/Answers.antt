@@ -7,8 +7,8 @@ use Rattle.serde_json.specs.View.{items_view}
 use Rattle.ts_json_tables.specs.HeldTables.{TableValue, table_value}
 use Rattle.ts_json_tables.specs.LawfulTables.{IsTable}
 use Rattle.ts_json_tables.specs.TableReading.{read_each, table_read}
-use Rattle.tabcomp_core.proofs.EachLemmas.{each_done, each_goes_on, each_stops, itself_done, itself_stops}
-use Rattle.tabcomp_core.proofs.compiling.read_each_table.Goals as goal
+use Rattle.ts_json_tables.proofs.EachLemmas.{each_done, each_goes_on, each_stops, itself_done, itself_stops}
+use Rattle.ts_json_tables.proofs.reading.tables_of_json.Goals as goal
 
 pub returns-in_err-table-clause-read : goal.returns-in_err-table-clause-read
 returns-in_err-table-clause-read c =

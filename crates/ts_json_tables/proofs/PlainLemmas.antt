@@ -1,0 +1,196 @@
+-- Elements have no numbers but whole ones, and are not deep.
+use Rattle.std.proofs.Common.{◌≡◌, ℕ, suc, ◌+◌, ◌≤◌, Bool, true, false, ◌||◌, List, [], ◌∷◌, ◌++◌, map, refl, arith, ◌∙◌, sym, ap, subst, Ordering, Less, Equal, Greater}
+use Rattle.std.specs.Prelude.{Option, Some, None, max}
+use Rattle.std.specs.Ordering.{nat_cmp, match_ordering}
+use Rattle.std.specs.Cmp.Lexicographic.{slice_cmp}
+use Rattle.std.proofs.lemmas.Bool.{or_from, or_parts}
+use Rattle.serde_json.specs.Data.{Data, boolean, number, unsigned, string, array, object, Items, no_items, item, Members, no_members, member, put, depth, items_depth, members_depth}
+use Rattle.serde_json.specs.View.{items_of}
+use Rattle.serde_json.specs.Written.{has_float, items_have_float, members_have_float}
+use Rattle.ts_bits.specs.TaggedBody.{TaggedBody}
+use Rattle.ts_fields.specs.declared.field.Kind.{Kind}
+use Rattle.ts_fields.specs.declared.field.Kind.TheVariants as kinds
+use Rattle.ts_fields.specs.Bodies.{Page, Holding}
+use Rattle.ts_fields.specs.Layout as rows
+use Rattle.ts_fields.specs.Layout.{Row, Held}
+use Rattle.ts_fields.specs.Spelling.{holds}
+use Rattle.ts_fields.specs.Texts.{text_of}
+use Rattle.ts_jtree.specs.Elements.{name_key, nodes_key}
+use Rattle.ts_jtree.specs.Shown.{put_attribute, put_attributes, put_number, put_bytes, put_text_of, put_nodes, element_base, element_members}
+use Rattle.ts_json_descr.specs.DescrElements as descrs
+use Rattle.ts_json_descr.specs.DescrElements.{body_shown, descr_shown, generic_shown, generic_rows, generic_name, shown_by, typed}
+use Rattle.ts_table_rows.specs.TablePages.{ItemPage, TablePage}
+use Rattle.ts_table_rows.specs.TableValues.{ItemHolding, BodyHolding, TableHolding}
+use Rattle.ts_json_tables.specs.HeldTables.{TableValue, laid, short, long}
+use Rattle.ts_json_tables.specs.TableElements.{children_shown, described_shown, descrs_shown, item_shown, items_shown, section_shown, shown_items, table_shown}
+use Rattle.std.specs.Prelude.{slice_get, drop}
+
+-- a value with no float, of at most this depth; a row of values, and members
+pub record IsPlain (most : ℕ) (d : Data) : Type 0 where
+  pub whole : has_float d ≡ false
+  pub shallow : depth d ≤ most
+
+abbrev pub AllPlain : ℕ → List Data → Type 0
+AllPlain most [] = Unit {0}
+AllPlain most (d ∷ ds) = IsPlain most d × AllPlain most ds
+
+pub record ArePlain (most : ℕ) (ms : Members) : Type 0 where
+  pub whole : members_have_float ms ≡ false
+  pub shallow : members_depth ms ≤ most
+
+or_first : (x y : Bool) → (x || y) ≡ false → x ≡ false
+or_first x y none = (or_parts x y none).0
+
+or_second : (x y : Bool) → (x || y) ≡ false → y ≡ false
+or_second x y none = (or_parts x y none).1
+
+plain_member : (most : ℕ) (k : List ℕ) (d : Data) (ms : Members) → IsPlain most d → ArePlain most ms → ArePlain most (member k d ms)
+plain_member most k d ms one more = record {
+  whole = or_from (has_float d) (members_have_float ms) one.whole more.whole;
+  shallow = omega (arith, one.shallow, more.shallow);
+}
+
+first_plain : (most : ℕ) (k : List ℕ) (d : Data) (ms : Members) → ArePlain most (member k d ms) → IsPlain most d
+first_plain most k d ms all = record {
+  whole = or_first (has_float d) (members_have_float ms) all.whole;
+  shallow = omega (arith, all.shallow);
+}
+
+others_plain : (most : ℕ) (k : List ℕ) (d : Data) (ms : Members) → ArePlain most (member k d ms) → ArePlain most ms
+others_plain most k d ms all = record {
+  whole = or_second (has_float d) (members_have_float ms) all.whole;
+  shallow = omega (arith, all.shallow);
+}
+
+by_order : {A : Type 0} (P : A → Type 0) (o : Ordering) (x y z : A) → P x → P y → P z → P (match_ordering o x y z)
+by_order P Less x y z less equal greater = less
+by_order P Equal x y z less equal greater = equal
+by_order P Greater x y z less equal greater = greater
+
+put_plain : (most : ℕ) (k : List ℕ) (d : Data) (ms : Members) → IsPlain most d → ArePlain most ms → ArePlain most (put k d ms)
+put_plain most k d no_members one all = plain_member most k d no_members one all
+put_plain most k d (member l e ms) one all =
+    let others = others_plain most l e ms all in
+    by_order (ArePlain most) (slice_cmp nat_cmp k l) (member k d (member l e ms)) (member l d ms) (member l e (put k d ms))
+    (plain_member most k d (member l e ms) one all)
+    (plain_member most l d ms one others)
+    (plain_member most l e (put k d ms) (first_plain most l e ms all) (put_plain most k d ms one others))
+
+flat : (most : ℕ) (d : Data) → has_float d ≡ false → depth d ≡ 0 → IsPlain most d
+flat most d whole none = record { whole = whole; shallow = omega (arith, none) }
+
+number_plain : (most : ℕ) (held : Option Held) (key : List ℕ) (ms : Members) (show : ℕ → Data) → ((n : ℕ) → IsPlain most (show n))
+    → ArePlain most ms → ArePlain most (put_number held key ms show)
+number_plain most None key ms show each all = all
+number_plain most (Some (rows.number n)) key ms show each all = put_plain most key (show n) ms (each n) all
+number_plain most (Some (rows.bytes b)) key ms show each all = all
+
+bytes_plain : (most : ℕ) (held : Option Held) (ms : Members) (show : List ℕ → Members) → ((b : List ℕ) → ArePlain most (show b))
+    → ArePlain most ms → ArePlain most (put_bytes held ms show)
+bytes_plain most None ms show each all = all
+bytes_plain most (Some (rows.number n)) ms show each all = all
+bytes_plain most (Some (rows.bytes b)) ms show each all = each b
+
+string_plain : (most : ℕ) (key text : List ℕ) (ms : Members) → ArePlain most ms → ArePlain most (put key (string text) ms)
+string_plain most key text ms all = put_plain most key (string text) ms (flat most (string text) refl refl) all
+
+text_plain : (most : ℕ) (o : Option (List ℕ)) (key b : List ℕ) (ms : Members) → ArePlain most ms → ArePlain most (put_text_of o key b ms)
+text_plain most (Some text) key b ms all = string_plain most key text ms all
+text_plain most None key b ms all = string_plain most _ _ ms all
+
+attribute_plain : (most : ℕ) (kind : Kind) (key : List ℕ) (held : Option Held) (ms : Members) → ArePlain most ms
+    → ArePlain most (put_attribute kind key held ms)
+unfolding put_attribute
+attribute_plain most (kinds.Number count) key held ms all =
+    number_plain most held key ms (λ n. number (unsigned n)) (λ n. flat most (number (unsigned n)) refl refl) all
+attribute_plain most (kinds.Ones count) key held ms all = all
+attribute_plain most (kinds.Free count) key held ms all = all
+attribute_plain most kinds.Flag key held ms all = number_plain most held key ms _ (λ n. flat most _ refl refl) all
+attribute_plain most kinds.Start key held ms all = number_plain most held key ms _ (λ n. flat most _ refl refl) all
+attribute_plain most kinds.Duration key held ms all = number_plain most held key ms _ (λ n. flat most _ refl refl) all
+attribute_plain most (kinds.Decimal digits) key held ms all =
+    number_plain most held key ms (λ n. number (unsigned n)) (λ n. flat most (number (unsigned n)) refl refl) all
+attribute_plain most kinds.Language key held ms all = bytes_plain most held ms _ (λ b. string_plain most key b ms all) all
+attribute_plain most kinds.CountedText key held ms all = bytes_plain most held ms _ (λ b. text_plain most (text_of b) key b ms all) all
+attribute_plain most kinds.Text key held ms all = bytes_plain most held ms _ (λ b. text_plain most (text_of b) key b ms all) all
+attribute_plain most kinds.Hex key held ms all = bytes_plain most held ms _ (λ b. string_plain most key _ ms all) all
+
+attributes_plain : (most : ℕ) (rs : List Row) (values : List Held) (ms : Members) → ArePlain most ms → ArePlain most (put_attributes rs values ms)
+unfolding put_attributes
+attributes_plain most [] values ms all = all
+attributes_plain most (r ∷ rs) values ms all =
+    attributes_plain most rs (drop (holds r.kind) values) (put_attribute r.kind r.name (slice_get values 0) ms)
+    (attribute_plain most r.kind r.name (slice_get values 0) ms all)
+
+-- children that are plain, where there are some
+abbrev NodesPlain : ℕ → Option Data → Type 0
+NodesPlain most None = Unit {0}
+NodesPlain most (Some d) = IsPlain most d
+
+nodes_plain : (most : ℕ) (nodes : Option Data) (ms : Members) → NodesPlain most nodes → ArePlain most ms → ArePlain most (put_nodes nodes ms)
+nodes_plain most None ms plain all = all
+nodes_plain most (Some d) ms plain all = put_plain most nodes_key d ms plain all
+
+element_plain : (most : ℕ) (rs : List Row) (called : List ℕ) (nodes : Option Data) (values : List Held) → NodesPlain most nodes
+    → IsPlain (suc most) (object (element_members rs called nodes values))
+element_plain most rs called nodes values plain =
+    let named = string_plain most name_key called no_members (record { whole = refl; shallow = omega arith }) in
+    let all = attributes_plain most rs values (element_base called nodes) (nodes_plain most nodes _ plain named) in
+    record { whole = all.whole; shallow = omega (arith, all.shallow) }
+
+array_plain : (most : ℕ) (ds : List Data) → AllPlain most ds → IsPlain (suc most) (array (items_of ds))
+array_plain most [] all = record { whole = refl; shallow = omega arith }
+array_plain most (d ∷ ds) all =
+    let more = array_plain most ds all.1 in
+    record { whole = or_from (has_float d) (items_have_float (items_of ds)) all.0.whole more.whole; shallow = omega (arith, all.0.shallow, more.shallow) }
+
+each_plain : {A : Type 0} (most : ℕ) (show : A → Data) → ((x : A) → IsPlain most (show x)) → (xs : List A) → AllPlain most (map show xs)
+each_plain most show each [] = tt
+each_plain most show each (x ∷ xs) = (each x, each_plain most show each xs)
+
+both_plain : (most : ℕ) (ds es : List Data) → AllPlain most ds → AllPlain most es → AllPlain most (ds ++ es)
+both_plain most [] es all more = more
+both_plain most (d ∷ ds) es all more = (all.0, both_plain most ds es all.1 more)
+
+-- ---- descriptors
+
+body_plain : (most : ℕ) (p : Page) (h : Holding) → NodesPlain (suc (suc most)) (descrs.items_shown p.items h.items)
+    → IsPlain (suc (suc (suc most))) (body_shown p h)
+body_plain most p h nodes = element_plain (suc (suc most)) p.head p.name (descrs.items_shown p.items h.items) h.head nodes
+
+own_nodes : (most : ℕ) (i : Option (List ℕ × List Row)) (items : List (List Held)) → NodesPlain (suc (suc most)) (descrs.items_shown i items)
+own_nodes most None items = tt
+own_nodes most (Some i) items =
+    array_plain (suc most) (map (descrs.item_shown i) items)
+    (each_plain (suc most) (descrs.item_shown i) (λ values. element_plain most i.1 i.0 None values tt) items)
+
+by_page : (most : ℕ) (o : Option (Page × Holding)) (d : TaggedBody) → IsPlain (suc (suc (suc most))) (shown_by o d)
+by_page most None d = element_plain (suc (suc most)) generic_rows generic_name None _ tt
+by_page most (Some x) d = body_plain most x.0 x.1 (own_nodes most x.0.items x.1.items)
+
+descr_plain : (most : ℕ) (d : TaggedBody) → IsPlain (suc (suc (suc most))) (descr_shown d)
+descr_plain most d = by_page most (typed d) d
+
+-- ---- tables
+
+described_plain : (described : Bool) (ds : List TaggedBody) → NodesPlain 4 (described_shown described ds)
+described_plain false ds = tt
+described_plain true ds = array_plain 3 (descrs_shown ds) (each_plain 3 descr_shown (descr_plain 0) ds)
+
+items_plain : (i : Option ItemPage) (items : List ItemHolding) → AllPlain 5 (items_shown i items)
+items_plain None items = tt
+items_plain (Some i) items =
+    each_plain 5 (item_shown i) (λ x. element_plain 4 i.rows i.name (described_shown i.described x.descriptors) x.values (described_plain i.described x.descriptors)) items
+
+children_plain : (p : TablePage) (b : BodyHolding) → IsPlain 6 (array (items_of (children_shown p b)))
+children_plain p b =
+    array_plain 5 (children_shown p b)
+    (both_plain 5 (descrs_shown b.descriptors) (items_shown p.items (shown_items p.one_zero b.items))
+    (each_plain 5 descr_shown (descr_plain 2) b.descriptors) (items_plain p.items (shown_items p.one_zero b.items)))
+
+pub table_plain : (t : TableValue) → IsPlain 7 (table_shown t)
+table_plain (laid p t) = element_plain 6 _ p.name (Some (array (items_of (children_shown p t.body)))) _ (children_plain p t.body)
+table_plain (short s) = element_plain 6 _ _ None _ tt
+table_plain (long l) =
+    element_plain 6 _ _ (Some (array (items_of (map section_shown l.payloads)))) _
+    (array_plain 5 (map section_shown l.payloads) (each_plain 5 section_shown (λ row. element_plain 4 _ _ None _ tt) l.payloads))
