@@ -1,0 +1,3 @@
+pub mod Spreading
+pub mod Carrying
+pub mod Counting
