@@ -1,5 +1,5 @@
 -- The row of counters, one packet later.
-use Rattle.std.proofs.Common.{◌≡◌, ℕ, zero, suc, ◌+◌, ◌%◌, ◌<◌, List, map, slice_index, slice_set, ◌∙◌, sym, ap, arith, refl}
+use Rattle.std.proofs.Common.{◌≡◌, ℕ, zero, suc, ◌+◌, ◌%◌, ◌<◌, List, map, slice_index, slice_set, ◌∙◌, ap, arith}
 use Rattle.ts_testgen.specs.Rules.{counted, pid_at, earlier}
 use Rattle.ts_testgen.specs.Counters.{counted_pids, counters_at}
 
@@ -8,7 +8,7 @@ wraps : (n : ℕ) → (n % 16 + 1) % 16 ≡ (n + 1) % 16
 wraps n = omega arith
 
 -- a row of counts modulo 16
-abbrev pub row_of : (ℕ → ℕ) → List ℕ
+abbrev row_of : (ℕ → ℕ) → List ℕ
 row_of f = map (λ pid. f pid % 16) counted_pids
 
 -- one more at the place of a PID
@@ -33,16 +33,3 @@ counters_more seed i k h e =
     counted_row (λ pid. earlier seed pid i) k h
     ∙ ap (λ found. row_of (λ pid. counted found pid (earlier seed pid i))) e
     ∙ ap (λ n. counters_at seed n) (let s : suc i ≡ i + 1 = omega arith in s)
-
--- the counter at the place of a PID
-pub counter_kept : (f : ℕ → ℕ) (k : ℕ) → k < 9 → slice_index (row_of f) k ≡ f (slice_index counted_pids k) % 16
-counter_kept f zero h = refl
-counter_kept f (suc zero) h = refl
-counter_kept f (suc (suc zero)) h = refl
-counter_kept f (suc (suc (suc zero))) h = refl
-counter_kept f (suc (suc (suc (suc zero)))) h = refl
-counter_kept f (suc (suc (suc (suc (suc zero))))) h = refl
-counter_kept f (suc (suc (suc (suc (suc (suc zero)))))) h = refl
-counter_kept f (suc (suc (suc (suc (suc (suc (suc zero))))))) h = refl
-counter_kept f (suc (suc (suc (suc (suc (suc (suc (suc zero)))))))) h = refl
-counter_kept f (suc (suc (suc (suc (suc (suc (suc (suc (suc k))))))))) h = absurd (omega arith)

@@ -24,7 +24,8 @@ table_packet pid section = slice_index_or (packets_of pid (section ∷ [])) 0 nu
 abbrev pub clock_at : ℕ → ℕ
 clock_at i = 3000 * i % 2576980377600
 
--- the packet on PID 256 with both an adaptation field, of length 7 and with the PCR flag alone, and 176 bytes of payload
+-- The packet on PID 256 with an adaptation field, of length 7 and with the PCR flag alone,
+-- and 176 bytes of payload.
 abbrev pub clock_packet : ℕ → ℕ → List ℕ → List ℕ
 clock_packet counter clock payload =
     SYNC_BYTE ∷ 256 / 256 ∷ 256 % 256 ∷ (48 + counter) ∷ 7 ∷ 0x10 ∷ clock_bytes (clock / 300) (clock % 300) ++ payload

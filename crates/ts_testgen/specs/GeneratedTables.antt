@@ -1,6 +1,7 @@
--- The four sections of the generated stream. This project's own rule: stream 1 of network 1 has the services 1 and 2.
--- Their layouts: ISO/IEC 13818-1, 2.4.4.3 (PAT) and 2.4.4.8 (PMT); ETSI EN 300 468, 5.2.3 (SDT) and 6.2.33 (service
--- descriptor). Versions are 0, all tables are current, reserved bits are ones.
+-- The four sections of the generated stream.
+-- This project's own rule: stream 1 of network 1 has the services 1 and 2; versions are 0, tables are current.
+-- Their layouts: ISO/IEC 13818-1, 2.4.4.3 (PAT) and 2.4.4.8 (PMT); ETSI EN 300 468, 5.2.3 (SDT) and
+-- 6.2.33 (service descriptor). Reserved bits are ones.
 use Rattle.std.specs.Prelude.{ℕ, ◌+◌, ◌*◌, ◌/◌, ◌%◌, Bool, true, false, List, [], ◌∷◌, ◌++◌, length}
 use Rattle.ts_section.specs.declared.long_head.LongHead.{LongHead}
 use Rattle.ts_section.specs.WrittenSection.{long_section}
@@ -35,7 +36,8 @@ abbrev pub service_descriptor : List ℕ → List ℕ → List ℕ
 service_descriptor provider name =
     0x48 ∷ (3 + length provider + length name) ∷ 1 ∷ length provider ∷ provider ++ length name ∷ name
 
--- A service of the SDT: six ones and EIT flags 0; running_status 4, free_CA_mode 0 and the length of its descriptors.
+-- A service of the SDT: six ones and EIT flags 0; running_status 4, free_CA_mode 0, and the length of
+-- its descriptors.
 abbrev pub sdt_service : ℕ → List ℕ → List ℕ
 sdt_service service_id descriptors =
     two_bytes service_id ++ 0xFC ∷ two_bytes (4 * 8192 + length descriptors) ++ descriptors

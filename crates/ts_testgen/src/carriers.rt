@@ -11,9 +11,11 @@ use ts_packet::{PAYLOAD_SIZE, Packet};
 pub(crate) const FIRST_PID: u16 = 256;
 /// The bytes of a header, and of an adaptation field that has a PCR and nothing else.
 const HEADER: u8 = 4;
+
 const CLOCK_FIELD: u8 = 8;
 /// The PCR counts on by so much a packet, and returns to 0 at 2^33 times 300.
 const CLOCK_STEP: u64 = 3000;
+
 const CLOCK_END: u64 = 2576980377600;
 
 /// The PCR of the packet with a number, in units of 27 MHz. It comes again after 2^32 packets.
@@ -53,9 +55,7 @@ fn clocked(clock: u64) -> Packet
 pub(crate) fn payload_packet(r: u64, component: u8, counter: u8) -> Packet
     requires component { component < 4 }
     requires counter { counter < 16 }
-    ensures {
-        result ≡ packet_with (256 + component) counter (record { unit_start = false; payload = mix.mixed_bytes r 184 })
-    }
+    ensures { result ≡ packet_with (256 + component) counter (record { unit_start = false; payload = mix.mixed_bytes r 184 }) }
 {
     let mut packet = Packet::null();
     packet.set_pid(FIRST_PID + u16::from(component));

@@ -13,11 +13,14 @@ use std::alloc::{AllocError, Global};
 use std::marker::Model;
 use ts_packet::Packet;
 
-/// Gives the packets of the generated stream of a seed, in order. Contracts see the seed, and how many it has given.
+/// Gives the packets of the generated stream of a seed, in order.
+///
+/// Contracts see the seed, and how many packets it has given.
 #[derive(Debug, Drop)]
 pub struct TestGen {
     seed: u64,
     given: u64,
+    /// The counter that the next packet has on each PID, in the order of `counted_pids`.
     counters: [u8; 9],
     tables: Tables,
 }
@@ -47,7 +50,7 @@ impl TestGen {
         })
     }
 
-    /// The next packet. Takes no memory.
+    /// The next packet, of at most 2^60. Takes no memory.
     pub fn next_packet(&mut self) -> Packet
         requires { self.old.given < 2 ^ 60 }
         ensures packet { result ≡ generated self.old.seed self.old.given }
@@ -99,5 +102,5 @@ fn count(counters: &mut [u8; 9], place: usize)
     requires { place < 9 }
     ensures { counters.new ≡ slice_set counters.old place ((slice_index counters.old place + 1) % 16) }
 {
-    counters[place] = (counters[place] % 16 + 1) % 16;
+    counters[place] = counters[place].wrapping_add(1) % 16;
 }

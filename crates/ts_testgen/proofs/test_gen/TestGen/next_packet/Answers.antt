@@ -1,7 +1,6 @@
-use Rattle.std.proofs.Common.{◌≡◌, ◌+◌, ◌%◌, slice_index, slice_set, ◌∙◌, ap, sym}
+use Rattle.std.proofs.Common.{◌≡◌, ◌+◌, ◌%◌, slice_index, slice_set, ◌∙◌, ap}
 use Rattle.ts_testgen.specs.Counters.{counted_pids, counters_at}
 use Rattle.ts_testgen.specs.Rules.{pid_at, pid_by, rule_at}
-use Rattle.ts_testgen.specs.Mixed.{mixed}
 use Rattle.ts_testgen.proofs.Counting.{counters_more}
 use Rattle.ts_testgen.proofs.test_gen.TestGen.next_packet.Goals as goal
 
