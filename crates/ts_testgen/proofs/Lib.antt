@@ -1,0 +1,4 @@
+pub mod Spreading
+pub mod Carrying
+pub mod Counting
+mod Rows

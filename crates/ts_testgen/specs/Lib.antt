@@ -1,0 +1,5 @@
+pub mod Mixed
+pub mod GeneratedTables
+pub mod Rules
+pub mod Generated
+pub mod Counters

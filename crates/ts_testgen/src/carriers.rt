@@ -1,0 +1,65 @@
+//! The packets with a PCR and with a payload alone.
+ghost use Rattle.std.specs.Prelude.{◌≡◌, ◌+◌, ◌<◌, ◌*◌, ◌^◌, false, replicate};
+ghost use Rattle.ts_packetize.specs.Packets.{packet_with};
+ghost use Rattle.ts_testgen.specs.Generated.{clock_at, clock_packet};
+ghost use Rattle.ts_testgen.specs.Mixed as mix;
+
+use crate::mixed::mixed_bytes;
+use ts_packet::{PAYLOAD_SIZE, Packet};
+
+/// The PID of PCRs, the first of the four with payloads.
+pub(crate) const FIRST_PID: u16 = 256;
+/// The bytes of a header, and of an adaptation field that has a PCR and nothing else.
+const HEADER: u8 = 4;
+
+const CLOCK_FIELD: u8 = 8;
+/// The PCR counts on by so much a packet, and returns to 0 at 2^33 times 300.
+const CLOCK_STEP: u64 = 3000;
+
+const CLOCK_END: u64 = 2576980377600;
+
+/// The PCR of the packet with a number, in units of 27 MHz. It comes again after 2^32 packets.
+fn clock_at(i: u64) -> u64
+    ensures clock { result ≡ clock_at i }
+    ensures range { result < 2 ^ 33 * 300 }
+{
+    CLOCK_STEP * (i % (1 << 32)) % CLOCK_END
+}
+
+/// The packet with the PCR of a number and, behind it, the bytes of the number's mix.
+pub(crate) fn clock_packet(r: u64, i: u64, counter: u8) -> Packet
+    requires { counter < 16 }
+    ensures { result ≡ clock_packet counter (clock_at i) (mix.mixed_bytes r 176) }
+{
+    let mut packet = clocked(clock_at(i));
+    packet.set_counter(counter);
+    let payload = mixed_bytes(r);
+    packet.put_payload(HEADER + CLOCK_FIELD, &payload[..PAYLOAD_SIZE - 8]);
+    packet
+}
+
+/// The packet with a PCR, counter 0, and a payload of 0xFF alone.
+fn clocked(clock: u64) -> Packet
+    requires { clock < 2 ^ 33 * 300 }
+    ensures { result ≡ clock_packet 0 clock (replicate 176 0xFF) }
+{
+    let mut packet = Packet::null();
+    packet.set_pid(FIRST_PID);
+    packet.set_adaptation_control(3);
+    packet.put_payload(HEADER, &[7, 0x10]);
+    packet.set_pcr(clock);
+    packet
+}
+
+/// The packet with the bytes of a mix alone, on the PID 256 + `component`.
+pub(crate) fn payload_packet(r: u64, component: u8, counter: u8) -> Packet
+    requires component { component < 4 }
+    requires counter { counter < 16 }
+    ensures { result ≡ packet_with (256 + component) counter (record { unit_start = false; payload = mix.mixed_bytes r 184 }) }
+{
+    let mut packet = Packet::null();
+    packet.set_pid(FIRST_PID + u16::from(component));
+    packet.set_counter(counter);
+    packet.put_payload(HEADER, &mixed_bytes(r));
+    packet
+}

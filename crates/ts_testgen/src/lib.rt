@@ -1,0 +1,14 @@
+//! A seed comes in; a lawful stream with tables, PCRs, payloads and null packets goes out, packet by packet.
+//! The layer above rests on `TestGen::next_packet`, which gives the packet `generated seed given` of its specs.
+#![tactic(auto)]
+
+mod carriers;
+mod mixed;
+mod rule;
+mod tables;
+mod test_gen;
+#[cfg(test)]
+mod tests;
+
+pub use rule::Rule;
+pub use test_gen::TestGen;
