@@ -28,7 +28,8 @@ clock_at i = 3000 * i % 2576980377600
 -- and 176 bytes of payload.
 abbrev pub clock_packet : ℕ → ℕ → List ℕ → List ℕ
 clock_packet counter clock payload =
-    SYNC_BYTE ∷ 256 / 256 ∷ 256 % 256 ∷ (48 + counter) ∷ 7 ∷ 0x10 ∷ clock_bytes (clock / 300) (clock % 300) ++ payload
+    SYNC_BYTE ∷ 256 / 256 ∷ 256 % 256 ∷ (48 + counter) ∷ 7 ∷ 0x10 ∷
+    clock_bytes (clock / 300) (clock % 300) ++ payload
 
 -- a rule's packet, by the number's mix, the number and the counter
 abbrev pub packet_by : Rule → ℕ → ℕ → ℕ → List ℕ

@@ -9,7 +9,15 @@ use Rattle.ts_section.specs.WrittenSection.{long_section}
 -- the head of the one section of a table
 abbrev pub only_head : ℕ → Bool → ℕ → LongHead
 only_head table_id «private» extension =
-    record { table_id = table_id; private = «private»; extension = extension; version = 0; current = true; number = 0; last = 0 }
+    record {
+      table_id = table_id;
+      private = «private»;
+      extension = extension;
+      version = 0;
+      current = true;
+      number = 0;
+      last = 0;
+    }
 
 -- 16 bits
 abbrev pub two_bytes : ℕ → List ℕ
@@ -76,7 +84,8 @@ second_pmt_section = long_section (only_head 0x02 false 2) second_pmt_body
 -- the SDT of the actual stream: network 1, and the services 1 and 2
 abbrev pub sdt_body : List ℕ
 sdt_body =
-    two_bytes 1 ++ 0xFF ∷ sdt_service 1 (service_descriptor provider_text one_text) ++ sdt_service 2 (service_descriptor provider_text two_text)
+    two_bytes 1 ++ 0xFF ∷ sdt_service 1 (service_descriptor provider_text one_text)
+    ++ sdt_service 2 (service_descriptor provider_text two_text)
 
 unfoldable pub sdt_section : List ℕ
 sdt_section = long_section (only_head 0x42 true 1) sdt_body
