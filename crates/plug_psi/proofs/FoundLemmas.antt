@@ -69,10 +69,10 @@ pmts-section d e a b t u s table first stands tables kept pid taken (now, h) = (
 )
 
 pub pat-new :
-    (demux : DemuxState) (assembly : AssemblyState) →
-    demuxing.StandsFor demux 0 [] [] → assembling.StandsFor assembly [] → HoldsPat demux assembly None [] (sections_of_pid 0 [])
-pat-new demux assembly d a =
-    subst (HoldsPat demux assembly None []) (sym (no_sections 0)) (record { demuxed = d; assembled = a; kept = sym (found-none current_pat) })
+    (demux : DemuxState) (assembly : AssemblyState) (pat : Option Pat) →
+    demuxing.StandsFor demux 0 [] [] → assembling.StandsFor assembly [] → pat ≡ None → HoldsPat demux assembly pat [] (sections_of_pid 0 [])
+pat-new demux assembly pat d a e =
+    subst (HoldsPat demux assembly pat []) (sym (no_sections 0)) (record { demuxed = d; assembled = a; kept = ap (option_map pat_held) e ∙ sym (found-none current_pat) })
 
 pub pat-section :
     (d e : DemuxState) (a b : AssemblyState) (t u : Option Pat) (s : List ℕ) (table : Option (List (List ℕ))) →

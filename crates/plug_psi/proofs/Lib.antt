@@ -5,5 +5,6 @@ pub mod EditorLemmas
 pub mod ForceLemmas
 pub mod FoundLemmas
 pub mod LastTableLemmas
+pub mod MarkLemmas
 pub mod OrdinalLemmas
 pub mod PatLemmas

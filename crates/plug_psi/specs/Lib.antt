@@ -10,3 +10,4 @@ pub mod ForceState
 pub mod InForce
 pub mod LastFound
 pub mod LastTables
+pub mod PidMarks

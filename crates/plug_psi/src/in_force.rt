@@ -77,14 +77,14 @@ impl InForce {
     pub fn names(&self, pid: u16) -> bool
         ensures { (fed : List (List ℕ)) → StandsFor self.now fed → result ≡ names (pat_of fed) pid }
     {
-        self.zero.names(pid)
+        self.zero.pat.names(pid)
     }
 
     /// The PMT in force of a service, if there is one.
     pub fn pmt(&self, service: u16) -> Option<&Pmt>
         ensures { (fed : List (List ℕ)) → StandsFor self.now fed → option_map pmt_held (option_copied result) ≡ pmt_of service fed }
     {
-        match self.zero.pid_for(service) {
+        match self.zero.pat.pid_for(service) {
             Some(pid) => pmt_in(&self.pids, pid, service),
             None => None,
         }
@@ -110,7 +110,7 @@ impl InForce {
 fn is_taken(zero: &OnZero, pid: u16) -> bool
     ensures { result ≡ (names (option_map pat_held zero.now.pat) pid && not (pid == NULL_PID)) }
 {
-    zero.names(pid) && pid != NULL_PID
+    zero.pat.names(pid) && pid != NULL_PID
 }
 
 /// Sees that a PID has its entry.

@@ -4,6 +4,7 @@
 #![tactic(auto)]
 
 mod contents;
+mod current_pat;
 mod edit;
 mod edited;
 mod editor;
@@ -11,7 +12,6 @@ mod in_force;
 mod laws;
 mod on_pid;
 mod on_zero;
-mod pat_entries;
 
 pub use edit::{Edited, TableEdit};
 pub use editor::Editor;

@@ -7,7 +7,7 @@ ghost use Rattle.plug_psi.specs.LastFound.{newer};
 ghost use Rattle.plug_psi.specs.InForce.{current_pat};
 ghost use Rattle.plug_psi.specs.ForceState.{HoldsPat};
 
-use crate::pat_entries::{names, pid_for};
+use crate::current_pat::CurrentPat;
 use std::alloc::{AllocError, Global};
 use ts_demux::{Assembly, Demux};
 use ts_packet::Packet;
@@ -20,12 +20,11 @@ use ts_table_rows::TableFault;
 pub(crate) struct OnZero {
     demux: Demux,
     assembly: Assembly,
-    pub(crate) pat: Option<Pat>,
+    pub(crate) pat: CurrentPat,
 }
 
 impl OnZero {
     ghost use Rattle.plug_psi.specs.ForceState.{HasFed};
-    ghost use Rattle.plug_psi.specs.InForce.{names, pid_for};
 
     /// No packet was fed.
     pub(crate) fn new(alloc: Global) -> Result<OnZero, AllocError>
@@ -34,7 +33,7 @@ impl OnZero {
         Ok(OnZero {
             demux: Demux::new(alloc, 0)?,
             assembly: Assembly::new(alloc)?,
-            pat: None,
+            pat: CurrentPat::none(alloc)?,
         })
     }
 
@@ -45,26 +44,6 @@ impl OnZero {
         self.demux.feed(packet)?;
         take_pats(alloc, &mut self.demux, &mut self.assembly, &mut self.pat)
     }
-
-    /// Whether a service has this PID.
-    pub(crate) fn names(&self, pid: u16) -> bool
-        ensures { result ≡ names (option_map pat_held self.now.pat) pid }
-    {
-        match &self.pat {
-            Some(pat) => names(pat, pid),
-            None => false,
-        }
-    }
-
-    /// The PID of the first entry of a service.
-    pub(crate) fn pid_for(&self, service: u16) -> Option<u16>
-        ensures { result ≡ pid_for (option_map pat_held self.now.pat) service }
-    {
-        match &self.pat {
-            Some(pat) => pid_for(pat, service),
-            None => None,
-        }
-    }
 }
 
 /// Takes the sections that wait.
@@ -72,7 +51,7 @@ fn take_pats(
     alloc: Global,
     demux: &mut Demux,
     assembly: &mut Assembly,
-    pat: &mut Option<Pat>,
+    pat: &mut CurrentPat,
 ) -> Result<(), AllocError>
     ensures { OnOk result ((fed given : List (List ℕ)) → HoldsPat demux.old assembly.old pat.old fed given
         → HoldsPat demux.new assembly.new pat.new fed (sections_of_pid 0 fed)) }
@@ -86,13 +65,13 @@ fn take_pats(
 }
 
 /// Keeps the PAT that a table is, if it is a current one.
-fn keep_pat(alloc: Global, pat: &mut Option<Pat>, table: &TableRun) -> Result<(), AllocError>
+fn keep_pat(alloc: Global, pat: &mut CurrentPat, table: &TableRun) -> Result<(), AllocError>
     ensures { OnOk result (option_map pat_held pat.new ≡ newer (option_map pat_held pat.old) (current_pat table.now)) }
 {
     let Some(read) = read_current(alloc, table)? else {
         return Ok(());
     };
-    *pat = Some(read);
+    pat.set(read);
     Ok(())
 }
 

@@ -74,7 +74,10 @@ fn packets_of_a_pat_are_replaced(rt: HostRuntime) -> Result<(), Fail> {
     let mut first = pat_packet(rt.alloc())?;
     first.set_counter(7);
     editor.step(&mut first)?;
-    assert_eq!(rt; (first.pid(), first.counter(), first.unit_start()), (0, 0, true));
+    assert_eq!(rt;
+        (first.pid(), first.counter(), first.unit_start()),
+        (0, 0, true)
+    );
     assert_eq!(rt; first.payload().get(8).copied(), Some(0x00));
     let mut second = first;
     editor.step(&mut second)?;

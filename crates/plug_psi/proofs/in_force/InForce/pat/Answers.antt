@@ -5,4 +5,4 @@ use Rattle.plug_psi.proofs.ForceLemmas.{pat-kept}
 use Rattle.plug_psi.proofs.in_force.InForce.pat.Goals as goal
 
 pub returns : goal.returns
-returns c = λ fed h. ap (option_map pat_held) c.as_ref.ensures.value ∙ pat-kept c.args.self.now.zero fed h.pat_fed
+returns c = λ fed h. ap (option_map pat_held) c.as_ref.ensures ∙ pat-kept c.args.self.now.zero fed h.pat_fed

@@ -1,0 +1,154 @@
+//! The PAT in force.
+
+ghost use Rattle.std.specs.Prelude.{◌≡◌, ℕ, ◌<◌, ◌==◌, [], List, None, Some, false, length, map, replicate, slice_index_or, IfOk, option_map};
+ghost use Rattle.std.specs.List.{filter_map, list_any};
+ghost use Rattle.std.specs.Map.{lookup};
+ghost use Rattle.std.specs.Option.{option_copied};
+ghost use Rattle.ts_psi.specs.PatTables.{pat_held, service_item};
+ghost use Rattle.plug_psi.specs.InForce.{names, pid_for, service_in};
+ghost use Rattle.plug_psi.specs.PidMarks.{IsMarked};
+
+use std::alloc::{AllocError, Global};
+use std::marker::Model;
+use ts_packet::PID_COUNT;
+use ts_psi::{Pat, PatService};
+
+/// The PAT in force, if there is one. Of each PID it tells by one look whether one of its services has it.
+#[derive(Drop)]
+pub(crate) struct CurrentPat {
+    pat: Option<Pat>,
+    marks: Vec<bool>,
+}
+
+// Clauses see the PAT.
+impl Model for CurrentPat {
+    ghost use Rattle.std.specs.Prelude.{Option, option_map};
+    ghost use Rattle.ts_psi.specs.PatTables.{pat_held};
+    ghost use Rattle.ts_psi.specs.declared.pat.Pat.{Pat};
+    ghost use Rattle.plug_psi.specs.PidMarks.{IsMarked};
+
+    ghost Value = { Option Pat };
+
+    ghost view = { λ c. c.pat };
+
+    ghost invariant = { λ c. IsMarked c.marks.items (option_map pat_held c.pat) };
+}
+
+impl CurrentPat {
+    /// No PAT is in force. It takes 8 KiB.
+    pub(crate) fn none(alloc: Global) -> Result<CurrentPat, AllocError>
+        ensures { IfOk result (λ current. current ≡ None) }
+    {
+        Ok(CurrentPat {
+            pat: None,
+            marks: no_marks(alloc)?,
+        })
+    }
+
+    /// The PAT.
+    pub(crate) fn as_ref(&self) -> Option<&Pat>
+        ensures { option_copied result ≡ self.now }
+    {
+        self.pat.as_ref()
+    }
+
+    /// Whether a service has this PID.
+    #[inline]
+    pub(crate) fn names(&self, pid: u16) -> bool
+        ensures { result ≡ names (option_map pat_held self.now) pid }
+    {
+        flag_of(&self.marks, pid)
+    }
+
+    /// The PID of the first entry of a service.
+    pub(crate) fn pid_for(&self, service: u16) -> Option<u16>
+        ensures { result ≡ pid_for (option_map pat_held self.now) service }
+    {
+        match &self.pat {
+            Some(pat) => pid_among(pat.services.as_slice(), service),
+            None => None,
+        }
+    }
+
+    /// Another PAT is in force. Takes no memory.
+    pub(crate) fn set(&mut self, pat: Pat)
+        ensures { self.new ≡ Some pat }
+    {
+        mark(&mut self.marks, pat.services.as_slice());
+        self.pat = Some(pat);
+    }
+}
+
+/// The flag of a PID.
+#[inline]
+fn flag_of(marks: &[bool], pid: u16) -> bool
+    ensures { result ≡ slice_index_or marks.now pid false }
+{
+    match marks.get(usize::from(pid)) {
+        Some(flag) => *flag,
+        None => false,
+    }
+}
+
+/// A flag for each PID, none of which is set.
+fn no_marks(alloc: Global) -> Result<Vec<bool>, AllocError>
+    ensures { IfOk result (λ marks. IsMarked marks.items None) }
+{
+    let mut marks = Vec::with_capacity(alloc, usize::from(PID_COUNT))?;
+    for _ in 0..PID_COUNT {
+        marks.push(false)?;
+    }
+    Ok(marks)
+}
+
+/// Sets the flags of the PIDs of services, and no others.
+fn mark(marks: &mut [bool], services: &[PatService])
+    requires { length marks.old ≡ PID_COUNT }
+    ensures whole { length marks.new ≡ PID_COUNT }
+    ensures tells { (pid : ℕ) → slice_index_or marks.new pid false
+        ≡ list_any (λ entry. entry.1 == pid) (filter_map service_in (map service_item services.now)) }
+{
+    clear(marks);
+    mark_services(marks, services);
+}
+
+/// Takes all flags back.
+fn clear(marks: &mut [bool])
+    ensures { marks.new ≡ replicate (length marks.old) false }
+{
+    marks.fill(false);
+}
+
+/// Sets the flags of the PIDs of services, where none is set.
+fn mark_services(marks: &mut [bool], services: &[PatService])
+    requires none { marks.old ≡ replicate PID_COUNT false }
+    ensures whole { length marks.new ≡ PID_COUNT }
+    ensures tells { (pid : ℕ) → slice_index_or marks.new pid false
+        ≡ list_any (λ entry. entry.1 == pid) (filter_map service_in (map service_item services.now)) }
+{
+    for service in services {
+        let (_, pid) = parts(service);
+        marks[usize::from(pid)] = true;
+    }
+}
+
+/// The PID of the first of some services with this number.
+fn pid_among(services: &[PatService], id: u16) -> Option<u16>
+    ensures { result ≡ lookup (λ n. n == id) (filter_map service_in (map service_item services.now)) }
+{
+    for service in services {
+        let (its, pid) = parts(service);
+        if its == id {
+            return Some(pid);
+        }
+    }
+    None
+}
+
+/// The number and the PID of a service.
+fn parts(service: &PatService) -> (u16, u16)
+    ensures pair { service_in (service_item service.now) ≡ Some (result.0, result.1) }
+    ensures in_range { result.1 < PID_COUNT }
+{
+    (service.service_id, service.pid)
+}
