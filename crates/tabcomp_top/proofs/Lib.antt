@@ -1,0 +1,4 @@
+pub mod PutLemmas
+pub mod CallLemmas
+pub mod CauseLemmas
+pub mod Rows

@@ -1,0 +1,5 @@
+use Rattle.tabcomp_top.proofs.CauseLemmas as lemmas
+use Rattle.tabcomp_top.proofs.law.causes.Goals as goal
+
+pub returns-clause-lawful : goal.returns-clause-lawful
+returns-clause-lawful c = lemmas.causes

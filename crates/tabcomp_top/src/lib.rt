@@ -1,0 +1,18 @@
+//! The top call of `tstabcomp`: words and a desk come in; sections or a JSON text go out, and a status comes
+//! back. The program uses the clauses of `tabcomp_call` and of `TabStatus::exit_code`, and nothing else.
+#![tactic(auto)]
+
+mod call;
+mod conversion;
+mod job;
+mod law;
+mod putting;
+mod status;
+mod task;
+mod telling;
+#[cfg(test)]
+mod tests;
+
+pub use call::tabcomp_call;
+pub use law::{causes, completeness};
+pub use status::TabStatus;
