@@ -1,0 +1,100 @@
+-- One cell more.
+use Rattle.std.proofs.Common.{◌≡◌, ◌≢◌, ℕ, ◌<◌, ◌≤◌, Bool, true, false, List, [], ◌∷◌, ◌++◌, length, filter, refl, sym, ◌∙◌, ap, arith, append-nil, length-append, subst}
+use Rattle.std.specs.Prelude.{◌&&◌, if◌then◌else◌, nat_eq, nat_lt}
+use Rattle.std.proofs.lemmas.Grind.{flat_map-append}
+use Rattle.std.proofs.lemmas.List.Elements.{filter-append}
+use Rattle.ts_packet.specs.declared.cell.Cell.{Cell}
+use Rattle.ts_packet.specs.declared.cell.Cell.TheVariants.{Live}
+use Rattle.ts_packet.specs.declared.numbers.TheConstants.{NULL_PID}
+use Rattle.ts_packet.specs.Cells.{live_packets, packet_in}
+use Rattle.ts_packet.specs.Header.{pid_of}
+use Rattle.plug_psi.specs.Edits.{Change}
+use Rattle.plug_psi.specs.EditorStands.{StandsFor, has_failed}
+use Rattle.plug_psi.specs.declared.editor.Editor.{Editor}
+use Rattle.plug_edit.specs.EditRule.{is_taken, taken_of}
+
+if_true : {X : Type 0} (b : Bool) (x y : X) → b ≡ true → (if b then x else y) ≡ x
+if_true true x y e = refl
+if_true false x y e = cc
+
+if_false : {X : Type 0} (b : Bool) (x y : X) → b ≡ false → (if b then x else y) ≡ y
+if_false true x y e = cc
+if_false false x y e = refl
+
+-- a packet on another PID
+pub other_pid : (pid : ℕ) (packet : List ℕ) → pid_of packet ≢ pid → is_taken pid packet ≡ false
+other_pid pid packet h = ap (λ b. b && nat_lt pid NULL_PID) (differ (pid_of packet) pid h)
+  where
+    differ : (a b : ℕ) → a ≢ b → nat_eq a b ≡ false
+    differ a b h = grind (arith, h)
+
+-- an editor of null packets takes none
+pub null_pid : (pid : ℕ) (packet : List ℕ) → NULL_PID ≤ pid → is_taken pid packet ≡ false
+null_pid pid packet h = ap (λ b. nat_eq (pid_of packet) pid && b) (above h) ∙ never (nat_eq (pid_of packet) pid)
+  where
+    above : NULL_PID ≤ pid → nat_lt pid NULL_PID ≡ false
+    above h = grind (arith, h)
+
+    never : (b : Bool) → (b && false) ≡ false
+    never true = refl
+    never false = refl
+
+-- a packet on the PID of an editor
+pub same_pid : (pid : ℕ) (packet : List ℕ) → pid_of packet ≡ pid → pid < NULL_PID → is_taken pid packet ≡ true
+same_pid pid packet same below = ap (λ b. b && nat_lt pid NULL_PID) (equal (pid_of packet) pid same) ∙ told below
+  where
+    equal : (a b : ℕ) → a ≡ b → nat_eq a b ≡ true
+    equal a b h = grind (arith, h)
+
+    told : pid < NULL_PID → nat_lt pid NULL_PID ≡ true
+    told h = grind (arith, h)
+
+-- what the rule makes of a packet that is not taken, and of one that is
+pub passed_other : (pid : ℕ) (packet new : List ℕ) → is_taken pid packet ≡ false → packet ≡ (if is_taken pid packet then new else packet)
+passed_other pid packet new e = sym (if_false (is_taken pid packet) new packet e)
+
+pub passed_taken : (pid : ℕ) (packet new : List ℕ) → is_taken pid packet ≡ true → new ≡ (if is_taken pid packet then new else packet)
+passed_taken pid packet new e = sym (if_true (is_taken pid packet) new packet e)
+
+taken-live : (pid : ℕ) (history : List Cell) (packet : List ℕ) (labels : ℕ) → taken_of pid (history ++ Live packet labels ∷ []) ≡ taken_of pid history ++ filter (is_taken pid) (packet ∷ [])
+taken-live pid history packet labels =
+    ap (filter (is_taken pid)) (flat_map-append packet_in history (Live packet labels ∷ []))
+    ∙ filter-append (is_taken pid) (live_packets history) (packet ∷ [])
+
+taken-other : (pid : ℕ) (history : List Cell) (packet : List ℕ) (labels : ℕ) → is_taken pid packet ≡ false → taken_of pid (history ++ Live packet labels ∷ []) ≡ taken_of pid history
+taken-other pid history packet labels e =
+    taken-live pid history packet labels ∙ ap (λ t. taken_of pid history ++ t) (if_false (is_taken pid packet) (packet ∷ []) [] e) ∙ append-nil (taken_of pid history)
+
+taken-more : (pid : ℕ) (history : List Cell) (packet : List ℕ) (labels : ℕ) → is_taken pid packet ≡ true → taken_of pid (history ++ Live packet labels ∷ []) ≡ taken_of pid history ++ packet ∷ []
+taken-more pid history packet labels e =
+    taken-live pid history packet labels ∙ ap (λ t. taken_of pid history ++ t) (if_true (is_taken pid packet) (packet ∷ []) [] e)
+
+marked : (mark : ℕ) (history : List Cell) (cell : Cell) → mark ≤ length history → mark ≤ length (history ++ cell ∷ [])
+marked mark history cell h = omega (arith, h, length-append history (cell ∷ []))
+
+-- what a plugin around an editor stands for
+abbrev Stands : {E : Type 0} → (List (List ℕ) → Change) → Editor E → ℕ → List Cell → ℕ → Type 0
+Stands change editor pid history mark = (has_failed editor ≡ false → pid < NULL_PID → StandsFor change editor pid (taken_of pid history)) × (mark ≤ length history)
+
+pub meets_other :
+    {E : Type 0} (change : List (List ℕ) → Change) (editor : Editor E) (pid mark : ℕ) (history : List Cell) (cell : Cell) (packet : List ℕ) (labels : ℕ) →
+    cell ≡ Live packet labels → is_taken pid packet ≡ false → Stands change editor pid history mark → Stands change editor pid (history ++ cell ∷ []) mark
+meets_other change editor pid mark history cell packet labels is e s = (
+  λ works below. subst (StandsFor change editor pid) (sym (ap (λ x. taken_of pid (history ++ x ∷ [])) is ∙ taken-other pid history packet labels e)) (s.0 works below),
+  marked mark history cell s.1,
+)
+
+pub meets_taken :
+    {E : Type 0} (change change' : List (List ℕ) → Change) (old new : Editor E) (pid mark : ℕ) (history : List Cell) (cell : Cell) (packet : List ℕ) (labels : ℕ) →
+    cell ≡ Live packet labels → is_taken pid packet ≡ true → pid < NULL_PID → change ≡ change' → has_failed old ≡ false →
+    ((q : ℕ) (taken : List (List ℕ)) → StandsFor change old q taken → StandsFor change new q (taken ++ packet ∷ [])) →
+    Stands change old pid history mark → Stands change' new pid (history ++ cell ∷ []) mark
+meets_taken change change' old new pid mark history cell packet labels is e below same works step s = (
+  λ _ _. subst (λ c. StandsFor c new pid (taken_of pid (history ++ cell ∷ []))) same
+      (subst (StandsFor change new pid) (sym (ap (λ x. taken_of pid (history ++ x ∷ [])) is ∙ taken-more pid history packet labels e)) (step pid (taken_of pid history) (s.0 works below))),
+  marked mark history cell s.1,
+)
+
+pub not_true : (b : Bool) → (b ≡ true → false ≡ true) → b ≡ false
+not_true true h = sym (h refl)
+not_true false h = refl

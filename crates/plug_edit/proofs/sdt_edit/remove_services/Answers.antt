@@ -1,0 +1,13 @@
+use Rattle.std.proofs.Common.{rules, map, ap, refl, ◌∙◌}
+use Rattle.std.specs.Prelude.{not}
+use Rattle.std.proofs.lemmas.Fn.{filter_same}
+use Rattle.ts_si.specs.SiTables.{service_item}
+use Rattle.plug_conf.specs.NumberSet.{has_number}
+use Rattle.plug_edit.specs.NumbersHeld.{number_at}
+use Rattle.plug_edit.proofs.ChangingLemmas.{kept_view}
+use Rattle.plug_edit.proofs.sdt_edit.remove_services.Goals as goal
+
+pub returns : goal.returns
+returns c =
+    ap (map service_item) (filter_same _ (λ s. not (has_number c.args.listed.now s.service_id)) _ (λ x b f' k. search rules) _ _ c.retain.ensures.filtered)
+    ∙ kept_view service_item (λ s. not (has_number c.args.listed.now s.service_id)) (λ item. not (has_number c.args.listed.now (number_at item.values 0))) (λ x. refl) c.args.services.now.items

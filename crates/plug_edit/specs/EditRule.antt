@@ -1,0 +1,24 @@
+-- The rule of an editor of the tables of one PID.
+-- This project's own rule, over the cycles of edited contents: null packets, on PID 8191, are never taken.
+use Rattle.std.specs.Prelude.{ℕ, ◌&&◌, Bool, List, filter, nat_eq, nat_lt, if◌then◌else◌}
+use Rattle.ts_packet.specs.declared.cell.Cell.{Cell}
+use Rattle.ts_packet.specs.declared.numbers.TheConstants.{NULL_PID}
+use Rattle.ts_packet.specs.Cells.{live_packets}
+use Rattle.ts_packet.specs.Header.{pid_of}
+use Rattle.chain_model.specs.PluginRule.{PluginRule, passes}
+use Rattle.plugin_trait.specs.SilentRule.{silent_rule}
+use Rattle.plug_psi.specs.Edits.{Change}
+use Rattle.plug_psi.specs.EditedCycles.{replaced}
+
+-- a packet is taken by an editor of this PID
+abbrev pub is_taken : ℕ → List ℕ → Bool
+is_taken pid packet = nat_eq (pid_of packet) pid && nat_lt pid NULL_PID
+
+-- the packets that the editor took, of the cells that it met
+abbrev pub taken_of : ℕ → List Cell → List (List ℕ)
+taken_of pid history = filter (is_taken pid) (live_packets history)
+
+-- a taken packet is replaced by that of the cycle of the edited contents, and all others pass
+abbrev pub edit_rule : ℕ → (List (List ℕ) → Change) → PluginRule
+edit_rule pid edit = silent_rule (λ history packet.
+    passes (if is_taken pid packet then replaced pid edit (taken_of pid history) packet else packet))

@@ -1,0 +1,23 @@
+-- The numbers and bytes that the fields of a table, an item or a descriptor hold, by their places. This project's own rule.
+use Rattle.std.specs.Prelude.{ℕ, List, [], slice_get, Option, Some, None}
+use Rattle.ts_fields.specs.Layout.{Held, number, bytes}
+
+-- what a field holds as a number; 0 where it is not there or holds bytes
+abbrev pub number_in : Option Held → ℕ
+number_in None = 0
+number_in (Some (number n)) = n
+number_in (Some (bytes b)) = 0
+
+-- the number that stands at a place among the values, from 0; fields of a layout stand where the layout has them
+abbrev pub number_at : List Held → ℕ → ℕ
+number_at values place = number_in (slice_get values place)
+
+-- what a field holds as bytes; none where it is not there or holds a number
+abbrev pub bytes_in : Option Held → List ℕ
+bytes_in None = []
+bytes_in (Some (number n)) = []
+bytes_in (Some (bytes b)) = b
+
+-- the bytes that stand at a place among the values
+abbrev pub bytes_at : List Held → ℕ → List ℕ
+bytes_at values place = bytes_in (slice_get values place)

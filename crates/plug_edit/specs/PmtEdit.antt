@@ -1,0 +1,73 @@
+-- The edit of a PMT.
+-- ISO/IEC 13818-1, 2.4.4.8: a component has a stream_type, an elementary_PID and descriptors. The edit is this project's
+-- own rule: components are left out, then others are put in, then PIDs are moved, then PCR_PID and version are set.
+use Rattle.std.specs.Prelude.{ℕ, Bool, List, [], ◌∷◌, filter, fold, map, nat_eq, not, unwrap_or, if◌then◌else◌}
+use Rattle.ts_fields.specs.Layout.{number}
+use Rattle.ts_table_rows.specs.TableValues.{ItemHolding, TableHolding}
+use Rattle.ts_psi.specs.declared.pmt.Component.{Component}
+use Rattle.plug_conf.specs.NumberSet.{has_number}
+use Rattle.plug_edit.specs.Changing.{changed_first}
+use Rattle.plug_edit.specs.NumbersHeld.{number_at}
+use Rattle.plug_edit.specs.Versions.{edited_version}
+use Rattle.plug_edit.specs.declared.pmt_conf.EditPmtConf.{EditPmtConf}
+
+-- the elementary_PID of a component
+abbrev pub component_pid : ItemHolding → ℕ
+component_pid component = number_at component.values 1
+
+-- a component stands on this PID
+abbrev pub is_on : ℕ → Component → Bool
+is_on pid component = nat_eq component.pid pid
+
+-- a component with another stream_type
+abbrev pub with_type : ℕ → ItemHolding → ItemHolding
+with_type type component = record component { values = number type ∷ number (component_pid component) ∷ [] }
+
+-- a component with another PID
+abbrev pub with_pid : ℕ → ItemHolding → ItemHolding
+with_pid pid component = record component { values = number (number_at component.values 0) ∷ number pid ∷ [] }
+
+-- a component of this type on this PID, without descriptors
+abbrev pub new_component : ℕ → ℕ → ItemHolding
+new_component type pid = record { values = number type ∷ number pid ∷ []; descriptors = [] }
+
+-- components without those whose PIDs are listed
+abbrev pub without_components : List (ℕ × ℕ) → List ItemHolding → List ItemHolding
+without_components listed components = filter (λ component. not (has_number listed (component_pid component))) components
+
+-- the first component of a PID gets a type; where none has the PID, a new one comes last
+abbrev pub with_component : List ItemHolding → ℕ × ℕ → List ItemHolding
+with_component components added =
+    changed_first (λ component. nat_eq (component_pid component) added.0) (with_type added.1) (new_component added.1 added.0) components
+
+-- one component after another
+abbrev pub with_components : List ItemHolding → List (ℕ × ℕ) → List ItemHolding
+with_components components added = fold with_component components added
+
+-- the PID that a PID becomes where one is moved
+abbrev pub moved : ℕ → ℕ × ℕ → ℕ
+moved pid pair = if nat_eq pid pair.0 then pair.1 else pid
+
+-- the PID that it becomes where one after another is moved
+abbrev pub moved_by : ℕ → List (ℕ × ℕ) → ℕ
+moved_by pid pairs = fold moved pid pairs
+
+-- a component whose PID is moved
+abbrev pub moved_component : List (ℕ × ℕ) → ItemHolding → ItemHolding
+moved_component pairs component = with_pid (moved_by (component_pid component) pairs) component
+
+-- the components after the edit
+abbrev pub edited_components : EditPmtConf → List ItemHolding → List ItemHolding
+edited_components conf components =
+    map (moved_component conf.move_pid) (with_components (without_components conf.remove_pid components) conf.add_pid)
+
+-- a PMT after the edit
+abbrev pub edited_pmt : EditPmtConf → TableHolding → TableHolding
+edited_pmt conf table = record {
+  head = record table.head { version = edited_version conf.new_version conf.increment_version table.head.version };
+  body = record {
+    values = number (unwrap_or conf.pcr_pid (moved_by (number_at table.body.values 0) conf.move_pid)) ∷ [];
+    descriptors = table.body.descriptors;
+    items = edited_components conf table.body.items;
+  };
+}

@@ -1,0 +1,30 @@
+-- What an edit of tables makes of a run of sections.
+-- ISO/IEC 13818-1, 2.4.4, and ETSI EN 300 468, 5.2: a table that is current holds now. Which tables are edited is this
+-- project's own rule: the current ones of the edited kind that read. A table whose edit has no sections stays as it is,
+-- and one that an edit leaves as it was is written anew all the same.
+use Rattle.std.specs.Prelude.{ℕ, ◌&&◌, Bool, List, nat_eq, Option, Some, None, Result, Ok, Err, if◌then◌else◌}
+use Rattle.ts_table_rows.specs.declared.fault.TableRefusal.{TableRefusal}
+use Rattle.ts_table_rows.specs.TablePages.{TablePage}
+use Rattle.ts_table_rows.specs.TableSections.{sections_of}
+use Rattle.ts_table_rows.specs.TableValues.{TableHolding}
+use Rattle.plug_psi.specs.Edits.{Change, same, instead}
+
+-- the sections, if there are some, in place of the run
+abbrev pub in_place : Result (List (List ℕ)) TableRefusal → Change
+in_place (Ok sections) = instead sections
+in_place (Err refusal) = same
+
+-- a table written anew; none leaves the run as it is
+abbrev pub written_anew : TablePage → Option TableHolding → Change
+written_anew page None = same
+written_anew page (Some table) = in_place (sections_of page table)
+
+-- a table is current, and of this table_id
+abbrev pub is_edited : ℕ → TableHolding → Bool
+is_edited table_id table = table.head.current && nat_eq table.head.table_id table_id
+
+-- what becomes of a run that holds a table, or none, by the edit of the tables of a table_id
+abbrev pub changed_by : TablePage → ℕ → (TableHolding → Option TableHolding) → Option TableHolding → Change
+changed_by page table_id edit None = same
+changed_by page table_id edit (Some table) =
+    if is_edited table_id table then written_anew page (edit table) else same

@@ -1,0 +1,81 @@
+//! Editors of the tables of one PID.
+
+ghost use Rattle.std.specs.Prelude.{◌≡◌, ◌≤◌, [], None, IfOk};
+ghost use Rattle.plug_edit.specs.EditRule.{edit_rule};
+
+use plug_psi::{Editor, TableEdit};
+use plugin_trait::{Line, Outcome, Plugin, silent_report};
+use std::alloc::{AllocError, Global};
+use ts_packet::{Cell, NULL_PID};
+
+/// Puts packets of cycles of the edited contents of a PID in the place of its packets.
+///
+/// A step on the PID may want memory, and then every later step on it does.
+#[derive(Drop)]
+pub struct EditPid<E: TableEdit + Drop> {
+    pid: u16,
+    /// It is not asked where the PID is that of null packets.
+    editor: Editor<E>,
+    alloc: Global,
+}
+
+impl<E: TableEdit + Drop> EditPid<E> {
+    /// A plugin that met no cell yet. On PID 8191 nothing is edited.
+    pub fn over(alloc: Global, pid: u16, edit: E) -> Result<EditPid<E>, AllocError>
+        requires { pid ≤ NULL_PID }
+        ensures rule { IfOk result (λ plugin. ⟦<EditPid<E> as Plugin>⟧.rule plugin ≡ edit_rule pid (E.change edit)) }
+        ensures fresh { IfOk result (λ plugin. ⟦<EditPid<E> as Plugin>⟧.stands_for plugin [] 0) }
+        ensures steady { IfOk result (λ plugin. ⟦<EditPid<E> as Plugin>⟧.steady plugin ≡ None) }
+    {
+        let edited = if pid < NULL_PID { pid } else { 0 };
+        Ok(EditPid {
+            pid,
+            editor: Editor::new(alloc, edited, edit)?,
+            alloc,
+        })
+    }
+}
+
+impl<E: TableEdit + Drop> Plugin for EditPid<E> {
+    ghost use Rattle.std.specs.Prelude.{◌≡◌, ◌<◌, ◌≤◌, length, None, false, refl};
+    ghost use Rattle.ts_packet.specs.declared.numbers.TheConstants.{NULL_PID};
+    ghost use Rattle.plug_psi.specs.EditorStands.{StandsFor, edit_of, has_failed};
+    ghost use Rattle.plug_edit.specs.EditRule.{edit_rule, taken_of};
+
+    ghost rule = { λ s. edit_rule s.pid (E.change (edit_of s.editor)) };
+
+    ghost stands_for = { λ s history mark. (has_failed s.editor ≡ false → s.pid < NULL_PID
+        → StandsFor (E.change (edit_of s.editor)) s.editor s.pid (taken_of s.pid history)) × (mark ≤ length history) };
+
+    ghost steady = { λ s. None };
+
+    fn step(&mut self, _at: u64, cell: &mut Cell) -> Outcome {
+        let Cell::Live(packet, _) = cell else {
+            return Outcome::Pass;
+        };
+        if packet.pid() != self.pid {
+            return Outcome::Pass;
+        }
+        if self.pid >= NULL_PID {
+            return Outcome::Pass;
+        }
+        match self.editor.step(packet) {
+            Ok(()) => Outcome::Pass,
+            Err(_) => Outcome::NoMemory,
+        }
+    }
+
+    fn note(&mut self, _written: u64) -> Result<(), AllocError> {
+        Ok(())
+    }
+
+    fn agreed(&self) -> bool {
+        false
+    }
+
+    fn finish(&mut self, _cut: u64) -> Result<Vec<Line>, AllocError> {
+        Ok(silent_report(self.alloc))
+    }
+
+    ghost starts_open = { λ plugin history mark stands. refl };
+}

@@ -1,0 +1,40 @@
+ghost use Rattle.std.specs.Prelude.{◌≡◌, IfOk};
+
+use plug_conf::{NumberSet, PairList};
+use std::alloc::{AllocError, Global};
+
+/// Settings of `pmt`, which edits the PMTs on a PID.
+#[derive(Drop, Debug)]
+pub struct EditPmtConf {
+    /// The PID of the PMTs, 0 to 8191. On 8191, the PID of null packets, nothing is edited.
+    pub pmt_pid: u64,
+    /// Components that are put in, each a PID and a stream_type, 0 to 255, or the type of one that is there.
+    pub add_pid: PairList,
+    /// PIDs whose components are left out.
+    pub remove_pid: NumberSet,
+    /// PIDs of components, each with another that it becomes; so does an equal PCR_PID.
+    pub move_pid: PairList,
+    /// The PCR_PID.
+    pub pcr_pid: Option<u64>,
+    /// The version, 0 to 31.
+    pub new_version: Option<u64>,
+    /// Whether the version is one more, and 0 after 31.
+    pub increment_version: bool,
+}
+
+impl EditPmtConf {
+    /// Equal settings.
+    pub fn copy(&self, alloc: Global) -> Result<EditPmtConf, AllocError>
+        ensures { IfOk result (λ conf. conf ≡ self.now) }
+    {
+        Ok(EditPmtConf {
+            pmt_pid: self.pmt_pid,
+            add_pid: PairList::of(Vec::from_slice(alloc, self.add_pid.as_slice())?),
+            remove_pid: NumberSet::of(Vec::from_slice(alloc, self.remove_pid.as_slice())?),
+            move_pid: PairList::of(Vec::from_slice(alloc, self.move_pid.as_slice())?),
+            pcr_pid: self.pcr_pid,
+            new_version: self.new_version,
+            increment_version: self.increment_version,
+        })
+    }
+}

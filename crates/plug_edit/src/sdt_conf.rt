@@ -1,0 +1,48 @@
+ghost use Rattle.std.specs.Prelude.{◌≡◌, IfOk};
+
+use crate::texts::copy_of_text;
+use plug_conf::NumberSet;
+use std::alloc::{AllocError, Global};
+use ts_outside::NameText;
+
+/// Settings of `sdt`, which edits the SDT of the actual stream on PID 17.
+#[derive(Drop, Debug)]
+pub struct EditSdtConf {
+    /// Services that are left out.
+    pub remove_service: NumberSet,
+    /// The service that the options below change, 0 to 65535.
+    pub service: Option<u64>,
+    /// The name of the service.
+    pub name: Option<NameText>,
+    /// The name of its provider.
+    pub provider: Option<NameText>,
+    /// Its service_type, 0 to 255.
+    pub service_type: Option<u64>,
+    /// Its running_status, 0 to 7.
+    pub running_status: Option<u64>,
+    /// Its free_CA_mode, 0 or 1.
+    pub free_ca_mode: Option<u64>,
+    /// The version, 0 to 31.
+    pub new_version: Option<u64>,
+    /// Whether the version is one more, and 0 after 31.
+    pub increment_version: bool,
+}
+
+impl EditSdtConf {
+    /// Equal settings.
+    pub fn copy(&self, alloc: Global) -> Result<EditSdtConf, AllocError>
+        ensures { IfOk result (λ conf. conf ≡ self.now) }
+    {
+        Ok(EditSdtConf {
+            remove_service: NumberSet::of(Vec::from_slice(alloc, self.remove_service.as_slice())?),
+            service: self.service,
+            name: copy_of_text(&self.name)?,
+            provider: copy_of_text(&self.provider)?,
+            service_type: self.service_type,
+            running_status: self.running_status,
+            free_ca_mode: self.free_ca_mode,
+            new_version: self.new_version,
+            increment_version: self.increment_version,
+        })
+    }
+}

@@ -1,0 +1,21 @@
+ghost use Rattle.std.specs.Prelude.{◌≡◌, ◌<◌};
+ghost use Rattle.plug_edit.specs.Versions.{IsVersion, edited_version};
+
+/// The version of an edited table: one that is given, or one more, with 0 after 31, or its own.
+pub fn version_after(given: Option<u64>, increment: bool, version: u8) -> u8
+    requires lawful { IsVersion given }
+    requires in_range { version < 32 }
+    ensures version { result ≡ edited_version given increment version }
+    ensures in_range { result < 32 }
+{
+    match given {
+        Some(given) => given as u8,
+        None => {
+            if increment {
+                (version + 1) % 32
+            } else {
+                version
+            }
+        }
+    }
+}
