@@ -2,10 +2,12 @@
 //! of the chain.
 #![tactic(auto)]
 
+mod driving;
 mod laws;
 mod stage;
 mod turn;
 
 pub use laws::together;
+pub use driving::finish;
 pub use stage::Stage;
 pub use turn::Turn;
