@@ -13,14 +13,20 @@ use Rattle.thread_run.specs.declared.turn.Turn.TheVariants.{Ended}
 use Rattle.thread_run.specs.Standing.{key_at}
 use Rattle.thread_run.specs.Turning.{Stands, Ends}
 
+-- two rows are as long as each other, and what stands beside each other is so
+unfoldable pub AreBeside : {X : Type 0} → (X → X → Type 0) → List X → List X → Type 0
+AreBeside F [] [] = Unit {0}
+AreBeside F (x ∷ xs) (y ∷ ys) = F x y × AreBeside F xs ys
+AreBeside F _ _ = ⊥
+
 -- the answer of a stage that has ended
 abbrev pub is_ended : Turn → Bool
 is_ended Ended = true
 is_ended _ = false
 
 -- all stages of a row have ended, where this is true
-unfoldable pub AreOver : {S K P : Type 0} → Bool → List (Stage S K P) → Type 0
-AreOver over stages = over ≡ true → Each (λ stage. stage.over ≡ true) stages
+unfoldable pub HaveEnded : {S K P : Type 0} → Bool → List (Stage S K P) → Type 0
+HaveEnded over stages = over ≡ true → Each (λ stage. stage.over ≡ true) stages
 
 module _ {S K P : Type 0} (see : Seeing S K P) where
   -- a stage goes on or has ended, as it says
@@ -46,7 +52,5 @@ module _ {S K P : Type 0} (see : Seeing S K P) where
         → Holds begun base (table_of ring) old → Holds begun base (table_of ring) new)
 
     -- each stage of a row is the same and keeps what it promises
-    unfoldable pub Carried : List (Stage S K P) → List (Stage S K P) → Type 0
-    Carried [] [] = Unit {0}
-    Carried (x ∷ xs) (y ∷ ys) = Keeps x y × Carried xs ys
-    Carried _ _ = ⊥
+    abbrev pub Carried : List (Stage S K P) → List (Stage S K P) → Type 0
+    Carried = AreBeside Keeps

@@ -1,6 +1,6 @@
 ghost use Rattle.std.specs.Prelude.{◌≡◌, ◌&&◌, true, length};
 ghost use Rattle.stage_run.specs.Seeing.{seeing};
-ghost use Rattle.thread_run.specs.Driving.{IsReady, AreReady, Keeps, Carried, AreOver};
+ghost use Rattle.thread_run.specs.Driving.{IsReady, AreReady, Keeps, Carried, HaveEnded};
 
 use crate::{Stage, Turn};
 use plugin_trait::Plugin;
@@ -21,7 +21,7 @@ fn step_first<S: Source, K: Sink, P: Plugin, G: Gate>(
     requires one { length stages.old ≡ 1 }
     requires ready { AreReady (seeing S.seen K.seen P.rule P.stands_for P.steady) ring.now stages.old }
     ensures carried { Carried (seeing S.seen K.seen P.rule P.stands_for P.steady) ring.now stages.old stages.new }
-    ensures over { AreOver result stages.new }
+    ensures ended { HaveEnded result stages.new }
 {
     stages[0].step(ring, gate).ends()
 }
@@ -42,7 +42,7 @@ fn round<S: Source, K: Sink, P: Plugin, G: Gate>(
 ) -> bool
     requires ready { AreReady (seeing S.seen K.seen P.rule P.stands_for P.steady) ring.now stages.old }
     ensures carried { Carried (seeing S.seen K.seen P.rule P.stands_for P.steady) ring.now stages.old stages.new }
-    ensures over { AreOver result stages.new }
+    ensures ended { HaveEnded result stages.new }
 {
     if stages.len() == 0 {
         return true;
@@ -65,7 +65,7 @@ pub fn finish<R: Wait, S: Source, K: Sink, P: Plugin, G: Gate>(
 )
     requires ready { AreReady (seeing S.seen K.seen P.rule P.stands_for P.steady) ring.now stages.old }
     ensures carried { Carried (seeing S.seen K.seen P.rule P.stands_for P.steady) ring.now stages.old stages.new }
-    ensures over { AreOver true stages.new }
+    ensures ended { HaveEnded true stages.new }
 {
     for _ in rt.forever() {
         if round(ring, gate, stages) {

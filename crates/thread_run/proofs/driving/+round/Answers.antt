@@ -11,5 +11,5 @@ pub round-rest_ended-requires-clause-ready : goal.round-rest_ended-requires-clau
 round-rest_ended-requires-clause-ready g t c = λ κs within.
     ready_rest (seeing g.S.Source.seen g.K.Sink.seen g.P.Plugin.rule g.P.Plugin.stands_for g.P.Plugin.steady) c.args.ring.now c.args.stages.now c.split_at_mut-first.result.0.now c.split_at_mut-first.result.1.now c.split_at_mut-first.ensures.value c.requires.ready
 
-pub returns-then-stages-eq0-clause-over : goal.returns-then-stages-eq0-clause-over
-returns-then-stages-eq0-clause-over g t c = over_empty _ c.args.stages.now (omega arith)
+pub returns-then-stages-eq0-clause-ended : goal.returns-then-stages-eq0-clause-ended
+returns-then-stages-eq0-clause-ended g t c = over_empty _ c.args.stages.now (omega arith)
