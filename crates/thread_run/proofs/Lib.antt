@@ -3,3 +3,5 @@ pub mod TurnLemmas
 pub mod AnswerLemmas
 pub mod NewLemmas
 pub mod EndLemmas
+pub mod Carries
+pub mod Stepping

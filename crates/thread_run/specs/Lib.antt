@@ -1,3 +1,4 @@
 pub mod Standing
 pub mod Turning
 pub mod Over
+pub mod Driving

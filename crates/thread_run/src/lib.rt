@@ -2,10 +2,15 @@
 //! of the chain.
 #![tactic(auto)]
 
+mod driving;
 mod laws;
 mod stage;
+mod start_line;
+mod threads;
 mod turn;
 
+pub use driving::finish;
 pub use laws::together;
 pub use stage::Stage;
+pub use threads::drive_all;
 pub use turn::Turn;

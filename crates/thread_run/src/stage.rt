@@ -97,6 +97,7 @@ impl<S: Source, K: Sink, P: Plugin> Stage<S, K, P> {
     ghost use Rattle.window_ring.specs.Seats.{key_of, table_of};
     ghost use Rattle.thread_run.specs.Standing.{key_at};
     ghost use Rattle.thread_run.specs.Turning.{IsNewStage, Stands, Behind};
+    ghost use Rattle.thread_run.specs.Driving.{IsReady, Keeps, is_ended};
 
     /// The part and the seat of one stage, of which nothing was done.
     pub fn of(part: StagePart<S, K, P>, seat: StageSeat) -> Self
@@ -132,6 +133,7 @@ impl<S: Source, K: Sink, P: Plugin> Stage<S, K, P> {
             Stands see begun base (table_of ring.now) self.old
             → Behind see begun base (table_of ring.now) result self.old self.new }
         ensures over { self.new.over ≡ self.old.over }
+        ensures stage { self.new.seat.stage ≡ self.old.seat.stage }
     {
         // Runs nothing: the proof cites it.
         machine_laws();
@@ -152,5 +154,19 @@ impl<S: Source, K: Sink, P: Plugin> Stage<S, K, P> {
                 Turn::of(empty, &work.word)
             }
         }
+    }
+
+    /// A turn, unless the stage has ended: then it answers `Ended`, and nothing is done.
+    pub(crate) fn step<G: Gate>(&mut self, ring: &Ring, gate: &G) -> Turn
+        requires { IsReady (seeing S.seen K.seen P.rule P.stands_for P.steady) ring.now self.old }
+        ensures keeps { Keeps (seeing S.seen K.seen P.rule P.stands_for P.steady) ring.now self.old self.new }
+        ensures over { self.new.over ≡ is_ended result }
+    {
+        if self.over {
+            return Turn::Ended;
+        }
+        let turn = self.turn(ring, gate);
+        self.over = turn.ends();
+        turn
     }
 }

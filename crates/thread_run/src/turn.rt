@@ -1,5 +1,6 @@
 ghost use Rattle.std.specs.Prelude.{◌≡◌, is_some};
 ghost use Rattle.thread_run.specs.Turning.{answer_of};
+ghost use Rattle.thread_run.specs.Driving.{is_ended};
 
 use chain_core::StageWord;
 
@@ -27,5 +28,12 @@ impl Turn {
             }
         }
         Turn::Worked
+    }
+
+    /// Whether the stage has ended.
+    pub(crate) fn ends(&self) -> bool
+        ensures { result ≡ is_ended self.now }
+    {
+        matches!(self, Turn::Ended)
     }
 }

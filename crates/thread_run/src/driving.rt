@@ -1,0 +1,108 @@
+ghost use Rattle.std.specs.Prelude.{◌≡◌, ◌&&◌, true, length};
+ghost use Rattle.stage_run.specs.Seeing.{seeing};
+ghost use Rattle.thread_run.specs.Driving.{IsReady, AreReady, Keeps, Carried, HaveEnded};
+
+use crate::{Stage, Turn};
+use plugin_trait::Plugin;
+use std::sync::Wait;
+use std::thread::yield_now;
+use ts_outside::{Gate, Sink, Source};
+use window_ring::Ring;
+
+/// How often a stage tries again at once where another one has the turn.
+const TRIES: u32 = 10;
+
+/// A turn of the first stage of a row. Whether it has ended.
+fn step_first<S: Source, K: Sink, P: Plugin, G: Gate>(
+    ring: &Ring,
+    gate: &G,
+    stages: &mut [Stage<S, K, P>],
+) -> bool
+    requires one { length stages.old ≡ 1 }
+    requires ready { AreReady (seeing S.seen K.seen P.rule P.stands_for P.steady) ring.now stages.old }
+    ensures carried { Carried (seeing S.seen K.seen P.rule P.stands_for P.steady) ring.now stages.old stages.new }
+    ensures ended { HaveEnded result stages.new }
+{
+    stages[0].step(ring, gate).ends()
+}
+
+/// Whether both are so.
+fn both(one: bool, other: bool) -> bool
+    ensures { result ≡ (one && other) }
+{
+    one && other
+}
+
+/// A turn of each stage of a row that has not ended, in order. Whether all have ended.
+#[tactic(auto, using(crate::proofs::Carries::both, crate::proofs::Carries::same, crate::proofs::Carries::over_both))]
+fn round<S: Source, K: Sink, P: Plugin, G: Gate>(
+    ring: &Ring,
+    gate: &G,
+    stages: &mut [Stage<S, K, P>],
+) -> bool
+    requires ready { AreReady (seeing S.seen K.seen P.rule P.stands_for P.steady) ring.now stages.old }
+    ensures carried { Carried (seeing S.seen K.seen P.rule P.stands_for P.steady) ring.now stages.old stages.new }
+    ensures ended { HaveEnded result stages.new }
+{
+    if stages.len() == 0 {
+        return true;
+    }
+    let (first, rest) = stages.split_at_mut(1);
+    let first_ended = step_first(ring, gate, first);
+    let rest_ended = round(ring, gate, rest);
+    both(first_ended, rest_ended)
+}
+
+/// Drives all stages of a row from the caller's thread, in rounds, until all have ended.
+///
+/// It needs no other thread, and may wait for none. It owes no return.
+#[tactic(auto, using(crate::proofs::Carries::same, crate::proofs::Carries::then_, crate::proofs::Carries::still_ready))]
+pub fn finish<R: Wait, S: Source, K: Sink, P: Plugin, G: Gate>(
+    rt: &R,
+    ring: &Ring,
+    gate: &G,
+    stages: &mut [Stage<S, K, P>],
+)
+    requires ready { AreReady (seeing S.seen K.seen P.rule P.stands_for P.steady) ring.now stages.old }
+    ensures carried { Carried (seeing S.seen K.seen P.rule P.stands_for P.steady) ring.now stages.old stages.new }
+    ensures ended { HaveEnded true stages.new }
+{
+    for _ in rt.forever() {
+        if round(ring, gate, stages) {
+            return;
+        }
+    }
+}
+
+/// Drives one stage until it has ended, and sleeps where there is nothing for it to do.
+///
+/// It needs the other stages to be driven meanwhile.
+#[tactic(auto, using(crate::proofs::Carries::kept_same, crate::proofs::Carries::kept_then, crate::proofs::Carries::one_still_ready))]
+pub(crate) fn drive<R: Wait, S: Source, K: Sink, P: Plugin, G: Gate>(
+    rt: &R,
+    ring: &Ring,
+    gate: &G,
+    stage: &mut Stage<S, K, P>,
+)
+    requires ready { IsReady (seeing S.seen K.seen P.rule P.stands_for P.steady) ring.now stage.old }
+    ensures keeps { Keeps (seeing S.seen K.seen P.rule P.stands_for P.steady) ring.now stage.old stage.new }
+{
+    let mut tries = 0;
+    for _ in rt.forever() {
+        match stage.step(ring, gate) {
+            Turn::Ended => return,
+            Turn::Busy => tries = tried(tries),
+            Turn::Idle => stage.wait_news(rt, ring),
+            Turn::Worked => tries = 0,
+        }
+    }
+}
+
+/// One more try; after so many of them others go first.
+fn tried(tries: u32) -> u32 {
+    if tries < TRIES {
+        return tries + 1;
+    }
+    yield_now();
+    0
+}

@@ -1,0 +1,78 @@
+ghost use Rattle.std.specs.Prelude.{◌≡◌, ◌<◌, true, length};
+ghost use Rattle.std.specs.Thread.{IsSync};
+ghost use Rattle.stage_run.specs.Seeing.{seeing};
+ghost use Rattle.thread_run.specs.Driving.{IsReady, Keeps, AreReady, Carried, HaveEnded};
+
+use crate::Stage;
+use crate::driving::{drive, finish};
+use crate::start_line::StartLine;
+use plugin_trait::Plugin;
+use std::marker::{Send, Sync};
+use std::sync::Wait;
+use std::thread::{Threads, for_each_mut};
+use ts_outside::{Gate, Sink, Source};
+use window_ring::Ring;
+
+/// Drives a stage until it has ended, once the threads of all are at the line; where the wait was given up, it stays as it is.
+#[tactic(auto, using(crate::proofs::Carries::kept_same))]
+fn drive_from<R: Wait, S: Source, K: Sink, P: Plugin, G: Gate>(
+    rt: &R,
+    ring: &Ring,
+    gate: &G,
+    line: &StartLine,
+    stage: &mut Stage<S, K, P>,
+)
+    requires ready { IsReady (seeing S.seen K.seen P.rule P.stands_for P.steady) ring.now stage.old }
+    ensures keeps { Keeps (seeing S.seen K.seen P.rule P.stands_for P.steady) ring.now stage.old stage.new }
+{
+    if line.all_here() {
+        drive(rt, ring, gate, stage);
+    }
+}
+
+/// Drives the stages of a row, each in a thread of its own where one can be started.
+fn spread<R: Threads + Wait + Sync, S: Source + Send, K: Sink + Send, P: Plugin + Send, G: Gate>(
+    rt: &R,
+    ring: &Ring,
+    gate: &G,
+    line: &StartLine,
+    stages: &mut [Stage<S, K, P>],
+)
+    requires ready { AreReady (seeing S.seen K.seen P.rule P.stands_for P.steady) ring.now stages.old }
+    ensures carried { Carried (seeing S.seen K.seen P.rule P.stands_for P.steady) ring.now stages.old stages.new }
+{
+    let threads = stages.len();
+    if threads == 0 {
+        return;
+    }
+    for_each_mut(
+        rt,
+        stages,
+        threads,
+        &|_: usize, stage: &mut Stage<S, K, P>|
+            requires { IsSync G.row × IsReady (seeing S.seen K.seen P.rule P.stands_for P.steady) ring.now stage.now }
+            ensures { Keeps (seeing S.seen K.seen P.rule P.stands_for P.steady) ring.entry.now stage.entry.now stage.exit.now }
+        { drive_from(rt, ring, gate, line, stage) },
+    );
+}
+
+/// Drives all stages of a ring until they have ended, each in a thread of its own; where one could not be started, all
+/// of them from the caller's.
+///
+/// It may wait, and owes no return.
+#[tactic(auto, using(crate::proofs::Carries::then_, crate::proofs::Carries::still_ready))]
+pub fn drive_all<
+    R: Threads + Wait + Sync,
+    S: Source + Send,
+    K: Sink + Send,
+    P: Plugin + Send,
+    G: Gate,
+>(rt: &R, ring: &Ring, gate: &G, stages: &mut [Stage<S, K, P>])
+    requires ready { AreReady (seeing S.seen K.seen P.rule P.stands_for P.steady) ring.now stages.old }
+    ensures carried { Carried (seeing S.seen K.seen P.rule P.stands_for P.steady) ring.now stages.old stages.new }
+    ensures ended { HaveEnded true stages.new }
+{
+    let line = StartLine::new(stages.len() as u64);
+    spread(rt, ring, gate, &line, stages);
+    finish(rt, ring, gate, stages);
+}
