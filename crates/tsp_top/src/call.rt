@@ -5,6 +5,7 @@ ghost use Rattle.tsp_top.specs.TspCall.{CallsTsp};
 
 use crate::beginning::begin;
 use crate::finishing::finish;
+use crate::in_threads::run_in_threads_or_one;
 use crate::one_thread::run_in_one_thread;
 use crate::opened_call::OpenedCall;
 use crate::status::Status;
@@ -27,9 +28,10 @@ use ts_outside::{Desk, Gate};
 /// - `Sync`, `Refused` and `TooLong` where that ended the run;
 /// - `Done` in all other cases.
 ///
-/// The runtime is there to wait and to start threads with. `serial_call` does the same without it.
+/// A chain of more than one plugin runs in threads, one for each stage; the runtime is there to wait and to start them
+/// with. `serial_call` does the same without it.
 pub fn tsp_call<R: Threads + Wait + Sync, D: Desk, G: Gate>(
-    _rt: &R,
+    rt: &R,
     alloc: Global,
     words: &[String],
     desk: &mut D,
@@ -37,7 +39,13 @@ pub fn tsp_call<R: Threads + Wait + Sync, D: Desk, G: Gate>(
 ) -> Status
     ensures { CallsTsp (map string_bytes words.now) (D.seen desk.old) (D.seen desk.new) result }
 {
-    serial_call(alloc, words, desk, gate)
+    match begin(alloc, words, desk) {
+        Ok(OpenedCall { plan, core, stages }) => {
+            let end = run_in_threads_or_one(rt, alloc, stages, &core, gate);
+            finish(alloc, desk, &plan, end)
+        }
+        Err(status) => status,
+    }
 }
 
 /// Does what `tsp_call` does, in one thread. It needs no handle, so it returns if the desk and the gate do.

@@ -6,6 +6,7 @@ mod beginning;
 mod call;
 mod end_line;
 mod finishing;
+mod in_threads;
 mod one_thread;
 mod opened_call;
 mod opening;

@@ -1,0 +1,84 @@
+//! The run with a thread for each stage.
+ghost use Rattle.std.specs.Prelude.{◌≡◌, vec_len};
+ghost use Rattle.chain_core.specs.CoreNumbers.{IsLawfulPlan};
+ghost use Rattle.chain_run.specs.Fresh.{AreFresh};
+ghost use Rattle.stage_run.specs.Seeing.{seeing};
+ghost use Rattle.tsp_top.specs.Ran.{EndsRun};
+
+use crate::one_thread::run_in_one_thread;
+use chain_core::CorePlan;
+use chain_run::{RunEnd, Stages};
+use plugin_trait::Plugin;
+use std::alloc::Global;
+use std::marker::{Send, Sync};
+use std::sync::Wait;
+use std::thread::Threads;
+use thread_run::run_threads;
+use ts_outside::{Gate, Sink, Source};
+
+/// Runs a chain, each stage in a thread of its own where one can be started, and gives its parts back.
+///
+/// `closed` is `AllocError` where memory was wanting for the run; then nothing was done. It may wait, and owes no
+/// return.
+pub(crate) fn run_in_threads<R, S, K, P, G>(
+    rt: &R,
+    alloc: Global,
+    stages: Stages<S, K, P>,
+    core: &CorePlan,
+    gate: &G,
+) -> RunEnd<S, K, P>
+where
+    R: Threads + Wait + Sync,
+    S: Source + Send,
+    K: Sink + Send,
+    P: Plugin + Send,
+    G: Gate,
+    requires every { 1 ≤ stages.stuffing.every }
+    requires lawful { IsLawfulPlan core.now }
+    requires plugins { core.now.plugins ≡ vec_len stages.plugins }
+    requires fresh { AreFresh P.stands_for stages.plugins.items }
+    ensures { EndsRun (seeing S.seen K.seen P.rule P.stands_for P.steady)
+        stages.stuffing core.now stages.input result.input
+        stages.plugins.items result.plugins.items stages.output result.output result.closed }
+{
+    run_threads(rt, alloc, stages, core, gate)
+}
+
+/// A chain of fewer plugins runs in one thread: what its stages do at once is less than what it costs to hand packets
+/// from thread to thread.
+const LEAST_PLUGINS: usize = 2;
+
+/// Whether a chain of so many plugins runs in threads.
+pub(crate) fn runs_in_threads(plugins: usize) -> bool {
+    plugins >= LEAST_PLUGINS
+}
+
+/// Runs a chain, in threads where it has plugins enough, and gives its parts back.
+///
+/// `closed` is `AllocError` where memory was wanting for the run; then nothing was done.
+pub(crate) fn run_in_threads_or_one<R, S, K, P, G>(
+    rt: &R,
+    alloc: Global,
+    stages: Stages<S, K, P>,
+    core: &CorePlan,
+    gate: &G,
+) -> RunEnd<S, K, P>
+where
+    R: Threads + Wait + Sync,
+    S: Source + Send,
+    K: Sink + Send,
+    P: Plugin + Send,
+    G: Gate,
+    requires every { 1 ≤ stages.stuffing.every }
+    requires lawful { IsLawfulPlan core.now }
+    requires plugins { core.now.plugins ≡ vec_len stages.plugins }
+    requires fresh { AreFresh P.stands_for stages.plugins.items }
+    ensures { EndsRun (seeing S.seen K.seen P.rule P.stands_for P.steady)
+        stages.stuffing core.now stages.input result.input
+        stages.plugins.items result.plugins.items stages.output result.output result.closed }
+{
+    if runs_in_threads(core.plugins) {
+        return run_in_threads(rt, alloc, stages, core, gate);
+    }
+    run_in_one_thread(alloc, stages, core, gate)
+}
