@@ -104,13 +104,13 @@ module _ {S K P : Type 0} (see : Seeing S K P) (ring : Ring) where
   unfolding Keeps
   kept_then a b c x y = (y.0 ∙ x.0, λ begun base e h. y.1 begun base e (x.1 begun base e h))
 
-  kept-open : (a b : Stage S K P) → Keeps see ring a b → (begun : RunStart S K) (base : Ptr) → key_of ring ≡ key_at begun base → Holds see begun base (table_of ring) a → Holds see begun base (table_of ring) b
+  pub kept_open : (a b : Stage S K P) → Keeps see ring a b → (begun : RunStart S K) (base : Ptr) → key_of ring ≡ key_at begun base → Holds see begun base (table_of ring) a → Holds see begun base (table_of ring) b
   unfolding Keeps
-  kept-open a b k = k.1
+  kept_open a b k = k.1
 
   pub one_still_ready : (a b : Stage S K P) → Keeps see ring a b → IsReady see ring a → IsReady see ring b
   unfolding IsReady
-  one_still_ready a b k r = (r.0, r.1, r.2, kept-open a b k r.0 r.1 r.2 r.3)
+  one_still_ready a b k r = (r.0, r.1, r.2, kept_open a b k r.0 r.1 r.2 r.3)
 
   -- ---- a row
 
@@ -128,7 +128,7 @@ module _ {S K P : Type 0} (see : Seeing S K P) (ring : Ring) where
   held [] [] c begun base e all = tt
   held [] (y ∷ ys) c begun base e all = absurd c
   held (x ∷ xs) [] c begun base e all = absurd c
-  held (x ∷ xs) (y ∷ ys) c begun base e all = (kept-open x y c.0 begun base e all.0, held xs ys c.1 begun base e all.1)
+  held (x ∷ xs) (y ∷ ys) c begun base e all = (kept_open x y c.0 begun base e all.0, held xs ys c.1 begun base e all.1)
 
   pub still_ready : (old new : List (Stage S K P)) → Carried see ring old new → AreReady see ring old → AreReady see ring new
   unfolding AreReady

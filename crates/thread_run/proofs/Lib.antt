@@ -5,3 +5,4 @@ pub mod NewLemmas
 pub mod EndLemmas
 pub mod Carries
 pub mod Stepping
+pub mod SeatLemmas

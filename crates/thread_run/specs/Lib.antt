@@ -2,3 +2,4 @@ pub mod Standing
 pub mod Turning
 pub mod Over
 pub mod Driving
+pub mod Beginning

@@ -6,11 +6,13 @@ mod driving;
 mod laws;
 mod stage;
 mod start_line;
+mod threaded_run;
 mod threads;
 mod turn;
 
 pub use driving::finish;
 pub use laws::together;
 pub use stage::Stage;
+pub use threaded_run::run_threads;
 pub use threads::drive_all;
 pub use turn::Turn;

@@ -1,0 +1,34 @@
+use Rattle.std.proofs.Common.{arith}
+use Rattle.stage_run.specs.Seeing.{seeing}
+use Rattle.chain_run.specs.Runs.{began_with}
+use Rattle.chain_run.proofs.RunUses.{never-err}
+use Rattle.thread_run.proofs.threaded_run.run_threads.Goals as goal
+
+pub run_laid-requires-clause-runs : goal.run_laid-requires-clause-runs
+run_laid-requires-clause-runs g c κs within =
+    let see = seeing g.S.Source.seen g.K.Sink.seen g.P.Plugin.rule g.P.Plugin.stands_for g.P.Plugin.steady in
+    (
+      began_with see c.args.stages.input c.args.stages.stuffing c.args.stages.plugins.items c.args.stages.output c.args.plan.now,
+      c.lay_stages-parts.ensures.new c.args.plan.now c.requires.lawful c.requires.plugins,
+      c.in-Ok.ensures.ring,
+    )
+
+pub run_laid-requires-clause-room : goal.run_laid-requires-clause-room
+run_laid-requires-clause-room g c κs within =
+    let row = c.lay_stages-parts.ensures.new c.args.plan.now c.requires.lawful c.requires.plugins in
+    let many = row.stages_are in
+    omega (arith, many, c.requires.plugins, c.lay_stages-parts.ensures.room_left)
+
+pub run_laid-requires-clause-stages : goal.run_laid-requires-clause-stages
+run_laid-requires-clause-stages g c κs within =
+    let row = c.lay_stages-parts.ensures.new c.args.plan.now c.requires.lawful c.requires.plugins in
+    let many = row.stages_are in
+    omega (arith, many, c.in-Ok.ensures.stages)
+
+pub returns-clause-closed : goal.returns-clause-closed
+returns-clause-closed g c =
+    c.run_laid.ensures.runs c.args.stages.input c.args.stages.stuffing c.args.stages.plugins.items c.args.stages.output c.args.plan.now
+    (c.lay_stages-parts.ensures.new c.args.plan.now c.requires.lawful c.requires.plugins) c.in-Ok.ensures.ring
+
+pub returns-clause-never_began : goal.returns-clause-never_began
+returns-clause-never_began g c = never-err c.run_laid.result.closed _ c.run_laid.ensures.ran
