@@ -1,4 +1,4 @@
-use Rattle.std.proofs.Common.{◌≡◌, List, ◌++◌, length, take, drop, ap, arith, subst, sym, ◌∙◌}
+use Rattle.std.proofs.Common.{◌≡◌, ◌++◌, length, take, drop, ap, arith, subst, sym, ◌∙◌}
 use Rattle.stage_run.specs.Seeing.{seeing}
 use Rattle.thread_run.specs.Beginning.{seated, parts_of, seats_of}
 use Rattle.thread_run.specs.Driving.{AreReady, Keeps, Carried}

@@ -1,10 +1,8 @@
-use Rattle.std.proofs.Common.{◌≡◌, ap, subst, sym}
-use Rattle.stage_run.specs.Seeing.{Seeing, seeing}
+use Rattle.std.proofs.Common.{subst, sym}
+use Rattle.stage_run.specs.Seeing.{seeing}
 use Rattle.chain_run.specs.Runs.{began_with}
 use Rattle.window_ring.specs.Closing.{IsWhole, ClosedOf}
-use Rattle.window_ring.specs.declared.view.Key.{Key}
 use Rattle.window_ring.specs.Seats.{key_of, table_of}
-use Rattle.thread_run.specs.Standing.{key_at}
 use Rattle.thread_run.proofs.SeatLemmas.{key-is}
 use Rattle.thread_run.proofs.threaded_run.end_run.Goals as goal
 
