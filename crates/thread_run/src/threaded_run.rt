@@ -190,13 +190,7 @@ fn end_run<S: Source, K: Sink, P: Plugin>(
 
 /// Drives the stages of a chain until all have ended, and takes it apart. The plugins go into the row, which has room for
 /// them.
-fn run_laid<
-    R: Threads + Wait + Sync,
-    S: Source + Send,
-    K: Sink + Send,
-    P: Plugin + Send,
-    G: Gate,
->(
+fn run_laid<R: Threads + Wait + Sync, S: Source + Send, K: Sink + Send, P: Plugin + Send, G: Gate>(
     rt: &R,
     new: NewRing,
     mut parts: Vec<StagePart<S, K, P>>,
@@ -238,13 +232,7 @@ pub fn run_threads<
     K: Sink + Send,
     P: Plugin + Send,
     G: Gate,
->(
-    rt: &R,
-    alloc: Global,
-    stages: Stages<S, K, P>,
-    plan: &CorePlan,
-    gate: &G,
-) -> RunEnd<S, K, P>
+>(rt: &R, alloc: Global, stages: Stages<S, K, P>, plan: &CorePlan, gate: &G) -> RunEnd<S, K, P>
     requires every { 1 ≤ stages.stuffing.every }
     requires lawful { IsLawfulPlan plan.now }
     requires plugins { plan.now.plugins ≡ vec_len stages.plugins }
@@ -261,11 +249,13 @@ pub fn run_threads<
         mut plugins,
         output,
     } = stages;
-    let Ok(RunMemory {
-        rooms,
-        stages,
-        ring,
-    }) = RunMemory::new(alloc, plan)
+    let Ok(
+        RunMemory {
+            rooms,
+            stages,
+            ring,
+        },
+    ) = RunMemory::new(alloc, plan)
     else {
         return RunEnd {
             input,

@@ -1,4 +1,4 @@
-use Rattle.std.proofs.Common.{◌≡◌, List, ◌++◌, length, take, drop, ap, arith, subst, sym, ◌∙◌}
+use Rattle.std.proofs.Common.{◌≡◌, ◌++◌, length, take, drop, ap, arith, subst, sym, ◌∙◌}
 use Rattle.stage_run.specs.Seeing.{seeing}
 use Rattle.thread_run.specs.Beginning.{seated, parts_of, seats_of}
 use Rattle.thread_run.specs.Driving.{AreReady, Keeps, Carried}
@@ -35,7 +35,7 @@ returns g c = λ begun new.
     let carried : Carried see ring (seated c.args.parts.now.items c.args.seats.now.items) stages = subst (λ l. Carried see ring l stages) (c.deref_mut.ensures.value ∙ is) c.drive_all.ensures.carried in
     let same = same_number see begun ring c.args.parts.now.items c.args.seats.now.items new in
     let many : c.seat_all.new.stages.len ≡ length stages =
-        omega (arith, ap (λ l. length l) is, seated_length c.args.parts.now.items c.args.seats.now.items same, beside_length (Keeps see ring) (seated c.args.parts.now.items c.args.seats.now.items) stages carried) in
+    omega (arith, ap (λ l. length l) is, seated_length c.args.parts.now.items c.args.seats.now.items same, beside_length (Keeps see ring) (seated c.args.parts.now.items c.args.seats.now.items) stages carried) in
     let whole : take c.seat_all.new.stages.len (stages ++ drop (length stages) c.seat_all.new.stages.items) ≡ stages = take_front stages (drop (length stages) c.seat_all.new.stages.items) c.seat_all.new.stages.len many in
     let parts : c.unseat_all.new.parts.items ≡ parts_of stages = c.unseat_all.ensures.parts ∙ ap (λ l. c.seat_all.new.parts.items ++ parts_of l) whole ∙ ap (λ l. l ++ parts_of stages) c.seat_all.ensures.no_part in
     let seats : c.unseat_all.new.seats.items ≡ seats_of stages = c.unseat_all.ensures.seats ∙ ap (λ l. c.seat_all.new.seats.items ++ seats_of l) whole ∙ ap (λ l. l ++ seats_of stages) c.seat_all.ensures.no_seat in

@@ -1,10 +1,8 @@
-use Rattle.std.proofs.Common.{◌≡◌, ap, subst, sym}
-use Rattle.stage_run.specs.Seeing.{Seeing, seeing}
+use Rattle.std.proofs.Common.{subst, sym}
+use Rattle.stage_run.specs.Seeing.{seeing}
 use Rattle.chain_run.specs.Runs.{began_with}
 use Rattle.window_ring.specs.Closing.{IsWhole, ClosedOf}
-use Rattle.window_ring.specs.declared.view.Key.{Key}
 use Rattle.window_ring.specs.Seats.{key_of, table_of}
-use Rattle.thread_run.specs.Standing.{key_at}
 use Rattle.thread_run.proofs.SeatLemmas.{key-is}
 use Rattle.thread_run.proofs.threaded_run.end_run.Goals as goal
 
@@ -20,7 +18,7 @@ take_apart-input-requires-clause-stages g c =
     let begun = c.requires.ended.0 in
     let ring = c.args.ring in
     let closed = c.together.ensures.closed begun (key_of ring).base (table_of ring) c.args.seats.items c.args.parts.items c.close-closed.result c.requires.ended.2
-        (subst (λ k. ClosedOf k c.args.seats.items c.close-closed.result) (key-is ring begun c.requires.ended.1) c.close-closed.ensures) in
+    (subst (λ k. ClosedOf k c.args.seats.items c.close-closed.result) (key-is ring begun c.requires.ended.1) c.close-closed.ensures) in
     c.any_run.ensures.stages begun c.args.parts.items closed.ran
 
 pub returns-clause-runs : goal.returns-clause-runs

@@ -6,8 +6,7 @@ use Rattle.thread_run.proofs.threaded_run.run_threads.Goals as goal
 
 pub run_laid-requires-clause-runs : goal.run_laid-requires-clause-runs
 run_laid-requires-clause-runs g c κs within =
-    let see = seeing g.S.Source.seen g.K.Sink.seen g.P.Plugin.rule g.P.Plugin.stands_for g.P.Plugin.steady in
-    (
+    let see = seeing g.S.Source.seen g.K.Sink.seen g.P.Plugin.rule g.P.Plugin.stands_for g.P.Plugin.steady in (
       began_with see c.args.stages.input c.args.stages.stuffing c.args.stages.plugins.items c.args.stages.output c.args.plan.now,
       c.lay_stages-parts.ensures.new c.args.plan.now c.requires.lawful c.requires.plugins,
       c.in-Ok.ensures.ring,
