@@ -1,5 +1,5 @@
 //! The run with a thread for each stage.
-ghost use Rattle.std.specs.Prelude.{◌≡◌, vec_len};
+ghost use Rattle.std.specs.Prelude.{◌≡◌, ◌≤◌, vec_len};
 ghost use Rattle.chain_core.specs.CoreNumbers.{IsLawfulPlan};
 ghost use Rattle.chain_run.specs.Fresh.{AreFresh};
 ghost use Rattle.stage_run.specs.Seeing.{seeing};
