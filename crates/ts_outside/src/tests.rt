@@ -3,7 +3,6 @@ ghost use Rattle.std.specs.Prelude.{◌≡◌, IfOk};
 use super::*;
 use crate::callers::{CopyEnd, copy};
 use std::alloc::{AllocError, Global};
-use std::process::Abort;
 use std::test::Fail;
 
 // The one call that fails: its kind, and its number.
@@ -72,11 +71,31 @@ fn output_len(desk: &MemoryDesk, i: usize) -> usize {
     }
 }
 
-// Copies the long file, and looks at the end, at how many outputs there are, and at how many bytes the first has.
-fn ends(rt: &impl Abort, mut desk: MemoryDesk, end: CopyEnd, outputs: usize, bytes: usize) {
-    assert_eq!(rt; copied(&mut desk, "long", Some("to")), end);
-    assert_eq!(rt; desk.output_count(), outputs);
-    assert_eq!(rt; output_len(&desk, 0), bytes);
+// A copy of the long file: which call fails, how much room outputs have, and what is told afterwards: the end, how many
+// outputs there are, and how many bytes the first has.
+struct CopyRow {
+    fails: Fails,
+    room: usize,
+    end: CopyEnd,
+    outputs: usize,
+    bytes: usize,
+}
+
+fn row(fails: Fails, room: usize, end: CopyEnd, outputs: usize, bytes: usize) -> CopyRow {
+    CopyRow {
+        fails,
+        room,
+        end,
+        outputs,
+        bytes,
+    }
+}
+
+// Whether a copy ends as its row says.
+fn holds(alloc: Global, row: &CopyRow) -> Result<bool, AllocError> {
+    let mut desk = planned(alloc, row.fails, row.room)?;
+    let end = copied(&mut desk, "long", Some("to"));
+    Ok(end == row.end && desk.output_count() == row.outputs && output_len(&desk, 0) == row.bytes)
 }
 
 #[test]
@@ -105,84 +124,22 @@ fn an_output_has_its_name(rt: HostRuntime) -> Result<(), Fail> {
 
 // The long file is read as two packets and a rest, by 100 and 88, by 100 and 88, and by 24; then comes its end.
 #[test]
-fn calls_fail_where_the_plan_says_so(rt: HostRuntime) -> Result<(), Fail> {
-    let alloc = rt.alloc();
-    ends(
-        &rt,
-        planned(alloc, Fails::Never, 1000)?,
-        CopyEnd::Done,
-        1,
-        400,
-    );
-    ends(
-        &rt,
-        planned(alloc, Fails::Open(1), 1000)?,
-        CopyEnd::ReadFault,
-        0,
-        0,
-    );
-    ends(
-        &rt,
-        planned(alloc, Fails::Open(2), 1000)?,
-        CopyEnd::WriteFault,
-        0,
-        0,
-    );
-    ends(
-        &rt,
-        planned(alloc, Fails::Read(4), 1000)?,
-        CopyEnd::WriteFault,
-        1,
-        188,
-    );
-    ends(
-        &rt,
-        planned(alloc, Fails::Read(7), 1000)?,
-        CopyEnd::Done,
-        1,
-        400,
-    );
-    Ok(())
-}
-
-#[test]
-fn outputs_fail_where_the_plan_or_the_room_says_so(rt: HostRuntime) -> Result<(), Fail> {
-    let alloc = rt.alloc();
-    ends(
-        &rt,
-        planned(alloc, Fails::Write(2), 1000)?,
-        CopyEnd::WriteFault,
-        1,
-        70,
-    );
-    ends(
-        &rt,
-        planned(alloc, Fails::Never, 200)?,
-        CopyEnd::WriteFault,
-        1,
-        200,
-    );
-    ends(
-        &rt,
-        planned(alloc, Fails::Close(1), 1000)?,
-        CopyEnd::WriteFault,
-        1,
-        400,
-    );
-    ends(
-        &rt,
-        planned(alloc, Fails::Report(1), 1000)?,
-        CopyEnd::WriteFault,
-        1,
-        400,
-    );
-    ends(
-        &rt,
-        planned(alloc, Fails::Close(2), 1000)?,
-        CopyEnd::Done,
-        1,
-        400,
-    );
+fn calls_fail_where_the_plan_or_the_room_says_so(rt: HostRuntime) -> Result<(), Fail> {
+    let rows = [
+        row(Fails::Never, 1000, CopyEnd::Done, 1, 400),
+        row(Fails::Open(1), 1000, CopyEnd::ReadFault, 0, 0),
+        row(Fails::Open(2), 1000, CopyEnd::WriteFault, 0, 0),
+        row(Fails::Read(4), 1000, CopyEnd::WriteFault, 1, 188),
+        row(Fails::Read(7), 1000, CopyEnd::Done, 1, 400),
+        row(Fails::Write(2), 1000, CopyEnd::WriteFault, 1, 70),
+        row(Fails::Never, 200, CopyEnd::WriteFault, 1, 200),
+        row(Fails::Close(1), 1000, CopyEnd::WriteFault, 1, 400),
+        row(Fails::Report(1), 1000, CopyEnd::WriteFault, 1, 400),
+        row(Fails::Close(2), 1000, CopyEnd::Done, 1, 400),
+    ];
+    for row in &rows {
+        assert!(rt; holds(rt.alloc(), row)?);
+    }
     Ok(())
 }
 

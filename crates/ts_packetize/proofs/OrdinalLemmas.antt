@@ -7,7 +7,7 @@ use Rattle.ts_demux.proofs.Choice.{if_true, if_false}
 use Rattle.ts_packet.specs.Header.{with_counter}
 use Rattle.ts_packet.specs.Packet.{null_packet}
 use Rattle.ts_packetize.specs.Cycle.{due, first_row}
-use Rattle.ts_packetize.specs.Ordinals.{Cycles, start_of, packet_at, written_before, in_place, replaced_at, left_before, due_at, counted_at, GivesAt}
+use Rattle.ts_packetize.specs.Ordinals.{Cycles, start_of, packet_at, written_before, in_place, replaced_at, left_before, counted_at, GivesAt}
 
 lt_or_le : (a b : ℕ) → ((nat_lt a b ≡ true) × (a < b)) ⊎ ((nat_lt a b ≡ false) × (b ≤ a))
 lt_or_le a b = elim (leb_tells (suc a) b) as (λ _. ((nat_lt a b ≡ true) × (a < b)) ⊎ ((nat_lt a b ≡ false) × (b ≤ a))) [ inl h ↦ inl (h.0, omega (arith, h.1)) | inr h ↦ inr (h.0, omega (arith, h.1)) ]
@@ -50,6 +50,10 @@ drop_of_drop (x ∷ xs) (suc i) = drop_of_drop xs i
 due-some : (left contents : List (List ℕ)) → 0 < length left → due left contents ≡ left
 due-some [] contents h = absurd (omega arith)
 due-some (x ∷ left) contents h = refl
+
+-- the packets of the cycle that an ordinal falls into, from the ordinal on
+abbrev due_at : Cycles → ℕ → List (List ℕ)
+due_at cycle n = drop (n - start_of cycle n) (cycle (start_of cycle n))
 
 -- where a cycle starts, all its packets are due
 due-start : (cycle : Cycles) (n : ℕ) (left : List (List ℕ)) → start_of cycle n ≡ n → left ≡ [] → due left (cycle n) ≡ due_at cycle n
