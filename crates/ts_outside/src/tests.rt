@@ -73,6 +73,7 @@ fn output_len(desk: &MemoryDesk, i: usize) -> usize {
 
 // A copy of the long file: which call fails, how much room outputs have, and what is told afterwards: the end, how many
 // outputs there are, and how many bytes the first has.
+#[derive(Drop)]
 struct CopyRow {
     fails: Fails,
     room: usize,
