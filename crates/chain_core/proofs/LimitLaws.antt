@@ -1,10 +1,10 @@
 -- The greatest agreement, one stage after another.
-use Rattle.std.proofs.Common.{◌≡◌, ℕ, max, ◌+◌, List, [], ◌∷◌, ◌++◌, map, Bool, true, false, Option, Some, None, refl, ap, sym, ◌∙◌, add-one}
+use Rattle.std.proofs.Common.{◌≡◌, ℕ, zero, suc, max, ◌+◌, ◌-◌, ◌<◌, ◌≤◌, subst, arith, List, [], ◌∷◌, ◌++◌, map, Bool, true, false, Option, Some, None, refl, ap, sym, ◌∙◌, add-one}
 use Rattle.std.proofs.lemmas.List.{map-append}
 use Rattle.std.proofs.lemmas.Bool.{cond-true, cond-false}
 use Rattle.chain_model.specs.Joint.{greatest_with, greatest_if_all}
 use Rattle.chain_core.specs.declared.stage_set.StageSet.{StageSet}
-use Rattle.chain_core.specs.Stages.{has_stage, stages_below, stages_of}
+use Rattle.chain_core.specs.Stages.{has_stage, stages_below, stages_of, IsNextFrom}
 use Rattle.chain_core.specs.CoreNumbers.{greatest_more}
 
 -- somebody was asked
@@ -73,6 +73,26 @@ limit-not set f n asked limit so_far is = record {
   is_asked_ = so_far.is_asked_ ∙ ap is_asked (sym (below-not set n is));
   is_limit = so_far.is_limit ∙ ap (λ (l : List ℕ). greatest_if_all (map f l)) (sym (below-not set n is));
 }
+
+-- over numbers that are not in the set
+pub limit-over : (set : StageSet) (f : ℕ → Option ℕ) (n : ℕ) (asked : Bool) (limit : Option ℕ) → IsLimitBelow set f n asked limit → (more : ℕ) → ((k : ℕ) → n ≤ k → k < n + more → has_stage set k ≡ false) → IsLimitBelow set f (n + more) asked limit
+limit-over set f n asked limit so_far zero none =
+    let same : n ≡ n + 0 = omega arith in subst (λ k. IsLimitBelow set f k asked limit) same so_far
+limit-over set f n asked limit so_far (suc more) none =
+    let next : n + more + 1 ≡ n + suc more = omega arith in
+    subst (λ k. IsLimitBelow set f k asked limit) next
+    (limit-not set f (n + more) asked limit (limit-over set f n asked limit so_far more (λ k from lt. none k from (omega arith))) (none (n + more) (omega arith) (omega arith)))
+
+-- up to a number below which no more are in the set
+pub limit-upto : (set : StageSet) (f : ℕ → Option ℕ) (n to : ℕ) (asked : Bool) (limit : Option ℕ) → IsLimitBelow set f n asked limit → n ≤ to → ((k : ℕ) → n ≤ k → k < to → has_stage set k ≡ false) → IsLimitBelow set f to asked limit
+limit-upto set f n to asked limit so_far le none =
+    let end : n + (to - n) ≡ to = omega arith in
+    subst (λ k. IsLimitBelow set f k asked limit) end (limit-over set f n asked limit so_far (to - n) (λ k from lt. none k from (omega arith)))
+
+-- with the next one
+pub limit-next : (set : StageSet) (f : ℕ → Option ℕ) (n stage : ℕ) (asked : Bool) (limit joined : Option ℕ) → IsLimitBelow set f n asked limit → IsNextFrom set n stage → joined ≡ greatest_more asked limit (f stage) → IsLimitBelow set f (stage + 1) true joined
+limit-next set f n stage asked limit joined so_far next e =
+    limit-has set f stage asked limit joined (limit-upto set f n stage asked limit so_far next.from_on next.none_before) next.has e
 
 pub limit-all : (set : StageSet) (f : ℕ → Option ℕ) (asked : Bool) (limit : Option ℕ) → IsLimitBelow set f 64 asked limit → limit ≡ greatest_if_all (map f (stages_of set))
 unfolding stages_of

@@ -1,12 +1,13 @@
 -- The bits of a set of stages.
 use Rattle.std.proofs.Common.{◌≡◌, ◌≢◌, append-nil, subst, ℕ, zero, suc, ◌*◌, ◌^◌, ◌%◌, ◌/◌, ◌<◌, ◌≤◌, List, [], ◌∷◌, ◌++◌, Bool, true, false, cond, refl, ap, sym, ◌∙◌, arith, w64, inl, inr, bit_and, bit_or}
-use Rattle.std.specs.Prelude.{nat_lt, ◌==◌, ◌&&◌, ◌||◌}
-use Rattle.std.specs.Int.{bit_at}
+use Rattle.std.specs.Prelude.{nat_lt, ◌==◌, ◌&&◌, ◌||◌, ◌+◌, ◌-◌}
+use Rattle.std.specs.Int.{bit_at, trailing_zeros}
 use Rattle.std.specs.List.{AllByRecursion}
 use Rattle.std.proofs.lemmas.Bool.{cases_eq, cases_lt, cases_Bool, cond-true, lt-ltb, le-ltb, eq-eqb, ne_eqb, cond-false}
-use Rattle.std.proofs.lemmas.Nat.Bits.{shr_and_one, bit_at-zero, bit_at_set_same, bit_at_set_other}
+use Rattle.std.proofs.lemmas.Nat.{shr-shr}
+use Rattle.std.proofs.lemmas.Nat.Bits.{shr_and_one, bit_at-zero, bit_at_set_same, bit_at_set_other, bit_at-trailing_zeros, bit_at_above}
 use Rattle.chain_core.specs.declared.stage_set.StageSet.{StageSet}
-use Rattle.chain_core.specs.Stages.{has_stage, stages_below, stages_of}
+use Rattle.chain_core.specs.Stages.{has_stage, stages_below, stages_of, IsNextFrom}
 
 -- the test of the code
 pub has-bits : (set : StageSet) (k : ℕ) → k < 64 → (bit_and (set.bits / 2 ^ k) 1 == 1) ≡ has_stage set k
@@ -132,3 +133,47 @@ module _ (old new : StageSet) (stage : ℕ) (lt : stage < 64) (has : (k : ℕ) �
   unfolding stages_of
   one-above =
       new-above 64 lt ∙ ap (λ (l : List ℕ). l ++ stage ∷ []) (sym (old-above 64 (omega arith)))
+
+-- ---- the next stage
+
+shifted-bit : (n from i : ℕ) → bit_at (n / 2 ^ from) i ≡ bit_at n (from + i)
+shifted-bit n from i = ap (λ x. x % 2) (shr-shr n from i)
+
+not-one : (n k : ℕ) → bit_at n k ≡ 0 → (bit_at n k == 1) ≡ false
+not-one n k e = ap (λ b. b == 1) e
+
+-- no bit is left
+pub none-from : (set : StageSet) (from k : ℕ) → set.bits / 2 ^ from ≡ 0 → from ≤ k → has_stage set k ≡ false
+unfolding has_stage
+none-from set from k e le =
+    let at : from + (k - from) ≡ k = omega arith in
+    let zero_bit : bit_at set.bits k ≡ 0 = sym (ap (bit_at set.bits) at) ∙ sym (shifted-bit set.bits from (k - from)) ∙ ap (λ n. bit_at n (k - from)) e ∙ bit_at-zero (k - from) in
+    ap (λ b. nat_lt k 64 && b) (not-one set.bits k zero_bit) ∙ and_no (nat_lt k 64)
+  where
+    and_no : (b : Bool) → (b && false) ≡ false
+    and_no true = refl
+    and_no false = refl
+
+-- the lowest bit that is left
+pub next-is : (set : StageSet) (from : ℕ) → set.bits < 2 ^ 64 → set.bits / 2 ^ from < 2 ^ 64 → 0 < set.bits / 2 ^ from → IsNextFrom set from (from + trailing_zeros w64 (set.bits / 2 ^ from))
+unfolding has_stage
+next-is set from fits fits_rest some =
+    let lowest = bit_at-trailing_zeros w64 (set.bits / 2 ^ from) some fits_rest in
+    let one : bit_at set.bits (from + trailing_zeros w64 (set.bits / 2 ^ from)) ≡ 1 = sym (shifted-bit set.bits from (trailing_zeros w64 (set.bits / 2 ^ from))) ∙ lowest.1 in
+    let low : from + trailing_zeros w64 (set.bits / 2 ^ from) < 64 = bit-low set.bits (from + trailing_zeros w64 (set.bits / 2 ^ from)) fits one in
+    record {
+      from_on = omega arith;
+      within = low;
+      has = ap (λ b. b && bit_at set.bits (from + trailing_zeros w64 (set.bits / 2 ^ from)) == 1) (lt-ltb (from + trailing_zeros w64 (set.bits / 2 ^ from)) 64 low) ∙ ap (λ b. b == 1) one;
+      none_before = λ k le lt.
+          let at : from + (k - from) ≡ k = omega arith in
+          let zero_bit : bit_at set.bits k ≡ 0 = sym (ap (bit_at set.bits) at) ∙ sym (shifted-bit set.bits from (k - from)) ∙ (lowest.2 (k - from) (omega arith)) in
+          ap (λ b. b && bit_at set.bits k == 1) (lt-ltb k 64 (omega arith)) ∙ not-one set.bits k zero_bit;
+    }
+  where
+    bit-low : (n k : ℕ) → n < 2 ^ 64 → bit_at n k ≡ 1 → k < 64
+    bit-low n k fits one =
+        elim (cases_lt k 64) [
+          | inl lt ↦ lt
+          | inr le ↦ (let z : bit_at n k ≡ 0 = bit_at_above n 64 k fits le in absurd (omega (arith, z, one)))
+        ]

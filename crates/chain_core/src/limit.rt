@@ -15,11 +15,11 @@ pub(crate) fn limit_of(users: StageSet, progress: &[Progress]) -> Option<u64>
 {
     let mut asked = false;
     let mut limit = None;
-    for stage in 0..64 {
-        if users.has(stage) {
-            limit = joined(asked, limit, agreed_at(progress, stage));
-            asked = true;
-        }
+    let mut from = 0;
+    while let Some(stage) = users.next_from(from) {
+        limit = joined(asked, limit, agreed_at(progress, stage));
+        asked = true;
+        from = stage + 1;
     }
     limit
 }

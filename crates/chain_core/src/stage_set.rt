@@ -1,4 +1,4 @@
-ghost use Rattle.std.specs.Prelude.{◌≡◌, ℕ, ◌<◌, [], ◌∷◌, ◌++◌, ◌==◌, ◌||◌, All};
+ghost use Rattle.std.specs.Prelude.{◌≡◌, ℕ, ◌<◌, [], ◌∷◌, ◌++◌, ◌==◌, ◌||◌, ◌≤◌, false, All, IfNone, IfSome};
 
 /// A set of stage numbers below 64.
 #[derive(Clone, Copy)]
@@ -7,7 +7,7 @@ pub struct StageSet {
 }
 
 impl StageSet {
-    ghost use Rattle.chain_core.specs.Stages.{has_stage, stages_of};
+    ghost use Rattle.chain_core.specs.Stages.{has_stage, stages_of, IsNextFrom};
 
     /// No stage at all.
     pub fn none() -> StageSet
@@ -33,5 +33,21 @@ impl StageSet {
         ensures { result ≡ has_stage self.now stage }
     {
         stage < 64 && (self.bits >> stage) & 1 == 1
+    }
+
+    /// The least stage of the set from this number on, where there is one.
+    #[inline]
+    pub(crate) fn next_from(&self, from: usize) -> Option<usize>
+        ensures none { IfNone result ((k : ℕ) → from ≤ k → has_stage self.now k ≡ false) }
+        ensures some { IfSome result (λ stage. IsNextFrom self.now from stage) }
+    {
+        if from >= 64 {
+            return None;
+        }
+        let rest = self.bits >> from;
+        if rest == 0 {
+            return None;
+        }
+        Some(from + rest.trailing_zeros() as usize)
     }
 }
