@@ -1,5 +1,7 @@
+pub mod JoinedLemmas
 pub mod NumberLemmas
 pub mod PairLemmas
 pub mod ParsedOptionsLemmas
 pub mod RefusalLemmas
 pub mod SignLemmas
+mod Rows

@@ -3,16 +3,20 @@
 use Rattle.std.specs.Prelude.{ℕ, Bool, List, is_some, true}
 use Rattle.option_words.specs.HexText.{bytes_of}
 use Rattle.option_words.specs.Number.{number_within}
-use Rattle.option_words.specs.Pairs.{pair_of}
-use Rattle.option_words.specs.Ranges.{ranges_of}
+use Rattle.option_words.specs.Pairs.{pair_of, pairs_of}
+use Rattle.option_words.specs.Ranges.{ranges_of, ranges_within}
 
 pub data Form : Type 0 where
   -- a number from a least to a most
   number : ℕ → ℕ → Form
   -- numbers and ranges joined by commas, none above a most
   ranges : ℕ → Form
+  -- numbers and ranges joined by commas, none below a least or above a most
+  ranges_from : ℕ → ℕ → Form
   -- two numbers joined by a sign, each with its least and its most
   pair : ℕ → ℕ × ℕ → ℕ × ℕ → Form
+  -- such pairs joined by commas
+  pairs : ℕ → ℕ × ℕ → ℕ × ℕ → Form
   -- bytes as hexadecimal digits, from a least number of bytes to a most
   bytes : ℕ → ℕ → Form
   -- any text
@@ -22,6 +26,8 @@ pub data Form : Type 0 where
 abbrev pub has_form : Form → List ℕ → Bool
 has_form (number least most) word = is_some (number_within least most word)
 has_form (ranges most) word = is_some (ranges_of most word)
+has_form (ranges_from least most) word = is_some (ranges_within least most word)
 has_form (pair sign first second) word = is_some (pair_of sign first second word)
+has_form (pairs sign first second) word = is_some (pairs_of sign first second word)
 has_form (bytes least most) word = is_some (bytes_of least most word)
 has_form text word = true

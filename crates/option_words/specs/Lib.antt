@@ -1,5 +1,6 @@
 pub mod Forms
 pub mod HexText
+pub mod Joined
 pub mod Number
 pub mod OptionTable
 pub mod Options

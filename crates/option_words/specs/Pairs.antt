@@ -1,7 +1,8 @@
 -- Two numbers joined by a sign, as words write them.
 -- This project's own rule.
-use Rattle.std.specs.Prelude.{ℕ, ◌==◌, List, None, Option, Some, if◌then◌else◌}
+use Rattle.std.specs.Prelude.{ℕ, ◌==◌, ◌≤◌, List, None, Option, Some, if◌then◌else◌}
 use Rattle.std.specs.List.{after_first, before_first, list_any}
+use Rattle.option_words.specs.Joined.{read_joined}
 use Rattle.option_words.specs.Number.{number_within}
 
 -- both, where none is wanting
@@ -16,3 +17,12 @@ pair_of sign first second text =
     then both_of (number_within first.0 first.1 (before_first (λ byte. byte == sign) text))
     (number_within second.0 second.1 (after_first (λ byte. byte == sign) text))
     else None
+
+-- such pairs joined by commas; an empty part is none
+unfoldable pub pairs_of : ℕ → ℕ × ℕ → ℕ × ℕ → List ℕ → Option (List (ℕ × ℕ))
+pairs_of sign first second text = read_joined (pair_of sign first second) text
+
+-- each number of a pair lies between its least and its most
+abbrev pub IsPairWithin : ℕ × ℕ → ℕ × ℕ → ℕ × ℕ → Type 0
+IsPairWithin first second pair =
+    (first.0 ≤ pair.0) × (pair.0 ≤ first.1) × (second.0 ≤ pair.1) × (pair.1 ≤ second.1)

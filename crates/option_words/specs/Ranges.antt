@@ -1,12 +1,9 @@
 -- Lists of numbers and ranges as words write them.
 -- This project's own rule.
-use Rattle.std.specs.Prelude.{ℕ, ◌==◌, Bool, List, [], ◌∷◌, None, Option, Some, if◌then◌else◌, nat_le, option_map}
-use Rattle.std.specs.List.{after_first, before_first, list_any, slice_split}
+use Rattle.std.specs.Prelude.{ℕ, ◌==◌, Bool, List, None, Option, Some, if◌then◌else◌, nat_le, option_map}
+use Rattle.std.specs.List.{after_first, before_first, list_any}
+use Rattle.option_words.specs.Joined.{read_joined}
 use Rattle.option_words.specs.Number.{number_within}
-
--- the byte is `,`
-abbrev pub is_comma : ℕ → Bool
-is_comma byte = byte == 44
 
 -- the byte is `-`
 abbrev pub is_dash : ℕ → Bool
@@ -21,24 +18,18 @@ abbrev pub ordered_pair : Option ℕ → Option ℕ → Option (ℕ × ℕ)
 ordered_pair (Some low) (Some high) = if_ordered low high
 ordered_pair _ _ = None
 
--- `a-b` with `a` at most `b`, or `a` alone for the range from `a` to `a`; none is above a most
-unfoldable pub range_of : ℕ → List ℕ → Option (ℕ × ℕ)
-range_of most text =
+-- `a-b` with `a` at most `b`, or `a` alone for the range from `a` to `a`; none is below a least or above a most
+unfoldable pub range_of : ℕ → ℕ → List ℕ → Option (ℕ × ℕ)
+range_of least most text =
     if list_any is_dash text
-    then ordered_pair (number_within 0 most (before_first is_dash text))
-    (number_within 0 most (after_first is_dash text))
-    else option_map (λ n. (n, n)) (number_within 0 most text)
+    then ordered_pair (number_within least most (before_first is_dash text))
+    (number_within least most (after_first is_dash text))
+    else option_map (λ n. (n, n)) (number_within least most text)
 
--- a first item and those after it, where none is wanting
-abbrev pub if_all : {X : Type 0} → Option X → Option (List X) → Option (List X)
-if_all (Some item) (Some items) = Some (item ∷ items)
-if_all _ _ = None
-
--- the ranges of the parts, where each is one
-abbrev pub ranges_of_parts : ℕ → List (List ℕ) → Option (List (ℕ × ℕ))
-ranges_of_parts most [] = Some []
-ranges_of_parts most (part ∷ parts) = if_all (range_of most part) (ranges_of_parts most parts)
-
--- numbers and ranges joined by commas; an empty part is none
+-- numbers and ranges from 0 to a most, joined by commas; an empty part is none
 unfoldable pub ranges_of : ℕ → List ℕ → Option (List (ℕ × ℕ))
-ranges_of most text = ranges_of_parts most (slice_split is_comma text)
+ranges_of most text = read_joined (range_of 0 most) text
+
+-- the same from a least
+unfoldable pub ranges_within : ℕ → ℕ → List ℕ → Option (List (ℕ × ℕ))
+ranges_within least most text = read_joined (range_of least most) text

@@ -1,7 +1,8 @@
 ghost use Rattle.std.specs.Prelude.{◌≡◌, ◌≤◌, ◌<◌, IfOk, IfSome, MatchResult, false, filter_map, length, map, true};
 ghost use Rattle.std.specs.List.{All, list_all};
 ghost use Rattle.option_words.specs.Forms.{has_form, pair};
-ghost use Rattle.option_words.specs.Pairs.{pair_of};
+ghost use Rattle.option_words.specs.Joined.{read_joined};
+ghost use Rattle.option_words.specs.Pairs.{IsPairWithin, pair_of};
 ghost use Rattle.option_words.specs.Refusal.{IsRefusedBy};
 ghost use Rattle.option_words.specs.declared.words_rule.WordsRule.TheVariants.{Value};
 
@@ -10,7 +11,7 @@ use crate::refusal::Refusal;
 use crate::signs::split_at_sign;
 use crate::words_rule::WordsRule;
 use plug_conf::PairList;
-use std::alloc::Global;
+use std::alloc::{AllocError, Global};
 
 /// Two numbers with a sign between them, each with its least and its most.
 pub fn read_pair(
@@ -54,4 +55,33 @@ pub fn read_pairs(
         pairs.push(pair)?;
     }
     Ok(PairList::of(pairs))
+}
+
+/// The pairs of a text, joined by commas, as `read_pair` reads each.
+pub fn read_pair_list(
+    alloc: Global,
+    text: &str,
+    sign: char,
+    first: (u64, u64),
+    second: (u64, u64),
+) -> Result<Option<PairList>, AllocError>
+    requires { sign < 128 }
+    ensures value { IfOk result (λ list. list ≡ read_joined (pair_of sign first second) text.now) }
+    ensures some { IfOk result (λ list. IfSome list (λ pairs. 1 ≤ length pairs)) }
+    ensures range { IfOk result (λ list. IfSome list (All (IsPairWithin first second))) }
+{
+    let mut pairs = Vec::new(alloc);
+    let mut rest = text;
+    while let Some((part, others)) = split_at_sign(rest, ',') {
+        let Some(pair) = read_pair(part, sign, first, second) else {
+            return Ok(None);
+        };
+        pairs.push(pair)?;
+        rest = others;
+    }
+    let Some(pair) = read_pair(rest, sign, first, second) else {
+        return Ok(None);
+    };
+    pairs.push(pair)?;
+    Ok(Some(PairList::of(pairs)))
 }

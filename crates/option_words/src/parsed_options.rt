@@ -3,19 +3,19 @@ ghost use Rattle.std.specs.String.{string_bytes};
 ghost use Rattle.clap.specs.Simple.{app_of};
 ghost use Rattle.clap.specs.Faults.{is_simple_and_free};
 ghost use Rattle.plug_conf.specs.NumberSet.{AllBelow};
-ghost use Rattle.option_words.specs.Forms.{bytes, has_form, number, pair, ranges};
+ghost use Rattle.option_words.specs.Forms.{bytes, has_form, number, pair, pairs, ranges, ranges_from, text as any_text};
 ghost use Rattle.std.specs.List.{All, filter_map, list_all};
 ghost use Rattle.option_words.specs.HexText.{bytes_of};
 ghost use Rattle.option_words.specs.Number.{number_within};
 ghost use Rattle.option_words.specs.Options.{findings, has_flag, has_value, is_by_words, is_formed, is_taken, read_value, value_of, values_of};
-ghost use Rattle.option_words.specs.Pairs.{pair_of};
-ghost use Rattle.option_words.specs.Ranges.{ranges_of};
+ghost use Rattle.option_words.specs.Pairs.{IsPairWithin, pair_of, pairs_of};
+ghost use Rattle.option_words.specs.Ranges.{ranges_of, ranges_within};
 ghost use Rattle.option_words.specs.Refusal.{IsRefusedBy};
 ghost use Rattle.option_words.specs.declared.words_rule.WordsRule.TheVariants.{Shape, Value};
 
 use crate::hex_text::read_bytes;
 use crate::number::read_number_within;
-use crate::pairs::{read_pair, read_pairs};
+use crate::pairs::{read_pair, read_pair_list, read_pairs};
 use crate::ranges::read_ranges;
 use crate::refusal::Refusal;
 use crate::words_rule::WordsRule;
@@ -140,6 +140,7 @@ impl<'a> ParsedOptions<'a> {
     }
 
     /// The numbers and ranges of an option, none above a most; none at all where it is not given.
+    #[tactic(auto, unfolding(crate::specs::Ranges::ranges_of))]
     pub fn ranges(&self, alloc: Global, name: &str, most: u64) -> Result<NumberSet, Refusal>
         ensures reads { MatchResult result
             (λ set. (is_formed (ranges most) name.now self.now ≡ true)
@@ -151,8 +152,62 @@ impl<'a> ParsedOptions<'a> {
         let Some(text) = self.value(name) else {
             return Ok(NumberSet::of(Vec::new(alloc)));
         };
-        match read_ranges(alloc, text, most)? {
+        match read_ranges(alloc, text, 0, most)? {
             Some(set) => Ok(set),
+            None => Err(Refusal::Broken(WordsRule::Value)),
+        }
+    }
+
+    /// The same, none below a least.
+    #[tactic(auto, unfolding(crate::specs::Ranges::ranges_within))]
+    pub fn ranges_from(
+        &self,
+        alloc: Global,
+        name: &str,
+        least: u64,
+        most: u64,
+    ) -> Result<NumberSet, Refusal>
+        ensures reads { MatchResult result
+            (λ set. (is_formed (ranges_from least most) name.now self.now ≡ true)
+            × (set ≡ unwrap_or (read_value (ranges_within least most) name.now self.now) []))
+            (IsRefusedBy Value (is_formed (ranges_from least most) name.now self.now ≡ false)) }
+        ensures below { IfOk result (AllBelow (most + 1)) }
+        ensures above { IfOk result (All (λ pair. least ≤ pair.0)) }
+        ensures given { IfOk result (λ set. has_value name.now self.now ≡ not (length set == 0)) }
+    {
+        let Some(text) = self.value(name) else {
+            return Ok(NumberSet::of(Vec::new(alloc)));
+        };
+        match read_ranges(alloc, text, least, most)? {
+            Some(set) => Ok(set),
+            None => Err(Refusal::Broken(WordsRule::Value)),
+        }
+    }
+
+    /// The pairs of an option, joined by commas, each of two numbers joined by a sign; none at all where it is not
+    /// given.
+    #[tactic(auto, unfolding(crate::specs::Pairs::pairs_of))]
+    pub fn pair_list(
+        &self,
+        alloc: Global,
+        name: &str,
+        sign: char,
+        first: (u64, u64),
+        second: (u64, u64),
+    ) -> Result<PairList, Refusal>
+        requires { sign < 128 }
+        ensures reads { MatchResult result
+            (λ list. (is_formed (pairs sign first second) name.now self.now ≡ true)
+            × (list ≡ unwrap_or (read_value (pairs_of sign first second) name.now self.now) []))
+            (IsRefusedBy Value (is_formed (pairs sign first second) name.now self.now ≡ false)) }
+        ensures range { IfOk result (All (IsPairWithin first second)) }
+        ensures given { IfOk result (λ list. has_value name.now self.now ≡ not (length list == 0)) }
+    {
+        let Some(text) = self.value(name) else {
+            return Ok(PairList::of(Vec::new(alloc)));
+        };
+        match read_pair_list(alloc, text, sign, first, second)? {
+            Some(list) => Ok(list),
             None => Err(Refusal::Broken(WordsRule::Value)),
         }
     }
@@ -228,6 +283,17 @@ impl<'a> ParsedOptions<'a> {
         match self.value(name) {
             Some(text) => Ok(NameText::of(String::from_str(alloc, text)?)),
             None => Ok(NameText::of(String::new(alloc))),
+        }
+    }
+
+    /// The text of an option, where it is given; an empty text is one.
+    pub fn optional_text(&self, alloc: Global, name: &str) -> Result<Option<NameText>, AllocError>
+        ensures reads { IfOk result (λ given. given ≡ value_of name.now self.now) }
+        ensures formed { is_formed any_text name.now self.now ≡ true }
+    {
+        match self.value(name) {
+            Some(text) => Ok(Some(NameText::of(String::from_str(alloc, text)?))),
+            None => Ok(None),
         }
     }
 }
