@@ -18,3 +18,4 @@ pub mod RunLemmas
 pub mod EndLemmas
 pub mod RunUses
 pub mod PartLemmas
+pub mod StageLawLemmas

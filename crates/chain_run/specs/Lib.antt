@@ -11,3 +11,4 @@ pub mod NewRow
 pub mod SerialRuns
 pub mod Working
 pub mod Parts
+pub mod StageLaws

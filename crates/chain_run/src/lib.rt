@@ -8,12 +8,14 @@ mod parts;
 mod run_end;
 mod serial_chain;
 mod serial_run;
+mod stage_laws;
 mod stages;
 
 pub use laws::{any_run, machine_laws};
 pub use parts::{GivenBack, StageRooms, lay_stages, take_apart};
 pub use run_end::RunEnd;
 pub use serial_run::run_serial;
+pub use stage_laws::one_stage;
 pub use stages::Stages;
 
 #[cfg(test)]

@@ -21,18 +21,17 @@ use Rattle.stage_run.specs.Parts.{IsListOf}
 use Rattle.chain_run.specs.Runs.{RunStart}
 use Rattle.chain_run.specs.OneStage.{SoFarUpTo, Doing, StandsIn}
 use Rattle.chain_run.specs.Ran.{Ran, HasClosed}
-use Rattle.chain_run.specs.Laws.{MachineLaws}
-use Rattle.chain_run.proofs.NumberLaws.{given-taken, taken-given}
-use Rattle.chain_run.proofs.StepLemmas.{doing-more}
-use Rattle.chain_run.proofs.RanLemmas.{earlier_run, so-far-up_to}
 use Rattle.window_ring.specs.declared.stage_seat.StageSeat.{StageSeat}
 use Rattle.window_ring.specs.Views.{Since}
 use Rattle.window_ring.specs.Seats.{seen_of}
 use Rattle.window_ring.specs.Closing.{IsWhole, ClosedOf}
 use Rattle.window_ring.specs.OneRun.{HasKept}
-use Rattle.window_ring.proofs.Since.{stage_stays}
 use Rattle.thread_run.specs.Standing.{key_at, Over}
 use Rattle.thread_run.specs.Over.{EndsAt, AllHaveEnded}
+use Rattle.chain_run.specs.StageLaws.{Premise, premise}
+use Rattle.chain_run.specs.StageLaws.Premise.{HeldSoFar, GivenBy}
+use Rattle.thread_run.specs.RunLaws.{RunLaws}
+use Rattle.thread_run.proofs.Numbers.{earlier_run, given-taken, taken-given}
 use Rattle.thread_run.proofs.TurnLemmas.{grows_over, more_over}
 
 -- a number of a stage, whatever number is given
@@ -73,7 +72,7 @@ module _ {S K P : Type 0} (see : Seeing S K P) (begun : RunStart S K) (base : Pt
         record { stage = o.stage; seat_is = o.over.seat_is; ended = subst (λ i. IsSome ((state_after plan (seen_of (slice_index_or seats k d))).stages i).ended) o.stage o.over.over.ended };
   }
 
-  module _ (laws : MachineLaws)
+  module _ (laws : RunLaws see)
       (one : (plan : CorePlan) (rules : List PluginRule) (input : StageList) (history : List Visit) → ((k : ℕ) → k ≤ suc plan.plugins → HasKept plan rules input k history) → ChainRun plan history → AllKeep plan rules input history)
       (seat0 : StageSeat) (part0 : StagePart S K P) (history : List Visit) (run : ChainRun begun.plan history)
       (since : (k : ℕ) (d : StageSeat) → k ≤ suc begun.plan.plugins → Since k (seen_of (slice_index_or seats k d)) history) where
@@ -105,24 +104,24 @@ module _ {S K P : Type 0} (see : Seeing S K P) (begun : RunStart S K) (base : Pt
 
       same_k : s.stages k ≡ (state_after plan (seen k)).stages k
       unfolding later
-      same_k = ap (λ (l : List Visit). (state_after plan l).stages k) is-later ∙ stage_stays plan are.run.lawful.users laws.changes laws.leaves k later (seen k) (since k seat0 le).1
+      same_k = ap (λ (l : List Visit). (state_after plan l).stages k) is-later ∙ laws.seats.stays plan k later (seen k) are.run.lawful.users (since k seat0 le).1
 
       pub ended : IsSome (s.stages k).ended
       ended = subst (λ (z : StageState). IsSome z.ended) (sym same_k) own.ended
 
       -- what it stands for, in words of the one run
-      now : (Gives : StageList → Type 0) → ((input : StageList) → Gives input → SoFarUpTo plan begun.rules (seen k) input) → StandsIn see begun (part k) k own.lists s Gives
-      now Gives less =
+      now : (known : Premise S K P) → ((input : StageList) → premise see begun known input → SoFarUpTo plan begun.rules (seen k) input) → StandsIn see begun (part k) k own.lists s (premise see begun known)
+      now known less =
           let old : ChainState = state_after plan (seen k) in
-          subst (λ (z : StageState). Doing see begun (part k) k own.lists z.given z.ended (written_of plan (progress_of_stages s)) z.taken (λ j. (s.stages j).given) Gives) (sym same_k)
-          (doing-more see begun (part k) k own.lists (old.stages k).given (old.stages k).ended (written_of plan (progress_of_stages old)) (written_of plan (progress_of_stages s)) (old.stages k).taken (old.stages k).taken
-          (λ j. (old.stages j).given) (λ j. (s.stages j).given) (SoFarUpTo plan begun.rules (seen k)) Gives
-          (subst (λ (l : List Visit). written_of plan (progress_of_stages old) ≤ written_of plan (progress_of_stages (state_after plan l))) (sym is-later) (grows_over laws plan are.run.lawful.users later (seen k) run-later))
+          subst (λ (z : StageState). Doing see begun (part k) k own.lists z.given z.ended (written_of plan (progress_of_stages s)) z.taken (λ j. (s.stages j).given) (premise see begun known)) (sym same_k)
+          (laws.stages.more begun (part k) k own.lists (old.stages k).given (old.stages k).ended (written_of plan (progress_of_stages old)) (written_of plan (progress_of_stages s)) (old.stages k).taken (old.stages k).taken
+          (λ j. (old.stages j).given) (λ j. (s.stages j).given) (HeldSoFar (seen k)) known
+          (subst (λ (l : List Visit). written_of plan (progress_of_stages old) ≤ written_of plan (progress_of_stages (state_after plan l))) (sym is-later) (grows_over laws.machine plan are.run.lawful.users later (seen k) run-later))
           (omega arith)
-          (λ j e. let m = more_over laws plan are.run.lawful.users later (seen k) run-later j in (
+          (λ j e. let m = more_over laws.machine plan are.run.lawful.users later (seen k) run-later j in (
             m.0,
             ap (λ (l : List Visit). ((state_after plan l).stages j).given) is-later ∙ m.1,
-            (let r = earlier_run plan later (seen k) run-later in let a = given-taken laws plan are.run.lawful.users (seen k) r k in let b = subst (λ i. (old.stages i).taken ≤ length (old.stages j).given) e (taken-given laws plan are.run.lawful.users (seen k) r j) in omega (arith, a, b)),
+            (let r = earlier_run plan later (seen k) run-later in let a = given-taken laws.machine plan are.run.lawful.users (seen k) r k in let b = subst (λ i. (old.stages i).taken ≤ length (old.stages j).given) e (taken-given laws.machine plan are.run.lawful.users (seen k) r j) in omega (arith, a, b)),
           ))
           less own.doing)
 
@@ -145,12 +144,12 @@ module _ {S K P : Type 0} (see : Seeing S K P) (begun : RunStart S K) (base : Pt
     abbrev Gives : StageList → Type 0
     Gives = PartGives see (part 0) (lists 0)
 
-    stands : (k : ℕ) → k ≤ suc plan.plugins → (Gives' : StageList → Type 0) → ((input : StageList) → Gives' input → SoFarUpTo plan begun.rules (seen (place k)) input) → StandsIn see begun (part k) k (lists k) s Gives'
+    stands : (k : ℕ) → k ≤ suc plan.plugins → (known : Premise S K P) → ((input : StageList) → premise see begun known input → SoFarUpTo plan begun.rules (seen (place k)) input) → StandsIn see begun (part k) k (lists k) s (premise see begun known)
     unfolding lists its
-    stands k le Gives' less = subst (λ i. StandsIn see begun (part i) i (lists k) s Gives') (here k le) (now (place k) (in_place k) Gives' less)
+    stands k le known less = subst (λ i. StandsIn see begun (part i) i (lists k) s (premise see begun known)) (here k le) (now (place k) (in_place k) known less)
 
     is_list : (input : StageList) → Gives input → IsListOf see.source begun.from begun.stuffing input
-    is_list input gives = ((stands 0 (omega arith) (λ i. SoFarUpTo plan begun.rules (seen (place 0)) i) (λ i x. x)).input refl).is_list input gives
+    is_list input gives = ((stands 0 (omega arith) (HeldSoFar (seen (place 0))) (λ i x. x)).input refl).is_list input gives
 
     has-kept : (input : StageList) → Gives input → (k : ℕ) → k ≤ suc plan.plugins → HasKept plan begun.rules input k history
     unfolding lists later
@@ -168,7 +167,7 @@ module _ {S K P : Type 0} (see : Seeing S K P) (begun : RunStart S K) (base : Pt
     -- the chain theorem holds of what each stage has seen
     so-far : (k : ℕ) (le : k ≤ suc plan.plugins) (input : StageList) → Gives input → SoFarUpTo plan begun.rules (seen k) input
     so-far k le input gives x q e =
-        so-far-up_to see begun are.run laws input history (is_list input gives) (kept input gives) run (later k le ++ x) q
+        laws.stages.so_far begun input history are.run (is_list input gives) (kept input gives) run (later k le ++ x) q
         (is-later k le ∙ (ap (λ (l : List Visit). later k le ++ l) e ∙ sym (append_assoc (later k le) x q)))
 
     pub ran : Ran see begun parts
@@ -182,7 +181,7 @@ module _ {S K P : Type 0} (see : Seeing S K P) (begun : RunStart S K) (base : Pt
         parts_are = λ k d le. any-default parts k d part0 (let a = are.parts_are in omega arith);
         run = run;
         kept = kept;
-        stands = λ k le. stands k le Gives (so-far (place k) (in_place k));
+        stands = λ k le. stands k le (GivenBy (part 0) (lists 0)) (so-far (place k) (in_place k));
       };
     }
 
@@ -190,7 +189,7 @@ module _ {S K P : Type 0} (see : Seeing S K P) (begun : RunStart S K) (base : Pt
     unfolding ran
     has-closed closed is = record { ran = ran; over = ended; closed_is = is }
 
-  pub together : (laws : MachineLaws)
+  pub together : (laws : RunLaws see)
       (one : (plan : CorePlan) (rules : List PluginRule) (input : StageList) (history : List Visit) → ((k : ℕ) → k ≤ suc plan.plugins → HasKept plan rules input k history) → ChainRun plan history → AllKeep plan rules input history)
       (closed : Closed) → ClosedOf (key_at begun base) seats closed → HasClosed see begun parts closed
   together laws one closed is =

@@ -6,3 +6,4 @@ pub mod EndLemmas
 pub mod Carries
 pub mod Stepping
 pub mod SeatLemmas
+pub mod Numbers

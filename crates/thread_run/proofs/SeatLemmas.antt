@@ -19,6 +19,7 @@ use Rattle.thread_run.specs.Turning.{IsNewStage, Ends}
 use Rattle.thread_run.specs.Driving.{Holds, AreReady, Keeps, AreBeside, Carried, HaveEnded}
 use Rattle.thread_run.specs.Beginning.{new_stage, seated, parts_of, seats_of, AreNew}
 use Rattle.thread_run.specs.Over.{EndsAt, AllHaveEnded}
+use Rattle.thread_run.specs.RunLaws.{RunLaws}
 use Rattle.thread_run.proofs.NewLemmas.{new-stands}
 use Rattle.thread_run.proofs.Carries.{each_at, kept_open}
 
@@ -94,9 +95,9 @@ module _ {X : Type 0} (F : X → X → Type 0) where
 pub key-is : {S K : Type 0} (ring : Ring) (begun : RunStart S K) → (key_of ring).plan ≡ begun.plan → key_of ring ≡ key_at begun (key_of ring).base
 key-is ring begun is = ap (λ p. record { plan = p; base = (key_of ring).base }) is
 
-module _ {S K P : Type 0} (see : Seeing S K P) (begun : RunStart S K) (base : Ptr) (table : TableId) where
+module _ {S K P : Type 0} (see : Seeing S K P) (laws : RunLaws see) (begun : RunStart S K) (base : Ptr) (table : TableId) where
   new-holds : (part : StagePart S K P) (seat : StageSeat) → IsNewStage see begun base table part seat → Holds see begun base table (new_stage part seat)
-  new-holds part seat n = (λ f. new-stands see begun base table part seat n, λ t. absurd (let f : false ≡ true = t in cc))
+  new-holds part seat n = (λ f. new-stands see laws begun base table part seat n, λ t. absurd (let f : false ≡ true = t in cc))
 
   each-holds : (parts : List (StagePart S K P)) (seats : List StageSeat) → length seats ≡ length parts
       → ((i : ℕ) (d : StagePart S K P) (e : StageSeat) → i < length parts → IsNewStage see begun base table (slice_index_or parts i d) (slice_index_or seats i e))
@@ -134,16 +135,16 @@ module _ {S K P : Type 0} (see : Seeing S K P) (begun : RunStart S K) (ring : Ri
             (subst (λ p. Doing see begun p i (n.row.lists i) [] None 0 0 (λ _. []) (λ _. Unit {0})) (sym (n.row.parts_are i d le)) doing);
       }
 
-  all-hold : Each (Holds see begun base table) (seated parts seats)
-  all-hold = each-holds see begun base table parts seats same_number new-at
+  all-hold : RunLaws see → Each (Holds see begun base table) (seated parts seats)
+  all-hold laws = each-holds see laws begun base table parts seats same_number new-at
 
-  pub are_ready : AreReady see ring (seated parts seats)
+  pub are_ready : RunLaws see → AreReady see ring (seated parts seats)
   unfolding AreReady
-  are_ready = (begun, base, key, all-hold)
+  are_ready laws = (begun, base, key, all-hold laws)
 
   -- ---- all have ended
 
-  module _ (stages : List (Stage S K P)) (carried : Carried see ring (seated parts seats) stages) (over : HaveEnded true stages) where
+  module _ (laws : RunLaws see) (stages : List (Stage S K P)) (carried : Carried see ring (seated parts seats) stages) (over : HaveEnded true stages) where
     abbrev old : List (Stage S K P)
     old = seated parts seats
 
@@ -173,7 +174,7 @@ module _ {S K P : Type 0} (see : Seeing S K P) (begun : RunStart S K) (ring : Ri
       kept = beside-at (Keeps see ring) old stages k other carried in-old
 
       held : Holds see begun base table is
-      held = kept_open see ring was is kept begun base key (each_at (Holds see begun base table) old k other all-hold in-old)
+      held = kept_open see ring was is kept begun base key (each_at (Holds see begun base table) old k other (all-hold laws) in-old)
 
       ended : Ends see begun base table is
       unfolding HaveEnded

@@ -1,5 +1,5 @@
 -- One turn of a stage: its visit, and what it stands for behind it.
-use Rattle.std.proofs.Common.{◌≡◌, ℕ, suc, ◌+◌, ◌-◌, ◌≤◌, List, [], ◌∷◌, ◌++◌, length, take, drop, None, refl, sym, ap, ◌∙◌, subst, arith, length-append, length-drop, append-nil, append_assoc, le_trans}
+use Rattle.std.proofs.Common.{◌≡◌, ℕ, suc, ◌+◌, ◌-◌, ◌≤◌, List, [], ◌∷◌, ◌++◌, length, take, drop, None, sym, ap, ◌∙◌, subst, arith, length-append, length-drop, append-nil, append_assoc, le_trans}
 use Rattle.std.specs.Prelude.{IsSome}
 use Rattle.std.proofs.lemmas.List.{take-append-drop, drop-drop, length-take, drop-take, take-append-le}
 use Rattle.std.proofs.Math.Seq.{take-add, drop-append-le}
@@ -20,8 +20,10 @@ use Rattle.stage_run.specs.declared.work.Work.{Work}
 use Rattle.stage_run.specs.PartLists.{PartLists}
 use Rattle.chain_run.specs.Runs.{RunStart}
 use Rattle.chain_run.specs.Laws.{MachineLaws}
-use Rattle.chain_run.proofs.NumberLaws.{change, given-more, taken-given, after-visit, written-grows}
-use Rattle.chain_run.proofs.StepLemmas.{doing-more}
+use Rattle.chain_run.specs.StageLaws.{HasNews, HasWorked}
+use Rattle.chain_run.specs.StageLaws.Premise.{HeldSoFar}
+use Rattle.thread_run.specs.RunLaws.{RunLaws}
+use Rattle.thread_run.proofs.Numbers.{change, given-more, taken-given, after-visit}
 use Rattle.atomic_table.specs.Seated.{TableId}
 use Rattle.window_ring.specs.declared.stage_seat.StageSeat.{StageSeat}
 use Rattle.window_ring.specs.Views.{NoneOf}
@@ -29,16 +31,11 @@ use Rattle.window_ring.specs.Visits.{giving}
 use Rattle.window_ring.specs.Seats.{seen_of, seen_in, Went}
 use Rattle.window_ring.specs.OneRun.{KeptBy}
 use Rattle.window_ring.specs.Seats.{IsSeat}
-use Rattle.window_ring.proofs.Since.{stage_stays}
-use Rattle.window_ring.proofs.Again.{seat_again, seat_still}
 use Rattle.window_ring.specs.Seats.{busy_of}
 use Rattle.chain_run.specs.OneStage.{SoFarUpTo, Doing, MayBe}
 use Rattle.thread_run.specs.Standing.{key_at, gave_by, Standing, Over, StandsAt, IsOver}
 use Rattle.thread_run.specs.Turning.{HandWorks}
 use Rattle.stage_run.specs.Seeing.{Seeing}
-use Rattle.chain_run.proofs.StageVisit as local
-use Rattle.chain_run.proofs.StageVisit.{less, keeps-all, done-now, may-visit}
-use Rattle.chain_run.proofs.NumberLaws.{taken-below, taken-ahead, written-given}
 use Rattle.stage_run.specs.PartStands.{PartStands, MayWorkOnSome}
 use Rattle.stage_run.specs.Works.{PartWork}
 use Rattle.window_ring.specs.Views.{at_rest, land_of}
@@ -53,12 +50,12 @@ kept_over plan rules input k (v ∷ vs) seen none kept = (kept_over plan rules i
 module _ (laws : MachineLaws) (plan : CorePlan) (users : Rattle.chain_core.specs.Numbers.UsersArePlugins plan) where
   pub grows_over : (between seen : List Visit) → ChainRun plan (between ++ seen) → written_of plan (progress_of_stages (state_after plan seen)) ≤ written_of plan (progress_of_stages (state_after plan (between ++ seen)))
   grows_over [] seen run = omega arith
-  grows_over (v ∷ vs) seen run = le_trans (grows_over vs seen run.0) (written-grows laws plan users (vs ++ seen) v run)
+  grows_over (v ∷ vs) seen run = le_trans (grows_over vs seen run.0) (laws.grow plan (vs ++ seen) v users run).written
 
   pub more_over : (between seen : List Visit) → ChainRun plan (between ++ seen) → (j : ℕ) → (more : List Cell) × (((state_after plan (between ++ seen)).stages j).given ≡ ((state_after plan seen).stages j).given ++ more)
   more_over [] seen run j = ([], sym (append-nil ((state_after plan seen).stages j).given))
   more_over (v ∷ vs) seen run j =
-      let a = more_over vs seen run.0 j in let b = given-more laws plan users (vs ++ seen) v run j in
+      let a = more_over vs seen run.0 j in let b = given-more laws plan (vs ++ seen) v j in
       (a.0 ++ b.0, b.1 ∙ (ap (λ (l : List Cell). l ++ b.0) a.1 ∙ append_assoc ((state_after plan seen).stages j).given a.0 b.0))
 
   pub keeps_over : (rules : List PluginRule) (input : StageList) (other : Visit) (between seen : List Visit) → NoneOf other.stage between → ChainRun plan (between ++ seen) → Keeps plan rules input (state_after plan seen) other → Keeps plan rules input (state_after plan (between ++ seen)) other
@@ -66,7 +63,7 @@ module _ (laws : MachineLaws) (plan : CorePlan) (users : Rattle.chain_core.specs
   keeps_over rules input other (v ∷ vs) seen none run k = (laws.leaves plan (vs ++ seen) v users run).keeps rules input other (λ e. none.0 (sym e)) (keeps_over rules input other vs seen none.1 run.0 k)
 
 module _ {S K P : Type 0} (see : Seeing S K P) (begun : RunStart S K) where
-  module _ (laws : MachineLaws) (base : Ptr) (table : TableId) (old new : StageSeat) (part : StagePart S K P) (done : ℕ) (word : StageWord) (st : StandsAt see begun base table old part done word)
+  module _ (laws : RunLaws see) (base : Ptr) (table : TableId) (old new : StageSeat) (part : StagePart S K P) (done : ℕ) (word : StageWord) (st : StandsAt see begun base table old part done word)
       (news : News) (w : Went (key_at begun base) old new done word news) where
     abbrev k : ℕ
     k = old.stage
@@ -99,10 +96,10 @@ module _ {S K P : Type 0} (see : Seeing S K P) (begun : RunStart S K) where
     at = length (s.stages k).given
 
     ch : ChangesOneStage plan sh s2 v
-    ch = change laws plan st.run.lawful.users h v w.run
+    ch = change laws.machine plan h v
 
     same_k : sh.stages k ≡ s.stages k
-    same_k = stage_stays plan st.run.lawful.users laws.changes laws.leaves k w.between seen w.of_others
+    same_k = laws.seats.stays plan k w.between seen st.run.lawful.users w.of_others
 
     pub given-now : (s2.stages k).given ≡ (s.stages k).given ++ take done old.hand.cells
     given-now = ch.given ∙ ap (λ (z : StageState). z.given ++ take done old.hand.cells) same_k
@@ -124,10 +121,10 @@ module _ {S K P : Type 0} (see : Seeing S K P) (begun : RunStart S K) where
 
     -- what the stage before has given by now
     before-now : (j : ℕ) → suc j ≡ k → (more : List Cell) × ((s2.stages j).given ≡ (s.stages j).given ++ more)
-    before-now j e = let m = more_over laws plan st.run.lawful.users w.between seen w.run.0 j in (m.0, ap (λ (z : StageState). z.given) (ch.others j (λ f. absurd (omega (arith, e, f)))) ∙ m.1)
+    before-now j e = let m = more_over laws.machine plan st.run.lawful.users w.between seen w.run.0 j in (m.0, ap (λ (z : StageState). z.given) (ch.others j (λ f. absurd (omega (arith, e, f)))) ∙ m.1)
 
     within-before : (j : ℕ) → suc j ≡ k → (s.stages k).taken ≤ length (s.stages j).given
-    within-before j e = subst (λ i. (s.stages i).taken ≤ length (s.stages j).given) e (taken-given laws plan st.run.lawful.users seen st.seat_is.run j)
+    within-before j e = subst (λ i. (s.stages i).taken ≤ length (s.stages j).given) e (taken-given laws.machine plan st.run.lawful.users seen st.seat_is.run j)
 
     so_far_less : (input : StageList) → SoFarUpTo plan begun.rules now input → SoFarUpTo plan begun.rules seen input
     so_far_less input all = λ x q e. all (v ∷ (w.between ++ x)) q (ap (λ (l : List Visit). v ∷ l) (ap (λ (l : List Visit). w.between ++ l) e ∙ sym (append_assoc w.between x q)))
@@ -137,14 +134,14 @@ module _ {S K P : Type 0} (see : Seeing S K P) (begun : RunStart S K) where
 
     pub doing-now : Doing see begun part k lists (s2.stages k).given word.ended (written_of plan (progress_of_stages s2)) (s2.stages k).taken (λ j. (s2.stages j).given) (SoFarUpTo plan begun.rules now)
     doing-now =
-        let more = doing-more see begun part k lists ((s.stages k).given ++ take done old.hand.cells) word.ended (written_of plan (progress_of_stages s)) (written_of plan (progress_of_stages s2)) (s.stages k).taken (s2.stages k).taken (gave_by see begun seen) (λ j. (s2.stages j).given) (SoFarUpTo plan begun.rules seen) (SoFarUpTo plan begun.rules now)
-        (le_trans (grows_over laws plan st.run.lawful.users w.between seen w.run.0) (written-grows laws plan st.run.lawful.users h v w.run)) taken-more
+        let more = laws.stages.more begun part k lists ((s.stages k).given ++ take done old.hand.cells) word.ended (written_of plan (progress_of_stages s)) (written_of plan (progress_of_stages s2)) (s.stages k).taken (s2.stages k).taken (gave_by see begun seen) (λ j. (s2.stages j).given) (HeldSoFar seen) (HeldSoFar now)
+        (le_trans (grows_over laws.machine plan st.run.lawful.users w.between seen w.run.0) (laws.machine.grow plan h v st.run.lawful.users w.run).written) taken-more
         (λ j e. let b = before-now j e in (b.0, b.1, (let a = given-many in let c = within-before j e in let d = st.standing.done_within in let n = hand-count in omega (arith, a, c, d, n))))
         so_far_less st.standing.doing in
         subst (λ (g : List Cell). Doing see begun part k lists g word.ended (written_of plan (progress_of_stages s2)) (s2.stages k).taken (λ j. (s2.stages j).given) (SoFarUpTo plan begun.rules now)) (sym given-now) more
 
     pub kept-now : (input : StageList) → MayBe see begun part k lists input → KeptBy plan begun.rules input k now
-    kept-now input may-be = (kept_over plan begun.rules input k w.between seen w.of_others (st.standing.kept input may-be), λ e. keeps_over laws plan st.run.lawful.users begun.rules input v w.between seen w.of_others w.run.0 (st.standing.keeps input may-be))
+    kept-now input may-be = (kept_over plan begun.rules input k w.between seen w.of_others (st.standing.kept input may-be), λ e. keeps_over laws.machine plan st.run.lawful.users begun.rules input v w.between seen w.of_others w.run.0 (st.standing.keeps input may-be))
 
     -- the cells in hand now
     pub content-now : (j : ℕ) → k ≡ suc j → new.hand.cells ≡ take ((s2.stages k).taken - length (s2.stages k).given) (drop (length (s2.stages k).given) (s2.stages j).given)
@@ -189,7 +186,7 @@ module _ {S K P : Type 0} (see : Seeing S K P) (begun : RunStart S K) where
 
     module _ (stage : new.stage ≡ k) (of_table : new.seat.table_id ≡ old.seat.table_id) where
       seat-now : IsSeat (key_at begun base) table new
-      seat-now = seat_again (key_at begun base) table old new done word news w stage of_table st.seat_is
+      seat-now = laws.seats.again (key_at begun base) table old new done word news w stage of_table st.seat_is
 
       -- a stage that told its end has ended
       pub over-now : IsSome word.ended → IsOver see begun base table new part
@@ -215,22 +212,25 @@ module _ {S K P : Type 0} (see : Seeing S K P) (begun : RunStart S K) where
         going : Doing see begun part k lists (s2.stages k).given None (written_of plan (progress_of_stages s2)) (s2.stages k).taken (λ j. (s2.stages j).given) (SoFarUpTo plan begun.rules now)
         going = subst (λ e. Doing see begun part k lists (s2.stages k).given e (written_of plan (progress_of_stages s2)) (s2.stages k).taken (λ j. (s2.stages j).given) (SoFarUpTo plan begun.rules now)) none doing-now
 
+        has-news : HasNews see begun now k part lists (HeldSoFar now) news
+        has-news = record { lawful = st.run; run = w.run; is_stage = st.is_stage; doing = going; told = told-now }
+
         pub may-work : MayWorkOnSome (PartStands see part) new.hand.at news.written
         may-work = subst (λ n. MayWorkOnSome (PartStands see part) n news.written) (sym place)
-            (record { lists = lists; may = local.may see begun laws st.run now w.run k st.is_stage part lists (SoFarUpTo plan begun.rules now) going news told-now })
+            (record { lists = lists; may = laws.stages.may_work begun now k part lists (HeldSoFar now) news has-news })
 
         pub work-written : news.written ≤ new.hand.at
-        work-written = subst (λ n. news.written ≤ n) (sym place) (local.written-below see begun laws st.run now w.run k st.is_stage part lists (SoFarUpTo plan begun.rules now) going news told-now)
+        work-written = subst (λ n. news.written ≤ n) (sym place) (let a = (laws.machine.hold plan now k st.run.lawful.users w.run).written_within st.is_stage in let b = ap (λ (n : News). n.written) told-now in omega (arith, a, b))
 
         pub work-in_hand : new.hand.at + length new.hand.cells ≤ news.taken
         work-in_hand = let a = place in let b = count-now in let c = taken-now in omega (arith, a, b, c)
 
         pub work-in_range : news.taken ≤ 2 ^ 60
-        work-in_range = let a = taken-now in let b = taken-below laws plan st.run.lawful.users now w.run k in omega (arith, a, b)
+        work-in_range = let a = taken-now in let b = (laws.machine.hold plan now k st.run.lawful.users w.run).taken_below in omega (arith, a, b)
 
         pub work-fits : length new.hand.cells ≤ new.hand.land.count
         work-fits = subst (λ (l : Rattle.ts_land.specs.Pieces.Land). length new.hand.cells ≤ l.count) (sym w.hand_is.same)
-            (let a = taken-ahead laws plan st.run.lawful.users now w.run k in let b = written-given laws plan st.run.lawful.users now w.run k st.is_stage in let c = count-now in omega (arith, a, b, c))
+            (let a = (laws.machine.hold plan now k st.run.lawful.users w.run).taken_ahead in let b = (laws.machine.hold plan now k st.run.lawful.users w.run).written_within st.is_stage in let c = count-now in omega (arith, a, b, c))
 
         module _ (seat3 : StageSeat) (part3 : StagePart S K P) (work : Work) (hw : HandWorks see part part3 new.hand seat3.hand news work) (same : seat3.seat ≡ new.seat) (stage3 : seat3.stage ≡ new.stage) where
           len : ℕ
@@ -264,20 +264,21 @@ module _ {S K P : Type 0} (see : Seeing S K P) (begun : RunStart S K) where
               ∙ (sym (drop-append-le work.done hw.window hw.rest worked.stage.done) ∙ (ap (drop work.done) (sym hw.cells ∙ content-now j e)
               ∙ (ap (λ n. drop work.done (take n (drop g A))) sum ∙ (drop-take work.done m (drop g A) ∙ ap (take m) (drop-drop work.done g A)))))))
 
-          abbrev lists3 : PartLists
-          lists3 = (local.w see begun laws st.run now w.run k st.is_stage part lists (SoFarUpTo plan begun.rules now) going news told-now part3 (length hw.window) in_hand hw.window refl hw.window_new hw.same_length work worked window-is).after
+          has-worked : HasWorked see begun now k part part3 lists (take work.done hw.window_new) work
+          has-worked = laws.stages.works begun now k part part3 lists (HeldSoFar now) news hw.window hw.window_new work has-news
+              (record { in_hand = in_hand; same_length = hw.same_length; worked = worked; window_is = window-is })
 
           standing3 : Standing see begun k now seat3.hand part3 work.done work.word
           standing3 = record {
-            lists = lists3;
+            lists = has-worked.after;
             done_within = (let a = few in let b = ap length hw.cells_new ∙ length-append hw.window_new hw.rest in omega (arith, a, b));
             allowed = subst (λ (l : List Cell). Allowed plan s2 (visit_of k l work.word)) gives
-                (may-visit see begun laws st.run now w.run k st.is_stage part lists (SoFarUpTo plan begun.rules now) going news told-now part3 (length hw.window) in_hand hw.window refl hw.window_new hw.same_length work worked window-is open_ ch.told);
-            doing = subst (λ (l : List Cell). Doing see begun part3 k lists3 ((s2.stages k).given ++ l) work.word.ended (written_of plan (progress_of_stages s2)) (s2.stages k).taken (λ j. (s2.stages j).given) (SoFarUpTo plan begun.rules now)) gives
-                (done-now see begun laws st.run now w.run k st.is_stage part lists (SoFarUpTo plan begun.rules now) going news told-now part3 (length hw.window) in_hand hw.window refl hw.window_new hw.same_length work worked window-is);
-            kept = λ input may-be. kept-now input (less see begun laws st.run now w.run k st.is_stage part lists (SoFarUpTo plan begun.rules now) going news told-now part3 (length hw.window) in_hand hw.window refl hw.window_new hw.same_length work worked window-is input may-be);
+                (has-worked.allowed open_ ch.told);
+            doing = subst (λ (l : List Cell). Doing see begun part3 k has-worked.after ((s2.stages k).given ++ l) work.word.ended (written_of plan (progress_of_stages s2)) (s2.stages k).taken (λ j. (s2.stages j).given) (SoFarUpTo plan begun.rules now)) gives
+                has-worked.doing;
+            kept = λ input may-be. kept-now input (has-worked.less input may-be);
             keeps = λ input may-be. subst (λ (l : List Cell). Keeps plan begun.rules input s2 (visit_of k l work.word)) gives
-                (keeps-all see begun laws st.run now w.run k st.is_stage part lists (SoFarUpTo plan begun.rules now) going news told-now part3 (length hw.window) in_hand hw.window refl hw.window_new hw.same_length work worked window-is input may-be);
+                (has-worked.keeps input may-be);
             content = content3;
           }
 
@@ -306,7 +307,7 @@ module _ {S K P : Type 0} (see : Seeing S K P) (begun : RunStart S K) where
               }
 
   -- a turn that was busy: all is as it was
-  module _ (base : Ptr) (table : TableId) (old new : StageSeat) (holder : ℕ) (away : new.seat.me ≡ (at_rest (key_at begun base) old.stage (seen_of old) (holder ∷ busy_of old), [])) (hand : new.hand ≡ old.hand)
+  module _ (laws : RunLaws see) (base : Ptr) (table : TableId) (old new : StageSeat) (holder : ℕ) (away : new.seat.me ≡ (at_rest (key_at begun base) old.stage (seen_of old) (holder ∷ busy_of old), [])) (hand : new.hand ≡ old.hand)
       (stage : new.stage ≡ old.stage) (of_table : new.seat.table_id ≡ old.seat.table_id) (part : StagePart S K P) (done : ℕ) (word : StageWord) (st : StandsAt see begun base table old part done word) where
     pub seen-still : seen_of new ≡ seen_of old
     seen-still = ap (λ me. seen_in me.0.held) away
@@ -317,7 +318,7 @@ module _ {S K P : Type 0} (see : Seeing S K P) (begun : RunStart S K) where
       words = st.words;
       slots = st.slots;
       is_stage = subst (λ i. i ≤ suc begun.plan.plugins) (sym stage) st.is_stage;
-      seat_is = seat_still (key_at begun base) table old new holder away hand stage of_table st.seat_is;
+      seat_is = laws.seats.still (key_at begun base) table old new holder away hand stage of_table st.seat_is;
       standing = subst (λ h. Standing see begun new.stage (seen_of new) h part done word) (sym hand)
           (subst (λ l. Standing see begun new.stage l old.hand part done word) (sym seen-still)
           (subst (λ i. Standing see begun i (seen_of old) old.hand part done word) (sym stage) st.standing));

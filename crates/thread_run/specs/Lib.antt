@@ -3,3 +3,4 @@ pub mod Turning
 pub mod Over
 pub mod Driving
 pub mod Beginning
+pub mod RunLaws

@@ -11,11 +11,21 @@ ghost use Rattle.window_ring.specs.declared.stage_seat.StageSeat.{StageSeat};
 ghost use Rattle.window_ring.specs.Closing.{IsWhole, ClosedOf};
 ghost use Rattle.thread_run.specs.Standing.{key_at};
 ghost use Rattle.thread_run.specs.Over.{AllHaveEnded};
+ghost use Rattle.thread_run.specs.RunLaws.{RunLaws};
 
-pub(crate) use chain_run::machine_laws;
+use chain_run::{machine_laws, one_stage};
 use plugin_trait::Plugin;
 use ts_outside::{Sink, Source};
-use window_ring::one_run;
+use window_ring::{one_run, seat_laws};
+
+/// The laws of the machine, of one stage and of its seat.
+pub(crate) fn run_laws<S: Source, K: Sink, P: Plugin>()
+    ensures { RunLaws (seeing S.seen K.seen P.rule P.stands_for P.steady) }
+{
+    machine_laws();
+    one_stage::<S, K, P>();
+    seat_laws();
+}
 
 /// What the stages did each for itself is one run of the chain, in whatever order the threads served them: the ring of stages
 /// that have ended can be closed, and the close is that of one run, in which each part stands for its list. `any_run` of
@@ -31,6 +41,6 @@ pub fn together<S: Source, K: Sink, P: Plugin>()
         AllHaveEnded see begun base table seats parts → ClosedOf (key_at begun base) seats closed
         → HasClosed see begun parts closed }
 {
-    machine_laws();
+    run_laws::<S, K, P>();
     one_run();
 }

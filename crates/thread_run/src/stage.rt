@@ -5,7 +5,7 @@ ghost use Rattle.stage_run.specs.PartStands.{PartStands, MayWorkOnSome};
 ghost use Rattle.thread_run.specs.Turning.{HandWorks};
 
 use crate::Turn;
-use crate::laws::machine_laws;
+use crate::laws::run_laws;
 use chain_core::{News, StageWord};
 use plugin_trait::Plugin;
 use stage_run::{StagePart, Work};
@@ -110,6 +110,8 @@ impl<S: Source, K: Sink, P: Plugin> Stage<S, K, P> {
             → let see = seeing S.seen K.seen P.rule P.stands_for P.steady in
             IsNewStage see begun base table part seat → Stands see begun base table result }
     {
+        // Runs nothing: the proof cites it.
+        run_laws::<S, K, P>();
         Stage {
             seat,
             part,
@@ -136,7 +138,7 @@ impl<S: Source, K: Sink, P: Plugin> Stage<S, K, P> {
         ensures stage { self.new.seat.stage ≡ self.old.seat.stage }
     {
         // Runs nothing: the proof cites it.
-        machine_laws();
+        run_laws::<S, K, P>();
         match ring.visit(&mut self.seat, self.done, self.word) {
             Visited::Busy { holder: _ } => Turn::Busy,
             Visited::Given(news) => {

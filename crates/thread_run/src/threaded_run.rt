@@ -17,7 +17,7 @@ ghost use Rattle.window_ring.specs.declared.view.Key.{Key};
 ghost use Rattle.thread_run.specs.Beginning.{seated, parts_of, seats_of, AreNew};
 ghost use Rattle.thread_run.specs.Over.{AllHaveEnded};
 
-use crate::laws::together;
+use crate::laws::{run_laws, together};
 use crate::{Stage, drive_all};
 use atomic_table::Seat;
 use chain_core::CorePlan;
@@ -138,6 +138,8 @@ fn drive_parts<
         AreNew see begun ring.now parts.old.items seats.old.items
         → AllHaveEnded see begun (key_of ring.now).base (table_of ring.now) seats.new.items parts.new.items }
 {
+    // Runs nothing: the proof cites it.
+    run_laws::<S, K, P>();
     seat_all(parts, seats, &mut stages);
     drive_all(rt, ring, gate, &mut stages);
     unseat_all(stages, parts, seats);

@@ -12,7 +12,7 @@ use plugin_trait::Plugin;
 use std::alloc::Global;
 use std::marker::{Send, Sync};
 use std::sync::Wait;
-use std::thread::Threads;
+use std::thread::{Threads, available_parallelism};
 use thread_run::run_threads;
 use ts_outside::{Gate, Sink, Source};
 
@@ -48,12 +48,24 @@ where
 /// from thread to thread.
 const LEAST_PLUGINS: usize = 2;
 
-/// Whether a chain of so many plugins runs in threads.
-pub(crate) fn runs_in_threads(plugins: usize) -> bool {
+/// On fewer processors every chain runs in one thread: there the stages do nothing at once.
+const LEAST_PROCESSORS: usize = 2;
+
+/// Whether a chain of so many plugins runs in threads, where there are processors for them.
+pub(crate) fn is_for_threads(plugins: usize) -> bool {
     plugins >= LEAST_PLUGINS
 }
 
-/// Runs a chain, in threads where it has plugins enough, and gives its parts back.
+/// Whether the threads of this program may run on processors enough for more than one of them. Where the system does not
+/// say so, they may.
+fn has_processors(rt: &impl Threads) -> bool {
+    match available_parallelism(rt) {
+        Ok(processors) => processors.get() >= LEAST_PROCESSORS,
+        Err(_) => true,
+    }
+}
+
+/// Runs a chain, in threads where it has plugins enough and there are processors for them, and gives its parts back.
 ///
 /// `closed` is `AllocError` where memory was wanting for the run; then nothing was done.
 pub(crate) fn run_in_threads_or_one<R, S, K, P, G>(
@@ -77,7 +89,7 @@ where
         stages.stuffing core.now stages.input result.input
         stages.plugins.items result.plugins.items stages.output result.output result.closed }
 {
-    if runs_in_threads(core.plugins) {
+    if is_for_threads(core.plugins) && has_processors(rt) {
         return run_in_threads(rt, alloc, stages, core, gate);
     }
     run_in_one_thread(alloc, stages, core, gate)

@@ -7,7 +7,7 @@ ghost use Rattle.stage_run.specs.InputStands as stage;
 ghost use Rattle.tsp_top.specs.PlannedChain.{stuffing_of, user_at, users_from, users_of};
 ghost use Rattle.tsp_top.specs.Sizes.{default_buffer, default_batch, IsSize, lesser_batch, IsPlannedCore};
 
-use crate::in_threads::runs_in_threads;
+use crate::in_threads::is_for_threads;
 use chain_args::{GeneralConf, Plan};
 use chain_core::{CorePlan, StageSet};
 use plug_set::PluginItem;
@@ -45,7 +45,7 @@ fn chosen_buffer(plugins: usize) -> u64
     ensures some { 1 ≤ result }
     ensures bound { result ≤ default_buffer }
 {
-    if runs_in_threads(plugins) {
+    if is_for_threads(plugins) {
         CHOSEN_BATCHES * CHOSEN_BATCH
     } else {
         CHOSEN_BATCH

@@ -130,7 +130,7 @@ module _ {key : Key} {value : State} {history : List Visit} {hand : Row} {stage 
         rest_long : length rest.cells ≡ length hand.cells - done
         rest_long = ap (λ r. length r.cells) cut.rest_is ∙ length-drop done hand.cells
 
-        took : length taken.cells ≡ more
+        pub took : length taken.cells ≡ more
         took = ap (λ r. length r.cells) is ∙ length-take-le more (on_link pushed stage).cells waits
 
         pub comes_behind : taken.at ≡ rest.at + length rest.cells

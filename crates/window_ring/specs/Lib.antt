@@ -8,3 +8,4 @@ pub mod Seats
 pub mod OneRun
 pub mod Opening
 pub mod Closing
+pub mod SeatLaws

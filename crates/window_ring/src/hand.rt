@@ -1,4 +1,4 @@
-ghost use Rattle.std.specs.Prelude.{if◌then◌else◌, ◌≡◌, ◌+◌, ◌^◌, ◌≤◌, ◌<◌, length, take, drop, ◌++◌, ℕ, [], IfNone, IfSome};
+ghost use Rattle.std.specs.Prelude.{if◌then◌else◌, ◌≡◌, ◌+◌, ◌^◌, ◌≤◌, ◌<◌, length, take, drop, ◌++◌, ℕ, [], IsTrue, IfNone, IfSome};
 ghost use Rattle.std.specs.Prelude.{None, Some};
 ghost use Rattle.window_ring.specs.Hands.{row_of, land_at, pieces, IsHand, IsFront, LiftsFront};
 
@@ -170,32 +170,48 @@ impl Hand {
         mem::replace(self, hand).end();
     }
 
-    /// Puts the cells behind its own.
-    pub(crate) fn push(&mut self, other: Hand)
-        requires behind { other.at ≡ self.old.at + length self.old.cells }
-        requires same { other.land ≡ self.old.land }
-        requires fits { length self.old.cells + length other.cells ≤ self.old.land.count }
-        ensures { self.new ≡ row_of self.old.at self.old.land (self.old.cells ++ other.cells) }
-    {
-        let all = self.lift().with(other);
-        self.set_down(all);
-    }
-
-    /// Takes the first `n` cells off.
-    pub(crate) fn pull(&mut self, n: usize) -> Hand
+    /// Gives its first `n` cells to another hand, behind that one's own; where `lap` is set they go one lap
+    /// later. Where none goes, both hands are left alone.
+    #[inline]
+    pub(crate) fn pass(&mut self, n: usize, other: &mut Hand, lap: bool)
         requires within { n ≤ length self.old.cells }
         requires low { self.old.at + length self.old.cells < 2 ^ 63 }
-        ensures front { result ≡ row_of self.old.at self.old.land (take n self.old.cells) }
+        requires later { IsTrue lap → self.old.at + self.old.land.count < 2 ^ 63 }
+        requires behind { (if lap then self.old.at + self.old.land.count else self.old.at)
+            ≡ other.old.at + length other.old.cells }
+        requires same { self.old.land ≡ other.old.land }
+        requires fits { length other.old.cells + n ≤ other.old.land.count }
         ensures rest { self.new ≡ row_of (self.old.at + n) self.old.land (drop n self.old.cells) }
+        ensures got { other.new
+            ≡ row_of other.old.at other.old.land (other.old.cells ++ take n self.old.cells) }
+    {
+        if n > 0 {
+            self.hand_on(n, other, lap);
+        }
+    }
+
+    // The same, where some go.
+    fn hand_on(&mut self, n: usize, other: &mut Hand, lap: bool)
+        requires within { n ≤ length self.old.cells }
+        requires low { self.old.at + length self.old.cells < 2 ^ 63 }
+        requires later { IsTrue lap → self.old.at + self.old.land.count < 2 ^ 63 }
+        requires behind { (if lap then self.old.at + self.old.land.count else self.old.at)
+            ≡ other.old.at + length other.old.cells }
+        requires same { self.old.land ≡ other.old.land }
+        requires fits { length other.old.cells + n ≤ other.old.land.count }
+        ensures rest { self.new ≡ row_of (self.old.at + n) self.old.land (drop n self.old.cells) }
+        ensures got { other.new
+            ≡ row_of other.old.at other.old.land (other.old.cells ++ take n self.old.cells) }
     {
         let (front, rest) = self.lift().cut(n);
         self.set_down(rest);
-        front
+        let all = other.lift().with(front.shifted(lap));
+        other.set_down(all);
     }
 
     /// The same cells, where `lap` is set one lap later.
     pub(crate) fn shifted(self, lap: bool) -> Hand
-        requires { self.at + self.land.count < 2 ^ 63 }
+        requires { IsTrue lap → self.at + self.land.count < 2 ^ 63 }
         ensures { result ≡ row_of (if lap then self.at + self.land.count else self.at) self.land self.cells }
     {
         if lap { self.lapped() } else { self }

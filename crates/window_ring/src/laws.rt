@@ -6,6 +6,9 @@ ghost use Rattle.chain_core.specs.Machine.{Visit};
 ghost use Rattle.chain_core.specs.ChainRun.{ChainRun};
 ghost use Rattle.chain_core.specs.Keeps.{AllKeep};
 ghost use Rattle.window_ring.specs.OneRun.{HasKept};
+ghost use Rattle.window_ring.specs.SeatLaws.{SeatLaws};
+
+use chain_core::one_visit;
 
 /// What the stages promise one by one holds of the one run: where each stage made its own visits, in the
 /// part of the run that its seat has seen, as its list says, all visits of the run are made so. `close`
@@ -17,3 +20,11 @@ pub fn one_run()
         → ChainRun plan history
         → AllKeep plan rules input history }
 {}
+
+/// What can be said of a seat, from its first visit on, is said again behind each visit of its own and of others. There
+/// is nothing to run.
+pub fn seat_laws()
+    ensures { SeatLaws }
+{
+    one_visit();
+}

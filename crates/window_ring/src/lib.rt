@@ -17,7 +17,7 @@ mod tests;
 mod view;
 mod visited;
 
-pub use laws::one_run;
+pub use laws::{one_run, seat_laws};
 pub use opening::{NewRing, new_ring};
 pub use ring::Ring;
 pub use stage_seat::StageSeat;

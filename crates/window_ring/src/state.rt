@@ -46,14 +46,13 @@ impl State {
     {
         one_visit();
         news_promises();
-        let (given, rest) = hand.lift().cut(done);
         self.last = Last { stage, done, word };
         let before = self.core.progress(stage).taken;
         let news = self.core.visit(stage, done, word);
         let next = next_of(stage, self.links.len() - 1);
-        give(&mut self.links, next, given.shifted(next == 0));
-        let taken = take_from(&mut self.links, stage, (news.taken - before) as usize);
-        hand.set_down(rest.with(taken));
+        give(hand, done, &mut self.links, next);
+        let more = (news.taken - before) as usize;
+        take_from(&mut self.links, stage, more, hand);
         news
     }
 }
@@ -66,32 +65,39 @@ fn next_of(stage: usize, last: usize) -> usize
     if stage == last { 0 } else { stage + 1 }
 }
 
-// Puts cells behind those of a link.
-fn give(links: &mut Vec<Hand>, next: usize, given: Hand)
+// Puts the first `done` cells of a hand behind those of a link. The free cells lie one lap later.
+fn give(hand: &mut Hand, done: usize, links: &mut Vec<Hand>, next: usize)
     requires there { next < length links.old.items }
-    requires behind { given.at
+    requires within { done ≤ length hand.old.cells }
+    requires low { hand.old.at + length hand.old.cells < 2 ^ 63 }
+    requires later { hand.old.at + hand.old.land.count < 2 ^ 63 }
+    requires behind { (if next == 0 then hand.old.at + hand.old.land.count else hand.old.at)
         ≡ (on_link links.old.items next).at + length (on_link links.old.items next).cells }
-    requires same { given.land ≡ (on_link links.old.items next).land }
-    requires fits { length (on_link links.old.items next).cells + length given.cells
+    requires same { hand.old.land ≡ (on_link links.old.items next).land }
+    requires fits { length (on_link links.old.items next).cells + done
         ≤ (on_link links.old.items next).land.count }
-    ensures { links.new.items ≡ slice_set links.old.items next
+    ensures rest { hand.new ≡ row_of (hand.old.at + done) hand.old.land (drop done hand.old.cells) }
+    ensures link { links.new.items ≡ slice_set links.old.items next
         (row_of (on_link links.old.items next).at (on_link links.old.items next).land
-        ((on_link links.old.items next).cells ++ given.cells)) }
+        ((on_link links.old.items next).cells ++ take done hand.old.cells)) }
 {
-    links[next].push(given);
+    hand.pass(done, &mut links[next], next == 0);
 }
 
-// Takes the first cells off a link.
-fn take_from(links: &mut Vec<Hand>, stage: usize, n: usize) -> Hand
+// Puts the first `n` cells of a link behind those of a hand.
+fn take_from(links: &mut Vec<Hand>, stage: usize, n: usize, hand: &mut Hand)
     requires there { stage < length links.old.items }
     requires within { n ≤ length (on_link links.old.items stage).cells }
     requires low { (on_link links.old.items stage).at
         + length (on_link links.old.items stage).cells < 2 ^ 63 }
-    ensures front { result ≡ row_of (on_link links.old.items stage).at (on_link links.old.items stage).land
-        (take n (on_link links.old.items stage).cells) }
+    requires behind { (on_link links.old.items stage).at ≡ hand.old.at + length hand.old.cells }
+    requires same { (on_link links.old.items stage).land ≡ hand.old.land }
+    requires fits { length hand.old.cells + n ≤ hand.old.land.count }
     ensures rest { links.new.items ≡ slice_set links.old.items stage
         (row_of ((on_link links.old.items stage).at + n) (on_link links.old.items stage).land
         (drop n (on_link links.old.items stage).cells)) }
+    ensures got { hand.new ≡ row_of hand.old.at hand.old.land
+        (hand.old.cells ++ take n (on_link links.old.items stage).cells) }
 {
-    links[stage].pull(n)
+    links[stage].pass(n, hand, false);
 }

@@ -8,4 +8,4 @@ returns-clause-whole g c = λ begun base table seats parts are.
 
 pub returns-clause-closed : goal.returns-clause-closed
 returns-clause-closed g c = λ begun base table seats parts closed are is.
-    end.together (seeing g.S.Source.seen g.K.Sink.seen g.P.Plugin.rule g.P.Plugin.stands_for g.P.Plugin.steady) begun base table seats parts are c.machine_laws.ensures c.one_run.ensures closed is
+    end.together (seeing g.S.Source.seen g.K.Sink.seen g.P.Plugin.rule g.P.Plugin.stands_for g.P.Plugin.steady) begun base table seats parts are c.run_laws.ensures c.one_run.ensures closed is

@@ -10,7 +10,7 @@ pub drive_all-requires-clause-ready : goal.drive_all-requires-clause-ready
 drive_all-requires-clause-ready g c κs within =
     let see = seeing g.S.Source.seen g.K.Sink.seen g.P.Plugin.rule g.P.Plugin.stands_for g.P.Plugin.steady in
     let is : c.seat_all.new.stages.items ≡ seated c.args.parts.now.items c.args.seats.now.items = c.seat_all.ensures.stages ∙ ap (λ l. l ++ seated c.args.parts.now.items c.args.seats.now.items) c.requires.none in
-    subst (AreReady see c.args.ring.now) (sym (c.deref_mut.ensures.value ∙ is)) (are_ready see c.requires.new.0 c.args.ring.now c.args.parts.now.items c.args.seats.now.items c.requires.new.1)
+    subst (AreReady see c.args.ring.now) (sym (c.deref_mut.ensures.value ∙ is)) (are_ready see c.requires.new.0 c.args.ring.now c.args.parts.now.items c.args.seats.now.items c.requires.new.1 c.run_laws.ensures)
 
 pub unseat_all-requires-clause-parts : goal.unseat_all-requires-clause-parts
 unseat_all-requires-clause-parts g c =
@@ -41,4 +41,4 @@ returns g c = λ begun new.
     let seats : c.unseat_all.new.seats.items ≡ seats_of stages = c.unseat_all.ensures.seats ∙ ap (λ l. c.seat_all.new.seats.items ++ seats_of l) whole ∙ ap (λ l. l ++ seats_of stages) c.seat_all.ensures.no_seat in
     subst (λ l. AllHaveEnded see begun ring.table.shared.key.base ring.table.shared.table_id l c.unseat_all.new.parts.items) (sym seats)
     (subst (λ l. AllHaveEnded see begun ring.table.shared.key.base ring.table.shared.table_id (seats_of stages) l) (sym parts)
-    (all_ended see begun ring c.args.parts.now.items c.args.seats.now.items new stages carried c.drive_all.ensures.ended))
+    (all_ended see begun ring c.args.parts.now.items c.args.seats.now.items new c.run_laws.ensures stages carried c.drive_all.ensures.ended))

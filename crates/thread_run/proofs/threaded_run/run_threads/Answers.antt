@@ -1,8 +1,14 @@
 use Rattle.std.proofs.Common.{arith}
+use Rattle.std.specs.Prelude.{Ok, Err, IsOk, OnErr}
+use Rattle.std.specs.declared.result.Result.{Result}
 use Rattle.stage_run.specs.Seeing.{seeing}
 use Rattle.chain_run.specs.Runs.{began_with}
-use Rattle.chain_run.proofs.RunUses.{never-err}
 use Rattle.thread_run.proofs.threaded_run.run_threads.Goals as goal
+
+-- of an answer that is there no clause on its fault says anything
+never-err : {T E : Type 0} (r : Result T E) (P : Type 0) → IsOk r → OnErr r P
+never-err (Ok value) P is = tt
+never-err (Err fault) P is = absurd cc
 
 pub run_laid-requires-clause-runs : goal.run_laid-requires-clause-runs
 run_laid-requires-clause-runs g c κs within =

@@ -19,15 +19,15 @@ is-there (Some x) yes_ = refl
 pub returns-in-Busy-clause-behind : goal.returns-in-Busy-clause-behind
 returns-in-Busy-clause-behind g c = λ begun base eq st.
     let see = seeing g.S.Source.seen g.K.Sink.seen g.P.Plugin.rule g.P.Plugin.stands_for g.P.Plugin.steady in
-    let laws = c.machine_laws.ensures in let table = table_of c.args.ring.now in let me = c.args.self.now in
+    let laws = c.run_laws.ensures in let table = table_of c.args.ring.now in let me = c.args.self.now in
     let old = me.seat in let new = c.visit.new.seat in
     let found = subst (λ key. HasVisited key old new me.done me.word (Busy c.in-Busy.holder)) eq c.in-Busy.ensures.visited in (
-      stands-still see begun base table old new c.in-Busy.holder found.0 found.1 c.in-Busy.ensures.same_stage c.in-Busy.ensures.of_table me.part me.done me.word st,
+      stands-still see begun laws base table old new c.in-Busy.holder found.0 found.1 c.in-Busy.ensures.same_stage c.in-Busy.ensures.of_table me.part me.done me.word st,
       record {
         holder = c.in-Busy.holder;
         another = found.2;
         remembers = ap (λ me. me.0.busy) found.0;
-        seen = seen-still see begun base table old new c.in-Busy.holder found.0 found.1 c.in-Busy.ensures.same_stage c.in-Busy.ensures.of_table me.part me.done me.word st;
+        seen = seen-still see begun laws base table old new c.in-Busy.holder found.0 found.1 c.in-Busy.ensures.same_stage c.in-Busy.ensures.of_table me.part me.done me.word st;
         hand = found.1;
         part = refl;
         done = refl;
@@ -38,7 +38,7 @@ returns-in-Busy-clause-behind g c = λ begun base eq st.
 pub returns-then-is_some-clause-behind : goal.returns-then-is_some-clause-behind
 returns-then-is_some-clause-behind g c = λ begun base eq st.
     let see = seeing g.S.Source.seen g.K.Sink.seen g.P.Plugin.rule g.P.Plugin.stands_for g.P.Plugin.steady in
-    let laws = c.machine_laws.ensures in let table = table_of c.args.ring.now in let me = c.args.self.now in
+    let laws = c.run_laws.ensures in let table = table_of c.args.ring.now in let me = c.args.self.now in
     let old = me.seat in let new = c.visit.new.seat in
     let went : Went (key_at begun base) old new me.done me.word c.in-Given.news = subst (λ key. Went key old new me.done me.word c.in-Given.news) eq c.in-Given.ensures.visited in (
       over-now see begun laws base table old new me.part me.done me.word st c.in-Given.news went c.in-Given.ensures.same_stage c.in-Given.ensures.of_table (is-there me.word.ended (sym c.is_some.ensures ∙ c.if-is_some.true)),
@@ -49,7 +49,7 @@ pub work_in_hand-empty-requires-clause-stands : goal.work_in_hand-empty-requires
 work_in_hand-empty-requires-clause-stands g c κs within =
     let begun = c.requires.0 in let base = c.requires.1 in let st = c.requires.3 in
     let see = seeing g.S.Source.seen g.K.Sink.seen g.P.Plugin.rule g.P.Plugin.stands_for g.P.Plugin.steady in
-    let laws = c.machine_laws.ensures in let table = table_of c.args.ring.now in let me = c.args.self.now in
+    let laws = c.run_laws.ensures in let table = table_of c.args.ring.now in let me = c.args.self.now in
     let old = me.seat in let new = c.visit.new.seat in
     let went : Went (key_at begun base) old new me.done me.word c.in-Given.news = subst (λ key. Went key old new me.done me.word c.in-Given.news) c.requires.2 c.in-Given.ensures.visited in
     may-work see begun laws base table old new me.part me.done me.word st c.in-Given.news went c.in-Given.ensures.same_stage c.in-Given.ensures.of_table (still-open me.word.ended (sym c.is_some.ensures ∙ c.if-is_some.false))
@@ -58,7 +58,7 @@ pub work_in_hand-empty-requires-clause-written : goal.work_in_hand-empty-require
 work_in_hand-empty-requires-clause-written g c κs within =
     let begun = c.requires.0 in let base = c.requires.1 in let st = c.requires.3 in
     let see = seeing g.S.Source.seen g.K.Sink.seen g.P.Plugin.rule g.P.Plugin.stands_for g.P.Plugin.steady in
-    let laws = c.machine_laws.ensures in let table = table_of c.args.ring.now in let me = c.args.self.now in
+    let laws = c.run_laws.ensures in let table = table_of c.args.ring.now in let me = c.args.self.now in
     let old = me.seat in let new = c.visit.new.seat in
     let went : Went (key_at begun base) old new me.done me.word c.in-Given.news = subst (λ key. Went key old new me.done me.word c.in-Given.news) c.requires.2 c.in-Given.ensures.visited in
     work-written see begun laws base table old new me.part me.done me.word st c.in-Given.news went c.in-Given.ensures.same_stage c.in-Given.ensures.of_table (still-open me.word.ended (sym c.is_some.ensures ∙ c.if-is_some.false))
@@ -67,7 +67,7 @@ pub work_in_hand-empty-requires-clause-in_hand : goal.work_in_hand-empty-require
 work_in_hand-empty-requires-clause-in_hand g c κs within =
     let begun = c.requires.0 in let base = c.requires.1 in let st = c.requires.3 in
     let see = seeing g.S.Source.seen g.K.Sink.seen g.P.Plugin.rule g.P.Plugin.stands_for g.P.Plugin.steady in
-    let laws = c.machine_laws.ensures in let table = table_of c.args.ring.now in let me = c.args.self.now in
+    let laws = c.run_laws.ensures in let table = table_of c.args.ring.now in let me = c.args.self.now in
     let old = me.seat in let new = c.visit.new.seat in
     let went : Went (key_at begun base) old new me.done me.word c.in-Given.news = subst (λ key. Went key old new me.done me.word c.in-Given.news) c.requires.2 c.in-Given.ensures.visited in
     work-in_hand see begun laws base table old new me.part me.done me.word st c.in-Given.news went c.in-Given.ensures.same_stage c.in-Given.ensures.of_table (still-open me.word.ended (sym c.is_some.ensures ∙ c.if-is_some.false))
@@ -76,7 +76,7 @@ pub work_in_hand-empty-requires-clause-in_range : goal.work_in_hand-empty-requir
 work_in_hand-empty-requires-clause-in_range g c κs within =
     let begun = c.requires.0 in let base = c.requires.1 in let st = c.requires.3 in
     let see = seeing g.S.Source.seen g.K.Sink.seen g.P.Plugin.rule g.P.Plugin.stands_for g.P.Plugin.steady in
-    let laws = c.machine_laws.ensures in let table = table_of c.args.ring.now in let me = c.args.self.now in
+    let laws = c.run_laws.ensures in let table = table_of c.args.ring.now in let me = c.args.self.now in
     let old = me.seat in let new = c.visit.new.seat in
     let went : Went (key_at begun base) old new me.done me.word c.in-Given.news = subst (λ key. Went key old new me.done me.word c.in-Given.news) c.requires.2 c.in-Given.ensures.visited in
     work-in_range see begun laws base table old new me.part me.done me.word st c.in-Given.news went c.in-Given.ensures.same_stage c.in-Given.ensures.of_table (still-open me.word.ended (sym c.is_some.ensures ∙ c.if-is_some.false))
@@ -85,7 +85,7 @@ pub work_in_hand-empty-requires-clause-fits : goal.work_in_hand-empty-requires-c
 work_in_hand-empty-requires-clause-fits g c κs within =
     let begun = c.requires.0 in let base = c.requires.1 in let st = c.requires.3 in
     let see = seeing g.S.Source.seen g.K.Sink.seen g.P.Plugin.rule g.P.Plugin.stands_for g.P.Plugin.steady in
-    let laws = c.machine_laws.ensures in let table = table_of c.args.ring.now in let me = c.args.self.now in
+    let laws = c.run_laws.ensures in let table = table_of c.args.ring.now in let me = c.args.self.now in
     let old = me.seat in let new = c.visit.new.seat in
     let went : Went (key_at begun base) old new me.done me.word c.in-Given.news = subst (λ key. Went key old new me.done me.word c.in-Given.news) c.requires.2 c.in-Given.ensures.visited in
     work-fits see begun laws base table old new me.part me.done me.word st c.in-Given.news went c.in-Given.ensures.same_stage c.in-Given.ensures.of_table (still-open me.word.ended (sym c.is_some.ensures ∙ c.if-is_some.false))
@@ -93,7 +93,7 @@ work_in_hand-empty-requires-clause-fits g c κs within =
 pub returns-else-is_some-clause-behind : goal.returns-else-is_some-clause-behind
 returns-else-is_some-clause-behind g c = λ begun base eq st.
     let see = seeing g.S.Source.seen g.K.Sink.seen g.P.Plugin.rule g.P.Plugin.stands_for g.P.Plugin.steady in
-    let laws = c.machine_laws.ensures in let table = table_of c.args.ring.now in let me = c.args.self.now in
+    let laws = c.run_laws.ensures in let table = table_of c.args.ring.now in let me = c.args.self.now in
     let old = me.seat in let new = c.visit.new.seat in
     let went : Went (key_at begun base) old new me.done me.word c.in-Given.news = subst (λ key. Went key old new me.done me.word c.in-Given.news) eq c.in-Given.ensures.visited in
     let w = c.work_in_hand-empty in
