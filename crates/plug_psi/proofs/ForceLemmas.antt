@@ -12,7 +12,8 @@ use Rattle.ts_psi.specs.PatTables.{pat_held}
 use Rattle.ts_table_rows.specs.TableValues.{TableHolding}
 use Rattle.plug_psi.specs.LastFound.{last_found, tables_on}
 use Rattle.plug_psi.specs.InForce.{current_pmt, is_taken, taken_behind, taken_on, names, pat_of, pmt_on, pmt_of, pmt_at, pid_for}
-use Rattle.plug_psi.specs.ForceState.{Forces, HasFed, EntryStands}
+use Rattle.plug_psi.specs.ForceState.{Forces, HasFed, EntryStands, pmt_seen}
+use Rattle.plug_psi.specs.SameForce.{SameInForce}
 use Rattle.plug_psi.specs.declared.on_pid.OnPid.{OnPid}
 use Rattle.plug_psi.specs.declared.on_zero.OnZero.{OnZero}
 use Rattle.plug_psi.proofs.Choice.{if_true, if_false}
@@ -134,3 +135,45 @@ pmt-is service fed pat pid e f = ap (pmt_at service fed) (f ∙ ap (λ p. pid_fo
 pub pmt-on : (service pid : ℕ) (fed : List (List ℕ)) → last_found (current_pmt service) (tables_on pid (taken_on pid fed)) ≡ pmt_at service fed (Some pid)
 unfolding pmt_on
 pmt-on service pid fed = refl
+
+-- the PMT that an entry holds is that of the packets for which it stands
+seen-is : (o : Option OnPid) (service pid : ℕ) (taken : List (List ℕ)) → EntryStands o pid taken → pmt_seen o service ≡ last_found (current_pmt service) (tables_on pid taken)
+seen-is None service pid taken e = pmt-none service pid taken e
+seen-is (Some on) service pid taken e = e.kept service
+
+-- entries that stand for the same packets hold the same PMTs
+pub same-seen : (o p : Option OnPid) (pid : ℕ) (taken : List (List ℕ)) → EntryStands o pid taken → EntryStands p pid taken → (service : ℕ) → pmt_seen p service ≡ pmt_seen o service
+same-seen o p pid taken e f service = seen-is p service pid taken f ∙ sym (seen-is o service pid taken e)
+
+-- where the PAT and the PMTs that are held are the same, those in force are
+pub same-force :
+    {S : Type 0} (old new : OnZero) (pids more : IndexMap ℕ OnPid S) (failed : Bool) (fed : List (List ℕ)) (p : List ℕ) →
+    Forces old pids failed fed → Forces new more failed (fed ++ p ∷ []) → new.pat ≡ old.pat →
+    ((pid service : ℕ) → pmt_seen (get nat_eq more pid) service ≡ pmt_seen (get nat_eq pids pid) service) → SameInForce fed p
+same-force old new pids more failed fed p h k pat seen =
+    let same : pat_of (fed ++ p ∷ []) ≡ pat_of fed = sym (pat-kept new (fed ++ p ∷ []) k.pat_fed) ∙ ap (option_map pat_held) pat ∙ pat-kept old fed h.pat_fed in
+    record {
+      pat = same;
+      pmts = λ service. ap (λ t. pmt_at service (fed ++ p ∷ []) (pid_for t service)) same ∙ at service (pid_for (pat_of fed) service);
+    }
+  where
+    at : (service : ℕ) (pid : Option ℕ) → pmt_at service (fed ++ p ∷ []) pid ≡ pmt_at service fed pid
+    at service None = refl
+    at service (Some pid) =
+        sym (pmt-on service pid (fed ++ p ∷ []))
+        ∙ sym (seen-is (get nat_eq more pid) service pid (taken_on pid (fed ++ p ∷ [])) (k.entries pid))
+        ∙ seen pid service
+        ∙ seen-is (get nat_eq pids pid) service pid (taken_on pid fed) (h.entries pid)
+        ∙ pmt-on service pid fed
+
+-- the PMTs are the same on all PIDs where they are on one and other entries stay
+pub seen-on :
+    {S : Type 0} (pids more : IndexMap ℕ OnPid S) (pid : ℕ) →
+    ((service : ℕ) → pmt_seen (get nat_eq more pid) service ≡ pmt_seen (get nat_eq pids pid) service) →
+    ((other : ℕ) → nat_eq pid other ≡ false → get nat_eq more other ≡ get nat_eq pids other) →
+    (q service : ℕ) → pmt_seen (get nat_eq more q) service ≡ pmt_seen (get nat_eq pids q) service
+seen-on pids more pid here others q service = by (nat_eq pid q) refl
+  where
+    by : (b : Bool) → nat_eq pid q ≡ b → pmt_seen (get nat_eq more q) service ≡ pmt_seen (get nat_eq pids q) service
+    by false e = ap (λ o. pmt_seen o service) (others q e)
+    by true e = subst (λ n. pmt_seen (get nat_eq more n) service ≡ pmt_seen (get nat_eq pids n) service) (eqb-true pid q e) (here service)

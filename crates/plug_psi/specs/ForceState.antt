@@ -8,6 +8,7 @@ use Rattle.ts_demux.specs.AssemblyState as assembling
 use Rattle.ts_demux.specs.AssemblyState.{AssemblyState}
 use Rattle.ts_demux.specs.Tables.{tables_of}
 use Rattle.ts_demux.specs.SectionsOfPid.{sections_of_pid}
+use Rattle.ts_table_rows.specs.TableValues.{TableHolding}
 use Rattle.ts_psi.specs.PatTables.{pat_held}
 use Rattle.ts_psi.specs.PsiTables.{pmt_held}
 use Rattle.ts_psi.specs.declared.pat.Pat.{Pat}
@@ -39,6 +40,11 @@ HasFed zero fed = HoldsPat zero.demux zero.assembly zero.pat fed (sections_of_pi
 abbrev pub EntryStands : Option OnPid → ℕ → List (List ℕ) → Type 0
 EntryStands None pid taken = taken ≡ []
 EntryStands (Some on) pid taken = HasTakenPmts on pid taken
+
+-- the PMT of a service that the entry of a PID holds; without an entry there is none
+abbrev pub pmt_seen : Option OnPid → ℕ → Option TableHolding
+pmt_seen None service = None
+pmt_seen (Some on) service = option_map pmt_held (get nat_eq on.pmts service)
 
 -- the parts stand for the packets that were fed
 pub record Forces {S : Type 0} (zero : OnZero) (pids : IndexMap ℕ OnPid S) (failed : Bool) (fed : List (List ℕ)) : Type 0 where

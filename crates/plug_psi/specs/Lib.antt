@@ -11,3 +11,4 @@ pub mod InForce
 pub mod LastFound
 pub mod LastTables
 pub mod PidMarks
+pub mod SameForce

@@ -99,7 +99,7 @@ impl<E: TableEdit + Drop> Editor<E> {
 }
 
 /// Whether one of two holds.
-fn either(a: bool, b: bool) -> bool
+pub(crate) fn either(a: bool, b: bool) -> bool
     ensures { result ≡ (a || b) }
 {
     a || b

@@ -7,8 +7,10 @@ ghost use Rattle.ts_psi.specs.PatTables.{pat_held};
 ghost use Rattle.ts_psi.specs.PsiTables.{pmt_held};
 ghost use Rattle.plug_psi.specs.LastFound.{last_found, tables_on};
 ghost use Rattle.plug_psi.specs.InForce.{names, pat_of, pmt_of, current_pmt};
-ghost use Rattle.plug_psi.specs.ForceState.{EntryStands, HasEntry};
+ghost use Rattle.plug_psi.specs.ForceState.{EntryStands, HasEntry, pmt_seen};
+ghost use Rattle.plug_psi.specs.SameForce.{SameInForce};
 
+use crate::editor::either;
 use crate::on_pid::OnPid;
 use crate::on_zero::OnZero;
 use indexmap::IndexMap;
@@ -54,11 +56,23 @@ impl InForce {
         ensures spent { OnErr result (has_failed self.new ≡ true) }
         ensures stays_spent { has_failed self.old ≡ true → IsErr result }
     {
+        self.update(packet)?;
+        Ok(())
+    }
+
+    /// Takes the next packet as `feed` does, and answers whether a PAT or PMT came with it: where none came, the same
+    /// tables are in force.
+    pub fn update(&mut self, packet: &Packet) -> Result<bool, AllocError>
+        ensures stands { OnOk result ((fed : List (List ℕ)) → StandsFor self.old fed → StandsFor self.new (fed ++ packet.now ∷ [])) }
+        ensures same { IfOk result (λ came. came ≡ false → (fed : List (List ℕ)) → StandsFor self.old fed → SameInForce fed packet.now) }
+        ensures spent { OnErr result (has_failed self.new ≡ true) }
+        ensures stays_spent { has_failed self.old ≡ true → IsErr result }
+    {
         if self.failed {
             return Err(AllocError);
         }
         match self.take(packet) {
-            Ok(()) => Ok(()),
+            Ok(came) => Ok(came),
             Err(error) => {
                 self.failed = true;
                 Err(error)
@@ -91,18 +105,19 @@ impl InForce {
     }
 
     /// Takes the next packet as long as memory was there.
-    fn take(&mut self, packet: &Packet) -> Result<(), AllocError>
+    fn take(&mut self, packet: &Packet) -> Result<bool, AllocError>
         ensures stands { OnOk result ((fed : List (List ℕ)) → StandsFor self.old fed → StandsFor self.new (fed ++ packet.now ∷ [])) }
+        ensures same { IfOk result (λ came. came ≡ false → (fed : List (List ℕ)) → StandsFor self.old fed → SameInForce fed packet.now) }
         ensures same_failed { has_failed self.new ≡ has_failed self.old }
     {
-        self.zero.take(self.alloc, packet)?;
+        let pat_came = self.zero.take(self.alloc, packet)?;
         let pid = packet.pid();
         if !is_taken(&self.zero, pid) {
-            return Ok(());
+            return Ok(pat_came);
         }
         see_entry(self.alloc, &mut self.pids, pid)?;
-        take_on(self.alloc, &mut self.pids, pid, packet)?;
-        Ok(())
+        let pmt_came = take_on(self.alloc, &mut self.pids, pid, packet)?;
+        Ok(either(pat_came, pmt_came))
     }
 }
 
@@ -152,15 +167,16 @@ fn pmt_in(pids: &Pids, pid: u16, service: u16) -> Option<&Pmt>
     }
 }
 
-/// Takes a packet on a PID that has its entry.
-fn take_on(alloc: Global, pids: &mut Pids, pid: u16, packet: &Packet) -> Result<(), AllocError>
+/// Takes a packet on a PID that has its entry, and answers whether a PMT came with it.
+fn take_on(alloc: Global, pids: &mut Pids, pid: u16, packet: &Packet) -> Result<bool, AllocError>
     requires { HasEntry (get nat_eq pids.old pid) }
     ensures stands { OnOk result ((taken : List (List ℕ)) → EntryStands (get nat_eq pids.old pid) pid taken
         → EntryStands (get nat_eq pids.new pid) pid (taken ++ packet.now ∷ [])) }
+    ensures same { IfOk result (λ came. came ≡ false → (service : ℕ) → pmt_seen (get nat_eq pids.new pid) service ≡ pmt_seen (get nat_eq pids.old pid) service) }
     ensures others { OnOk result ((other : ℕ) → nat_eq pid other ≡ false → get nat_eq pids.new other ≡ get nat_eq pids.old other) }
 {
     match pids.get_mut(&pid) {
         Some(on) => on.take(alloc, packet),
-        None => Ok(()),
+        None => Ok(false),
     }
 }

@@ -1,6 +1,6 @@
 //! The PMTs of the packets that were taken on a PID.
 
-ghost use Rattle.std.specs.Prelude.{◌≡◌, ℕ, ◌<◌, ◌++◌, ◌∷◌, [], List, IfOk, OnOk, nat_eq, option_map};
+ghost use Rattle.std.specs.Prelude.{◌≡◌, ℕ, ◌<◌, ◌++◌, ◌∷◌, [], List, false, IfOk, OnOk, nat_eq, option_map};
 ghost use Rattle.indexmap.specs.IndexMap.{get};
 ghost use Rattle.ts_demux.specs.SectionsOfPid.{sections_of_pid};
 ghost use Rattle.ts_table_rows.specs.RunReading.{read_run};
@@ -44,44 +44,54 @@ impl OnPid {
         })
     }
 
-    /// Takes the next packet that is taken on the PID.
-    pub(crate) fn take(&mut self, alloc: Global, packet: &Packet) -> Result<(), AllocError>
-        ensures { OnOk result ((pid : ℕ) (taken : List (List ℕ)) → HasTakenPmts self.old pid taken
+    /// Takes the next packet that is taken on the PID, and answers whether a PMT came with it.
+    pub(crate) fn take(&mut self, alloc: Global, packet: &Packet) -> Result<bool, AllocError>
+        ensures stands { OnOk result ((pid : ℕ) (taken : List (List ℕ)) → HasTakenPmts self.old pid taken
             → HasTakenPmts self.new pid (taken ++ packet.now ∷ [])) }
+        ensures same { IfOk result (λ came. came ≡ false → self.new.pmts.entries ≡ self.old.pmts.entries) }
     {
         self.demux.feed(packet)?;
         take_pmts(alloc, &mut self.demux, &mut self.assembly, &mut self.pmts)
     }
 }
 
-/// Takes the sections that wait.
+/// Takes the sections that wait, and answers whether a PMT came with them.
 fn take_pmts(
     alloc: Global,
     demux: &mut Demux,
     assembly: &mut Assembly,
     pmts: &mut Pmts,
-) -> Result<(), AllocError>
-    ensures { OnOk result ((pid : ℕ) (taken given : List (List ℕ)) → HoldsPmts demux.old assembly.old pmts.old pid taken given
+) -> Result<bool, AllocError>
+    ensures holds { OnOk result ((pid : ℕ) (taken given : List (List ℕ)) → HoldsPmts demux.old assembly.old pmts.old pid taken given
         → HoldsPmts demux.new assembly.new pmts.new pid taken (sections_of_pid pid taken)) }
+    ensures same { IfOk result (λ came. came ≡ false → pmts.new.entries ≡ pmts.old.entries) }
 {
+    let mut came = false;
     while let Some(section) = demux.next_section() {
         if let Some(table) = assembly.add(section)? {
-            keep_pmt(alloc, pmts, &table)?;
+            came = keep_pmt(alloc, pmts, &table, came)?;
         }
     }
-    Ok(())
+    Ok(came)
 }
 
-/// Keeps the PMT that a table is, if it is a current one, in the place of the one of its service.
-fn keep_pmt(alloc: Global, pmts: &mut Pmts, table: &TableRun) -> Result<(), AllocError>
-    ensures { OnOk result ((service : ℕ) → option_map pmt_held (get nat_eq pmts.new service)
+/// Keeps the PMT that a table is, if it is a current one, in the place of the one of its service; `came` stays, or
+/// becomes true where it is kept.
+fn keep_pmt(
+    alloc: Global,
+    pmts: &mut Pmts,
+    table: &TableRun,
+    came: bool,
+) -> Result<bool, AllocError>
+    ensures kept { OnOk result ((service : ℕ) → option_map pmt_held (get nat_eq pmts.new service)
         ≡ newer (option_map pmt_held (get nat_eq pmts.old service)) (current_pmt service table.now)) }
+    ensures same { IfOk result (λ now. now ≡ false → (came ≡ false) × (pmts.new.entries ≡ pmts.old.entries)) }
 {
     let Some(pmt) = read_current(alloc, table)? else {
-        return Ok(());
+        return Ok(came);
     };
     pmts.insert(pmt.service_id, pmt)?;
-    Ok(())
+    Ok(true)
 }
 
 /// The PMT that a table is, where it reads as one and is current.

@@ -1,6 +1,6 @@
 //! The PAT of the packets on PID 0.
 
-ghost use Rattle.std.specs.Prelude.{◌≡◌, ℕ, ◌++◌, ◌∷◌, [], List, IfOk, OnOk, option_map};
+ghost use Rattle.std.specs.Prelude.{◌≡◌, ℕ, ◌++◌, ◌∷◌, [], List, false, IfOk, OnOk, option_map};
 ghost use Rattle.ts_demux.specs.SectionsOfPid.{sections_of_pid};
 ghost use Rattle.ts_psi.specs.PatTables.{pat_held};
 ghost use Rattle.plug_psi.specs.LastFound.{newer};
@@ -37,42 +37,51 @@ impl OnZero {
         })
     }
 
-    /// Takes the next packet, of any PID.
-    pub(crate) fn take(&mut self, alloc: Global, packet: &Packet) -> Result<(), AllocError>
-        ensures { OnOk result ((fed : List (List ℕ)) → HasFed self.old fed → HasFed self.new (fed ++ packet.now ∷ [])) }
+    /// Takes the next packet, of any PID, and answers whether a PAT came into force with it.
+    pub(crate) fn take(&mut self, alloc: Global, packet: &Packet) -> Result<bool, AllocError>
+        ensures stands { OnOk result ((fed : List (List ℕ)) → HasFed self.old fed → HasFed self.new (fed ++ packet.now ∷ [])) }
+        ensures same { IfOk result (λ came. came ≡ false → self.new.pat ≡ self.old.pat) }
     {
         self.demux.feed(packet)?;
         take_pats(alloc, &mut self.demux, &mut self.assembly, &mut self.pat)
     }
 }
 
-/// Takes the sections that wait.
+/// Takes the sections that wait, and answers whether a PAT came into force with them.
 fn take_pats(
     alloc: Global,
     demux: &mut Demux,
     assembly: &mut Assembly,
     pat: &mut CurrentPat,
-) -> Result<(), AllocError>
-    ensures { OnOk result ((fed given : List (List ℕ)) → HoldsPat demux.old assembly.old pat.old fed given
+) -> Result<bool, AllocError>
+    ensures holds { OnOk result ((fed given : List (List ℕ)) → HoldsPat demux.old assembly.old pat.old fed given
         → HoldsPat demux.new assembly.new pat.new fed (sections_of_pid 0 fed)) }
+    ensures same { IfOk result (λ came. came ≡ false → pat.new ≡ pat.old) }
 {
+    let mut came = false;
     while let Some(section) = demux.next_section() {
         if let Some(table) = assembly.add(section)? {
-            keep_pat(alloc, pat, &table)?;
+            came = keep_pat(alloc, pat, &table, came)?;
         }
     }
-    Ok(())
+    Ok(came)
 }
 
-/// Keeps the PAT that a table is, if it is a current one.
-fn keep_pat(alloc: Global, pat: &mut CurrentPat, table: &TableRun) -> Result<(), AllocError>
-    ensures { OnOk result (option_map pat_held pat.new ≡ newer (option_map pat_held pat.old) (current_pat table.now)) }
+/// Keeps the PAT that a table is, if it is a current one; `came` stays, or becomes true where it is kept.
+fn keep_pat(
+    alloc: Global,
+    pat: &mut CurrentPat,
+    table: &TableRun,
+    came: bool,
+) -> Result<bool, AllocError>
+    ensures kept { OnOk result (option_map pat_held pat.new ≡ newer (option_map pat_held pat.old) (current_pat table.now)) }
+    ensures same { IfOk result (λ now. now ≡ false → (came ≡ false) × (pat.new ≡ pat.old)) }
 {
     let Some(read) = read_current(alloc, table)? else {
-        return Ok(());
+        return Ok(came);
     };
     pat.set(read);
-    Ok(())
+    Ok(true)
 }
 
 /// The PAT that a table is, where it reads as one and is current.

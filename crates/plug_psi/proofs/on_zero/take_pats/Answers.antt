@@ -6,13 +6,19 @@ use Rattle.plug_psi.proofs.FoundLemmas.{pat-section, found_with}
 use Rattle.plug_psi.proofs.on_zero.take_pats.Goals as goal
 
 pub loop-section-preserved-in-Some-2 : goal.loop-section-preserved-in-Some-2
-loop-section-preserved-in-Some-2 c = λ fed given h.
-    pat-section c.loop-section.demux c.next_section.new.self c.loop-section.assembly c.add.new.self c.loop-section.pat c.keep_pat.new.pat
-    c.in-Some.section c.in_ok-table.field-0 c.in-Some.ensures.first c.in_ok-table.ensures.stands c.in_ok-table.ensures.tables
-    (c.in_ok-keep_pat.ensures ∙ ap (found_with current_pat (option_map pat_held c.loop-section.pat)) (sym c.in-Some-2.is)) fed (c.loop-section.invariant fed given h)
+loop-section-preserved-in-Some-2 c = record {
+  holds = λ fed given h.
+      pat-section c.loop-section.demux c.next_section.new.self c.loop-section.assembly c.add.new.self c.loop-section.pat c.keep_pat.new.pat
+      c.in-Some.section c.in_ok-table.field-0 c.in-Some.ensures.first c.in_ok-table.ensures.stands c.in_ok-table.ensures.tables
+      (c.in_ok-came.ensures.kept ∙ ap (found_with current_pat (option_map pat_held c.loop-section.pat)) (sym c.in-Some-2.is)) fed (c.loop-section.invariant.holds fed given h);
+  same = λ none. let s = c.in_ok-came.ensures.same none in s.1 ∙ c.loop-section.invariant.same s.0;
+}
 
 pub loop-section-preserved : goal.loop-section-preserved
-loop-section-preserved c = λ fed given h.
-    pat-section c.loop-section.demux c.next_section.new.self c.loop-section.assembly c.add.new.self c.loop-section.pat c.loop-section.pat
-    c.in-Some.section c.in_ok-table.field-0 c.in-Some.ensures.first c.in_ok-table.ensures.stands c.in_ok-table.ensures.tables
-    (ap (found_with current_pat (option_map pat_held c.loop-section.pat)) (sym c.in_default-2.is)) fed (c.loop-section.invariant fed given h)
+loop-section-preserved c = record {
+  holds = λ fed given h.
+      pat-section c.loop-section.demux c.next_section.new.self c.loop-section.assembly c.add.new.self c.loop-section.pat c.loop-section.pat
+      c.in-Some.section c.in_ok-table.field-0 c.in-Some.ensures.first c.in_ok-table.ensures.stands c.in_ok-table.ensures.tables
+      (ap (found_with current_pat (option_map pat_held c.loop-section.pat)) (sym c.in_default-2.is)) fed (c.loop-section.invariant.holds fed given h);
+  same = λ none. c.loop-section.invariant.same none;
+}
