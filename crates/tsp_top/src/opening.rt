@@ -1,27 +1,15 @@
 //! The two ends of a chain: what a plan names is opened, and whatever was opened is closed.
-ghost use Rattle.std.specs.Prelude.{◌≡◌, IfOk, OnErr, Err, is_err};
+ghost use Rattle.std.specs.Prelude.{◌≡◌, IfOk, OnErr, is_err};
 ghost use Rattle.std.specs.Option.{option_map};
 ghost use Rattle.ts_outside.specs.OpenFault.{MatchOpen};
-ghost use Rattle.ts_outside.specs.declared.open_fault.OpenFault.TheVariants.{NoMemory};
 ghost use Rattle.tsp_top.specs.PlannedChain.{input_name, output_name};
-ghost use Rattle.tsp_top.specs.Openings.{asked_input, asked_output, asked_input_in_vain, asked_output_in_vain, IsGenerated, OpensInput, OpensOutput, NamesInput, NamesOutput, input_closed_as, output_closed_as, WasOpened};
+ghost use Rattle.tsp_top.specs.Openings.{asked_input, asked_output, asked_input_in_vain, asked_output_in_vain, OpensInput, OpensOutput, NamesInput, NamesOutput, input_closed_as, output_closed_as, WasOpened};
 
 use chain_args::{InputConf, OutputConf};
 use stage_run::{InputPart, OutputPart};
 use std::alloc::{AllocError, Global};
 use ts_outside::{Desk, Failed, OpenFault};
 use ts_testgen::TestGen;
-
-/// The generated stream of a seed, of which no packet was given yet.
-fn generated<S>(alloc: Global, seed: u64, packets: u64) -> Result<InputPart<S>, OpenFault>
-    ensures part { IfOk result (λ part. IsGenerated seed packets part) }
-    ensures memory { OnErr result (result ≡ Err NoMemory) }
-{
-    match TestGen::new(alloc, seed) {
-        Ok(generator) => Ok(InputPart::Generated { generator, packets }),
-        Err(AllocError) => Err(OpenFault::NoMemory),
-    }
-}
 
 /// Opens the input, unless it is null packets or a generated stream.
 pub(crate) fn open_input<D: Desk>(
@@ -39,7 +27,13 @@ pub(crate) fn open_input<D: Desk>(
     match conf {
         InputConf::File(name) => Ok(InputPart::Stream(desk.open_in(Some(name.as_str()))?)),
         InputConf::Null(count) => Ok(InputPart::Nulls(*count)),
-        InputConf::TestGen { seed, packets } => generated(alloc, *seed, *packets),
+        InputConf::TestGen { seed, packets } => match TestGen::new(alloc, *seed) {
+            Ok(generator) => Ok(InputPart::Generated {
+                generator,
+                packets: *packets,
+            }),
+            Err(AllocError) => Err(OpenFault::NoMemory),
+        },
     }
 }
 
