@@ -24,9 +24,9 @@ returns-in-Generated-clause-puts g c = λ first read rows.
       stands = (
         stands.0,
         ap (λ (l : List (List ℕ)). l ++ row ∷ []) stands.1
-        ∙ generated-push seed packets
-        ∙ ap (λ (n : ℕ). generated_from seed 0 n) (sym next.ensures.packets)
-        ∙ ap (λ (s : ℕ). generated_from s 0 next.new.self.packets) (sym next.ensures.seed),
+            ∙ generated-push seed packets
+            ∙ ap (λ (n : ℕ). generated_from seed 0 n) (sym next.ensures.packets)
+            ∙ ap (λ (s : ℕ). generated_from s 0 next.new.self.packets) (sym next.ensures.seed),
         tt,
         next.ensures.counted,
       );
