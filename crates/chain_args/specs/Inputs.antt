@@ -1,16 +1,17 @@
--- The inputs: `file [NAME]` and `null N`.
+-- The inputs: `file [NAME]`, `null N` and `testgen SEED N`.
 -- This project's own rule.
-use Rattle.std.specs.Prelude.{ℕ, List, [], ◌∷◌, None, Option, Some, codes, if◌then◌else◌, true, unwrap_or}
+use Rattle.std.specs.Prelude.{ℕ, ◌&&◌, List, [], ◌∷◌, None, Option, Some, codes, if◌then◌else◌, true, unwrap_or}
 use Rattle.std.specs.Str.{bytes_eq}
 use Rattle.plug_conf.specs.declared.limits.TheConstants.{MOST_PACKETS}
 use Rattle.option_words.specs.Forms.{number, text}
 use Rattle.option_words.specs.Number.{number_within}
 use Rattle.option_words.specs.Options.{has_value, operand, read_value, value_of}
 use Rattle.option_words.specs.OptionTable.{OptionTable}
+use Rattle.chain_args.specs.declared.input_conf.TheConstants.{MOST_SEED}
 use Rattle.chain_args.specs.declared.input_words.InputKind.{InputKind}
 use Rattle.chain_args.specs.declared.input_words.InputKind.TheVariants as kind
 use Rattle.chain_args.specs.declared.input_conf.InputConf.{InputConf}
-use Rattle.chain_args.specs.declared.input_conf.InputConf.TheVariants.{File, Null}
+use Rattle.chain_args.specs.declared.input_conf.InputConf.TheVariants.{File, Null, TestGen}
 
 -- `file`: a name; without one, or where it is empty, standard input
 abbrev pub file_input : OptionTable InputConf
@@ -31,12 +32,27 @@ null_input = record {
   go_together = λ found. true;
 }
 
+-- `testgen`: a seed, 0 to 2^64 - 1, and so many packets, 0 to 2^40
+abbrev pub testgen_input : OptionTable InputConf
+testgen_input = record {
+  rows = record { name = codes "seed"; kind = operand (number 0 MOST_SEED) }
+      ∷ record { name = codes "count"; kind = operand (number 0 MOST_PACKETS) }
+      ∷ [];
+  has_needed = λ found. has_value (codes "seed") found && has_value (codes "count") found;
+  settings = λ found.
+      TestGen (unwrap_or (read_value (number_within 0 MOST_SEED) (codes "seed") found) 0)
+      (unwrap_or (read_value (number_within 0 MOST_PACKETS) (codes "count") found) 0);
+  go_together = λ found. true;
+}
+
 -- the inputs by their names
 abbrev pub input_kind_named : List ℕ → Option InputKind
 input_kind_named name = if bytes_eq name (codes "file") then Some kind.File
-    else (if bytes_eq name (codes "null") then Some kind.Null else None)
+    else (if bytes_eq name (codes "null") then Some kind.Null
+    else (if bytes_eq name (codes "testgen") then Some kind.TestGen else None))
 
 -- what each takes
 abbrev pub options_of_input : InputKind → OptionTable InputConf
 options_of_input kind.File = file_input
 options_of_input kind.Null = null_input
+options_of_input kind.TestGen = testgen_input

@@ -7,7 +7,7 @@ use Rattle.plug_conf.specs.declared.limits.TheConstants.{MOST_PACKETS}
 use Rattle.chain_args.specs.Rules.{most_plugins}
 use Rattle.chain_args.specs.declared.general_conf.GeneralConf.{GeneralConf}
 use Rattle.chain_args.specs.declared.input_conf.InputConf.{InputConf}
-use Rattle.chain_args.specs.declared.input_conf.InputConf.TheVariants.{File, Null}
+use Rattle.chain_args.specs.declared.input_conf.InputConf.TheVariants.{File, Null, TestGen}
 use Rattle.chain_args.specs.declared.plan_type.Plan.{Plan}
 
 -- a size of 1 to 1,000,000 packets
@@ -25,10 +25,11 @@ pub record IsLawfulGeneral (c : GeneralConf) : Type 0 where
   pub flushed : IfSome c.max_flushed_packets IsLawfulSize
   pub input : IfSome c.max_input_packets IsLawfulSize
 
--- `null` has at most 2^40 packets
+-- `null` and `testgen` have at most 2^40 packets
 abbrev pub IsLawfulInput : InputConf → Type 0
 IsLawfulInput (File name) = Unit {0}
 IsLawfulInput (Null count) = count ≤ MOST_PACKETS
+IsLawfulInput (TestGen seed count) = count ≤ MOST_PACKETS
 
 pub record IsLawfulPlan (p : Plan) : Type 0 where
   pub general : IsLawfulGeneral p.general

@@ -1,5 +1,8 @@
 use ts_outside::NameText;
 
+/// The greatest seed: 2^64 - 1.
+pub const MOST_SEED: u64 = u64::MAX;
+
 /// Where the packets come from.
 #[derive(Drop, Debug)]
 pub enum InputConf {
@@ -7,4 +10,6 @@ pub enum InputConf {
     File(NameText),
     /// So many null packets, at most 2^40.
     Null(u64),
+    /// The first packets of the generated stream of a seed, at most 2^40.
+    TestGen { seed: u64, packets: u64 },
 }

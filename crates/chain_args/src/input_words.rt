@@ -1,13 +1,13 @@
 ghost use Rattle.std.specs.Prelude.{◌≡◌, IfOk, map, option_map};
 ghost use Rattle.std.specs.String.{string_bytes};
 ghost use Rattle.clap.specs.Simple.{app_of};
-ghost use Rattle.chain_args.specs.Inputs.{file_input, input_kind_named, null_input, options_of_input};
+ghost use Rattle.chain_args.specs.Inputs.{file_input, input_kind_named, null_input, options_of_input, testgen_input};
 ghost use Rattle.chain_args.specs.LawfulPlan.{IsLawfulInput};
 ghost use Rattle.option_words.specs.Options.{command_of};
 ghost use Rattle.option_words.specs.OptionTable.{OptionTable};
 ghost use Rattle.option_words.specs.Refusal.{Reads, ReadsParsed};
 
-use crate::input_conf::InputConf;
+use crate::input_conf::{InputConf, MOST_SEED};
 use option_words::{ParsedOptions, Refusal, WordsRule, new_command, with_operand};
 use plug_conf::MOST_PACKETS;
 use std::alloc::Global;
@@ -17,6 +17,7 @@ use std::alloc::Global;
 pub(crate) enum InputKind {
     File,
     Null,
+    TestGen,
 }
 
 impl InputKind {
@@ -27,6 +28,7 @@ impl InputKind {
         match name {
             "file" => Some(InputKind::File),
             "null" => Some(InputKind::Null),
+            "testgen" => Some(InputKind::TestGen),
             _ => None,
         }
     }
@@ -39,6 +41,7 @@ impl InputKind {
         match self {
             InputKind::File => read_file(alloc, words),
             InputKind::Null => read_null(alloc, words),
+            InputKind::TestGen => read_testgen(alloc, words),
         }
     }
 }
@@ -70,4 +73,32 @@ fn null_settings(found: &ParsedOptions) -> Result<InputConf, Refusal>
     }
     let count = found.number("count", 0, MOST_PACKETS)?;
     Ok(InputConf::Null(count.unwrap_or(0)))
+}
+
+fn read_testgen(alloc: Global, words: &[String]) -> Result<InputConf, Refusal>
+    ensures reads { Reads testgen_input (map string_bytes words.now) result }
+    ensures lawful { IfOk result IsLawfulInput }
+{
+    let command = with_operand(alloc, new_command(alloc), "seed")?;
+    let command = with_operand(alloc, command, "count")?;
+    let found = ParsedOptions::of(command, words)?;
+    testgen_settings(&found)
+}
+
+fn testgen_settings(found: &ParsedOptions) -> Result<InputConf, Refusal>
+    ensures reads { ReadsParsed testgen_input found.now result }
+    ensures lawful { IfOk result IsLawfulInput }
+{
+    if !found.has_value("seed") {
+        return Err(Refusal::Broken(WordsRule::Missing));
+    }
+    if !found.has_value("count") {
+        return Err(Refusal::Broken(WordsRule::Missing));
+    }
+    let seed = found.number("seed", 0, MOST_SEED)?;
+    let count = found.number("count", 0, MOST_PACKETS)?;
+    Ok(InputConf::TestGen {
+        seed: seed.unwrap_or(0),
+        packets: count.unwrap_or(0),
+    })
 }

@@ -30,7 +30,7 @@ use Rattle.stage_run.specs.declared.output_part.OutputPart.{OutputPart}
 use Rattle.stage_run.specs.declared.output_part.OutputPart.TheVariants as output
 use Rattle.stage_run.specs.declared.stage_part.StagePart.{StagePart}
 use Rattle.stage_run.specs.PartLists.{PartLists}
-use Rattle.stage_run.specs.PartStands.{PartStands, PartGives, rule_of, has_source, has_sink, an_input, a_plugin, an_output}
+use Rattle.stage_run.specs.PartStands.{PartStands, PartGives, rule_of, source_kind, sink_kind, a_stream, null_packets, generated_packets, no_stream, an_input, a_plugin, an_output}
 use Rattle.stage_run.specs.OutputStands.{IsPartOfFirst, SinkTook}
 use Rattle.stage_run.specs.Parts.{IsSourceOf, IsSinkOf, FailedReading, LeavesSource, LeavesInput, LeavesOutput}
 use Rattle.plugin_trait.specs.Steps.{IsSteadyFor}
@@ -214,13 +214,13 @@ module _ {S K P : Type 0} (see : Seeing S K P)
 
     -- ---- the input
 
-    pub left-input : (made_from : InputPart S) → has_source made_from ≡ has_source begun.from → LeavesInput see.source made_from begun.stuffing (goes.lists 0) (state.stages 0).ended → LeftInput see.source begun.stuffing begun.plan.buffer begun.from made_from cut why
+    pub left-input : (made_from : InputPart S) → source_kind made_from ≡ source_kind begun.from → LeavesInput see.source made_from begun.stuffing (goes.lists 0) (state.stages 0).ended → LeftInput see.source begun.stuffing begun.plan.buffer begun.from made_from cut why
     left-input made_from same left =
         cases begun.from made_from same at-input.source left read-told
         (may_read-more begun.plan.buffer (written_of begun.plan (progress_of_stages state)) cut (length (goes.lists 0).read) written-cut at-input.within)
         (ap (λ (l : List Cell). length l) (by.stands 0 (omega arith)).given_is)
       where
-        cases : (from made : InputPart S) → has_source made ≡ has_source from → IsSourceOf see.source from (goes.lists 0).source → LeavesInput see.source made begun.stuffing (goes.lists 0) (state.stages 0).ended
+        cases : (from made : InputPart S) → source_kind made ≡ source_kind from → IsSourceOf see.source from (goes.lists 0).source → LeavesInput see.source made begun.stuffing (goes.lists 0) (state.stages 0).ended
             → (why ≡ cause.Input ReadFault → ((state.stages 0).ended ≡ Some (Input ReadFault)) × (length (state.stages 0).given ≡ cut)) → MayRead begun.plan.buffer cut (length (goes.lists 0).read) → length (goes.lists 0).given ≡ length (state.stages 0).given
             → LeftInput see.source begun.stuffing begun.plan.buffer from made cut why
         cases (input.Stream old) (input.Stream new) has source leaves told within given =
@@ -239,8 +239,13 @@ module _ {S K P : Type 0} (see : Seeing S K P)
                   });
             }
         cases (input.Nulls old) (input.Nulls new) has source leaves told within given = λ is. leaves (told is).0
-        cases (input.Stream old) (input.Nulls new) has source leaves told within given = let e : false ≡ true = has in cc
-        cases (input.Nulls old) (input.Stream new) has source leaves told within given = let e : true ≡ false = has in cc
+        cases (input.Generated old packets) (input.Generated new same) has source leaves told within given = λ is. leaves (told is).0
+        cases (input.Stream old) (input.Nulls new) has source leaves told within given = let e : null_packets ≡ a_stream = has in cc
+        cases (input.Stream old) (input.Generated new packets) has source leaves told within given = let e : generated_packets ≡ a_stream = has in cc
+        cases (input.Nulls old) (input.Stream new) has source leaves told within given = let e : a_stream ≡ null_packets = has in cc
+        cases (input.Nulls old) (input.Generated new packets) has source leaves told within given = let e : generated_packets ≡ null_packets = has in cc
+        cases (input.Generated old packets) (input.Stream new) has source leaves told within given = let e : a_stream ≡ generated_packets = has in cc
+        cases (input.Generated old packets) (input.Nulls new) has source leaves told within given = let e : null_packets ≡ generated_packets = has in cc
 
     -- ---- the output
 
@@ -258,7 +263,7 @@ module _ {S K P : Type 0} (see : Seeing S K P)
     given-is : (goes.lists out).given ≡ take cut (end_list begun.rules list).cells
     given-is = (by.stands out (omega arith)).given_is ∙ at-close.written
 
-    pub left-output : (made_to : OutputPart K) → has_sink made_to ≡ has_sink begun.to → LeavesOutput see.sink made_to (goes.lists out) (state.stages out).ended → LeftOutput see.sink begun.to made_to (end_list begun.rules list).cells cut why
+    pub left-output : (made_to : OutputPart K) → sink_kind made_to ≡ sink_kind begun.to → LeavesOutput see.sink made_to (goes.lists out) (state.stages out).ended → LeftOutput see.sink begun.to made_to (end_list begun.rules list).cells cut why
     left-output made_to same left =
         cases begun.to made_to same at-output.sink left
       where
@@ -270,13 +275,13 @@ module _ {S K P : Type 0} (see : Seeing S K P)
               | inr whole ↦ takes-other old new (end_list begun.rules list).cells cut why (λ is. whole.0 (write-told is)) (whole.1 ∙ ap (λ (l : List Cell). took old (written l)) given-is)
             ]
 
-        cases : (to made : OutputPart K) → has_sink made ≡ has_sink to → IsSinkOf see.sink to (goes.lists out).sink → LeavesOutput see.sink made (goes.lists out) (state.stages out).ended
+        cases : (to made : OutputPart K) → sink_kind made ≡ sink_kind to → IsSinkOf see.sink to (goes.lists out).sink → LeavesOutput see.sink made (goes.lists out) (state.stages out).ended
             → LeftOutput see.sink to made (end_list begun.rules list).cells cut why
         cases (output.Stream old) (output.Stream new) has sink leaves =
             takes (see.sink old) (see.sink new) (subst (λ (v : SinkView). SinkTook v (see.sink new) (goes.lists out).given (goes.lists out).cut (state.stages out).ended) sink leaves)
         cases output.Discard output.Discard has sink leaves = λ is. leaves (write-told is)
-        cases (output.Stream old) output.Discard has sink leaves = let e : false ≡ true = has in cc
-        cases output.Discard (output.Stream new) has sink leaves = let e : true ≡ false = has in cc
+        cases (output.Stream old) output.Discard has sink leaves = let e : no_stream ≡ a_stream = has in cc
+        cases output.Discard (output.Stream new) has sink leaves = let e : a_stream ≡ no_stream = has in cc
 
     -- ---- the plugins
 

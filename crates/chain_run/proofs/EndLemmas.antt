@@ -13,7 +13,7 @@ use Rattle.stage_run.specs.declared.input_part.InputPart.{InputPart}
 use Rattle.stage_run.specs.declared.output_part.OutputPart.{OutputPart}
 use Rattle.stage_run.specs.declared.stage_part.StagePart.{StagePart}
 use Rattle.stage_run.specs.declared.stuffing.Stuffing.{Stuffing}
-use Rattle.stage_run.specs.PartStands.{PartStands, PartGives, kind_of, stuffing_in, has_stream, an_input}
+use Rattle.stage_run.specs.PartStands.{PartStands, PartGives, kind_of, stuffing_in, stream_kind, an_input}
 use Rattle.stage_run.specs.InputStands.{stuffing_of}
 use Rattle.chain_run.specs.Parts.{AreTakenFrom, ArePluginsAndOutput, AreStages, GaveBack}
 use Rattle.chain_run.specs.RunOf.{RunOf}
@@ -115,10 +115,10 @@ module _ {S K P : Type 0} (see : Seeing S K P) where
           is_list = is-list see begun goes.lawful_run laws parts goes.visits goes.part goes.lists by chosen.list gives;
           closes = at.pure_or_fault;
           input = left-input see laws begun parts goes over chosen.list gives made_from
-              (back.in_stream ∙ (ap has_stream is-first ∙ ((by.stands 0 (omega arith)).input refl).stream))
+              (back.in_stream ∙ (ap stream_kind is-first ∙ ((by.stands 0 (omega arith)).input refl).stream))
               (back.in_leaves (goes.lists 0) (state.stages 0).ended (stuffing_of stuffing) first-stands (ap stuffing_in is-first ∙ ((by.stands 0 (omega arith)).input refl).stuffing_is));
           output = left-output see laws begun parts goes over chosen.list gives made_to
-              (back.out_stream ∙ (ap has_stream is-last ∙ ((by.stands (suc plan.plugins) (omega arith)).output refl).stream))
+              (back.out_stream ∙ (ap stream_kind is-last ∙ ((by.stands (suc plan.plugins) (omega arith)).output refl).stream))
               (back.out_leaves (goes.lists (suc plan.plugins)) (state.stages (suc plan.plugins)).ended last-stands);
           gave = gave-of see laws begun parts goes over;
           gave_to = gave-to see laws begun parts goes over chosen.list gives;

@@ -18,7 +18,7 @@ use Rattle.stage_run.specs.declared.packet_feed.PacketFeed.TheVariants as feed
 use Rattle.stage_run.specs.Feeds.{SameFeed}
 use Rattle.stage_run.specs.OutputStands.{SamePart}
 use Rattle.stage_run.specs.PartLists.{PartLists}
-use Rattle.stage_run.specs.PartStands.{PartGives, MayWantMemory, has_sink, feeds_stream, has_stream, kind_of, rule_of, steady_of, an_input, a_plugin, an_output}
+use Rattle.stage_run.specs.PartStands.{PartGives, MayWantMemory, sink_kind, feed_kind, stream_kind, kind_of, rule_of, steady_of, an_input, a_plugin, an_output}
 use Rattle.stage_run.specs.Works.{WorksByKind, InputTells, OutputTells, KeepsRule, read_for}
 
 module _ {S K P : Type 0} (see : Seeing S K P) where
@@ -92,18 +92,23 @@ module _ {S K P : Type 0} (see : Seeing S K P) where
 
   -- an input or an output that has a stream keeps it
   pub stream-kept : (old new : StagePart S K P) (before : PartLists) (news : News) (cells cells_new : List Cell) (work : Work) (after : PartLists)
-      → WorksByKind see old new before news cells cells_new work after → has_stream new ≡ has_stream old
+      → WorksByKind see old new before news cells cells_new work after → stream_kind new ≡ stream_kind old
   stream-kept (Input old) (Input new) before news cells cells_new work after does = feeds old.feed new.feed does.same
     where
-      feeds : (a b : PacketFeed S) → SameFeed a b → feeds_stream b ≡ feeds_stream a
+      feeds : (a b : PacketFeed S) → SameFeed a b → feed_kind b ≡ feed_kind a
       feeds (feed.Stream a) (feed.Stream b) same = refl
       feeds (feed.Nulls a) (feed.Nulls b) same = refl
+      feeds (feed.Generated a) (feed.Generated b) same = refl
       feeds (feed.Stream a) (feed.Nulls b) same = absurd same
+      feeds (feed.Stream a) (feed.Generated b) same = absurd same
       feeds (feed.Nulls a) (feed.Stream b) same = absurd same
+      feeds (feed.Nulls a) (feed.Generated b) same = absurd same
+      feeds (feed.Generated a) (feed.Stream b) same = absurd same
+      feeds (feed.Generated a) (feed.Nulls b) same = absurd same
   stream-kept (Plugin old) (Plugin new) before news cells cells_new work after does = refl
   stream-kept (Output old) (Output new) before news cells cells_new work after does = parts old.part new.part does.same
     where
-      parts : (a b : OutputPart K) → SamePart a b → has_sink b ≡ has_sink a
+      parts : (a b : OutputPart K) → SamePart a b → sink_kind b ≡ sink_kind a
       parts (out.Stream a) (out.Stream b) same = refl
       parts out.Discard out.Discard same = refl
       parts (out.Stream a) out.Discard same = absurd same

@@ -17,7 +17,7 @@ use Rattle.stage_run.specs.declared.output_part.OutputPart.{OutputPart}
 use Rattle.stage_run.specs.declared.stage_part.StagePart.{StagePart}
 use Rattle.stage_run.specs.declared.stuffing.Stuffing.{Stuffing}
 use Rattle.stage_run.specs.PartLists.{fresh_lists}
-use Rattle.stage_run.specs.PartStands.{PartStands, PartGives, kind_of, stuffing_in, has_source, has_sink, has_stream, an_input, an_output}
+use Rattle.stage_run.specs.PartStands.{PartStands, PartGives, kind_of, stuffing_in, source_kind, sink_kind, stream_kind, an_input, an_output}
 use Rattle.stage_run.specs.InputStands.{stuffing_of}
 use Rattle.stage_run.specs.Parts.{IsListOf, IsSourceOf, IsSinkOf}
 use Rattle.chain_run.specs.Fresh.{AreFresh}
@@ -42,12 +42,12 @@ module _ {S K P : Type 0} (see : Seeing S K P) where
     pub are : AreMadeOf see made plugins
     pub row : parts ≡ first ∷ (made ++ out ∷ [])
     pub in_kind : kind_of first ≡ an_input
-    pub in_stream : has_stream first ≡ has_source from
+    pub in_stream : stream_kind first ≡ source_kind from
     pub in_stuffing : stuffing_in first ≡ Some (stuffing_of stuffing)
     pub in_stands : (source : SourceView) (sink : SinkView) (mark : ℕ) → IsSourceOf see.source from source → PartStands see first (fresh_lists source sink mark) None
     pub in_gives : (source : SourceView) (sink : SinkView) (mark : ℕ) (input : StageList) → PartGives see first (fresh_lists source sink mark) input ↔ IsListOf see.source from (stuffing_of stuffing) input
     pub out_kind : kind_of out ≡ an_output
-    pub out_stream : has_stream out ≡ has_sink to
+    pub out_stream : stream_kind out ≡ sink_kind to
     pub out_stands : (source : SourceView) (sink : SinkView) (mark : ℕ) → IsSinkOf see.sink to sink → PartStands see out (fresh_lists source sink mark) None
 
   pub laid-row : (from : InputPart S) (stuffing : Stuffing) (plugins : List P) (to : OutputPart K) (plan : CorePlan) (parts : List (StagePart S K P))

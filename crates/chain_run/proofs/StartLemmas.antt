@@ -25,7 +25,7 @@ use Rattle.stage_run.specs.declared.output_part.OutputPart.TheVariants as output
 use Rattle.stage_run.specs.declared.stage_part.StagePart.{StagePart}
 use Rattle.stage_run.specs.declared.stuffing.Stuffing.{Stuffing}
 use Rattle.stage_run.specs.PartLists.{PartLists, fresh_lists}
-use Rattle.stage_run.specs.PartStands.{PartStands, PartGives, kind_of, stuffing_in, has_source, has_sink, has_stream, an_input, an_output}
+use Rattle.stage_run.specs.PartStands.{PartStands, PartGives, kind_of, stuffing_in, source_kind, sink_kind, stream_kind, an_input, an_output}
 use Rattle.stage_run.specs.InputStands.{stuffing_of}
 use Rattle.stage_run.specs.Parts.{IsListOf, IsSourceOf, IsSinkOf}
 use Rattle.chain_run.specs.Fresh.{AreFresh}
@@ -49,6 +49,7 @@ any-default (x ∷ xs) (suc k) d e lt = any-default xs k d e (omega arith)
 view-of-source : {S : Type 0} (seen : S → SourceView) (part : InputPart S) → (view : SourceView) × IsSourceOf seen part view
 view-of-source seen (input.Stream source) = (seen source, refl)
 view-of-source seen (input.Nulls count) = (record { left = None; faults = 0 }, tt)
+view-of-source seen (input.Generated generator count) = (record { left = None; faults = 0 }, tt)
 
 view-of-sink : {K : Type 0} (seen : K → SinkView) (part : OutputPart K) → (view : SinkView) × IsSinkOf seen part view
 view-of-sink seen (output.Stream sink) = (seen sink, refl)
@@ -103,10 +104,10 @@ module _ {S K P : Type 0} (see : Seeing S K P) where
       (from : InputPart S) (stuffing : Stuffing) (to : OutputPart K) (plugins : List P) (fresh : AreFresh see.stands plugins) (number : plan.plugins ≡ length plugins)
       (opens : (plugin : P) (history : List Cell) (mark : ℕ) → see.stands plugin history mark → (see.rule plugin).agrees [] ≡ false)
       (first out : StagePart S K P) (made : List (StagePart S K P)) (are : AreMadeOf see made plugins)
-      (in_kind : kind_of first ≡ an_input) (in_stream : has_stream first ≡ has_source from) (in_stuffing : stuffing_in first ≡ Some (stuffing_of stuffing))
+      (in_kind : kind_of first ≡ an_input) (in_stream : stream_kind first ≡ source_kind from) (in_stuffing : stuffing_in first ≡ Some (stuffing_of stuffing))
       (in_stands : (source : SourceView) (sink : SinkView) (mark : ℕ) → IsSourceOf see.source from source → PartStands see first (fresh_lists source sink mark) None)
       (in_gives : (source : SourceView) (sink : SinkView) (mark : ℕ) (input : StageList) → PartGives see first (fresh_lists source sink mark) input ↔ IsListOf see.source from (stuffing_of stuffing) input)
-      (out_kind : kind_of out ≡ an_output) (out_stream : has_stream out ≡ has_sink to)
+      (out_kind : kind_of out ≡ an_output) (out_stream : stream_kind out ≡ sink_kind to)
       (out_stands : (source : SourceView) (sink : SinkView) (mark : ℕ) → IsSinkOf see.sink to sink → PartStands see out (fresh_lists source sink mark) None) where
     abbrev pub began : RunStart S K
     began = record { from = from; to = to; stuffing = stuffing_of stuffing; rules = map see.rule plugins; rooms = map see.steady plugins; plan = plan }
@@ -155,7 +156,7 @@ module _ {S K P : Type 0} (see : Seeing S K P) where
     output-start : IsOutput see began (part (suc plan.plugins)) (lists (suc plan.plugins)) [] [] None 0 (λ (_ : StageList). Unit {0})
     output-start = record {
       kind = ap kind_of last-is ∙ out_kind;
-      stream = ap has_stream last-is ∙ out_stream;
+      stream = ap stream_kind last-is ∙ out_stream;
       met = refl;
       sink = (view-of-sink see.sink to).1;
       failed = λ e. cc;

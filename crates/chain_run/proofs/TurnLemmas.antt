@@ -15,7 +15,8 @@ use Rattle.chain_core.specs.Numbers.{StagesProgress, limit_of, takes_of, agreed_
 use Rattle.chain_core.specs.Machine.{ChainState, StageState, Visit, progress_of_stage, progress_of_stages, visit_of, noted, visited}
 use Rattle.chain_core.proofs.Stepping.{noted-same, noted-other, visited-same}
 use Rattle.stage_run.specs.declared.input_part.InputPart.{InputPart}
-use Rattle.stage_run.specs.declared.input_part.InputPart.TheVariants.{Stream, Nulls}
+use Rattle.stage_run.specs.declared.input_part.InputPart.TheVariants.{Stream, Nulls, Generated}
+use Rattle.stage_run.specs.GeneratedInput.{input_of_generated}
 use Rattle.stage_run.specs.Parts.{IsListOf}
 use Rattle.stage_run.specs.Telling.{is_reached, may_follow}
 use Rattle.stage_run.proofs.ContinuesLemmas.{within_limit-ends}
@@ -28,6 +29,10 @@ list-ends seen (Stream source) stuffing list is =
     (e.0, ap (λ (l : StageList). l.ended) is.1 ∙ e.1)
 list-ends seen (Nulls count) stuffing list is =
     let e = within_limit-ends (null_cells stuffing.start ++ (stuffed_after stuffing 0 (input_of_nulls count).packets ++ stop_nulls stuffing (input_of_nulls count).ended)) (input_of_nulls count).ended in
+    (e.0, ap (λ (l : StageList). l.ended) is ∙ e.1)
+list-ends seen (Generated generator count) stuffing list is =
+    let packets = input_of_generated generator.seed count in
+    let e = within_limit-ends (null_cells stuffing.start ++ (stuffed_after stuffing 0 packets.packets ++ stop_nulls stuffing packets.ended)) packets.ended in
     (e.0, ap (λ (l : StageList). l.ended) is ∙ e.1)
 
 -- what a stage may do by its news it may do by the numbers

@@ -16,7 +16,7 @@ use Rattle.chain_core.specs.EveryOrder.{SoFar}
 use Rattle.stage_run.specs.Seeing.{Seeing}
 use Rattle.stage_run.specs.declared.stage_part.StagePart.{StagePart}
 use Rattle.stage_run.specs.PartLists.{PartLists}
-use Rattle.stage_run.specs.PartStands.{PartStands, PartGives, MayWantMemory, rule_of, steady_of, kind_of, stuffing_in, has_source, has_sink, has_stream, an_input, a_plugin, an_output}
+use Rattle.stage_run.specs.PartStands.{PartStands, PartGives, MayWantMemory, rule_of, steady_of, kind_of, stuffing_in, source_kind, sink_kind, stream_kind, an_input, a_plugin, an_output}
 use Rattle.stage_run.specs.OutputStands.{IsPartOfFirst}
 use Rattle.stage_run.specs.Parts.{IsListOf, IsSourceOf, IsSinkOf}
 use Rattle.chain_run.specs.RunOf.{MayRead}
@@ -31,7 +31,7 @@ module _ {S K P : Type 0} (see : Seeing S K P) (begun : RunStart S K) where
   pub record IsInput (part : StagePart S K P) (lists : PartLists) (low : ℕ) : Type 0 where
     pub kind : kind_of part ≡ an_input
     pub stuffing_is : stuffing_in part ≡ Some begun.stuffing
-    pub stream : has_stream part ≡ has_source begun.from
+    pub stream : stream_kind part ≡ source_kind begun.from
     pub source : IsSourceOf see.source begun.from lists.source
     pub within : MayRead begun.plan.buffer low (length lists.read)
     pub is_list : (input : StageList) → PartGives see part lists input
@@ -57,7 +57,7 @@ module _ {S K P : Type 0} (see : Seeing S K P) (begun : RunStart S K) where
   pub record IsOutput (part : StagePart S K P) (lists : PartLists) (given before : List Cell)
       (ended : Option StageEnd) (taken : ℕ) (Gives : StageList → Type 0) : Type 0 where
     pub kind : kind_of part ≡ an_output
-    pub stream : has_stream part ≡ has_sink begun.to
+    pub stream : stream_kind part ≡ sink_kind begun.to
     pub met : lists.met ≡ take (length given) before
     pub sink : IsSinkOf see.sink begun.to lists.sink
     pub failed : ended ≡ Some WriteFault → Failed lists given before taken Gives

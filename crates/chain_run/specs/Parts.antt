@@ -6,7 +6,7 @@ use Rattle.chain_core.specs.declared.stage_end.StageEnd.{StageEnd}
 use Rattle.stage_run.specs.Seeing.{Seeing}
 use Rattle.stage_run.specs.declared.stage_part.StagePart.{StagePart}
 use Rattle.stage_run.specs.PartLists.{PartLists, fresh_lists}
-use Rattle.stage_run.specs.PartStands.{PartStands, PartGives, kind_of, rule_of, steady_of, stuffing_in, has_source, has_sink, has_stream, an_input, a_plugin, an_output}
+use Rattle.stage_run.specs.PartStands.{PartStands, PartGives, kind_of, rule_of, steady_of, stuffing_in, source_kind, sink_kind, stream_kind, an_input, a_plugin, an_output}
 use Rattle.stage_run.specs.Parts.{LeavesInput, LeavesOutput, SomeList}
 use Rattle.stage_run.specs.declared.input_part.InputPart.{InputPart}
 use Rattle.stage_run.specs.declared.output_part.OutputPart.{OutputPart}
@@ -60,13 +60,13 @@ module _ {S K P : Type 0} (see : Seeing S K P) where
     pub front : List (StagePart S K P)
     pub last : StagePart S K P
     pub ends : rest ≡ front ++ last ∷ []
-    pub in_stream : has_source input ≡ has_stream first
+    pub in_stream : source_kind input ≡ stream_kind first
     pub in_leaves : (lists : PartLists) (told : Option StageEnd) (stuffing : model.Stuffing)
         → PartStands see first lists told → stuffing_in first ≡ Some stuffing
         → LeavesInput see.source input stuffing lists told
     pub some_list : (lists : PartLists) (told : Option StageEnd) → PartStands see first lists told
         → SomeList (PartGives see first lists)
     pub taken : AreTakenFrom rest plugins
-    pub out_stream : has_sink output ≡ has_stream last
+    pub out_stream : sink_kind output ≡ stream_kind last
     pub out_leaves : (lists : PartLists) (told : Option StageEnd) → PartStands see last lists told
         → LeavesOutput see.sink output lists told

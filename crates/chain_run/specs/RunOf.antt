@@ -21,7 +21,7 @@ use Rattle.chain_core.specs.Stages.{stages_of}
 use Rattle.chain_core.specs.EveryOrder.{IsPureClose}
 use Rattle.stage_run.specs.Seeing.{Seeing}
 use Rattle.stage_run.specs.declared.input_part.InputPart.{InputPart}
-use Rattle.stage_run.specs.declared.input_part.InputPart.TheVariants.{Stream, Nulls}
+use Rattle.stage_run.specs.declared.input_part.InputPart.TheVariants.{Stream, Nulls, Generated}
 use Rattle.stage_run.specs.declared.output_part.OutputPart.{OutputPart}
 use Rattle.stage_run.specs.declared.output_part.OutputPart.TheVariants as out
 use Rattle.stage_run.specs.declared.stuffing.Stuffing.{Stuffing}
@@ -60,6 +60,7 @@ abbrev pub LeftInput : {S : Type 0} → (S → SourceView) → model.Stuffing �
 LeftInput seen stuffing buffer (Stream old) (Stream new) cut cause =
     ReadsSource stuffing buffer (seen old) (seen new) cut cause
 LeftInput seen stuffing buffer (Nulls old) (Nulls new) cut cause = cause ≢ Input ReadFault
+LeftInput seen stuffing buffer (Generated old packets) (Generated new same) cut cause = cause ≢ Input ReadFault
 LeftInput seen stuffing buffer _ _ cut cause = ⊥
 
 -- the sink took the live packets of the cells before the cut; where the run ended by a failed write, and that is the last

@@ -3,6 +3,7 @@ ghost use Rattle.std.specs.Prelude.{◌≡◌, ◌+◌, ◌≤◌, ◌<◌, ◌+
 ghost use Rattle.stage_run.specs.Seeing.{seeing};
 ghost use Rattle.chain_core.specs.declared.core_plan.CorePlan.{CorePlan};
 ghost use Rattle.chain_core.specs.CoreNumbers.{IsLawfulPlan};
+ghost use Rattle.stage_run.specs.Parts.{IsUnused};
 ghost use Rattle.stage_run.specs.declared.stage_part.StagePart.{StagePart};
 ghost use Rattle.chain_run.specs.Fresh.{AreFresh};
 ghost use Rattle.chain_run.specs.Runs.{began_with};
@@ -50,6 +51,7 @@ pub fn lay_stages<S: Source, K: Sink, P: Plugin>(
     output: OutputPart<K>,
 ) -> Vec<StagePart<S, K, P>>
     requires every { 1 ≤ stuffing.every }
+    requires unused { IsUnused input }
     requires fresh { AreFresh P.stands_for plugins.old.items }
     requires none { rooms.row.items ≡ [] }
     requires room { vec_len plugins.old + 2 ≤ vec_capacity rooms.row }

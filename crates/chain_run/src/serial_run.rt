@@ -8,6 +8,7 @@ ghost use Rattle.stage_run.specs.Seeing.{seeing};
 ghost use Rattle.stage_run.specs.declared.input_part.InputPart.{InputPart};
 ghost use Rattle.stage_run.specs.declared.output_part.OutputPart.{OutputPart};
 ghost use Rattle.stage_run.specs.declared.stuffing.Stuffing.{Stuffing};
+ghost use Rattle.stage_run.specs.Parts.{IsUnused};
 ghost use Rattle.chain_run.specs.Fresh.{AreFresh};
 ghost use Rattle.chain_run.specs.Runs.{began_with};
 ghost use Rattle.chain_run.specs.Working.{IsRunning, RunsSomehow};
@@ -64,6 +65,7 @@ fn lay<S: Source, K: Sink, P: Plugin>(
     output: OutputPart<K>,
 ) -> SerialChain<S, K, P>
     requires every { 1 ≤ stuffing.every }
+    requires unused { IsUnused input }
     requires lawful { IsLawfulPlan memory.core.plan }
     requires plugins { memory.core.plan.plugins ≡ vec_len plugins.old }
     requires fresh { AreFresh P.stands_for plugins.old.items }
@@ -137,6 +139,7 @@ pub fn run_serial<S: Source, K: Sink, P: Plugin, G: Gate>(
     gate: &G,
 ) -> RunEnd<S, K, P>
     requires every { 1 ≤ stages.stuffing.every }
+    requires unused { IsUnused stages.input }
     requires lawful { IsLawfulPlan plan.now }
     requires plugins { plan.now.plugins ≡ vec_len stages.plugins }
     requires sizes { All (λ size. 1 ≤ size) sizes.now }

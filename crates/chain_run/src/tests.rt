@@ -74,6 +74,10 @@ fn closed_of(
     match input {
         InputPart::Stream(source) => desk.close_in(source),
         InputPart::Nulls(_) => {}
+        InputPart::Generated {
+            generator: _,
+            packets: _,
+        } => {}
     }
     match output {
         OutputPart::Stream(sink) => {

@@ -17,10 +17,12 @@ use Rattle.chain_model.specs.InputList.{is_packet_in_front, packets_within, pack
 use Rattle.chain_model.specs.Stuffed.{null_cells, nulls_behind, stuffed_after, stop_nulls, within_limit, stuffed}
 use Rattle.chain_model.specs.Stuffed as model
 use Rattle.stage_run.specs.declared.packet_feed.PacketFeed.{PacketFeed}
-use Rattle.stage_run.specs.declared.packet_feed.PacketFeed.TheVariants.{Stream, Nulls}
+use Rattle.stage_run.specs.declared.packet_feed.PacketFeed.TheVariants.{Stream, Nulls, Generated}
 use Rattle.stage_run.specs.Rows.{BeginsPacket}
-use Rattle.stage_run.specs.Feeds.{FeedStands, StandsAtSource, NullsEnd, IsReady, hand_of}
+use Rattle.stage_run.specs.Feeds.{FeedStands, StandsAtSource, EndsWhenPut, IsReady, hand_of}
 use Rattle.stage_run.specs.InputStands.{FeedGives, MayFollowEnd, stuffed_so_far}
+use Rattle.stage_run.specs.GeneratedInput.{generated_from, input_of_generated}
+use Rattle.stage_run.proofs.GeneratedLemmas.{generated-split, length-generated}
 use Rattle.stage_run.proofs.PacketLemmas.{front-begins, front-unfinished, front-lost, packets_within-some, fuel_behind, fuel-some, packets_of-rows, packets_of-all, rest-behind, end_behind-unfinished, end_behind-lost}
 
 pub stuffed_after-append : (stuffing : model.Stuffing) (n : ℕ) (xs ys : List (List ℕ))
@@ -185,7 +187,7 @@ nulls-split : (count all : ℕ) → count ≤ all → replicate all null_packet 
 nulls-split count all within =
     ap (λ (n : ℕ). replicate n null_packet) (omega arith) ∙ sym (replicate-append-replicate count (all - count) null_packet)
 
-pub continues-nulls : (stuffing : model.Stuffing) (count all : ℕ) (ended : Option InputEnd) → count ≤ all → NullsEnd all count ended
+pub continues-nulls : (stuffing : model.Stuffing) (count all : ℕ) (ended : Option InputEnd) → count ≤ all → EndsWhenPut all count ended
     → Continues stuffing (replicate count null_packet) ended (count < all) (stuffed stuffing (input_of_nulls all))
 continues-nulls stuffing count all None within stands =
     subst (λ (rows : List (List ℕ)). Continues stuffing (replicate count null_packet) None (count < all) (within_limit (uncut stuffing rows (End 0)) (End 0)))
@@ -200,6 +202,23 @@ continues-nulls stuffing count all (Some (End left)) within stands =
 continues-nulls stuffing count all (Some (Sync packet)) within stands = absurd stands
 continues-nulls stuffing count all (Some ReadFault) within stands = absurd stands
 continues-nulls stuffing count all (Some TooLong) within stands = absurd stands
+
+-- an input of generated packets alone
+pub continues-generated : (stuffing : model.Stuffing) (seed count all : ℕ) (ended : Option InputEnd) → count ≤ all → EndsWhenPut all count ended
+    → Continues stuffing (generated_from seed 0 count) ended (count < all) (stuffed stuffing (input_of_generated seed all))
+continues-generated stuffing seed count all None within stands =
+    subst (λ (rows : List (List ℕ)). Continues stuffing (generated_from seed 0 count) None (count < all) (within_limit (uncut stuffing rows (End 0)) (End 0)))
+    (sym (generated-split seed count all within))
+    (continues-unknown stuffing (generated_from seed 0 count) (generated_from seed count (all - count)) (End 0) (count < all)
+    (λ few. omega (arith, length-generated seed count (all - count))))
+continues-generated stuffing seed count all (Some (End left)) within stands =
+    let same : generated_from seed 0 all ≡ generated_from seed 0 count = ap (λ (n : ℕ). generated_from seed 0 n) (sym stands.1) in
+    subst (λ (n : ℕ). Continues stuffing (generated_from seed 0 count) (Some (End n)) (count < all) (stuffed stuffing (input_of_generated seed all))) (sym stands.0)
+    (subst (λ (rows : List (List ℕ)). Continues stuffing (generated_from seed 0 count) (Some (End 0)) (count < all) (within_limit (uncut stuffing rows (End 0)) (End 0)))
+    (sym same) (continues-end stuffing (generated_from seed 0 count) 0 (count < all)))
+continues-generated stuffing seed count all (Some (Sync packet)) within stands = absurd stands
+continues-generated stuffing seed count all (Some ReadFault) within stands = absurd stands
+continues-generated stuffing seed count all (Some TooLong) within stands = absurd stands
 
 module _ {S : Type 0} (seen : S → SourceView) where
   -- a list that may be the input's goes on as what is put so far
@@ -217,6 +236,10 @@ module _ {S : Type 0} (seen : S → SourceView) where
       subst (λ (l : StageList). Continues stuffing rows ended (nulls.packets < nulls.all) l) (sym gives)
       (subst (λ (r : List (List ℕ)). Continues stuffing r ended (nulls.packets < nulls.all) (stuffed stuffing (input_of_nulls nulls.all))) (sym stands.1)
       (continues-nulls stuffing nulls.packets nulls.all ended nulls.within stands.2))
+  continues-feed (Generated feed) stuffing first read rows ended input stands gives =
+      subst (λ (l : StageList). Continues stuffing rows ended (feed.packets < feed.all) l) (sym gives)
+      (subst (λ (r : List (List ℕ)). Continues stuffing r ended (feed.packets < feed.all) (stuffed stuffing (input_of_generated feed.generator.seed feed.all))) (sym stands.1)
+      (continues-generated stuffing feed.generator.seed feed.packets feed.all ended stands.3.0 stands.2))
 
 -- a list within the limit, and one beyond it
 pub within_limit-short : (cells : List Cell) (how : InputEnd) → length cells ≤ 2 ^ 60 → within_limit cells how ≡ record { cells = cells; ended = Some (input_over how) }

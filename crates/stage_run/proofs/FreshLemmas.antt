@@ -34,6 +34,7 @@ module _ (stands : PartLists → Option StageEnd → Type 0) where
       → ((source : SourceView) (sink : SinkView) (mark : ℕ) → IsSourceOf seen part source → stands (fresh_lists source sink mark) None) → MayWorkOnSome stands 0 0
   fresh-input seen (input.Stream source) each = fresh-works (seen source) any-sink (each (seen source) any-sink 0 refl)
   fresh-input seen (input.Nulls count) each = fresh-works any-source any-sink (each any-source any-sink 0 tt)
+  fresh-input seen (input.Generated generator count) each = fresh-works any-source any-sink (each any-source any-sink 0 tt)
 
   pub fresh-output : {K : Type 0} (seen : K → SinkView) (part : OutputPart K)
       → ((source : SourceView) (sink : SinkView) (mark : ℕ) → IsSinkOf seen part sink → stands (fresh_lists source sink mark) None) → MayWorkOnSome stands 0 0

@@ -15,9 +15,11 @@ use Rattle.chain_model.specs.InputList.{input_of_bytes, input_of_nulls}
 use Rattle.chain_model.specs.Stuffed.{null_cells, nulls_behind, stuffed_after, stop_nulls, stuffed}
 use Rattle.chain_model.specs.Stuffed as model
 use Rattle.stage_run.specs.declared.packet_feed.PacketFeed.{PacketFeed}
-use Rattle.stage_run.specs.declared.packet_feed.PacketFeed.TheVariants.{Stream, Nulls}
+use Rattle.stage_run.specs.declared.packet_feed.PacketFeed.TheVariants.{Stream, Nulls, Generated}
 use Rattle.stage_run.specs.declared.input_stage.InputStage.{InputStage}
 use Rattle.stage_run.specs.PartLists.{PartLists}
+use Rattle.stage_run.specs.GeneratedInput.{generated_from, input_of_generated}
+use Rattle.stage_run.proofs.GeneratedLemmas.{length-generated}
 use Rattle.stage_run.specs.Feeds.{FeedStands, FeedLooks, FeedPuts, SameFeed, StandsAtSource, packets_put, hand_of}
 use Rattle.stage_run.specs.InputStands.{InputHolds, FeedGives, MayGive, stuffing_of, stuffed_so_far}
 use Rattle.stage_run.specs.InputSteps.{InputGoes, IsOver, IsFilled, EndsAtLimit, cell_put, with_more, stop_count, null_count}
@@ -72,14 +74,24 @@ StandsAtSource-left first now read hand count (Some TooLong) stands = absurd sta
 pub SameFeed-same : {S : Type 0} (feed : PacketFeed S) → SameFeed feed feed
 SameFeed-same (Stream stream) = tt
 SameFeed-same (Nulls nulls) = refl
+SameFeed-same (Generated generated) = (refl, refl)
 
 pub SameFeed-trans : {S : Type 0} (a b c : PacketFeed S) → SameFeed a b → SameFeed b c → SameFeed a c
 SameFeed-trans (Stream a) (Stream b) (Stream c) one two = tt
 SameFeed-trans (Stream a) (Stream b) (Nulls c) one two = absurd two
+SameFeed-trans (Stream a) (Stream b) (Generated c) one two = absurd two
 SameFeed-trans (Stream a) (Nulls b) c one two = absurd one
+SameFeed-trans (Stream a) (Generated b) c one two = absurd one
 SameFeed-trans (Nulls a) (Stream b) c one two = absurd one
+SameFeed-trans (Nulls a) (Generated b) c one two = absurd one
 SameFeed-trans (Nulls a) (Nulls b) (Stream c) one two = absurd two
+SameFeed-trans (Nulls a) (Nulls b) (Generated c) one two = absurd two
 SameFeed-trans (Nulls a) (Nulls b) (Nulls c) one two = two ∙ one
+SameFeed-trans (Generated a) (Stream b) c one two = absurd one
+SameFeed-trans (Generated a) (Nulls b) c one two = absurd one
+SameFeed-trans (Generated a) (Generated b) (Stream c) one two = absurd two
+SameFeed-trans (Generated a) (Generated b) (Nulls c) one two = absurd two
+SameFeed-trans (Generated a) (Generated b) (Generated c) one two = (two.0 ∙ one.0, two.1 ∙ one.1)
 
 module _ {S : Type 0} (seen : S → SourceView) where
   -- the packets that were put are those that are counted
@@ -87,6 +99,7 @@ module _ {S : Type 0} (seen : S → SourceView) where
       → FeedStands seen feed first read rows ended → length rows ≡ packets_put feed
   FeedStands-count (Stream stream) first read rows ended stands = stands.count
   FeedStands-count (Nulls feed) first read rows ended stands = ap length stands.1 ∙ length-replicate feed.packets null_packet
+  FeedStands-count (Generated feed) first read rows ended stands = ap length stands.1 ∙ length-generated feed.generator.seed 0 feed.packets
 
   -- what may be the list now might have been it before more was read
   pub FeedGives-before : (old new : PacketFeed S) (stuffing : model.Stuffing) (first : SourceView) (read bytes : List ℕ) (rows rows' : List (List ℕ)) (ended : Option InputEnd)
@@ -102,7 +115,15 @@ module _ {S : Type 0} (seen : S → SourceView) where
     tt,
   )
   FeedGives-before (Stream old) (Nulls new) stuffing first read bytes rows rows' ended same was is input gives = absurd same
+  FeedGives-before (Stream old) (Generated new) stuffing first read bytes rows rows' ended same was is input gives = absurd same
   FeedGives-before (Nulls old) (Stream new) stuffing first read bytes rows rows' ended same was is input gives = absurd same
+  FeedGives-before (Nulls old) (Generated new) stuffing first read bytes rows rows' ended same was is input gives = absurd same
+  FeedGives-before (Generated old) (Stream new) stuffing first read bytes rows rows' ended same was is input gives = absurd same
+  FeedGives-before (Generated old) (Nulls new) stuffing first read bytes rows rows' ended same was is input gives = absurd same
+  FeedGives-before (Generated old) (Generated new) stuffing first read bytes rows rows' ended same was is input gives =
+      gives
+      ∙ ap (λ (n : ℕ). stuffed stuffing (input_of_generated new.generator.seed n)) same.0
+      ∙ ap (λ (n : ℕ). stuffed stuffing (input_of_generated n old.all)) same.1
   FeedGives-before (Nulls old) (Nulls new) stuffing first read bytes rows rows' ended same was is input gives =
       gives ∙ ap (λ (n : ℕ). stuffed stuffing (input_of_nulls n)) same
 

@@ -13,7 +13,7 @@ use Rattle.chain_core.specs.declared.stage_end.StageEnd.{StageEnd}
 use Rattle.chain_core.specs.declared.stage_end.StageEnd.TheVariants.{Input, Last, Stop, Refuse, WriteFault, NoMemory, Followed}
 use Rattle.stage_run.specs.declared.work.Work.{Work}
 use Rattle.stage_run.specs.declared.packet_feed.PacketFeed.{PacketFeed}
-use Rattle.stage_run.specs.declared.packet_feed.PacketFeed.TheVariants.{Stream, Nulls}
+use Rattle.stage_run.specs.declared.packet_feed.PacketFeed.TheVariants.{Stream, Nulls, Generated}
 use Rattle.stage_run.specs.declared.input_stage.InputStage.{InputStage}
 use Rattle.stage_run.specs.PartLists.{PartLists}
 use Rattle.stage_run.specs.Feeds.{FeedStands, SameFeed, StandsAtSource, IsReady, hand_of}
@@ -172,6 +172,7 @@ no_too_long_ : {S : Type 0} (seen : S → SourceView) (feed : PacketFeed S) (fir
     → FeedStands seen feed first read rows (Some TooLong) → ⊥
 no_too_long_ seen (Stream stream) first read rows stands = stands.source
 no_too_long_ seen (Nulls nulls) first read rows stands = stands.2
+no_too_long_ seen (Generated generated) first read rows stands = stands.2
 
 module _ {S : Type 0} (seen : S → SourceView) where
   no_too_long : (feed : PacketFeed S) (first : SourceView) (read : List ℕ) (rows : List (List ℕ)) (ended : Option InputEnd)
@@ -188,6 +189,15 @@ module _ {S : Type 0} (seen : S → SourceView) where
       StandsAtSource-faults first (seen new.source) read' (hand_of new) (length rows') ended is.source
       ∙ ap (faults_by ended) (sym old_faults)
   feed_faults (Stream old) (Nulls new) first read read' rows rows' before ended same was can is = absurd same
+  feed_faults (Stream old) (Generated new) first read read' rows rows' before ended same was can is = absurd same
+  feed_faults (Nulls old) (Generated new) first read read' rows rows' before ended same was can is = absurd same
+  feed_faults (Generated old) (Stream new) first read read' rows rows' before ended same was can is = absurd same
+  feed_faults (Generated old) (Nulls new) first read read' rows rows' before ended same was can is = absurd same
+  feed_faults (Generated old) (Generated new) first read read' rows rows' before None same was can is = refl
+  feed_faults (Generated old) (Generated new) first read read' rows rows' before (Some (End left)) same was can is = refl
+  feed_faults (Generated old) (Generated new) first read read' rows rows' before (Some (Sync packet)) same was can is = refl
+  feed_faults (Generated old) (Generated new) first read read' rows rows' before (Some ReadFault) same was can is = absurd is.2
+  feed_faults (Generated old) (Generated new) first read read' rows rows' before (Some TooLong) same was can is = refl
   feed_faults (Nulls old) (Stream new) first read read' rows rows' before ended same was can is = absurd same
   feed_faults (Nulls old) (Nulls new) first read read' rows rows' before None same was can is = refl
   feed_faults (Nulls old) (Nulls new) first read read' rows rows' before (Some (End left)) same was can is = refl

@@ -1,4 +1,5 @@
 pub mod CellLemmas
+pub mod GeneratedLemmas
 pub mod WritingLemmas
 pub mod StreamLemmas
 pub mod InputLemmas

@@ -19,13 +19,15 @@ use Rattle.stage_run.specs.declared.input_part.InputPart.{InputPart}
 use Rattle.stage_run.specs.declared.input_part.InputPart.TheVariants as part
 use Rattle.stage_run.specs.declared.packet_stream.PacketStream.{PacketStream}
 use Rattle.stage_run.specs.declared.packet_feed.PacketFeed.{PacketFeed}
-use Rattle.stage_run.specs.declared.packet_feed.PacketFeed.TheVariants.{Stream, Nulls}
+use Rattle.stage_run.specs.declared.packet_feed.PacketFeed.TheVariants.{Stream, Nulls, Generated}
 use Rattle.stage_run.specs.declared.input_stage.InputStage.{InputStage}
 use Rattle.stage_run.specs.PartLists.{PartLists, fresh_lists}
+use Rattle.ts_testgen.specs.Generated.{Generator}
+use Rattle.stage_run.specs.GeneratedInput.{generated_from, input_of_generated}
 use Rattle.stage_run.specs.Rows.{IsUnfinished}
-use Rattle.stage_run.specs.Feeds.{FeedStands, StandsAtSource, NullsEnd, IsFeedOf, part_of_feed, hand_of}
+use Rattle.stage_run.specs.Feeds.{FeedStands, StandsAtSource, EndsWhenPut, IsFeedOf, part_of_feed, hand_of}
 use Rattle.stage_run.specs.InputStands.{InputStands, IsOpen, FitsTold, FeedGives, MayGive, stuffing_of, stuffed_so_far}
-use Rattle.stage_run.specs.Parts.{IsListOf, IsSourceOf, FailedReading, LeavesSource, LeavesInput, EndsByInput, SomeList}
+use Rattle.stage_run.specs.Parts.{IsListOf, IsSourceOf, IsUnused, FailedReading, LeavesSource, LeavesInput, EndsByInput, SomeList}
 use Rattle.stage_run.proofs.PacketLemmas.{front-unfinished, packets_of-all, end_behind-unfinished}
 use Rattle.stage_run.proofs.ContinuesLemmas.{ended-behind, within_limit-short, within_limit-ends}
 
@@ -99,7 +101,7 @@ module _ {S : Type 0} (seen : S → SourceView) where
   no_fault_told ended nulls lists told quiet fits e =
       let now = subst (λ (t : Option StageEnd). FitsTold ended nulls lists t) e fits in quiet now.0
 
-  nulls_quiet : (ended : Option InputEnd) (all count : ℕ) → NullsEnd all count ended → ended ≢ Some ReadFault
+  nulls_quiet : (ended : Option InputEnd) (all count : ℕ) → EndsWhenPut all count ended → ended ≢ Some ReadFault
   nulls_quiet None all count is e = cc
   nulls_quiet (Some (End left)) all count is e = cc
   nulls_quiet (Some (Sync packet)) all count is e = absurd is
@@ -113,6 +115,8 @@ module _ {S : Type 0} (seen : S → SourceView) where
   leaves_feed (Stream stream) stage lists rows told stands cells within fits = leaves_stream stage stream lists rows told stands cells within fits
   leaves_feed (Nulls nulls) stage lists rows told stands cells within fits =
       no_fault_told stage.ended stage.nulls lists told (nulls_quiet stage.ended nulls.all nulls.packets stands.2) fits
+  leaves_feed (Generated feed) stage lists rows told stands cells within fits =
+      no_fault_told stage.ended stage.nulls lists told (nulls_quiet stage.ended feed.all feed.packets stands.2) fits
 
   pub leaves_input : (stage : InputStage S) (lists : PartLists) (told : Option StageEnd) → InputStands seen stage lists told
       → LeavesInput seen (part_of_feed stage.feed) (stuffing_of stage.stuffing) lists told
@@ -138,6 +142,7 @@ module _ {S : Type 0} (seen : S → SourceView) where
       → FeedStands seen feed first read rows ended → (input : StageList) × FeedGives seen feed stuffing read ended input
   some_feed (Stream stream) stuffing first read rows ended stands = some_stream stream stuffing first read (length rows) ended stands.source
   some_feed (Nulls nulls) stuffing first read rows ended stands = (stuffed stuffing (input_of_nulls nulls.all), refl)
+  some_feed (Generated feed) stuffing first read rows ended stands = (stuffed stuffing (input_of_generated feed.generator.seed feed.all), refl)
 
   stuffed-ends : (stuffing : model.Stuffing) (input : InputList) → EndsByInput (stuffed stuffing input)
   stuffed-ends stuffing input = within_limit-ends (null_cells stuffing.start ++ (stuffed_after stuffing 0 input.packets ++ model.stop_nulls stuffing input.ended)) input.ended
@@ -146,6 +151,7 @@ module _ {S : Type 0} (seen : S → SourceView) where
       → FeedGives seen feed stuffing read ended input → EndsByInput input
   each_ends (Stream stream) stuffing read ended input gives = subst EndsByInput (sym gives.1) (stuffed-ends stuffing (input_of_bytes (read ++ gives.0)))
   each_ends (Nulls nulls) stuffing read ended input gives = subst EndsByInput (sym gives) (stuffed-ends stuffing (input_of_nulls nulls.all))
+  each_ends (Generated feed) stuffing read ended input gives = subst EndsByInput (sym gives) (stuffed-ends stuffing (input_of_generated feed.generator.seed feed.all))
 
   pub some_list : (stage : InputStage S) (lists : PartLists) (told : Option StageEnd) → InputStands seen stage lists told → SomeList (MayGive seen stage lists)
   some_list stage lists told stands =
@@ -163,7 +169,16 @@ module _ {S : Type 0} (seen : S → SourceView) where
     λ list. (list.0, list.1, subst (λ (s : S). IfSome (seen s).left (λ left. left ≡ list.0)) (sym is.0) list.2, tt),
   )
   gives_fresh (part.Stream source) (Nulls nulls) stuffing input is = absurd is
+  gives_fresh (part.Stream source) (Generated feed) stuffing input is = absurd is
   gives_fresh (part.Nulls count) (Stream stream) stuffing input is = absurd is
+  gives_fresh (part.Nulls count) (Generated feed) stuffing input is = absurd is
+  gives_fresh (part.Generated generator count) (Stream stream) stuffing input is = absurd is
+  gives_fresh (part.Generated generator count) (Nulls nulls) stuffing input is = absurd is
+  gives_fresh (part.Generated generator count) (Generated feed) stuffing input is =
+      let same : stuffed stuffing (input_of_generated feed.generator.seed feed.all) ≡ stuffed stuffing (input_of_generated generator.seed count) =
+      ap (λ (n : ℕ). stuffed stuffing (input_of_generated feed.generator.seed n)) is.1
+      ∙ ap (λ (g : Generator). stuffed stuffing (input_of_generated g.seed count)) is.0 in
+      (λ gives. gives ∙ same, λ list. list ∙ sym same)
   gives_fresh (part.Nulls count) (Nulls nulls) stuffing input is = (
     λ gives. gives ∙ ap (λ (n : ℕ). stuffed stuffing (input_of_nulls n)) is.0,
     λ list. list ∙ ap (λ (n : ℕ). stuffed stuffing (input_of_nulls n)) (sym is.0),
@@ -176,9 +191,9 @@ module _ {S : Type 0} (seen : S → SourceView) where
       subst (λ (e : Option InputEnd). FeedGives seen stage.feed (stuffing_of stage.stuffing) [] e input ↔ IsListOf seen input_part (stuffing_of stage.stuffing) input) (sym none)
       (gives_fresh input_part stage.feed (stuffing_of stage.stuffing) input is)
 
-  feed_fresh : (input_part : InputPart S) (feed : PacketFeed S) (source : SourceView) → IsSourceOf seen input_part source → IsFeedOf input_part feed
+  feed_fresh : (input_part : InputPart S) (feed : PacketFeed S) (source : SourceView) → IsSourceOf seen input_part source → IsUnused input_part → IsFeedOf input_part feed
       → FeedStands seen feed source [] [] None
-  feed_fresh (part.Stream s) (Stream stream) source view is =
+  feed_fresh (part.Stream s) (Stream stream) source view unused is =
       let hand : hand_of stream ≡ [] = ap (λ (n : ℕ). take n (drop stream.from stream.room.bytes.items)) is.2 in
       record {
         packets = λ k d few. absurd (omega arith);
@@ -187,18 +202,29 @@ module _ {S : Type 0} (seen : S → SourceView) where
         read_is = sym hand;
         source = view ∙ ap seen (sym is.0) ∙ sym (unread-nil (seen stream.source));
       }
-  feed_fresh (part.Stream s) (Nulls nulls) source view is = absurd is
-  feed_fresh (part.Nulls count) (Stream stream) source view is = absurd is
-  feed_fresh (part.Nulls count) (Nulls nulls) source view is = (refl, ap (λ (n : ℕ). replicate n null_packet) (sym is.1), tt)
+  feed_fresh (part.Stream s) (Nulls nulls) source view unused is = absurd is
+  feed_fresh (part.Stream s) (Generated feed) source view unused is = absurd is
+  feed_fresh (part.Nulls count) (Stream stream) source view unused is = absurd is
+  feed_fresh (part.Nulls count) (Generated feed) source view unused is = absurd is
+  feed_fresh (part.Generated generator count) (Stream stream) source view unused is = absurd is
+  feed_fresh (part.Generated generator count) (Nulls nulls) source view unused is = absurd is
+  feed_fresh (part.Generated generator count) (Generated feed) source view unused is =
+      let none : feed.packets ≡ 0 = is.2 in (
+        refl,
+        ap (λ (n : ℕ). generated_from feed.generator.seed 0 n) (sym none),
+        tt,
+        (omega arith, ap (λ (g : Generator). g.given) is.0 ∙ unused ∙ sym none),
+      )
+  feed_fresh (part.Nulls count) (Nulls nulls) source view unused is = (refl, ap (λ (n : ℕ). replicate n null_packet) (sym is.1), tt)
 
   -- an input of which nothing was read or given stands for that
   pub stands_fresh : (input_part : InputPart S) (stage : InputStage S) (source : SourceView) (sink : SinkView) (mark : ℕ)
-      → IsSourceOf seen input_part source → IsFeedOf input_part stage.feed → stage.ended ≡ None → stage.nulls ≡ stage.stuffing.start → 1 ≤ stage.stuffing.every
+      → IsSourceOf seen input_part source → IsUnused input_part → IsFeedOf input_part stage.feed → stage.ended ≡ None → stage.nulls ≡ stage.stuffing.start → 1 ≤ stage.stuffing.every
       → InputStands seen stage (fresh_lists source sink mark) None
-  stands_fresh input_part stage source sink mark view is none due every = record {
+  stands_fresh input_part stage source sink mark view unused is none due every = record {
     holds = record {
       rows = [];
-      feed = subst (λ (e : Option InputEnd). FeedStands seen stage.feed source [] [] e) (sym none) (feed_fresh input_part stage.feed source view is);
+      feed = subst (λ (e : Option InputEnd). FeedStands seen stage.feed source [] [] e) (sym none) (feed_fresh input_part stage.feed source view unused is);
       cells = ap null_cells due
           ∙ sym (append-nil (null_cells stage.stuffing.start))
           ∙ ap (λ (e : Option InputEnd). stuffed_so_far (stuffing_of stage.stuffing) [] e) (sym none);

@@ -13,7 +13,9 @@ use Rattle.stage_run.specs.declared.input_part.InputPart.{InputPart}
 use Rattle.stage_run.specs.declared.input_part.InputPart.TheVariants as part
 use Rattle.stage_run.specs.declared.packet_stream.PacketStream.{PacketStream}
 use Rattle.stage_run.specs.declared.packet_feed.PacketFeed.{PacketFeed}
-use Rattle.stage_run.specs.declared.packet_feed.PacketFeed.TheVariants.{Stream, Nulls}
+use Rattle.stage_run.specs.declared.packet_feed.PacketFeed.TheVariants.{Stream, Nulls, Generated}
+use Rattle.stage_run.specs.declared.generated_feed.GeneratedFeed.{GeneratedFeed}
+use Rattle.stage_run.specs.GeneratedInput.{generated_from}
 use Rattle.stage_run.specs.Rows.{IsUnfinished, IsOutOfSync, BeginsPacket}
 
 -- the bytes that were read and are in no packet yet
@@ -84,37 +86,48 @@ pub record StreamPuts {S : Type 0} (seen : S → SourceView) (new : PacketStream
   pub is_put : cell ≡ Live row no_labels
   pub stands : StreamStands seen new first read (rows ++ row ∷ []) None
 
--- an input of nothing but null packets ends when it has put them all
-abbrev pub NullsEnd : ℕ → ℕ → Option InputEnd → Type 0
-NullsEnd all count None = Unit {0}
-NullsEnd all count (Some (End left)) = (left ≡ 0) × (count ≡ all)
-NullsEnd all count (Some (Sync packet)) = ⊥
-NullsEnd all count (Some ReadFault) = ⊥
-NullsEnd all count (Some TooLong) = ⊥
+-- an input of so many packets that are not read ends when it has put them all
+abbrev pub EndsWhenPut : ℕ → ℕ → Option InputEnd → Type 0
+EndsWhenPut all count None = Unit {0}
+EndsWhenPut all count (Some (End left)) = (left ≡ 0) × (count ≡ all)
+EndsWhenPut all count (Some (Sync packet)) = ⊥
+EndsWhenPut all count (Some ReadFault) = ⊥
+EndsWhenPut all count (Some TooLong) = ⊥
 
 -- the input that a feed gives back
 abbrev pub part_of_feed : {S : Type 0} → PacketFeed S → InputPart S
 part_of_feed (Stream stream) = part.Stream stream.source
 part_of_feed (Nulls feed) = part.Nulls feed.all
+part_of_feed (Generated feed) = part.Generated feed.generator feed.all
 
 -- how many packets were put
 abbrev pub packets_put : {S : Type 0} → PacketFeed S → ℕ
 packets_put (Stream stream) = stream.packets
 packets_put (Nulls feed) = feed.packets
+packets_put (Generated feed) = feed.packets
 
 -- a packet can be put
 abbrev pub IsReady : {S : Type 0} → PacketFeed S → Type 0
 IsReady (Stream stream) = BeginsPacket (hand_of stream)
 IsReady (Nulls feed) = feed.packets < feed.all
+IsReady (Generated feed) = feed.packets < feed.all
 
+-- a generator has given the packets that were put, and these are no more than all
+abbrev pub IsCounted : GeneratedFeed → Type 0
+IsCounted feed = (feed.packets ≤ feed.all) × (feed.generator.given ≡ feed.packets)
+
+-- the numbers of a feed are in their ranges
 abbrev pub FeedHasRoom : {S : Type 0} → PacketFeed S → Type 0
 FeedHasRoom (Stream stream) = HasRoom stream
 FeedHasRoom (Nulls feed) = Unit {0}
+FeedHasRoom (Generated feed) = IsCounted feed
 
--- both are streams, or both are the same number of null packets
+-- both are streams, or both are the same number of null packets, or of packets of one seed
 abbrev pub SameFeed : {S : Type 0} → PacketFeed S → PacketFeed S → Type 0
 SameFeed (Stream old) (Stream new) = Unit {0}
 SameFeed (Nulls old) (Nulls new) = new.all ≡ old.all
+SameFeed (Generated old) (Generated new) =
+    (new.all ≡ old.all) × (new.generator.seed ≡ old.generator.seed)
 SameFeed _ _ = ⊥
 
 -- the packets of an input of which nothing was read or put yet
@@ -122,6 +135,8 @@ abbrev pub IsFeedOf : {S : Type 0} → InputPart S → PacketFeed S → Type 0
 IsFeedOf (part.Stream source) (Stream stream) =
     (stream.source ≡ source) × (stream.from ≡ 0) × (stream.have ≡ 0) × (stream.packets ≡ 0)
 IsFeedOf (part.Nulls count) (Nulls feed) = (feed.all ≡ count) × (feed.packets ≡ 0)
+IsFeedOf (part.Generated generator count) (Generated feed) =
+    (feed.generator ≡ generator) × (feed.all ≡ count) × (feed.packets ≡ 0)
 IsFeedOf _ _ = ⊥
 
 -- the packets of an input: it read `read` and put the packets `rows`, and that is how they ended
@@ -129,7 +144,10 @@ abbrev pub FeedStands : {S : Type 0} → (S → SourceView) → PacketFeed S →
     → Option InputEnd → Type 0
 FeedStands seen (Stream stream) first read rows ended = StreamStands seen stream first read rows ended
 FeedStands seen (Nulls feed) first read rows ended =
-    (read ≡ []) × (rows ≡ replicate feed.packets null_packet) × NullsEnd feed.all feed.packets ended
+    (read ≡ []) × (rows ≡ replicate feed.packets null_packet) × EndsWhenPut feed.all feed.packets ended
+FeedStands seen (Generated feed) first read rows ended =
+    (read ≡ []) × (rows ≡ generated_from feed.generator.seed 0 feed.packets)
+    × EndsWhenPut feed.all feed.packets ended × IsCounted feed
 
 -- a packet is ready or the end is known
 pub record FeedLooks {S : Type 0} (seen : S → SourceView) (old new : PacketFeed S) (wanted : ℕ)

@@ -18,6 +18,7 @@ use Rattle.stage_run.specs.declared.packet_feed.PacketFeed.TheVariants as feed
 use Rattle.stage_run.specs.declared.input_stage.InputStage.{InputStage}
 use Rattle.stage_run.specs.PartLists.{PartLists}
 use Rattle.stage_run.specs.Feeds.{FeedStands}
+use Rattle.stage_run.specs.GeneratedInput.{input_of_generated}
 
 -- the stuffing, in the words of the model
 abbrev pub stuffing_of : Stuffing → model.Stuffing
@@ -82,6 +83,8 @@ FeedGives seen (feed.Stream stream) stuffing read ended input =
     × IfSome (seen stream.source).left (λ left. left ≡ more) × MayFollowEnd ended more
 FeedGives seen (feed.Nulls nulls) stuffing read ended input =
     input ≡ stuffed stuffing (input_of_nulls nulls.all)
+FeedGives seen (feed.Generated generated) stuffing read ended input =
+    input ≡ stuffed stuffing (input_of_generated generated.generator.seed generated.all)
 
 -- the list of the input may be this one
 abbrev pub MayGive : {S : Type 0} → (S → SourceView) → InputStage S → PartLists → StageList → Type 0

@@ -2,6 +2,7 @@ pub mod Seeing
 pub mod PartLists
 pub mod Rows
 pub mod Feeds
+pub mod GeneratedInput
 pub mod InputStands
 pub mod InputSteps
 pub mod PluginSteps

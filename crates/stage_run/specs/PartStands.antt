@@ -1,5 +1,5 @@
 -- The one relation of a part to the lists that it stands for. This project's own rule.
-use Rattle.std.specs.Prelude.{◌≡◌, ℕ, ◌≤◌, Bool, true, false, length, Option, None, Some}
+use Rattle.std.specs.Prelude.{◌≡◌, ℕ, ◌≤◌, length, Option, None, Some}
 use Rattle.chain_model.specs.PluginRule.{PluginRule, passing_rule}
 use Rattle.chain_model.specs.Apply.{StageList}
 use Rattle.chain_model.specs.Stuffed as model
@@ -48,26 +48,35 @@ stuffing_in (Input stage) = Some (stuffing_of stage.stuffing)
 stuffing_in (Plugin stage) = None
 stuffing_in (Output stage) = None
 
--- whether an input has a source
-abbrev pub has_source : {S : Type 0} → InputPart S → Bool
-has_source (input.Stream source) = true
-has_source (input.Nulls count) = false
+-- what packets come from or go to: a source or a sink, null packets, a generated stream, or none of these
+pub data StreamKind : Type 0 where
+  a_stream : StreamKind
+  null_packets : StreamKind
+  generated_packets : StreamKind
+  no_stream : StreamKind
 
--- whether an output has a sink
-abbrev pub has_sink : {K : Type 0} → OutputPart K → Bool
-has_sink (output.Stream sink) = true
-has_sink output.Discard = false
+-- where an input's packets come from
+abbrev pub source_kind : {S : Type 0} → InputPart S → StreamKind
+source_kind (input.Stream source) = a_stream
+source_kind (input.Nulls count) = null_packets
+source_kind (input.Generated generator count) = generated_packets
 
--- whether what feeds an input is a source
-abbrev pub feeds_stream : {S : Type 0} → PacketFeed S → Bool
-feeds_stream (feed.Stream stream) = true
-feeds_stream (feed.Nulls nulls) = false
+-- where an output's packets go to
+abbrev pub sink_kind : {K : Type 0} → OutputPart K → StreamKind
+sink_kind (output.Stream sink) = a_stream
+sink_kind output.Discard = no_stream
 
--- whether a part is an input with a source, or an output with a sink
-abbrev pub has_stream : {S K P : Type 0} → StagePart S K P → Bool
-has_stream (Input stage) = feeds_stream stage.feed
-has_stream (Plugin stage) = false
-has_stream (Output stage) = has_sink stage.part
+-- what feeds an input
+abbrev pub feed_kind : {S : Type 0} → PacketFeed S → StreamKind
+feed_kind (feed.Stream stream) = a_stream
+feed_kind (feed.Nulls nulls) = null_packets
+feed_kind (feed.Generated generated) = generated_packets
+
+-- what a part's packets come from or go to, outside the chain
+abbrev pub stream_kind : {S K P : Type 0} → StagePart S K P → StreamKind
+stream_kind (Input stage) = feed_kind stage.feed
+stream_kind (Plugin stage) = no_stream
+stream_kind (Output stage) = sink_kind stage.part
 
 -- the part met, gave, read and wrote what these lists say, and told this end
 abbrev pub PartStands : {S K P : Type 0} → Seeing S K P → StagePart S K P → PartLists → Option StageEnd

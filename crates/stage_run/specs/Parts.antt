@@ -11,9 +11,10 @@ use Rattle.chain_model.specs.Stuffed as model
 use Rattle.chain_core.specs.declared.stage_end.StageEnd.{StageEnd}
 use Rattle.chain_core.specs.declared.stage_end.StageEnd.TheVariants.{Input, WriteFault}
 use Rattle.stage_run.specs.declared.input_part.InputPart.{InputPart}
-use Rattle.stage_run.specs.declared.input_part.InputPart.TheVariants.{Stream, Nulls}
+use Rattle.stage_run.specs.declared.input_part.InputPart.TheVariants.{Stream, Nulls, Generated}
 use Rattle.stage_run.specs.declared.output_part.OutputPart.{OutputPart}
 use Rattle.stage_run.specs.declared.output_part.OutputPart.TheVariants as out
+use Rattle.stage_run.specs.GeneratedInput.{input_of_generated}
 use Rattle.stage_run.specs.PartLists.{PartLists}
 use Rattle.stage_run.specs.OutputStands.{SinkTook}
 
@@ -23,11 +24,19 @@ IsListOf seen (Stream source) stuffing input =
     (bytes : List ℕ) × (input ≡ stuffed stuffing (input_of_bytes bytes))
     × IfSome (seen source).left (λ left. left ≡ bytes)
 IsListOf seen (Nulls count) stuffing input = input ≡ stuffed stuffing (input_of_nulls count)
+IsListOf seen (Generated generator count) stuffing input =
+    input ≡ stuffed stuffing (input_of_generated generator.seed count)
+
+-- a generator has given no packet
+abbrev pub IsUnused : {S : Type 0} → InputPart S → Type 0
+IsUnused (Generated generator count) = generator.given ≡ 0
+IsUnused _ = Unit {0}
 
 -- the source of an input, if it has one, as contracts see it
 abbrev pub IsSourceOf : {S : Type 0} → (S → SourceView) → InputPart S → SourceView → Type 0
 IsSourceOf seen (Stream source) view = view ≡ seen source
 IsSourceOf seen (Nulls count) view = Unit {0}
+IsSourceOf seen (Generated generator count) view = Unit {0}
 
 -- the sink of an output, if it has one, as contracts see it
 abbrev pub IsSinkOf : {K : Type 0} → (K → SinkView) → OutputPart K → SinkView → Type 0
@@ -60,6 +69,7 @@ abbrev pub LeavesInput : {S : Type 0} → (S → SourceView) → InputPart S →
 LeavesInput seen (Stream source) stuffing lists told =
     LeavesSource stuffing lists.source (seen source) lists told
 LeavesInput seen (Nulls count) stuffing lists told = told ≢ Some (Input ReadFault)
+LeavesInput seen (Generated generator count) stuffing lists told = told ≢ Some (Input ReadFault)
 
 -- the output that a stage gives back: its sink took the live cells that were given, and a part of a packet where a
 -- write failed

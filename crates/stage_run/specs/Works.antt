@@ -69,13 +69,14 @@ InputTells news at len done unread (Some _) = ⊥
 abbrev pub source_faults : {S : Type 0} → (S → SourceView) → PacketFeed S → ℕ
 source_faults seen (feed.Stream stream) = (seen stream.source).faults
 source_faults seen (feed.Nulls nulls) = 0
+source_faults seen (feed.Generated generated) = 0
 
 pub record InputWorks {S : Type 0} (seen : S → SourceView) (old new : InputStage S) (before : PartLists)
     (news : News) (cells cells_new : List Cell) (work : Work) (after : PartLists) : Type 0 where
   pub tells : InputTells news (length before.given) (length cells) work.done
       (after.read ≡ before.read) work.word.ended
   pub agreed : work.word.agreed ≡ None
-  -- it stays an input from a source, or of so many null packets
+  -- it stays an input from a source, of so many null packets, or of so many packets of one seed
   pub same : SameFeed old.feed new.feed
   pub faults : FaultsTold (source_faults seen old.feed) (source_faults seen new.feed) work.word.ended
       (Input ReadFault)

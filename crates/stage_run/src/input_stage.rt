@@ -52,7 +52,7 @@ fn null_count(packets: u64, stuffing: &Stuffing) -> u64
 }
 
 impl<S: Source> InputStage<S> {
-    ghost use Rattle.std.specs.Prelude.{◌≡◌, ◌≢◌, ℕ, ◌+◌, ◌%◌, ◌^◌, ◌==◌, ◌<◌, ◌≤◌, ◌↔◌, [], length, take, drop, if◌then◌else◌, Option, None, Some, IsSome, IfSome};
+    ghost use Rattle.std.specs.Prelude.{◌≡◌, ◌≢◌, ℕ, ◌+◌, ◌%◌, ◌==◌, ◌<◌, ◌≤◌, ◌↔◌, [], length, take, drop, if◌then◌else◌, Option, None, Some, IsSome, IfSome};
     ghost use Rattle.chain_model.specs.Apply.{StageList};
     ghost use Rattle.chain_core.specs.declared.stage_end.StageEnd.{StageEnd};
     ghost use Rattle.ts_outside.specs.Source.{SourceView};
@@ -61,15 +61,16 @@ impl<S: Source> InputStage<S> {
     ghost use Rattle.stage_run.specs.Feeds.{IsReady, packets_put};
     ghost use Rattle.stage_run.specs.InputStands.{IsOpen, InputHolds, InputStands, MayGive, stuffing_of};
     ghost use Rattle.stage_run.specs.InputSteps.{InputFits, InputGoes, IsOver, cell_put, IsFilled, EndsAtLimit};
-    ghost use Rattle.stage_run.specs.Parts.{IsListOf, IsSourceOf, LeavesInput, SomeList};
-    ghost use Rattle.stage_run.specs.PartStands.{MayWork, MayWorkOnSome, has_source, feeds_stream};
+    ghost use Rattle.stage_run.specs.Parts.{IsListOf, IsSourceOf, IsUnused, LeavesInput, SomeList};
+    ghost use Rattle.stage_run.specs.PartStands.{MayWork, MayWorkOnSome, source_kind, feed_kind};
     ghost use Rattle.stage_run.specs.Works.{InputWork};
 
     /// An input that has neither read nor given anything.
     pub(crate) fn of(part: InputPart<S>, stuffing: Stuffing, room: IoBuffer) -> Self
-        requires { 1 ≤ stuffing.every }
+        requires every { 1 ≤ stuffing.every }
+        requires unused { IsUnused part }
         ensures stuffing { result.stuffing ≡ stuffing }
-        ensures stream { feeds_stream result.feed ≡ has_source part }
+        ensures stream { feed_kind result.feed ≡ source_kind part }
         ensures stands { (source : SourceView) (sink : SinkView) (mark : ℕ) → IsSourceOf S.seen part source
             → InputStands S.seen result (fresh_lists source sink mark) None }
         ensures gives { (source : SourceView) (sink : SinkView) (mark : ℕ) (input : StageList)
@@ -87,7 +88,7 @@ impl<S: Source> InputStage<S> {
 
     /// Gives the input back.
     pub(crate) fn into_part(self) -> InputPart<S>
-        ensures stream { has_source result ≡ feeds_stream self.feed }
+        ensures stream { source_kind result ≡ feed_kind self.feed }
         ensures leaves { (lists : PartLists) (told : Option StageEnd) → InputStands S.seen self lists told
             → LeavesInput S.seen result (stuffing_of self.stuffing) lists told }
         ensures some_list { (lists : PartLists) (told : Option StageEnd) → InputStands S.seen self lists told
@@ -128,7 +129,7 @@ impl<S: Source> InputStage<S> {
     fn next_cell(&mut self, cell: &mut Cell, wanted: usize) -> Option<InputEnd>
         requires some { 1 ≤ wanted }
         requires fits { InputFits self.old }
-        requires in_range { packets_put self.old.feed < 2 ^ 62 }
+        requires in_range { packets_put self.old.feed < POSITION_LIMIT }
         ensures fits { InputFits self.new }
         ensures goes { (lists : PartLists) → InputHolds S.seen self.old lists
             → InputGoes S.seen self.old self.new lists wanted (cell_put result cell.new) }
@@ -155,8 +156,7 @@ impl<S: Source> InputStage<S> {
     /// Puts the next cells of the list, until the window is full or the list ends.
     fn fill(&mut self, cells: &mut [Cell]) -> Filled
         requires fits { InputFits self.old }
-        requires in_range { packets_put self.old.feed ≤ POSITION_LIMIT }
-        requires few { length cells.old ≤ POSITION_LIMIT }
+        requires in_range { packets_put self.old.feed + length cells.old ≤ POSITION_LIMIT }
         ensures done { result.done ≤ length cells.old }
         ensures rest { drop result.done cells.new ≡ drop result.done cells.old }
         ensures goes { (lists : PartLists) → InputHolds S.seen self.old lists

@@ -2,6 +2,7 @@
 //! the cells that it gives on and its word go out. The layer above uses the clauses of `StagePart`, `work` before all.
 #![tactic(auto)]
 
+mod generated_feed;
 mod input_part;
 mod input_stage;
 mod io_buffer;

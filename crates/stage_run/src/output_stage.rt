@@ -21,12 +21,12 @@ impl<K: Sink> OutputStage<K> {
     ghost use Rattle.stage_run.specs.OutputStands.{OutputStands};
     ghost use Rattle.stage_run.specs.Writing.{WritesCells, PartWrites};
     ghost use Rattle.stage_run.specs.Parts.{IsSinkOf, LeavesOutput};
-    ghost use Rattle.stage_run.specs.PartStands.{MayWork, MayWorkOnSome, has_sink};
+    ghost use Rattle.stage_run.specs.PartStands.{MayWork, MayWorkOnSome, sink_kind};
     ghost use Rattle.stage_run.specs.Works.{OutputWork};
 
     /// An output that has written nothing.
     pub(crate) fn of(part: OutputPart<K>, room: IoBuffer) -> Self
-        ensures stream { has_sink result.part ≡ has_sink part }
+        ensures stream { sink_kind result.part ≡ sink_kind part }
         ensures stands { (source : SourceView) (sink : SinkView) (mark : ℕ) → IsSinkOf K.seen part sink
             → OutputStands K.seen result (fresh_lists source sink mark) None }
     {
@@ -35,7 +35,7 @@ impl<K: Sink> OutputStage<K> {
 
     /// Gives the output back.
     pub(crate) fn into_part(self) -> OutputPart<K>
-        ensures stream { has_sink result ≡ has_sink self.part }
+        ensures stream { sink_kind result ≡ sink_kind self.part }
         ensures leaves { (lists : PartLists) (told : Option StageEnd) → OutputStands K.seen self lists told
             → LeavesOutput K.seen result lists told }
     {

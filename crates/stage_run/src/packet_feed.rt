@@ -1,3 +1,4 @@
+use crate::generated_feed::GeneratedFeed;
 use crate::null_feed::NullFeed;
 use crate::packet_stream::PacketStream;
 use crate::{InputPart, IoBuffer};
@@ -9,10 +10,12 @@ use ts_packet::{Cell, Labels, Packet};
 pub(crate) enum PacketFeed<S> {
     Stream(PacketStream<S>),
     Nulls(NullFeed),
+    Generated(GeneratedFeed),
 }
 
 impl<S: Source> PacketFeed<S> {
-    ghost use Rattle.std.specs.Prelude.{◌≡◌, ◌+◌, ◌^◌, ◌<◌, ◌≤◌, ℕ, List, None, IfNone};
+    ghost use Rattle.std.specs.Prelude.{◌≡◌, ◌+◌, ◌<◌, ◌≤◌, ℕ, List, None, IfNone};
+    ghost use Rattle.chain_model.specs.declared.positions.TheConstants.{POSITION_LIMIT};
     ghost use Rattle.ts_outside.specs.Source.{SourceView};
     ghost use Rattle.stage_run.specs.Feeds.{FeedStands, FeedHasRoom, FeedLooks, FeedPuts, IsFeedOf, IsReady, packets_put, part_of_feed};
 
@@ -29,6 +32,11 @@ impl<S: Source> PacketFeed<S> {
                 packets: 0,
             }),
             InputPart::Nulls(all) => PacketFeed::Nulls(NullFeed { all, packets: 0 }),
+            InputPart::Generated { generator, packets } => PacketFeed::Generated(GeneratedFeed {
+                generator,
+                all: packets,
+                packets: 0,
+            }),
         }
     }
 
@@ -39,6 +47,10 @@ impl<S: Source> PacketFeed<S> {
         match self {
             PacketFeed::Stream(stream) => InputPart::Stream(stream.into_source()),
             PacketFeed::Nulls(nulls) => InputPart::Nulls(nulls.all),
+            PacketFeed::Generated(generated) => InputPart::Generated {
+                generator: generated.generator,
+                packets: generated.all,
+            },
         }
     }
 
@@ -49,6 +61,7 @@ impl<S: Source> PacketFeed<S> {
         match self {
             PacketFeed::Stream(stream) => stream.packets,
             PacketFeed::Nulls(nulls) => nulls.packets,
+            PacketFeed::Generated(generated) => generated.packets,
         }
     }
 
@@ -66,6 +79,7 @@ impl<S: Source> PacketFeed<S> {
         match self {
             PacketFeed::Stream(stream) => stream.ensure_packet(wanted),
             PacketFeed::Nulls(nulls) => nulls.ensure_packet(),
+            PacketFeed::Generated(generated) => generated.ensure_packet(),
         }
     }
 
@@ -73,7 +87,7 @@ impl<S: Source> PacketFeed<S> {
     pub(crate) fn next_packet(&mut self, cell: &mut Cell)
         requires ready { IsReady self.old }
         requires room { FeedHasRoom self.old }
-        requires in_range { packets_put self.old < 2 ^ 62 }
+        requires in_range { packets_put self.old < POSITION_LIMIT }
         ensures puts { (first : SourceView) (read : List ℕ) (rows : List (List ℕ))
             → FeedStands S.seen self.old first read rows None
             → FeedPuts S.seen self.old self.new first read rows cell.new }
@@ -86,6 +100,7 @@ impl<S: Source> PacketFeed<S> {
                 nulls.packets += 1;
                 *cell = Cell::Live(Packet::null(), Labels::none());
             }
+            PacketFeed::Generated(generated) => generated.next_packet(cell),
         }
     }
 }

@@ -28,15 +28,16 @@ impl<S: Source, K: Sink, P: Plugin> StagePart<S, K, P> {
     ghost use Rattle.stage_run.specs.Seeing.{seeing};
     ghost use Rattle.stage_run.specs.PartLists.{PartLists, fresh_lists};
     ghost use Rattle.stage_run.specs.InputStands.{stuffing_of};
-    ghost use Rattle.stage_run.specs.Parts.{IsListOf, IsSourceOf, IsSinkOf, LeavesInput, LeavesOutput, SomeList};
-    ghost use Rattle.stage_run.specs.PartStands.{PartStands, PartGives, MayWork, MayWorkOnSome, rule_of, steady_of, kind_of, stuffing_in, has_source, has_sink, has_stream, an_input, a_plugin, an_output};
+    ghost use Rattle.stage_run.specs.Parts.{IsListOf, IsSourceOf, IsSinkOf, IsUnused, LeavesInput, LeavesOutput, SomeList};
+    ghost use Rattle.stage_run.specs.PartStands.{PartStands, PartGives, MayWork, MayWorkOnSome, rule_of, steady_of, kind_of, stuffing_in, source_kind, sink_kind, stream_kind, an_input, a_plugin, an_output};
     ghost use Rattle.stage_run.specs.Works.{PartWork};
 
     /// The input's stage. It reads into the room. Nothing was read or given yet.
     pub fn of_input(part: InputPart<S>, stuffing: Stuffing, room: IoBuffer) -> Self
-        requires { 1 ≤ stuffing.every }
+        requires every { 1 ≤ stuffing.every }
+        requires unused { IsUnused part }
         ensures kind { kind_of result ≡ an_input }
-        ensures stream { has_stream result ≡ has_source part }
+        ensures stream { stream_kind result ≡ source_kind part }
         ensures stuffing { stuffing_in result ≡ Some (stuffing_of stuffing) }
         ensures stands { (source : SourceView) (sink : SinkView) (mark : ℕ) → IsSourceOf S.seen part source
             → PartStands (seeing S.seen K.seen P.rule P.stands_for P.steady) result
@@ -65,7 +66,7 @@ impl<S: Source, K: Sink, P: Plugin> StagePart<S, K, P> {
     /// The output's stage. It gathers in the room what it writes. Nothing was written yet.
     pub fn of_output(part: OutputPart<K>, room: IoBuffer) -> Self
         ensures kind { kind_of result ≡ an_output }
-        ensures stream { has_stream result ≡ has_sink part }
+        ensures stream { stream_kind result ≡ sink_kind part }
         ensures stands { (source : SourceView) (sink : SinkView) (mark : ℕ) → IsSinkOf K.seen part sink
             → PartStands (seeing S.seen K.seen P.rule P.stands_for P.steady) result
             (fresh_lists source sink mark) None }
@@ -76,7 +77,7 @@ impl<S: Source, K: Sink, P: Plugin> StagePart<S, K, P> {
     /// Gives the input back. Whatever it stands for, some list may be the input's, and each such list ends as inputs do.
     pub fn into_input(self) -> InputPart<S>
         requires { kind_of self ≡ an_input }
-        ensures stream { has_source result ≡ has_stream self }
+        ensures stream { source_kind result ≡ stream_kind self }
         ensures leaves { (lists : PartLists) (told : Option StageEnd) (stuffing : model.Stuffing)
             → PartStands (seeing S.seen K.seen P.rule P.stands_for P.steady) self lists told
             → stuffing_in self ≡ Some stuffing → LeavesInput S.seen result stuffing lists told }
@@ -107,7 +108,7 @@ impl<S: Source, K: Sink, P: Plugin> StagePart<S, K, P> {
     /// Gives the output back.
     pub fn into_output(self) -> OutputPart<K>
         requires { kind_of self ≡ an_output }
-        ensures stream { has_sink result ≡ has_stream self }
+        ensures stream { sink_kind result ≡ stream_kind self }
         ensures leaves { (lists : PartLists) (told : Option StageEnd)
             → PartStands (seeing S.seen K.seen P.rule P.stands_for P.steady) self lists told
             → LeavesOutput K.seen result lists told }

@@ -1,6 +1,7 @@
 ghost use Rattle.std.specs.Prelude.{◌≡◌, ◌+◌, ◌≤◌, [], None, IfOk, length, false};
 ghost use Rattle.stage_run.specs.Seeing.{seeing};
 ghost use Rattle.stage_run.specs.PartStands.{PartStands, MayWorkOnSome, kind_of, an_input, a_plugin, an_output};
+ghost use Rattle.stage_run.specs.Parts.{IsUnused};
 
 use super::*;
 use chain_core::{InputEnd, News, StageEnd};
@@ -13,6 +14,7 @@ use ts_outside::{
     NumberList, OpenGate, Sink, Source,
 };
 use ts_packet::{Cell, Labels, Packet};
+use ts_testgen::TestGen;
 
 /// Passes the packets before a position, and stops at the first one from there on.
 #[derive(Drop)]
@@ -111,6 +113,7 @@ fn input<S: Source, K: Sink, P: Plugin>(
     start: u64,
     room: IoBuffer,
 ) -> StagePart<S, K, P>
+    requires unused { IsUnused part }
     ensures may { MayWorkOnSome (PartStands (seeing S.seen K.seen P.rule P.stands_for P.steady) result) 0 0 }
     ensures kind { kind_of result ≡ an_input }
 {
@@ -158,7 +161,7 @@ fn work<S: Source, K: Sink, P: Plugin>(
     part.work(1, at, cells, &news(limit), &OpenGate)
 }
 
-/// Closes the source of an input. The answer is how many null packets an input without a source has.
+/// Closes the source of an input. The answer is how many packets an input without a source has.
 fn close_input(desk: &mut MemoryDesk, part: InputPart<MemorySource>) -> Option<u64> {
     match part {
         InputPart::Stream(source) => {
@@ -166,6 +169,10 @@ fn close_input(desk: &mut MemoryDesk, part: InputPart<MemorySource>) -> Option<u
             None
         }
         InputPart::Nulls(count) => Some(count),
+        InputPart::Generated {
+            generator: _,
+            packets,
+        } => Some(packets),
     }
 }
 
@@ -217,7 +224,9 @@ fn gives_and_ends<S: Source, K: Sink, P: Plugin>(
     room: IoBuffer,
     first: &mut [Cell; 2],
     second: &mut [Cell; 2],
-) -> (InputPart<S>, Gave) {
+) -> (InputPart<S>, Gave)
+    requires { IsUnused part }
+{
     let mut part: StagePart<S, K, P> = input(part, start, room);
     let gave = gives(&mut part, first, second);
     (part.into_input(), gave)
@@ -321,6 +330,33 @@ fn an_input_of_null_packets_ends(rt: HostRuntime) -> Result<(), Fail> {
     assert!(rt; gave.second.is_none());
     assert_eq!(rt; pid(&first[0]), Some(8191));
     assert_eq!(rt; pid(&first[1]), None);
+    Ok(())
+}
+
+#[test]
+fn an_input_of_generated_packets_ends(rt: HostRuntime) -> Result<(), Fail> {
+    let mut first = [Cell::Dropped; 2];
+    let mut second = [Cell::Dropped; 2];
+    let mut desk = desk(rt.alloc(), 0, 0, 0)?;
+    let room = IoBuffer::new(rt.alloc(), 1)?;
+    let generator = TestGen::new(rt.alloc(), 1)?;
+    let (part, gave) = gives_and_ends::<MemorySource, MemorySink, StopsAt>(
+        InputPart::Generated {
+            generator,
+            packets: 3,
+        },
+        0,
+        room,
+        &mut first,
+        &mut second,
+    );
+    assert_eq!(rt; close_input(&mut desk, part), Some(3));
+    did(&rt, gave.first, 2, None);
+    let end = StageEnd::Input(InputEnd::End { left: 0 });
+    did(&rt, gave.second.ok_or("the input ended")?, 1, Some(end));
+    assert_eq!(rt; pid(&first[0]), Some(0));
+    assert_eq!(rt; pid(&first[1]), Some(4096));
+    assert_eq!(rt; pid(&second[0]), Some(4097));
     Ok(())
 }
 

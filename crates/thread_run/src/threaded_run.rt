@@ -6,6 +6,7 @@ ghost use Rattle.stage_run.specs.Seeing.{seeing};
 ghost use Rattle.stage_run.specs.declared.input_part.InputPart.{InputPart};
 ghost use Rattle.stage_run.specs.declared.output_part.OutputPart.{OutputPart};
 ghost use Rattle.stage_run.specs.declared.stuffing.Stuffing.{Stuffing};
+ghost use Rattle.stage_run.specs.Parts.{IsUnused};
 ghost use Rattle.chain_run.specs.Fresh.{AreFresh};
 ghost use Rattle.chain_run.specs.NewRow.{IsNewRow};
 ghost use Rattle.chain_run.specs.Runs.{RunStart, began_with};
@@ -236,6 +237,7 @@ pub fn run_threads<
     G: Gate,
 >(rt: &R, alloc: Global, stages: Stages<S, K, P>, plan: &CorePlan, gate: &G) -> RunEnd<S, K, P>
     requires every { 1 ≤ stages.stuffing.every }
+    requires unused { IsUnused stages.input }
     requires lawful { IsLawfulPlan plan.now }
     requires plugins { plan.now.plugins ≡ vec_len stages.plugins }
     requires fresh { AreFresh P.stands_for stages.plugins.items }

@@ -7,7 +7,7 @@ use crate::trial_desk::Fails;
 const THREE: [u16; 3] = [256, 257, 256];
 
 /// No plugin, or one: the frame of a run.
-pub(crate) static END_ROWS: [Row; 11] = [
+pub(crate) static END_ROWS: [Row; 13] = [
     Row {
         name: "filter keeps one PID",
         words: "-I file in -P filter --pid 256 -O file out",
@@ -65,6 +65,18 @@ pub(crate) static END_ROWS: [Row; 11] = [
     Row {
         name: "nothing is opened",
         words: "-I null 4 -P filter --pid=0x1FFF -O drop",
+        input: Input::Pids(&THREE),
+        fails: Fails::Never,
+    },
+    Row {
+        name: "a generated stream",
+        words: "-I testgen 1 10 -O file out",
+        input: Input::Pids(&THREE),
+        fails: Fails::Never,
+    },
+    Row {
+        name: "the tables of a generated stream",
+        words: "-I testgen 1 1000 -P count --pid 0,17,4096-4097 -O drop",
         input: Input::Pids(&THREE),
         fails: Fails::Never,
     },

@@ -37,6 +37,7 @@ in-vain-input : (d : DeskView) (conf : InputConf) → NamesInput conf
 in-vain-input d (input.File name) named =
     (record { files = refl; outputs = refl; reported = refl; closed_in = refl; report_faults = refl }, HasCause-raised d.read_faults, refl)
 in-vain-input d (input.Null count) named = absurd named
+in-vain-input d (input.TestGen seed count) named = absurd named
 
 in-vain-output : (d : DeskView) (conf : OutputConf) → NamesOutput conf
     → SameOutside d (asked_output_in_vain d conf) × HasCause d.write_faults (asked_output_in_vain d conf).write_faults
@@ -49,6 +50,7 @@ in-vain-output d output.Drop named = absurd named
 input-named : (conf : InputConf) → NamesInput conf → IsSome (input_name conf)
 input-named (input.File name) named = refl
 input-named (input.Null count) named = absurd named
+input-named (input.TestGen seed count) named = absurd named
 
 output-named : (conf : OutputConf) → NamesOutput conf → IsSome (output_name conf)
 output-named (output.File name) named = refl

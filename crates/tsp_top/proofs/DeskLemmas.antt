@@ -5,7 +5,7 @@ use Rattle.chain_args.specs.declared.input_conf.InputConf.TheVariants as input
 use Rattle.chain_args.specs.declared.output_conf.OutputConf.{OutputConf}
 use Rattle.chain_args.specs.declared.output_conf.OutputConf.TheVariants as output
 use Rattle.stage_run.specs.declared.input_part.InputPart.{InputPart}
-use Rattle.stage_run.specs.declared.input_part.InputPart.TheVariants.{Stream, Nulls}
+use Rattle.stage_run.specs.declared.input_part.InputPart.TheVariants.{Stream, Nulls, Generated}
 use Rattle.stage_run.specs.declared.output_part.OutputPart.{OutputPart}
 use Rattle.stage_run.specs.declared.output_part.OutputPart.TheVariants as out
 use Rattle.ts_outside.specs.declared.requests.Purpose.TheVariants.{Input, Output}
@@ -38,6 +38,8 @@ same-asked_input d (input.File name) =
     (record { files = refl; outputs = refl; reported = refl; closed_in = refl; report_faults = refl }, record { read_faults = refl; write_faults = refl })
 same-asked_input d (input.Null count) =
     (record { files = refl; outputs = refl; reported = refl; closed_in = refl; report_faults = refl }, record { read_faults = refl; write_faults = refl })
+same-asked_input d (input.TestGen seed count) =
+    (record { files = refl; outputs = refl; reported = refl; closed_in = refl; report_faults = refl }, record { read_faults = refl; write_faults = refl })
 
 pub same-asked_output : (d : DeskView) (conf : OutputConf) → SameOutside d (asked_output d conf) × SameCounts d (asked_output d conf)
 same-asked_output d (output.File name) =
@@ -48,6 +50,7 @@ same-asked_output d output.Drop =
 pub asked-asked_input : (d : DeskView) (conf : InputConf) → (asked_input d conf).asked ≡ grown d.asked (asked_for Input (input_name conf) true)
 asked-asked_input d (input.File name) = refl
 asked-asked_input d (input.Null count) = sym (grown-nil d.asked)
+asked-asked_input d (input.TestGen seed count) = sym (grown-nil d.asked)
 
 pub asked-asked_output : (d : DeskView) (conf : OutputConf) → (asked_output d conf).asked ≡ grown d.asked (asked_for Output (output_name conf) true)
 asked-asked_output d (output.File name) = refl
@@ -85,14 +88,17 @@ pub record LeavesOpen (old new : DeskView) : Type 0 where
 pub leaves-input_closed : {S : Type 0} (seen : S → SourceView) (d : DeskView) (part : InputPart S) → LeavesOpen d (input_closed_as seen d part)
 leaves-input_closed seen d (Stream source) = record { files = refl; reported = refl; asked = refl; report_faults = refl }
 leaves-input_closed seen d (Nulls count) = record { files = refl; reported = refl; asked = refl; report_faults = refl }
+leaves-input_closed seen d (Generated generator count) = record { files = refl; reported = refl; asked = refl; report_faults = refl }
 
 pub outputs-input_closed : {S : Type 0} (seen : S → SourceView) (d : DeskView) (part : InputPart S) → (input_closed_as seen d part).outputs ≡ d.outputs
 outputs-input_closed seen d (Stream source) = refl
 outputs-input_closed seen d (Nulls count) = refl
+outputs-input_closed seen d (Generated generator count) = refl
 
 pub write_faults-input_closed : {S : Type 0} (seen : S → SourceView) (d : DeskView) (part : InputPart S) → (input_closed_as seen d part).write_faults ≡ d.write_faults
 write_faults-input_closed seen d (Stream source) = refl
 write_faults-input_closed seen d (Nulls count) = refl
+write_faults-input_closed seen d (Generated generator count) = refl
 
 pub leaves-output_closed : {K : Type 0} (seen : K → SinkView) (d : DeskView) (part : OutputPart K) (failed : Bool) → LeavesOpen d (output_closed_as seen d part failed)
 leaves-output_closed seen d (out.Stream sink) failed = record { files = refl; reported = refl; asked = refl; report_faults = refl }

@@ -131,6 +131,7 @@ same-chain (input.File name) desk files other tells is =
     let same : other ≡ files = subst (λ (o : Option (List (List ℕ × List ℕ))). IfSome o (λ told. other ≡ told)) tells is in
     ap (λ (fs : List (List ℕ × List ℕ)). input_of_bytes (file_of fs name)) same
 same-chain (input.Null count) desk files other tells is = refl
+same-chain (input.TestGen seed count) desk files other tells is = refl
 
 pub headline : (words : List (List ℕ)) (plan : Plan) (files : List (List ℕ × List ℕ)) (old new : DeskView) (answer : Status)
     → plan_of words ≡ Some plan → TellsInput plan.input old files → CallsTsp words old new answer → NothingFails old new → IsPureOrWants plan files old new answer

@@ -14,8 +14,10 @@ use Rattle.chain_model.specs.InputList.{input_of_bytes, input_of_nulls}
 use Rattle.chain_model.specs.Stuffed.{stuffed}
 use Rattle.chain_model.specs.Stuffed as model
 use Rattle.stage_run.specs.declared.input_part.InputPart.{InputPart}
-use Rattle.stage_run.specs.declared.input_part.InputPart.TheVariants.{Stream, Nulls}
-use Rattle.stage_run.specs.Parts.{IsListOf, list_at_fault}
+use Rattle.stage_run.specs.declared.input_part.InputPart.TheVariants.{Stream, Nulls, Generated}
+use Rattle.ts_testgen.specs.Generated.{Generator}
+use Rattle.stage_run.specs.GeneratedInput.{input_of_generated}
+use Rattle.stage_run.specs.Parts.{IsListOf, IsUnused, list_at_fault}
 use Rattle.chain_run.specs.RunOf.{MayRead, CutsAtFault, ReadsSource, LeftInput}
 use Rattle.ts_outside.specs.Count.{raised, HasCause}
 use Rattle.ts_outside.specs.Told.{before}
@@ -44,6 +46,15 @@ read_fault-counted seen d made (input.File name) (Nulls old) new stuffing buffer
 read_fault-counted seen d made (input.File name) (Stream first) (Nulls new) stuffing buffer cut why opens left is = absurd left
 read_fault-counted seen d made (input.Null count) (Stream first) new stuffing buffer cut why opens left is = absurd opens
 read_fault-counted seen d made (input.Null count) (Nulls old) (Stream now) stuffing buffer cut why opens left is = absurd left
+read_fault-counted seen d made (input.File name) (Generated old packets) new stuffing buffer cut why opens left is = absurd opens
+read_fault-counted seen d made (input.File name) (Stream first) (Generated new packets) stuffing buffer cut why opens left is = absurd left
+read_fault-counted seen d made (input.Null count) (Generated old packets) new stuffing buffer cut why opens left is = absurd opens
+read_fault-counted seen d made (input.Null count) (Nulls old) (Generated new packets) stuffing buffer cut why opens left is = absurd left
+read_fault-counted seen d made (input.TestGen seed count) (Stream first) new stuffing buffer cut why opens left is = absurd opens
+read_fault-counted seen d made (input.TestGen seed count) (Nulls old) new stuffing buffer cut why opens left is = absurd opens
+read_fault-counted seen d made (input.TestGen seed count) (Generated old packets) (Stream now) stuffing buffer cut why opens left is = absurd left
+read_fault-counted seen d made (input.TestGen seed count) (Generated old packets) (Nulls now) stuffing buffer cut why opens left is = absurd left
+read_fault-counted seen d made (input.TestGen seed count) (Generated old packets) (Generated new same) stuffing buffer cut why opens left is = absurd (left is)
 
 -- a source tells these bytes as still to come, where the files are told
 abbrev LeftTold : Option (List (List ℕ × List ℕ)) → SourceView → List ℕ → Type 0
@@ -99,6 +110,27 @@ opened-list seen d (input.Null count) (Nulls packets) s list opens is =
     record { files = chosen.0; files_are = chosen.1; list_is = is ∙ ap (λ n. stuffed s (input_of_nulls n)) opens }
 opened-list seen d (input.File name) (Nulls packets) s list opens is = absurd opens
 opened-list seen d (input.Null count) (Stream source) s list opens is = absurd opens
+opened-list seen d (input.File name) (Generated generator packets) s list opens is = absurd opens
+opened-list seen d (input.Null count) (Generated generator packets) s list opens is = absurd opens
+opened-list seen d (input.TestGen seed count) (Stream source) s list opens is = absurd opens
+opened-list seen d (input.TestGen seed count) (Nulls packets) s list opens is = absurd opens
+opened-list seen d (input.TestGen seed count) (Generated generator packets) s list opens is =
+    let chosen = files-of-nulls d.files in
+    record {
+      files = chosen.0;
+      files_are = chosen.1;
+      list_is = is
+          ∙ ap (λ (n : ℕ). stuffed s (input_of_generated generator.seed n)) opens.1
+          ∙ ap (λ (g : Generator). stuffed s (input_of_generated g.seed count)) opens.0;
+    }
+
+-- an input that was opened is unused
+pub opened-unused : {S : Type 0} (seen : S → SourceView) (d : DeskView) (conf : InputConf) (part : InputPart S) → OpensInput seen d conf part → IsUnused part
+opened-unused seen d conf (Stream source) opens = tt
+opened-unused seen d conf (Nulls packets) opens = tt
+opened-unused seen d (input.File name) (Generated generator packets) opens = absurd opens
+opened-unused seen d (input.Null count) (Generated generator packets) opens = absurd opens
+opened-unused seen d (input.TestGen seed count) (Generated generator packets) opens = ap (λ (g : Generator). g.given) opens.0
 
 -- the closed inputs with one more
 with_input-is : (told : Option (List (List ℕ × List ℕ))) (o : Option (List ClosedInput)) (s : SourceView) (left : List ℕ) → LeftTold told s left
@@ -120,6 +152,11 @@ reads-nothing seen d made new files (input.File name) (Stream source) told opens
 reads-nothing seen d made new files (input.Null count) (Nulls packets) told opens same is = is ∙ same
 reads-nothing seen d made new files (input.File name) (Nulls packets) told opens same is = absurd opens
 reads-nothing seen d made new files (input.Null count) (Stream source) told opens same is = absurd opens
+reads-nothing seen d made new files (input.File name) (Generated generator packets) told opens same is = absurd opens
+reads-nothing seen d made new files (input.Null count) (Generated generator packets) told opens same is = absurd opens
+reads-nothing seen d made new files (input.TestGen seed count) (Stream source) told opens same is = absurd opens
+reads-nothing seen d made new files (input.TestGen seed count) (Nulls packets) told opens same is = absurd opens
+reads-nothing seen d made new files (input.TestGen seed count) (Generated generator packets) told opens same is = is ∙ same
 
 -- what was read stands before what is left
 none-before : (read : List ℕ) (left : Option (List ℕ)) → before read left ≡ None → left ≡ None
@@ -190,6 +227,15 @@ reads-to seen d made next files general (input.File name) (Nulls old) new stuffi
 reads-to seen d made next files general (input.File name) (Stream first) (Nulls new) stuffing buffer cut why stuffing_is buffer_within told opens same is left = absurd left
 reads-to seen d made next files general (input.Null count) (Stream first) new stuffing buffer cut why stuffing_is buffer_within told opens same is left = absurd opens
 reads-to seen d made next files general (input.Null count) (Nulls old) (Stream now) stuffing buffer cut why stuffing_is buffer_within told opens same is left = absurd left
+reads-to seen d made next files general (input.File name) (Generated old packets) new stuffing buffer cut why stuffing_is buffer_within told opens same is left = absurd opens
+reads-to seen d made next files general (input.File name) (Stream first) (Generated new packets) stuffing buffer cut why stuffing_is buffer_within told opens same is left = absurd left
+reads-to seen d made next files general (input.Null count) (Generated old packets) new stuffing buffer cut why stuffing_is buffer_within told opens same is left = absurd opens
+reads-to seen d made next files general (input.Null count) (Nulls old) (Generated new packets) stuffing buffer cut why stuffing_is buffer_within told opens same is left = absurd left
+reads-to seen d made next files general (input.TestGen seed count) (Stream first) new stuffing buffer cut why stuffing_is buffer_within told opens same is left = absurd opens
+reads-to seen d made next files general (input.TestGen seed count) (Nulls old) new stuffing buffer cut why stuffing_is buffer_within told opens same is left = absurd opens
+reads-to seen d made next files general (input.TestGen seed count) (Generated old packets) (Stream now) stuffing buffer cut why stuffing_is buffer_within told opens same is left = absurd left
+reads-to seen d made next files general (input.TestGen seed count) (Generated old packets) (Nulls now) stuffing buffer cut why stuffing_is buffer_within told opens same is left = absurd left
+reads-to seen d made next files general (input.TestGen seed count) (Generated old packets) (Generated new as_many) stuffing buffer cut why stuffing_is buffer_within told opens same is left = is ∙ same
 
 -- a failed read wants an input that was opened by a name
 pub read-named : {S : Type 0} (seen : S → SourceView) (d : DeskView) (conf : InputConf) (old new : InputPart S) (stuffing : model.Stuffing) (buffer cut : ℕ) (why : Cause)
@@ -198,3 +244,10 @@ read-named seen d (input.File name) old new stuffing buffer cut why opens left i
 read-named seen d (input.Null count) (Nulls old) (Nulls new) stuffing buffer cut why opens left is = absurd (left is)
 read-named seen d (input.Null count) (Nulls old) (Stream now) stuffing buffer cut why opens left is = absurd left
 read-named seen d (input.Null count) (Stream first) new stuffing buffer cut why opens left is = absurd opens
+read-named seen d (input.Null count) (Generated old packets) new stuffing buffer cut why opens left is = absurd opens
+read-named seen d (input.Null count) (Nulls old) (Generated new packets) stuffing buffer cut why opens left is = absurd left
+read-named seen d (input.TestGen seed count) (Stream first) new stuffing buffer cut why opens left is = absurd opens
+read-named seen d (input.TestGen seed count) (Nulls old) new stuffing buffer cut why opens left is = absurd opens
+read-named seen d (input.TestGen seed count) (Generated old packets) (Stream now) stuffing buffer cut why opens left is = absurd left
+read-named seen d (input.TestGen seed count) (Generated old packets) (Nulls now) stuffing buffer cut why opens left is = absurd left
+read-named seen d (input.TestGen seed count) (Generated old packets) (Generated new same) stuffing buffer cut why opens left is = absurd (left is)

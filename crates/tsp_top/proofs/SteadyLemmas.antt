@@ -15,3 +15,4 @@ steady-fails_not old new = record { reads = quiet; writes = quiet; reports = qui
 pub steady-tells : (conf : InputConf) (desk : SteadyDeskView) → TellsInput conf (steady_desk desk) desk.files
 steady-tells (input.File name) desk = refl
 steady-tells (input.Null count) desk = tt
+steady-tells (input.TestGen seed count) desk = tt

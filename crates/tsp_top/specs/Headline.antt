@@ -20,6 +20,7 @@ use Rattle.tsp_top.specs.declared.status.Status.TheVariants.{NoMemory}
 abbrev pub TellsInput : InputConf → DeskView → List (List ℕ × List ℕ) → Type 0
 TellsInput (input.File name) desk files = desk.files ≡ Some files
 TellsInput (input.Null count) desk files = Unit {0}
+TellsInput (input.TestGen seed count) desk files = Unit {0}
 
 -- nothing failed outside: no count of faults rose, and none stood at its end
 pub record NothingFails (old new : DeskView) : Type 0 where

@@ -1,12 +1,12 @@
 -- The desk after the two ends of a chain were opened and closed. This project's own rule.
-use Rattle.std.specs.Prelude.{◌≡◌, [], Bool}
+use Rattle.std.specs.Prelude.{◌≡◌, ℕ, [], Bool}
 use Rattle.std.specs.Option.{option_map}
 use Rattle.chain_args.specs.declared.input_conf.InputConf.{InputConf}
 use Rattle.chain_args.specs.declared.input_conf.InputConf.TheVariants as input
 use Rattle.chain_args.specs.declared.output_conf.OutputConf.{OutputConf}
 use Rattle.chain_args.specs.declared.output_conf.OutputConf.TheVariants as output
 use Rattle.stage_run.specs.declared.input_part.InputPart.{InputPart}
-use Rattle.stage_run.specs.declared.input_part.InputPart.TheVariants.{Stream, Nulls}
+use Rattle.stage_run.specs.declared.input_part.InputPart.TheVariants.{Stream, Nulls, Generated}
 use Rattle.stage_run.specs.declared.output_part.OutputPart.{OutputPart}
 use Rattle.stage_run.specs.declared.output_part.OutputPart.TheVariants as out
 use Rattle.ts_outside.specs.declared.requests.Purpose.TheVariants.{Input, Output}
@@ -18,10 +18,12 @@ use Rattle.ts_outside.specs.Desk.{DeskView, asked_well, asked_in_vain, content, 
 abbrev pub asked_input : DeskView → InputConf → DeskView
 asked_input desk (input.File name) = asked_well desk Input name
 asked_input desk (input.Null count) = desk
+asked_input desk (input.TestGen seed count) = desk
 
 abbrev pub asked_input_in_vain : DeskView → InputConf → DeskView
 asked_input_in_vain desk (input.File name) = asked_in_vain desk Input name
 asked_input_in_vain desk (input.Null count) = desk
+asked_input_in_vain desk (input.TestGen seed count) = desk
 
 -- the same of the output
 abbrev pub asked_output : DeskView → OutputConf → DeskView
@@ -36,16 +38,24 @@ asked_output_in_vain desk output.Drop = desk
 abbrev pub NamesInput : InputConf → Type 0
 NamesInput (input.File name) = Unit {0}
 NamesInput (input.Null count) = ⊥
+NamesInput (input.TestGen seed count) = ⊥
 
 abbrev pub NamesOutput : OutputConf → Type 0
 NamesOutput (output.File name) = Unit {0}
 NamesOutput output.Drop = ⊥
 
--- the part of an input that was opened: a source of all the file's bytes, or the null packets
+-- so many packets of the generated stream of a seed, of which none was given
+abbrev pub IsGenerated : {S : Type 0} → ℕ → ℕ → InputPart S → Type 0
+IsGenerated seed count (Generated generator packets) =
+    (generator ≡ record { seed = seed; given = 0 }) × (packets ≡ count)
+IsGenerated seed count _ = ⊥
+
+-- the part of an input that was opened: a source of all the file's bytes, the null packets, or the generated stream
 abbrev pub OpensInput : {S : Type 0} → (S → SourceView) → DeskView → InputConf → InputPart S → Type 0
 OpensInput seen desk (input.File name) (Stream source) =
     seen source ≡ record { left = content desk name; faults = 0 }
 OpensInput seen desk (input.Null count) (Nulls packets) = packets ≡ count
+OpensInput seen desk (input.TestGen seed count) part = IsGenerated seed count part
 OpensInput seen desk _ _ = ⊥
 
 -- the part of an output that was opened: a sink of the name that took nothing, or none
@@ -63,6 +73,7 @@ OpensOutput seen desk _ _ = ⊥
 abbrev pub input_closed_as : {S : Type 0} → (S → SourceView) → DeskView → InputPart S → DeskView
 input_closed_as seen desk (Stream source) = input_closed desk (seen source)
 input_closed_as seen desk (Nulls packets) = desk
+input_closed_as seen desk (Generated generator packets) = desk
 
 -- the desk after the output was closed, where that failed or did not
 abbrev pub output_closed_as : {K : Type 0} → (K → SinkView) → DeskView → OutputPart K → Bool → DeskView

@@ -10,6 +10,7 @@ use Rattle.chain_args.specs.declared.input_conf.InputConf.TheVariants as input
 use Rattle.chain_args.specs.declared.output_conf.OutputConf.{OutputConf}
 use Rattle.chain_args.specs.declared.output_conf.OutputConf.TheVariants as output
 use Rattle.chain_model.specs.InputList.{InputList, input_of_bytes, input_of_nulls}
+use Rattle.stage_run.specs.GeneratedInput.{input_of_generated}
 use Rattle.chain_model.specs.Stuffed.{Stuffing, stuffed}
 use Rattle.chain_model.specs.Reports.{NamedRule}
 use Rattle.chain_model.specs.PureRun.{Chain}
@@ -24,10 +25,11 @@ stuffing_of general = record {
   every = general.add_input_stuffing.1;
 }
 
--- the input's packets: those of the bytes of its file, or null packets
+-- the input's packets: those of the bytes of its file, null packets, or those of a generated stream
 abbrev pub input_of : InputConf → List (List ℕ × List ℕ) → InputList
 input_of (input.File name) files = input_of_bytes (file_of files name)
 input_of (input.Null count) files = input_of_nulls count
+input_of (input.TestGen seed count) files = input_of_generated seed count
 
 -- the number of a plugin, if it uses joint termination
 abbrev pub user_at : ℕ → PluginItem → List ℕ
@@ -54,10 +56,12 @@ chain_of plan files = record {
   users = users_of plan;
 }
 
--- what is opened for the input and for the output: nothing for null packets, and nothing to drop packets
+-- what is opened for the input and for the output: nothing for null packets and a generated stream, and nothing to drop
+-- packets
 abbrev pub input_name : InputConf → Option (List ℕ)
 input_name (input.File name) = Some name
 input_name (input.Null count) = None
+input_name (input.TestGen seed count) = None
 
 abbrev pub output_name : OutputConf → Option (List ℕ)
 output_name (output.File name) = Some name

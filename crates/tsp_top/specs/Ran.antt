@@ -15,6 +15,7 @@ use Rattle.stage_run.specs.declared.input_part.InputPart.{InputPart}
 use Rattle.stage_run.specs.declared.output_part.OutputPart.{OutputPart}
 use Rattle.stage_run.specs.declared.stuffing.Stuffing.{Stuffing}
 use Rattle.stage_run.specs.InputStands as stage
+use Rattle.stage_run.specs.Parts.{IsUnused}
 use Rattle.stage_run.specs.Seeing.{Seeing}
 use Rattle.chain_run.specs.Fresh.{AreFresh}
 use Rattle.chain_run.specs.RunOf.{RunOf, NeverBegan}
@@ -52,6 +53,7 @@ pub record IsOpened {S K P : Type 0} (see : Seeing S K P)
   pub ready : IsReady see.rule see.stands see.steady plan stuffing numbers plugins
   pub asked : made ≡ asked_output (asked_input old plan.input) plan.output
   pub input : OpensInput see.source old plan.input from
+  pub unused : IsUnused from
   pub output : OpensOutput see.sink (asked_input old plan.input) plan.output to
 
 -- what every run owes, whoever serves the stages: it was closed, or there was no memory for it

@@ -28,6 +28,7 @@ ReadsNothing (input.File name) files old new =
     new.closed_in
     ≡ closed_with old.files old.closed_in (record { left = length (file_of files name); failed = false })
 ReadsNothing (input.Null count) files old new = new.closed_in ≡ old.closed_in
+ReadsNothing (input.TestGen seed count) files old new = new.closed_in ≡ old.closed_in
 
 -- behind a failed read: the bytes that were read show no lost sync, and the cut is where the stuffed list of the whole
 -- packets among them ends
@@ -51,9 +52,10 @@ pub record ReadsFile (general : GeneralConf) (file : List ℕ)
   pub within : MayRead (most_buffer general) cut (length read)
   pub at_fault : why ≡ Input ReadFault → CutsAtRead (stuffing_of general) read failed cut
 
--- what a run that was cut at `cut` reads of its input; null packets are not read
+-- what a run that was cut at `cut` reads of its input; null packets and generated ones are not read
 abbrev pub ReadsTo : GeneralConf → InputConf → List (List ℕ × List ℕ)
     → DeskView → DeskView → ℕ → Cause → Type 0
 ReadsTo general (input.File name) files old new cut why =
     ReadsFile general (file_of files name) old new cut why
 ReadsTo general (input.Null count) files old new cut why = new.closed_in ≡ old.closed_in
+ReadsTo general (input.TestGen seed count) files old new cut why = new.closed_in ≡ old.closed_in

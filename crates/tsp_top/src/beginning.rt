@@ -63,13 +63,14 @@ fn begin_plan<D: Desk>(
         (λ status. IsOverBefore plan (D.seen desk.old) (D.seen desk.new) status) }
 {
     match ready_chain(alloc, &plan) {
-        Ok(ready) => open_ends(desk, plan, ready),
+        Ok(ready) => open_ends(alloc, desk, plan, ready),
         Err(AllocError) => Err(Status::NoMemory),
     }
 }
 
 /// Opens the input and then the output.
 fn open_ends<P: Plugin + Drop, D: Desk>(
+    alloc: Global,
     desk: &mut D,
     plan: Plan,
     ready: ReadyChain<P>,
@@ -82,7 +83,7 @@ fn open_ends<P: Plugin + Drop, D: Desk>(
         call.stages.input call.stages.stuffing call.stages.plugins.items call.stages.output)
         (λ status. IsOverBefore plan (D.seen desk.old) (D.seen desk.new) status) }
 {
-    match open_input(desk, &plan.input) {
+    match open_input(alloc, desk, &plan.input) {
         Ok(input) => open_behind(desk, plan, ready, input),
         Err(OpenFault::Failed) => {
             say(desk, "tsp: cannot open input\n");

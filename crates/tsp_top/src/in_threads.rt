@@ -2,6 +2,7 @@
 ghost use Rattle.std.specs.Prelude.{◌≡◌, ◌≤◌, vec_len};
 ghost use Rattle.chain_core.specs.CoreNumbers.{IsLawfulPlan};
 ghost use Rattle.chain_run.specs.Fresh.{AreFresh};
+ghost use Rattle.stage_run.specs.Parts.{IsUnused};
 ghost use Rattle.stage_run.specs.Seeing.{seeing};
 ghost use Rattle.tsp_top.specs.Ran.{EndsRun};
 
@@ -34,6 +35,7 @@ where
     P: Plugin + Send,
     G: Gate,
     requires every { 1 ≤ stages.stuffing.every }
+    requires unused { IsUnused stages.input }
     requires lawful { IsLawfulPlan core.now }
     requires plugins { core.now.plugins ≡ vec_len stages.plugins }
     requires fresh { AreFresh P.stands_for stages.plugins.items }
@@ -82,6 +84,7 @@ where
     P: Plugin + Send,
     G: Gate,
     requires every { 1 ≤ stages.stuffing.every }
+    requires unused { IsUnused stages.input }
     requires lawful { IsLawfulPlan core.now }
     requires plugins { core.now.plugins ≡ vec_len stages.plugins }
     requires fresh { AreFresh P.stands_for stages.plugins.items }

@@ -7,10 +7,13 @@ ghost use Rattle.tsp_top.specs.Openings.{asked_input, asked_output, asked_input_
 
 use chain_args::{InputConf, OutputConf};
 use stage_run::{InputPart, OutputPart};
+use std::alloc::{AllocError, Global};
 use ts_outside::{Desk, Failed, OpenFault};
+use ts_testgen::TestGen;
 
-/// Opens the input, unless it is null packets.
+/// Opens the input, unless it is null packets or a generated stream.
 pub(crate) fn open_input<D: Desk>(
+    alloc: Global,
     desk: &mut D,
     conf: &InputConf,
 ) -> Result<InputPart<D::In>, OpenFault>
@@ -19,11 +22,18 @@ pub(crate) fn open_input<D: Desk>(
         (D.seen desk.new ≡ asked_input_in_vain (D.seen desk.old) conf.now)
         (D.seen desk.new ≡ D.seen desk.old) }
     ensures part { IfOk result (λ part. OpensInput D.In.seen (D.seen desk.old) conf.now part) }
-    ensures named { OnErr result (NamesInput conf.now) }
+    ensures named { MatchOpen result (λ _. Unit {0}) (NamesInput conf.now) (Unit {0}) }
 {
     match conf {
         InputConf::File(name) => Ok(InputPart::Stream(desk.open_in(Some(name.as_str()))?)),
         InputConf::Null(count) => Ok(InputPart::Nulls(*count)),
+        InputConf::TestGen { seed, packets } => match TestGen::new(alloc, *seed) {
+            Ok(generator) => Ok(InputPart::Generated {
+                generator,
+                packets: *packets,
+            }),
+            Err(AllocError) => Err(OpenFault::NoMemory),
+        },
     }
 }
 
@@ -52,6 +62,10 @@ pub(crate) fn close_input<D: Desk>(desk: &mut D, part: InputPart<D::In>)
     match part {
         InputPart::Stream(source) => desk.close_in(source),
         InputPart::Nulls(_) => {}
+        InputPart::Generated {
+            generator: _,
+            packets: _,
+        } => {}
     }
 }
 

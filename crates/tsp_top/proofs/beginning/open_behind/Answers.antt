@@ -1,6 +1,7 @@
 use Rattle.std.proofs.Common.{ap, subst, refl, ◌≡◌, ◌∙◌}
 use Rattle.ts_outside.specs.Desk.{DeskView}
 use Rattle.tsp_top.specs.Openings.{asked_input, asked_output, asked_output_in_vain, OpensOutput, input_closed_as}
+use Rattle.tsp_top.proofs.SourceLemmas.{opened-unused}
 use Rattle.tsp_top.proofs.CallLemmas.{no-output-theorem, no-memory-theorem, open-failed, open-no-memory}
 use Rattle.tsp_top.proofs.beginning.open_behind.Goals as goal
 
@@ -11,6 +12,7 @@ returns-in-Ok g c = λ old asked opens. (
     ready = c.requires.ready;
     asked = c.in-Ok.ensures.asked ∙ ap (λ (d : DeskView). asked_output d c.args.plan.output) asked;
     input = opens;
+    unused = opened-unused g.D.In.Source.seen old c.args.plan.input c.args.input opens;
     output = subst (λ (d : DeskView). OpensOutput g.D.Out.Sink.seen d c.args.plan.output c.in-Ok.output) asked c.in-Ok.ensures.part;
   },
 )

@@ -5,4 +5,4 @@ use Rattle.tsp_top.proofs.beginning.open_ends.Goals as goal
 pub returns-in-Err-Failed : goal.returns-in-Err-Failed
 returns-in-Err-Failed g c =
     inl (no-input-theorem c.args.plan (g.D.Desk.seen c.args.desk.now) (g.D.Desk.seen c.open_input.new.desk) (g.D.Desk.seen c.say.new.desk) c.say.result
-    c.in-Err-Failed.ensures.named (open-failed _ _ _ c.in-Err-Failed.field-0 c.in-Err-Failed.field-0-is c.in-Err-Failed.ensures.asked) c.say.ensures)
+    (open-failed _ _ _ c.in-Err-Failed.field-0 c.in-Err-Failed.field-0-is c.in-Err-Failed.ensures.named) (open-failed _ _ _ c.in-Err-Failed.field-0 c.in-Err-Failed.field-0-is c.in-Err-Failed.ensures.asked) c.say.ensures)

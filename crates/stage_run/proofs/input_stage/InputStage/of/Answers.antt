@@ -11,4 +11,4 @@ returns-clause-gives g c = λ source sink mark input.
 pub returns-clause-stands : goal.returns-clause-stands
 returns-clause-stands g c = λ source sink mark view.
     let stage : InputStage g.row.S.Denot = record { feed = c.of-feed.result; stuffing = c.args.stuffing; nulls = c.args.stuffing.start; ended = None } in
-    stands_fresh g.S.Source.seen c.args.part stage source sink mark view c.of-feed.ensures refl refl c.requires
+    stands_fresh g.S.Source.seen c.args.part stage source sink mark view c.requires.unused c.of-feed.ensures refl refl c.requires.every

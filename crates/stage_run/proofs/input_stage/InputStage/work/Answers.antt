@@ -1,4 +1,4 @@
-use Rattle.std.proofs.Common.{◌≡◌, ◌+◌, length, Option, refl, sym, ap, subst, arith, ◌∙◌, add-zero}
+use Rattle.std.proofs.Common.{◌≡◌, ◌+◌, ◌≤◌, length, Option, refl, sym, ap, subst, arith, ◌∙◌, add-zero}
 use Rattle.chain_model.specs.declared.input_end.InputEnd.{InputEnd}
 use Rattle.chain_core.specs.declared.stage_end.StageEnd.TheVariants.{Input, Followed}
 use Rattle.std.proofs.Common.{Some}
@@ -9,7 +9,17 @@ use Rattle.stage_run.specs.Works.{InputWorks}
 use Rattle.stage_run.proofs.InputWorking.{plain_work, works_following, works_at_limit, works_over, works_filled}
 use Rattle.stage_run.proofs.PluginWorking.{FollowsNews-followed}
 use Rattle.stage_run.proofs.WorkLemmas.{plain-stage, followed-memory}
+use Rattle.stage_run.proofs.InputLemmas.{FeedStands-count}
 use Rattle.stage_run.proofs.input_stage.InputStage.work.Goals as goal
+
+pub fill-filled-requires-clause-in_range : goal.fill-filled-requires-clause-in_range
+fill-filled-requires-clause-in_range g c =
+    let some = c.requires.stands.lists in
+    let may = c.requires.stands.may in
+    let holds = may.goes_on.holds in
+    let put : length holds.rows ≤ length some.given = holds.put in
+    let given : length some.given ≡ c.args.at = may.given in
+    omega (arith, FeedStands-count g.S.Source.seen c.args.self.now.feed some.source some.read holds.rows c.args.self.now.ended holds.feed, c.requires.in_range)
 
 pub returns-then-may_follow-clause-work : goal.returns-then-may_follow-clause-work
 returns-then-may_follow-clause-work g c =

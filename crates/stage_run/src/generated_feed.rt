@@ -1,0 +1,49 @@
+use chain_core::InputEnd;
+use ts_packet::{Cell, Labels};
+use ts_testgen::TestGen;
+
+/// The packets of the generated stream of an input that has nothing else.
+#[derive(Drop)]
+pub(crate) struct GeneratedFeed {
+    pub(crate) generator: TestGen,
+    /// How many there are.
+    pub(crate) all: u64,
+    /// How many were put: as many as the generator has given.
+    pub(crate) packets: u64,
+}
+
+impl GeneratedFeed {
+    ghost use Rattle.std.specs.Prelude.{◌≡◌, ◌+◌, ◌<◌, None, Some, nat_lt, if◌then◌else◌};
+    ghost use Rattle.chain_model.specs.declared.input_end.InputEnd.TheVariants.{End};
+    ghost use Rattle.chain_model.specs.declared.positions.TheConstants.{POSITION_LIMIT};
+    ghost use Rattle.ts_packet.specs.declared.cell.Cell.TheVariants.{Live};
+    ghost use Rattle.ts_packet.specs.Labels.{no_labels};
+    ghost use Rattle.ts_testgen.specs.Generated.{generated};
+    ghost use Rattle.stage_run.specs.Feeds.{IsCounted};
+
+    /// Whether a packet is left, or how they end.
+    pub(crate) fn ensure_packet(&self) -> Option<InputEnd>
+        ensures { result ≡ (if nat_lt self.now.packets self.now.all then None else Some (End 0)) }
+    {
+        if self.packets < self.all {
+            None
+        } else {
+            Some(InputEnd::End { left: 0 })
+        }
+    }
+
+    /// Puts the next packet into a cell.
+    pub(crate) fn next_packet(&mut self, cell: &mut Cell)
+        requires left { self.old.packets < self.old.all }
+        requires counted { IsCounted self.old }
+        requires in_range { self.old.packets < POSITION_LIMIT }
+        ensures puts { cell.new ≡ Live (generated self.old.generator.seed self.old.packets) no_labels }
+        ensures seed { self.new.generator.seed ≡ self.old.generator.seed }
+        ensures all { self.new.all ≡ self.old.all }
+        ensures packets { self.new.packets ≡ self.old.packets + 1 }
+        ensures counted { IsCounted self.new }
+    {
+        *cell = Cell::Live(self.generator.next_packet(), Labels::none());
+        self.packets += 1;
+    }
+}
