@@ -41,7 +41,7 @@ use Rattle.ts_json_tables.proofs.StepLemmas.{both, same_ok, then_ok}
 
 -- ---- numbers in a range, and bytes
 
-first_of : {B : Type 0} (P : Type 0) (r : Row) (ms : Members) (made : List Held → B) (y : B)
+pub first_of : {B : Type 0} (P : Type 0) (r : Row) (ms : Members) (made : List Held → B) (y : B)
     → (read_attributes (r ∷ []) ms >>= λ values. Ok (made values)) ≡ Ok y
     → ((values : List Held) → read_attributes (r ∷ []) ms ≡ Ok values → made values ≡ y → P) → P
 first_of P r ms made y is goal =
@@ -70,7 +70,7 @@ any_id ms n is =
     let parts = both (nat_le 0 n) (nat_le n 254) (id_range (0, 254) ms n is) in
     omega (arith, leb-true n 254 parts.1)
 
-data_small : (most : ℕ) (key : List ℕ) (ms : Members) (b : List ℕ)
+pub data_small : (most : ℕ) (key : List ℕ) (ms : Members) (b : List ℕ)
     → data_attribute (Some (0, most)) key ms ≡ Ok b → nat_le (length b) most ≡ true
 unfolding data_attribute
 data_small most key ms b is =

@@ -26,3 +26,11 @@ mod RoundEnd
 mod PlainLemmas
 mod OfBytesReading
 mod OfBytesLemmas
+mod MadeBodies
+mod PageIds
+mod MadeSections
+mod RunsAlike
+mod ToldLong
+mod ToldLaid
+mod KeptRuns
+mod ReadBytes

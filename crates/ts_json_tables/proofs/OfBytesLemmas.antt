@@ -29,7 +29,7 @@ body_bytes s lawful =
     (All-drop (λ x. x < 256) 8 (take (length s - 4) s) (All-take (λ x. x < 256) (length s - 4) s lawful.bytes)))
     (λ short. all_bytes (drop 3 s) (All-drop (λ x. x < 256) 3 s lawful.bytes))
 
-bodies_bytes : (run : List (List ℕ)) → All (λ s. IsSection s) run → list_all are_bytes (map body_of run) ≡ true
+pub bodies_bytes : (run : List (List ℕ)) → All (λ s. IsSection s) run → list_all are_bytes (map body_of run) ≡ true
 bodies_bytes [] lawful = refl
 bodies_bytes (s ∷ ss) lawful =
     and_from (are_bytes (body_of s)) (list_all are_bytes (map body_of ss))

@@ -63,14 +63,14 @@ id_small b s =
     let other : (table_id_of b ≡ 255) → ⊥ = s.no_stuffing in
     omega (arith, below, other)
 
-long_alone : (s : List ℕ) → stands_alone s ≡ false → is_long s ≡ true
+pub long_alone : (s : List ℕ) → stands_alone s ≡ false → is_long s ≡ true
 long_alone s is = go (is_long s) is
   where
     go : (b : Bool) → (not b || (nat_le 78 (table_id_of s) && nat_le (table_id_of s) 111)) ≡ false → b ≡ true
     go true is = refl
     go false is = cc
 
-eit_alone : (s : List ℕ) → is_long s ≡ true → stands_alone s ≡ is_eit_id (table_id_of s)
+pub eit_alone : (s : List ℕ) → is_long s ≡ true → stands_alone s ≡ is_eit_id (table_id_of s)
 eit_alone s is = rw is refl
 
 -- how many sections there are, each of the long form

@@ -6,3 +6,4 @@ pub mod HeadReading
 pub mod TableReading
 pub mod RunTables
 pub mod LawfulTables
+pub mod ToldTables

@@ -22,4 +22,7 @@ pub use runs::table_of;
 pub use sections::table_sections;
 pub use showing::to_json;
 pub use table::{LaidTable, LongTable, ShortTable, Table};
-pub use table_laws::{run_tables_are_of_bytes, shown_table_is_plain, shown_table_is_read};
+pub use table_laws::{
+    read_tables_are_lawful, run_tables_are_of_bytes, sections_tell_their_table,
+    shown_table_is_plain, shown_table_is_read,
+};

@@ -1,20 +1,23 @@
 //! Laws of tables and JSON: a function with nothing to run, called where what it ensures is wanted.
 
 ghost use Rattle.std.specs.Prelude.{◌≡◌, ◌≤◌, ℕ, List, false, All, Ok};
-ghost use Rattle.serde_json.specs.Data.{depth};
+ghost use Rattle.serde_json.specs.Data.{Data, depth};
 ghost use Rattle.serde_json.specs.Written.{has_float};
 ghost use Rattle.ts_section.specs.LawfulSection.{IsSection};
+ghost use Rattle.ts_section.specs.SectionRun.{IsTableRun};
 ghost use Rattle.ts_json_tables.specs.HeldTables.{TableValue};
 ghost use Rattle.ts_json_tables.specs.LawfulTables.{IsOfBytes, IsTable};
-ghost use Rattle.ts_json_tables.specs.RunTables.{table_of_run};
+ghost use Rattle.ts_json_tables.specs.RunTables.{sections_of_table, table_of_run};
 ghost use Rattle.ts_json_tables.specs.TableElements.{table_shown};
 ghost use Rattle.ts_json_tables.specs.TableReading.{table_read};
+ghost use Rattle.ts_json_tables.specs.ToldTables.{IsKept, TellsTable, told_again};
 
 use ts_bits::loops_are_whole_or_cut;
-use ts_fields::read_bytes_are_spelled;
+use ts_fields::{length_of_bits, read_bytes_are_spelled};
 use ts_json_descr::shown_descr_is_read;
 use ts_jtree::element_shows;
-use ts_table_rows::written_rows_are_whole;
+use ts_section::made_sections_are_lawful;
+use ts_table_rows::{written_rows_are_whole, written_tables_are_read};
 
 /// Every lawful table that is shown is read again as it was.
 pub fn shown_table_is_read()
@@ -38,4 +41,27 @@ pub fn run_tables_are_of_bytes()
 {
     loops_are_whole_or_cut();
     read_bytes_are_spelled();
+}
+
+/// Every table that is read is lawful, has descriptors that are some, and bytes below 256.
+pub fn read_tables_are_lawful()
+    ensures { (value : Data) (t : TableValue) → table_read value ≡ Ok t → IsTable t × IsOfBytes t }
+{
+    length_of_bits();
+    read_bytes_are_spelled();
+}
+
+/// The sections of a lawful table, where it has some, are lawful and are the whole run of one table: that table again, or,
+/// of a table of bytes whose sections read as the table of their table_id, that one.
+pub fn sections_tell_their_table()
+    ensures told { (t : TableValue) (ss : List (List ℕ)) → IsTable t → IsOfBytes t → sections_of_table t ≡ Ok ss
+        → TellsTable (told_again t) ss }
+    ensures kept { (run : List (List ℕ)) → IsTableRun run → All (λ s. IsSection s) run → IsTable (table_of_run run)
+        → IsKept run }
+{
+    made_sections_are_lawful();
+    written_tables_are_read();
+    length_of_bits();
+    read_bytes_are_spelled();
+    run_tables_are_of_bytes();
 }
