@@ -1,18 +1,22 @@
 //! Runs worked examples of the whole tool over a desk in memory, by `tsp_call` and by `serial_call`, and prints what each
-//! came to. Then it runs chains with sizes of many kinds, which have to agree in bytes, report and status.
+//! came to. Then it runs two chains whose gates look at how the
+//! stages work beside one another, and chains with sizes of many kinds, which have to agree in bytes, report and status.
 #![tactic(auto)]
 
 mod chain_table;
 mod chains;
 mod end_rows;
 mod fault_rows;
+mod following_gate;
 mod inputs;
 mod keeping_gate;
+mod meeting_gate;
 mod mixed_stream;
 mod outcome;
 mod plugin_rows;
 mod row;
 mod tally;
+mod threads;
 mod trial;
 mod trial_desk;
 mod windows;
@@ -39,5 +43,6 @@ fn main(rt: HostRuntime) -> Result<()> {
     print_rows(&rt, &WORD_ROWS, &mut tally)?;
     println!(rt; "both calls agree: {} of {} rows", tally.alike, tally.runs)?;
     windows::print_windows(&rt)?;
+    threads::print_threads(&rt)?;
     chains::print_chains(&rt)
 }
