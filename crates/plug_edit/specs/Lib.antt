@@ -16,3 +16,9 @@ pub mod NitEdit
 pub mod TableChange
 pub mod Changes
 pub mod EditRule
+pub mod EditWords
+pub mod PatWords
+pub mod CatWords
+pub mod PmtWords
+pub mod SdtWords
+pub mod NitWords

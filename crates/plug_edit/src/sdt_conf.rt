@@ -1,6 +1,8 @@
 ghost use Rattle.std.specs.Prelude.{◌≡◌, IfOk};
+ghost use Rattle.plug_edit.specs.SdtSettings.{changes_service, sdt_together};
 
 use crate::texts::copy_of_text;
+use crate::versions::versions_agree;
 use plug_conf::NumberSet;
 use std::alloc::{AllocError, Global};
 use ts_outside::NameText;
@@ -44,5 +46,23 @@ impl EditSdtConf {
             new_version: self.new_version,
             increment_version: self.increment_version,
         })
+    }
+    /// Whether something of a service is to be changed.
+    fn changes_service(&self) -> bool
+        ensures { result ≡ changes_service self.now }
+    {
+        self.name.is_some()
+            || self.provider.is_some()
+            || self.service_type.is_some()
+            || self.running_status.is_some()
+            || self.free_ca_mode.is_some()
+    }
+
+    /// Whether the service is named where something of it is changed, and at most one option of the version is given.
+    pub fn goes_together(&self) -> bool
+        ensures { result ≡ sdt_together self.now }
+    {
+        let wants_service = self.changes_service() && self.service.is_none();
+        !wants_service && versions_agree(self.new_version, self.increment_version)
     }
 }

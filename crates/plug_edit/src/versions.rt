@@ -1,4 +1,5 @@
 ghost use Rattle.std.specs.Prelude.{◌≡◌, ◌<◌};
+ghost use Rattle.plug_edit.specs.Versions;
 ghost use Rattle.plug_edit.specs.Versions.{IsVersion, edited_version};
 
 /// The version of an edited table: one that is given, or one more, with 0 after 31, or its own.
@@ -18,4 +19,11 @@ pub fn version_after(given: Option<u64>, increment: bool, version: u8) -> u8
             }
         }
     }
+}
+
+/// Whether at most one of the two options of the version is given.
+pub fn versions_agree(given: Option<u64>, increment: bool) -> bool
+    ensures { result ≡ Versions.versions_agree given increment }
+{
+    !(given.is_some() && increment)
 }

@@ -35,6 +35,11 @@ simple kind.Until = refl
 simple kind.Count = refl
 simple kind.Continuity = refl
 simple kind.Remap = refl
+simple kind.Pat = refl
+simple kind.Cat = refl
+simple kind.Pmt = refl
+simple kind.Sdt = refl
+simple kind.Nit = refl
 
 module _ {C : Type 0} (p : OptionTable C) (app : App) (words : List (List ℕ)) (same : app ≡ command_of p.rows) where
   -- words that the command does not take

@@ -28,14 +28,27 @@ use Rattle.plug_watch.specs.ContinuityWords.{continuity}
 use Rattle.plug_move.specs.RemapRule.{remap_rule}
 use Rattle.plug_move.specs.RemapSettings.{IsLawfulRemap}
 use Rattle.plug_move.specs.RemapWords.{remap}
+use Rattle.plug_edit.specs.Changes.{change_cat, change_nit, change_pat, change_pmt, change_sdt}
+use Rattle.plug_edit.specs.EditRule.{edit_rule}
+use Rattle.plug_edit.specs.PatSettings.{IsLawfulPat}
+use Rattle.plug_edit.specs.PatWords.{pat}
+use Rattle.plug_edit.specs.CatSettings.{IsLawfulCat}
+use Rattle.plug_edit.specs.CatWords.{cat}
+use Rattle.plug_edit.specs.PmtSettings.{IsLawfulPmt}
+use Rattle.plug_edit.specs.PmtWords.{pmt}
+use Rattle.plug_edit.specs.SdtSettings.{IsLawfulSdt}
+use Rattle.plug_edit.specs.SdtWords.{sdt}
+use Rattle.plug_edit.specs.NitSettings.{IsLawfulNit}
+use Rattle.plug_edit.specs.NitWords.{nit}
 use Rattle.plug_set.specs.declared.plugin_conf.PluginConf.{PluginConf}
-use Rattle.plug_set.specs.declared.plugin_conf.PluginConf.TheVariants.{Filter, Skip, Slice, Pattern, Until, Count, Continuity, Remap}
+use Rattle.plug_set.specs.declared.plugin_conf.PluginConf.TheVariants.{Filter, Skip, Slice, Pattern, Until, Count, Continuity, Remap, Pat, Cat, Pmt, Sdt, Nit}
 use Rattle.plug_set.specs.declared.plugin_conf.PluginKind.{PluginKind}
 use Rattle.plug_set.specs.declared.plugin_conf.PluginKind.TheVariants as kind
 
 -- the plugins
 abbrev pub kinds : List PluginKind
-kinds = kind.Filter ∷ kind.Skip ∷ kind.Slice ∷ kind.Pattern ∷ kind.Until ∷ kind.Count ∷ kind.Continuity ∷ kind.Remap ∷ []
+kinds = kind.Filter ∷ kind.Skip ∷ kind.Slice ∷ kind.Pattern ∷ kind.Until ∷ kind.Count ∷ kind.Continuity ∷ kind.Remap
+    ∷ kind.Pat ∷ kind.Cat ∷ kind.Pmt ∷ kind.Sdt ∷ kind.Nit ∷ []
 
 -- their names, as the command line and the reports have them
 abbrev pub name_of_kind : PluginKind → List ℕ
@@ -47,6 +60,11 @@ name_of_kind kind.Until = codes "until"
 name_of_kind kind.Count = codes "count"
 name_of_kind kind.Continuity = codes "continuity"
 name_of_kind kind.Remap = codes "remap"
+name_of_kind kind.Pat = codes "pat"
+name_of_kind kind.Cat = codes "cat"
+name_of_kind kind.Pmt = codes "pmt"
+name_of_kind kind.Sdt = codes "sdt"
+name_of_kind kind.Nit = codes "nit"
 
 -- the plugin of a name; one that is not built yet has no kind
 abbrev pub plugin_kind_named : List ℕ → Option PluginKind
@@ -62,6 +80,11 @@ options_of_plugin kind.Until = made_into Until until
 options_of_plugin kind.Count = made_into Count count
 options_of_plugin kind.Continuity = made_into Continuity continuity
 options_of_plugin kind.Remap = made_into Remap remap
+options_of_plugin kind.Pat = made_into Pat pat
+options_of_plugin kind.Cat = made_into Cat cat
+options_of_plugin kind.Pmt = made_into Pmt pmt
+options_of_plugin kind.Sdt = made_into Sdt sdt
+options_of_plugin kind.Nit = made_into Nit nit
 
 -- the plugin that settings are of
 abbrev pub kind_of : PluginConf → PluginKind
@@ -73,6 +96,11 @@ kind_of (Until conf) = kind.Until
 kind_of (Count conf) = kind.Count
 kind_of (Continuity conf) = kind.Continuity
 kind_of (Remap conf) = kind.Remap
+kind_of (Pat conf) = kind.Pat
+kind_of (Cat conf) = kind.Cat
+kind_of (Pmt conf) = kind.Pmt
+kind_of (Sdt conf) = kind.Sdt
+kind_of (Nit conf) = kind.Nit
 
 -- its name
 abbrev pub name_of : PluginConf → List ℕ
@@ -89,6 +117,11 @@ IsLawful (Until conf) = IsLawfulUntil conf
 IsLawful (Count conf) = IsLawfulCount conf
 IsLawful (Continuity conf) = IsLawfulContinuity conf
 IsLawful (Remap conf) = IsLawfulRemap conf
+IsLawful (Pat conf) = IsLawfulPat conf
+IsLawful (Cat conf) = IsLawfulCat conf
+IsLawful (Pmt conf) = IsLawfulPmt conf
+IsLawful (Sdt conf) = IsLawfulSdt conf
+IsLawful (Nit conf) = IsLawfulNit conf
 
 -- the rule that the settings mean
 abbrev pub rule_of : PluginConf → PluginRule
@@ -100,12 +133,22 @@ rule_of (Until conf) = until_rule conf
 rule_of (Count conf) = count_rule conf
 rule_of (Continuity conf) = continuity_rule conf
 rule_of (Remap conf) = remap_rule conf
+rule_of (Pat conf) = edit_rule 0 (change_pat conf)
+rule_of (Cat conf) = edit_rule 1 (change_cat conf)
+rule_of (Pmt conf) = edit_rule conf.pmt_pid (change_pmt conf)
+rule_of (Sdt conf) = edit_rule 17 (change_sdt conf)
+rule_of (Nit conf) = edit_rule 16 (change_nit conf)
 
 -- for how many positions behind the last mark a plugin takes its room before the run, where it does: all of
--- them do but those whose lines grow with the stream
+-- them do but those whose lines grow with the stream, and the editors, which keep the tables that come
 abbrev pub steady_of : PluginConf → ℕ → Option ℕ
 steady_of (Count conf) buffer = if conf.all then None else Some buffer
 steady_of (Continuity conf) buffer = None
+steady_of (Pat conf) buffer = None
+steady_of (Cat conf) buffer = None
+steady_of (Pmt conf) buffer = None
+steady_of (Sdt conf) buffer = None
+steady_of (Nit conf) buffer = None
 steady_of _ buffer = Some buffer
 
 -- the plugin agrees to a common end, and does not end the chain by itself

@@ -10,7 +10,7 @@ use std::alloc::{AllocError, Global};
 use ts_packet::Cell;
 
 /// A plugin of the chain, which sees every packet, or those alone that have one of its labels.
-#[derive(Drop, Debug)]
+#[derive(Drop)]
 pub struct AnyPlugin {
     masked: MaskedPlugin,
 }

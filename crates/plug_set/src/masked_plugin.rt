@@ -7,7 +7,7 @@ use ts_packet::{Cell, Labels};
 
 /// A plugin that is shown every cell as it is, or, where it has labels, a packet with none of them as a dropped one,
 /// which stays as it is.
-#[derive(Drop, Debug)]
+#[derive(Drop)]
 pub(crate) struct MaskedPlugin {
     pub(crate) plugin: SomePlugin,
     pub(crate) only: Option<Labels>,

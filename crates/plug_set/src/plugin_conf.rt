@@ -17,6 +17,11 @@ use crate::plugin_item::PluginItem;
 use clap::Command;
 use option_words::{ParsedOptions, Refusal, WordsRule, with_value};
 use plug_conf::{LAST_LABEL, NumberSet};
+use plug_edit::{
+    EditCatConf, EditNitConf, EditPatConf, EditPmtConf, EditSdtConf, cat_command, cat_settings,
+    nit_command, nit_settings, pat_command, pat_settings, pmt_command, pmt_settings, sdt_command,
+    sdt_settings,
+};
 use plug_end::{UntilConf, until_command, until_settings};
 use plug_move::{RemapConf, remap_command, remap_settings};
 use plug_pass::{
@@ -41,6 +46,11 @@ pub enum PluginConf {
     Count(CountConf),
     Continuity(ContinuityConf),
     Remap(RemapConf),
+    Pat(EditPatConf),
+    Cat(EditCatConf),
+    Pmt(EditPmtConf),
+    Sdt(EditSdtConf),
+    Nit(EditNitConf),
 }
 
 /// A kind of plugin.
@@ -54,6 +64,11 @@ pub enum PluginKind {
     Count,
     Continuity,
     Remap,
+    Pat,
+    Cat,
+    Pmt,
+    Sdt,
+    Nit,
 }
 
 impl PluginKind {
@@ -70,6 +85,11 @@ impl PluginKind {
             "count" => Some(PluginKind::Count),
             "continuity" => Some(PluginKind::Continuity),
             "remap" => Some(PluginKind::Remap),
+            "pat" => Some(PluginKind::Pat),
+            "cat" => Some(PluginKind::Cat),
+            "pmt" => Some(PluginKind::Pmt),
+            "sdt" => Some(PluginKind::Sdt),
+            "nit" => Some(PluginKind::Nit),
             _ => None,
         }
     }
@@ -87,6 +107,11 @@ impl PluginKind {
             PluginKind::Count => "count",
             PluginKind::Continuity => "continuity",
             PluginKind::Remap => "remap",
+            PluginKind::Pat => "pat",
+            PluginKind::Cat => "cat",
+            PluginKind::Pmt => "pmt",
+            PluginKind::Sdt => "sdt",
+            PluginKind::Nit => "nit",
         }
     }
 
@@ -103,6 +128,11 @@ impl PluginKind {
             PluginKind::Count => count_command(alloc),
             PluginKind::Continuity => continuity_command(alloc),
             PluginKind::Remap => remap_command(alloc),
+            PluginKind::Pat => pat_command(alloc),
+            PluginKind::Cat => cat_command(alloc),
+            PluginKind::Pmt => pmt_command(alloc),
+            PluginKind::Sdt => sdt_command(alloc),
+            PluginKind::Nit => nit_command(alloc),
         }
     }
 
@@ -122,6 +152,11 @@ impl PluginKind {
                 continuity_settings(alloc, found).map(PluginConf::Continuity)
             }
             PluginKind::Remap => remap_settings(alloc, found).map(PluginConf::Remap),
+            PluginKind::Pat => pat_settings(alloc, found).map(PluginConf::Pat),
+            PluginKind::Cat => cat_settings(alloc, found).map(PluginConf::Cat),
+            PluginKind::Pmt => pmt_settings(alloc, found).map(PluginConf::Pmt),
+            PluginKind::Sdt => sdt_settings(alloc, found).map(PluginConf::Sdt),
+            PluginKind::Nit => nit_settings(alloc, found).map(PluginConf::Nit),
         }
     }
 
@@ -190,6 +225,11 @@ impl PluginConf {
             PluginConf::Count(_) => PluginKind::Count,
             PluginConf::Continuity(_) => PluginKind::Continuity,
             PluginConf::Remap(_) => PluginKind::Remap,
+            PluginConf::Pat(_) => PluginKind::Pat,
+            PluginConf::Cat(_) => PluginKind::Cat,
+            PluginConf::Pmt(_) => PluginKind::Pmt,
+            PluginConf::Sdt(_) => PluginKind::Sdt,
+            PluginConf::Nit(_) => PluginKind::Nit,
         }
     }
 

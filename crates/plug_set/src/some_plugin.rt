@@ -2,6 +2,10 @@ ghost use Rattle.std.specs.Prelude.{◌≡◌, IfOk, []};
 ghost use Rattle.plug_set.specs.Plugins.{rule_of, steady_of};
 
 use crate::plugin_conf::PluginConf;
+use plug_edit::{
+    CatEdit, EditCat, EditNit, EditPat, EditPid, EditPmt, EditSdt, NitEdit, PatEdit, PmtEdit,
+    SdtEdit,
+};
 use plug_end::Until;
 use plug_move::Remap;
 use plug_pass::{Filter, Pattern, Skip, Slice};
@@ -11,7 +15,7 @@ use std::alloc::{AllocError, Global};
 use ts_packet::Cell;
 
 /// A plugin of any kind, which is shown each cell.
-#[derive(Drop, Debug)]
+#[derive(Drop)]
 pub(crate) enum SomePlugin {
     Filter(Filter),
     Skip(Skip),
@@ -21,6 +25,11 @@ pub(crate) enum SomePlugin {
     Count(Count),
     Continuity(Continuity),
     Remap(Remap),
+    Pat(EditPat),
+    Cat(EditCat),
+    Pmt(EditPmt),
+    Sdt(EditSdt),
+    Nit(EditNit),
 }
 
 impl SomePlugin {
@@ -49,13 +58,18 @@ impl SomePlugin {
                 SomePlugin::Continuity(Continuity::new(alloc, conf, buffer)?)
             }
             PluginConf::Remap(conf) => SomePlugin::Remap(Remap::new(alloc, conf, buffer)?),
+            PluginConf::Pat(conf) => SomePlugin::Pat(EditPat::new(alloc, conf, buffer)?),
+            PluginConf::Cat(conf) => SomePlugin::Cat(EditCat::new(alloc, conf, buffer)?),
+            PluginConf::Pmt(conf) => SomePlugin::Pmt(EditPmt::new(alloc, conf, buffer)?),
+            PluginConf::Sdt(conf) => SomePlugin::Sdt(EditSdt::new(alloc, conf, buffer)?),
+            PluginConf::Nit(conf) => SomePlugin::Nit(EditNit::new(alloc, conf, buffer)?),
         })
     }
 }
 
 impl Plugin for SomePlugin {
     ghost use Rattle.std.specs.Prelude.{refl};
-    ghost use Rattle.plug_set.specs.declared.some_plugin.SomePlugin.TheVariants.{Filter as MadeFilter, Skip as MadeSkip, Slice as MadeSlice, Pattern as MadePattern, Until as MadeUntil, Count as MadeCount, Continuity as MadeContinuity, Remap as MadeRemap};
+    ghost use Rattle.plug_set.specs.declared.some_plugin.SomePlugin.TheVariants.{Filter as MadeFilter, Skip as MadeSkip, Slice as MadeSlice, Pattern as MadePattern, Until as MadeUntil, Count as MadeCount, Continuity as MadeContinuity, Remap as MadeRemap, Pat as MadePat, Cat as MadeCat, Pmt as MadePmt, Sdt as MadeSdt, Nit as MadeNit};
 
     ghost rule = { elim [
       | MadeFilter p ↦ ⟦<Filter as Plugin>⟧.rule p
@@ -66,6 +80,11 @@ impl Plugin for SomePlugin {
       | MadeCount p ↦ ⟦<Count as Plugin>⟧.rule p
       | MadeContinuity p ↦ ⟦<Continuity as Plugin>⟧.rule p
       | MadeRemap p ↦ ⟦<Remap as Plugin>⟧.rule p
+      | MadePat p ↦ ⟦<EditPid<PatEdit> as Plugin>⟧.rule p
+      | MadeCat p ↦ ⟦<EditPid<CatEdit> as Plugin>⟧.rule p
+      | MadePmt p ↦ ⟦<EditPid<PmtEdit> as Plugin>⟧.rule p
+      | MadeSdt p ↦ ⟦<EditPid<SdtEdit> as Plugin>⟧.rule p
+      | MadeNit p ↦ ⟦<EditPid<NitEdit> as Plugin>⟧.rule p
     ] };
 
     ghost stands_for = { elim [
@@ -77,6 +96,11 @@ impl Plugin for SomePlugin {
       | MadeCount p ↦ ⟦<Count as Plugin>⟧.stands_for p
       | MadeContinuity p ↦ ⟦<Continuity as Plugin>⟧.stands_for p
       | MadeRemap p ↦ ⟦<Remap as Plugin>⟧.stands_for p
+      | MadePat p ↦ ⟦<EditPid<PatEdit> as Plugin>⟧.stands_for p
+      | MadeCat p ↦ ⟦<EditPid<CatEdit> as Plugin>⟧.stands_for p
+      | MadePmt p ↦ ⟦<EditPid<PmtEdit> as Plugin>⟧.stands_for p
+      | MadeSdt p ↦ ⟦<EditPid<SdtEdit> as Plugin>⟧.stands_for p
+      | MadeNit p ↦ ⟦<EditPid<NitEdit> as Plugin>⟧.stands_for p
     ] };
 
     ghost steady = { elim [
@@ -88,6 +112,11 @@ impl Plugin for SomePlugin {
       | MadeCount p ↦ ⟦<Count as Plugin>⟧.steady p
       | MadeContinuity p ↦ ⟦<Continuity as Plugin>⟧.steady p
       | MadeRemap p ↦ ⟦<Remap as Plugin>⟧.steady p
+      | MadePat p ↦ ⟦<EditPid<PatEdit> as Plugin>⟧.steady p
+      | MadeCat p ↦ ⟦<EditPid<CatEdit> as Plugin>⟧.steady p
+      | MadePmt p ↦ ⟦<EditPid<PmtEdit> as Plugin>⟧.steady p
+      | MadeSdt p ↦ ⟦<EditPid<SdtEdit> as Plugin>⟧.steady p
+      | MadeNit p ↦ ⟦<EditPid<NitEdit> as Plugin>⟧.steady p
     ] };
 
     fn step(&mut self, at: u64, cell: &mut Cell) -> Outcome {
@@ -100,6 +129,11 @@ impl Plugin for SomePlugin {
             SomePlugin::Count(plugin) => plugin.step(at, cell),
             SomePlugin::Continuity(plugin) => plugin.step(at, cell),
             SomePlugin::Remap(plugin) => plugin.step(at, cell),
+            SomePlugin::Pat(plugin) => plugin.step(at, cell),
+            SomePlugin::Cat(plugin) => plugin.step(at, cell),
+            SomePlugin::Pmt(plugin) => plugin.step(at, cell),
+            SomePlugin::Sdt(plugin) => plugin.step(at, cell),
+            SomePlugin::Nit(plugin) => plugin.step(at, cell),
         }
     }
 
@@ -113,6 +147,11 @@ impl Plugin for SomePlugin {
             SomePlugin::Count(plugin) => plugin.steps(at, cells, noted),
             SomePlugin::Continuity(plugin) => plugin.steps(at, cells, noted),
             SomePlugin::Remap(plugin) => plugin.steps(at, cells, noted),
+            SomePlugin::Pat(plugin) => plugin.steps(at, cells, noted),
+            SomePlugin::Cat(plugin) => plugin.steps(at, cells, noted),
+            SomePlugin::Pmt(plugin) => plugin.steps(at, cells, noted),
+            SomePlugin::Sdt(plugin) => plugin.steps(at, cells, noted),
+            SomePlugin::Nit(plugin) => plugin.steps(at, cells, noted),
         }
     }
 
@@ -126,6 +165,11 @@ impl Plugin for SomePlugin {
             SomePlugin::Count(plugin) => plugin.note(written),
             SomePlugin::Continuity(plugin) => plugin.note(written),
             SomePlugin::Remap(plugin) => plugin.note(written),
+            SomePlugin::Pat(plugin) => plugin.note(written),
+            SomePlugin::Cat(plugin) => plugin.note(written),
+            SomePlugin::Pmt(plugin) => plugin.note(written),
+            SomePlugin::Sdt(plugin) => plugin.note(written),
+            SomePlugin::Nit(plugin) => plugin.note(written),
         }
     }
 
@@ -139,6 +183,11 @@ impl Plugin for SomePlugin {
             SomePlugin::Count(plugin) => plugin.agreed(),
             SomePlugin::Continuity(plugin) => plugin.agreed(),
             SomePlugin::Remap(plugin) => plugin.agreed(),
+            SomePlugin::Pat(plugin) => plugin.agreed(),
+            SomePlugin::Cat(plugin) => plugin.agreed(),
+            SomePlugin::Pmt(plugin) => plugin.agreed(),
+            SomePlugin::Sdt(plugin) => plugin.agreed(),
+            SomePlugin::Nit(plugin) => plugin.agreed(),
         }
     }
 
@@ -152,6 +201,11 @@ impl Plugin for SomePlugin {
             SomePlugin::Count(plugin) => plugin.finish(cut),
             SomePlugin::Continuity(plugin) => plugin.finish(cut),
             SomePlugin::Remap(plugin) => plugin.finish(cut),
+            SomePlugin::Pat(plugin) => plugin.finish(cut),
+            SomePlugin::Cat(plugin) => plugin.finish(cut),
+            SomePlugin::Pmt(plugin) => plugin.finish(cut),
+            SomePlugin::Sdt(plugin) => plugin.finish(cut),
+            SomePlugin::Nit(plugin) => plugin.finish(cut),
         }
     }
 
@@ -164,5 +218,10 @@ impl Plugin for SomePlugin {
       | MadeCount p ↦ λ history mark stands. refl
       | MadeContinuity p ↦ λ history mark stands. refl
       | MadeRemap p ↦ λ history mark stands. refl
+      | MadePat p ↦ λ history mark stands. refl
+      | MadeCat p ↦ λ history mark stands. refl
+      | MadePmt p ↦ λ history mark stands. refl
+      | MadeSdt p ↦ λ history mark stands. refl
+      | MadeNit p ↦ λ history mark stands. refl
     ] };
 }

@@ -3,7 +3,8 @@ ghost use Rattle.plug_set.specs.Items.{IsLawfulItem};
 ghost use Rattle.std.specs.Prelude.{◌<◌, ◌≤◌, [], IfOk, vec_len};
 
 use crate::{AnyPlugin, PluginConf, PluginItem};
-use plug_conf::NumberSet;
+use plug_conf::{NumberSet, PairList};
+use plug_edit::EditPatConf;
 use plug_end::UntilConf;
 use plug_pass::{FilterConf, SkipConf};
 use plug_watch::CountConf;
@@ -37,14 +38,6 @@ fn through(
     Ok((end, lines))
 }
 
-/// The plugin that sees every packet.
-fn of_all(conf: PluginConf) -> PluginItem
-    requires { IsLawful conf }
-    ensures { IsLawfulItem result }
-{
-    PluginItem { conf, only: None }
-}
-
 /// `count --all`.
 fn counting(alloc: Global) -> PluginConf
     ensures { IsLawful result }
@@ -57,74 +50,103 @@ fn counting(alloc: Global) -> PluginConf
     })
 }
 
-#[test]
-fn plugins_one_behind_another(rt: HostRuntime) -> Result<(), Fail> {
-    let mut cells = vec![in rt.alloc(); packet(256), packet(257), packet(256), packet(258)]?;
-    let skip = of_all(PluginConf::Skip(SkipConf { operand: 1 }));
-    let (end, lines) = through(rt.alloc(), &skip, &mut cells)?;
-    assert_eq!(rt; end, ListEnd::Through);
-    assert_eq!(rt; lines.len(), 0);
-    let until = of_all(PluginConf::Until(UntilConf {
+/// `filter --pid 256 --set-label 3`.
+fn marking(alloc: Global) -> Result<PluginConf, AllocError>
+    ensures { IfOk result IsLawful }
+{
+    Ok(PluginConf::Filter(FilterConf {
+        pid: NumberSet::of(vec![in alloc; (256, 256)]?),
+        pcr: false,
+        unit_start: false,
+        scrambled: false,
+        label: NumberSet::of(Vec::new(alloc)),
+        negate: false,
+        stuffing: false,
+        set_label: NumberSet::of(vec![in alloc; (3, 3)]?),
+    }))
+}
+
+/// `pat --ts-id 5`.
+fn editing(alloc: Global) -> PluginConf
+    ensures { IsLawful result }
+{
+    PluginConf::Pat(EditPatConf {
+        add_service: PairList::of(Vec::new(alloc)),
+        remove_service: NumberSet::of(Vec::new(alloc)),
+        ts_id: Some(5),
+        nit: None,
+        new_version: None,
+        increment_version: false,
+    })
+}
+
+/// `until --packets 2`.
+fn ending() -> PluginConf
+    ensures { IsLawful result }
+{
+    PluginConf::Until(UntilConf {
         packets: Some(2),
         bytes: None,
         unit_start_count: None,
         exclude_last: false,
         joint_termination: false,
-    }));
-    let (end, lines) = through(rt.alloc(), &until, &mut cells)?;
-    assert_eq!(rt; end, ListEnd::Last);
-    assert_eq!(rt; lines.len(), 0);
-    let count = of_all(counting(rt.alloc()));
-    let (end, lines) = through(rt.alloc(), &count, &mut cells)?;
-    assert_eq!(rt; end, ListEnd::Through);
-    let wanted = [
-        (1, "packet 1 pid 257"),
-        (2, "packet 2 pid 256"),
-        (3, "pid 256 packets 1"),
-        (3, "pid 257 packets 1"),
-        (3, "total 2"),
-    ];
-    assert_eq!(rt; lines.len(), wanted.len());
-    for (line, (at, text)) in lines.iter().zip(wanted) {
-        assert_eq!(rt; line.at, at);
-        assert_eq!(rt; line.text.as_str(), text);
-    }
-    Ok(())
+    })
 }
 
-/// Packets on one PID are marked; a count of these alone lets the others pass and does not count them.
-#[test]
-fn marked_packets_are_seen(rt: HostRuntime) -> Result<(), Fail> {
-    let mut cells = vec![in rt.alloc(); packet(256), packet(257), packet(256), packet(257)]?;
-    let filter = of_all(PluginConf::Filter(FilterConf {
-        pid: NumberSet::of(vec![in rt.alloc(); (256, 256)]?),
-        pcr: false,
-        unit_start: false,
-        scrambled: false,
-        label: NumberSet::of(Vec::new(rt.alloc())),
-        negate: false,
-        stuffing: false,
-        set_label: NumberSet::of(vec![in rt.alloc(); (3, 3)]?),
-    }));
-    let (end, _lines) = through(rt.alloc(), &filter, &mut cells)?;
-    assert_eq!(rt; end, ListEnd::Through);
-    let count = PluginItem {
-        conf: counting(rt.alloc()),
-        only: Some(NumberSet::of(vec![in rt.alloc(); (3, 3)]?)),
+/// A plugin of the chain below, by its number.
+fn item(alloc: Global, number: usize) -> Result<PluginItem, AllocError>
+    ensures { IfOk result IsLawfulItem }
+{
+    let conf = match number {
+        0 => marking(alloc)?,
+        2 => editing(alloc),
+        3 => PluginConf::Skip(SkipConf { operand: 1 }),
+        4 => ending(),
+        _ => counting(alloc),
     };
-    let (end, lines) = through(rt.alloc(), &count, &mut cells)?;
-    assert_eq!(rt; end, ListEnd::Through);
-    assert_eq!(rt; cells.len(), 4);
-    let wanted = [
+    let only = if number == 1 {
+        Some(NumberSet::of(vec![in alloc; (3, 3)]?))
+    } else {
+        None
+    };
+    Ok(PluginItem { conf, only })
+}
+
+/// How each list ends, and the lines with their positions: packets on PID 256 are marked, and counted alone; the packet
+/// on PID 0 has no table and becomes a null packet; the first packet is dropped, and the second one behind it is the last.
+#[test]
+fn plugins_one_behind_another(rt: HostRuntime) -> Result<(), Fail> {
+    let marked: [(u64, &str); 4] = [
         (0, "packet 0 pid 256"),
         (2, "packet 2 pid 256"),
         (4, "pid 256 packets 2"),
         (4, "total 2"),
     ];
-    assert_eq!(rt; lines.len(), wanted.len());
-    for (line, (at, text)) in lines.iter().zip(wanted) {
-        assert_eq!(rt; line.at, at);
-        assert_eq!(rt; line.text.as_str(), text);
+    let all: [(u64, &str); 5] = [
+        (1, "packet 1 pid 8191"),
+        (2, "packet 2 pid 256"),
+        (3, "pid 256 packets 1"),
+        (3, "pid 8191 packets 1"),
+        (3, "total 2"),
+    ];
+    let rows: [(ListEnd, &[(u64, &str)]); 6] = [
+        (ListEnd::Through, &[]),
+        (ListEnd::Through, &marked),
+        (ListEnd::Through, &[]),
+        (ListEnd::Through, &[]),
+        (ListEnd::Last, &[]),
+        (ListEnd::Through, &all),
+    ];
+    let mut cells = vec![in rt.alloc(); packet(256), packet(0), packet(256), packet(258)]?;
+    for (number, (wanted_end, wanted)) in rows.iter().enumerate() {
+        let item = item(rt.alloc(), number)?;
+        let (end, lines) = through(rt.alloc(), &item, &mut cells)?;
+        assert_eq!(rt; end, *wanted_end);
+        assert_eq!(rt; lines.len(), wanted.len());
+        for (line, (at, text)) in lines.iter().zip(*wanted) {
+            assert_eq!(rt; line.at, *at);
+            assert_eq!(rt; line.text.as_str(), *text);
+        }
     }
     Ok(())
 }

@@ -1,4 +1,5 @@
 //! The file that comes in: packets with payload, made from their PIDs and counters.
+use crate::carried::Carried;
 use crate::mixed_stream::push_mixed;
 use std::alloc::{AllocError, Global};
 
@@ -17,6 +18,8 @@ pub(crate) enum Input {
     Lost(&'static [u16], usize),
     /// Sixty packets of many kinds on four PIDs.
     Mixed,
+    /// A packet for each of these tables, with counters from 5 on.
+    Tables(&'static [Carried]),
 }
 
 /// The bytes of the file.
@@ -36,6 +39,7 @@ pub(crate) fn input_bytes(alloc: Global, input: Input) -> Result<Vec<u8>, AllocE
             }
         }
         Input::Mixed => push_mixed(&mut bytes)?,
+        Input::Tables(carried) => push_tables(&mut bytes, carried)?,
     }
     Ok(bytes)
 }
@@ -63,6 +67,19 @@ fn push_packet(bytes: &mut Vec<u8>, pid: u16, counter: u8) -> Result<(), AllocEr
     bytes.extend_from_slice(&[0x47, high, low, 0x10 | counter % 16])?;
     for k in 0..184u8 {
         bytes.push(counter.wrapping_add(k))?;
+    }
+    Ok(())
+}
+
+/// A packet for each section, with unit start, pointer 0 and 0xFF behind the section.
+fn push_tables(bytes: &mut Vec<u8>, carried: &[Carried]) -> Result<(), AllocError> {
+    for (i, table) in carried.iter().enumerate() {
+        let [high, low] = table.pid().to_be_bytes();
+        bytes.extend_from_slice(&[0x47, 0x40 | high, low, 0x10 | ((i + 5) % 16) as u8, 0])?;
+        bytes.extend_from_slice(table.section())?;
+        for _ in table.section().len()..183 {
+            bytes.push(0xFF)?;
+        }
     }
     Ok(())
 }

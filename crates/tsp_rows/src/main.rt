@@ -3,8 +3,10 @@
 //! stages work beside one another, and chains with sizes of many kinds, which have to agree in bytes, report and status.
 #![tactic(auto)]
 
+mod carried;
 mod chain_table;
 mod chains;
+mod edit_rows;
 mod end_rows;
 mod fault_rows;
 mod following_gate;
@@ -23,6 +25,7 @@ mod windows;
 mod word_rows;
 
 use anyhow::Result;
+use edit_rows::{EDIT_ROWS, EDIT_WORD_ROWS};
 use end_rows::END_ROWS;
 use fault_rows::{LATE_ROWS, OPENING_ROWS, RUN_ROWS};
 use plugin_rows::{JOINT_ROWS, LABEL_ROWS, PLUGIN_ROWS, WATCH_ROWS};
@@ -37,10 +40,12 @@ fn main(rt: HostRuntime) -> Result<()> {
     print_rows(&rt, &WATCH_ROWS, &mut tally)?;
     print_rows(&rt, &JOINT_ROWS, &mut tally)?;
     print_rows(&rt, &LABEL_ROWS, &mut tally)?;
+    print_rows(&rt, &EDIT_ROWS, &mut tally)?;
     print_rows(&rt, &OPENING_ROWS, &mut tally)?;
     print_rows(&rt, &RUN_ROWS, &mut tally)?;
     print_rows(&rt, &LATE_ROWS, &mut tally)?;
     print_rows(&rt, &WORD_ROWS, &mut tally)?;
+    print_rows(&rt, &EDIT_WORD_ROWS, &mut tally)?;
     println!(rt; "both calls agree: {} of {} rows", tally.alike, tally.runs)?;
     windows::print_windows(&rt)?;
     threads::print_threads(&rt)?;

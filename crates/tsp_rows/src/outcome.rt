@@ -33,7 +33,7 @@ fn print_report(rt: &impl Print, bytes: &[u8]) -> Result<()> {
     Ok(())
 }
 
-/// Prints how many bytes were written under a name, the packets, and the last four bytes.
+/// Prints how many bytes were written under a name, the packets, and the last four bytes; and sections.
 fn print_output(rt: &impl Print, name: &str, bytes: &[u8]) -> Result<()> {
     let count = bytes.len();
     print!(rt; "  output {name:?}: {count} bytes")?;
@@ -45,6 +45,9 @@ fn print_output(rt: &impl Print, name: &str, bytes: &[u8]) -> Result<()> {
         print!(rt; ", ends {a:02x}{b:02x}{c:02x}{d:02x}")?;
     }
     println!(rt; "")?;
+    if count <= SHORT {
+        print_sections(rt, bytes)?;
+    }
     Ok(())
 }
 
@@ -60,6 +63,33 @@ fn print_packets(rt: &impl Print, bytes: &[u8]) -> Result<()> {
             print!(rt; " {pid}/{counter}")?;
         }
         left = rest;
+    }
+    Ok(())
+}
+
+/// Prints the section that begins right behind the pointer, of each packet that has one.
+fn print_sections(rt: &impl Print, bytes: &[u8]) -> Result<()> {
+    let mut left = bytes;
+    while let Some((row, rest)) = left.split_first_chunk::<188>() {
+        if row[1] & 0x40 != 0 && row[4] == 0 {
+            print_section(rt, &row[5..])?;
+        }
+        left = rest;
+    }
+    Ok(())
+}
+
+/// Prints the bytes of the first section.
+fn print_section(rt: &impl Print, bytes: &[u8]) -> Result<()> {
+    if let [_, high, low, ..] = bytes {
+        let length = u16::from_be_bytes([*high & 0x0F, *low]);
+        if let Some(section) = bytes.get(..usize::from(length) + 3) {
+            print!(rt; "  section")?;
+            for byte in section {
+                print!(rt; " {byte:02x}")?;
+            }
+            println!(rt; "")?;
+        }
     }
     Ok(())
 }

@@ -21,3 +21,18 @@ returns-in-Continuity c = rw c.in-Continuity.is c.agreed-in-Continuity.ensures
 
 pub returns-in-Remap : goal.returns-in-Remap
 returns-in-Remap c = rw c.in-Remap.is c.agreed-in-Remap.ensures
+
+pub returns-in-Pat : goal.returns-in-Pat
+returns-in-Pat c = rw c.in-Pat.is c.agreed-in-Pat.ensures
+
+pub returns-in-Cat : goal.returns-in-Cat
+returns-in-Cat c = rw c.in-Cat.is c.agreed-in-Cat.ensures
+
+pub returns-in-Pmt : goal.returns-in-Pmt
+returns-in-Pmt c = rw c.in-Pmt.is c.agreed-in-Pmt.ensures
+
+pub returns-in-Sdt : goal.returns-in-Sdt
+returns-in-Sdt c = rw c.in-Sdt.is c.agreed-in-Sdt.ensures
+
+pub returns-in-Nit : goal.returns-in-Nit
+returns-in-Nit c = rw c.in-Nit.is c.agreed-in-Nit.ensures

@@ -36,3 +36,18 @@ returns-in-Continuity-clause-tells c = rw c.in-Continuity.is c.step-in-Continuit
 
 pub returns-in-Continuity-clause-meets : goal.returns-in-Continuity-clause-meets
 returns-in-Continuity-clause-meets c = rw c.in-Continuity.is c.step-in-Continuity.ensures.meets
+
+pub returns-in-Pat-clause-tells : goal.returns-in-Pat-clause-tells
+returns-in-Pat-clause-tells c = rw c.in-Pat.is c.step-in-Pat.ensures.tells
+
+pub returns-in-Cat-clause-tells : goal.returns-in-Cat-clause-tells
+returns-in-Cat-clause-tells c = rw c.in-Cat.is c.step-in-Cat.ensures.tells
+
+pub returns-in-Pmt-clause-tells : goal.returns-in-Pmt-clause-tells
+returns-in-Pmt-clause-tells c = rw c.in-Pmt.is c.step-in-Pmt.ensures.tells
+
+pub returns-in-Sdt-clause-tells : goal.returns-in-Sdt-clause-tells
+returns-in-Sdt-clause-tells c = rw c.in-Sdt.is c.step-in-Sdt.ensures.tells
+
+pub returns-in-Nit-clause-tells : goal.returns-in-Nit-clause-tells
+returns-in-Nit-clause-tells c = rw c.in-Nit.is c.step-in-Nit.ensures.tells

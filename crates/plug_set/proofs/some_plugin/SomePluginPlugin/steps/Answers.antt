@@ -75,3 +75,33 @@ returns-in-Remap-clause-makes c = rw c.in-Remap.is c.steps-in-Remap.ensures.make
 
 pub returns-in-Remap-clause-agreed : goal.returns-in-Remap-clause-agreed
 returns-in-Remap-clause-agreed c = rw c.in-Remap.is c.steps-in-Remap.ensures.agreed
+
+pub returns-in-Pat-clause-makes : goal.returns-in-Pat-clause-makes
+returns-in-Pat-clause-makes c = rw c.in-Pat.is c.steps-in-Pat.ensures.makes
+
+pub returns-in-Pat-clause-agreed : goal.returns-in-Pat-clause-agreed
+returns-in-Pat-clause-agreed c = rw c.in-Pat.is c.steps-in-Pat.ensures.agreed
+
+pub returns-in-Cat-clause-makes : goal.returns-in-Cat-clause-makes
+returns-in-Cat-clause-makes c = rw c.in-Cat.is c.steps-in-Cat.ensures.makes
+
+pub returns-in-Cat-clause-agreed : goal.returns-in-Cat-clause-agreed
+returns-in-Cat-clause-agreed c = rw c.in-Cat.is c.steps-in-Cat.ensures.agreed
+
+pub returns-in-Pmt-clause-makes : goal.returns-in-Pmt-clause-makes
+returns-in-Pmt-clause-makes c = rw c.in-Pmt.is c.steps-in-Pmt.ensures.makes
+
+pub returns-in-Pmt-clause-agreed : goal.returns-in-Pmt-clause-agreed
+returns-in-Pmt-clause-agreed c = rw c.in-Pmt.is c.steps-in-Pmt.ensures.agreed
+
+pub returns-in-Sdt-clause-makes : goal.returns-in-Sdt-clause-makes
+returns-in-Sdt-clause-makes c = rw c.in-Sdt.is c.steps-in-Sdt.ensures.makes
+
+pub returns-in-Sdt-clause-agreed : goal.returns-in-Sdt-clause-agreed
+returns-in-Sdt-clause-agreed c = rw c.in-Sdt.is c.steps-in-Sdt.ensures.agreed
+
+pub returns-in-Nit-clause-makes : goal.returns-in-Nit-clause-makes
+returns-in-Nit-clause-makes c = rw c.in-Nit.is c.steps-in-Nit.ensures.makes
+
+pub returns-in-Nit-clause-agreed : goal.returns-in-Nit-clause-agreed
+returns-in-Nit-clause-agreed c = rw c.in-Nit.is c.steps-in-Nit.ensures.agreed

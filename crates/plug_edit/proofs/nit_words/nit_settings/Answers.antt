@@ -1,0 +1,35 @@
+use Rattle.std.proofs.Common.{◌∙◌, ap₂, refl, sym}
+use Rattle.plug_edit.specs.Versions.{versions_agree}
+use Rattle.plug_edit.specs.NitWords.{nit, nit_rows}
+use Rattle.option_words.proofs.RefusalLemmas.{all_true, malformed, nothing_broken, value_refused}
+use Rattle.plug_edit.proofs.WordsLemmas.{conflict_broken}
+use Rattle.plug_edit.proofs.nit_words.nit_settings.Goals as goal
+
+pub returns-in_err-network_id-clause-reads : goal.returns-in_err-network_id-clause-reads
+returns-in_err-network_id-clause-reads c =
+    value_refused nit c.args.found.now _ _ _ c.from_residual.ensures.1 c.in_err-network_id.ensures.reads refl
+    (malformed nit_rows c.args.found.now 1 _ refl)
+
+pub returns-in_err-new_version-clause-reads : goal.returns-in_err-new_version-clause-reads
+returns-in_err-new_version-clause-reads c =
+    value_refused nit c.args.found.now _ _ _ c.from_residual-in_err-new_version.ensures.1 c.in_err-new_version.ensures.reads refl
+    (malformed nit_rows c.args.found.now 3 _ refl)
+
+pub returns-in_err-remove_ts-clause-reads : goal.returns-in_err-remove_ts-clause-reads
+returns-in_err-remove_ts-clause-reads c =
+    value_refused nit c.args.found.now _ _ _ c.from_residual-in_err-remove_ts.ensures.1 c.in_err-remove_ts.ensures.reads refl
+    (malformed nit_rows c.args.found.now 0 _ refl)
+
+pub returns-then-not-versions_agree-clause-reads : goal.returns-then-not-versions_agree-clause-reads
+returns-then-not-versions_agree-clause-reads c =
+    conflict_broken nit c.args.found.now refl
+    (all_true _ _ c.in_ok-remove_ts.ensures.reads.0 (all_true _ _ c.in_ok-network_id.ensures.reads.0 (all_true _ _ c.in_ok-network_name.ensures.formed (all_true _ _ c.in_ok-new_version.ensures.reads.0 refl))))
+    (ap₂ versions_agree (sym c.in_ok-new_version.ensures.reads.1) (sym c.has_flag-increment_version.ensures) ∙ (sym c.versions_agree.ensures ∙ c.if-not-versions_agree.true))
+
+pub returns-clause-reads : goal.returns-clause-reads
+returns-clause-reads c = (
+  nothing_broken nit c.args.found.now refl
+      (all_true _ _ c.in_ok-remove_ts.ensures.reads.0 (all_true _ _ c.in_ok-network_id.ensures.reads.0 (all_true _ _ c.in_ok-network_name.ensures.formed (all_true _ _ c.in_ok-new_version.ensures.reads.0 refl))))
+      (ap₂ versions_agree (sym c.in_ok-new_version.ensures.reads.1) (sym c.has_flag-increment_version.ensures) ∙ (sym c.versions_agree.ensures ∙ c.if-not-versions_agree.false)),
+  cc (c.in_ok-remove_ts.ensures.reads.1, c.in_ok-network_id.ensures.reads.1, c.in_ok-network_name.ensures.reads, c.in_ok-new_version.ensures.reads.1, c.has_flag-increment_version.ensures),
+)
