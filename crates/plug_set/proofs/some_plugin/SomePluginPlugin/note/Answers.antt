@@ -3,3 +3,18 @@ use Rattle.plug_set.proofs.some_plugin.SomePluginPlugin.note.Goals as goal
 
 pub returns-in-Continuity-clause-notes : goal.returns-in-Continuity-clause-notes
 returns-in-Continuity-clause-notes c = rw c.in-Continuity.is c.note-in-Continuity.ensures.notes
+
+pub returns-in-Pat-clause-notes : goal.returns-in-Pat-clause-notes
+returns-in-Pat-clause-notes c = rw c.in-Pat.is c.note-in-Pat.ensures.notes
+
+pub returns-in-Cat-clause-notes : goal.returns-in-Cat-clause-notes
+returns-in-Cat-clause-notes c = rw c.in-Cat.is c.note-in-Cat.ensures.notes
+
+pub returns-in-Pmt-clause-notes : goal.returns-in-Pmt-clause-notes
+returns-in-Pmt-clause-notes c = rw c.in-Pmt.is c.note-in-Pmt.ensures.notes
+
+pub returns-in-Sdt-clause-notes : goal.returns-in-Sdt-clause-notes
+returns-in-Sdt-clause-notes c = rw c.in-Sdt.is c.note-in-Sdt.ensures.notes
+
+pub returns-in-Nit-clause-notes : goal.returns-in-Nit-clause-notes
+returns-in-Nit-clause-notes c = rw c.in-Nit.is c.note-in-Nit.ensures.notes

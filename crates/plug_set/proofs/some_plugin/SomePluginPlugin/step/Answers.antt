@@ -51,3 +51,18 @@ returns-in-Sdt-clause-tells c = rw c.in-Sdt.is c.step-in-Sdt.ensures.tells
 
 pub returns-in-Nit-clause-tells : goal.returns-in-Nit-clause-tells
 returns-in-Nit-clause-tells c = rw c.in-Nit.is c.step-in-Nit.ensures.tells
+
+pub returns-in-Pat-clause-meets : goal.returns-in-Pat-clause-meets
+returns-in-Pat-clause-meets c = rw c.in-Pat.is c.step-in-Pat.ensures.meets
+
+pub returns-in-Cat-clause-meets : goal.returns-in-Cat-clause-meets
+returns-in-Cat-clause-meets c = rw c.in-Cat.is c.step-in-Cat.ensures.meets
+
+pub returns-in-Pmt-clause-meets : goal.returns-in-Pmt-clause-meets
+returns-in-Pmt-clause-meets c = rw c.in-Pmt.is c.step-in-Pmt.ensures.meets
+
+pub returns-in-Sdt-clause-meets : goal.returns-in-Sdt-clause-meets
+returns-in-Sdt-clause-meets c = rw c.in-Sdt.is c.step-in-Sdt.ensures.meets
+
+pub returns-in-Nit-clause-meets : goal.returns-in-Nit-clause-meets
+returns-in-Nit-clause-meets c = rw c.in-Nit.is c.step-in-Nit.ensures.meets

@@ -105,3 +105,33 @@ returns-in-Nit-clause-makes c = rw c.in-Nit.is c.steps-in-Nit.ensures.makes
 
 pub returns-in-Nit-clause-agreed : goal.returns-in-Nit-clause-agreed
 returns-in-Nit-clause-agreed c = rw c.in-Nit.is c.steps-in-Nit.ensures.agreed
+
+pub returns-in-Pat-clause-far : goal.returns-in-Pat-clause-far
+returns-in-Pat-clause-far c = rw c.in-Pat.is c.steps-in-Pat.ensures.far
+
+pub returns-in-Pat-clause-met : goal.returns-in-Pat-clause-met
+returns-in-Pat-clause-met c = rw c.in-Pat.is c.steps-in-Pat.ensures.met
+
+pub returns-in-Cat-clause-far : goal.returns-in-Cat-clause-far
+returns-in-Cat-clause-far c = rw c.in-Cat.is c.steps-in-Cat.ensures.far
+
+pub returns-in-Cat-clause-met : goal.returns-in-Cat-clause-met
+returns-in-Cat-clause-met c = rw c.in-Cat.is c.steps-in-Cat.ensures.met
+
+pub returns-in-Pmt-clause-far : goal.returns-in-Pmt-clause-far
+returns-in-Pmt-clause-far c = rw c.in-Pmt.is c.steps-in-Pmt.ensures.far
+
+pub returns-in-Pmt-clause-met : goal.returns-in-Pmt-clause-met
+returns-in-Pmt-clause-met c = rw c.in-Pmt.is c.steps-in-Pmt.ensures.met
+
+pub returns-in-Sdt-clause-far : goal.returns-in-Sdt-clause-far
+returns-in-Sdt-clause-far c = rw c.in-Sdt.is c.steps-in-Sdt.ensures.far
+
+pub returns-in-Sdt-clause-met : goal.returns-in-Sdt-clause-met
+returns-in-Sdt-clause-met c = rw c.in-Sdt.is c.steps-in-Sdt.ensures.met
+
+pub returns-in-Nit-clause-far : goal.returns-in-Nit-clause-far
+returns-in-Nit-clause-far c = rw c.in-Nit.is c.steps-in-Nit.ensures.far
+
+pub returns-in-Nit-clause-met : goal.returns-in-Nit-clause-met
+returns-in-Nit-clause-met c = rw c.in-Nit.is c.steps-in-Nit.ensures.met
