@@ -51,10 +51,12 @@ pub use pmt_conf::EditPmtConf;
 pub use pmt_edit::edit_pmt;
 pub use pmt_plugin::{EditPmt, PmtEdit};
 pub use pmt_words::{pmt_command, pmt_settings};
+pub use read_or_same::{sections_or_same, table_or_none};
 pub use sdt_conf::EditSdtConf;
 pub use sdt_edit::edit_sdt;
 pub use sdt_plugin::{EditSdt, SdtEdit};
 pub use sdt_words::{sdt_command, sdt_settings};
+pub use written::in_room;
 
 #[cfg(test)]
 mod tests;

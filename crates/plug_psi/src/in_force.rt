@@ -60,8 +60,8 @@ impl InForce {
         Ok(())
     }
 
-    /// Takes the next packet as `feed` does, and answers whether a PAT or PMT came with it: where none came, the same
-    /// tables are in force.
+    /// Takes the next packet as `feed` does. Where the answer is `false`, the same PAT and PMTs are in force as before;
+    /// `true` tells that a PAT or a PMT may have come into force with it, so what was made of them is to be made anew.
     pub fn update(&mut self, packet: &Packet) -> Result<bool, AllocError>
         ensures stands { OnOk result ((fed : List (List ℕ)) → StandsFor self.old fed → StandsFor self.new (fed ++ packet.now ∷ [])) }
         ensures same { IfOk result (λ came. came ≡ false → (fed : List (List ℕ)) → StandsFor self.old fed → SameInForce fed packet.now) }
