@@ -23,6 +23,3 @@ pub use plan_of_words::plan;
 pub use plan_type::Plan;
 pub use plugin_list::PluginList;
 pub use words_fault::WordsFault;
-
-#[cfg(test)]
-mod tests;

@@ -11,6 +11,3 @@ mod some_plugin;
 pub use any_plugin::AnyPlugin;
 pub use plugin_conf::{PluginConf, PluginKind};
 pub use plugin_item::PluginItem;
-
-#[cfg(test)]
-mod tests;

@@ -1,4 +1,4 @@
-use crate::PluginKind;
+use plug_set::PluginKind;
 use std::test::Fail;
 
 /// The name of each kind is that of its plugin on the command line. What plugins do is tried by rows of the whole tool.

@@ -1,4 +1,4 @@
-use crate::{InputConf, OutputConf, Plan, WordsFault, WordsRule, plan};
+use chain_args::{InputConf, OutputConf, Plan, WordsFault, WordsRule, plan};
 use plug_set::PluginConf;
 use std::alloc::Global;
 use std::test::Fail;
