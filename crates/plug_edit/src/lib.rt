@@ -57,6 +57,3 @@ pub use sdt_edit::edit_sdt;
 pub use sdt_plugin::{EditSdt, SdtEdit};
 pub use sdt_words::{sdt_command, sdt_settings};
 pub use written::in_room;
-
-#[cfg(test)]
-mod tests;

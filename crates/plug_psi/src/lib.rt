@@ -17,6 +17,3 @@ pub use edit::{Edited, TableEdit};
 pub use editor::Editor;
 pub use in_force::InForce;
 pub use laws::{contents_are_last_tables, last_found_is_the_last, later_packets_change_nothing};
-
-#[cfg(test)]
-mod tests;

@@ -13,8 +13,6 @@ mod sections;
 mod showing;
 mod table;
 mod table_laws;
-#[cfg(test)]
-mod tests;
 mod values;
 
 pub use reading::{of_json, tables_of_json};

@@ -1,9 +1,9 @@
 //! Tables as JSON texts and sections, each call that takes memory once with enough of it.
 
-use crate::{of_json, table_of, table_sections, to_json};
 use serde_json::Value;
 use std::alloc::Global;
 use std::test::Fail;
+use ts_json_tables::{of_json, table_of, table_sections, to_json};
 use ts_jtree::{JsonKind, ReadRefusal};
 use ts_section::TableRun;
 

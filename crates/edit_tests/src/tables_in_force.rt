@@ -1,6 +1,6 @@
 //! Each call that takes memory once with enough of it, on streams of a few packets.
 
-use crate::{Edited, Editor, InForce, TableEdit};
+use plug_psi::{Edited, Editor, InForce, TableEdit};
 use std::alloc::{AllocError, Global};
 use std::test::Fail;
 use ts_bits::DescriptorList;

@@ -2,11 +2,11 @@
 
 ghost use Rattle.std.specs.Prelude.{◌<◌, []};
 
-use crate::{
+use plug_conf::{NumberSet, PairList};
+use plug_edit::{
     EditCat, EditCatConf, EditNit, EditNitConf, EditPat, EditPatConf, EditPmt, EditPmtConf,
     EditSdt, EditSdtConf,
 };
-use plug_conf::{NumberSet, PairList};
 use plugin_trait::{Plugin, apply_plugin};
 use std::alloc::Global;
 use std::test::Fail;

@@ -1,0 +1,6 @@
+//! The tests of `ts_json_tables`, in a crate of their own: a crate with tests is proved twice, and this one takes little
+//! time.
+#![tactic(auto)]
+
+#[cfg(test)]
+mod tables;
