@@ -118,10 +118,10 @@ impl<S: Source> PacketStream<S> {
         requires { HasRoom self.now }
         ensures { result ≡ true → IsUnfinished (hand_of self.now) }
     {
-        if self.have >= PACKET_SIZE {
-            return false;
+        if self.have < PACKET_SIZE {
+            return !self.is_lost();
         }
-        !self.is_lost()
+        false
     }
 
     /// Puts the packet in front into a cell.
