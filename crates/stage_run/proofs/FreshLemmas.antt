@@ -1,5 +1,5 @@
 -- Parts that were just made, and parts that have worked once: they may work on.
-use Rattle.std.proofs.Common.{◌≡◌, ℕ, ◌+◌, List, length, ap, subst, Option, None, refl, arith, length-append}
+use Rattle.std.proofs.Common.{◌≡◌, ℕ, ◌+◌, ◌≤◌, List, length, ap, subst, Option, None, refl, arith, length-append}
 use Rattle.std.proofs.lemmas.List.{length-take-le}
 use Rattle.ts_packet.specs.declared.cell.Cell.{Cell}
 use Rattle.ts_outside.specs.Source.{SourceView}
