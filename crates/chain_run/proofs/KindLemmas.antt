@@ -1,5 +1,5 @@
 -- What the work of a part says, by its kind.
-use Rattle.std.proofs.Common.{◌≡◌, ℕ, ◌+◌, ◌*◌, ◌<◌, ◌≤◌, List, [], length, take, Option, Some, refl, subst}
+use Rattle.std.proofs.Common.{◌≡◌, ℕ, ◌+◌, ◌*◌, ◌<◌, ◌≤◌, List, [], length, take, Option, Some, refl, subst, arith, inl, inr}
 use Rattle.ts_packet.specs.declared.cell.Cell.{Cell}
 use Rattle.chain_model.specs.PluginRule.{PluginRule, passing_rule}
 use Rattle.chain_model.specs.Apply.{StageList}
@@ -19,12 +19,19 @@ use Rattle.stage_run.specs.Feeds.{SameFeed}
 use Rattle.stage_run.specs.OutputStands.{SamePart}
 use Rattle.stage_run.specs.PartLists.{PartLists}
 use Rattle.stage_run.specs.PartStands.{PartGives, MayWantMemory, sink_kind, feed_kind, stream_kind, kind_of, rule_of, steady_of, an_input, a_plugin, an_output}
-use Rattle.stage_run.specs.Works.{WorksByKind, InputTells, OutputTells, KeepsRule, read_for}
+use Rattle.stage_run.specs.Works.{WorksByKind, FillsByKind, InputTells, OutputTells, KeepsRule, read_for}
+
+-- a part that goes on has done a cell where it had one
+pub fills-some : {S K P : Type 0} (new : StagePart S K P) (len done : ℕ) → FillsByKind new len done → done ≡ 0 → len ≡ 0
+fills-some (Input new) len done (inl all) none = omega arith
+fills-some (Input new) len done (inr some) none = let a : 0 < done = some.0 in absurd (omega arith)
+fills-some (Plugin new) len done all none = let a : done ≡ len = all in omega arith
+fills-some (Output new) len done all none = let a : done ≡ len = all in omega arith
 
 module _ {S K P : Type 0} (see : Seeing S K P) where
   pub record InputDid (old new : StagePart S K P) (before : PartLists) (news : News) (cells cells_new : List Cell) (work : Work) (after : PartLists) : Type 0 where
-    pub tells : InputTells news (length before.given) (length cells) work.done (after.read ≡ before.read) work.word.ended
-    pub reads : length after.read ≤ 188 * read_for (length before.given) (length cells)
+    pub tells : InputTells news (length before.given) work.done (FillsByKind new (length cells) work.done) (after.read ≡ before.read) work.word.ended
+    pub reads : (most : ℕ) → length before.read ≤ 188 * most → read_for (length before.given) (length cells) ≤ most → length after.read ≤ 188 * most
     pub gives : (input : StageList) → PartGives see new after input → PartGives see old before input
     pub keeps : (input : StageList) → PartGives see new after input → (rules : List PluginRule) (plugins : ℕ) → StageKeeps rules input plugins 0 [] before.given (take work.done cells_new) work.word
 

@@ -37,7 +37,7 @@ use Rattle.chain_run.specs.OneStage.{SoFarUpTo, IsInput, IsPlugin, IsOutput, Fai
 use Rattle.chain_run.specs.Ran.{IsLawfulRun}
 use Rattle.stage_run.specs.Works.{PartWork}
 use Rattle.chain_run.specs.Laws.{MachineLaws}
-use Rattle.chain_run.proofs.NumberLaws.{given-taken, taken-given, taken-falls, written-given, taken-ahead}
+use Rattle.chain_run.proofs.NumberLaws.{given-taken, taken-given, taken-falls, written-given, taken-ahead, taken-below}
 use Rattle.chain_run.proofs.StepLemmas.{part-more}
 use Rattle.stage_run.specs.Seeing.{Seeing}
 use Rattle.chain_run.proofs.KindLemmas.{InputDid, input-did, plugin-did, OutputDid, output-did, wants-more, stream-kept}
@@ -73,12 +73,22 @@ rule_behind-passes rules n is = ap (rule_behind rules) (sym is) ∙ past rules
     past [] = refl
     past (r ∷ rs) = past rs
 
--- how far an input may read that works on a window
-pub may_read : (buffer cut at len bytes : ℕ) → bytes ≤ 188 * read_for at len → at + len ≤ cut + buffer → MayRead buffer cut bytes
-may_read buffer cut at len bytes reads within =
+-- how far an input may read that works on a window: no further than before, or for its cells
+pub may_read : (buffer cut at len before after : ℕ) → MayRead buffer cut before → ((most : ℕ) → before ≤ 188 * most → read_for at len ≤ most → after ≤ 188 * most)
+    → at + len ≤ cut + buffer → at + len ≤ 2 ^ 60 → MayRead buffer cut after
+may_read buffer cut at len before after was reads within below =
     elim (cases_eq at (2 ^ 60)) [
-      | inl full ↦ (let is = read_for-full at len full in inr (omega arith, subst (λ n. bytes ≤ 188 * n) (is ∙ ap (λ n. n + 1) full) reads))
-      | inr free ↦ (let is = read_for-free at len free in let few : bytes ≤ 188 * (at + len) = subst (λ n. bytes ≤ 188 * n) is reads in inl (omega arith))
+      | inl full ↦ (let is = read_for-full at len full in elim was [
+          | inl few ↦ elim (cases_lt (2 ^ 60) (cut + buffer)) [
+              | inl more ↦ inl (reads (cut + buffer) few (omega arith))
+              | inr last ↦ inr (omega arith, reads (2 ^ 60 + 1) (omega arith) (omega arith))
+            ]
+          | inr far ↦ inr (far.0, reads (2 ^ 60 + 1) far.1 (omega arith))
+        ])
+      | inr free ↦ (let is = read_for-free at len free in elim was [
+          | inl few ↦ inl (reads (cut + buffer) few (omega arith))
+          | inr far ↦ inr (far.0, reads (2 ^ 60 + 1) far.1 (omega arith))
+        ])
     ]
 
 -- fewer cells than stand in the window below the limit
@@ -162,9 +172,12 @@ module _ {S K P : Type 0} (see : Seeing S K P) (begun : RunStart S K)
       reads-within : MayRead begun.plan.buffer low (length after.read)
       reads-within =
           let lists-length : length lists.given ≡ at = ap (λ (l : List Cell). length l) doing.given_is in
-          let reads : length after.read ≤ 188 * read_for at len =
-          subst (λ n. length after.read ≤ 188 * read_for at n) window-length (subst (λ n. length after.read ≤ 188 * read_for n (length window)) lists-length did.reads) in
-          may_read begun.plan.buffer low at len (length after.read) reads (let a = taken-within in let b = in_taken in omega arith)
+          let reads : (most : ℕ) → length lists.read ≤ 188 * most → read_for at len ≤ most → length after.read ≤ 188 * most =
+          λ most few room. did.reads most few
+              (subst (λ n. read_for (length lists.given) n ≤ most) (sym window-length) (subst (λ n. read_for n len ≤ most) (sym lists-length) room)) in
+          may_read begun.plan.buffer low at len (length lists.read) (length after.read) (doing.input first).within reads
+          (let a = taken-within in let b = in_taken in omega arith)
+          (let a = taken-below laws begun.plan r.lawful.users visits run-old k in let b = in_taken in omega arith)
 
       own-input : IsInput see begun new_part after low
       own-input = record {

@@ -19,14 +19,14 @@ use Rattle.stage_run.specs.declared.stage_part.StagePart.{StagePart}
 use Rattle.stage_run.specs.declared.work.Work.{Work}
 use Rattle.stage_run.specs.PartStands.{kind_of, an_input}
 use Rattle.stage_run.specs.Telling.{may_follow, FollowsNews}
-use Rattle.stage_run.specs.Works.{InputTells}
+use Rattle.stage_run.specs.Works.{InputTells, FillsByKind}
 use Rattle.chain_run.specs.Runs.{nothing_told, RunStart}
 use Rattle.chain_run.specs.SerialRuns.{still_of, remaining_work, IsIdle}
 use Rattle.chain_run.specs.Working.{IsRunning, StageWorks}
 use Rattle.chain_run.specs.Laws.{MachineLaws}
 use Rattle.chain_run.proofs.NumberLaws.{given-taken, taken-below}
 use Rattle.chain_run.proofs.TurnLemmas.{not-following}
-use Rattle.chain_run.proofs.KindLemmas.{input-did}
+use Rattle.chain_run.proofs.KindLemmas.{input-did, fills-some}
 use Rattle.chain_run.proofs.ProgressLemmas.{TakesAlone, as-progress, takes-alone, same-progress, takes-none, none-waits, still-same, still-falls, still-less}
 use Rattle.chain_run.proofs.TurnWorks.{Looked, open-state, here, worked, given-le, taken-is, may-now}
 
@@ -121,7 +121,7 @@ module _ {S K P : Type 0} (see : Seeing S K P)
         omega (arith, length-take did-here.len (drop (length (now.stages k).given % length cells) cells), length-drop (length (now.stages k).given % length cells) cells)
 
     empty-len : did-here.len ≡ 0
-    empty-len = let a = did-here.worked.stage.goes_on still_open in let b = window-length in omega arith
+    empty-len = let a = fills-some did-here.new (length (take did-here.len (drop (length (now.stages k).given % length cells) cells))) work.done (did-here.worked.stage.goes_on still_open) none in let b = window-length in omega arith
 
     empty : (m1 k).taken ≤ (m1 k).given
     empty =
@@ -182,8 +182,8 @@ module _ {S K P : Type 0} (see : Seeing S K P)
             let may = may-now see laws begun core1 parts cells k news looked parts_new cells_new work works in
             let w = worked-here.stage.works (looked.lists k) may in
             let did = input-did see (looked.part k) did-here.new (looked.lists k) news (take did-here.len (drop (length (now.stages k).given % length cells) cells)) did-here.window_new work w.after kind w.does in
-            let tells : (work.done ≡ length (take did-here.len (drop (length (now.stages k).given % length cells) cells))) × (length (looked.lists k).given < 2 ^ 60) =
-            subst (λ t. InputTells news (length (looked.lists k).given) (length (take did-here.len (drop (length (now.stages k).given % length cells) cells))) work.done (w.after.read ≡ (looked.lists k).read) t) still_open did.tells in
+            let tells : FillsByKind did-here.new (length (take did-here.len (drop (length (now.stages k).given % length cells) cells))) work.done × (length (looked.lists k).given < 2 ^ 60) =
+            subst (λ t. InputTells news (length (looked.lists k).given) work.done (FillsByKind did-here.new (length (take did-here.len (drop (length (now.stages k).given % length cells) cells))) work.done) (w.after.read ≡ (looked.lists k).read) t) still_open did.tells in
             let a = tells.1 in let b : length (looked.lists k).given ≡ length (now.stages k).given = may.given in let c = at-is in
             let d : (m1 k).given ≡ (m0 k).given = ap (λ (m : StagesProgress). (m k).given) first-same in
             omega arith

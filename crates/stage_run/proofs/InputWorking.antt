@@ -1,5 +1,6 @@
 -- An input's work, put together from what it read and gave.
-use Rattle.std.proofs.Common.{◌≡◌, ◌≢◌, ℕ, ◌+◌, ◌*◌, ◌^◌, ◌<◌, ◌≤◌, if◌then◌else◌, Bool, true, false, List, [], ◌++◌, length, take, refl, ap, sym, ◌∙◌, arith, append-nil, length-append, length-take, subst, Option, None, Some, ◌⊎◌, inl, inr, le_trans}
+use Rattle.std.proofs.Common.{◌≡◌, ◌≢◌, ℕ, ◌+◌, ◌*◌, ◌^◌, ◌<◌, ◌≤◌, if◌then◌else◌, Bool, true, false, List, [], ◌∷◌, ◌++◌, length, take, refl, ap, sym, ◌∙◌, arith, append-nil, length-append, length-take, subst, Option, None, Some, ◌⊎◌, inl, inr, le_trans}
+use Rattle.std.specs.List.{concat}
 use Rattle.std.proofs.lemmas.Bool.{cond-true, cond-false, eq-eqb, ne_eqb, cases_eq}
 use Rattle.std.proofs.Math.Nat.{mul-le-mul_left}
 use Rattle.ts_packet.specs.declared.cell.Cell.{Cell}
@@ -16,12 +17,14 @@ use Rattle.stage_run.specs.declared.packet_feed.PacketFeed.{PacketFeed}
 use Rattle.stage_run.specs.declared.packet_feed.PacketFeed.TheVariants.{Stream, Nulls, Generated}
 use Rattle.stage_run.specs.declared.input_stage.InputStage.{InputStage}
 use Rattle.stage_run.specs.PartLists.{PartLists}
-use Rattle.stage_run.specs.Feeds.{FeedStands, SameFeed, StandsAtSource, IsReady, hand_of}
+use Rattle.stage_run.specs.Feeds.{FeedStands, SameFeed, StandsAtSource, IsReady, WantsMore, hand_of}
 use Rattle.stage_run.specs.InputStands.{InputHolds, InputStands, IsOpen, IsGoingOn, FitsTold, stuffing_of}
-use Rattle.stage_run.specs.InputSteps.{InputGoes, IsOver, EndsAtLimit}
+use Rattle.stage_run.specs.InputSteps.{InputGoes, IsOver, FillsWindow, EndsAtLimit}
 use Rattle.stage_run.specs.Telling.{may_follow, followed}
 use Rattle.stage_run.specs.Works.{Works, InputWorks, InputTells, FaultsTold, source_faults, read_for}
 use Rattle.stage_run.specs.PartStands.{MayWork}
+use Rattle.stage_run.specs.Rows.{IsUnfinished}
+use Rattle.stage_run.proofs.StreamLemmas.{length-concat}
 use Rattle.stage_run.proofs.InputLemmas.{InputGoes-none}
 use Rattle.stage_run.proofs.ContinuesLemmas.{Continues, continues-feed}
 use Rattle.stage_run.proofs.KeepingLemmas.{IsLonger, keeps_list}
@@ -162,10 +165,15 @@ longer_followed : (b : Bool) (nulls rest : ℕ) → IsLonger (if b then Some Fol
 longer_followed true nulls rest = tt
 longer_followed false nulls rest = tt
 
-tells_followed : (b : Bool) (news : News) (at len done : ℕ) (unread : Type 0) → done ≡ len → at < 2 ^ 60
-    → InputTells news at len done unread (if b then Some Followed else None)
-tells_followed true news at len done unread all free = inl (all, free)
-tells_followed false news at len done unread all free = (all, free)
+tells_followed : (b : Bool) (news : News) (at done : ℕ) (fills unread : Type 0) → fills → at < 2 ^ 60
+    → InputTells news at done fills unread (if b then Some Followed else None)
+tells_followed true news at done fills unread filled free = inl (filled, free)
+tells_followed false news at done fills unread filled free = (filled, free)
+
+-- of a packet that is not whole there are fewer bytes
+unfinished-few : (hand : List ℕ) → IsUnfinished hand → length hand < 188
+unfinished-few [] is = omega arith
+unfinished-few (first ∷ rest) is = is.1
 
 -- no source and no null packets end so
 no_too_long_ : {S : Type 0} (seen : S → SourceView) (feed : PacketFeed S) (first : SourceView) (read : List ℕ) (rows : List (List ℕ))
@@ -213,7 +221,7 @@ module _ {S : Type 0} (seen : S → SourceView) where
       → length (lists.given ++ take done cells_new) ≤ 2 ^ 60
       → FitsTold new.ended new.nulls (lists_behind lists goes.bytes (take done cells) (take done cells_new)) told
       → ((input : StageList) (continues : Continues (stuffing_of new.stuffing) goes.holds.rows new.ended (IsReady new.feed) input) → IsLonger told new.nulls (length continues.rest))
-      → InputTells news (length lists.given) (length cells) done (lists.read ++ goes.bytes ≡ lists.read) told
+      → InputTells news (length lists.given) done (FillsWindow new (length cells) done) (lists.read ++ goes.bytes ≡ lists.read) told
       → Works (InputStands seen new) (InputWorks seen old new lists news cells cells_new (plain_work done told)) lists written cells cells_new (plain_work done told)
   works_of old new lists news cells cells_new written wanted done told was mark goes room fits fit longer tells =
       let after : PartLists = lists_behind lists goes.bytes (take done cells) (take done cells_new) in
@@ -224,8 +232,6 @@ module _ {S : Type 0} (seen : S → SourceView) where
         put = goes.holds.put;
         every = goes.holds.every;
       } in
-      let within : length lists.read ≤ 188 * read_for (length lists.given) (length cells) =
-      le_trans was.fits.reads (mul-le-mul_left 188 (read_for-least (length lists.given) (length cells))) in
       record {
         after = after;
         behind = record {
@@ -243,7 +249,7 @@ module _ {S : Type 0} (seen : S → SourceView) where
           same = goes.same;
           faults = faults_told new.ended new.nulls after told (source_faults seen old.feed) (source_faults seen new.feed) fit
               (feed_faults old.feed new.feed lists.source lists.read (lists.read ++ goes.bytes) was.holds.rows goes.holds.rows old.ended new.ended goes.same was.holds.feed was.fits.can goes.holds.feed);
-          reads = goes.reads (read_for (length lists.given) (length cells)) within room;
+          reads = λ most within few. goes.reads most within (le_trans room few);
           keeps = λ input gives. (
             goes.gives input gives,
             λ rules plugins.
@@ -267,7 +273,7 @@ module _ {S : Type 0} (seen : S → SourceView) where
       works_of old old lists news cells cells written 0 0 (Some Followed) was may.mark goes
       (let least = read_for-least (length lists.given) (length cells) in omega arith)
       (omega (arith, length-append lists.given []))
-      (record { can = was.fits.can; reads = let reads : length lists.read ≤ 188 * length lists.given = was.fits.reads in omega (arith, length-append lists.given [], length-append lists.read []) })
+      (record { can = was.fits.can; reads = let reads : length lists.read ≤ 188 * (length lists.given + 1) = was.fits.reads in omega (arith, length-append lists.given [], length-append lists.read []) })
       (λ input continues. tt)
       (inr (refl, append-nil lists.read, ap (may_follow news) given_is ∙ follows))
 
@@ -309,26 +315,39 @@ module _ {S : Type 0} (seen : S → SourceView) where
       (λ input continues. longer_over how new.nulls (length continues.rest) (λ is. lost (over.ended ∙ ap Some is)))
       tt
 
-  -- an input that filled its window
+  -- an input that wants a read has read no whole packet that it did not put
+  read-few : (feed : PacketFeed S) (first : SourceView) (read : List ℕ) (rows : List (List ℕ)) (ended : Option InputEnd) (n : ℕ)
+      → FeedStands seen feed first read rows ended → WantsMore feed → length rows ≤ n → length read ≤ 188 * (n + 1)
+  read-few (Stream stream) first read rows ended n stands wants put =
+      omega (arith, ap (λ (l : List ℕ). length l) stands.read_is, length-append (concat rows) (hand_of stream), length-concat rows stands.packets,
+      unfinished-few (hand_of stream) wants)
+  read-few (Nulls nulls) first read rows ended n stands wants put = absurd wants
+  read-few (Generated generated) first read rows ended n stands wants put = absurd wants
+
+  -- an input that filled its window, or gave some cells and wants a read
   pub works_filled : (old new : InputStage S) (lists : PartLists) (news : News) (cells cells_new : List Cell) (at written done : ℕ)
-      → MayWork (InputStands seen old) at written lists → at + length cells ≤ 2 ^ 60 → at ≢ 2 ^ 60 → length cells_new ≡ length cells → done ≡ length cells
+      → MayWork (InputStands seen old) at written lists → at + length cells ≤ 2 ^ 60 → at ≢ 2 ^ 60 → length cells_new ≡ length cells → done ≤ length cells → FillsWindow new (length cells) done
       → ((lists : PartLists) → InputHolds seen old lists → InputGoes seen old new lists (length cells) (take done cells_new))
       → (IsOpen old.ended → IsOpen new.ended)
       → Works (InputStands seen new) (InputWorks seen old new lists news cells cells_new (plain_work done (followed news (at + done)))) lists written cells cells_new (plain_work done (followed news (at + done)))
-  works_filled old new lists news cells cells_new at written done may within free long all all_go stays_open =
+  works_filled old new lists news cells cells_new at written done may within free long few fills all_go stays_open =
       let was : InputStands seen old lists None = may.goes_on in
       let given_is : length lists.given ≡ at = may.given in
       let goes = all_go lists was.holds in
       let told : Option StageEnd = followed news (at + done) in
       let b : Bool = may_follow news (at + done) in
-      let given_now : length (lists.given ++ take done cells_new) ≡ at + length cells = omega (arith, length-append lists.given (take done cells_new), length-take done cells_new) in
-      let reads_now : length (lists.read ++ goes.bytes) ≤ 188 * (at + length cells) =
-      goes.reads (at + length cells) (le_trans was.fits.reads (mul-le-mul_left 188 (omega arith))) (omega arith) in
+      let given_now : length (lists.given ++ take done cells_new) ≡ at + done = omega (arith, length-append lists.given (take done cells_new), length-take done cells_new) in
+      let reads_now : length (lists.read ++ goes.bytes) ≤ 188 * (at + done + 1) =
+      elim fills [
+        | inl all ↦ goes.reads (at + done + 1) (le_trans was.fits.reads (mul-le-mul_left 188 (omega arith))) (omega arith)
+        | inr some ↦ read-few new.feed lists.source (lists.read ++ goes.bytes) goes.holds.rows new.ended (at + done) goes.holds.feed some.1.2
+            (subst (λ (n : ℕ). length goes.holds.rows ≤ n) given_now goes.holds.put)
+      ] in
       works_of old new lists news cells cells_new written (length cells) done told was may.mark goes
       (let room : read_for (length lists.given) (length cells) ≡ length lists.given + length cells =
       read_for-free (length lists.given) (length cells) (λ full. free (sym given_is ∙ full)) in omega arith)
       (omega arith)
       (fits_followed b new.ended new.nulls (lists_behind lists goes.bytes (take done cells) (take done cells_new))
-      (record { can = stays_open was.fits.can; reads = subst (λ (n : ℕ). length (lists.read ++ goes.bytes) ≤ 188 * n) (sym given_now) reads_now }))
+      (record { can = stays_open was.fits.can; reads = subst (λ (n : ℕ). length (lists.read ++ goes.bytes) ≤ 188 * (n + 1)) (sym given_now) reads_now }))
       (λ input continues. longer_followed b new.nulls (length continues.rest))
-      (tells_followed b news (length lists.given) (length cells) done (lists.read ++ goes.bytes ≡ lists.read) all (omega arith))
+      (tells_followed b news (length lists.given) done (FillsWindow new (length cells) done) (lists.read ++ goes.bytes ≡ lists.read) fills (omega arith))

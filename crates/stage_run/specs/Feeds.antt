@@ -112,6 +112,12 @@ IsReady (Stream stream) = BeginsPacket (hand_of stream)
 IsReady (Nulls feed) = feed.packets < feed.all
 IsReady (Generated feed) = feed.packets < feed.all
 
+-- a packet more has to be read: of a source none is in hand, and the bytes there do not tell the end either
+abbrev pub WantsMore : {S : Type 0} → PacketFeed S → Type 0
+WantsMore (Stream stream) = IsUnfinished (hand_of stream)
+WantsMore (Nulls feed) = ⊥
+WantsMore (Generated feed) = ⊥
+
 -- a generator has given the packets that were put, and these are no more than all
 abbrev pub IsCounted : GeneratedFeed → Type 0
 IsCounted feed = (feed.packets ≤ feed.all) × (feed.generator.given ≡ feed.packets)

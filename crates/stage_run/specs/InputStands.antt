@@ -1,5 +1,5 @@
 -- What an input with its stuffing stands for. This project's own rule.
-use Rattle.std.specs.Prelude.{◌≡◌, ℕ, ◌*◌, ◌≤◌, List, [], ◌++◌, length, Option, None, Some, IfSome}
+use Rattle.std.specs.Prelude.{◌≡◌, ℕ, ◌+◌, ◌*◌, ◌≤◌, List, [], ◌++◌, length, Option, None, Some, IfSome}
 use Rattle.ts_packet.specs.declared.numbers.TheConstants.{PACKET_SIZE}
 use Rattle.chain_model.specs.declared.positions.TheConstants.{POSITION_LIMIT}
 use Rattle.ts_packet.specs.declared.cell.Cell.{Cell}
@@ -37,10 +37,11 @@ IsOpen None = Unit {0}
 IsOpen (Some (End left)) = Unit {0}
 IsOpen (Some how) = ⊥
 
--- before it tells its end an input can go on, and it has read no more than the cells that it gave have room for
+-- before it tells its end an input can go on, and it has read one packet more, at most, than the cells that it gave have
+-- room for
 pub record IsGoingOn (ended : Option InputEnd) (lists : PartLists) : Type 0 where
   pub can : IsOpen ended
-  pub reads : length lists.read ≤ PACKET_SIZE * length lists.given
+  pub reads : length lists.read ≤ PACKET_SIZE * (length lists.given + 1)
 
 -- what is told of an input's end fits what is known of it: nothing is left to give, or no position
 abbrev pub FitsTold : Option InputEnd → ℕ → PartLists → Option StageEnd → Type 0

@@ -9,7 +9,7 @@ use Rattle.chain_model.specs.Apply.{StageList}
 use Rattle.chain_model.specs.Stuffed as model
 use Rattle.stage_run.specs.declared.input_stage.InputStage.{InputStage}
 use Rattle.stage_run.specs.PartLists.{PartLists}
-use Rattle.stage_run.specs.Feeds.{FeedHasRoom, IsReady, SameFeed}
+use Rattle.stage_run.specs.Feeds.{FeedHasRoom, IsReady, SameFeed, WantsMore}
 use Rattle.stage_run.specs.InputStands.{InputHolds, MayGive}
 
 -- more was read and given
@@ -59,9 +59,17 @@ abbrev pub cell_put : Option InputEnd → Cell → List Cell
 cell_put None cell = cell ∷ []
 cell_put (Some how) cell = []
 
--- all cells were put, or the list is over
+-- the next cell wants a read: no null packets are due, no end is known, and a packet more has to be read
+abbrev pub WantsRead : {S : Type 0} → InputStage S → Type 0
+WantsRead stage = (stage.nulls ≡ 0) × (stage.ended ≡ None) × WantsMore stage.feed
+
+-- all cells of the window were put, or some were and the next one wants a read
+abbrev pub FillsWindow : {S : Type 0} → InputStage S → ℕ → ℕ → Type 0
+FillsWindow new len done = (done ≡ len) ⊎ ((0 < done) × WantsRead new)
+
+-- the window is filled, or the list is over
 abbrev pub IsFilled : {S : Type 0} → InputStage S → ℕ → ℕ → Option InputEnd → Type 0
-IsFilled new len done None = done ≡ len
+IsFilled new len done None = FillsWindow new len done
 IsFilled new len done (Some how) = IsOver new how
 
 -- a cell more would come, or the list is over

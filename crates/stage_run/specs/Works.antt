@@ -33,6 +33,7 @@ use Rattle.stage_run.specs.Seeing.{Seeing}
 use Rattle.stage_run.specs.PartLists.{PartLists}
 use Rattle.stage_run.specs.Feeds.{SameFeed}
 use Rattle.stage_run.specs.InputStands.{InputStands, MayGive}
+use Rattle.stage_run.specs.InputSteps.{FillsWindow}
 use Rattle.stage_run.specs.PluginStands.{PluginStands}
 use Rattle.stage_run.specs.OutputStands.{OutputStands, IsPartOfFirst, SamePart}
 use Rattle.stage_run.specs.PartStands.{PartStands, MayWork, MayWantMemory, rule_of, kind_of, steady_of, stuffing_in}
@@ -47,8 +48,8 @@ pub record Behind (old new : PartLists) (cells cells_given : List Cell) (written
   pub sink : new.sink ≡ old.sink
   pub mark : new.mark ≤ written
 
--- for how many packets, counted from its beginning, an input may have read that works on `len` cells behind `at`: for
--- its cells, but for one packet more at the last position
+-- for how many packets, counted from its beginning, an input may read that works on `len` cells behind `at`: for its
+-- cells, but for one packet more at the last position
 abbrev pub read_for : ℕ → ℕ → ℕ
 read_for at len = if at == POSITION_LIMIT then at + 1 else at + len
 
@@ -56,14 +57,14 @@ read_for at len = if at == POSITION_LIMIT then at + 1 else at + len
 abbrev pub FaultsTold : ℕ → ℕ → Option StageEnd → StageEnd → Type 0
 FaultsTold old new told fault = (told ≡ Some fault → new ≡ raised old) × ((told ≡ Some fault → ⊥) → new ≡ old)
 
--- an input works on all its cells, unless its list ends; at the last position it looks for its end. It need not read
--- where it may follow already
-abbrev pub InputTells : News → ℕ → ℕ → ℕ → Type 0 → Option StageEnd → Type 0
-InputTells news at len done unread None = (done ≡ len) × (at < POSITION_LIMIT)
-InputTells news at len done unread (Some Followed) =
-    ((done ≡ len) × (at < POSITION_LIMIT)) ⊎ ((done ≡ 0) × unread × (may_follow news at ≡ true))
-InputTells news at len done unread (Some (Input how)) = Unit {0}
-InputTells news at len done unread (Some _) = ⊥
+-- an input fills its window, unless its list ends; at the last position it looks for its end. It need not read where it
+-- may follow already
+abbrev pub InputTells : News → ℕ → ℕ → Type 0 → Type 0 → Option StageEnd → Type 0
+InputTells news at done fills unread None = fills × (at < POSITION_LIMIT)
+InputTells news at done fills unread (Some Followed) =
+    (fills × (at < POSITION_LIMIT)) ⊎ ((done ≡ 0) × unread × (may_follow news at ≡ true))
+InputTells news at done fills unread (Some (Input how)) = Unit {0}
+InputTells news at done fills unread (Some _) = ⊥
 
 -- the count of faults of an input's source
 abbrev pub source_faults : {S : Type 0} → (S → SourceView) → PacketFeed S → ℕ
@@ -73,7 +74,7 @@ source_faults seen (feed.Generated generated) = 0
 
 pub record InputWorks {S : Type 0} (seen : S → SourceView) (old new : InputStage S) (before : PartLists)
     (news : News) (cells cells_new : List Cell) (work : Work) (after : PartLists) : Type 0 where
-  pub tells : InputTells news (length before.given) (length cells) work.done
+  pub tells : InputTells news (length before.given) work.done (FillsWindow new (length cells) work.done)
       (after.read ≡ before.read) work.word.ended
   pub agreed : work.word.agreed ≡ None
   -- it stays an input from a source, of so many null packets, or of so many packets of one seed
@@ -81,7 +82,8 @@ pub record InputWorks {S : Type 0} (seen : S → SourceView) (old new : InputSta
   pub faults : FaultsTold (source_faults seen old.feed) (source_faults seen new.feed) work.word.ended
       (Input ReadFault)
   -- no more is read than the cells want
-  pub reads : length after.read ≤ PACKET_SIZE * read_for (length before.given) (length cells)
+  pub reads : (most : ℕ) → length before.read ≤ PACKET_SIZE * most
+      → read_for (length before.given) (length cells) ≤ most → length after.read ≤ PACKET_SIZE * most
   -- what may follow now might have followed before, and of each such list the visit is a stage's
   pub keeps : (input : StageList) → MayGive seen new after input → MayGive seen old before input
       × ((rules : List PluginRule) (plugins : ℕ)
@@ -152,15 +154,26 @@ pub record Works (Stands : PartLists → Option StageEnd → Type 0) (Does : Par
   pub stands : Stands after work.word.ended
   pub does : Does after
 
+-- all cells were done
+abbrev pub DoesAll : ℕ → ℕ → Type 0
+DoesAll len done = done ≡ len
+
+-- a part that goes on has done all its cells; an input alone may have done the first of them, where a read is next
+abbrev pub FillsByKind : {S K P : Type 0} → StagePart S K P → ℕ → ℕ → Type 0
+FillsByKind (part.Input new) = FillsWindow new
+FillsByKind (part.Plugin new) = DoesAll
+FillsByKind (part.Output new) = DoesAll
+
 -- the work of a stage, of whatever kind: `Old` and `New` are what it stood for and stands for, `Wants` says whether it may
--- want memory that works so far ahead of the mark, and `Does` what its kind does
-pub record StageWork (Old New : PartLists → Option StageEnd → Type 0) (Wants : ℕ → Type 0)
+-- want memory that works so far ahead of the mark, `Fills` how many of its cells it does that goes on, and `Does` what its
+-- kind does
+pub record StageWork (Old New : PartLists → Option StageEnd → Type 0) (Wants : ℕ → Type 0) (Fills : ℕ → ℕ → Type 0)
     (Does : PartLists → PartLists → Type 0) (at : ℕ) (news : News)
     (cells cells_new : List Cell) (work : Work) : Type 0 where
-  -- so many cells are done, the others are as they were, and a stage that goes on has done all
+  -- so many cells are done, and the others are as they were
   pub done : work.done ≤ length cells
   pub rest : drop work.done cells_new ≡ drop work.done cells
-  pub goes_on : work.word.ended ≡ None → work.done ≡ length cells
+  pub goes_on : work.word.ended ≡ None → Fills (length cells) work.done
   pub follows : FollowsNews news (at + work.done) work.word.ended
   -- an agreement is with one of the cells that were done
   pub agreed : (agreed : ℕ) → work.word.agreed ≡ Some agreed → (at < agreed) × (agreed ≤ at + work.done)
@@ -173,7 +186,7 @@ pub record StageWork (Old New : PartLists → Option StageEnd → Type 0) (Wants
 abbrev pub InputWork : {S : Type 0} → (S → SourceView) → InputStage S → InputStage S
     → ℕ → News → List Cell → List Cell → Work → Type 0
 InputWork seen old new at news cells cells_new work =
-    StageWork (InputStands seen old) (InputStands seen new) (λ _. ⊥)
+    StageWork (InputStands seen old) (InputStands seen new) (λ _. ⊥) (FillsWindow new)
     (λ before. InputWorks seen old new before news cells cells_new work) at news cells cells_new work
 
 -- the work of a plugin's stage: it wants no memory where room was made for all that it is given to work on
@@ -181,14 +194,14 @@ abbrev pub PluginWork : {P : Type 0} → (P → PluginRule) → (P → List Cell
     → PluginStage P → PluginStage P → ℕ → News → List Cell → List Cell → Work → Type 0
 PluginWork rule stands steady old new at news cells cells_new work =
     StageWork (PluginStands rule stands old) (PluginStands rule stands new)
-    (λ ahead. IsSteadyFor (steady old.plugin) ahead → ⊥)
+    (λ ahead. IsSteadyFor (steady old.plugin) ahead → ⊥) DoesAll
     (λ before. PluginWorks (rule old.plugin) before news cells cells_new work) at news cells cells_new work
 
 -- the work of an output: it wants no memory
 abbrev pub OutputWork : {K : Type 0} → (K → SinkView) → OutputStage K → OutputStage K
     → ℕ → News → List Cell → List Cell → Work → Type 0
 OutputWork seen old new at news cells cells_new work =
-    StageWork (OutputStands seen old) (OutputStands seen new) (λ _. ⊥)
+    StageWork (OutputStands seen old) (OutputStands seen new) (λ _. ⊥) DoesAll
     (λ before. OutputWorks seen old new before news cells cells_new work) at news cells cells_new work
 
 -- a part worked on cells that stand behind its first `at`; it stays what it is
@@ -198,5 +211,5 @@ pub record PartWork {S K P : Type 0} (see : Seeing S K P) (old new : StagePart S
   pub same_rule : rule_of see new ≡ rule_of see old
   pub same_steady : steady_of see new ≡ steady_of see old
   pub same_stuffing : stuffing_in new ≡ stuffing_in old
-  pub stage : StageWork (PartStands see old) (PartStands see new) (MayWantMemory see old)
+  pub stage : StageWork (PartStands see old) (PartStands see new) (MayWantMemory see old) (FillsByKind new)
       (λ before. WorksByKind see old new before news cells cells_new work) at news cells cells_new work

@@ -52,7 +52,7 @@ fn null_count(packets: u64, stuffing: &Stuffing) -> u64
 }
 
 impl<S: Source> InputStage<S> {
-    ghost use Rattle.std.specs.Prelude.{◌≡◌, ◌≢◌, ℕ, ◌+◌, ◌%◌, ◌==◌, ◌<◌, ◌≤◌, ◌↔◌, [], length, take, drop, if◌then◌else◌, Option, None, Some, IsSome, IfSome};
+    ghost use Rattle.std.specs.Prelude.{◌≡◌, ◌≢◌, ℕ, ◌+◌, ◌%◌, ◌==◌, ◌<◌, ◌≤◌, ◌↔◌, [], length, take, drop, if◌then◌else◌, Option, None, Some, IsSome, IfSome, true};
     ghost use Rattle.chain_model.specs.Apply.{StageList};
     ghost use Rattle.chain_core.specs.declared.stage_end.StageEnd.{StageEnd};
     ghost use Rattle.ts_outside.specs.Source.{SourceView};
@@ -60,7 +60,7 @@ impl<S: Source> InputStage<S> {
     ghost use Rattle.stage_run.specs.PartLists.{PartLists, fresh_lists};
     ghost use Rattle.stage_run.specs.Feeds.{IsReady, packets_put};
     ghost use Rattle.stage_run.specs.InputStands.{IsOpen, InputHolds, InputStands, MayGive, stuffing_of};
-    ghost use Rattle.stage_run.specs.InputSteps.{InputFits, InputGoes, IsOver, cell_put, IsFilled, EndsAtLimit};
+    ghost use Rattle.stage_run.specs.InputSteps.{InputFits, InputGoes, IsOver, cell_put, WantsRead, IsFilled, EndsAtLimit};
     ghost use Rattle.stage_run.specs.Parts.{IsListOf, IsSourceOf, IsUnused, LeavesInput, SomeList};
     ghost use Rattle.stage_run.specs.PartStands.{MayWork, MayWorkOnSome, source_kind, feed_kind};
     ghost use Rattle.stage_run.specs.Works.{InputWork};
@@ -153,7 +153,22 @@ impl<S: Source> InputStage<S> {
         None
     }
 
-    /// Puts the next cells of the list, until the window is full or the list ends.
+    /// Whether the cells that were put, so many, are handed on before the next one, since that wants a read.
+    fn hands_on(&self, done: usize) -> bool
+        requires fits { InputFits self.now }
+        ensures { result ≡ true → (0 < done) × WantsRead self.now }
+    {
+        if done == 0 || self.nulls > 0 {
+            return false;
+        }
+        if self.ended.is_some() {
+            return false;
+        }
+        self.feed.wants_read()
+    }
+
+    /// Puts the next cells of the list, until the window is full, the list ends, or some cells were put and the next one
+    /// wants a read.
     fn fill(&mut self, cells: &mut [Cell]) -> Filled
         requires fits { InputFits self.old }
         requires in_range { packets_put self.old.feed + length cells.old ≤ POSITION_LIMIT }
@@ -167,6 +182,9 @@ impl<S: Source> InputStage<S> {
     {
         let len = cells.len();
         for (done, cell) in cells.iter_mut().enumerate() {
+            if self.hands_on(done) {
+                return Filled { done, over: None };
+            }
             let over = self.next_cell(cell, len - done);
             if over.is_some() {
                 return Filled { done, over };
@@ -194,7 +212,8 @@ impl<S: Source> InputStage<S> {
         }
     }
 
-    /// Reads and gives for all cells, unless the list ends or the news let the input follow already.
+    /// Reads and gives for its cells, unless the news let the input follow already: for all of them, or until the list ends
+    /// or a second read would be needed.
     pub(crate) fn work(&mut self, at: u64, cells: &mut [Cell], news: &News) -> Work
         requires stands { MayWorkOnSome (InputStands S.seen self.old) at news.now.written }
         requires in_range { at + length cells.old ≤ POSITION_LIMIT }

@@ -14,10 +14,10 @@ pub(crate) enum PacketFeed<S> {
 }
 
 impl<S: Source> PacketFeed<S> {
-    ghost use Rattle.std.specs.Prelude.{◌≡◌, ◌+◌, ◌<◌, ◌≤◌, ℕ, List, None, IfNone};
+    ghost use Rattle.std.specs.Prelude.{◌≡◌, ◌+◌, ◌<◌, ◌≤◌, ℕ, List, None, IfNone, true};
     ghost use Rattle.chain_model.specs.declared.positions.TheConstants.{POSITION_LIMIT};
     ghost use Rattle.ts_outside.specs.Source.{SourceView};
-    ghost use Rattle.stage_run.specs.Feeds.{FeedStands, FeedHasRoom, FeedLooks, FeedPuts, IsFeedOf, IsReady, packets_put, part_of_feed};
+    ghost use Rattle.stage_run.specs.Feeds.{FeedStands, FeedHasRoom, FeedLooks, FeedPuts, IsFeedOf, IsReady, WantsMore, packets_put, part_of_feed};
 
     /// The packets of an input of which nothing was read yet; what is read goes into the room.
     pub(crate) fn of(part: InputPart<S>, room: IoBuffer) -> Self
@@ -80,6 +80,17 @@ impl<S: Source> PacketFeed<S> {
             PacketFeed::Stream(stream) => stream.ensure_packet(wanted),
             PacketFeed::Nulls(nulls) => nulls.ensure_packet(),
             PacketFeed::Generated(generated) => generated.ensure_packet(),
+        }
+    }
+
+    /// Whether a packet more has to be read.
+    pub(crate) fn wants_read(&self) -> bool
+        requires { FeedHasRoom self.now }
+        ensures { result ≡ true → WantsMore self.now }
+    {
+        match self {
+            PacketFeed::Stream(stream) => stream.wants_read(),
+            PacketFeed::Nulls(_) | PacketFeed::Generated(_) => false,
         }
     }
 

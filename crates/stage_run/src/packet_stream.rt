@@ -21,7 +21,7 @@ pub(crate) struct PacketStream<S> {
 impl<S: Source> PacketStream<S> {
     ghost use Rattle.std.specs.Prelude.{◌≡◌, ◌+◌, ◌*◌, ◌^◌, ◌<◌, ◌≤◌, ℕ, List, None, MatchResult, IfNone, true, false};
     ghost use Rattle.ts_outside.specs.Source.{SourceView};
-    ghost use Rattle.stage_run.specs.Rows.{IsInSync, IsOutOfSync, BeginsPacket};
+    ghost use Rattle.stage_run.specs.Rows.{IsUnfinished, IsInSync, IsOutOfSync, BeginsPacket};
     ghost use Rattle.stage_run.specs.Feeds.{hand_of, HasRoom, ReadsMore, FailsToRead, MovesHand, StreamStands, StreamLooks, StreamPuts};
 
     /// Gives the source back.
@@ -111,6 +111,17 @@ impl<S: Source> PacketStream<S> {
                 Err(Failed) => return Some(InputEnd::ReadFault),
             }
         }
+    }
+
+    /// Whether a packet more has to be read: there is none in hand, and the bytes there do not tell the end either.
+    pub(crate) fn wants_read(&self) -> bool
+        requires { HasRoom self.now }
+        ensures { result ≡ true → IsUnfinished (hand_of self.now) }
+    {
+        if self.have < PACKET_SIZE {
+            return !self.is_lost();
+        }
+        false
     }
 
     /// Puts the packet in front into a cell.

@@ -121,10 +121,10 @@ impl<S: Source, K: Sink, P: Plugin> StagePart<S, K, P> {
 
     /// Works on the first cells in the stage's hands, at the position `at`, with the news of its last visit.
     ///
-    /// An input reads for all of them at once, a plugin is told the mark and steps over them between the gate's two
-    /// calls, an output writes the live packets of those below the limit together. Of the work's answer the next visit
-    /// tells: the first `done` cells are the next ones of the stage's list, and the word says what it agrees to and how
-    /// it ends. It takes no memory, but for what a plugin takes.
+    /// An input reads for all of them at once, and goes on with the packets that came, a plugin is told the mark and
+    /// steps over them between the gate's two calls, an output writes the live packets of those below the limit
+    /// together. Of the work's answer the next visit tells: the first `done` cells are the next ones of the stage's
+    /// list, and the word says what it agrees to and how it ends. It takes no memory, but for what a plugin takes.
     pub fn work<G: Gate>(
         &mut self,
         stage: usize,

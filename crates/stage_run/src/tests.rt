@@ -1,4 +1,4 @@
-ghost use Rattle.std.specs.Prelude.{◌≡◌, ◌+◌, ◌≤◌, [], None, IfOk, length, false};
+ghost use Rattle.std.specs.Prelude.{◌≡◌, ◌+◌, ◌<◌, ◌≤◌, [], None, IfOk, length, false};
 ghost use Rattle.stage_run.specs.Seeing.{seeing};
 ghost use Rattle.stage_run.specs.PartStands.{PartStands, MayWorkOnSome, kind_of, an_input, a_plugin, an_output};
 ghost use Rattle.stage_run.specs.Parts.{IsUnused};
@@ -88,6 +88,14 @@ fn plan(alloc: Global, read: u64, write: u64) -> Result<FailPlan, AllocError>
     Ok(plan)
 }
 
+/// A desk with a file `in` of so many packets, of which one read gives so many bytes.
+fn slow_desk(alloc: Global, packets: usize, piece: usize) -> Result<MemoryDesk, AllocError>
+    requires { 0 < piece }
+{
+    let plan = FailPlan::none(alloc, piece, 300, 1000);
+    MemoryDesk::new(alloc, files(alloc, packets)?, plan)
+}
+
 /// A desk with a file `in` of so many packets. Calls are numbered from 1, so that with 0 none fails.
 fn desk(alloc: Global, packets: usize, read: u64, write: u64) -> Result<MemoryDesk, AllocError> {
     MemoryDesk::new(alloc, files(alloc, packets)?, plan(alloc, read, write)?)
@@ -153,9 +161,10 @@ fn work<S: Source, K: Sink, P: Plugin>(
     requires may { MayWorkOnSome (PartStands (seeing S.seen K.seen P.rule P.stands_for P.steady) part.old) at
         0 }
     requires few { at + length cells.old ≤ 10 }
+    ensures done { result.done ≤ length cells.old }
     ensures again { result.word.ended ≡ None
         → MayWorkOnSome (PartStands (seeing S.seen K.seen P.rule P.stands_for P.steady) part.new)
-        (at + length cells.old) 0 }
+        (at + result.done) 0 }
     ensures kind { kind_of part.new ≡ kind_of part.old }
 {
     part.work(1, at, cells, &news(limit), &OpenGate)
@@ -187,61 +196,69 @@ fn close_output(desk: &mut MemoryDesk, part: OutputPart<MemorySink>) -> bool {
     }
 }
 
-/// What an input did with two windows of two cells; nothing with the second where the first one ended it.
+/// Three windows of two cells.
+type Windows = [[Cell; 2]; 3];
+
+/// Three windows in which nothing was put.
+fn no_cells() -> Windows {
+    [[Cell::Dropped; 2]; 3]
+}
+
+/// What an input did with three windows; nothing with those behind the one in which it ended.
 #[derive(Clone, Copy)]
 struct Gave {
     first: Work,
     second: Option<Work>,
+    third: Option<Work>,
 }
 
-/// Works on two windows of two cells, the second behind the first.
+/// Works on three windows, each behind the cells that were put before it.
 fn gives<S: Source, K: Sink, P: Plugin>(
     part: &mut StagePart<S, K, P>,
-    first: &mut [Cell; 2],
-    second: &mut [Cell; 2],
+    windows: &mut Windows,
 ) -> Gave
     requires may { MayWorkOnSome (PartStands (seeing S.seen K.seen P.rule P.stands_for P.steady) part.old) 0 0 }
     ensures kind { kind_of part.new ≡ kind_of part.old }
 {
-    let one = work(part, 0, first, None);
-    if one.word.ended.is_some() {
-        return Gave {
-            first: one,
-            second: None,
-        };
+    let [one, two, three] = windows;
+    let mut gave = Gave {
+        first: work(part, 0, one, None),
+        second: None,
+        third: None,
+    };
+    if gave.first.word.ended.is_some() {
+        return gave;
     }
-    let two = work(part, 2, second, None);
-    Gave {
-        first: one,
-        second: Some(two),
+    let at = gave.first.done as u64;
+    let second = work(part, at, two, None);
+    gave.second = Some(second);
+    if second.word.ended.is_none() {
+        gave.third = Some(work(part, at + second.done as u64, three, None));
     }
+    gave
 }
 
-/// Works on two windows with an input, and gives the input back.
+/// Works on three windows with an input, and gives the input back.
 fn gives_and_ends<S: Source, K: Sink, P: Plugin>(
     part: InputPart<S>,
     start: u64,
     room: IoBuffer,
-    first: &mut [Cell; 2],
-    second: &mut [Cell; 2],
+    windows: &mut Windows,
 ) -> (InputPart<S>, Gave)
     requires { IsUnused part }
 {
     let mut part: StagePart<S, K, P> = input(part, start, room);
-    let gave = gives(&mut part, first, second);
+    let gave = gives(&mut part, windows);
     (part.into_input(), gave)
 }
 
-/// Works on two windows with an input that reads the file `in`, of so many packets. A read of this number fails.
+/// Works on three windows with an input that reads a desk's file `in`.
 fn read_file(
     alloc: Global,
-    packets: usize,
+    mut desk: MemoryDesk,
     start: u64,
-    read: u64,
-    first: &mut [Cell; 2],
-    second: &mut [Cell; 2],
+    windows: &mut Windows,
 ) -> Result<Gave, Fail> {
-    let mut desk = desk(alloc, packets, read, 0)?;
     let room = IoBuffer::new(alloc, 2)?;
     let source = match desk.open_in(Some("in")) {
         Ok(source) => source,
@@ -251,8 +268,7 @@ fn read_file(
         InputPart::Stream(source),
         start,
         room,
-        first,
-        second,
+        windows,
     );
     close_input(&mut desk, part);
     Ok(gave)
@@ -272,71 +288,114 @@ fn did(rt: &impl Abort, work: Work, done: usize, ended: Option<StageEnd>) {
     assert_eq!(rt; work.word.ended, ended);
 }
 
+/// Looks at what was done with a window, unless the stage had ended before.
+fn did_then(rt: &impl Abort, work: Option<Work>, done: usize, ended: Option<StageEnd>) {
+    assert!(rt; work.is_some());
+    if let Some(work) = work {
+        did(rt, work, done, ended);
+    }
+}
+
+/// The end of an input of whole packets.
+const PLAIN_END: StageEnd = StageEnd::Input(InputEnd::End { left: 0 });
+
 #[test]
-fn an_input_gives_its_packets_and_then_its_end(rt: HostRuntime) -> Result<(), Fail> {
-    let mut first = [Cell::Dropped; 2];
-    let mut second = [Cell::Dropped; 2];
-    let gave = read_file(rt.alloc(), 3, 0, 0, &mut first, &mut second)?;
+fn a_file_is_read_in_full_windows(rt: HostRuntime) -> Result<(), Fail> {
+    let mut windows = no_cells();
+    let desk = desk(rt.alloc(), 4, 0, 0)?;
+    let gave = read_file(rt.alloc(), desk, 0, &mut windows)?;
     did(&rt, gave.first, 2, None);
-    let end = StageEnd::Input(InputEnd::End { left: 0 });
-    did(&rt, gave.second.ok_or("the input ended")?, 1, Some(end));
-    assert_eq!(rt; pid(&first[1]), Some(256));
-    assert_eq!(rt; pid(&second[0]), Some(256));
-    assert_eq!(rt; pid(&second[1]), None);
+    did_then(&rt, gave.second, 2, None);
+    did_then(&rt, gave.third, 0, Some(PLAIN_END));
+    assert_eq!(rt; pid(&windows[0][1]), Some(256));
+    assert_eq!(rt; pid(&windows[1][1]), Some(256));
+    assert_eq!(rt; pid(&windows[2][0]), None);
+    Ok(())
+}
+
+#[test]
+fn what_one_read_gave_is_handed_on(rt: HostRuntime) -> Result<(), Fail> {
+    let mut windows = no_cells();
+    let desk = slow_desk(rt.alloc(), 4, 188)?;
+    let gave = read_file(rt.alloc(), desk, 0, &mut windows)?;
+    did(&rt, gave.first, 1, None);
+    did_then(&rt, gave.second, 1, None);
+    did_then(&rt, gave.third, 1, None);
+    assert_eq!(rt; pid(&windows[1][0]), Some(256));
+    assert_eq!(rt; pid(&windows[1][1]), None);
+    Ok(())
+}
+
+// A packet is whole after two reads, or after one where half of it came with the packet before.
+#[test]
+fn half_a_packet_is_not_handed_on(rt: HostRuntime) -> Result<(), Fail> {
+    let mut windows = no_cells();
+    let desk = slow_desk(rt.alloc(), 2, 94)?;
+    let gave = read_file(rt.alloc(), desk, 0, &mut windows)?;
+    did(&rt, gave.first, 1, None);
+    did_then(&rt, gave.second, 1, None);
+    did_then(&rt, gave.third, 0, Some(PLAIN_END));
+    let mut windows = no_cells();
+    let desk = slow_desk(rt.alloc(), 3, 282)?;
+    let gave = read_file(rt.alloc(), desk, 0, &mut windows)?;
+    did(&rt, gave.first, 1, None);
+    did_then(&rt, gave.second, 2, None);
+    did_then(&rt, gave.third, 0, Some(PLAIN_END));
     Ok(())
 }
 
 #[test]
 fn stuffing_comes_first(rt: HostRuntime) -> Result<(), Fail> {
-    let mut first = [Cell::Dropped; 2];
-    let mut second = [Cell::Dropped; 2];
-    let gave = read_file(rt.alloc(), 2, 1, 0, &mut first, &mut second)?;
-    did(&rt, gave.first, 2, None);
-    let end = StageEnd::Input(InputEnd::End { left: 0 });
-    did(&rt, gave.second.ok_or("the input ended")?, 1, Some(end));
-    assert_eq!(rt; pid(&first[0]), Some(8191));
-    assert_eq!(rt; pid(&first[1]), Some(256));
-    assert_eq!(rt; pid(&second[0]), Some(256));
+    let mut windows = no_cells();
+    let desk = desk(rt.alloc(), 2, 0, 0)?;
+    let gave = read_file(rt.alloc(), desk, 1, &mut windows)?;
+    did(&rt, gave.first, 1, None);
+    did_then(&rt, gave.second, 2, None);
+    did_then(&rt, gave.third, 0, Some(PLAIN_END));
+    assert_eq!(rt; pid(&windows[0][0]), Some(8191));
+    assert_eq!(rt; pid(&windows[1][0]), Some(256));
+    assert_eq!(rt; pid(&windows[1][1]), Some(256));
     Ok(())
 }
 
 #[test]
 fn a_read_fails_behind_the_first_window(rt: HostRuntime) -> Result<(), Fail> {
-    let mut first = [Cell::Dropped; 2];
-    let mut second = [Cell::Dropped; 2];
-    let gave = read_file(rt.alloc(), 3, 0, 2, &mut first, &mut second)?;
+    let mut windows = no_cells();
+    let desk = desk(rt.alloc(), 3, 2, 0)?;
+    let gave = read_file(rt.alloc(), desk, 0, &mut windows)?;
     did(&rt, gave.first, 2, None);
-    let end = StageEnd::Input(InputEnd::ReadFault);
-    did(&rt, gave.second.ok_or("the input ended")?, 0, Some(end));
+    did_then(
+        &rt,
+        gave.second,
+        0,
+        Some(StageEnd::Input(InputEnd::ReadFault)),
+    );
+    assert!(rt; gave.third.is_none());
     Ok(())
 }
 
 #[test]
 fn an_input_of_null_packets_ends(rt: HostRuntime) -> Result<(), Fail> {
-    let mut first = [Cell::Dropped; 2];
-    let mut second = [Cell::Dropped; 2];
+    let mut windows = no_cells();
     let mut desk = desk(rt.alloc(), 0, 0, 0)?;
     let room = IoBuffer::new(rt.alloc(), 1)?;
     let (part, gave) = gives_and_ends::<MemorySource, MemorySink, StopsAt>(
         InputPart::Nulls(1),
         0,
         room,
-        &mut first,
-        &mut second,
+        &mut windows,
     );
     assert_eq!(rt; close_input(&mut desk, part), Some(1));
-    let end = StageEnd::Input(InputEnd::End { left: 0 });
-    did(&rt, gave.first, 1, Some(end));
+    did(&rt, gave.first, 1, Some(PLAIN_END));
     assert!(rt; gave.second.is_none());
-    assert_eq!(rt; pid(&first[0]), Some(8191));
-    assert_eq!(rt; pid(&first[1]), None);
+    assert_eq!(rt; pid(&windows[0][0]), Some(8191));
+    assert_eq!(rt; pid(&windows[0][1]), None);
     Ok(())
 }
 
 #[test]
 fn an_input_of_generated_packets_ends(rt: HostRuntime) -> Result<(), Fail> {
-    let mut first = [Cell::Dropped; 2];
-    let mut second = [Cell::Dropped; 2];
+    let mut windows = no_cells();
     let mut desk = desk(rt.alloc(), 0, 0, 0)?;
     let room = IoBuffer::new(rt.alloc(), 1)?;
     let generator = TestGen::new(rt.alloc(), 1)?;
@@ -347,16 +406,14 @@ fn an_input_of_generated_packets_ends(rt: HostRuntime) -> Result<(), Fail> {
         },
         0,
         room,
-        &mut first,
-        &mut second,
+        &mut windows,
     );
     assert_eq!(rt; close_input(&mut desk, part), Some(3));
     did(&rt, gave.first, 2, None);
-    let end = StageEnd::Input(InputEnd::End { left: 0 });
-    did(&rt, gave.second.ok_or("the input ended")?, 1, Some(end));
-    assert_eq!(rt; pid(&first[0]), Some(0));
-    assert_eq!(rt; pid(&first[1]), Some(4096));
-    assert_eq!(rt; pid(&second[0]), Some(4097));
+    did_then(&rt, gave.second, 1, Some(PLAIN_END));
+    assert_eq!(rt; pid(&windows[0][0]), Some(0));
+    assert_eq!(rt; pid(&windows[0][1]), Some(4096));
+    assert_eq!(rt; pid(&windows[1][0]), Some(4097));
     Ok(())
 }
 

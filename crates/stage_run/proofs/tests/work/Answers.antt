@@ -11,4 +11,4 @@ returns-clause-again g c = λ goes_on.
     (PartStands (seeing g.S.Source.seen g.K.Sink.seen g.P.Plugin.rule g.P.Plugin.stands_for g.P.Plugin.steady) c.args.part.now)
     _ c.args.at c.requires.may c.news.result.written c.args.cells.now c.work.new.cells c.work.result
     (ap (λ (news : News). news.written) c.news.ensures) (c.work.ensures.stage.works c.requires.may.lists)
-    goes_on (c.work.ensures.stage.goes_on goes_on) (omega arith)
+    goes_on c.work.ensures.stage.done (omega arith)

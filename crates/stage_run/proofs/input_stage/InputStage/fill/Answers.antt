@@ -1,10 +1,16 @@
-use Rattle.std.proofs.Common.{◌≡◌, ℕ, ◌+◌, ◌-◌, ◌≤◌, List, [], ◌∷◌, length, take, ◌∙◌, sym, subst, arith, append-nil}
+use Rattle.std.proofs.Common.{◌≡◌, ℕ, ◌+◌, ◌-◌, ◌≤◌, List, [], ◌∷◌, length, take, slice_index_or, ◌∙◌, sym, subst, arith, append-nil}
 use Rattle.std.proofs.lemmas.List.{take-set, take_more_set, length-take-le}
 use Rattle.ts_packet.specs.declared.cell.Cell.{Cell}
 use Rattle.stage_run.specs.InputSteps.{InputGoes, with_more, cell_put}
 use Rattle.stage_run.proofs.CellLemmas.{same_behind}
 use Rattle.stage_run.proofs.InputLemmas.{InputGoes-trans, InputGoes-stop, IsFilled-over, None-from_is_some}
 use Rattle.stage_run.proofs.input_stage.InputStage.fill.Goals as goal
+
+pub returns-then-hands_on-clause-goes : goal.returns-then-hands_on-clause-goes
+returns-then-hands_on-clause-goes g c = λ lists holds.
+    subst (λ (l : List Cell). InputGoes g.S.Source.seen c.args.self.now c.loop-done.self lists (length c.args.cells.now) l)
+    (sym (take-set c.loop-done.cells c.loop-done.done (slice_index_or c.loop-done.cells c.loop-done.done c.index-cells-done.result)))
+    (c.loop-done.invariant.goes lists holds)
 
 pub returns-then-is_some-clause-goes : goal.returns-then-is_some-clause-goes
 returns-then-is_some-clause-goes g c = λ lists holds.

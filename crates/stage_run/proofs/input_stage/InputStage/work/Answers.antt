@@ -2,7 +2,7 @@ use Rattle.std.proofs.Common.{◌≡◌, ◌+◌, ◌≤◌, length, Option, ref
 use Rattle.chain_model.specs.declared.input_end.InputEnd.{InputEnd}
 use Rattle.chain_core.specs.declared.stage_end.StageEnd.TheVariants.{Input, Followed}
 use Rattle.std.proofs.Common.{Some}
-use Rattle.stage_run.specs.InputSteps.{IsFilled}
+use Rattle.stage_run.specs.InputSteps.{IsFilled, FillsWindow}
 use Rattle.stage_run.specs.Telling.{may_follow, followed}
 use Rattle.stage_run.specs.InputStands.{InputStands}
 use Rattle.stage_run.specs.Works.{InputWorks}
@@ -28,7 +28,7 @@ returns-then-may_follow-clause-work g c =
     let cells = c.args.cells.now in
     let news = c.args.news.now in
     let follows = sym c.may_follow.ensures ∙ c.if-may_follow.true in
-    plain-stage (InputStands seen old) (InputStands seen old) (λ _. ⊥) (λ w before. InputWorks seen old old before news cells cells w)
+    plain-stage (InputStands seen old) (InputStands seen old) (λ _. ⊥) (FillsWindow old) (λ w before. InputWorks seen old old before news cells cells w)
     c.args.at news cells cells c.ending.result 0 (Some Followed) c.ending.ensures (omega arith) refl (λ e. cc)
     (ap (may_follow news) (add-zero c.args.at) ∙ follows) (λ e. cc)
     (λ lists may. works_following seen old lists news cells c.args.at news.written may (omega arith) follows)
@@ -40,7 +40,7 @@ returns-then-at-eq-POSITION_LIMIT-clause-work g c =
     let new = c.end_at_limit.new.self in
     let cells = c.args.cells.now in
     let news = c.args.news.now in
-    plain-stage (InputStands seen old) (InputStands seen new) (λ _. ⊥) (λ w before. InputWorks seen old new before news cells cells w)
+    plain-stage (InputStands seen old) (InputStands seen new) (λ _. ⊥) (FillsWindow new) (λ w before. InputWorks seen old new before news cells cells w)
     c.args.at news cells cells c.ending-then-at-eq-POSITION_LIMIT.result 0 (Some (Input c.end_at_limit.result)) c.ending-then-at-eq-POSITION_LIMIT.ensures
     (omega arith) refl (λ e. cc) tt (λ e. cc)
     (λ lists may. works_at_limit seen old new lists news cells c.args.at news.written c.end_at_limit.result may (omega arith)
@@ -55,7 +55,7 @@ returns-in-Some-clause-work g c =
     let cells_new = c.fill-filled.new.cells in
     let news = c.args.news.now in
     let done = c.fill-filled.result.done in
-    plain-stage (InputStands seen old) (InputStands seen new) (λ _. ⊥) (λ w before. InputWorks seen old new before news cells cells_new w)
+    plain-stage (InputStands seen old) (InputStands seen new) (λ _. ⊥) (FillsWindow new) (λ w before. InputWorks seen old new before news cells cells_new w)
     c.args.at news cells cells_new c.ending-in-Some.result done (Some (Input c.in-Some.how)) c.ending-in-Some.ensures
     c.fill-filled.ensures.done c.fill-filled.ensures.rest (λ e. cc) tt (λ e. cc)
     (λ lists may. works_over seen old new lists news cells cells_new c.args.at news.written done c.in-Some.how may
@@ -71,9 +71,9 @@ returns-in-None-clause-work g c =
     let cells_new = c.fill-filled.new.cells in
     let news = c.args.news.now in
     let done = c.fill-filled.result.done in
-    let all : done ≡ length cells = subst (λ (o : Option InputEnd). IsFilled new (length cells) done o) c.in-None.is c.fill-filled.ensures.filled in
-    plain-stage (InputStands seen old) (InputStands seen new) (λ _. ⊥) (λ w before. InputWorks seen old new before news cells cells_new w)
+    let fills : FillsWindow new (length cells) done = subst (λ (o : Option InputEnd). IsFilled new (length cells) done o) c.in-None.is c.fill-filled.ensures.filled in
+    plain-stage (InputStands seen old) (InputStands seen new) (λ _. ⊥) (FillsWindow new) (λ w before. InputWorks seen old new before news cells cells_new w)
     c.args.at news cells cells_new c.ending-in-None.result done (followed news (c.args.at + done)) (c.ending-in-None.ensures ∙ ap (plain_work done) c.followed.ensures)
-    c.fill-filled.ensures.done c.fill-filled.ensures.rest (λ e. all) (FollowsNews-followed news (c.args.at + done)) (followed-memory news (c.args.at + done))
+    c.fill-filled.ensures.done c.fill-filled.ensures.rest (λ e. fills) (FollowsNews-followed news (c.args.at + done)) (followed-memory news (c.args.at + done))
     (λ lists may. works_filled seen old new lists news cells cells_new c.args.at news.written done may (omega arith) (omega arith) (omega arith)
-    all c.fill-filled.ensures.goes (c.fill-filled.ensures.stays_open c.in-None.is))
+    c.fill-filled.ensures.done fills c.fill-filled.ensures.goes (c.fill-filled.ensures.stays_open c.in-None.is))

@@ -19,7 +19,7 @@ use Rattle.plugin_trait.specs.declared.list_end.ListEnd.TheVariants as window
 use Rattle.chain_core.specs.declared.stage_end.StageEnd.TheVariants.{NoMemory}
 use Rattle.stage_run.specs.PluginSteps.{Allows, told_by}
 use Rattle.stage_run.specs.PluginStands.{PluginStands}
-use Rattle.stage_run.specs.Works.{Works, PluginWorks}
+use Rattle.stage_run.specs.Works.{Works, PluginWorks, DoesAll}
 use Rattle.stage_run.proofs.WorkLemmas.{plain-stage, followed-memory}
 use Rattle.stage_run.proofs.PluginWorking.{plugin_works, newly_agreed-Some, through_all, no_memory_told, steady_less, FollowsNews-followed, FollowsNews-told}
 use Rattle.stage_run.proofs.plugin_stage.PluginStage.work.Goals as goal
@@ -83,7 +83,7 @@ returns-then-is_empty-clause-work g c =
     let none : cells ≡ [] = nil_from_length cells (eqb-true (length cells) 0 (sym c.is_empty.ensures ∙ c.if-is_empty.true)) in
     let told : c.ending.result ≡ plain_work 0 (followed news (c.args.at + 0)) =
     c.ending.ensures ∙ ap (plain_work 0) c.followed.ensures ∙ ap (λ (n : ℕ). plain_work 0 (followed news n)) (sym (add-zero c.args.at)) in
-    plain-stage (PluginStands rule stands old) (PluginStands rule stands old) (λ ahead. IsSteadyFor (g.P.Plugin.steady old.plugin) ahead → ⊥)
+    plain-stage (PluginStands rule stands old) (PluginStands rule stands old) (λ ahead. IsSteadyFor (g.P.Plugin.steady old.plugin) ahead → ⊥) DoesAll
     (λ w before. PluginWorks (rule old.plugin) before news cells cells w)
     c.args.at news cells cells c.ending.result 0 (followed news (c.args.at + 0)) told (omega arith) refl
     (λ e. omega (arith, ap (λ (l : List Cell). length l) none)) (FollowsNews-followed news (c.args.at + 0)) (followed-memory news (c.args.at + 0))
