@@ -17,6 +17,3 @@ pub use run_end::RunEnd;
 pub use serial_run::run_serial;
 pub use stage_laws::one_stage;
 pub use stages::Stages;
-
-#[cfg(test)]
-mod tests;

@@ -2,8 +2,8 @@ ghost use Rattle.std.specs.Prelude.{◌≡◌, ◌≤◌, length, IfOk};
 ghost use Rattle.std.specs.List.{All};
 ghost use Rattle.chain_core.specs.CoreNumbers.{IsLawfulPlan};
 
-use super::*;
 use chain_core::{Cause, Closed, CorePlan, InputEnd, StageSet};
+use chain_run::{RunEnd, Stages, run_serial};
 use plugin_trait::{Line, Outcome, Plugin, silent_report};
 use stage_run::{InputPart, OutputPart, Stuffing};
 use std::alloc::{AllocError, Global};
