@@ -11,4 +11,3 @@ pub mod WorkLemmas
 pub mod PartLemmas
 pub mod PluginWorking
 pub mod OutputWorking
-pub mod FreshLemmas

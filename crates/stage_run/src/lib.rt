@@ -28,6 +28,3 @@ pub use plugin_stage::PluginStage;
 pub use stage_part::StagePart;
 pub use stuffing::Stuffing;
 pub use work::Work;
-
-#[cfg(test)]
-mod tests;

@@ -1,7 +1,7 @@
 use Rattle.stage_run.specs.Seeing.{seeing}
 use Rattle.stage_run.specs.PartStands.{PartStands}
-use Rattle.stage_run.proofs.FreshLemmas.{any-source, any-sink, fresh-works}
-use Rattle.stage_run.proofs.tests.plugin.Goals as goal
+use Rattle.chain_tests.proofs.FreshLemmas.{any-source, any-sink, fresh-works}
+use Rattle.chain_tests.proofs.stages.plugin.Goals as goal
 
 pub returns-clause-may : goal.returns-clause-may
 returns-clause-may g c =

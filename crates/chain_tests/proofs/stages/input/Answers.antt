@@ -1,7 +1,7 @@
 use Rattle.stage_run.specs.Seeing.{seeing}
 use Rattle.stage_run.specs.PartStands.{PartStands}
-use Rattle.stage_run.proofs.FreshLemmas.{fresh-input}
-use Rattle.stage_run.proofs.tests.input.Goals as goal
+use Rattle.chain_tests.proofs.FreshLemmas.{fresh-input}
+use Rattle.chain_tests.proofs.stages.input.Goals as goal
 
 pub returns-clause-may : goal.returns-clause-may
 returns-clause-may g c =

@@ -2,8 +2,8 @@ use Rattle.std.proofs.Common.{ap, arith}
 use Rattle.chain_core.specs.declared.news.News.{News}
 use Rattle.stage_run.specs.Seeing.{seeing}
 use Rattle.stage_run.specs.PartStands.{PartStands}
-use Rattle.stage_run.proofs.FreshLemmas.{works-on}
-use Rattle.stage_run.proofs.tests.work.Goals as goal
+use Rattle.chain_tests.proofs.FreshLemmas.{works-on}
+use Rattle.chain_tests.proofs.stages.work.Goals as goal
 
 pub returns-clause-again : goal.returns-clause-again
 returns-clause-again g c = λ goes_on.

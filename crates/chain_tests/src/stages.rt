@@ -3,9 +3,9 @@ ghost use Rattle.stage_run.specs.Seeing.{seeing};
 ghost use Rattle.stage_run.specs.PartStands.{PartStands, MayWorkOnSome, kind_of, an_input, a_plugin, an_output};
 ghost use Rattle.stage_run.specs.Parts.{IsUnused};
 
-use super::*;
 use chain_core::{InputEnd, News, StageEnd};
 use plugin_trait::{Line, Outcome, Plugin, silent_report};
+use stage_run::{InputPart, IoBuffer, OutputPart, StagePart, Stuffing, Work};
 use std::alloc::{AllocError, Global};
 use std::process::Abort;
 use std::test::Fail;
