@@ -319,8 +319,13 @@ module _ {S : Type 0} (seen : S → SourceView) where
   read-few : (feed : PacketFeed S) (first : SourceView) (read : List ℕ) (rows : List (List ℕ)) (ended : Option InputEnd) (n : ℕ)
       → FeedStands seen feed first read rows ended → WantsMore feed → length rows ≤ n → length read ≤ 188 * (n + 1)
   read-few (Stream stream) first read rows ended n stands wants put =
-      omega (arith, ap (λ (l : List ℕ). length l) stands.read_is, length-append (concat rows) (hand_of stream), length-concat rows stands.packets,
-      unfinished-few (hand_of stream) wants)
+      omega (
+        arith,
+        ap (λ (l : List ℕ). length l) stands.read_is,
+        length-append (concat rows) (hand_of stream),
+        length-concat rows stands.packets,
+        unfinished-few (hand_of stream) wants,
+      )
   read-few (Nulls nulls) first read rows ended n stands wants put = absurd wants
   read-few (Generated generated) first read rows ended n stands wants put = absurd wants
 
