@@ -79,16 +79,16 @@ pub may_read : (buffer cut at len before after : ℕ) → MayRead buffer cut bef
 may_read buffer cut at len before after was reads within below =
     elim (cases_eq at (2 ^ 60)) [
       | inl full ↦ (let is = read_for-full at len full in elim was [
-          | inl few ↦ elim (cases_lt (2 ^ 60) (cut + buffer)) [
-              | inl more ↦ inl (reads (cut + buffer) few (omega arith))
-              | inr last ↦ inr (omega arith, reads (2 ^ 60 + 1) (omega arith) (omega arith))
-            ]
-          | inr far ↦ inr (far.0, reads (2 ^ 60 + 1) far.1 (omega arith))
-        ])
+        | inl few ↦ elim (cases_lt (2 ^ 60) (cut + buffer)) [
+          | inl more ↦ inl (reads (cut + buffer) few (omega arith))
+          | inr last ↦ inr (omega arith, reads (2 ^ 60 + 1) (omega arith) (omega arith))
+        ]
+        | inr far ↦ inr (far.0, reads (2 ^ 60 + 1) far.1 (omega arith))
+      ])
       | inr free ↦ (let is = read_for-free at len free in elim was [
-          | inl few ↦ inl (reads (cut + buffer) few (omega arith))
-          | inr far ↦ inr (far.0, reads (2 ^ 60 + 1) far.1 (omega arith))
-        ])
+        | inl few ↦ inl (reads (cut + buffer) few (omega arith))
+        | inr far ↦ inr (far.0, reads (2 ^ 60 + 1) far.1 (omega arith))
+      ])
     ]
 
 -- fewer cells than stand in the window below the limit
@@ -174,7 +174,7 @@ module _ {S K P : Type 0} (see : Seeing S K P) (begun : RunStart S K)
           let lists-length : length lists.given ≡ at = ap (λ (l : List Cell). length l) doing.given_is in
           let reads : (most : ℕ) → length lists.read ≤ 188 * most → read_for at len ≤ most → length after.read ≤ 188 * most =
           λ most few room. did.reads most few
-              (subst (λ n. read_for (length lists.given) n ≤ most) (sym window-length) (subst (λ n. read_for n len ≤ most) (sym lists-length) room)) in
+          (subst (λ n. read_for (length lists.given) n ≤ most) (sym window-length) (subst (λ n. read_for n len ≤ most) (sym lists-length) room)) in
           may_read begun.plan.buffer low at len (length lists.read) (length after.read) (doing.input first).within reads
           (let a = taken-within in let b = in_taken in omega arith)
           (let a = taken-below laws begun.plan r.lawful.users visits run-old k in let b = in_taken in omega arith)
