@@ -196,14 +196,6 @@ fn close_output(desk: &mut MemoryDesk, part: OutputPart<MemorySink>) -> bool {
     }
 }
 
-/// Three windows of two cells.
-type Windows = [[Cell; 2]; 3];
-
-/// Three windows in which nothing was put.
-fn no_cells() -> Windows {
-    [[Cell::Dropped; 2]; 3]
-}
-
 /// What an input did with three windows; nothing with those behind the one in which it ended.
 #[derive(Clone, Copy)]
 struct Gave {
@@ -215,12 +207,13 @@ struct Gave {
 /// Works on three windows, each behind the cells that were put before it.
 fn gives<S: Source, K: Sink, P: Plugin>(
     part: &mut StagePart<S, K, P>,
-    windows: &mut Windows,
+    one: &mut [Cell; 2],
+    two: &mut [Cell; 2],
+    three: &mut [Cell; 2],
 ) -> Gave
     requires may { MayWorkOnSome (PartStands (seeing S.seen K.seen P.rule P.stands_for P.steady) part.old) 0 0 }
     ensures kind { kind_of part.new ≡ kind_of part.old }
 {
-    let [one, two, three] = windows;
     let mut gave = Gave {
         first: work(part, 0, one, None),
         second: None,
@@ -243,12 +236,14 @@ fn gives_and_ends<S: Source, K: Sink, P: Plugin>(
     part: InputPart<S>,
     start: u64,
     room: IoBuffer,
-    windows: &mut Windows,
+    first: &mut [Cell; 2],
+    second: &mut [Cell; 2],
+    third: &mut [Cell; 2],
 ) -> (InputPart<S>, Gave)
     requires { IsUnused part }
 {
     let mut part: StagePart<S, K, P> = input(part, start, room);
-    let gave = gives(&mut part, windows);
+    let gave = gives(&mut part, first, second, third);
     (part.into_input(), gave)
 }
 
@@ -257,7 +252,9 @@ fn read_file(
     alloc: Global,
     mut desk: MemoryDesk,
     start: u64,
-    windows: &mut Windows,
+    first: &mut [Cell; 2],
+    second: &mut [Cell; 2],
+    third: &mut [Cell; 2],
 ) -> Result<Gave, Fail> {
     let room = IoBuffer::new(alloc, 2)?;
     let source = match desk.open_in(Some("in")) {
@@ -268,7 +265,9 @@ fn read_file(
         InputPart::Stream(source),
         start,
         room,
-        windows,
+        first,
+        second,
+        third,
     );
     close_input(&mut desk, part);
     Ok(gave)
@@ -301,43 +300,51 @@ const PLAIN_END: StageEnd = StageEnd::Input(InputEnd::End { left: 0 });
 
 #[test]
 fn a_file_is_read_in_full_windows(rt: HostRuntime) -> Result<(), Fail> {
-    let mut windows = no_cells();
+    let mut first = [Cell::Dropped; 2];
+    let mut second = [Cell::Dropped; 2];
+    let mut third = [Cell::Dropped; 2];
     let desk = desk(rt.alloc(), 4, 0, 0)?;
-    let gave = read_file(rt.alloc(), desk, 0, &mut windows)?;
+    let gave = read_file(rt.alloc(), desk, 0, &mut first, &mut second, &mut third)?;
     did(&rt, gave.first, 2, None);
     did_then(&rt, gave.second, 2, None);
     did_then(&rt, gave.third, 0, Some(PLAIN_END));
-    assert_eq!(rt; pid(&windows[0][1]), Some(256));
-    assert_eq!(rt; pid(&windows[1][1]), Some(256));
-    assert_eq!(rt; pid(&windows[2][0]), None);
+    assert_eq!(rt; pid(&first[1]), Some(256));
+    assert_eq!(rt; pid(&second[1]), Some(256));
+    assert_eq!(rt; pid(&third[0]), None);
     Ok(())
 }
 
 #[test]
 fn what_one_read_gave_is_handed_on(rt: HostRuntime) -> Result<(), Fail> {
-    let mut windows = no_cells();
+    let mut first = [Cell::Dropped; 2];
+    let mut second = [Cell::Dropped; 2];
+    let mut third = [Cell::Dropped; 2];
     let desk = slow_desk(rt.alloc(), 4, 188)?;
-    let gave = read_file(rt.alloc(), desk, 0, &mut windows)?;
+    let gave = read_file(rt.alloc(), desk, 0, &mut first, &mut second, &mut third)?;
     did(&rt, gave.first, 1, None);
     did_then(&rt, gave.second, 1, None);
     did_then(&rt, gave.third, 1, None);
-    assert_eq!(rt; pid(&windows[1][0]), Some(256));
-    assert_eq!(rt; pid(&windows[1][1]), None);
+    assert_eq!(rt; pid(&second[0]), Some(256));
+    assert_eq!(rt; pid(&second[1]), None);
     Ok(())
 }
 
 // A packet is whole after two reads, or after one where half of it came with the packet before.
 #[test]
 fn half_a_packet_is_not_handed_on(rt: HostRuntime) -> Result<(), Fail> {
-    let mut windows = no_cells();
+    let mut first = [Cell::Dropped; 2];
+    let mut second = [Cell::Dropped; 2];
+    let mut third = [Cell::Dropped; 2];
     let desk = slow_desk(rt.alloc(), 2, 94)?;
-    let gave = read_file(rt.alloc(), desk, 0, &mut windows)?;
+    let gave = read_file(rt.alloc(), desk, 0, &mut first, &mut second, &mut third)?;
     did(&rt, gave.first, 1, None);
     did_then(&rt, gave.second, 1, None);
     did_then(&rt, gave.third, 0, Some(PLAIN_END));
-    let mut windows = no_cells();
+    let mut first = [Cell::Dropped; 2];
+    let mut second = [Cell::Dropped; 2];
+    let mut third = [Cell::Dropped; 2];
     let desk = slow_desk(rt.alloc(), 3, 282)?;
-    let gave = read_file(rt.alloc(), desk, 0, &mut windows)?;
+    let gave = read_file(rt.alloc(), desk, 0, &mut first, &mut second, &mut third)?;
     did(&rt, gave.first, 1, None);
     did_then(&rt, gave.second, 2, None);
     did_then(&rt, gave.third, 0, Some(PLAIN_END));
@@ -346,23 +353,27 @@ fn half_a_packet_is_not_handed_on(rt: HostRuntime) -> Result<(), Fail> {
 
 #[test]
 fn stuffing_comes_first(rt: HostRuntime) -> Result<(), Fail> {
-    let mut windows = no_cells();
+    let mut first = [Cell::Dropped; 2];
+    let mut second = [Cell::Dropped; 2];
+    let mut third = [Cell::Dropped; 2];
     let desk = desk(rt.alloc(), 2, 0, 0)?;
-    let gave = read_file(rt.alloc(), desk, 1, &mut windows)?;
+    let gave = read_file(rt.alloc(), desk, 1, &mut first, &mut second, &mut third)?;
     did(&rt, gave.first, 1, None);
     did_then(&rt, gave.second, 2, None);
     did_then(&rt, gave.third, 0, Some(PLAIN_END));
-    assert_eq!(rt; pid(&windows[0][0]), Some(8191));
-    assert_eq!(rt; pid(&windows[1][0]), Some(256));
-    assert_eq!(rt; pid(&windows[1][1]), Some(256));
+    assert_eq!(rt; pid(&first[0]), Some(8191));
+    assert_eq!(rt; pid(&second[0]), Some(256));
+    assert_eq!(rt; pid(&second[1]), Some(256));
     Ok(())
 }
 
 #[test]
 fn a_read_fails_behind_the_first_window(rt: HostRuntime) -> Result<(), Fail> {
-    let mut windows = no_cells();
+    let mut first = [Cell::Dropped; 2];
+    let mut second = [Cell::Dropped; 2];
+    let mut third = [Cell::Dropped; 2];
     let desk = desk(rt.alloc(), 3, 2, 0)?;
-    let gave = read_file(rt.alloc(), desk, 0, &mut windows)?;
+    let gave = read_file(rt.alloc(), desk, 0, &mut first, &mut second, &mut third)?;
     did(&rt, gave.first, 2, None);
     did_then(
         &rt,
@@ -376,26 +387,32 @@ fn a_read_fails_behind_the_first_window(rt: HostRuntime) -> Result<(), Fail> {
 
 #[test]
 fn an_input_of_null_packets_ends(rt: HostRuntime) -> Result<(), Fail> {
-    let mut windows = no_cells();
+    let mut first = [Cell::Dropped; 2];
+    let mut second = [Cell::Dropped; 2];
+    let mut third = [Cell::Dropped; 2];
     let mut desk = desk(rt.alloc(), 0, 0, 0)?;
     let room = IoBuffer::new(rt.alloc(), 1)?;
     let (part, gave) = gives_and_ends::<MemorySource, MemorySink, StopsAt>(
         InputPart::Nulls(1),
         0,
         room,
-        &mut windows,
+        &mut first,
+        &mut second,
+        &mut third,
     );
     assert_eq!(rt; close_input(&mut desk, part), Some(1));
     did(&rt, gave.first, 1, Some(PLAIN_END));
     assert!(rt; gave.second.is_none());
-    assert_eq!(rt; pid(&windows[0][0]), Some(8191));
-    assert_eq!(rt; pid(&windows[0][1]), None);
+    assert_eq!(rt; pid(&first[0]), Some(8191));
+    assert_eq!(rt; pid(&first[1]), None);
     Ok(())
 }
 
 #[test]
 fn an_input_of_generated_packets_ends(rt: HostRuntime) -> Result<(), Fail> {
-    let mut windows = no_cells();
+    let mut first = [Cell::Dropped; 2];
+    let mut second = [Cell::Dropped; 2];
+    let mut third = [Cell::Dropped; 2];
     let mut desk = desk(rt.alloc(), 0, 0, 0)?;
     let room = IoBuffer::new(rt.alloc(), 1)?;
     let generator = TestGen::new(rt.alloc(), 1)?;
@@ -406,14 +423,16 @@ fn an_input_of_generated_packets_ends(rt: HostRuntime) -> Result<(), Fail> {
         },
         0,
         room,
-        &mut windows,
+        &mut first,
+        &mut second,
+        &mut third,
     );
     assert_eq!(rt; close_input(&mut desk, part), Some(3));
     did(&rt, gave.first, 2, None);
     did_then(&rt, gave.second, 1, Some(PLAIN_END));
-    assert_eq!(rt; pid(&windows[0][0]), Some(0));
-    assert_eq!(rt; pid(&windows[0][1]), Some(4096));
-    assert_eq!(rt; pid(&windows[1][0]), Some(4097));
+    assert_eq!(rt; pid(&first[0]), Some(0));
+    assert_eq!(rt; pid(&first[1]), Some(4096));
+    assert_eq!(rt; pid(&second[0]), Some(4097));
     Ok(())
 }
 
