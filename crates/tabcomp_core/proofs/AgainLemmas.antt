@@ -25,8 +25,11 @@ use Rattle.ts_section.specs.LawfulSection.{IsSection}
 use Rattle.ts_json_tables.specs.RunTables.{table_of_run}
 use Rattle.ts_json_tables.specs.TableElements.{table_shown}
 use Rattle.ts_json_tables.specs.TableReading.{read_each, table_read}
+use Rattle.ts_json_tables.specs.ToldTables.{IsKept}
 use Rattle.tabcomp_core.specs.Compiling.{compiled, json_of, of_tables, of_value, root_name, tables_bytes, tables_read, text_read}
 use Rattle.tabcomp_core.specs.Decompiling.{IsReadAgain, root_shown, tables_text}
+use Rattle.tabcomp_core.specs.ToldAgain.{IsSameAgain}
+use Rattle.tabcomp_core.proofs.TablesTold.{runs_same_again}
 use Rattle.tabcomp_core.proofs.PlainRoot.{TablesPlain, root_shallow, root_whole}
 
 -- what the layer below ensures of an element without rows that is shown
@@ -89,8 +92,8 @@ shown_more runs i run old new v inside at is grown so_far =
     ∙ ap (map table_shown) (sym (map-append table_of_run (take i runs) (run ∷ [])))
     ∙ ap (λ l. map table_shown (map table_of_run l)) (sym taken)
 
-pub all_taken : (runs : List (List (List ℕ))) (i : ℕ) → length runs ≤ i → All IsReadAgain (take i runs) → All IsReadAgain runs
-all_taken runs i all again = subst (All IsReadAgain) (take_all i runs all) again
+pub all_taken : (P : List (List ℕ) → Type 0) (runs : List (List (List ℕ))) (i : ℕ) → length runs ≤ i → All P (take i runs) → All P runs
+all_taken P runs i all are = subst (All P) (take_all i runs all) are
 
 -- ---- the text of a root
 
@@ -141,3 +144,9 @@ text_back law elements runs nodes root (Ok s) shown again is told =
     (told (subst (λ d. depth d ≤ max_depth) (sym same) (root_shallow law (map table_of_run runs))) ∙ ap Some same)
     (root_shows elements (items_of (map table_shown (map table_of_run runs)))) again
 text_back law elements runs nodes root (Err fault) shown again is told = tt
+
+pub text_same : {E : Type 0} (runs : List (List (List ℕ))) (r : Result (String Global) E) → All IsKept runs
+    → IfOk r (λ s. string_bytes s ≡ tables_text (map table_of_run runs))
+    → IfOk r (λ s. compiled (string_bytes s) ≡ tables_bytes 0 (map table_of_run runs)) → IfOk r (λ s. IsSameAgain (string_bytes s))
+text_same runs (Ok s) kept text again = runs_same_again runs (string_bytes s) kept text again
+text_same runs (Err fault) kept text again = tt

@@ -1,10 +1,12 @@
 mod CutLemmas
+mod CutAgain
 mod JoinLemmas
 mod TextLemmas
 mod DivideLemmas
 mod DividingRows
 mod StartLemmas
 mod PlainRoot
-mod AgainLemmas
 mod ToldRuns
 mod StoppedRuns
+mod TablesTold
+mod AgainLemmas

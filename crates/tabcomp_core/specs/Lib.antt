@@ -3,3 +3,4 @@ pub mod Cutting
 pub mod Decompiling
 pub mod Dividing
 pub mod TableRuns
+pub mod ToldAgain

@@ -1,5 +1,5 @@
 use Rattle.serde_json.specs.View.{view}
-use Rattle.tabcomp_core.proofs.AgainLemmas.{text_back, text_told}
+use Rattle.tabcomp_core.proofs.AgainLemmas.{text_back, text_same, text_told}
 use Rattle.tabcomp_core.proofs.decompiling.runs_text.Goals as goal
 
 pub returns-clause-text : goal.returns-clause-text
@@ -16,3 +16,7 @@ returns-clause-again c =
       children = c.element_shows.ensures.children;
     }) c.args.runs.now
     c.in_ok-nodes.nodes.items (view c.in_ok-root.root) c.to_string.result c.in_ok-nodes.ensures.shown c.in_ok-nodes.ensures.again c.in_ok-root.ensures c.to_string.ensures.reads_back
+
+pub returns-clause-same : goal.returns-clause-same
+returns-clause-same c =
+    text_same c.args.runs.now c.to_string.result c.in_ok-nodes.ensures.kept (returns-clause-text c) (returns-clause-again c)
