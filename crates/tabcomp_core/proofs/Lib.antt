@@ -9,4 +9,7 @@ mod PlainRoot
 mod ToldRuns
 mod StoppedRuns
 mod TablesTold
+mod ReadWithin
+mod ChildrenTexts
+mod RootText
 mod AgainLemmas
