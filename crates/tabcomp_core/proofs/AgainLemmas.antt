@@ -2,7 +2,7 @@
 use Rattle.std.proofs.Common.{◌≡◌, ℕ, ◌+◌, ◌<◌, ◌≤◌, Bool, true, false, String, Global, string_bytes, List, [], ◌∷◌, ◌++◌, length, take, get_or, map, refl, sym, ap, ◌∙◌, subst, arith, append_assoc}
 use Rattle.std.proofs.lemmas.Str.{IsUtf8-string_bytes, is_utf8-from_IsUtf8}
 use Rattle.std.proofs.lemmas.List.{map-append, take_all, take_more}
-use Rattle.std.specs.Prelude.{All, Option, Some, None, Result, Ok, Err, IfOk, bytes_eq}
+use Rattle.std.specs.Prelude.{All, Option, Some, None, Result, Ok, Err, IfOk}
 use Rattle.std.specs.Str.{is_utf8}
 use Rattle.std.specs.Cmp.Lexicographic.{bytes_decides}
 use Rattle.std.proofs.lemmas.Bool.{cond-true}
@@ -25,7 +25,7 @@ use Rattle.ts_json_tables.specs.RunTables.{table_of_run}
 use Rattle.ts_json_tables.specs.TableElements.{table_shown}
 use Rattle.ts_json_tables.specs.TableReading.{read_each, table_read}
 use Rattle.ts_json_tables.specs.ToldTables.{IsKept}
-use Rattle.tabcomp_core.specs.Compiling.{compiled, json_of, of_tables, of_value, root_name, tables_bytes, tables_read, text_read}
+use Rattle.tabcomp_core.specs.Compiling.{compiled, of_tables, of_value, root_name, tables_bytes, tables_read, text_read}
 use Rattle.tabcomp_core.specs.Decompiling.{IsReadAgain, root_shown, tables_text}
 use Rattle.tabcomp_core.specs.ElementTexts.{IsReadWithin, children_text, head_text, tail_text}
 use Rattle.tabcomp_core.specs.Faithful.{IsFaithful}

@@ -1,8 +1,7 @@
 -- Texts that are read as their values, alone and as parts of others.
-use Rattle.std.proofs.Common.{◌≡◌, ℕ, ◌≤◌, List, [], ◌∷◌, ◌++◌, false, Some, option_and_then, refl, sym, ap, ◌∙◌, arith, append-nil}
+use Rattle.std.proofs.Common.{◌≡◌, ℕ, ◌≤◌, List, [], false, Some, option_and_then, sym, ap, ◌∙◌, arith, append-nil}
 use Rattle.json.specs.Json as json
 use Rattle.json.specs.Lex.{tokens}
-use Rattle.json.specs.Print.{print}
 use Rattle.json.specs.Tree as tree
 use Rattle.json.specs.Tree.{HasNumbers, json_tokens}
 use Rattle.json.proofs.Numbered.{document-HasNumbers}

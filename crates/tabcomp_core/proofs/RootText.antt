@@ -1,12 +1,12 @@
 -- The text of the root.
-use Rattle.std.proofs.Common.{◌≡◌, ℕ, List, [], ◌∷◌, ◌++◌, Bool, true, false, Some, option_map, option_and_then, map, codes, refl, sym, ap, ◌∙◌, append_assoc}
+use Rattle.std.proofs.Common.{◌≡◌, List, [], ◌∷◌, ◌++◌, false, option_map, option_and_then, map, codes, ap, ◌∙◌, append_assoc}
 use Rattle.std.specs.Prelude.{All}
 use Rattle.json.specs.Json as json
 use Rattle.json.specs.Print.{escape_byte}
 use Rattle.serde_json.specs.Data.{Data, array, no_members, object, put, string}
 use Rattle.serde_json.specs.Read.{of_members}
 use Rattle.serde_json.specs.View.{items_of}
-use Rattle.serde_json.specs.Written.{items_outline, items_text}
+use Rattle.serde_json.specs.Written.{items_text}
 use Rattle.ts_jtree.specs.Shown.{put_attributes}
 use Rattle.ts_json_tables.specs.HeldTables.{TableValue}
 use Rattle.ts_json_tables.specs.TableElements.{table_shown}

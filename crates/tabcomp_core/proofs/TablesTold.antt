@@ -20,7 +20,6 @@ use Rattle.ts_json_tables.specs.ToldTables.{IsKept, TellsTable, told_again}
 use Rattle.tabcomp_core.specs.declared.fault.CompileFault.{CompileFault}
 use Rattle.tabcomp_core.specs.Compiling.{before_others, compiled, json_of, of_tables, of_value, root_name, tables_bytes, tables_read}
 use Rattle.tabcomp_core.specs.Decompiling.{decompiled, tables_text, text_or_fault}
-use Rattle.tabcomp_core.specs.Dividing.{runs_in}
 use Rattle.tabcomp_core.specs.TableRuns.{of_runs, of_sections}
 use Rattle.tabcomp_core.specs.ToldAgain.{IsSameAgain, IsToldAgain}
 use Rattle.tabcomp_core.proofs.CutAgain.{sections_cut}
