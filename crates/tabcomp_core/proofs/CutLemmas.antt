@@ -1,6 +1,6 @@
 -- Sections one after another.
-use Rattle.std.proofs.Common.{◌≡◌, ℕ, zero, suc, ◌+◌, ◌-◌, ◌<◌, ◌≤◌, List, [], ◌∷◌, ◌++◌, length, take, drop, refl, sym, ap, ◌∙◌, arith, append_assoc, append-nil}
-use Rattle.std.specs.Prelude.{Option, Some, None, Result, Ok, Err, min}
+use Rattle.std.proofs.Common.{◌≡◌, ℕ, zero, suc, ◌+◌, ◌<◌, ◌≤◌, List, [], ◌∷◌, ◌++◌, length, take, drop, refl, sym, ap, ◌∙◌, arith, append_assoc, append-nil}
+use Rattle.std.specs.Prelude.{Option, Some, None, Result, Ok, Err}
 use Rattle.std.proofs.lemmas.List.{drop_all, drop-drop, drop_min, length-drop, length-take, take-append-drop}
 use Rattle.std.specs.List.{concat}
 use Rattle.ts_section.specs.declared.fault.SectionFault.{SectionFault}
@@ -38,7 +38,7 @@ front_more : (front : List (List ℕ)) (s : List ℕ) (r : Result (List (List �
 front_more front s (Ok more) = ap Ok (sym (append_assoc front (s ∷ []) more))
 front_more front s (Err fault) = refl
 
-one_more : (l : List ℕ) (offset : ℕ) (front : List (List ℕ)) → 0 < length l → first_broken (front_of l) ≡ None
+pub one_more : (l : List ℕ) (offset : ℕ) (front : List (List ℕ)) → 0 < length l → first_broken (front_of l) ≡ None
     → with_front front (sections_from (length l) offset l)
     ≡ with_front (front ++ front_of l ∷ []) (sections_from (length (drop (length (front_of l)) l)) (offset + length (front_of l)) (drop (length (front_of l)) l))
 unfolding sections_from

@@ -1,14 +1,14 @@
 -- Runs one after another.
-use Rattle.std.proofs.Common.{◌≡◌, ℕ, zero, suc, ◌+◌, ◌-◌, ◌<◌, ◌≤◌, Bool, true, false, not, ◌&&◌, List, [], ◌∷◌, ◌++◌, length, take, drop, get_or, refl, sym, ap, ◌∙◌, subst, inl, inr, ◌⊎◌, arith, add-one, append_assoc, append-nil}
+use Rattle.std.proofs.Common.{◌≡◌, ℕ, zero, suc, ◌+◌, ◌<◌, ◌≤◌, Bool, true, false, not, List, [], ◌∷◌, ◌++◌, length, take, drop, get_or, refl, sym, ap, ◌∙◌, subst, inl, inr, ◌⊎◌, arith, append_assoc, append-nil}
 use Rattle.std.specs.Prelude.{Result, Ok, Err, bytes_eq, nat_eq, nat_le, if◌then◌else◌}
 use Rattle.std.specs.Cmp.Lexicographic.{bytes_decides}
 use Rattle.std.proofs.lemmas.Bool.{and_from, and_parts, cases_Bool, cases_lt, cond-true, cond-false, eq-eqb, eqb-true, eqb-false, ne_eqb, false_from_ne_true, false≢true, le-leb, leb-true, not-true, not_from_false}
 use Rattle.std.proofs.lemmas.List.{drop_at, get_or_append_left, get_or-take, length-append, length-drop, length-take, take_at}
-use Rattle.ts_section.specs.SectionFields.{current_of, extension_of, last_number_of, number_of, table_id_of, version_of}
+use Rattle.ts_section.specs.SectionFields.{current_of, last_number_of, number_of}
 use Rattle.ts_section.specs.SectionRun.{stands_alone, IsMember, AllMembers, BeginsRun, IsTableRun, IsRunFault}
 use Rattle.tabcomp_core.specs.declared.dividing.NoRuns.{NoRuns}
 use Rattle.tabcomp_core.specs.declared.dividing.NoRuns.TheVariants as faults
-use Rattle.tabcomp_core.specs.Dividing.{ClosesRun, DividesAt, before_runs, begun_size, is_full, is_member, members_from, runs_from, runs_in, shared_fields, whole_size}
+use Rattle.tabcomp_core.specs.Dividing.{ClosesRun, DividesAt, before_runs, begun_size, is_full, is_member, members_from, runs_from, shared_fields, whole_size}
 
 -- what is divided with what was divided before
 abbrev pub with_runs : List (List (List ℕ)) → Result (List (List (List ℕ))) ℕ → Result (List (List (List ℕ))) ℕ

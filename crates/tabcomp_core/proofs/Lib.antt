@@ -1,10 +1,15 @@
 mod CutLemmas
+mod CutAgain
 mod JoinLemmas
 mod TextLemmas
 mod DivideLemmas
 mod DividingRows
 mod StartLemmas
 mod PlainRoot
-mod AgainLemmas
 mod ToldRuns
 mod StoppedRuns
+mod TablesTold
+mod ReadWithin
+mod ChildrenTexts
+mod RootText
+mod AgainLemmas

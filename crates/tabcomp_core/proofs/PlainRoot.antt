@@ -1,11 +1,9 @@
--- The root of tables has no float and is not deep.
-use Rattle.std.proofs.Common.{◌≡◌, ℕ, ◌≤◌, false, List, [], ◌∷◌, map, refl, arith}
-use Rattle.std.specs.Prelude.{Some}
-use Rattle.std.proofs.lemmas.Bool.{or_from}
-use Rattle.serde_json.specs.Data.{array, depth, items_depth}
+-- The root of tables is not deep.
+use Rattle.std.proofs.Common.{◌≡◌, ◌≤◌, false, List, [], ◌∷◌, map, arith}
+use Rattle.serde_json.specs.Data.{depth, items_depth}
 use Rattle.serde_json.specs.Read.{max_depth}
 use Rattle.serde_json.specs.View.{items_of}
-use Rattle.serde_json.specs.Written.{has_float, items_have_float}
+use Rattle.serde_json.specs.Written.{has_float}
 use Rattle.ts_jtree.specs.Shown.{put_attributes}
 use Rattle.ts_json_tables.specs.HeldTables.{TableValue}
 use Rattle.ts_json_tables.specs.TableElements.{table_shown}
@@ -16,17 +14,9 @@ pub record TablesPlain : Type 0 where
   pub whole : (t : TableValue) → has_float (table_shown t) ≡ false
   pub shallow : (t : TableValue) → depth (table_shown t) ≤ 7
 
-items_whole : TablesPlain → (ts : List TableValue) → items_have_float (items_of (map table_shown ts)) ≡ false
-items_whole law [] = refl
-items_whole law (t ∷ ts) = or_from (has_float (table_shown t)) (items_have_float (items_of (map table_shown ts))) (law.whole t) (items_whole law ts)
-
 items_shallow : TablesPlain → (ts : List TableValue) → items_depth (items_of (map table_shown ts)) ≤ 7
 items_shallow law [] = omega arith
 items_shallow law (t ∷ ts) = omega (arith, law.shallow t, items_shallow law ts)
-
-pub root_whole : TablesPlain → (ts : List TableValue) → has_float (root_shown ts) ≡ false
-unfolding put_attributes
-root_whole law ts = or_from (items_have_float (items_of (map table_shown ts))) false (items_whole law ts) refl
 
 pub root_shallow : TablesPlain → (ts : List TableValue) → depth (root_shown ts) ≤ max_depth
 unfolding put_attributes

@@ -1,8 +1,8 @@
 -- Where sections are no runs.
 use Rattle.std.proofs.Common.{◌≡◌, ℕ, zero, suc, ◌+◌, ◌<◌, ◌≤◌, true, false, List, [], ◌∷◌, ◌++◌, length, take, drop, get_or, refl, sym, ap, ◌∙◌, subst, inl, inr, ◌⊎◌, arith, append_assoc}
-use Rattle.std.specs.Prelude.{All, Result, Ok, Err, nat_eq}
-use Rattle.std.proofs.lemmas.Bool.{cases_Bool, cases_lt, cond-true, cond-false, eq-eqb, eqb-true, eqb-false, false≢true}
-use Rattle.std.proofs.lemmas.List.{drop_more, length-append, length-drop, length-take, take-append-drop, take_more}
+use Rattle.std.specs.Prelude.{Result, Ok, Err, nat_eq}
+use Rattle.std.proofs.lemmas.Bool.{cases_Bool, cases_lt, cond-true, cond-false, eqb-true, eqb-false}
+use Rattle.std.proofs.lemmas.List.{drop_more, length-append, length-drop, take-append-drop, take_more}
 use Rattle.std.proofs.lemmas.List.Elements.{All-cons, All-nil}
 use Rattle.ts_section.specs.SectionFields.{last_number_of}
 use Rattle.ts_section.specs.SectionRun.{stands_alone, BeginsRun, IsTableRun}

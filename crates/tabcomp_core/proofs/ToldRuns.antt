@@ -1,14 +1,14 @@
 -- The runs that sections are divided into are the only ones.
 use Rattle.std.proofs.Common.{◌≡◌, ℕ, zero, suc, ◌+◌, ◌<◌, ◌≤◌, true, false, List, [], ◌∷◌, ◌++◌, length, take, drop, get_or, refl, sym, ap, ◌∙◌, subst, inl, inr, ◌⊎◌, arith}
 use Rattle.std.specs.Prelude.{All, Result, Ok, Err, nat_eq}
-use Rattle.std.proofs.lemmas.Bool.{cases_Bool, cases_lt, cond-true, cond-false, eqb-true, eqb-false, false≢true}
-use Rattle.std.proofs.lemmas.List.{get_or-take, length-append, length-drop, length-take, take-append-drop}
+use Rattle.std.proofs.lemmas.Bool.{cases_Bool, cond-true, cond-false, eqb-true}
+use Rattle.std.proofs.lemmas.List.{get_or-take, length-drop, length-take, take-append-drop}
 use Rattle.std.proofs.lemmas.List.Elements.{All-cons, All-head, All-nil, All-tail}
 use Rattle.ts_section.specs.SectionFields.{last_number_of}
-use Rattle.ts_section.specs.SectionRun.{stands_alone, IsMember, BeginsRun, IsTableRun}
+use Rattle.ts_section.specs.SectionRun.{stands_alone, IsMember, IsTableRun}
 use Rattle.ts_table_rows.specs.Filling.{join}
-use Rattle.tabcomp_core.specs.Dividing.{AreRuns, StopsAt, before_runs, begun_size, is_member, members_from, runs_from, runs_in, whole_size}
-use Rattle.tabcomp_core.proofs.DivideLemmas.{MembersFrom, begins_by, member_is, members_begun, members_here, members_behind, one_run, whole_begun, whole_some}
+use Rattle.tabcomp_core.specs.Dividing.{AreRuns, before_runs, begun_size, is_member, members_from, runs_from, runs_in, whole_size}
+use Rattle.tabcomp_core.proofs.DivideLemmas.{MembersFrom, member_is, members_here, members_behind, one_run, whole_some}
 
 -- ---- whole runs are told
 

@@ -1,11 +1,10 @@
 -- Tables written in JSON, and their sections.
 -- This project's own rule: a text is an element `tsduck` whose children are tables; their sections are joined in order.
-use Rattle.std.specs.Prelude.{◌≡◌, ℕ, ◌+◌, List, [], ◌∷◌, ◌++◌, codes, if◌then◌else◌, Option, Some, None, option_and_then, Result, Ok, Err}
+use Rattle.std.specs.Prelude.{◌≡◌, ℕ, ◌+◌, List, [], ◌∷◌, ◌++◌, codes, if◌then◌else◌, Option, Some, None, Result, Ok, Err}
 use Rattle.std.specs.List.{concat}
 use Rattle.std.specs.Str.{is_utf8}
 use Rattle.serde_json.specs.Data.{Data}
 use Rattle.serde_json.specs.Read.{read}
-use Rattle.ts_jtree.specs.declared.fault.JsonFault.{JsonFault}
 use Rattle.ts_jtree.specs.Elements.{read_element}
 use Rattle.ts_jtree.specs.Faults.{Reading, ◌>>=◌}
 use Rattle.ts_table_rows.specs.declared.fault.TableRefusal.{TableRefusal}

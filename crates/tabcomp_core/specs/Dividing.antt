@@ -1,11 +1,10 @@
 -- Sections divided into the runs of whole tables.
 -- This project's own rule: a run is told by its first section. It is that section alone where it is a table by itself,
 -- and else the sections that have its head and the numbers from 0 to its last; where no run goes on, there are none.
-use Rattle.std.specs.Prelude.{◌≡◌, ℕ, zero, suc, ◌+◌, ◌<◌, ◌≤◌, Bool, true, false, not, ◌&&◌, bytes_eq, nat_eq, nat_le, List, [], ◌∷◌, ◌++◌, length, take, drop, All, if◌then◌else◌, Result, Ok, Err}
+use Rattle.std.specs.Prelude.{◌≡◌, ℕ, zero, suc, ◌+◌, ◌<◌, ◌≤◌, Bool, false, not, ◌&&◌, bytes_eq, nat_eq, nat_le, List, [], ◌∷◌, ◌++◌, length, take, drop, All, if◌then◌else◌, Result, Ok, Err}
 use Rattle.ts_section.specs.SectionFields.{current_of, extension_of, last_number_of, number_of, table_id_of, version_of}
 use Rattle.ts_section.specs.SectionRun.{stands_alone, BeginsRun, IsRunFault, IsTableRun}
 use Rattle.ts_table_rows.specs.Filling.{join}
-use Rattle.tabcomp_core.specs.declared.fault.DecompileFault.{DecompileFault}
 use Rattle.tabcomp_core.specs.declared.dividing.NoRuns.{NoRuns}
 use Rattle.tabcomp_core.specs.declared.dividing.NoRuns.TheVariants as faults
 

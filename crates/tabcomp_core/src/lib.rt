@@ -2,6 +2,7 @@
 //! The layer above rests on `compile`, `sections_of` and `decompile`.
 #![tactic(auto)]
 
+mod compile_laws;
 mod compiling;
 mod cutting;
 mod decompiling;
@@ -11,6 +12,7 @@ mod table_runs;
 #[cfg(test)]
 mod tests;
 
+pub use compile_laws::compiled_is_decompiled;
 pub use compiling::compile;
 pub use cutting::sections_of;
 pub use decompiling::decompile;

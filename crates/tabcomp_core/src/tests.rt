@@ -74,6 +74,32 @@ fn bytes_are_decompiled(rt: HostRuntime) -> Result<(), Fail> {
     Ok(())
 }
 
+/// The two one after another.
+const BOTH: &[u8] =
+    b"\x72\x70\x01\xAA\x00\xB0\x0D\x00\x01\xC1\x00\x00\x00\x01\xF0\x00\x2A\xB1\x04\xB2";
+
+/// Their text.
+const BOTH_TEXT: &str =
+    r##"{"#name":"tsduck","#nodes":[{"#name":"generic_short_table","payload":"aa","private":true,"table_id":114},{"#name":"PAT","#nodes":[{"#name":"service","program_map_PID":4096,"service_id":1}],"current":true,"transport_stream_id":1,"version":0}]}"##;
+
+/// The PAT's body in a table of bytes.
+const PAT_AS_BYTES: &[u8] =
+    br##"{"#name":"tsduck","#nodes":[{"#name":"generic_long_table","table_id":0,"table_id_extension":1,"private":false,"#nodes":[{"#name":"section","payload":"0001f000"}]}]}"##;
+
+#[test]
+fn what_is_compiled_is_decompiled(rt: HostRuntime) -> Result<(), Fail> {
+    assert!(rt; is_text(rt.alloc(), BOTH, BOTH_TEXT));
+    let Ok(sections) = compile(rt.alloc(), BOTH_TEXT.as_bytes()) else {
+        return Err(Fail::from("no sections"));
+    };
+    assert_eq!(rt; sections.as_slice(), BOTH);
+    let Ok(table) = compile(rt.alloc(), PAT_AS_BYTES) else {
+        return Err(Fail::from("no table"));
+    };
+    assert!(rt; is_text(rt.alloc(), &table, PAT_TEXT));
+    Ok(())
+}
+
 /// The first and the second section of one table, each of 12 bytes.
 const FIRST: &[u8] = b"\x80\xB0\x09\x00\x01\xC1\x00\x01\x92\xE3\x2A\x93";
 

@@ -1,4 +1,4 @@
-use Rattle.std.proofs.Common.{◌≡◌, ◌∙◌, ap, map, arith, refl, subst}
+use Rattle.std.proofs.Common.{◌∙◌, ap, map, arith, refl, subst}
 use Rattle.std.specs.Prelude.{Err}
 use Rattle.ts_json_tables.specs.RunTables.{sections_of_table}
 use Rattle.std.proofs.lemmas.Result.{err_from_is_err_and}

@@ -1,8 +1,7 @@
-use Rattle.std.proofs.Common.{◌≡◌, ◌∙◌, ◌-◌, ℕ, List, length, take, drop, ap, arith, subst}
+use Rattle.std.proofs.Common.{◌∙◌, ℕ, List, length, drop, ap, arith, subst}
 use Rattle.std.specs.Prelude.{Err}
 use Rattle.std.proofs.lemmas.List.{length-drop, take_rest}
 use Rattle.std.proofs.lemmas.Result.{err_from_is_err_and}
-use Rattle.ts_section.specs.SectionFields.{front_of}
 use Rattle.tabcomp_core.specs.Cutting.{CutsFront, sections_in}
 use Rattle.tabcomp_core.proofs.CutLemmas.{cut_begin, cut_done, cut_goes_on, cut_refused, front_size, sections_joined, with_front}
 use Rattle.tabcomp_core.proofs.cutting.sections_of.Goals as goal

@@ -2,7 +2,7 @@ use Rattle.std.proofs.Common.{◌≡◌, ◌∙◌, ◌∷◌, ◌++◌, [], ℕ
 use Rattle.std.proofs.lemmas.Bool.{eqb-true, eqb-false}
 use Rattle.std.proofs.lemmas.List.{length-append}
 use Rattle.std.proofs.lemmas.Result.{err_from_is_err_and}
-use Rattle.tabcomp_core.specs.Dividing.{is_full, runs_in}
+use Rattle.tabcomp_core.specs.Dividing.{is_full}
 use Rattle.tabcomp_core.proofs.DivideLemmas.{end_stops, loop_closes, loop_done, loop_stops, some_there, stop_told}
 use Rattle.tabcomp_core.proofs.dividing.runs_of.Goals as goal
 

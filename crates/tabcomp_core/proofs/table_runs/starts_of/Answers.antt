@@ -1,4 +1,4 @@
-use Rattle.std.proofs.Common.{◌≡◌, ◌+◌, ◌++◌, [], ◌∷◌, length, arith, refl, ap, ◌∙◌, sym}
+use Rattle.std.proofs.Common.{◌+◌, ◌++◌, [], ◌∷◌, arith, refl, ap, ◌∙◌}
 use Rattle.tabcomp_core.proofs.StartLemmas.{front_within, next_start, first_start, starts_more}
 use Rattle.tabcomp_core.proofs.table_runs.starts_of.Goals as goal
 
