@@ -1,2 +1,5 @@
+pub mod LookUp
+pub mod MapperLemmas
+pub mod Taking
 pub mod Targets
 mod Rows
