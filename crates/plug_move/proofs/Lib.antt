@@ -1,5 +1,6 @@
 pub mod LookUp
 pub mod MapperLemmas
+pub mod StepLemmas
 pub mod Taking
 pub mod Targets
 mod Rows

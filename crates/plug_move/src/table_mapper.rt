@@ -132,13 +132,14 @@ fn move_edited(packet: &mut Packet, target: Option<u16>)
 /// Whether the tables on a PID are edited.
 #[inline]
 fn is_edited(tables: &InForce, pid: u16) -> bool
+    requires { pid < PID_COUNT }
     ensures edited { (met : List (List ℕ)) → force.StandsFor tables.now met → result ≡ is_edited (pat_of met) pid }
     ensures in_range { result ≡ true → pid < NULL_PID }
 {
     if pid == 0 || pid == 1 {
         return true;
     }
-    if pid >= NULL_PID {
+    if pid == NULL_PID {
         return false;
     }
     tables.names(pid)
@@ -197,7 +198,10 @@ fn step_on(editors: &mut Editors, pid: u16, packet: &mut Packet) -> Result<(), A
     ensures others { OnOk result ((other : ℕ) → nat_eq pid other ≡ false → get nat_eq editors.new other ≡ get nat_eq editors.old other) }
 {
     match editors.get_mut(&pid) {
-        Some(editor) => editor.step(packet),
+        Some(editor) => {
+            editor.step(packet)?;
+            Ok(())
+        }
         None => Ok(()),
     }
 }
