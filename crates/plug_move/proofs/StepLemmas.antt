@@ -112,5 +112,5 @@ module _ (s : Remap) (new : Option TableMapper) (target : Option ℕ) (packet ma
       none s.tables (subst (GoesOn s.tables new target packet made) e goes).2 room.is_steady
     where
       none : (tables : Option TableMapper) → is_none tables ≡ false → room_of tables buffer ≡ Some room.room → ⊥
-      none None f steady = absurd f
-      none (Some mapper) f steady = absurd steady
+      none None f steady = cc
+      none (Some mapper) f steady = cc
