@@ -1,4 +1,3 @@
-pub mod LookUp
 pub mod MapperLemmas
 pub mod StepLemmas
 pub mod Taking

@@ -19,7 +19,7 @@ use Rattle.plug_move.specs.PidEdit.{edit_change}
 use Rattle.plug_move.specs.RemapRule.{edited, is_edited, moved_edited, moved_to, taken_of, with_tables}
 use Rattle.plug_move.specs.Targets.{target_of}
 use Rattle.plug_move.specs.declared.pid_edit.PidsOnTables.{PidsOnTables}
-use Rattle.plug_move.proofs.Taking.{if_true, if_false, flag_at, taken-none, taken-with, taken-without}
+use Rattle.plug_move.proofs.Taking.{if_true, flag_at, taken-none, taken-with, taken-without}
 
 pub maps-new : {S : Type 0} (pairs own : List (ℕ × ℕ)) (tables : InForce) (editors : IndexMap ℕ (Editor PidsOnTables) S) → own ≡ pairs → force.StandsFor tables [] → editors.entries ≡ [] → Maps pairs own tables editors false []
 maps-new pairs own tables editors same h e =
@@ -70,15 +70,7 @@ module _ {S : Type 0} (pairs own : List (ℕ × ℕ)) (tables new : InForce) (ed
           subst (λ n. EntryStands pairs (get nat_eq more n) n (taken_of n (met ++ p ∷ []))) (eqb-true pid q e)
           (subst (EntryStands pairs (get nat_eq more pid) pid) (sym (taken-with pid met p (own-flag true flag))) here)
 
--- what the rule makes of a packet that is not edited, and of one that is
-pub made-untaken :
-    (pairs : List (ℕ × ℕ)) (met : List (List ℕ)) (p made : List ℕ) (pid : ℕ) (target : Option ℕ) → pid ≡ pid_of p → target ≡ target_of pairs (pid_of p) →
-    is_edited (pat_of (met ++ p ∷ [])) pid ≡ false → made ≡ moved_to target p → made ≡ with_tables pairs met p
-made-untaken pairs met p made pid target at is flag e =
-    e ∙ ap (λ t. moved_to t p) is
-    ∙ sym (if_false (is_edited (pat_of (met ++ p ∷ [])) (pid_of p)) (moved_edited (target_of pairs (pid_of p)) (edited pairs met p)) (moved_to (target_of pairs (pid_of p)) p)
-        (ap (is_edited (pat_of (met ++ p ∷ []))) (sym at) ∙ flag))
-
+-- what the rule makes of a packet that is edited
 pub made-taken :
     (pairs : List (ℕ × ℕ)) (met : List (List ℕ)) (p put made : List ℕ) (pid : ℕ) (target : Option ℕ) → pid ≡ pid_of p → target ≡ target_of pairs (pid_of p) →
     is_edited (pat_of (met ++ p ∷ [])) pid ≡ true → put ≡ replaced pid (change_on pairs pid) (taken_of pid met) p → made ≡ moved_edited target put → made ≡ with_tables pairs met p
@@ -86,7 +78,7 @@ made-taken pairs met p put made pid target at is flag f e =
     e ∙ ap (λ t. moved_edited t put) is
     ∙ ap (moved_edited (target_of pairs (pid_of p))) (f ∙ ap (λ n. replaced n (change_on pairs n) (taken_of n met) p) at)
     ∙ sym (if_true (is_edited (pat_of (met ++ p ∷ [])) (pid_of p)) (moved_edited (target_of pairs (pid_of p)) (edited pairs met p)) (moved_to (target_of pairs (pid_of p)) p)
-        (ap (is_edited (pat_of (met ++ p ∷ []))) (sym at) ∙ flag))
+    (ap (is_edited (pat_of (met ++ p ∷ []))) (sym at) ∙ flag))
 
 -- an entry that stands by its own pairs stands by equal ones
 pub by_pairs :

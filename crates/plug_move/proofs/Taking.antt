@@ -1,10 +1,9 @@
 -- The packets that are taken on a PID, one packet after another.
-use Rattle.std.proofs.Common.{◌≡◌, ℕ, Bool, true, false, List, [], ◌∷◌, ◌++◌, filter, Option, refl, sym, ◌∙◌, ap, subst, append-nil, append_assoc}
+use Rattle.std.proofs.Common.{◌≡◌, ℕ, Bool, true, false, List, [], ◌∷◌, ◌++◌, filter, refl, sym, ◌∙◌, ap, append-nil, append_assoc}
 use Rattle.std.specs.Prelude.{◌&&◌, ◌||◌, ◌==◌, not, nat_eq, if◌then◌else◌}
 use Rattle.std.proofs.lemmas.List.Elements.{filter-append}
 use Rattle.ts_packet.specs.Header.{pid_of}
 use Rattle.ts_packet.specs.declared.numbers.TheConstants.{NULL_PID}
-use Rattle.ts_table_rows.specs.TableValues.{TableHolding}
 use Rattle.plug_psi.specs.InForce.{is_taken, names, pat_of, taken_behind, taken_on}
 use Rattle.plug_move.specs.RemapRule.{is_edited, is_fixed, taken_of}
 
@@ -86,11 +85,3 @@ taken-none pid = same (is_fixed pid) []
     same : (b : Bool) (xs : List (List ℕ)) → (if b then xs else xs) ≡ xs
     same true xs = refl
     same false xs = refl
-
--- null packets are not edited
-pub null-not-edited : (pat : Option TableHolding) (pid : ℕ) → pid ≡ NULL_PID → false ≡ is_edited pat pid
-null-not-edited pat pid e = subst (λ n. false ≡ is_edited pat n) (sym e) (never (names pat NULL_PID))
-  where
-    never : (b : Bool) → false ≡ (b && false)
-    never true = refl
-    never false = refl

@@ -14,4 +14,4 @@ returns-in_ok-step-in-Some-clause-stands c = λ pairs taken e.
     let written = (c.get_mut.follows.holds c.step.new.self).3 (subst (λ o. IsSome o) c.in-Some.ensures.value refl) in
     subst (λ o. EntryStands pairs o c.args.pid (taken ++ c.args.packet.now ∷ [])) (sym written.1)
     (step-stands pairs c.in-Some.editor.now c.step.new.self c.args.pid taken c.args.packet.now c.in_ok-step-in-Some.ensures.same_edit c.in_ok-step-in-Some.ensures.stands
-        (subst (λ o. EntryStands pairs o c.args.pid taken) (sym c.in-Some.ensures.value) e))
+    (subst (λ o. EntryStands pairs o c.args.pid taken) (sym c.in-Some.ensures.value) e))

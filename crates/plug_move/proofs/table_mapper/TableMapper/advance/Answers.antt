@@ -18,8 +18,8 @@ returns-clause-mapped c = λ pairs met h is.
     made-taken pairs met c.args.packet.now c.step_on.new.packet c.move_edited.new.packet c.pid-pid.result c.args.target c.pid-pid.ensures.field is
     (sym (c.is_edited.ensures.edited _ fed) ∙ c.if-not-is_edited.false)
     (c.in_ok-step_on.ensures.replaced pairs taken
-        (by_pairs pairs _ (get nat_eq c.args.self.now.editors c.pid-pid.result) (get nat_eq c.see_editor.new.editors c.pid-pid.result) c.pid-pid.result taken
-            h.same_pairs (c.in_ok-see_editor.ensures.stands taken) (h.entries c.pid-pid.result)))
+    (by_pairs pairs _ (get nat_eq c.args.self.now.editors c.pid-pid.result) (get nat_eq c.see_editor.new.editors c.pid-pid.result) c.pid-pid.result taken
+    h.same_pairs (c.in_ok-see_editor.ensures.stands taken) (h.entries c.pid-pid.result)))
     c.move_edited.ensures
 
 pub returns-clause-stands : goal.returns-clause-stands
@@ -29,6 +29,6 @@ returns-clause-stands c = λ pairs met h.
     maps-taken pairs _ c.args.self.now.force c.feed.new.self c.args.self.now.editors c.args.self.now.failed met c.args.packet.now c.pid-pid.result
     h fed c.pid-pid.ensures.field c.step_on.new.editors (sym (c.is_edited.ensures.edited _ fed) ∙ c.if-not-is_edited.false)
     (c.in_ok-step_on.ensures.stands pairs taken
-        (by_pairs pairs _ (get nat_eq c.args.self.now.editors c.pid-pid.result) (get nat_eq c.see_editor.new.editors c.pid-pid.result) c.pid-pid.result taken
-            h.same_pairs (c.in_ok-see_editor.ensures.stands taken) (h.entries c.pid-pid.result)))
+    (by_pairs pairs _ (get nat_eq c.args.self.now.editors c.pid-pid.result) (get nat_eq c.see_editor.new.editors c.pid-pid.result) c.pid-pid.result taken
+    h.same_pairs (c.in_ok-see_editor.ensures.stands taken) (h.entries c.pid-pid.result)))
     (λ other o. c.in_ok-step_on.ensures.others other o ∙ c.in_ok-see_editor.ensures.others other o)
