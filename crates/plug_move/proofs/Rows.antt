@@ -7,10 +7,8 @@ use Rattle.chain_model.specs.declared.reason.Reason.TheVariants.{Pid}
 use Rattle.chain_model.specs.Apply.{apply, refused}
 use Rattle.plug_move.specs.declared.remap_conf.RemapConf.{RemapConf}
 use Rattle.plug_move.specs.MoveTables.{move_of}
-use Rattle.plug_move.specs.RemapRule.{is_refused, moved_edited, remap_rule, taken_of}
-use Rattle.plug_move.specs.MappedTables.{change_on, mapped_cat, mapped_descriptor, mapped_pat, mapped_pmt}
-use Rattle.plug_move.specs.Targets.{mapped}
-use Rattle.plug_psi.specs.Edits.{same}
+use Rattle.plug_move.specs.RemapRule.{is_refused, moved_edited, remap_rule}
+use Rattle.plug_move.specs.MappedTables.{mapped_descriptor, mapped_pat, mapped_pmt}
 use Rattle.ts_bits.specs.TaggedBody.{TaggedBody}
 use Rattle.ts_descr.specs.Descriptors.{read_typed}
 use Rattle.ts_fields.specs.Bits.{bits, number_of}

@@ -1,5 +1,5 @@
 -- What `remap` is made of its settings, and what it makes where memory is there.
-use Rattle.std.proofs.Common.{◌≡◌, ℕ, Bool, true, false, List, [], ◌∷◌, ◌++◌, Option, Some, None, refl, sym, ◌∙◌, ap, subst}
+use Rattle.std.proofs.Common.{◌≡◌, ℕ, Bool, true, false, List, [], ◌∷◌, ◌++◌, Option, Some, refl, sym, ◌∙◌, ap, subst}
 use Rattle.std.specs.Prelude.{is_none, if◌then◌else◌}
 use Rattle.ts_packet.specs.Header.{pid_of}
 use Rattle.plugin_trait.specs.declared.outcome.Outcome.TheVariants.{Pass}

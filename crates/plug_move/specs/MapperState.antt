@@ -2,7 +2,6 @@
 use Rattle.std.specs.Prelude.{◌≡◌, ℕ, Bool, false, List, [], Option, None, Some, nat_eq}
 use Rattle.std.specs.Arc.{arc_value}
 use Rattle.indexmap.specs.IndexMap.{IndexMap, get}
-use Rattle.plug_psi.specs.Edits.{Change}
 use Rattle.plug_psi.specs.EditorStands as editing
 use Rattle.plug_psi.specs.EditorStands.{edit_of}
 use Rattle.plug_psi.specs.ForceStands as force

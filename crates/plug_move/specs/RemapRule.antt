@@ -6,7 +6,7 @@ use Rattle.ts_packet.specs.Header.{pid_of, with_pid}
 use Rattle.ts_packet.specs.declared.numbers.TheConstants.{NULL_PID}
 use Rattle.ts_table_rows.specs.TableValues.{TableHolding}
 use Rattle.chain_model.specs.declared.reason.Reason.TheVariants.{Pid}
-use Rattle.chain_model.specs.PluginRule.{PluginRule, RuleOutcome, passes, refuses}
+use Rattle.chain_model.specs.PluginRule.{PluginRule, passes, refuses}
 use Rattle.plugin_trait.specs.SilentRule.{silent_rule}
 use Rattle.plug_psi.specs.EditedCycles.{replaced}
 use Rattle.plug_psi.specs.InForce.{names, pat_of, taken_on}
