@@ -1,2 +1,5 @@
+pub mod MapperLemmas
+pub mod StepLemmas
+pub mod Taking
 pub mod Targets
 mod Rows

@@ -3,7 +3,7 @@ use Rattle.std.proofs.Common.{ℕ, List, [], ◌∷◌, Bool, true, false, ◌==
 use Rattle.std.specs.List.{All}
 use Rattle.std.proofs.lemmas.List.Elements.{All-head, All-tail}
 use Rattle.plug_move.specs.RemapSettings.{IsPidPair}
-use Rattle.plug_move.specs.RemapRule.{target_of}
+use Rattle.plug_move.specs.Targets.{target_of}
 use Rattle.plug_move.specs.MoveTables.{move_by, LeadsToPid}
 
 -- pairs of PIDs lead to PIDs

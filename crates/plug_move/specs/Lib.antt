@@ -1,3 +1,7 @@
+pub mod Targets
+pub mod MappedTables
+pub mod PidEdit
+pub mod MapperState
 pub mod RemapRule
 pub mod RemapState
 pub mod RemapSettings

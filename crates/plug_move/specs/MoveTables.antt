@@ -3,7 +3,7 @@ use Rattle.std.specs.Prelude.{◌≡◌, ◌<◌, ℕ, List, length, Bool, not, 
 use Rattle.std.specs.List.{slice_index_or}
 use Rattle.ts_packet.specs.declared.numbers.TheConstants.{PID_COUNT}
 use Rattle.plug_move.specs.RemapSettings.{is_target}
-use Rattle.plug_move.specs.RemapRule.{target_of}
+use Rattle.plug_move.specs.Targets.{target_of}
 use Rattle.plug_move.specs.declared.move_table.Move.{Move}
 use Rattle.plug_move.specs.declared.move_table.Move.TheVariants.{Keep, To, Refuse}
 

@@ -1,28 +1,70 @@
--- The rule of `remap`. This project's own rule, over the PID of ISO/IEC 13818-1, 2.4.3.2.
-use Rattle.std.specs.Prelude.{ℕ, List, [], ◌∷◌, Bool, not, Option, None, Some, ◌==◌, ◌&&◌, if◌then◌else◌}
+-- The rule of `remap`. This project's own rule, over the PID of ISO/IEC 13818-1, 2.4.3.2, and over the PIDs that PAT,
+-- CAT and PMT name (2.4.4).
+use Rattle.std.specs.Prelude.{ℕ, List, [], ◌∷◌, ◌++◌, Bool, filter, not, Option, None, Some, is_some, nat_eq, ◌==◌, ◌&&◌, ◌||◌, if◌then◌else◌}
+use Rattle.ts_packet.specs.Cells.{live_packets}
 use Rattle.ts_packet.specs.Header.{pid_of, with_pid}
+use Rattle.ts_packet.specs.declared.numbers.TheConstants.{NULL_PID}
+use Rattle.ts_table_rows.specs.TableValues.{TableHolding}
 use Rattle.chain_model.specs.declared.reason.Reason.TheVariants.{Pid}
-use Rattle.chain_model.specs.PluginRule.{PluginRule, RuleOutcome, passes, refuses}
+use Rattle.chain_model.specs.PluginRule.{PluginRule, passes, refuses}
 use Rattle.plugin_trait.specs.SilentRule.{silent_rule}
+use Rattle.plug_psi.specs.EditedCycles.{replaced}
+use Rattle.plug_psi.specs.InForce.{names, pat_of, taken_on}
+use Rattle.plug_move.specs.MappedTables.{change_on}
 use Rattle.plug_move.specs.RemapSettings.{is_target}
+use Rattle.plug_move.specs.Targets.{target_of}
 use Rattle.plug_move.specs.declared.remap_conf.RemapConf.{RemapConf}
 
--- the target of a PID, where it is a source
-abbrev pub target_of : List (ℕ × ℕ) → ℕ → Option ℕ
-target_of [] pid = None
-target_of (pair ∷ pairs) pid = if pair.0 == pid then Some pair.1 else target_of pairs pid
-
--- packets on the PID are refused where it is no source: it is a target, and targets are checked
+-- packets that come on the PID are refused: targets are checked, it is one, and it is no source
 abbrev pub is_refused : RemapConf → ℕ → Bool
-is_refused conf pid = not conf.unchecked && is_target pid conf.operand
+is_refused conf pid =
+    not conf.unchecked && (is_target pid conf.operand && not (is_some (target_of conf.operand pid)))
 
--- what becomes of a packet whose PID has this target, or none: the packet gets the target as its PID, which sets
--- that field and nothing else (`with_pid-sets` of `ts_packet`); or it is refused; or it stays as it is
-abbrev pub moved : Option ℕ → Bool → List ℕ → RuleOutcome
-moved (Some target) refused packet = passes (with_pid packet target)
-moved None refused packet = if refused then refuses (Pid (pid_of packet)) else passes packet
+-- a packet with the target as its PID, if there is one: that sets this field and nothing else (`with_pid-sets` of
+-- `ts_packet`)
+abbrev pub moved_to : Option ℕ → List ℕ → List ℕ
+moved_to None packet = packet
+moved_to (Some target) packet = with_pid packet target
 
--- each packet is moved by its PID; tables are left as they are
+-- the PIDs of the PAT and of the CAT, whose tables are always edited
+abbrev pub is_fixed : ℕ → Bool
+is_fixed pid = nat_eq pid 0 || nat_eq pid 1
+
+-- the tables on a PID are edited, where this PAT is in force: on a fixed PID, or on one that a service has; never on
+-- that of null packets
+abbrev pub is_edited : Option TableHolding → ℕ → Bool
+is_edited pat pid = is_fixed pid || (names pat pid && not (pid == NULL_PID))
+
+-- the packets of any PID that the editor of one takes: of a fixed PID all, and else those at whose positions the PAT in
+-- force names it by a service
+abbrev pub taken_of : ℕ → List (List ℕ) → List (List ℕ)
+taken_of pid packets =
+    if is_fixed pid then filter (λ packet. nat_eq (pid_of packet) pid) packets else taken_on pid packets
+
+-- what the editor of the PID of a packet puts in its place, behind these packets
+abbrev pub edited : List (ℕ × ℕ) → List (List ℕ) → List ℕ → List ℕ
+edited pairs packets packet =
+    replaced (pid_of packet) (change_on pairs (pid_of packet)) (taken_of (pid_of packet) packets) packet
+
+-- what was put in, moved; a null packet that was put in stays one
+abbrev pub moved_edited : Option ℕ → List ℕ → List ℕ
+moved_edited target packet = if pid_of packet == NULL_PID then packet else moved_to target packet
+
+-- a packet edited and moved, behind these packets; the PAT in force is that of its own position
+abbrev pub with_tables : List (ℕ × ℕ) → List (List ℕ) → List ℕ → List ℕ
+with_tables pairs packets packet =
+    if is_edited (pat_of (packets ++ packet ∷ [])) (pid_of packet)
+    then moved_edited (target_of pairs (pid_of packet)) (edited pairs packets packet)
+    else moved_to (target_of pairs (pid_of packet)) packet
+
+-- what goes on in the place of a packet that is not refused
+abbrev pub mapped_packet : RemapConf → List (List ℕ) → List ℕ → List ℕ
+mapped_packet conf packets packet =
+    if conf.no_psi then moved_to (target_of conf.operand (pid_of packet)) packet
+    else with_tables conf.operand packets packet
+
+-- Whether a packet is refused is asked of its PID as it comes, before anything else.
 abbrev pub remap_rule : RemapConf → PluginRule
-remap_rule conf = silent_rule (λ _ packet.
-    moved (target_of conf.operand (pid_of packet)) (is_refused conf (pid_of packet)) packet)
+remap_rule conf = silent_rule (λ history packet.
+    if is_refused conf (pid_of packet) then refuses (Pid (pid_of packet))
+    else passes (mapped_packet conf (live_packets history) packet))

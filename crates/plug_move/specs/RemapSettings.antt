@@ -39,5 +39,4 @@ IsPidPair pair = (pair.0 < PID_COUNT) × (pair.1 < PID_COUNT)
 pub record IsLawfulRemap (c : RemapConf) : Type 0 where
   pub some_pair : 1 ≤ length c.operand
   pub pids : All IsPidPair c.operand
-  pub no_tables : IsTrue c.no_psi
   pub agree : IsTrue (pairs_agree c)

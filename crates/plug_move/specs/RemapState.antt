@@ -1,7 +1,47 @@
--- The settings that a value of `remap` has. This project's own rule.
+-- What a value of `remap` stands for. This project's own rule.
+use Rattle.std.specs.Prelude.{◌≡◌, ℕ, true, false, List, [], ◌∷◌, ◌++◌, Option, None, Some, is_none, if◌then◌else◌}
+use Rattle.ts_packet.specs.declared.cell.Cell.{Cell}
+use Rattle.ts_packet.specs.Cells.{live_packets}
+use Rattle.ts_packet.specs.Header.{pid_of}
+use Rattle.plugin_trait.specs.declared.outcome.Outcome.{Outcome}
+use Rattle.plugin_trait.specs.declared.outcome.Outcome.TheVariants.{Pass, NoMemory}
+use Rattle.plug_move.specs.MapperState.{StandsFor, has_failed}
+use Rattle.plug_move.specs.RemapRule.{moved_to, with_tables}
+use Rattle.plug_move.specs.Targets.{target_of}
 use Rattle.plug_move.specs.declared.remap_conf.RemapConf.{RemapConf}
 use Rattle.plug_move.specs.declared.remap.Remap.{Remap}
+use Rattle.plug_move.specs.declared.table_mapper.TableMapper.{TableMapper}
 
 -- the settings of the plugin
 abbrev pub conf_of : Remap → RemapConf
-conf_of s = record { operand = s.table.0; no_psi = s.no_psi; unchecked = s.table.1 }
+conf_of s = record { operand = s.table.0; no_psi = is_none s.tables; unchecked = s.table.1 }
+
+-- what edits tables, if there is such, stands for the packets that were met, unless memory was wanting
+abbrev pub MapperStands : List (ℕ × ℕ) → Option TableMapper → List (List ℕ) → Type 0
+MapperStands pairs None met = Unit {0}
+MapperStands pairs (Some mapper) met = has_failed mapper ≡ false → StandsFor pairs mapper met
+
+-- the same of the cells that were met
+abbrev pub TablesStand : List (ℕ × ℕ) → Option TableMapper → List Cell → Type 0
+TablesStand pairs tables history = MapperStands pairs tables (live_packets history)
+
+-- memory was wanting
+abbrev pub HasFailed : Option TableMapper → Type 0
+HasFailed None = ⊥
+HasFailed (Some mapper) = has_failed mapper ≡ true
+
+-- room for so many positions was taken before the run where no tables are edited
+abbrev pub room_of : Option TableMapper → ℕ → Option ℕ
+room_of None buffer = Some buffer
+room_of (Some mapper) buffer = None
+
+-- what was made of a packet with this target or none, and that what edits tables met it; or memory was wanting for the
+-- first time or again, and the packet is as it was
+abbrev pub GoesOn : Option TableMapper → Option TableMapper → Option ℕ → List ℕ → List ℕ → Outcome → Type 0
+GoesOn old new target packet made Pass =
+    (pairs : List (ℕ × ℕ)) (met : List (List ℕ)) → MapperStands pairs old met
+    → (target ≡ target_of pairs (pid_of packet)
+    → made ≡ (if is_none old then moved_to target packet else with_tables pairs met packet))
+    × MapperStands pairs new (met ++ packet ∷ [])
+GoesOn old new target packet made NoMemory = (made ≡ packet) × HasFailed new × (is_none old ≡ false)
+GoesOn old new target packet made _ = ⊥

@@ -1,6 +1,6 @@
 -- The words of `remap`.
 -- This project's own rule.
-use Rattle.std.specs.Prelude.{ℕ, ◌==◌, ◌&&◌, List, [], ◌∷◌, Option, codes, filter_map, length, not}
+use Rattle.std.specs.Prelude.{ℕ, ◌==◌, List, [], ◌∷◌, Option, codes, filter_map, length, not}
 use Rattle.clap.specs.Walk.{Row}
 use Rattle.plug_move.specs.RemapSettings.{pairs_agree}
 use Rattle.plug_move.specs.declared.remap_conf.RemapConf.{RemapConf}
@@ -36,12 +36,11 @@ remap_settings found = record {
   unchecked = has_flag (codes "unchecked") found;
 }
 
--- a pair has to be given, and so far `--no-psi`
+-- a pair has to be given
 abbrev pub remap : OptionTable RemapConf
 remap = record {
   rows = remap_rows;
-  has_needed = λ found.
-      not (length (values_of (codes "operand") found) == 0) && has_flag (codes "no-psi") found;
+  has_needed = λ found. not (length (values_of (codes "operand") found) == 0);
   settings = remap_settings;
   go_together = λ found. pairs_agree (remap_settings found);
 }

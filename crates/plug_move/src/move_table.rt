@@ -2,7 +2,8 @@ ghost use Rattle.std.specs.Prelude.{◌≡◌, ◌<◌, ◌&&◌, not, IfOk, IfS
 ghost use Rattle.std.specs.List.{All};
 ghost use Rattle.plug_move.specs.RemapSettings.{IsPidPair, is_target};
 ghost use Rattle.plug_move.specs.MoveTables.{IsMoveTable, LeadsToPid, move_of};
-ghost use Rattle.plug_move.specs.RemapRule.{target_of};
+ghost use Rattle.plug_move.specs.Targets;
+ghost use Rattle.plug_move.specs.Targets.{target_of};
 
 use plug_conf::PairList;
 use std::alloc::{AllocError, Global};
@@ -64,6 +65,18 @@ impl MoveTable {
         ensures leads { LeadsToPid result }
     {
         self.moves[usize::from(pid)]
+    }
+
+    /// What a PID becomes: its target, or itself where it is no source.
+    pub fn mapped(&self, pid: u16) -> u16
+        requires { pid < PID_COUNT }
+        ensures mapped { result ≡ Targets.mapped self.now.0 pid }
+        ensures in_range { result < PID_COUNT }
+    {
+        match self.look_up(pid) {
+            Move::To(target) => target,
+            Move::Keep | Move::Refuse => pid,
+        }
     }
 }
 

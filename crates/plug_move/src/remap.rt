@@ -1,34 +1,42 @@
-ghost use Rattle.std.specs.Prelude.{◌≡◌, IfOk, [], Some};
+ghost use Rattle.std.specs.Prelude.{◌≡◌, ◌<◌, IfOk, [], None, Some, is_none, if◌then◌else◌};
+ghost use Rattle.std.specs.Option.{ForSome};
+ghost use Rattle.ts_packet.specs.declared.numbers.TheConstants.{PID_COUNT};
 ghost use Rattle.plug_move.specs.RemapRule.{remap_rule};
+ghost use Rattle.plug_move.specs.RemapSettings.{IsLawfulRemap};
+ghost use Rattle.plug_move.specs.RemapState.{GoesOn, MapperStands};
 
 use crate::move_table::{Move, MoveTable};
 use crate::remap_conf::RemapConf;
+use crate::table_mapper::{TableMapper, move_to};
 use plugin_trait::{Line, Outcome, Plugin, Reason, silent_report};
 use std::alloc::{AllocError, Global};
-use ts_packet::Cell;
+use ts_packet::{Cell, PID_COUNT, Packet};
 
-/// Moves packets to other PIDs, and refuses those that are on a PID which others are moved to.
-#[derive(Drop, Debug)]
+/// Moves packets to other PIDs, and refuses those that are on a PID which others are moved to. Unless tables are left as
+/// they are, the PIDs that PAT, CAT and PMTs name are mapped too.
+///
+/// With tables a step may want memory, and then every later step does, unless its packet is refused.
+#[derive(Drop)]
 pub struct Remap {
     table: MoveTable,
-    no_psi: bool,
+    tables: Option<TableMapper>,
     buffer: usize,
     alloc: Global,
 }
 
 impl Remap {
-    ghost use Rattle.plug_move.specs.RemapSettings.{IsLawfulRemap};
-
-    /// A plugin that met no cell yet. It takes room for its table of PIDs, and its steps take none.
+    /// A plugin that met no cell yet. It takes room for its table of PIDs; its steps take none where tables are left
+    /// as they are.
     pub fn new(alloc: Global, conf: &RemapConf, buffer: usize) -> Result<Remap, AllocError>
         requires { IsLawfulRemap conf.now }
         ensures rule { IfOk result (λ plugin. ⟦<Remap as Plugin>⟧.rule plugin ≡ remap_rule conf.now) }
         ensures fresh { IfOk result (λ plugin. ⟦<Remap as Plugin>⟧.stands_for plugin [] 0) }
-        ensures steady { IfOk result (λ plugin. ⟦<Remap as Plugin>⟧.steady plugin ≡ Some buffer) }
+        ensures steady { IfOk result (λ plugin. ⟦<Remap as Plugin>⟧.steady plugin
+            ≡ (if conf.now.no_psi then Some buffer else None)) }
     {
         Ok(Remap {
             table: MoveTable::of(alloc, &conf.operand, conf.unchecked)?,
-            no_psi: conf.no_psi,
+            tables: tables_of(alloc, conf)?,
             buffer,
             alloc,
         })
@@ -36,15 +44,15 @@ impl Remap {
 }
 
 impl Plugin for Remap {
-    ghost use Rattle.std.specs.Prelude.{◌≤◌, length, Some, refl};
+    ghost use Rattle.std.specs.Prelude.{◌≤◌, length, refl};
     ghost use Rattle.plug_move.specs.RemapRule.{remap_rule};
-    ghost use Rattle.plug_move.specs.RemapState.{conf_of};
+    ghost use Rattle.plug_move.specs.RemapState.{TablesStand, conf_of, room_of};
 
     ghost rule = { λ s. remap_rule (conf_of s) };
 
-    ghost stands_for = { λ s history mark. mark ≤ length history };
+    ghost stands_for = { λ s history mark. TablesStand s.table.0 s.tables history × (mark ≤ length history) };
 
-    ghost steady = { λ s. Some s.buffer };
+    ghost steady = { λ s. room_of s.tables s.buffer };
 
     #[inline]
     fn step(&mut self, _at: u64, cell: &mut Cell) -> Outcome {
@@ -53,11 +61,8 @@ impl Plugin for Remap {
         };
         let pid = packet.pid();
         match self.table.look_up(pid) {
-            Move::Keep => Outcome::Pass,
-            Move::To(target) => {
-                packet.set_pid(target);
-                Outcome::Pass
-            }
+            Move::Keep => go_on(&mut self.tables, packet, None),
+            Move::To(target) => go_on(&mut self.tables, packet, Some(target)),
             Move::Refuse => Outcome::Refuse(Reason::Pid(pid)),
         }
     }
@@ -75,4 +80,34 @@ impl Plugin for Remap {
     }
 
     ghost starts_open = { λ plugin history mark stands. refl };
+}
+
+/// What edits tables, unless they are left as they are.
+fn tables_of(alloc: Global, conf: &RemapConf) -> Result<Option<TableMapper>, AllocError>
+    requires { IsLawfulRemap conf.now }
+    ensures none { IfOk result (λ tables. is_none tables ≡ conf.now.no_psi) }
+    ensures fresh { IfOk result (λ tables. MapperStands conf.now.operand tables []) }
+{
+    if conf.no_psi {
+        return Ok(None);
+    }
+    let mapper = TableMapper::new(alloc, &conf.operand)?;
+    Ok(Some(mapper))
+}
+
+/// Makes of a packet that is not refused what goes on in its place.
+#[inline]
+fn go_on(tables: &mut Option<TableMapper>, packet: &mut Packet, target: Option<u16>) -> Outcome
+    requires { ForSome target (λ pid. pid < PID_COUNT) }
+    ensures made { GoesOn tables.old tables.new target packet.old packet.new result }
+    ensures same { is_none tables.new ≡ is_none tables.old }
+{
+    let Some(mapper) = tables else {
+        move_to(packet, target);
+        return Outcome::Pass;
+    };
+    match mapper.step(packet, target) {
+        Ok(()) => Outcome::Pass,
+        Err(_) => Outcome::NoMemory,
+    }
 }

@@ -11,7 +11,7 @@ use ts_packet::NULL_PID;
 pub struct RemapConf {
     /// A source and its target each, 1 to 1,000 of them.
     pub operand: PairList,
-    /// Tables are left as they are. So far this has to be set.
+    /// Tables are left as they are. Otherwise the PIDs in PAT, CAT and PMTs are given the others too.
     pub no_psi: bool,
     /// A target may repeat, and may be in use.
     pub unchecked: bool,

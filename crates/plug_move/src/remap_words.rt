@@ -25,7 +25,7 @@ pub fn remap_settings(alloc: Global, found: &ParsedOptions) -> Result<RemapConf,
     ensures reads { ReadsParsed remap found.now result }
     ensures lawful { IfOk result IsLawfulRemap }
 {
-    if !found.has_values("operand") || !found.has_flag("no-psi") {
+    if !found.has_values("operand") {
         return Err(Refusal::Broken(WordsRule::Missing));
     }
     let conf = RemapConf {

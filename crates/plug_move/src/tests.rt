@@ -1,10 +1,17 @@
+//! Worked rows: what the plugin makes of packets, and each call that takes memory once with enough of it.
+
 ghost use Rattle.std.specs.Prelude.{◌<◌};
 
 use crate::{Remap, RemapConf};
 use plug_conf::PairList;
 use plugin_trait::{ListEnd, Reason, apply_plugin};
+use std::alloc::Global;
 use std::test::Fail;
-use ts_packet::{Cell, Labels, Packet};
+use ts_bits::{Descriptor, DescriptorList};
+use ts_packet::{Cell, Labels, NULL_PID, Packet};
+use ts_packetize::packets;
+use ts_psi::{Cat, Component, ComponentList, Pat, PatService, PatServiceList, Pmt};
+use ts_section::Section;
 
 /// A packet on a PID.
 fn packet(pid: u16) -> Cell
@@ -32,6 +39,144 @@ fn remap_moves_and_refuses(rt: HostRuntime) -> Result<(), Fail> {
         for (cell, pid) in cells.iter().zip([512, 256, 258, 512]) {
             assert!(rt; matches!(cell, Cell::Live(packet, _) if packet.pid() == pid));
         }
+    }
+    Ok(())
+}
+
+/// The first packet that carries the sections.
+fn cell_of(alloc: Global, pid: u16, sections: &[Section]) -> Result<Cell, Fail>
+    requires { pid < 8191 }
+{
+    let list = packets(alloc, pid, sections)?;
+    match list.as_slice().first() {
+        Some(packet) => Ok(Cell::Live(*packet, Labels::none())),
+        None => Ok(Cell::Dropped),
+    }
+}
+
+/// A PAT with service 1 on PID 4096 and the network PID 256.
+fn pat_cell(alloc: Global) -> Result<Cell, Fail> {
+    let service = PatService {
+        service_id: 1,
+        pid: 4096,
+    };
+    let pat = Pat {
+        version: 0,
+        current: true,
+        stream_id: 1,
+        network_pid: Some(256),
+        services: PatServiceList::of(vec![in alloc; service]?),
+    };
+    cell_of(alloc, 0, &pat.sections(alloc)?)
+}
+
+/// The CA descriptor of PID 256 with two private bytes, which is told with reserved bits as zeros, or not.
+fn descriptors(alloc: Global) -> Result<DescriptorList, Fail> {
+    let read = Descriptor::new(alloc, 0x09, &[0x18, 0x00, 0xE1, 0x00, 0xAA, 0xBB])?;
+    let other = Descriptor::new(alloc, 0x09, &[0x18, 0x00, 0x01, 0x00])?;
+    Ok(DescriptorList::of(vec![in alloc; read, other]?))
+}
+
+/// A CAT with both.
+fn cat_cell(alloc: Global) -> Result<Cell, Fail> {
+    let cat = Cat {
+        version: 0,
+        current: true,
+        descriptors: descriptors(alloc)?,
+    };
+    cell_of(alloc, 1, &cat.sections(alloc)?)
+}
+
+/// A PMT on PID 4096 of service 1 with the clock of PID 256 and a component on it.
+fn pmt_cell(alloc: Global) -> Result<Cell, Fail> {
+    let component = Component {
+        stream_type: 2,
+        pid: 256,
+        descriptors: descriptors(alloc)?,
+    };
+    let pmt = Pmt {
+        version: 0,
+        current: true,
+        service_id: 1,
+        pcr_pid: 256,
+        descriptors: DescriptorList::of(Vec::new(alloc)),
+        components: ComponentList::of(vec![in alloc; component]?),
+    };
+    cell_of(alloc, 4096, &pmt.sections(alloc)?)
+}
+
+/// The PID of a packet, and its bytes from its section's body on.
+fn seen(cell: &Cell) -> (u16, &[u8]) {
+    match cell {
+        Cell::Live(packet, _) => (packet.pid(), &packet.bytes()[13..]),
+        Cell::Dropped => (NULL_PID, &[]),
+    }
+}
+
+#[test]
+fn tables_follow(rt: HostRuntime) -> Result<(), Fail> {
+    let alloc = rt.alloc();
+    let conf = RemapConf {
+        operand: PairList::of(vec![in alloc; (256, 512), (4096, 300)]?),
+        no_psi: false,
+        unchecked: false,
+    };
+    let mut remap = Remap::new(alloc, &conf, 1)?;
+    let early = pmt_cell(alloc)?;
+    let mut cells = vec![in alloc;
+        early,
+        pat_cell(alloc)?,
+        cat_cell(alloc)?,
+        pmt_cell(alloc)?,
+        packet(4096),
+        packet(256),
+    ]?;
+    let end = apply_plugin(&mut remap, &mut cells);
+    assert_eq!(rt; end, ListEnd::Through);
+    assert_eq!(rt; cells.len(), 6);
+    let early = [0xE1, 0x00, 0xF0, 0x00, 0x02, 0xE1, 0x00];
+    let pat = [0x00, 0x00, 0xE2, 0x00, 0x00, 0x01, 0xE1, 0x2C];
+    let cat = [
+        0x09, 0x06, 0x18, 0x00, 0xE2, 0x00, 0xAA, 0xBB, 0x09, 0x04, 0x18, 0x00, 0x01, 0x00,
+    ];
+    let pmt = [
+        0xE2, 0x00, 0xF0, 0x00, 0x02, 0xE2, 0x00, 0xF0, 0x0E, 0x09, 0x06, 0x18, 0x00, 0xE2, 0x00,
+        0xAA, 0xBB,
+    ];
+    let wanted = [
+        (300, early.as_slice()),
+        (0, pat.as_slice()),
+        (1, cat.as_slice()),
+        (300, pmt.as_slice()),
+        (300, pmt.as_slice()),
+        (512, [0xFF].as_slice()),
+    ];
+    for (cell, (pid, bytes)) in cells.iter().zip(wanted) {
+        let (its, behind) = seen(cell);
+        assert_eq!(rt; its, pid);
+        assert_eq!(rt; behind.get(..bytes.len()), Some(bytes));
+    }
+    Ok(())
+}
+
+#[test]
+fn a_null_packet_that_is_put_in_stays(rt: HostRuntime) -> Result<(), Fail> {
+    let alloc = rt.alloc();
+    let conf = RemapConf {
+        operand: PairList::of(vec![in alloc; (0, 300), (300, 0)]?),
+        no_psi: false,
+        unchecked: false,
+    };
+    let mut remap = Remap::new(alloc, &conf, 1)?;
+    let mut early = Packet::null();
+    early.set_pid(0);
+    early.set_counter(15);
+    let early = Cell::Live(early, Labels::none());
+    let mut cells = vec![in alloc; early, pat_cell(alloc)?, packet(300)]?;
+    let end = apply_plugin(&mut remap, &mut cells);
+    assert_eq!(rt; end, ListEnd::Through);
+    for (cell, pid) in cells.iter().zip([NULL_PID, 300, 0]) {
+        assert_eq!(rt; seen(cell).0, pid);
     }
     Ok(())
 }

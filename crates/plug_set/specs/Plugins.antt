@@ -140,10 +140,11 @@ rule_of (Sdt conf) = edit_rule 17 (change_sdt conf)
 rule_of (Nit conf) = edit_rule 16 (change_nit conf)
 
 -- for how many positions behind the last mark a plugin takes its room before the run, where it does: all of
--- them do but those whose lines grow with the stream, and the editors, which keep the tables that come
+-- them do but those whose lines grow with the stream, and those that edit tables, which keep the tables that come
 abbrev pub steady_of : PluginConf → ℕ → Option ℕ
 steady_of (Count conf) buffer = if conf.all then None else Some buffer
 steady_of (Continuity conf) buffer = None
+steady_of (Remap conf) buffer = if conf.no_psi then Some buffer else None
 steady_of (Pat conf) buffer = None
 steady_of (Cat conf) buffer = None
 steady_of (Pmt conf) buffer = None

@@ -7,7 +7,7 @@ use crate::trial_desk::Fails;
 const THREE: [u16; 3] = [256, 257, 256];
 
 /// No plugin, or one: the frame of a run.
-pub(crate) static END_ROWS: [Row; 13] = [
+pub(crate) static END_ROWS: [Row; 16] = [
     Row {
         name: "filter keeps one PID",
         words: "-I file in -P filter --pid 256 -O file out",
@@ -77,6 +77,24 @@ pub(crate) static END_ROWS: [Row; 13] = [
     Row {
         name: "the tables of a generated stream",
         words: "-I testgen 1 1000 -P count --pid 0,17,4096-4097 -O drop",
+        input: Input::Pids(&THREE),
+        fails: Fails::Never,
+    },
+    Row {
+        name: "a component on another PID",
+        words: "-I testgen 1 10 -P remap 256=512 -O file out",
+        input: Input::Pids(&THREE),
+        fails: Fails::Never,
+    },
+    Row {
+        name: "its packets alone on another PID",
+        words: "-I testgen 1 10 -P remap --no-psi 256=512 -O file out",
+        input: Input::Pids(&THREE),
+        fails: Fails::Never,
+    },
+    Row {
+        name: "as many tables as before",
+        words: "-I testgen 1 1000 -P remap 256=512 -P count --pid 256,4096 -O drop",
         input: Input::Pids(&THREE),
         fails: Fails::Never,
     },

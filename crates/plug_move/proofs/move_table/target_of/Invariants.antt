@@ -1,5 +1,5 @@
 use Rattle.std.proofs.Common.{◌≡◌, drop}
-use Rattle.plug_move.specs.RemapRule.{target_of}
+use Rattle.plug_move.specs.Targets.{target_of}
 use Rattle.plug_move.proofs.move_table.target_of.Given as goal
 
 abbrev pub invariant-loop-pair : goal.invariant-loop-pair

@@ -1,0 +1,48 @@
+//! CATs whose CA_PIDs are mapped (ISO/IEC 13818-1, 2.4.4.6).
+
+ghost use Rattle.std.specs.Prelude.{◌≡◌, IfOk};
+ghost use Rattle.ts_psi.specs.CatTables.{cat_held};
+ghost use Rattle.plug_move.specs.MappedTables.{change_cat, mapped_cat};
+
+use crate::descriptor_pids::map_descriptors;
+use crate::move_table::MoveTable;
+use plug_edit::{sections_or_same, table_or_none};
+use plug_psi::Edited;
+use std::alloc::{AllocError, Global};
+use ts_psi::Cat;
+use ts_section::TableRun;
+
+/// What becomes of a run on PID 1: of a current CAT that reads the sections of the mapped one.
+pub(crate) fn edit_cat(
+    alloc: Global,
+    table: &MoveTable,
+    run: &TableRun,
+) -> Result<Edited, AllocError>
+    ensures { IfOk result (λ edited. edited ≡ change_cat table.now.0 run.now) }
+{
+    let Some(cat) = table_or_none(Cat::read(alloc, run))? else {
+        return Ok(Edited::same());
+    };
+    if !cat.current {
+        return Ok(Edited::same());
+    }
+    let mapped = map_cat(alloc, table, cat)?;
+    sections_or_same(mapped.sections(alloc))
+}
+
+/// A CAT with its CA_PIDs mapped.
+fn map_cat(alloc: Global, table: &MoveTable, cat: Cat) -> Result<Cat, AllocError>
+    ensures { IfOk result (λ mapped. cat_held mapped ≡ mapped_cat table.now.0 (cat_held cat)) }
+{
+    let Cat {
+        version,
+        current,
+        descriptors,
+    } = cat;
+    let descriptors = map_descriptors(alloc, table, descriptors)?;
+    Ok(Cat {
+        version,
+        current,
+        descriptors,
+    })
+}
