@@ -329,7 +329,7 @@ fn what_one_read_gave_is_handed_on(rt: HostRuntime) -> Result<(), Fail> {
     Ok(())
 }
 
-// A packet is whole after two reads, or after one where half of it came with the packet before.
+// A packet is whole after two reads.
 #[test]
 fn half_a_packet_is_not_handed_on(rt: HostRuntime) -> Result<(), Fail> {
     let mut first = [Cell::Dropped; 2];
@@ -340,6 +340,12 @@ fn half_a_packet_is_not_handed_on(rt: HostRuntime) -> Result<(), Fail> {
     did(&rt, gave.first, 1, None);
     did_then(&rt, gave.second, 1, None);
     did_then(&rt, gave.third, 0, Some(PLAIN_END));
+    Ok(())
+}
+
+// The first read gives one packet and half of the next one, the second read the rest of that and one more.
+#[test]
+fn half_a_packet_waits_for_the_rest(rt: HostRuntime) -> Result<(), Fail> {
     let mut first = [Cell::Dropped; 2];
     let mut second = [Cell::Dropped; 2];
     let mut third = [Cell::Dropped; 2];
