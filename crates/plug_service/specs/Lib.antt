@@ -1,0 +1,13 @@
+pub mod ServicePids
+pub mod PidFlags
+pub mod Fates
+pub mod ServiceEdits
+pub mod ServiceRule
+pub mod FatesState
+pub mod EditorsState
+pub mod ServiceState
+pub mod ZapSettings
+pub mod SvremoveSettings
+pub mod ServiceWords
+pub mod ZapWords
+pub mod SvremoveWords
