@@ -1,6 +1,6 @@
 //! What becomes of the packets on each PID.
 
-ghost use Rattle.std.specs.Prelude.{◌≡◌, ℕ, ◌<◌, ◌++◌, List, Option, None, IfOk, OnOk, map};
+ghost use Rattle.std.specs.Prelude.{◌≡◌, ℕ, ◌<◌, ◌++◌, List, Option, IfOk, OnOk, length, map};
 ghost use Rattle.std.specs.List.{filter_map, flat_map};
 ghost use Rattle.ts_psi.specs.PatTables.{service_item};
 ghost use Rattle.ts_table_rows.specs.TableValues.{TableHolding};
@@ -39,9 +39,9 @@ pub(crate) struct PidFates {
 impl PidFates {
     ghost use Rattle.plug_service.specs.FatesState.{FatesStand};
 
-    /// Nothing is in force. It takes 8 KiB.
+    /// The fates of no tables, which are made anew before they are asked. It takes 8 KiB.
     pub(crate) fn new(alloc: Global, way: Way, service: u16) -> Result<PidFates, AllocError>
-        ensures stands { IfOk result (λ fates. FatesStand fates None (λ _. None)) }
+        ensures whole { IfOk result (λ fates. length fates.flags.items ≡ PID_COUNT) }
         ensures way { IfOk result (λ fates. fates.way ≡ way) }
         ensures service { IfOk result (λ fates. fates.service ≡ service) }
     {
@@ -72,7 +72,7 @@ impl PidFates {
 
     /// Other tables are in force. It takes memory as it goes, and keeps none.
     pub(crate) fn renew(&mut self, alloc: Global, force: &InForce) -> Result<(), AllocError>
-        ensures stands { OnOk result ((fed : List (List ℕ)) → Forced force.now fed
+        ensures stands { OnOk result (length self.old.flags.items ≡ PID_COUNT → (fed : List (List ℕ)) → Forced force.now fed
             → FatesStand self.new (pat_of fed) (λ other. pmt_of other fed)) }
         ensures way { self.new.way ≡ self.old.way }
         ensures service { self.new.service ≡ self.old.service }

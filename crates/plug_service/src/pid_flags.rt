@@ -29,10 +29,9 @@ pub(crate) fn flag_of(flags: &[bool], pid: u16) -> bool
     }
 }
 
-/// Sets the flags of some PIDs that are not among others, and no more.
+/// Sets the flags of some PIDs that are not among others, and no more. There is a flag for each PID.
 pub(crate) fn tell(flags: &mut [bool], pids: &[u16], others: &[u16])
-    requires { length flags.old ≡ PID_COUNT }
-    ensures { AreFlags flags.new (λ pid. has_pid pids.now pid && not (has_pid others.now pid)) }
+    ensures { length flags.old ≡ PID_COUNT → AreFlags flags.new (λ pid. has_pid pids.now pid && not (has_pid others.now pid)) }
 {
     clear(flags);
     set_all(flags, pids, true);

@@ -29,10 +29,10 @@ impl Watch {
     pub(crate) fn new(alloc: Global, way: Way, service: u16) -> Result<Watch, AllocError>
         ensures { IfOk result (λ watch. Watches way service watch []) }
     {
-        Ok(Watch {
-            force: InForce::new(alloc)?,
-            fates: PidFates::new(alloc, way, service)?,
-        })
+        let force = InForce::new(alloc)?;
+        let mut fates = PidFates::new(alloc, way, service)?;
+        fates.renew(alloc, &force)?;
+        Ok(Watch { force, fates })
     }
 
     /// Meets the next packet, of any PID, and answers its fate.
