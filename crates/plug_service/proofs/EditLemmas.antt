@@ -11,10 +11,12 @@ use Rattle.plug_psi.specs.declared.editor.Editor.{Editor}
 use Rattle.plug_service.specs.Fates.{edits_pmt, fate_after}
 use Rattle.plug_service.specs.ServiceEdits.{pat_change, sdt_change}
 use Rattle.plug_service.specs.ServiceRule.{packets_on, taken_on}
-use Rattle.plug_service.specs.EditorsState.{Edits, EditorsStand, EntryStands}
+use Rattle.plug_service.specs.EditorStands.{Edits}
+use Rattle.plug_service.specs.EditorsState.{EditorsStand, EntryStands}
 use Rattle.plug_service.specs.declared.way.Way.{Way}
 use Rattle.plug_service.specs.declared.fate.Fate.{Fate}
 use Rattle.plug_service.specs.declared.editors.Editors.{Editors}
+use Rattle.plug_service.specs.declared.pmt_editors.PmtEditors.{PmtEditors}
 use Rattle.plug_service.proofs.FateLemmas.{edits_pat, edits_sdt, fixed_pids}
 use Rattle.plug_service.proofs.TakenLemmas.{with_if, none_on, none_taken, on-more, taken-own, taken-other}
 
@@ -76,3 +78,13 @@ editors-next way service old new met p fate e h same pats sdts here others =
     entry pid true equal =
         subst (λ n. EntryStands service (get nat_eq new.pmts.editors n) n (taken_on way service n (met ++ p ∷ []))) (eqb-true (pid_of p) pid equal)
         (subst (EntryStands service (get nat_eq new.pmts.editors (pid_of p)) (pid_of p)) (sym (taken-own way service met p fate e)) here)
+
+-- the editor of a PID that took one packet more, where the number of the service and the PID are told otherwise
+pub entry-next :
+    (old new : PmtEditors) (service s pid q : ℕ) (t u : List (List ℕ)) → s ≡ service → q ≡ pid →
+    (EntryStands s (get nat_eq old.editors q) q t → EntryStands s (get nat_eq new.editors q) q u) →
+    EntryStands service (get nat_eq old.editors pid) pid t → EntryStands service (get nat_eq new.editors pid) pid u
+entry-next old new service s pid q t u same at step h =
+    subst (λ n. EntryStands service (get nat_eq new.editors n) n u) at
+    (subst (λ n. EntryStands n (get nat_eq new.editors q) q u) same
+    (step (subst (λ n. EntryStands n (get nat_eq old.editors q) q t) (sym same) (subst (λ n. EntryStands service (get nat_eq old.editors n) n t) (sym at) h))))

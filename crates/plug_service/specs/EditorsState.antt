@@ -2,21 +2,15 @@
 -- This project's own rule.
 use Rattle.std.specs.Prelude.{◌≡◌, ℕ, List, [], Option, Some, None, nat_eq}
 use Rattle.indexmap.specs.IndexMap.{get}
-use Rattle.plug_psi.specs.Edits.{Change}
-use Rattle.plug_psi.specs.EditorStands.{StandsFor, edit_of}
 use Rattle.plug_psi.specs.declared.editor.Editor.{Editor}
 use Rattle.plug_service.specs.ServiceEdits.{pat_change, sdt_change, pmt_change}
+use Rattle.plug_service.specs.EditorStands.{Edits}
 use Rattle.plug_service.specs.ServiceRule.{packets_on, taken_on}
 use Rattle.plug_service.specs.declared.way.Way.{Way}
 use Rattle.plug_service.specs.declared.pat_part.PatPart.{PatPart}
 use Rattle.plug_service.specs.declared.sdt_part.SdtPart.{SdtPart}
 use Rattle.plug_service.specs.declared.pmt_alone.PmtAlone.{PmtAlone}
 use Rattle.plug_service.specs.declared.editors.Editors.{Editors}
-
--- an editor has this edit, and stands for the packets that it took
-pub record Edits {E : Type 0} (edit : E) (change : List (List ℕ) → Change) (editor : Editor E) (pid : ℕ) (taken : List (List ℕ)) : Type 0 where
-  pub same_edit : edit_of editor ≡ edit
-  pub stands : StandsFor change editor pid taken
 
 -- the editor of a PID stands for the packets that were taken on it; without one none was taken
 abbrev pub EntryStands : ℕ → Option (Editor PmtAlone) → ℕ → List (List ℕ) → Type 0

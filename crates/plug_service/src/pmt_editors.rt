@@ -103,7 +103,10 @@ fn edit_on(editors: &mut Entries, pid: u16, packet: &Packet) -> Result<Packet, A
     ensures others { OnOk result ((other : ℕ) → nat_eq pid other ≡ false → get nat_eq editors.new other ≡ get nat_eq editors.old other) }
 {
     match editors.get_mut(&pid) {
-        Some(editor) => step_editor(editor, packet),
+        Some(editor) => {
+            let new = step_editor(editor, packet)?;
+            Ok(new)
+        }
         None => Ok(*packet),
     }
 }

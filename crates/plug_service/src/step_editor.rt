@@ -2,7 +2,7 @@
 
 ghost use Rattle.std.specs.Prelude.{◌≡◌, ℕ, ◌++◌, ◌∷◌, [], List, IfOk, OnOk};
 ghost use Rattle.plug_psi.specs.EditedCycles.{replaced};
-ghost use Rattle.plug_psi.specs.EditorStands.{StandsFor, edit_of};
+ghost use Rattle.plug_service.specs.EditorStands.{Edits};
 
 use plug_psi::{Editor, TableEdit};
 use std::alloc::AllocError;
@@ -13,11 +13,10 @@ pub(crate) fn step_editor<E: TableEdit + Drop>(
     editor: &mut Editor<E>,
     packet: &Packet,
 ) -> Result<Packet, AllocError>
-    ensures made { IfOk result (λ new. (pid : ℕ) (taken : List (List ℕ)) → StandsFor (E.change (edit_of editor.old)) editor.old pid taken
-        → new ≡ replaced pid (E.change (edit_of editor.old)) taken packet.now) }
-    ensures stands { OnOk result ((pid : ℕ) (taken : List (List ℕ)) → StandsFor (E.change (edit_of editor.old)) editor.old pid taken
-        → StandsFor (E.change (edit_of editor.old)) editor.new pid (taken ++ packet.now ∷ [])) }
-    ensures same_edit { edit_of editor.new ≡ edit_of editor.old }
+    ensures made { IfOk result (λ new. (edit : E) (pid : ℕ) (taken : List (List ℕ)) → Edits edit (E.change edit) editor.old pid taken
+        → new ≡ replaced pid (E.change edit) taken packet.now) }
+    ensures stands { OnOk result ((edit : E) (pid : ℕ) (taken : List (List ℕ)) → Edits edit (E.change edit) editor.old pid taken
+        → Edits edit (E.change edit) editor.new pid (taken ++ packet.now ∷ [])) }
 {
     let mut new = *packet;
     editor.step(&mut new)?;
