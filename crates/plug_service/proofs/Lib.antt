@@ -5,3 +5,4 @@ pub mod EditLemmas
 pub mod PartLemmas
 pub mod FlagLemmas
 pub mod PidLemmas
+mod Rows
