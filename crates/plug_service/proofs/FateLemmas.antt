@@ -1,19 +1,14 @@
 -- Fates, by PIDs and by tables in force.
-use Rattle.std.proofs.Common.{◌≡◌, ℕ, ◌==◌, ◌<◌, ◌++◌, ◌∷◌, [], Bool, true, false, List, Option, refl, sym, ◌∙◌, ap, ap₂, arith, subst}
-use Rattle.std.specs.Prelude.{if◌then◌else◌, nat_eq, slice_index_or}
+use Rattle.std.proofs.Common.{◌≡◌, ℕ, ◌==◌, Bool, true, false, List, refl, sym, ◌∙◌, ap, arith}
+use Rattle.std.specs.Prelude.{if◌then◌else◌}
 use Rattle.std.proofs.lemmas.Bool.Decides.{nat_tests}
-use Rattle.ts_packet.specs.declared.numbers.TheConstants.{NULL_PID, PID_COUNT}
-use Rattle.ts_table_rows.specs.TableValues.{TableHolding}
+use Rattle.ts_packet.specs.declared.numbers.TheConstants.{NULL_PID}
 use Rattle.plug_psi.specs.InForce.{pat_of, pmt_of}
-use Rattle.plug_psi.specs.SameForce.{SameInForce}
-use Rattle.plug_service.specs.Fates.{edited_first, fate_after, fate_of, is_at, is_in_pmt_alone, is_shared, kept_fate, removed_fate}
-use Rattle.plug_service.specs.FatesState.{FatesStand, Stands}
-use Rattle.plug_service.specs.ServicePids.{has_pid, pids_of}
+use Rattle.plug_service.specs.Fates.{fate_after, fate_of, kept_fate, removed_fate}
 use Rattle.plug_service.specs.declared.way.Way.{Way}
 use Rattle.plug_service.specs.declared.way.Way.TheVariants.{Keep, Remove}
 use Rattle.plug_service.specs.declared.fate.Fate.{Fate}
 use Rattle.plug_service.specs.declared.fate.Fate.TheVariants.{EditPat, EditSdt, EditPmt, Pass, Drop}
-use Rattle.plug_service.specs.declared.pid_fates.PidFates.{PidFates}
 
 -- the fates of packets that carry PATs, and of those that carry SDTs
 abbrev pub edits_pat : Fate → Bool
@@ -87,18 +82,7 @@ unfolding fate_after
 fixed_pids Keep service packets pid fate e = chosen_first (pid == 0) (pid == 17) _ fate (kept_other _ _ pid) (apart pid) e
 fixed_pids Remove service packets pid fate e = chosen_first (pid == 0) (pid == 17) _ fate (removed_other _ _ _ pid) (apart pid) e
 
--- fates stay where the tables in force do
-pub fates-same :
-    (fates : PidFates) (met : List (List ℕ)) (packet : List ℕ) → SameInForce met packet →
-    FatesStand fates (pat_of met) (λ other. pmt_of other met) → FatesStand fates (pat_of (met ++ packet ∷ [])) (λ other. pmt_of other (met ++ packet ∷ []))
-fates-same fates met packet same h =
-    let after = met ++ packet ∷ [] in
-    let pmts_before : ℕ → Option TableHolding = λ other. pmt_of other met in
-    let pmts_after : ℕ → Option TableHolding = λ other. pmt_of other after in
-    let pmts_same : pmts_before ≡ pmts_after = λ i other. sym (same.pmts other) i in
-    subst (λ pat. FatesStand fates pat pmts_after) (sym same.pat) (subst (λ pmts. FatesStand fates (pat_of met) pmts) pmts_same h)
-
--- so is the fate of a PID after packets
+-- the fate of a PID by the tables in force after packets
 pub fate-after : (way : Way) (service : ℕ) (packets : List (List ℕ)) (pid : ℕ) → fate_of way service (pat_of packets) (λ other. pmt_of other packets) pid ≡ fate_after way service packets pid
 unfolding fate_after
 fate-after way service packets pid = refl

@@ -1,37 +1,12 @@
 -- Flags by PID.
-use Rattle.std.proofs.Common.{◌≡◌, ℕ, ◌==◌, ◌||◌, ◌&&◌, ◌<◌, not, Bool, true, false, List, [], ◌∷◌, ◌++◌, length, take, get_or, replicate, zero, suc, refl, sym, ap, ap₂, ◌∙◌, subst, arith}
-use Rattle.std.specs.Prelude.{if◌then◌else◌, Option}
+use Rattle.std.proofs.Common.{◌≡◌, ℕ, ◌&&◌, not, Bool, true, false, List, [], ◌∷◌, ◌++◌, length, take, refl, ap, ap₂, ◌∙◌}
+use Rattle.std.specs.Prelude.{Option}
 use Rattle.ts_table_rows.specs.TableValues.{TableHolding}
 use Rattle.plug_service.specs.FatesState.{spared_pids, told_flag}
 use Rattle.plug_service.specs.PidFlags.{AreFlags}
 use Rattle.plug_service.specs.ServicePids.{has_pid, pids_of}
 use Rattle.plug_service.specs.declared.way.Way.{Way}
 use Rattle.plug_service.specs.declared.way.Way.TheVariants.{Keep, Remove}
-
--- none is set
-pub none-set : (n k : ℕ) → get_or (replicate n false) k false ≡ false
-none-set zero zero = refl
-none-set zero (suc k) = refl
-none-set (suc n) zero = refl
-none-set (suc n) (suc k) = none-set n k
-
-pub length-flags : (n : ℕ) → length (replicate n false) ≡ n
-length-flags zero = refl
-length-flags (suc n) = ap suc (length-flags n)
-
--- a value that is given where one of two tests holds
-pub given_or : (a b : Bool) (v x : Bool) → (if b then v else (if a then v else x)) ≡ (if a || b then v else x)
-given_or true true v x = refl
-given_or true false v x = refl
-given_or false true v x = refl
-given_or false false v x = refl
-
--- the flags of some are set, then those of others taken back
-pub told : (a b : Bool) → (if b then false else (if a then true else false)) ≡ (a && not b)
-told true true = refl
-told true false = refl
-told false true = refl
-told false false = refl
 
 -- a vector that was lent as a slice
 pub take-whole : {A : Type 0} (xs ys : List A) → take (length xs) (xs ++ ys) ≡ xs

@@ -1,4 +1,3 @@
-pub mod Choice
 pub mod TakenLemmas
 pub mod FateLemmas
 pub mod EditLemmas

@@ -1,8 +1,8 @@
 -- Tables with the items that stay.
-use Rattle.std.proofs.Common.{◌≡◌, ℕ, Bool, true, false, List, [], ◌∷◌, ◌++◌, map, filter, refl, sym, ap, ◌∙◌, arith}
-use Rattle.std.specs.Prelude.{◌||◌, if◌then◌else◌, Option, Some, None}
+use Rattle.std.proofs.Common.{◌≡◌, ℕ, Bool, true, false, List, [], ◌∷◌, map, filter, refl, sym, ap, arith}
+use Rattle.std.specs.Prelude.{◌||◌, if◌then◌else◌}
 use Rattle.std.proofs.lemmas.Bool.{ne_eqb}
-use Rattle.ts_psi.specs.PatTables.{is_network, network_items, service_item}
+use Rattle.ts_psi.specs.PatTables.{is_network, service_item}
 use Rattle.ts_psi.specs.declared.pat.PatService.{PatService}
 use Rattle.plug_service.specs.ServiceEdits.{entry_stays, stays}
 use Rattle.plug_service.specs.declared.way.Way.{Way}
@@ -29,10 +29,3 @@ no-network s = ne_eqb s.service_id 0 (λ e. absurd (omega (arith, e, s.named)))
 -- an entry of a service stays as its number does
 pub service-stays : (way : Way) (service : ℕ) (s : PatService) → stays way service s.service_id ≡ entry_stays way service (service_item s)
 service-stays way service s = sym (ap (λ b. b || stays way service s.service_id) (no-network s))
-
--- the network entry stays
-pub network-stays : (way : Way) (service : ℕ) (network : Option ℕ) (services : List PatService) (kept : List PatService) →
-    map service_item kept ≡ filter (entry_stays way service) (map service_item services) →
-    network_items network ++ map service_item kept ≡ filter (entry_stays way service) (network_items network ++ map service_item services)
-network-stays way service None services kept e = e
-network-stays way service (Some pid) services kept e = ap (λ l. network_items (Some pid) ++ l) e

@@ -1,5 +1,5 @@
 -- Packets that are taken on a PID, one packet more.
-use Rattle.std.proofs.Common.{◌≡◌, ℕ, ◌==◌, ◌&&◌, Bool, true, false, List, [], ◌∷◌, ◌++◌, filter, refl, sym, ◌∙◌, ap, append-nil, append_assoc, subst, arith}
+use Rattle.std.proofs.Common.{◌≡◌, ℕ, ◌==◌, ◌&&◌, Bool, true, false, List, [], ◌∷◌, ◌++◌, filter, refl, sym, ◌∙◌, ap, append-nil, append_assoc, arith}
 use Rattle.std.specs.Prelude.{if◌then◌else◌, nat_eq}
 use Rattle.std.proofs.lemmas.Bool.Decides.{nat_tests}
 use Rattle.std.proofs.lemmas.List.Elements.{filter-append}
@@ -8,7 +8,6 @@ use Rattle.plug_service.specs.Fates.{edits_pmt, fate_after}
 use Rattle.plug_service.specs.ServiceRule.{is_taken, packets_on, taken_behind, taken_on}
 use Rattle.plug_service.specs.declared.way.Way.{Way}
 use Rattle.plug_service.specs.declared.fate.Fate.{Fate}
-use Rattle.plug_service.proofs.Choice.{if_false}
 
 -- one packet more, or none
 abbrev pub with_if : Bool → List (List ℕ) → List ℕ → List (List ℕ)

@@ -7,8 +7,6 @@ use Rattle.plug_service.specs.ServiceEdits.{pat_change, sdt_change, pmt_change}
 use Rattle.plug_service.specs.EditorStands.{Edits}
 use Rattle.plug_service.specs.ServiceRule.{packets_on, taken_on}
 use Rattle.plug_service.specs.declared.way.Way.{Way}
-use Rattle.plug_service.specs.declared.pat_part.PatPart.{PatPart}
-use Rattle.plug_service.specs.declared.sdt_part.SdtPart.{SdtPart}
 use Rattle.plug_service.specs.declared.pmt_alone.PmtAlone.{PmtAlone}
 use Rattle.plug_service.specs.declared.editors.Editors.{Editors}
 

@@ -1,7 +1,7 @@
 -- What is made of the tables where a service is kept or removed.
 -- ISO/IEC 13818-1, 2.4.4.3 and 2.4.4.8, and ETSI EN 300 468, 5.2.3. The edits are this project's own rule: the entries of
 -- other services, or those of the service, are left out, and all else of the table stays.
-use Rattle.std.specs.Prelude.{ℕ, ◌==◌, ◌&&◌, ◌||◌, Bool, false, List, [], ◌∷◌, filter, nat_eq, not, Option, Some, None, if◌then◌else◌}
+use Rattle.std.specs.Prelude.{ℕ, ◌&&◌, ◌||◌, Bool, false, List, [], ◌∷◌, filter, nat_eq, not, Option, Some, None, if◌then◌else◌}
 use Rattle.std.specs.Result.{result_ok}
 use Rattle.ts_section.specs.SectionFields.{head_of}
 use Rattle.ts_section.specs.declared.long_head.LongHead.{LongHead}

@@ -128,11 +128,7 @@ fn removed_fate(is_of_pmt: bool, is_shared: bool, is_in_pmt_alone: bool, pid: u1
     ensures editable { IsEditable result pid }
 {
     if is_of_pmt {
-        if is_shared {
-            Fate::Pass
-        } else {
-            Fate::Drop
-        }
+        if is_shared { Fate::Pass } else { Fate::Drop }
     } else if pid > LAST_FIXED_PID && is_in_pmt_alone {
         Fate::Drop
     } else {

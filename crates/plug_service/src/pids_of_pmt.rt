@@ -74,11 +74,7 @@ fn add_ca_pids(
 }
 
 /// Adds the CA_PID of a descriptor, if it is a CA_descriptor.
-fn add_ca_pid(
-    alloc: Global,
-    pids: &mut Vec<u16>,
-    descriptor: &Descriptor,
-) -> Result<(), AllocError>
+fn add_ca_pid(alloc: Global, pids: &mut Vec<u16>, descriptor: &Descriptor) -> Result<(), AllocError>
     ensures { OnOk result (pids.new.items ≡ pids.old.items ++ ca_pid_of descriptor.now) }
 {
     match ca_pid_of(alloc, descriptor)? {

@@ -56,12 +56,7 @@ impl PmtEditors {
 }
 
 /// Sees that a PID has its editor.
-fn see_entry(
-    alloc: Global,
-    editors: &mut Entries,
-    service: u16,
-    pid: u16,
-) -> Result<(), AllocError>
+fn see_entry(alloc: Global, editors: &mut Entries, service: u16, pid: u16) -> Result<(), AllocError>
     requires { pid < NULL_PID }
     ensures has_entry { OnOk result (HasEntry (get nat_eq editors.new pid)) }
     ensures stands { OnOk result ((taken : List (List ℕ)) →

@@ -16,7 +16,7 @@ fn made_of_stream<P: Plugin + Drop>(alloc: Global, mut plugin: P) -> Result<Vec<
 {
     let mut cells = Vec::new(alloc);
     let mut generator = TestGen::new(alloc, 7)?;
-    for _ in 0..100 {
+    for _ in 0..100_usize {
         cells.push(Cell::Live(generator.next_packet(), Labels::none()))?;
     }
     let _end = apply_plugin(&mut plugin, &mut cells);
@@ -60,7 +60,9 @@ fn a_service_is_kept(rt: HostRuntime) -> Result<(), Fail> {
     }
     assert!(rt; count_of(&cells, 256) > 2);
     assert!(rt; count_of(&cells, 257) > 2);
-    let wanted = [0x00, 0xB0, 0x0D, 0x00, 0x01, 0xC1, 0x00, 0x00, 0x00, 0x01, 0xF0, 0x00];
+    let wanted = [
+        0x00, 0xB0, 0x0D, 0x00, 0x01, 0xC1, 0x00, 0x00, 0x00, 0x01, 0xF0, 0x00,
+    ];
     assert_eq!(rt; first_bytes(&cells).get(..12), Some(wanted.as_slice()));
     Ok(())
 }
@@ -81,7 +83,9 @@ fn a_service_is_removed(rt: HostRuntime) -> Result<(), Fail> {
     }
     assert!(rt; count_of(&cells, 256) > 2);
     assert!(rt; count_of(&cells, 8191) > 12);
-    let wanted = [0x00, 0xB0, 0x0D, 0x00, 0x01, 0xC1, 0x00, 0x00, 0x00, 0x02, 0xF0, 0x01];
+    let wanted = [
+        0x00, 0xB0, 0x0D, 0x00, 0x01, 0xC1, 0x00, 0x00, 0x00, 0x02, 0xF0, 0x01,
+    ];
     assert_eq!(rt; first_bytes(&cells).get(..12), Some(wanted.as_slice()));
     Ok(())
 }

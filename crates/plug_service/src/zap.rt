@@ -4,8 +4,8 @@ ghost use Rattle.std.specs.Prelude.{◌≡◌, [], None, IfOk};
 ghost use Rattle.plug_service.specs.ServiceRule.{zap_rule};
 
 use crate::one_service::OneService;
-use crate::zap_conf::ZapConf;
 use crate::way::Way;
+use crate::zap_conf::ZapConf;
 use plugin_trait::{Line, Outcome, Plugin, silent_report};
 use std::alloc::{AllocError, Global};
 use ts_packet::Cell;

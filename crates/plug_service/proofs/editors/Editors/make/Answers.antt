@@ -1,4 +1,4 @@
-use Rattle.std.proofs.Common.{[], ◌∷◌, ◌++◌, refl, sym, ◌∙◌, ap, Some}
+use Rattle.std.proofs.Common.{refl, sym, ◌∙◌, ap, Some}
 use Rattle.std.specs.Prelude.{nat_eq}
 use Rattle.ts_packet.specs.Header.{pid_of}
 use Rattle.plug_service.specs.ServiceRule.{made_by, packets_on, taken_on}
