@@ -17,6 +17,3 @@ pub use move_table::{Move, MoveTable};
 pub use remap::Remap;
 pub use remap_conf::RemapConf;
 pub use remap_words::{remap_command, remap_settings};
-
-#[cfg(test)]
-mod tests;

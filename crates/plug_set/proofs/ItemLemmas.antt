@@ -40,6 +40,8 @@ simple kind.Cat = refl
 simple kind.Pmt = refl
 simple kind.Sdt = refl
 simple kind.Nit = refl
+simple kind.Zap = refl
+simple kind.Svremove = refl
 
 module _ {C : Type 0} (p : OptionTable C) (app : App) (words : List (List ℕ)) (same : app ≡ command_of p.rows) where
   -- words that the command does not take

@@ -40,15 +40,21 @@ use Rattle.plug_edit.specs.SdtSettings.{IsLawfulSdt}
 use Rattle.plug_edit.specs.SdtWords.{sdt}
 use Rattle.plug_edit.specs.NitSettings.{IsLawfulNit}
 use Rattle.plug_edit.specs.NitWords.{nit}
+use Rattle.plug_service.specs.ServiceRule.{zap_rule}
+use Rattle.plug_service.specs.ZapSettings.{IsLawfulZap}
+use Rattle.plug_service.specs.ZapWords.{zap}
+use Rattle.plug_service.specs.ServiceRule.{svremove_rule}
+use Rattle.plug_service.specs.SvremoveSettings.{IsLawfulSvremove}
+use Rattle.plug_service.specs.SvremoveWords.{svremove}
 use Rattle.plug_set.specs.declared.plugin_conf.PluginConf.{PluginConf}
-use Rattle.plug_set.specs.declared.plugin_conf.PluginConf.TheVariants.{Filter, Skip, Slice, Pattern, Until, Count, Continuity, Remap, Pat, Cat, Pmt, Sdt, Nit}
+use Rattle.plug_set.specs.declared.plugin_conf.PluginConf.TheVariants.{Filter, Skip, Slice, Pattern, Until, Count, Continuity, Remap, Pat, Cat, Pmt, Sdt, Nit, Zap, Svremove}
 use Rattle.plug_set.specs.declared.plugin_conf.PluginKind.{PluginKind}
 use Rattle.plug_set.specs.declared.plugin_conf.PluginKind.TheVariants as kind
 
 -- the plugins
 abbrev pub kinds : List PluginKind
 kinds = kind.Filter ∷ kind.Skip ∷ kind.Slice ∷ kind.Pattern ∷ kind.Until ∷ kind.Count ∷ kind.Continuity ∷ kind.Remap
-    ∷ kind.Pat ∷ kind.Cat ∷ kind.Pmt ∷ kind.Sdt ∷ kind.Nit ∷ []
+    ∷ kind.Pat ∷ kind.Cat ∷ kind.Pmt ∷ kind.Sdt ∷ kind.Nit ∷ kind.Zap ∷ kind.Svremove ∷ []
 
 -- their names, as the command line and the reports have them
 abbrev pub name_of_kind : PluginKind → List ℕ
@@ -65,6 +71,8 @@ name_of_kind kind.Cat = codes "cat"
 name_of_kind kind.Pmt = codes "pmt"
 name_of_kind kind.Sdt = codes "sdt"
 name_of_kind kind.Nit = codes "nit"
+name_of_kind kind.Zap = codes "zap"
+name_of_kind kind.Svremove = codes "svremove"
 
 -- the plugin of a name; one that is not built yet has no kind
 abbrev pub plugin_kind_named : List ℕ → Option PluginKind
@@ -85,6 +93,8 @@ options_of_plugin kind.Cat = made_into Cat cat
 options_of_plugin kind.Pmt = made_into Pmt pmt
 options_of_plugin kind.Sdt = made_into Sdt sdt
 options_of_plugin kind.Nit = made_into Nit nit
+options_of_plugin kind.Zap = made_into Zap zap
+options_of_plugin kind.Svremove = made_into Svremove svremove
 
 -- the plugin that settings are of
 abbrev pub kind_of : PluginConf → PluginKind
@@ -101,6 +111,8 @@ kind_of (Cat conf) = kind.Cat
 kind_of (Pmt conf) = kind.Pmt
 kind_of (Sdt conf) = kind.Sdt
 kind_of (Nit conf) = kind.Nit
+kind_of (Zap conf) = kind.Zap
+kind_of (Svremove conf) = kind.Svremove
 
 -- its name
 abbrev pub name_of : PluginConf → List ℕ
@@ -122,6 +134,8 @@ IsLawful (Cat conf) = IsLawfulCat conf
 IsLawful (Pmt conf) = IsLawfulPmt conf
 IsLawful (Sdt conf) = IsLawfulSdt conf
 IsLawful (Nit conf) = IsLawfulNit conf
+IsLawful (Zap conf) = IsLawfulZap conf
+IsLawful (Svremove conf) = IsLawfulSvremove conf
 
 -- the rule that the settings mean
 abbrev pub rule_of : PluginConf → PluginRule
@@ -138,6 +152,8 @@ rule_of (Cat conf) = edit_rule 1 (change_cat conf)
 rule_of (Pmt conf) = edit_rule conf.pmt_pid (change_pmt conf)
 rule_of (Sdt conf) = edit_rule 17 (change_sdt conf)
 rule_of (Nit conf) = edit_rule 16 (change_nit conf)
+rule_of (Zap conf) = zap_rule conf
+rule_of (Svremove conf) = svremove_rule conf
 
 -- for how many positions behind the last mark a plugin takes its room before the run, where it does: all of
 -- them do but those whose lines grow with the stream, and those that edit tables, which keep the tables that come
@@ -150,6 +166,8 @@ steady_of (Cat conf) buffer = None
 steady_of (Pmt conf) buffer = None
 steady_of (Sdt conf) buffer = None
 steady_of (Nit conf) buffer = None
+steady_of (Zap conf) buffer = None
+steady_of (Svremove conf) buffer = None
 steady_of _ buffer = Some buffer
 
 -- the plugin agrees to a common end, and does not end the chain by itself

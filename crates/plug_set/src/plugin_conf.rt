@@ -28,6 +28,9 @@ use plug_pass::{
     FilterConf, PatternConf, SkipConf, SliceConf, filter_command, filter_settings, pattern_command,
     pattern_settings, skip_command, skip_settings, slice_command, slice_settings,
 };
+use plug_service::{
+    SvremoveConf, ZapConf, svremove_command, svremove_settings, zap_command, zap_settings,
+};
 use plug_watch::{
     ContinuityConf, CountConf, continuity_command, continuity_settings, count_command,
     count_settings,
@@ -51,6 +54,8 @@ pub enum PluginConf {
     Pmt(EditPmtConf),
     Sdt(EditSdtConf),
     Nit(EditNitConf),
+    Zap(ZapConf),
+    Svremove(SvremoveConf),
 }
 
 /// A kind of plugin.
@@ -69,6 +74,8 @@ pub enum PluginKind {
     Pmt,
     Sdt,
     Nit,
+    Zap,
+    Svremove,
 }
 
 impl PluginKind {
@@ -90,6 +97,8 @@ impl PluginKind {
             "pmt" => Some(PluginKind::Pmt),
             "sdt" => Some(PluginKind::Sdt),
             "nit" => Some(PluginKind::Nit),
+            "zap" => Some(PluginKind::Zap),
+            "svremove" => Some(PluginKind::Svremove),
             _ => None,
         }
     }
@@ -112,6 +121,8 @@ impl PluginKind {
             PluginKind::Pmt => "pmt",
             PluginKind::Sdt => "sdt",
             PluginKind::Nit => "nit",
+            PluginKind::Zap => "zap",
+            PluginKind::Svremove => "svremove",
         }
     }
 
@@ -133,6 +144,8 @@ impl PluginKind {
             PluginKind::Pmt => pmt_command(alloc),
             PluginKind::Sdt => sdt_command(alloc),
             PluginKind::Nit => nit_command(alloc),
+            PluginKind::Zap => zap_command(alloc),
+            PluginKind::Svremove => svremove_command(alloc),
         }
     }
 
@@ -157,6 +170,8 @@ impl PluginKind {
             PluginKind::Pmt => pmt_settings(alloc, found).map(PluginConf::Pmt),
             PluginKind::Sdt => sdt_settings(alloc, found).map(PluginConf::Sdt),
             PluginKind::Nit => nit_settings(alloc, found).map(PluginConf::Nit),
+            PluginKind::Zap => zap_settings(found).map(PluginConf::Zap),
+            PluginKind::Svremove => svremove_settings(found).map(PluginConf::Svremove),
         }
     }
 
@@ -230,6 +245,8 @@ impl PluginConf {
             PluginConf::Pmt(_) => PluginKind::Pmt,
             PluginConf::Sdt(_) => PluginKind::Sdt,
             PluginConf::Nit(_) => PluginKind::Nit,
+            PluginConf::Zap(_) => PluginKind::Zap,
+            PluginConf::Svremove(_) => PluginKind::Svremove,
         }
     }
 

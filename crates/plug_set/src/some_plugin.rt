@@ -9,6 +9,7 @@ use plug_edit::{
 use plug_end::Until;
 use plug_move::Remap;
 use plug_pass::{Filter, Pattern, Skip, Slice};
+use plug_service::{Svremove, Zap};
 use plug_watch::{Continuity, Count};
 use plugin_trait::{Applied, Line, Outcome, Plugin};
 use std::alloc::{AllocError, Global};
@@ -30,6 +31,8 @@ pub(crate) enum SomePlugin {
     Pmt(EditPmt),
     Sdt(EditSdt),
     Nit(EditNit),
+    Zap(Zap),
+    Svremove(Svremove),
 }
 
 impl SomePlugin {
@@ -63,13 +66,15 @@ impl SomePlugin {
             PluginConf::Pmt(conf) => SomePlugin::Pmt(EditPmt::new(alloc, conf, buffer)?),
             PluginConf::Sdt(conf) => SomePlugin::Sdt(EditSdt::new(alloc, conf, buffer)?),
             PluginConf::Nit(conf) => SomePlugin::Nit(EditNit::new(alloc, conf, buffer)?),
+            PluginConf::Zap(conf) => SomePlugin::Zap(Zap::new(alloc, conf, buffer)?),
+            PluginConf::Svremove(conf) => SomePlugin::Svremove(Svremove::new(alloc, conf, buffer)?),
         })
     }
 }
 
 impl Plugin for SomePlugin {
     ghost use Rattle.std.specs.Prelude.{refl};
-    ghost use Rattle.plug_set.specs.declared.some_plugin.SomePlugin.TheVariants.{Filter as MadeFilter, Skip as MadeSkip, Slice as MadeSlice, Pattern as MadePattern, Until as MadeUntil, Count as MadeCount, Continuity as MadeContinuity, Remap as MadeRemap, Pat as MadePat, Cat as MadeCat, Pmt as MadePmt, Sdt as MadeSdt, Nit as MadeNit};
+    ghost use Rattle.plug_set.specs.declared.some_plugin.SomePlugin.TheVariants.{Filter as MadeFilter, Skip as MadeSkip, Slice as MadeSlice, Pattern as MadePattern, Until as MadeUntil, Count as MadeCount, Continuity as MadeContinuity, Remap as MadeRemap, Pat as MadePat, Cat as MadeCat, Pmt as MadePmt, Sdt as MadeSdt, Nit as MadeNit, Zap as MadeZap, Svremove as MadeSvremove};
 
     ghost rule = { elim [
       | MadeFilter p ↦ ⟦<Filter as Plugin>⟧.rule p
@@ -85,6 +90,8 @@ impl Plugin for SomePlugin {
       | MadePmt p ↦ ⟦<EditPid<PmtEdit> as Plugin>⟧.rule p
       | MadeSdt p ↦ ⟦<EditPid<SdtEdit> as Plugin>⟧.rule p
       | MadeNit p ↦ ⟦<EditPid<NitEdit> as Plugin>⟧.rule p
+      | MadeZap p ↦ ⟦<Zap as Plugin>⟧.rule p
+      | MadeSvremove p ↦ ⟦<Svremove as Plugin>⟧.rule p
     ] };
 
     ghost stands_for = { elim [
@@ -101,6 +108,8 @@ impl Plugin for SomePlugin {
       | MadePmt p ↦ ⟦<EditPid<PmtEdit> as Plugin>⟧.stands_for p
       | MadeSdt p ↦ ⟦<EditPid<SdtEdit> as Plugin>⟧.stands_for p
       | MadeNit p ↦ ⟦<EditPid<NitEdit> as Plugin>⟧.stands_for p
+      | MadeZap p ↦ ⟦<Zap as Plugin>⟧.stands_for p
+      | MadeSvremove p ↦ ⟦<Svremove as Plugin>⟧.stands_for p
     ] };
 
     ghost steady = { elim [
@@ -117,6 +126,8 @@ impl Plugin for SomePlugin {
       | MadePmt p ↦ ⟦<EditPid<PmtEdit> as Plugin>⟧.steady p
       | MadeSdt p ↦ ⟦<EditPid<SdtEdit> as Plugin>⟧.steady p
       | MadeNit p ↦ ⟦<EditPid<NitEdit> as Plugin>⟧.steady p
+      | MadeZap p ↦ ⟦<Zap as Plugin>⟧.steady p
+      | MadeSvremove p ↦ ⟦<Svremove as Plugin>⟧.steady p
     ] };
 
     fn step(&mut self, at: u64, cell: &mut Cell) -> Outcome {
@@ -134,6 +145,8 @@ impl Plugin for SomePlugin {
             SomePlugin::Pmt(plugin) => plugin.step(at, cell),
             SomePlugin::Sdt(plugin) => plugin.step(at, cell),
             SomePlugin::Nit(plugin) => plugin.step(at, cell),
+            SomePlugin::Zap(plugin) => plugin.step(at, cell),
+            SomePlugin::Svremove(plugin) => plugin.step(at, cell),
         }
     }
 
@@ -152,6 +165,8 @@ impl Plugin for SomePlugin {
             SomePlugin::Pmt(plugin) => plugin.steps(at, cells, noted),
             SomePlugin::Sdt(plugin) => plugin.steps(at, cells, noted),
             SomePlugin::Nit(plugin) => plugin.steps(at, cells, noted),
+            SomePlugin::Zap(plugin) => plugin.steps(at, cells, noted),
+            SomePlugin::Svremove(plugin) => plugin.steps(at, cells, noted),
         }
     }
 
@@ -170,6 +185,8 @@ impl Plugin for SomePlugin {
             SomePlugin::Pmt(plugin) => plugin.note(written),
             SomePlugin::Sdt(plugin) => plugin.note(written),
             SomePlugin::Nit(plugin) => plugin.note(written),
+            SomePlugin::Zap(plugin) => plugin.note(written),
+            SomePlugin::Svremove(plugin) => plugin.note(written),
         }
     }
 
@@ -188,6 +205,8 @@ impl Plugin for SomePlugin {
             SomePlugin::Pmt(plugin) => plugin.agreed(),
             SomePlugin::Sdt(plugin) => plugin.agreed(),
             SomePlugin::Nit(plugin) => plugin.agreed(),
+            SomePlugin::Zap(plugin) => plugin.agreed(),
+            SomePlugin::Svremove(plugin) => plugin.agreed(),
         }
     }
 
@@ -206,6 +225,8 @@ impl Plugin for SomePlugin {
             SomePlugin::Pmt(plugin) => plugin.finish(cut),
             SomePlugin::Sdt(plugin) => plugin.finish(cut),
             SomePlugin::Nit(plugin) => plugin.finish(cut),
+            SomePlugin::Zap(plugin) => plugin.finish(cut),
+            SomePlugin::Svremove(plugin) => plugin.finish(cut),
         }
     }
 
@@ -223,5 +244,7 @@ impl Plugin for SomePlugin {
       | MadePmt p ↦ λ history mark stands. refl
       | MadeSdt p ↦ λ history mark stands. refl
       | MadeNit p ↦ λ history mark stands. refl
+      | MadeZap p ↦ λ history mark stands. refl
+      | MadeSvremove p ↦ λ history mark stands. refl
     ] };
 }

@@ -36,3 +36,9 @@ returns-in-Sdt c = rw c.in-Sdt.is c.agreed-in-Sdt.ensures
 
 pub returns-in-Nit : goal.returns-in-Nit
 returns-in-Nit c = rw c.in-Nit.is c.agreed-in-Nit.ensures
+
+pub returns-in-Zap : goal.returns-in-Zap
+returns-in-Zap c = rw c.in-Zap.is c.agreed-in-Zap.ensures
+
+pub returns-in-Svremove : goal.returns-in-Svremove
+returns-in-Svremove c = rw c.in-Svremove.is c.agreed-in-Svremove.ensures

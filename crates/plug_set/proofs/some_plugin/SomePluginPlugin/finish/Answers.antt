@@ -21,3 +21,9 @@ returns-in-Sdt c = rw c.in-Sdt.is c.finish-in-Sdt.ensures
 
 pub returns-in-Nit : goal.returns-in-Nit
 returns-in-Nit c = rw c.in-Nit.is c.finish-in-Nit.ensures
+
+pub returns-in-Zap : goal.returns-in-Zap
+returns-in-Zap c = rw c.in-Zap.is c.finish-in-Zap.ensures
+
+pub returns-in-Svremove : goal.returns-in-Svremove
+returns-in-Svremove c = rw c.in-Svremove.is c.finish-in-Svremove.ensures

@@ -18,3 +18,9 @@ returns-in-Sdt-clause-notes c = rw c.in-Sdt.is c.note-in-Sdt.ensures.notes
 
 pub returns-in-Nit-clause-notes : goal.returns-in-Nit-clause-notes
 returns-in-Nit-clause-notes c = rw c.in-Nit.is c.note-in-Nit.ensures.notes
+
+pub returns-in-Zap-clause-notes : goal.returns-in-Zap-clause-notes
+returns-in-Zap-clause-notes c = rw c.in-Zap.is c.note-in-Zap.ensures.notes
+
+pub returns-in-Svremove-clause-notes : goal.returns-in-Svremove-clause-notes
+returns-in-Svremove-clause-notes c = rw c.in-Svremove.is c.note-in-Svremove.ensures.notes

@@ -66,3 +66,15 @@ returns-in-Sdt-clause-meets c = rw c.in-Sdt.is c.step-in-Sdt.ensures.meets
 
 pub returns-in-Nit-clause-meets : goal.returns-in-Nit-clause-meets
 returns-in-Nit-clause-meets c = rw c.in-Nit.is c.step-in-Nit.ensures.meets
+
+pub returns-in-Zap-clause-tells : goal.returns-in-Zap-clause-tells
+returns-in-Zap-clause-tells c = rw c.in-Zap.is c.step-in-Zap.ensures.tells
+
+pub returns-in-Zap-clause-meets : goal.returns-in-Zap-clause-meets
+returns-in-Zap-clause-meets c = rw c.in-Zap.is c.step-in-Zap.ensures.meets
+
+pub returns-in-Svremove-clause-tells : goal.returns-in-Svremove-clause-tells
+returns-in-Svremove-clause-tells c = rw c.in-Svremove.is c.step-in-Svremove.ensures.tells
+
+pub returns-in-Svremove-clause-meets : goal.returns-in-Svremove-clause-meets
+returns-in-Svremove-clause-meets c = rw c.in-Svremove.is c.step-in-Svremove.ensures.meets

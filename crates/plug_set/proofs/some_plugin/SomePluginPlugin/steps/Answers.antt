@@ -135,3 +135,27 @@ returns-in-Nit-clause-far c = rw c.in-Nit.is c.steps-in-Nit.ensures.far
 
 pub returns-in-Nit-clause-met : goal.returns-in-Nit-clause-met
 returns-in-Nit-clause-met c = rw c.in-Nit.is c.steps-in-Nit.ensures.met
+
+pub returns-in-Zap-clause-makes : goal.returns-in-Zap-clause-makes
+returns-in-Zap-clause-makes c = rw c.in-Zap.is c.steps-in-Zap.ensures.makes
+
+pub returns-in-Zap-clause-agreed : goal.returns-in-Zap-clause-agreed
+returns-in-Zap-clause-agreed c = rw c.in-Zap.is c.steps-in-Zap.ensures.agreed
+
+pub returns-in-Zap-clause-far : goal.returns-in-Zap-clause-far
+returns-in-Zap-clause-far c = rw c.in-Zap.is c.steps-in-Zap.ensures.far
+
+pub returns-in-Zap-clause-met : goal.returns-in-Zap-clause-met
+returns-in-Zap-clause-met c = rw c.in-Zap.is c.steps-in-Zap.ensures.met
+
+pub returns-in-Svremove-clause-makes : goal.returns-in-Svremove-clause-makes
+returns-in-Svremove-clause-makes c = rw c.in-Svremove.is c.steps-in-Svremove.ensures.makes
+
+pub returns-in-Svremove-clause-agreed : goal.returns-in-Svremove-clause-agreed
+returns-in-Svremove-clause-agreed c = rw c.in-Svremove.is c.steps-in-Svremove.ensures.agreed
+
+pub returns-in-Svremove-clause-far : goal.returns-in-Svremove-clause-far
+returns-in-Svremove-clause-far c = rw c.in-Svremove.is c.steps-in-Svremove.ensures.far
+
+pub returns-in-Svremove-clause-met : goal.returns-in-Svremove-clause-met
+returns-in-Svremove-clause-met c = rw c.in-Svremove.is c.steps-in-Svremove.ensures.met

@@ -2,8 +2,8 @@
 
 ghost use Rattle.std.specs.Prelude.{◌<◌};
 
-use crate::{Remap, RemapConf};
 use plug_conf::PairList;
+use plug_move::{Remap, RemapConf};
 use plugin_trait::{ListEnd, Reason, apply_plugin};
 use std::alloc::Global;
 use std::test::Fail;

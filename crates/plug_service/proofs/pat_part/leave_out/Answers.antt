@@ -1,0 +1,11 @@
+use Rattle.std.proofs.Common.{rules, map, ap, ◌∙◌}
+use Rattle.std.proofs.lemmas.Fn.{filter_same}
+use Rattle.ts_psi.specs.PatTables.{service_item}
+use Rattle.plug_service.specs.ServiceEdits.{entry_stays, stays}
+use Rattle.plug_service.proofs.PartLemmas.{kept_view, service-stays}
+use Rattle.plug_service.proofs.pat_part.leave_out.Goals as goal
+
+pub returns : goal.returns
+returns c =
+    ap (map service_item) (filter_same _ (λ s. stays c.args.way c.args.service s.service_id) _ (λ x b f' k. search rules) _ _ c.retain.ensures.filtered)
+    ∙ kept_view service_item (λ s. stays c.args.way c.args.service s.service_id) (entry_stays c.args.way c.args.service) (service-stays c.args.way c.args.service) c.args.services.now.items

@@ -1,0 +1,11 @@
+use Rattle.std.proofs.Common.{rules, map, ap, refl, ◌∙◌}
+use Rattle.std.proofs.lemmas.Fn.{filter_same}
+use Rattle.ts_si.specs.SiTables.{service_item}
+use Rattle.plug_service.specs.ServiceEdits.{service_stays, stays}
+use Rattle.plug_service.proofs.PartLemmas.{kept_view}
+use Rattle.plug_service.proofs.sdt_part.leave_out.Goals as goal
+
+pub returns : goal.returns
+returns c =
+    ap (map service_item) (filter_same _ (λ s. stays c.args.way c.args.service s.service_id) _ (λ x b f' k. search rules) _ _ c.retain.ensures.filtered)
+    ∙ kept_view service_item (λ s. stays c.args.way c.args.service s.service_id) (service_stays c.args.way c.args.service) (λ x. refl) c.args.services.now.items

@@ -1,0 +1,51 @@
+-- When what is kept of the fates of all PIDs stands for the tables in force.
+-- This project's own rule.
+use Rattle.std.specs.Prelude.{◌≡◌, ℕ, ◌<◌, Bool, List, [], Option}
+use Rattle.ts_packet.specs.declared.numbers.TheConstants.{NULL_PID}
+use Rattle.ts_table_rows.specs.TableValues.{TableHolding}
+use Rattle.plug_psi.specs.InForce.{pat_of, pid_for, pmt_of}
+use Rattle.plug_psi.specs.ForceStands as forcing
+use Rattle.plug_service.specs.ServicePids.{has_pid, pids_of}
+use Rattle.plug_service.specs.PidFlags.{AreFlags}
+use Rattle.plug_service.specs.Fates.{is_in_pmt_alone, is_shared, other_pids}
+use Rattle.plug_service.specs.declared.way.Way.{Way}
+use Rattle.plug_service.specs.declared.way.Way.TheVariants.{Keep, Remove}
+use Rattle.plug_service.specs.declared.fate.Fate.{Fate}
+use Rattle.plug_service.specs.declared.fate.Fate.TheVariants.{EditPat, EditSdt, EditPmt, Pass, Drop}
+use Rattle.plug_service.specs.declared.pid_fates.PidFates.{PidFates}
+use Rattle.plug_service.specs.declared.watch.Watch.{Watch}
+
+-- what the flag of a PID tells
+abbrev pub told_flag : Way → ℕ → Option TableHolding → (ℕ → Option TableHolding) → ℕ → Bool
+told_flag Keep service pat pmts pid = has_pid (pids_of (pmts service)) pid
+told_flag Remove service pat pmts pid = is_in_pmt_alone service pat pmts pid
+
+-- the PIDs whose flags are not set, of those of the service's PMT
+abbrev pub spared_pids : Way → ℕ → Option TableHolding → (ℕ → Option TableHolding) → List ℕ
+spared_pids Keep service pat pmts = []
+spared_pids Remove service pat pmts = other_pids service pat pmts
+
+-- the parts stand for this PAT and these PMTs
+pub record Stands (way : Way) (service : ℕ) (of_pmt : Option ℕ) (shared : Bool) (flags : List Bool) (pat : Option TableHolding) (pmts : ℕ → Option TableHolding) : Type 0 where
+  pub pmt_pid : of_pmt ≡ pid_for pat service
+  pub shares : shared ≡ is_shared service pat
+  pub flagged : AreFlags flags (told_flag way service pat pmts)
+
+-- the fates stand for this PAT and these PMTs
+abbrev pub FatesStand : PidFates → Option TableHolding → (ℕ → Option TableHolding) → Type 0
+FatesStand fates pat pmts = Stands fates.way fates.service fates.of_pmt fates.shared fates.flags.items pat pmts
+
+-- the fates and the tables in force stand for the packets that were met
+pub record Watches (way : Way) (service : ℕ) (watch : Watch) (met : List (List ℕ)) : Type 0 where
+  pub same_way : watch.fates.way ≡ way
+  pub same_service : watch.fates.service ≡ service
+  pub forced : forcing.StandsFor watch.force met
+  pub fated : FatesStand watch.fates (pat_of met) (λ other. pmt_of other met)
+
+-- where the packets on a PID are edited as those of PMTs, it is not that of null packets
+abbrev pub IsEditable : Fate → ℕ → Type 0
+IsEditable EditPmt pid = pid < NULL_PID
+IsEditable EditPat pid = Unit {0}
+IsEditable EditSdt pid = Unit {0}
+IsEditable Pass pid = Unit {0}
+IsEditable Drop pid = Unit {0}

@@ -1,0 +1,14 @@
+pub mod ServicePids
+pub mod PidFlags
+pub mod Fates
+pub mod ServiceEdits
+pub mod ServiceRule
+pub mod FatesState
+pub mod EditorStands
+pub mod EditorsState
+pub mod ServiceState
+pub mod ZapSettings
+pub mod SvremoveSettings
+pub mod ServiceWords
+pub mod ZapWords
+pub mod SvremoveWords

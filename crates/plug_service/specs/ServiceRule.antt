@@ -1,0 +1,71 @@
+-- The rules of `zap` and `svremove`.
+-- This project's own rule, over the cycles of edited contents. What becomes of a packet goes by the PAT and the PMTs that
+-- are in force at its position, the position included.
+use Rattle.std.specs.Prelude.{ℕ, ◌==◌, ◌&&◌, Bool, List, [], ◌∷◌, ◌++◌, filter, Option, Some, None, if◌then◌else◌}
+use Rattle.ts_packet.specs.Cells.{live_packets}
+use Rattle.ts_packet.specs.Header.{pid_of}
+use Rattle.ts_packet.specs.Packet.{null_packet}
+use Rattle.chain_model.specs.PluginRule.{PluginRule, RuleOutcome, passes, drops}
+use Rattle.plugin_trait.specs.SilentRule.{silent_rule}
+use Rattle.plug_psi.specs.EditedCycles.{replaced}
+use Rattle.plug_service.specs.Fates.{edits_pmt, fate_after}
+use Rattle.plug_service.specs.ServiceEdits.{pat_change, sdt_change, pmt_change}
+use Rattle.plug_service.specs.declared.way.Way.{Way}
+use Rattle.plug_service.specs.declared.way.Way.TheVariants.{Keep, Remove}
+use Rattle.plug_service.specs.declared.fate.Fate.{Fate}
+use Rattle.plug_service.specs.declared.fate.Fate.TheVariants.{EditPat, EditSdt, EditPmt, Pass, Drop}
+use Rattle.plug_service.specs.declared.zap_conf.ZapConf.{ZapConf}
+use Rattle.plug_service.specs.declared.svremove_conf.SvremoveConf.{SvremoveConf}
+
+-- the packets on a PID, all of which are taken on PID 0 and PID 17
+unfoldable pub packets_on : ℕ → List (List ℕ) → List (List ℕ)
+packets_on pid packets = filter (λ packet. pid_of packet == pid) packets
+
+-- whether a packet behind others, itself among them, is taken on a PID by the edit of PMTs
+abbrev pub is_taken : Way → ℕ → ℕ → List (List ℕ) → List ℕ → Bool
+is_taken way service pid upto packet = (pid_of packet == pid) && edits_pmt (fate_after way service upto pid)
+
+-- the packets that the edit of PMTs takes on a PID behind others
+unfoldable pub taken_behind : Way → ℕ → ℕ → List (List ℕ) → List (List ℕ) → List (List ℕ)
+taken_behind way service pid before [] = []
+taken_behind way service pid before (packet ∷ packets) =
+    let upto = before ++ packet ∷ [] in
+    let others = taken_behind way service pid upto packets in
+    if is_taken way service pid upto packet then packet ∷ others else others
+
+-- The packets of any PID that the edit of PMTs takes on one: those of the PID at whose positions it is the PID of the
+-- service's PMT.
+abbrev pub taken_on : Way → ℕ → ℕ → List (List ℕ) → List (List ℕ)
+taken_on way service pid packets = taken_behind way service pid [] packets
+
+-- the packet in the place of one, by what becomes of it, behind the packets before; none where it does not pass
+abbrev pub made_by : Way → ℕ → Fate → List (List ℕ) → List ℕ → Option (List ℕ)
+made_by way service EditPat before packet = Some (replaced 0 (pat_change way service) (packets_on 0 before) packet)
+made_by way service EditSdt before packet = Some (replaced 17 (sdt_change way service) (packets_on 17 before) packet)
+made_by way service EditPmt before packet =
+    Some (replaced (pid_of packet) (pmt_change service) (taken_on way service (pid_of packet) before) packet)
+made_by way service Pass before packet = Some packet
+made_by way service Drop before packet = None
+
+-- the packet in the place of one behind others
+abbrev pub made_of : Way → ℕ → List (List ℕ) → List ℕ → Option (List ℕ)
+made_of way service before packet =
+    made_by way service (fate_after way service (before ++ packet ∷ []) (pid_of packet)) before packet
+
+-- what does not pass is dropped, or becomes a null packet
+abbrev pub outcome_by : Bool → Option (List ℕ) → RuleOutcome
+outcome_by stuffing None = if stuffing then passes null_packet else drops
+outcome_by stuffing (Some packet) = passes packet
+
+-- a service is kept alone, or removed
+abbrev pub service_rule : Way → ℕ → Bool → PluginRule
+service_rule way service stuffing = silent_rule (λ history packet.
+    outcome_by stuffing (made_of way service (live_packets history) packet))
+
+-- the rule of `zap`
+abbrev pub zap_rule : ZapConf → PluginRule
+zap_rule conf = service_rule Keep conf.service conf.stuffing
+
+-- the rule of `svremove`
+abbrev pub svremove_rule : SvremoveConf → PluginRule
+svremove_rule conf = service_rule Remove conf.service conf.stuffing

@@ -1,0 +1,22 @@
+-- When a plugin stands for the packets that it met.
+-- This project's own rule: once memory was wanting it stands for none.
+use Rattle.std.specs.Prelude.{◌≡◌, ℕ, false, List}
+use Rattle.chain_model.specs.PluginRule.{PluginRule}
+use Rattle.plug_service.specs.FatesState.{Watches}
+use Rattle.plug_service.specs.EditorsState.{EditorsStand}
+use Rattle.plug_service.specs.ServiceRule.{service_rule}
+use Rattle.plug_service.specs.declared.way.Way.{Way}
+use Rattle.plug_service.specs.declared.one_service.OneService.{OneService}
+
+-- tables in force, fates and editors are those of the packets
+pub record Served (way : Way) (service : ℕ) (plugin : OneService) (met : List (List ℕ)) : Type 0 where
+  pub watched : Watches way service plugin.watch met
+  pub edited : EditorsStand way service plugin.editors met
+
+-- the plugin stands for the packets, unless memory was wanting
+abbrev pub StandsFor : OneService → List (List ℕ) → Type 0
+StandsFor plugin met = plugin.failed ≡ false → Served plugin.way plugin.service plugin met
+
+-- the rule that the plugin means
+abbrev pub rule_of : OneService → PluginRule
+rule_of plugin = service_rule plugin.way plugin.service plugin.stuffing

@@ -1,0 +1,13 @@
+//! The PIDs of tables that are edited, and the greatest number of a service.
+
+/// The PID of the PAT (ISO/IEC 13818-1, 2.4.4.4).
+pub(crate) const PAT_PID: u16 = 0;
+
+/// The PID of the SDT (ETSI EN 300 468, 5.1.3).
+pub(crate) const SDT_PID: u16 = 17;
+
+/// The greatest PID that no removal of a service takes away from others.
+pub(crate) const LAST_FIXED_PID: u16 = 31;
+
+/// The greatest number of a service.
+pub(crate) const LAST_SERVICE: u64 = 65535;

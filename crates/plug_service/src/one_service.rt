@@ -1,0 +1,125 @@
+//! One service kept or removed.
+
+ghost use Rattle.std.specs.Prelude.{◌≡◌, ℕ, ◌++◌, ◌∷◌, [], List, true, false, IfOk, OnOk, OnErr, IsErr};
+ghost use Rattle.ts_packet.specs.declared.cell.Cell.{Cell as PlacedCell};
+ghost use Rattle.ts_packet.specs.Cells.{live_packets};
+ghost use Rattle.plugin_trait.specs.Steps.{StepTells, met_after};
+ghost use Rattle.plug_service.specs.ServiceRule.{made_of};
+
+use crate::editors::Editors;
+use crate::watch::Watch;
+use crate::way::Way;
+use plugin_trait::Outcome;
+use std::alloc::{AllocError, Global};
+use ts_packet::{Cell, Packet};
+
+/// Keeps one service of a transport stream alone, or removes it.
+///
+/// A step may want memory, and then every later step on a live cell does.
+#[derive(Drop)]
+pub(crate) struct OneService {
+    pub(crate) way: Way,
+    pub(crate) service: u16,
+    pub(crate) stuffing: bool,
+    pub(crate) watch: Watch,
+    pub(crate) editors: Editors,
+    pub(crate) failed: bool,
+    pub(crate) alloc: Global,
+}
+
+impl OneService {
+    ghost use Rattle.plug_service.specs.ServiceState.{Served, StandsFor, rule_of};
+
+    /// A plugin that met no cell yet.
+    pub(crate) fn new(
+        alloc: Global,
+        way: Way,
+        service: u16,
+        stuffing: bool,
+    ) -> Result<OneService, AllocError>
+        ensures stands { IfOk result (λ plugin. StandsFor plugin []) }
+        ensures way { IfOk result (λ plugin. plugin.way ≡ way) }
+        ensures service { IfOk result (λ plugin. plugin.service ≡ service) }
+        ensures stuffing { IfOk result (λ plugin. plugin.stuffing ≡ stuffing) }
+    {
+        Ok(OneService {
+            way,
+            service,
+            stuffing,
+            watch: Watch::new(alloc, way, service)?,
+            editors: Editors::new(alloc, way, service)?,
+            failed: false,
+            alloc,
+        })
+    }
+
+    /// Takes the next cell, and leaves in it what becomes of it.
+    pub(crate) fn step(&mut self, cell: &mut Cell) -> Outcome
+        ensures tells { (history : List PlacedCell) → StandsFor self.old (live_packets history)
+            → StepTells (rule_of self.old) history cell.old result cell.new }
+        ensures meets { (history : List PlacedCell) → StandsFor self.old (live_packets history)
+            → StandsFor self.new (live_packets (met_after result history cell.old)) }
+        ensures dropped { cell.old ≡ Cell.Dropped → result ≡ Outcome.Pass }
+        ensures way { self.new.way ≡ self.old.way }
+        ensures service { self.new.service ≡ self.old.service }
+        ensures stuffing { self.new.stuffing ≡ self.old.stuffing }
+    {
+        let Cell::Live(packet, _) = cell else {
+            return Outcome::Pass;
+        };
+        match self.take(packet) {
+            Ok(Some(new)) => {
+                *packet = new;
+                Outcome::Pass
+            }
+            Ok(None) => {
+                if self.stuffing {
+                    *packet = Packet::null();
+                    return Outcome::Pass;
+                }
+                *cell = Cell::Dropped;
+                Outcome::Drop
+            }
+            Err(_) => Outcome::NoMemory,
+        }
+    }
+
+    /// Takes the next packet, and answers the one in its place; none where it does not pass. After `AllocError` every
+    /// later call answers `AllocError`.
+    fn take(&mut self, packet: &Packet) -> Result<Option<Packet>, AllocError>
+        ensures made { IfOk result (λ made. (met : List (List ℕ)) → StandsFor self.old met
+            → made ≡ made_of self.old.way self.old.service met packet.now) }
+        ensures stands { OnOk result ((met : List (List ℕ)) → StandsFor self.old met → StandsFor self.new (met ++ packet.now ∷ [])) }
+        ensures spent { OnErr result (self.new.failed ≡ true) }
+        ensures way { self.new.way ≡ self.old.way }
+        ensures service { self.new.service ≡ self.old.service }
+        ensures stuffing { self.new.stuffing ≡ self.old.stuffing }
+    {
+        if self.failed {
+            return Err(AllocError);
+        }
+        match self.advance(packet) {
+            Ok(made) => Ok(made),
+            Err(error) => {
+                self.failed = true;
+                Err(error)
+            }
+        }
+    }
+
+    /// Takes the next packet as long as memory was there.
+    fn advance(&mut self, packet: &Packet) -> Result<Option<Packet>, AllocError>
+        ensures made { IfOk result (λ made. (way : Way) (service : ℕ) (met : List (List ℕ)) → Served way service self.old met
+            → made ≡ made_of way service met packet.now) }
+        ensures stands { OnOk result ((way : Way) (service : ℕ) (met : List (List ℕ)) → Served way service self.old met
+            → Served way service self.new (met ++ packet.now ∷ [])) }
+        ensures way { self.new.way ≡ self.old.way }
+        ensures service { self.new.service ≡ self.old.service }
+        ensures stuffing { self.new.stuffing ≡ self.old.stuffing }
+        ensures failed { self.new.failed ≡ self.old.failed }
+    {
+        let fate = self.watch.meet(self.alloc, packet)?;
+        let made = self.editors.make(self.alloc, fate, packet)?;
+        Ok(made)
+    }
+}

@@ -1,0 +1,213 @@
+//! What becomes of the packets on each PID.
+
+ghost use Rattle.std.specs.Prelude.{◌≡◌, ℕ, ◌<◌, ◌++◌, List, Option, IfOk, OnOk, length, map};
+ghost use Rattle.std.specs.List.{filter_map, flat_map};
+ghost use Rattle.ts_psi.specs.PatTables.{service_item};
+ghost use Rattle.ts_table_rows.specs.TableValues.{TableHolding};
+ghost use Rattle.plug_psi.specs.InForce.{pat_of, pmt_of, service_in};
+ghost use Rattle.plug_psi.specs.ForceStands.{StandsFor as Forced};
+ghost use Rattle.plug_service.specs.Fates;
+ghost use Rattle.plug_service.specs.Fates.{fate_of, other_pids, pids_besides};
+ghost use Rattle.plug_service.specs.FatesState.{IsEditable, spared_pids};
+ghost use Rattle.plug_service.specs.ServicePids.{pids_of};
+
+use crate::fate::Fate;
+use crate::limits::{LAST_FIXED_PID, PAT_PID, SDT_PID};
+use crate::pid_flags::{flag_of, no_flags, tell};
+use crate::pids_of_pmt::add_pids;
+use crate::services::{is_at, is_shared, parts, pid_of_service};
+use crate::way::Way;
+use plug_psi::InForce;
+use std::alloc::{AllocError, Global};
+use ts_packet::{NULL_PID, PID_COUNT};
+use ts_psi::PatService;
+
+/// What becomes of the packets on each PID, where a service is kept or removed, told by a look-up. It is made anew
+/// where another PAT or another PMT comes into force.
+#[derive(Drop)]
+pub(crate) struct PidFates {
+    pub(crate) way: Way,
+    pub(crate) service: u16,
+    /// The PID of the service's PMT.
+    pub(crate) of_pmt: Option<u16>,
+    /// Whether another entry of the PAT has that PID.
+    pub(crate) shared: bool,
+    /// The PIDs of the service's PMT; where it is removed, but for those that PMTs of other services have.
+    pub(crate) flags: Vec<bool>,
+}
+
+impl PidFates {
+    ghost use Rattle.plug_service.specs.FatesState.{FatesStand};
+
+    /// The fates of no tables, which are made anew before they are asked. It takes 8 KiB.
+    pub(crate) fn new(alloc: Global, way: Way, service: u16) -> Result<PidFates, AllocError>
+        ensures whole { IfOk result (λ fates. length fates.flags.items ≡ PID_COUNT) }
+        ensures way { IfOk result (λ fates. fates.way ≡ way) }
+        ensures service { IfOk result (λ fates. fates.service ≡ service) }
+    {
+        Ok(PidFates {
+            way,
+            service,
+            of_pmt: None,
+            shared: false,
+            flags: no_flags(alloc)?,
+        })
+    }
+
+    /// The fate of the packets on a PID.
+    #[inline]
+    pub(crate) fn fate(&self, pid: u16) -> Fate
+        requires { pid < PID_COUNT }
+        ensures tells { (pat : Option TableHolding) (pmts : ℕ → Option TableHolding) → FatesStand self.now pat pmts
+            → result ≡ fate_of self.now.way self.now.service pat pmts pid }
+        ensures editable { IsEditable result pid }
+    {
+        let at = is_at(self.of_pmt, pid);
+        let flag = flag_of(&self.flags, pid);
+        match self.way {
+            Way::Keep => edited_first(pid, kept_fate(at, flag, pid)),
+            Way::Remove => edited_first(pid, removed_fate(at, self.shared, flag, pid)),
+        }
+    }
+
+    /// Other tables are in force. It takes memory as it goes, and keeps none.
+    pub(crate) fn renew(&mut self, alloc: Global, force: &InForce) -> Result<(), AllocError>
+        ensures stands { OnOk result (length self.old.flags.items ≡ PID_COUNT → (fed : List (List ℕ)) → Forced force.now fed
+            → FatesStand self.new (pat_of fed) (λ other. pmt_of other fed)) }
+        ensures way { self.new.way ≡ self.old.way }
+        ensures service { self.new.service ≡ self.old.service }
+    {
+        let own = own_pids(alloc, force, self.service)?;
+        let others = pids_to_spare(alloc, self.way, force, self.service)?;
+        tell(&mut self.flags, &own, &others);
+        let of_pmt = pid_of_service(force.pat(), self.service);
+        self.of_pmt = of_pmt;
+        self.shared = is_shared(force.pat(), of_pmt);
+        Ok(())
+    }
+}
+
+/// The fate of packets on PID 0 and PID 17, or else this one.
+#[inline]
+fn edited_first(pid: u16, other: Fate) -> Fate
+    ensures { result ≡ Fates.edited_first pid other }
+{
+    if pid == PAT_PID {
+        Fate::EditPat
+    } else if pid == SDT_PID {
+        Fate::EditSdt
+    } else {
+        other
+    }
+}
+
+/// The fate of packets on other PIDs, where the service is kept.
+#[inline]
+fn kept_fate(is_of_pmt: bool, is_in_pmt: bool, pid: u16) -> Fate
+    requires { pid < PID_COUNT }
+    ensures tells { result ≡ Fates.kept_fate is_of_pmt is_in_pmt pid }
+    ensures editable { IsEditable result pid }
+{
+    if is_of_pmt {
+        if pid == NULL_PID {
+            Fate::Drop
+        } else {
+            Fate::EditPmt
+        }
+    } else if is_in_pmt {
+        Fate::Pass
+    } else {
+        Fate::Drop
+    }
+}
+
+/// The fate of packets on other PIDs, where the service is removed.
+#[inline]
+fn removed_fate(is_of_pmt: bool, is_shared: bool, is_in_pmt_alone: bool, pid: u16) -> Fate
+    ensures tells { result ≡ Fates.removed_fate is_of_pmt is_shared is_in_pmt_alone pid }
+    ensures editable { IsEditable result pid }
+{
+    if is_of_pmt {
+        if is_shared { Fate::Pass } else { Fate::Drop }
+    } else if pid > LAST_FIXED_PID && is_in_pmt_alone {
+        Fate::Drop
+    } else {
+        Fate::Pass
+    }
+}
+
+/// The PIDs of the PMT in force of a service.
+fn own_pids(alloc: Global, force: &InForce, service: u16) -> Result<Vec<u16>, AllocError>
+    ensures { IfOk result (λ pids. (fed : List (List ℕ)) → Forced force.now fed → pids.items ≡ pids_of (pmt_of service fed)) }
+{
+    let mut pids = Vec::new(alloc);
+    if let Some(pmt) = force.pmt(service) {
+        add_pids(alloc, &mut pids, pmt)?;
+    }
+    Ok(pids)
+}
+
+/// The PIDs that are not the service's alone: where it is removed, those of the PMTs in force of other services.
+fn pids_to_spare(
+    alloc: Global,
+    way: Way,
+    force: &InForce,
+    service: u16,
+) -> Result<Vec<u16>, AllocError>
+    ensures { IfOk result (λ pids. (fed : List (List ℕ)) → Forced force.now fed
+        → pids.items ≡ spared_pids way service (pat_of fed) (λ other. pmt_of other fed)) }
+{
+    match way {
+        Way::Keep => Ok(Vec::new(alloc)),
+        Way::Remove => other_pids(alloc, force, service),
+    }
+}
+
+/// The PIDs of the PMTs in force of the other services of the PAT in force.
+fn other_pids(alloc: Global, force: &InForce, service: u16) -> Result<Vec<u16>, AllocError>
+    ensures { IfOk result (λ pids. (fed : List (List ℕ)) → Forced force.now fed
+        → pids.items ≡ other_pids service (pat_of fed) (λ other. pmt_of other fed)) }
+{
+    match force.pat() {
+        Some(pat) => pids_of_others(alloc, force, service, pat.services.as_slice()),
+        None => Ok(Vec::new(alloc)),
+    }
+}
+
+/// The PIDs of the PMTs in force of some services but one.
+fn pids_of_others(
+    alloc: Global,
+    force: &InForce,
+    service: u16,
+    services: &[PatService],
+) -> Result<Vec<u16>, AllocError>
+    ensures { IfOk result (λ pids. (fed : List (List ℕ)) → Forced force.now fed
+        → pids.items ≡ flat_map (pids_besides service (λ other. pmt_of other fed)) (filter_map service_in (map service_item services.now))) }
+{
+    let mut pids = Vec::new(alloc);
+    for entry in services {
+        let (id, _) = parts(entry);
+        add_besides(alloc, &mut pids, force, service, id)?;
+    }
+    Ok(pids)
+}
+
+/// Adds the PIDs of the PMT in force of a service, unless it is this one.
+fn add_besides(
+    alloc: Global,
+    pids: &mut Vec<u16>,
+    force: &InForce,
+    service: u16,
+    id: u16,
+) -> Result<(), AllocError>
+    ensures { OnOk result ((fed : List (List ℕ)) (pid : ℕ) → Forced force.now fed
+        → pids.new.items ≡ pids.old.items ++ pids_besides service (λ other. pmt_of other fed) (id, pid)) }
+{
+    if id == service {
+        return Ok(());
+    }
+    match force.pmt(id) {
+        Some(pmt) => add_pids(alloc, pids, pmt),
+        None => Ok(()),
+    }
+}

@@ -1,0 +1,32 @@
+//! The edit of the PID of a PMT where its service is kept (ISO/IEC 13818-1, 2.4.4.8).
+
+use plug_edit::table_or_none;
+use plug_psi::{Edited, TableEdit};
+use std::alloc::{AllocError, Global};
+use ts_psi::Pmt;
+use ts_section::TableRun;
+
+/// Carries the current PMT of a service as it is, where it reads, and no other table.
+#[derive(Drop, Debug)]
+pub(crate) struct PmtAlone {
+    pub(crate) service: u16,
+}
+
+impl TableEdit for PmtAlone {
+    ghost use Rattle.plug_service.specs.ServiceEdits.{pmt_change};
+
+    ghost change = { λ s run. pmt_change s.service run };
+
+    fn edit(&self, alloc: Global, run: &TableRun) -> Result<Edited, AllocError> {
+        let Some(pmt) = table_or_none(Pmt::read(alloc, run))? else {
+            return Ok(Edited::away());
+        };
+        if !pmt.current {
+            return Ok(Edited::away());
+        }
+        if pmt.service_id != self.service {
+            return Ok(Edited::away());
+        }
+        Ok(Edited::same())
+    }
+}

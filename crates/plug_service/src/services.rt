@@ -1,0 +1,89 @@
+//! The services of a PAT (ISO/IEC 13818-1, 2.4.4.3).
+
+ghost use Rattle.std.specs.Prelude.{◌≡◌, ◌==◌, Some, count_by, map, nat_lt, option_map};
+ghost use Rattle.std.specs.List.{filter_map};
+ghost use Rattle.std.specs.Map.{lookup};
+ghost use Rattle.std.specs.Option.{option_copied};
+ghost use Rattle.ts_psi.specs.PatTables.{pat_held, service_item};
+ghost use Rattle.plug_psi.specs.InForce.{pid_for, service_in};
+ghost use Rattle.plug_service.specs.Fates;
+ghost use Rattle.plug_service.specs.Fates.{is_shared_at};
+ghost use Rattle.plug_service.specs.ServiceEdits;
+
+use crate::way::Way;
+use ts_psi::{Pat, PatService};
+
+/// The number and the PID of a service.
+pub(crate) fn parts(service: &PatService) -> (u16, u16)
+    ensures { service_in (service_item service.now) ≡ Some (result.0, result.1) }
+{
+    (service.service_id, service.pid)
+}
+
+/// The PID of the first entry of a service in a PAT, if there is one.
+pub(crate) fn pid_of_service(pat: Option<&Pat>, service: u16) -> Option<u16>
+    ensures { result ≡ pid_for (option_map pat_held (option_copied pat.entry)) service }
+{
+    match pat {
+        Some(pat) => pid_among(pat.services.as_slice(), service),
+        None => None,
+    }
+}
+
+/// The PID of the first of some services with this number.
+fn pid_among(services: &[PatService], id: u16) -> Option<u16>
+    ensures { result ≡ lookup (λ n. n == id) (filter_map service_in (map service_item services.now)) }
+{
+    for service in services {
+        let (its, pid) = parts(service);
+        if its == id {
+            return Some(pid);
+        }
+    }
+    None
+}
+
+/// Whether more than one entry of a PAT has the PID that is told.
+pub(crate) fn is_shared(pat: Option<&Pat>, told: Option<u16>) -> bool
+    ensures { result ≡ is_shared_at (option_map pat_held (option_copied pat.entry)) told }
+{
+    let Some(pid) = told else {
+        return false;
+    };
+    match pat {
+        Some(pat) => entries_on(pat.services.as_slice(), pid) > 1,
+        None => false,
+    }
+}
+
+/// How many services have this PID.
+fn entries_on(services: &[PatService], at: u16) -> usize
+    ensures { result ≡ count_by (λ entry. entry.1 == at) (filter_map service_in (map service_item services.now)) }
+{
+    let mut count = 0;
+    for service in services {
+        let (_, pid) = parts(service);
+        count += usize::from(pid == at);
+    }
+    count
+}
+
+/// Whether a PID is the one that is told.
+pub(crate) fn is_at(told: Option<u16>, pid: u16) -> bool
+    ensures { result ≡ Fates.is_at told pid }
+{
+    match told {
+        Some(told) => told == pid,
+        None => false,
+    }
+}
+
+/// Whether the entries of a number stay.
+pub(crate) fn stays(way: Way, service: u16, id: u16) -> bool
+    ensures { result ≡ ServiceEdits.stays way service id }
+{
+    match way {
+        Way::Keep => id == service,
+        Way::Remove => id != service,
+    }
+}

@@ -1,0 +1,8 @@
+/// Settings of `svremove`.
+#[derive(Drop, Debug)]
+pub struct SvremoveConf {
+    /// The number of the service, 1 to 65535.
+    pub service: u64,
+    /// What is not passed becomes a null packet and is not dropped.
+    pub stuffing: bool,
+}

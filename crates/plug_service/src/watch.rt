@@ -1,0 +1,70 @@
+//! The tables in force and the fates by them.
+
+ghost use Rattle.std.specs.Prelude.{◌≡◌, ℕ, ◌++◌, ◌∷◌, [], List, false, IfOk, OnOk};
+ghost use Rattle.ts_packet.specs.Header.{pid_of};
+ghost use Rattle.plug_psi.specs.InForce.{pat_of, pmt_of};
+ghost use Rattle.plug_psi.specs.ForceStands.{StandsFor as Forced};
+ghost use Rattle.plug_psi.specs.SameForce.{SameInForce};
+ghost use Rattle.plug_service.specs.Fates.{fate_after};
+ghost use Rattle.plug_service.specs.FatesState.{FatesStand, IsEditable};
+
+use crate::fate::Fate;
+use crate::pid_fates::PidFates;
+use crate::way::Way;
+use plug_psi::InForce;
+use std::alloc::{AllocError, Global};
+use ts_packet::Packet;
+
+/// The tables in force, and what becomes of the packets on each PID by them.
+#[derive(Drop)]
+pub(crate) struct Watch {
+    pub(crate) force: InForce,
+    pub(crate) fates: PidFates,
+}
+
+impl Watch {
+    ghost use Rattle.plug_service.specs.FatesState.{Watches};
+
+    /// No packet was met.
+    pub(crate) fn new(alloc: Global, way: Way, service: u16) -> Result<Watch, AllocError>
+        ensures { IfOk result (λ watch. Watches way service watch []) }
+    {
+        let force = InForce::new(alloc)?;
+        let mut fates = PidFates::new(alloc, way, service)?;
+        fates.renew(alloc, &force)?;
+        Ok(Watch { force, fates })
+    }
+
+    /// Meets the next packet, of any PID, and answers its fate.
+    pub(crate) fn meet(&mut self, alloc: Global, packet: &Packet) -> Result<Fate, AllocError>
+        ensures stands { OnOk result ((way : Way) (service : ℕ) (met : List (List ℕ)) → Watches way service self.old met
+            → Watches way service self.new (met ++ packet.now ∷ [])) }
+        ensures tells { IfOk result (λ fate. (way : Way) (service : ℕ) (met : List (List ℕ)) → Watches way service self.old met
+            → fate ≡ fate_after way service (met ++ packet.now ∷ []) (pid_of packet.now)) }
+        ensures editable { IfOk result (λ fate. IsEditable fate (pid_of packet.now)) }
+    {
+        let came = self.force.update(packet)?;
+        renew_where(alloc, &self.force, &mut self.fates, came)?;
+        Ok(self.fates.fate(packet.pid()))
+    }
+}
+
+/// Makes the fates anew where tables came into force.
+fn renew_where(
+    alloc: Global,
+    force: &InForce,
+    fates: &mut PidFates,
+    came: bool,
+) -> Result<(), AllocError>
+    ensures stands { OnOk result ((met : List (List ℕ)) (packet : List ℕ) → Forced force.now (met ++ packet ∷ [])
+        → (came ≡ false → SameInForce met packet)
+        → FatesStand fates.old (pat_of met) (λ other. pmt_of other met)
+        → FatesStand fates.new (pat_of (met ++ packet ∷ [])) (λ other. pmt_of other (met ++ packet ∷ []))) }
+    ensures way { fates.new.way ≡ fates.old.way }
+    ensures service { fates.new.service ≡ fates.old.service }
+{
+    if !came {
+        return Ok(());
+    }
+    fates.renew(alloc, force)
+}

@@ -1,0 +1,10 @@
+//! What is done with a service.
+
+/// What is done with a service.
+#[derive(Debug, Clone, Copy, PartialEq, Eq)]
+pub(crate) enum Way {
+    /// It is kept, and all others are removed.
+    Keep,
+    /// It is removed, and all others are kept.
+    Remove,
+}

@@ -1,0 +1,64 @@
+//! The plugin `zap`.
+
+ghost use Rattle.std.specs.Prelude.{◌≡◌, [], None, IfOk};
+ghost use Rattle.plug_service.specs.ServiceRule.{zap_rule};
+
+use crate::one_service::OneService;
+use crate::way::Way;
+use crate::zap_conf::ZapConf;
+use plugin_trait::{Line, Outcome, Plugin, silent_report};
+use std::alloc::{AllocError, Global};
+use ts_packet::Cell;
+
+/// Keeps one service of a transport stream, and removes all others.
+#[derive(Drop)]
+pub struct Zap {
+    inner: OneService,
+}
+
+impl Zap {
+    ghost use Rattle.plug_service.specs.ZapSettings.{IsLawfulZap};
+
+    /// A plugin that met no cell yet. Its steps take memory; a step on a live cell may want it, and then every later
+    /// one does.
+    pub fn new(alloc: Global, conf: &ZapConf, _buffer: usize) -> Result<Zap, AllocError>
+        requires { IsLawfulZap conf.now }
+        ensures rule { IfOk result (λ plugin. ⟦<Zap as Plugin>⟧.rule plugin ≡ zap_rule conf.now) }
+        ensures fresh { IfOk result (λ plugin. ⟦<Zap as Plugin>⟧.stands_for plugin [] 0) }
+        ensures steady { IfOk result (λ plugin. ⟦<Zap as Plugin>⟧.steady plugin ≡ None) }
+    {
+        Ok(Zap {
+            inner: OneService::new(alloc, Way::Keep, conf.service as u16, conf.stuffing)?,
+        })
+    }
+}
+
+impl Plugin for Zap {
+    ghost use Rattle.std.specs.Prelude.{◌≤◌, length, None, refl};
+    ghost use Rattle.ts_packet.specs.Cells.{live_packets};
+    ghost use Rattle.plug_service.specs.ServiceState.{StandsFor, rule_of};
+
+    ghost rule = { λ s. rule_of s.inner };
+
+    ghost stands_for = { λ s history mark. StandsFor s.inner (live_packets history) × (mark ≤ length history) };
+
+    ghost steady = { λ s. None };
+
+    fn step(&mut self, _at: u64, cell: &mut Cell) -> Outcome {
+        self.inner.step(cell)
+    }
+
+    fn note(&mut self, _written: u64) -> Result<(), AllocError> {
+        Ok(())
+    }
+
+    fn agreed(&self) -> bool {
+        false
+    }
+
+    fn finish(&mut self, _cut: u64) -> Result<Vec<Line>, AllocError> {
+        Ok(silent_report(self.inner.alloc))
+    }
+
+    ghost starts_open = { λ plugin history mark stands. refl };
+}

@@ -1,0 +1,8 @@
+/// Settings of `zap`.
+#[derive(Drop, Debug)]
+pub struct ZapConf {
+    /// The number of the service, 1 to 65535.
+    pub service: u64,
+    /// What is not passed becomes a null packet and is not dropped.
+    pub stuffing: bool,
+}
