@@ -8,7 +8,7 @@ pub(crate) struct Chain {
     pub(crate) plugins: &'static str,
 }
 
-/// Together they use each plugin, all over the same mixed stream.
+/// Together they use each plugin that goes by packets alone, all over the same mixed stream.
 pub(crate) static CHAINS: [Chain; 7] = [
     Chain {
         name: "filter, skip and count",
