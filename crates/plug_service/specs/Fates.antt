@@ -28,7 +28,7 @@ kept_fate is_of_pmt is_in_pmt pid =
     if is_of_pmt then (if pid == NULL_PID then Drop else EditPmt) else (if is_in_pmt then Pass else Drop)
 
 -- Where a service is removed: packets on the PID of its PMT are dropped unless another entry of the PAT shares it; so are
--- packets on the PIDs above 31 that its PMT alone has; all others pass.
+-- packets on the PIDs that its PMT alone has, but for PIDs up to 31, which tables have; all others pass.
 abbrev pub removed_fate : Bool → Bool → Bool → ℕ → Fate
 removed_fate is_of_pmt is_shared is_in_pmt_alone pid =
     if is_of_pmt then (if is_shared then Pass else Drop)

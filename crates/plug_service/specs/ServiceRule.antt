@@ -33,8 +33,8 @@ taken_behind way service pid before (packet ∷ packets) =
     let others = taken_behind way service pid upto packets in
     if is_taken way service pid upto packet then packet ∷ others else others
 
--- The packets of any PID that the edit of PMTs takes on one: those of the PID at whose positions it is the PID of the
--- service's PMT.
+-- The packets of any PID that the edit of PMTs takes on one: those of the PID at whose positions the service that is kept
+-- has its PMT there. On PID 0, PID 17 and PID 8191 there are none.
 abbrev pub taken_on : Way → ℕ → ℕ → List (List ℕ) → List (List ℕ)
 taken_on way service pid packets = taken_behind way service pid [] packets
 

@@ -11,6 +11,11 @@ use std::alloc::{AllocError, Global};
 use ts_packet::Cell;
 
 /// Removes one service of a transport stream.
+///
+/// PID 0 carries the PAT without the entries of this service, and PID 17 the SDT of the actual transport stream likewise;
+/// other tables there stay. Packets on the PID of the service's first entry are dropped, or become null packets, unless
+/// another entry has that PID; so are those on the PIDs above 31 of its PMT in force that no PMT in force of another
+/// service of the PAT has. All others pass.
 #[derive(Drop)]
 pub struct Svremove {
     inner: OneService,

@@ -11,6 +11,11 @@ use std::alloc::{AllocError, Global};
 use ts_packet::Cell;
 
 /// Keeps one service of a transport stream, and removes all others.
+///
+/// PID 0 carries the PAT with the entries of this service and the network entry alone, PID 17 the SDT of the actual
+/// transport stream likewise and no other table, and the PID of the service's first entry its current PMT and no other
+/// table. Packets on the PIDs of its PMT in force pass: those of components, the PCR_PID and the CA_PIDs. All others are
+/// dropped, or become null packets.
 #[derive(Drop)]
 pub struct Zap {
     inner: OneService,
