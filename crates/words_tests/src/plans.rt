@@ -190,7 +190,7 @@ fn words_of_plugins(rt: HostRuntime) -> Result<(), Fail> {
         ("-P continuity --fix --pid 0-8192", Some(WordsRule::Value)),
         ("-P continuity --fix", None),
         ("-P remap --no-psi", Some(WordsRule::Missing)),
-        ("-P remap 1=2", Some(WordsRule::Missing)),
+        ("-P remap 1=2", None),
         ("-P remap 1/2 --no-psi", Some(WordsRule::Value)),
         ("-P remap 1=8192 --no-psi", Some(WordsRule::Value)),
         ("-P remap 1=2 1=3 --no-psi", Some(WordsRule::Conflict)),
