@@ -4,7 +4,7 @@ ghost use Rattle.plug_psi.specs.ForceStands.{StandsFor as IsFed};
 ghost use Rattle.plug_psi.specs.InForce.{pmt_of, service_in};
 ghost use Rattle.ts_psi.specs.PatTables.{service_item};
 ghost use Rattle.plug_analyze.specs.AnalyzeRule.{components_in, services_in_force, service_with};
-ghost use Rattle.plug_analyze.specs.ServicesKept.{changes_from};
+ghost use Rattle.plug_analyze.specs.ServicesKept.{StartsFrom};
 
 use crate::change::Change;
 use crate::service_count::ServiceCount;
@@ -79,7 +79,7 @@ impl Services {
 // Takes the first change off, where it is below a position.
 fn pop_below(changes: &mut VecDeque<Change>, mark: u64) -> Option<Change>
     ensures taken { IfSome result (λ change. (changes.old.items ≡ change ∷ changes.new.items) × (change.at < mark)) }
-    ensures left { IfNone result ((changes.new.items ≡ changes.old.items) × (changes_from mark changes.old.items ≡ changes.old.items)) }
+    ensures left { IfNone result ((changes.new.items ≡ changes.old.items) × StartsFrom mark changes.old.items) }
 {
     if changes.front()?.at >= mark {
         return None;

@@ -1,0 +1,5 @@
+pub mod CountersLemmas
+pub mod NotesLemmas
+pub mod NotesKeeping
+pub mod ServicesKeeping
+pub mod SummaryLemmas
