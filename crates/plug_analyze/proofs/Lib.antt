@@ -3,3 +3,4 @@ pub mod NotesLemmas
 pub mod NotesKeeping
 pub mod ServicesKeeping
 pub mod SummaryLemmas
+pub mod Analyzing

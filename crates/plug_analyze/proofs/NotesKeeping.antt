@@ -1,19 +1,23 @@
 -- Notes that are kept and counted, one cell and one mark after another.
-use Rattle.std.proofs.Common.{◌≡◌, ℕ, ◌+◌, ◌-◌, ◌<◌, ◌≤◌, ◌^◌, List, [], ◌∷◌, ◌++◌, length, take, drop, ap, sym, subst, ◌∙◌, refl, Bool, true, ◌&&◌, nat_lt, not, append_assoc, append-nil, arith, length-append}
-use Rattle.std.specs.List.{All, list_all, take_while}
+use Rattle.std.proofs.Common.{◌≡◌, ℕ, ◌+◌, ◌-◌, ◌<◌, ◌≤◌, ◌^◌, List, [], ◌∷◌, ◌++◌, length, take, drop, ap, sym, subst, ◌∙◌, refl, Bool, true, false, ◌&&◌, nat_lt, not, append_assoc, append-nil, arith, length-append}
+use Rattle.std.specs.List.{All, count_by, filter, list_all, take_while}
+use Rattle.std.proofs.lemmas.List.{length-map}
+use Rattle.std.proofs.lemmas.List.Sums.{count_by-le-length, length-filter}
 use Rattle.std.proofs.Math.Seq.{drop-append_seam}
 use Rattle.std.proofs.lemmas.List.Folds.{list_all-append}
 use Rattle.std.proofs.lemmas.List.Elements.{All-drop, All-head, All-push}
 use Rattle.ts_packet.specs.declared.cell.Cell.{Cell}
 use Rattle.ts_packet.specs.declared.cell.Cell.TheVariants.{Live, Dropped}
 use Rattle.ts_packet.specs.declared.numbers.TheConstants.{PID_COUNT}
+use Rattle.chain_model.specs.declared.positions.TheConstants.{POSITION_LIMIT}
 use Rattle.plug_watch.specs.Tallies.{HasRoomFor, IsTally}
 use Rattle.plug_watch.proofs.Noting.{fails_first, is_below, length-notes_after, not_below, take_while-notes_after, take_while-split}
 use Rattle.plug_analyze.specs.declared.note.Note.{Note}
+use Rattle.plug_analyze.specs.declared.pid_tally.PidTally.{PidTally}
 use Rattle.plug_analyze.specs.declared.totals.Totals.{Totals}
 use Rattle.plug_analyze.specs.AnalyzeNotes.{note_on, noted, notes_in}
 use Rattle.plug_analyze.specs.NotesKept.{CanFold, Folds, KeepsNotes, StartsFrom}
-use Rattle.plug_analyze.specs.TotalsOf.{AreTotals}
+use Rattle.plug_analyze.specs.TotalsOf.{AreTotals, HasRoom, HasRoomIn, IsCounted, pids_of}
 use Rattle.plug_analyze.proofs.NotesLemmas.{notes_in-dropped, notes_in-live, one_note}
 
 -- what is below a mark is below a later one
@@ -36,7 +40,7 @@ starts_failing mark (note ∷ notes) starts = ap not (not_below note.at mark sta
 
 module _ (totals : Totals) (notes : List Note) (history : List Cell) (mark : ℕ) (w : KeepsNotes totals notes history mark) where
   -- the notes can be counted
-  pub can_fold : length history ≤ 2 ^ 60 → CanFold totals notes
+  pub can_fold : length history ≤ POSITION_LIMIT → CanFold totals notes
   can_fold short = record {
     before = w.before;
     totals_are = w.totals_are;
@@ -93,7 +97,8 @@ module _ (totals : Totals) (notes : List Note) (history : List Cell) (mark : ℕ
   counted_are starts =
       sym (take_while-split (λ (n : Note). nat_lt n.at mark) w.before notes w.early (starts_failing mark notes starts))
       ∙ (ap (take_while (λ (n : Note). nat_lt n.at mark)) w.all
-      ∙ take_while-notes_after note_on (λ (n : Note). n.at) one_note mark [] history)
+      ∙ (take_while-notes_after note_on (λ (n : Note). n.at) one_note mark [] history
+      ∙ ap (λ (k : ℕ). notes_in (take k history)) (let all : mark - 0 ≡ mark = omega arith in all)))
 
 -- some notes were taken off the front, and counted; others may follow
 pub record IsFolding (mark : ℕ) (old new : List Note) (totals totals_new : Totals) : Type 0 where
@@ -143,6 +148,23 @@ module _ (mark : ℕ) (old new : List Note) (totals totals_new : Totals) (so_far
         ∙ (ap (λ (b : Bool). b && (nat_lt note.at mark && true)) so_far.below ∙ ap (λ (b : Bool). b && true) (is_below note.at mark below));
     counted = λ before t. subst (AreTotals totals_next) (append_assoc before so_far.taken (note ∷ [])) (adds (before ++ so_far.taken) (so_far.counted before t));
   }
+
+-- one more can be counted, of any kind
+room_where : (test : Note → Bool) (tally : PidTally) (notes : List Note) → IsCounted tally (pids_of (filter test notes)) → length notes < 2 ^ 63 → HasRoomIn tally
+room_where test tally notes t few = record {
+  pids = pids_of (filter test notes);
+  tally = t;
+  few = omega (arith, few, length-map (filter test notes) (λ (n : Note). n.pid), length-filter test notes, count_by-le-length test notes);
+}
+
+pub has_room : (totals : Totals) (notes : List Note) → AreTotals totals notes → length notes < 2 ^ 63 → HasRoom totals
+has_room totals notes t few = record {
+  packets = record { pids = pids_of notes; tally = t.packets; few = omega (arith, few, length-map notes (λ (n : Note). n.pid)) };
+  payload = room_where (λ (n : Note). n.has_payload) totals.payload notes t.payload few;
+  scrambled = room_where (λ (n : Note). n.is_scrambled) totals.scrambled notes t.scrambled few;
+  faults = room_where (λ (n : Note). n.is_fault) totals.faults notes t.faults few;
+  pcr = room_where (λ (n : Note). n.has_pcr) totals.pcr notes t.pcr few;
+}
 
 -- all are taken that are below the position
 pub all_taken : (mark : ℕ) (old new rest : List Note) (totals totals_new : Totals) → IsFolding mark old new totals totals_new → rest ≡ new → StartsFrom mark new

@@ -1,16 +1,21 @@
 -- The services in force at each position, one cell and one mark after another.
-use Rattle.std.proofs.Common.{◌≡◌, ℕ, ◌+◌, ◌<◌, ◌≤◌, List, [], ◌∷◌, ◌++◌, length, take, map, ap, ap₂, sym, subst, ◌∙◌, inl, inr, refl, Bool, true, false, nat_lt, if◌then◌else◌, append-nil, Option, arith, length-append}
-use Rattle.std.specs.List.{All}
+use Rattle.std.proofs.Common.{◌≡◌, ℕ, ◌+◌, ◌<◌, ◌≤◌, List, [], ◌∷◌, ◌++◌, length, take, map, ap, ap₂, sym, subst, ◌∙◌, inl, inr, refl, Bool, true, false, nat_lt, if◌then◌else◌, append-nil, Option, None, Some, get_or, arith, length-append}
+use Rattle.std.specs.Prelude.{option_map, option_to_list}
+use Rattle.std.specs.List.{All, filter_map}
 use Rattle.std.proofs.lemmas.Bool.{cases_lt}
 use Rattle.std.proofs.lemmas.Grind.{flat_map-append}
-use Rattle.std.proofs.lemmas.List.{take_all, take-append-le}
-use Rattle.std.proofs.lemmas.List.Elements.{All-head, All-push, All-tail, All-weaker}
+use Rattle.std.proofs.lemmas.List.{map-append, take_all, take-append-le, take_more}
+use Rattle.std.proofs.lemmas.List.Elements.{All-head, All-push, All-tail, All-weaker, filter_map-append}
 use Rattle.ts_packet.specs.declared.cell.Cell.{Cell}
 use Rattle.ts_packet.specs.declared.cell.Cell.TheVariants.{Live, Dropped}
 use Rattle.ts_packet.specs.Cells.{live_packets, packet_in}
-use Rattle.ts_table_rows.specs.TableValues.{TableHolding}
+use Rattle.ts_table_rows.specs.TableValues.{ItemHolding, TableHolding}
+use Rattle.ts_psi.specs.PatTables.{network_items, pat_held, service_item}
+use Rattle.ts_psi.specs.declared.pat.Pat.{Pat}
+use Rattle.ts_psi.specs.declared.pat.PatService.{PatService}
+use Rattle.plug_psi.specs.declared.in_force.InForce.{InForce}
 use Rattle.plug_psi.specs.ForceStands as forcing
-use Rattle.plug_psi.specs.InForce.{pat_of, pmt_of, services_in}
+use Rattle.plug_psi.specs.InForce.{pat_of, pmt_of, service_in, services_in}
 use Rattle.plug_psi.specs.SameForce.{SameInForce}
 use Rattle.plug_watch.proofs.Noting.{is_below, not_below}
 use Rattle.plug_analyze.specs.declared.change.Change.{Change}
@@ -180,12 +185,90 @@ serves_dropped services history mark w = record {
   kept = kept_same services.services.items services.changes.items history mark w.kept Dropped (ap services_in_force (live-dropped history));
 }
 
-module _ (services : Services) (history : List Cell) (mark : ℕ) (w : Serves services history mark) (packet : List ℕ) (labels : ℕ) where
-  -- a packet with which no table came into force
-  pub kept_packet : SameInForce (live_packets history) packet → KeepsServices services.services.items services.changes.items (history ++ Live packet labels ∷ []) mark
-  kept_packet same = kept_same services.services.items services.changes.items history mark w.kept (Live packet labels)
-      (ap services_in_force (live-live history packet labels) ∙ same_services (live_packets history) packet same)
+-- before a cell was met
+pub serves_new : (services : Services) → forcing.StandsFor services.force [] → services.services.items ≡ services_in_force [] → services.changes.items ≡ [] → Serves services [] 0
+serves_new services fed services_are none = record {
+  fed = fed;
+  kept = subst (λ (cs : List Change). KeepsServices services.services.items cs [] 0) (sym none) (record {
+    marked = omega arith;
+    early = λ k d lt. absurd (omega (arith, lt));
+    each = λ k ge le. services_are ∙ sym (at-end k [] ge);
+  });
+}
 
-  -- the tables in force were fed with it
-  pub fed_packet : {X : Type 0} (P : List (List ℕ) → Type 0) → P (live_packets history ++ packet ∷ []) → P (live_packets (history ++ Live packet labels ∷ []))
-  fed_packet {X} P h = subst P (sym (live-live history packet labels)) h
+module _ (services services_new : Services) (history : List Cell) (mark : ℕ) (w : Serves services history mark) (packet : List ℕ) (labels : ℕ)
+    (fed : forcing.StandsFor services_new.force (live_packets history ++ packet ∷ [])) (services_are : services_new.services.items ≡ services.services.items) where
+  fed_with : forcing.StandsFor services_new.force (live_packets (history ++ Live packet labels ∷ []))
+  fed_with = subst (forcing.StandsFor services_new.force) (sym (live-live history packet labels)) fed
+
+  -- a packet with which no table came into force
+  pub serves_same : SameInForce (live_packets history) packet → services_new.changes.items ≡ services.changes.items → Serves services_new (history ++ Live packet labels ∷ []) mark
+  serves_same same changes_are = record {
+    fed = fed_with;
+    kept = subst (λ (ss : List ServiceCount). KeepsServices ss services_new.changes.items (history ++ Live packet labels ∷ []) mark) (sym services_are)
+        (subst (λ (cs : List Change). KeepsServices services.services.items cs (history ++ Live packet labels ∷ []) mark) (sym changes_are)
+        (kept_same services.services.items services.changes.items history mark w.kept (Live packet labels)
+        (ap services_in_force (live-live history packet labels) ∙ same_services (live_packets history) packet same)));
+  }
+
+  -- one with which some did
+  pub serves_change : (change : Change) → change.at ≡ length history → change.services.items ≡ services_in_force (live_packets history ++ packet ∷ [])
+      → services_new.changes.items ≡ services.changes.items ++ change ∷ [] → Serves services_new (history ++ Live packet labels ∷ []) mark
+  serves_change change at_is are changes_are = record {
+    fed = fed_with;
+    kept = subst (λ (ss : List ServiceCount). KeepsServices ss services_new.changes.items (history ++ Live packet labels ∷ []) mark) (sym services_are)
+        (subst (λ (cs : List Change). KeepsServices services.services.items cs (history ++ Live packet labels ∷ []) mark) (sym changes_are)
+        (kept_change services.services.items services.changes.items history mark w.kept (Live packet labels) change at_is
+        (are ∙ ap services_in_force (sym (live-live history packet labels)))));
+  }
+
+-- changes below a later position are taken off
+pub serves_folded : (services services_new : Services) (history : List Cell) (mark to : ℕ) → Serves services history mark → mark ≤ to → to ≤ length history
+    → DropsChanges to services.services.items services_new.services.items services.changes.items services_new.changes.items
+    → services_new.force ≡ services.force → Serves services_new history to
+serves_folded services services_new history mark to w later within drops same = record {
+  fed = subst (λ (force : InForce). forcing.StandsFor force (live_packets history)) (sym same) w.fed;
+  kept = kept_folded services.services.items services.changes.items history mark w.kept to services_new.services.items services_new.changes.items later within drops;
+}
+
+-- the services of a PAT: those of its entries that are no network's
+pub pat_services : (pat : Pat) → services_in (Some (pat_held pat)) ≡ filter_map service_in (map service_item pat.services)
+pat_services pat = elim pat.network_pid as (λ n. filter_map service_in (network_items n ++ map service_item pat.services) ≡ filter_map service_in (map service_item pat.services)) [
+  | None ↦ refl
+  | Some pid ↦ refl
+]
+
+-- the services in force, where a PAT is
+pub services_are : (fed : List (List ℕ)) (pat : Pat) (services : List ServiceCount) → Some (pat_held pat) ≡ pat_of fed
+    → services ≡ map (service_with (λ id. pmt_of id fed)) (filter_map service_in (map service_item pat.services)) → services ≡ services_in_force fed
+services_are fed pat services pat_is is =
+    is
+    ∙ (ap (map (service_with (λ id. pmt_of id fed))) (sym (pat_services pat))
+    ∙ ap (λ (p : Option TableHolding). map (service_with (λ id. pmt_of id fed)) (services_in p)) pat_is)
+
+-- the services with one entry more
+pub service_more : (pmts : ℕ → Option TableHolding) (entries : List PatService) (i : ℕ) (entry : PatService) (services services_new : List ServiceCount) (count : ServiceCount)
+    → i < length entries → entry ≡ get_or entries i entry
+    → Some count ≡ option_map (service_with pmts) (service_in (service_item entry))
+    → services ≡ map (service_with pmts) (filter_map service_in (map service_item (take i entries)))
+    → services_new ≡ services ++ count ∷ []
+    → services_new ≡ map (service_with pmts) (filter_map service_in (map service_item (take (i + 1) entries)))
+service_more pmts entries i entry services services_new count lt entry_is count_is so_far pushed =
+    let f : ItemHolding → Option (ℕ × ℕ) = service_in in
+    pushed
+    ∙ (ap (λ (ss : List ServiceCount). ss ++ count ∷ []) so_far
+    ∙ (last (service_in (service_item entry)) count_is
+    ∙ (sym (map-append (service_with pmts) (filter_map f (map service_item (take i entries))) (filter_map f (map service_item (entry ∷ []))))
+    ∙ ap (map (service_with pmts))
+    (sym (filter_map-append f (map service_item (take i entries)) (map service_item (entry ∷ [])))
+    ∙ ap (filter_map f) (sym (map-append service_item (take i entries) (entry ∷ []))
+    ∙ ap (map service_item) (ap (λ (e : PatService). take i entries ++ e ∷ []) entry_is ∙ sym (take_more entries i entry lt)))))))
+  where
+    last : (x : Option (ℕ × ℕ)) → Some count ≡ option_map (service_with pmts) x
+        → map (service_with pmts) (filter_map service_in (map service_item (take i entries))) ++ count ∷ []
+        ≡ map (service_with pmts) (filter_map service_in (map service_item (take i entries))) ++ map (service_with pmts) (option_to_list x)
+    last None e = cc
+    last (Some s) e = ap (λ (c : ServiceCount). map (service_with pmts) (filter_map service_in (map service_item (take i entries))) ++ c ∷ []) (same count (service_with pmts s) e)
+
+    same : (a b : ServiceCount) → Some a ≡ Some b → a ≡ b
+    same a b e = cc

@@ -1,8 +1,8 @@
 -- The lines of the summary.
-use Rattle.std.proofs.Common.{◌≡◌, ℕ, ◌+◌, ◌<◌, ◌≤◌, List, [], ◌∷◌, ◌++◌, length, take, map, filter, ap, sym, ◌∙◌, refl, Bool, true, false, not, ◌==◌, if◌then◌else◌, append_assoc, append-nil, get_or}
-use Rattle.std.specs.List.{count_by}
-use Rattle.std.proofs.lemmas.List.{length-take-le, map-append}
-use Rattle.std.proofs.lemmas.List.Elements.{filter-append}
+use Rattle.std.proofs.Common.{◌≡◌, ℕ, ◌+◌, ◌<◌, ◌≤◌, List, [], ◌∷◌, ◌++◌, length, take, map, filter, ap, sym, subst, ◌∙◌, refl, Bool, true, false, not, ◌==◌, if◌then◌else◌, append_assoc, append-nil, get_or}
+use Rattle.std.specs.List.{All}
+use Rattle.std.proofs.lemmas.List.{length-take-le, map-append, take_more}
+use Rattle.std.proofs.lemmas.List.Elements.{All-push, filter-append}
 use Rattle.ts_packet.specs.declared.cell.Cell.{Cell}
 use Rattle.ts_packet.specs.declared.cell.Cell.TheVariants.{Live, Dropped}
 use Rattle.ts_packet.specs.declared.numbers.TheConstants.{PID_COUNT}
@@ -14,7 +14,7 @@ use Rattle.plug_watch.specs.CountRule.{numbers_below, packets_on}
 use Rattle.plug_watch.specs.Tallies.{IsTally}
 use Rattle.plug_watch.proofs.Counting.{packets_on-pids}
 use Rattle.plug_watch.proofs.Summing.{numbers_below_more, placed_at-append}
-use Rattle.plug_analyze.specs.AnalyzeRule.{analyze_rule, head_lines, pid_lines, service_lines, summary_on}
+use Rattle.plug_analyze.specs.AnalyzeRule.{analyze_rule, counts_on, pid_text, summary_on}
 use Rattle.plug_analyze.specs.TotalsOf.{IsCounted}
 use Rattle.plug_analyze.specs.declared.pid_tally.PidTally.{PidTally}
 
@@ -57,3 +57,22 @@ report_is history cut lines within is =
     is
     ∙ (ap (λ (n : ℕ). placed_at n (summary_on (take cut history))) (sym (length-take-le cut history within))
     ∙ ap (λ (ls : List Line). ls ++ placed_at (length (take cut history)) (summary_on (take cut history))) (sym (placed_none [] (take cut history))))
+
+-- the lines of PIDs with one more
+pub pid_more : (cells : List Cell) (cut : ℕ) (pids : List ℕ) (i pid : ℕ) (before lines lines_new : List Line) (text : List ℕ) → i < length pids → pid ≡ get_or pids i 0
+    → text ≡ pid_text pid (counts_on pid cells)
+    → lines ≡ before ++ placed_at cut (map (λ q. pid_text q (counts_on q cells)) (take i pids))
+    → lines_new ≡ lines ++ placed_at cut (text ∷ [])
+    → lines_new ≡ before ++ placed_at cut (map (λ q. pid_text q (counts_on q cells)) (take (i + 1) pids))
+pid_more cells cut pids i pid before lines lines_new text lt pid_is text_is so_far pushed =
+    let f : ℕ → List ℕ = λ q. pid_text q (counts_on q cells) in
+    pushed_after cut before lines lines_new (map f (take i pids)) (text ∷ []) so_far pushed
+    ∙ ap (λ (ts : List (List ℕ)). before ++ placed_at cut ts)
+    (ap (λ (t : List ℕ). map f (take i pids) ++ t ∷ []) (text_is ∙ ap f pid_is)
+    ∙ (sym (map-append f (take i pids) (get_or pids i 0 ∷ [])) ∙ ap (map f) (sym (take_more pids i 0 lt))))
+
+-- each of them is a PID
+pub all_pids_more : (pids pids_new : List ℕ) (b : Bool) (pid : ℕ) → All (λ (p : ℕ). p < PID_COUNT) pids → pid < PID_COUNT → pids_new ≡ pids ++ (if b then pid ∷ [] else [])
+    → All (λ (p : ℕ). p < PID_COUNT) pids_new
+all_pids_more pids pids_new true pid all below is = subst (All (λ (p : ℕ). p < PID_COUNT)) (sym is) (All-push (λ (p : ℕ). p < PID_COUNT) pids pid all below)
+all_pids_more pids pids_new false pid all below is = subst (All (λ (p : ℕ). p < PID_COUNT)) (sym (is ∙ append-nil pids)) all

@@ -36,9 +36,11 @@ impl Services {
     pub fn new(alloc: Global) -> Result<Services, AllocError>
         ensures { IfOk result (λ services. Serves services [] 0) }
     {
+        let force = InForce::new(alloc)?;
+        let services = services_of(alloc, &force)?;
         Ok(Services {
-            force: InForce::new(alloc)?,
-            services: Vec::new(alloc),
+            force,
+            services,
             changes: VecDeque::new(alloc),
             alloc,
         })
@@ -95,7 +97,8 @@ fn services_of(alloc: Global, force: &InForce) -> Result<Vec<ServiceCount>, Allo
     let Some(pat) = force.pat() else {
         return Ok(services);
     };
-    for service in pat.services.as_slice() {
+    let entries = pat.services.as_slice();
+    for service in entries {
         services.push(service_count(force, service))?;
     }
     Ok(services)

@@ -1,5 +1,5 @@
 //! The summary of what was met.
-ghost use Rattle.std.specs.Prelude.{◌≡◌, ◌<◌, ◌++◌, [], ℕ, List, IfOk, OnOk, length, map};
+ghost use Rattle.std.specs.Prelude.{◌≡◌, ◌<◌, ◌++◌, ◌∷◌, [], ℕ, List, IfOk, OnOk, length, map, if◌then◌else◌};
 ghost use Rattle.std.specs.List.{All};
 ghost use Rattle.ts_packet.specs.declared.cell.Cell.{Cell as GivenCell};
 ghost use Rattle.ts_packet.specs.Cells.{live_packets};
@@ -41,11 +41,19 @@ fn pids_with_packets(alloc: Global, totals: &Totals) -> Result<Vec<u16>, AllocEr
 {
     let mut pids = Vec::new(alloc);
     for pid in 0..PID_COUNT {
-        if totals.packets_on(pid) != 0 {
-            pids.push(pid)?;
-        }
+        push_if(&mut pids, totals.packets_on(pid) != 0, pid)?;
     }
     Ok(pids)
+}
+
+// Puts a PID behind others, if it is one of those that are wanted.
+fn push_if(pids: &mut Vec<u16>, is_one: bool, pid: u16) -> Result<(), AllocError>
+    ensures { OnOk result (pids.new.items ≡ pids.old.items ++ (if is_one then pid ∷ [] else [])) }
+{
+    if is_one {
+        pids.push(pid)?;
+    }
+    Ok(())
 }
 
 // Puts the numbers of all packets behind other lines.

@@ -8,4 +8,4 @@ use Rattle.plug_analyze.proofs.services.services_of.Given as goal
 
 abbrev pub invariant-loop-service : goal.invariant-loop-service
 invariant-loop-service l = (fed : List (List ℕ)) → StandsFor l.force fed
-    → l.services.items ≡ map (service_with (λ id. pmt_of id fed)) (filter_map service_in (map service_item (take l.service-index l.x)))
+    → l.services.items ≡ map (service_with (λ id. pmt_of id fed)) (filter_map service_in (map service_item (take l.service-index l.entries)))
