@@ -1,7 +1,7 @@
 -- The services in force at each position, one cell and one mark after another.
 use Rattle.std.proofs.Common.{◌≡◌, ℕ, ◌+◌, ◌<◌, ◌≤◌, List, [], ◌∷◌, ◌++◌, length, take, map, ap, ap₂, sym, subst, ◌∙◌, inl, inr, refl, Bool, true, false, nat_lt, if◌then◌else◌, append-nil, Option, None, Some, get_or, arith, length-append}
-use Rattle.std.specs.Prelude.{option_map, option_to_list}
-use Rattle.std.specs.List.{All, filter_map}
+use Rattle.std.specs.Prelude.{option_map}
+use Rattle.std.specs.List.{All, cons_option, filter_map}
 use Rattle.std.proofs.lemmas.Bool.{cases_lt}
 use Rattle.std.proofs.lemmas.Grind.{flat_map-append}
 use Rattle.std.proofs.lemmas.List.{map-append, take_all, take-append-le, take_more}
@@ -246,6 +246,9 @@ services_are fed pat services pat_is is =
     ∙ (ap (map (service_with (λ id. pmt_of id fed))) (sym (pat_services pat))
     ∙ ap (λ (p : Option TableHolding). map (service_with (λ id. pmt_of id fed)) (services_in p)) pat_is)
 
+same_service : (a b : ServiceCount) → Some a ≡ Some b → a ≡ b
+same_service a b e = cc
+
 -- the services with one entry more
 pub service_more : (pmts : ℕ → Option TableHolding) (entries : List PatService) (i : ℕ) (entry : PatService) (services services_new : List ServiceCount) (count : ServiceCount)
     → i < length entries → entry ≡ get_or entries i entry
@@ -266,9 +269,6 @@ service_more pmts entries i entry services services_new count lt entry_is count_
   where
     last : (x : Option (ℕ × ℕ)) → Some count ≡ option_map (service_with pmts) x
         → map (service_with pmts) (filter_map service_in (map service_item (take i entries))) ++ count ∷ []
-        ≡ map (service_with pmts) (filter_map service_in (map service_item (take i entries))) ++ map (service_with pmts) (option_to_list x)
+        ≡ map (service_with pmts) (filter_map service_in (map service_item (take i entries))) ++ map (service_with pmts) (cons_option x [])
     last None e = cc
-    last (Some s) e = ap (λ (c : ServiceCount). map (service_with pmts) (filter_map service_in (map service_item (take i entries))) ++ c ∷ []) (same count (service_with pmts s) e)
-
-    same : (a b : ServiceCount) → Some a ≡ Some b → a ≡ b
-    same a b e = cc
+    last (Some s) e = ap (λ (c : ServiceCount). map (service_with pmts) (filter_map service_in (map service_item (take i entries))) ++ c ∷ []) (same_service count (service_with pmts s) e)
