@@ -4,3 +4,4 @@ pub mod NotesKeeping
 pub mod ServicesKeeping
 pub mod SummaryLemmas
 pub mod Analyzing
+mod Rows

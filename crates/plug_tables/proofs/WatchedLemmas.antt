@@ -14,7 +14,8 @@ use Rattle.plug_psi.specs.ForceStands as forcing
 use Rattle.plug_psi.specs.InForce.{is_taken, names, pat_of, taken_behind, taken_on}
 use Rattle.plug_psi.specs.LastFound.{tables_on}
 use Rattle.plug_psi.specs.declared.in_force.InForce.{InForce}
-use Rattle.plug_tables.specs.WatchedPackets.{Choice, is_fixed, tables_with, watched_on, watched_tables}
+use Rattle.plug_tables.specs.TablesRule.{choice_of}
+use Rattle.plug_tables.specs.WatchedPackets.{Choice, is_fixed, usual, tables_with, watched_on, watched_tables}
 use Rattle.plug_tables.specs.WatchedState.{EntryStands, Watches, is_watched}
 use Rattle.plug_tables.specs.declared.watcher.Watcher.{Watcher}
 
@@ -180,3 +181,23 @@ module _ {S : Type 0} (force force_new : InForce) (watchers : IndexMap ℕ Watch
       sym (drop-append_seam (watched_tables choice pid met) tables)
       ∙ (ap (drop (length (watched_tables choice pid met))) (sym are ∙ ap (tables_on pid) (sym (own-one flag)))
       ∙ ap (λ q. drop (length (watched_tables choice q met)) (watched_tables choice q (met ++ p ∷ []))) at)
+
+-- the choice that a list makes, by its parts
+pub choice_is : (list pids : List (ℕ × ℕ)) (follows : Bool) → pids ≡ (choice_of list).listed → follows ≡ (length list == 0)
+    → (let choice : Choice = record { listed = pids; follows = follows } in choice) ≡ choice_of list
+choice_is list pids follows a b =
+    ap (λ (ps : List (ℕ × ℕ)). let choice : Choice = record { listed = ps; follows = follows } in choice) a
+    ∙ (ap (λ (f : Bool). let choice : Choice = record { listed = (choice_of list).listed; follows = f } in choice) b
+    ∙ (elim (length list == 0) as (λ f. (let choice : Choice = record { listed = (if f then usual else (let other : Choice = record { listed = list; follows = false } in other)).listed; follows = f } in choice)
+    ≡ (if f then usual else (let other : Choice = record { listed = list; follows = false } in other))) [
+      | true ↦ refl
+      | false ↦ refl
+    ]))
+
+-- the PIDs of a choice
+pub listed_is : (list : List (ℕ × ℕ)) (b : Bool) → (length list == 0) ≡ b → (if b then usual.listed else list) ≡ (choice_of list).listed
+listed_is list b e = pick b ∙ ap (λ (f : Bool). (if f then usual else (let other : Choice = record { listed = list; follows = false } in other)).listed) (sym e)
+  where
+    pick : (f : Bool) → (if f then usual.listed else list) ≡ (if f then usual else (let other : Choice = record { listed = list; follows = false } in other)).listed
+    pick true = refl
+    pick false = refl

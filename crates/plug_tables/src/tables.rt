@@ -78,7 +78,8 @@ impl Tables {
     {
         let tables = self.watched.meet(packet)?;
         let pid = packet.pid();
-        tell_tables(self.alloc, &mut self.told, &self.tids, at, pid, &tables)
+        tell_tables(self.alloc, &mut self.told, &self.tids, at, pid, &tables)?;
+        Ok(())
     }
 }
 
@@ -141,7 +142,8 @@ impl Plugin for Tables {
         if self.failed {
             return Err(AllocError);
         }
-        lines_below(self.alloc, &mut self.told, cut)
+        let lines = lines_below(self.alloc, &mut self.told, cut)?;
+        Ok(lines)
     }
 
     ghost starts_open = { λ plugin history mark stands. refl };

@@ -81,5 +81,6 @@ fn element_of(alloc: Global, run: &TableRun) -> Result<String, AllocError>
     // A law, which runs nothing.
     shown_table_is_plain();
     let element = to_json(alloc, &table)?;
-    element.to_string(alloc)
+    let text = element.to_string(alloc)?;
+    Ok(text)
 }

@@ -67,7 +67,8 @@ impl Watched {
             return Ok(Vec::new(self.alloc));
         }
         see_entry(self.alloc, &mut self.watchers, pid)?;
-        take_on(self.alloc, &mut self.watchers, pid, packet)
+        let tables = take_on(self.alloc, &mut self.watchers, pid, packet)?;
+        Ok(tables)
     }
 
     // Whether the packets of a PID are watched now.
@@ -83,11 +84,13 @@ impl Watched {
 fn pids_of(alloc: Global, list: &NumberSet) -> Result<PidSet, AllocError>
     ensures { IfOk result (λ set. set ≡ (choice_of list.now).listed) }
 {
-    if list.is_empty() {
-        let usual = NumberSet::of(Vec::from_slice(alloc, &USUAL_PIDS)?);
-        return PidSet::of(alloc, &usual);
+    if !list.is_empty() {
+        let set = PidSet::of(alloc, list)?;
+        return Ok(set);
     }
-    PidSet::of(alloc, list)
+    let usual = NumberSet::of(Vec::from_slice(alloc, &USUAL_PIDS)?);
+    let set = PidSet::of(alloc, &usual)?;
+    Ok(set)
 }
 
 // Sees that a PID has its entry.

@@ -41,7 +41,8 @@ impl Watcher {
             → tables_on pid (watched ++ packet.now ∷ []) ≡ tables_on pid watched ++ tables.items) }
     {
         self.demux.feed(packet)?;
-        take_waiting(alloc, &mut self.demux, &mut self.assembly)
+        let tables = take_waiting(alloc, &mut self.demux, &mut self.assembly)?;
+        Ok(tables)
     }
 }
 
