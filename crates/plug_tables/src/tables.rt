@@ -95,11 +95,7 @@ fn pop_below(told: &mut VecDeque<Line>, cut: u64) -> Option<Line>
 }
 
 // The lines below a position, which are taken off.
-fn lines_below(
-    alloc: Global,
-    told: &mut VecDeque<Line>,
-    cut: u64,
-) -> Result<Vec<Line>, AllocError>
+fn lines_below(alloc: Global, told: &mut VecDeque<Line>, cut: u64) -> Result<Vec<Line>, AllocError>
     ensures { IfOk result (λ lines. lines.items ≡ take_while (λ line. nat_lt line.at cut) told.old.items) }
 {
     let mut lines = Vec::new(alloc);

@@ -17,10 +17,12 @@ const PAT: [u8; 16] = [
 ];
 
 /// Its element.
-const PAT_TEXT: &str = "{\"#name\":\"PAT\",\"#nodes\":[{\"#name\":\"service\",\"program_map_PID\":4096,\"service_id\":1}],\"current\":true,\"transport_stream_id\":1,\"version\":0}";
+const PAT_TEXT: &str =
+    "{\"#name\":\"PAT\",\"#nodes\":[{\"#name\":\"service\",\"program_map_PID\":4096,\"service_id\":1}],\"current\":true,\"transport_stream_id\":1,\"version\":0}";
 
 /// The element of the PMT.
-const PMT_TEXT: &str = "{\"#name\":\"PMT\",\"#nodes\":[{\"#name\":\"component\",\"#nodes\":[],\"elementary_PID\":257,\"stream_type\":27}],\"PCR_PID\":257,\"current\":true,\"service_id\":1,\"version\":3}";
+const PMT_TEXT: &str =
+    "{\"#name\":\"PMT\",\"#nodes\":[{\"#name\":\"component\",\"#nodes\":[],\"elementary_PID\":257,\"stream_type\":27}],\"PCR_PID\":257,\"current\":true,\"service_id\":1,\"version\":3}";
 
 /// A packet that carries the PAT on a PID.
 fn pat_on(alloc: Global, pid: u16) -> Result<Cell, Fail> {
@@ -96,7 +98,12 @@ fn numbers(alloc: Global, pair: Option<u64>) -> Result<NumberSet, AllocError> {
 #[test]
 fn tables_up_to_the_cut(rt: HostRuntime) -> Result<(), Fail> {
     let rows = [
-        (None, None, 6, [(1, 0, PAT_TEXT), (4, 4096, PMT_TEXT)].as_slice()),
+        (
+            None,
+            None,
+            6,
+            [(1, 0, PAT_TEXT), (4, 4096, PMT_TEXT)].as_slice(),
+        ),
         (None, None, 4, [(1, 0, PAT_TEXT)].as_slice()),
         (None, Some(2), 6, [(4, 4096, PMT_TEXT)].as_slice()),
         (Some(300), None, 6, [(3, 300, PAT_TEXT)].as_slice()),
