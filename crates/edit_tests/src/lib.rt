@@ -3,10 +3,14 @@
 #![tactic(auto)]
 
 #[cfg(test)]
+mod analyze;
+#[cfg(test)]
 mod editors;
 #[cfg(test)]
 mod moved_pids;
 #[cfg(test)]
 mod services;
+#[cfg(test)]
+mod tables;
 #[cfg(test)]
 mod tables_in_force;

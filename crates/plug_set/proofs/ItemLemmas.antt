@@ -40,6 +40,8 @@ simple kind.Cat = refl
 simple kind.Pmt = refl
 simple kind.Sdt = refl
 simple kind.Nit = refl
+simple kind.Analyze = refl
+simple kind.Tables = refl
 simple kind.Zap = refl
 simple kind.Svremove = refl
 

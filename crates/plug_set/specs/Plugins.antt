@@ -46,15 +46,21 @@ use Rattle.plug_service.specs.ZapWords.{zap}
 use Rattle.plug_service.specs.ServiceRule.{svremove_rule}
 use Rattle.plug_service.specs.SvremoveSettings.{IsLawfulSvremove}
 use Rattle.plug_service.specs.SvremoveWords.{svremove}
+use Rattle.plug_analyze.specs.AnalyzeRule.{analyze_rule}
+use Rattle.plug_analyze.specs.AnalyzeSettings.{IsLawfulAnalyze}
+use Rattle.plug_analyze.specs.AnalyzeWords.{analyze}
+use Rattle.plug_tables.specs.TablesRule.{tables_rule}
+use Rattle.plug_tables.specs.TablesSettings.{IsLawfulTables}
+use Rattle.plug_tables.specs.TablesWords.{tables}
 use Rattle.plug_set.specs.declared.plugin_conf.PluginConf.{PluginConf}
-use Rattle.plug_set.specs.declared.plugin_conf.PluginConf.TheVariants.{Filter, Skip, Slice, Pattern, Until, Count, Continuity, Remap, Pat, Cat, Pmt, Sdt, Nit, Zap, Svremove}
+use Rattle.plug_set.specs.declared.plugin_conf.PluginConf.TheVariants.{Filter, Skip, Slice, Pattern, Until, Count, Continuity, Remap, Pat, Cat, Pmt, Sdt, Nit, Zap, Svremove, Analyze, Tables}
 use Rattle.plug_set.specs.declared.plugin_conf.PluginKind.{PluginKind}
 use Rattle.plug_set.specs.declared.plugin_conf.PluginKind.TheVariants as kind
 
 -- the plugins
 abbrev pub kinds : List PluginKind
 kinds = kind.Filter ∷ kind.Skip ∷ kind.Slice ∷ kind.Pattern ∷ kind.Until ∷ kind.Count ∷ kind.Continuity ∷ kind.Remap
-    ∷ kind.Pat ∷ kind.Cat ∷ kind.Pmt ∷ kind.Sdt ∷ kind.Nit ∷ kind.Zap ∷ kind.Svremove ∷ []
+    ∷ kind.Pat ∷ kind.Cat ∷ kind.Pmt ∷ kind.Sdt ∷ kind.Nit ∷ kind.Zap ∷ kind.Svremove ∷ kind.Analyze ∷ kind.Tables ∷ []
 
 -- their names, as the command line and the reports have them
 abbrev pub name_of_kind : PluginKind → List ℕ
@@ -73,6 +79,8 @@ name_of_kind kind.Sdt = codes "sdt"
 name_of_kind kind.Nit = codes "nit"
 name_of_kind kind.Zap = codes "zap"
 name_of_kind kind.Svremove = codes "svremove"
+name_of_kind kind.Analyze = codes "analyze"
+name_of_kind kind.Tables = codes "tables"
 
 -- the plugin of a name; one that is not built yet has no kind
 abbrev pub plugin_kind_named : List ℕ → Option PluginKind
@@ -95,6 +103,8 @@ options_of_plugin kind.Sdt = made_into Sdt sdt
 options_of_plugin kind.Nit = made_into Nit nit
 options_of_plugin kind.Zap = made_into Zap zap
 options_of_plugin kind.Svremove = made_into Svremove svremove
+options_of_plugin kind.Analyze = made_into Analyze analyze
+options_of_plugin kind.Tables = made_into Tables tables
 
 -- the plugin that settings are of
 abbrev pub kind_of : PluginConf → PluginKind
@@ -113,6 +123,8 @@ kind_of (Sdt conf) = kind.Sdt
 kind_of (Nit conf) = kind.Nit
 kind_of (Zap conf) = kind.Zap
 kind_of (Svremove conf) = kind.Svremove
+kind_of (Analyze conf) = kind.Analyze
+kind_of (Tables conf) = kind.Tables
 
 -- its name
 abbrev pub name_of : PluginConf → List ℕ
@@ -136,6 +148,8 @@ IsLawful (Sdt conf) = IsLawfulSdt conf
 IsLawful (Nit conf) = IsLawfulNit conf
 IsLawful (Zap conf) = IsLawfulZap conf
 IsLawful (Svremove conf) = IsLawfulSvremove conf
+IsLawful (Analyze conf) = IsLawfulAnalyze conf
+IsLawful (Tables conf) = IsLawfulTables conf
 
 -- the rule that the settings mean
 abbrev pub rule_of : PluginConf → PluginRule
@@ -154,6 +168,8 @@ rule_of (Sdt conf) = edit_rule 17 (change_sdt conf)
 rule_of (Nit conf) = edit_rule 16 (change_nit conf)
 rule_of (Zap conf) = zap_rule conf
 rule_of (Svremove conf) = svremove_rule conf
+rule_of (Analyze conf) = analyze_rule
+rule_of (Tables conf) = tables_rule conf
 
 -- for how many positions behind the last mark a plugin takes its room before the run, where it does: all of
 -- them do but those whose lines grow with the stream, and those that edit tables, which keep the tables that come
@@ -168,6 +184,8 @@ steady_of (Sdt conf) buffer = None
 steady_of (Nit conf) buffer = None
 steady_of (Zap conf) buffer = None
 steady_of (Svremove conf) buffer = None
+steady_of (Analyze conf) buffer = None
+steady_of (Tables conf) buffer = None
 steady_of _ buffer = Some buffer
 
 -- the plugin agrees to a common end, and does not end the chain by itself

@@ -16,6 +16,7 @@ ghost use Rattle.plug_set.specs.Plugins.{IsLawful, kind_of, name_of, name_of_kin
 use crate::plugin_item::PluginItem;
 use clap::Command;
 use option_words::{ParsedOptions, Refusal, WordsRule, with_value};
+use plug_analyze::{AnalyzeConf, analyze_command, analyze_settings};
 use plug_conf::{LAST_LABEL, NumberSet};
 use plug_edit::{
     EditCatConf, EditNitConf, EditPatConf, EditPmtConf, EditSdtConf, cat_command, cat_settings,
@@ -31,6 +32,7 @@ use plug_pass::{
 use plug_service::{
     SvremoveConf, ZapConf, svremove_command, svremove_settings, zap_command, zap_settings,
 };
+use plug_tables::{TablesConf, tables_command, tables_settings};
 use plug_watch::{
     ContinuityConf, CountConf, continuity_command, continuity_settings, count_command,
     count_settings,
@@ -56,6 +58,8 @@ pub enum PluginConf {
     Nit(EditNitConf),
     Zap(ZapConf),
     Svremove(SvremoveConf),
+    Analyze(AnalyzeConf),
+    Tables(TablesConf),
 }
 
 /// A kind of plugin.
@@ -76,6 +80,8 @@ pub enum PluginKind {
     Nit,
     Zap,
     Svremove,
+    Analyze,
+    Tables,
 }
 
 impl PluginKind {
@@ -99,6 +105,8 @@ impl PluginKind {
             "nit" => Some(PluginKind::Nit),
             "zap" => Some(PluginKind::Zap),
             "svremove" => Some(PluginKind::Svremove),
+            "analyze" => Some(PluginKind::Analyze),
+            "tables" => Some(PluginKind::Tables),
             _ => None,
         }
     }
@@ -123,6 +131,8 @@ impl PluginKind {
             PluginKind::Nit => "nit",
             PluginKind::Zap => "zap",
             PluginKind::Svremove => "svremove",
+            PluginKind::Analyze => "analyze",
+            PluginKind::Tables => "tables",
         }
     }
 
@@ -146,6 +156,8 @@ impl PluginKind {
             PluginKind::Nit => nit_command(alloc),
             PluginKind::Zap => zap_command(alloc),
             PluginKind::Svremove => svremove_command(alloc),
+            PluginKind::Analyze => analyze_command(alloc),
+            PluginKind::Tables => tables_command(alloc),
         }
     }
 
@@ -172,6 +184,8 @@ impl PluginKind {
             PluginKind::Nit => nit_settings(alloc, found).map(PluginConf::Nit),
             PluginKind::Zap => zap_settings(found).map(PluginConf::Zap),
             PluginKind::Svremove => svremove_settings(found).map(PluginConf::Svremove),
+            PluginKind::Analyze => analyze_settings(alloc, found).map(PluginConf::Analyze),
+            PluginKind::Tables => tables_settings(alloc, found).map(PluginConf::Tables),
         }
     }
 
@@ -247,6 +261,8 @@ impl PluginConf {
             PluginConf::Nit(_) => PluginKind::Nit,
             PluginConf::Zap(_) => PluginKind::Zap,
             PluginConf::Svremove(_) => PluginKind::Svremove,
+            PluginConf::Analyze(_) => PluginKind::Analyze,
+            PluginConf::Tables(_) => PluginKind::Tables,
         }
     }
 

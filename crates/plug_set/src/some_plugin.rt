@@ -2,6 +2,7 @@ ghost use Rattle.std.specs.Prelude.{◌≡◌, IfOk, []};
 ghost use Rattle.plug_set.specs.Plugins.{rule_of, steady_of};
 
 use crate::plugin_conf::PluginConf;
+use plug_analyze::Analyze;
 use plug_edit::{
     CatEdit, EditCat, EditNit, EditPat, EditPid, EditPmt, EditSdt, NitEdit, PatEdit, PmtEdit,
     SdtEdit,
@@ -10,6 +11,7 @@ use plug_end::Until;
 use plug_move::Remap;
 use plug_pass::{Filter, Pattern, Skip, Slice};
 use plug_service::{Svremove, Zap};
+use plug_tables::Tables;
 use plug_watch::{Continuity, Count};
 use plugin_trait::{Applied, Line, Outcome, Plugin};
 use std::alloc::{AllocError, Global};
@@ -33,6 +35,8 @@ pub(crate) enum SomePlugin {
     Nit(EditNit),
     Zap(Zap),
     Svremove(Svremove),
+    Analyze(Analyze),
+    Tables(Tables),
 }
 
 impl SomePlugin {
@@ -68,13 +72,15 @@ impl SomePlugin {
             PluginConf::Nit(conf) => SomePlugin::Nit(EditNit::new(alloc, conf, buffer)?),
             PluginConf::Zap(conf) => SomePlugin::Zap(Zap::new(alloc, conf, buffer)?),
             PluginConf::Svremove(conf) => SomePlugin::Svremove(Svremove::new(alloc, conf, buffer)?),
+            PluginConf::Analyze(conf) => SomePlugin::Analyze(Analyze::new(alloc, conf, buffer)?),
+            PluginConf::Tables(conf) => SomePlugin::Tables(Tables::new(alloc, conf, buffer)?),
         })
     }
 }
 
 impl Plugin for SomePlugin {
     ghost use Rattle.std.specs.Prelude.{refl};
-    ghost use Rattle.plug_set.specs.declared.some_plugin.SomePlugin.TheVariants.{Filter as MadeFilter, Skip as MadeSkip, Slice as MadeSlice, Pattern as MadePattern, Until as MadeUntil, Count as MadeCount, Continuity as MadeContinuity, Remap as MadeRemap, Pat as MadePat, Cat as MadeCat, Pmt as MadePmt, Sdt as MadeSdt, Nit as MadeNit, Zap as MadeZap, Svremove as MadeSvremove};
+    ghost use Rattle.plug_set.specs.declared.some_plugin.SomePlugin.TheVariants.{Filter as MadeFilter, Skip as MadeSkip, Slice as MadeSlice, Pattern as MadePattern, Until as MadeUntil, Count as MadeCount, Continuity as MadeContinuity, Remap as MadeRemap, Pat as MadePat, Cat as MadeCat, Pmt as MadePmt, Sdt as MadeSdt, Nit as MadeNit, Zap as MadeZap, Svremove as MadeSvremove, Analyze as MadeAnalyze, Tables as MadeTables};
 
     ghost rule = { elim [
       | MadeFilter p ↦ ⟦<Filter as Plugin>⟧.rule p
@@ -92,6 +98,8 @@ impl Plugin for SomePlugin {
       | MadeNit p ↦ ⟦<EditPid<NitEdit> as Plugin>⟧.rule p
       | MadeZap p ↦ ⟦<Zap as Plugin>⟧.rule p
       | MadeSvremove p ↦ ⟦<Svremove as Plugin>⟧.rule p
+      | MadeAnalyze p ↦ ⟦<Analyze as Plugin>⟧.rule p
+      | MadeTables p ↦ ⟦<Tables as Plugin>⟧.rule p
     ] };
 
     ghost stands_for = { elim [
@@ -110,6 +118,8 @@ impl Plugin for SomePlugin {
       | MadeNit p ↦ ⟦<EditPid<NitEdit> as Plugin>⟧.stands_for p
       | MadeZap p ↦ ⟦<Zap as Plugin>⟧.stands_for p
       | MadeSvremove p ↦ ⟦<Svremove as Plugin>⟧.stands_for p
+      | MadeAnalyze p ↦ ⟦<Analyze as Plugin>⟧.stands_for p
+      | MadeTables p ↦ ⟦<Tables as Plugin>⟧.stands_for p
     ] };
 
     ghost steady = { elim [
@@ -128,6 +138,8 @@ impl Plugin for SomePlugin {
       | MadeNit p ↦ ⟦<EditPid<NitEdit> as Plugin>⟧.steady p
       | MadeZap p ↦ ⟦<Zap as Plugin>⟧.steady p
       | MadeSvremove p ↦ ⟦<Svremove as Plugin>⟧.steady p
+      | MadeAnalyze p ↦ ⟦<Analyze as Plugin>⟧.steady p
+      | MadeTables p ↦ ⟦<Tables as Plugin>⟧.steady p
     ] };
 
     fn step(&mut self, at: u64, cell: &mut Cell) -> Outcome {
@@ -147,6 +159,8 @@ impl Plugin for SomePlugin {
             SomePlugin::Nit(plugin) => plugin.step(at, cell),
             SomePlugin::Zap(plugin) => plugin.step(at, cell),
             SomePlugin::Svremove(plugin) => plugin.step(at, cell),
+            SomePlugin::Analyze(plugin) => plugin.step(at, cell),
+            SomePlugin::Tables(plugin) => plugin.step(at, cell),
         }
     }
 
@@ -167,6 +181,8 @@ impl Plugin for SomePlugin {
             SomePlugin::Nit(plugin) => plugin.steps(at, cells, noted),
             SomePlugin::Zap(plugin) => plugin.steps(at, cells, noted),
             SomePlugin::Svremove(plugin) => plugin.steps(at, cells, noted),
+            SomePlugin::Analyze(plugin) => plugin.steps(at, cells, noted),
+            SomePlugin::Tables(plugin) => plugin.steps(at, cells, noted),
         }
     }
 
@@ -187,6 +203,8 @@ impl Plugin for SomePlugin {
             SomePlugin::Nit(plugin) => plugin.note(written),
             SomePlugin::Zap(plugin) => plugin.note(written),
             SomePlugin::Svremove(plugin) => plugin.note(written),
+            SomePlugin::Analyze(plugin) => plugin.note(written),
+            SomePlugin::Tables(plugin) => plugin.note(written),
         }
     }
 
@@ -207,6 +225,8 @@ impl Plugin for SomePlugin {
             SomePlugin::Nit(plugin) => plugin.agreed(),
             SomePlugin::Zap(plugin) => plugin.agreed(),
             SomePlugin::Svremove(plugin) => plugin.agreed(),
+            SomePlugin::Analyze(plugin) => plugin.agreed(),
+            SomePlugin::Tables(plugin) => plugin.agreed(),
         }
     }
 
@@ -227,6 +247,8 @@ impl Plugin for SomePlugin {
             SomePlugin::Nit(plugin) => plugin.finish(cut),
             SomePlugin::Zap(plugin) => plugin.finish(cut),
             SomePlugin::Svremove(plugin) => plugin.finish(cut),
+            SomePlugin::Analyze(plugin) => plugin.finish(cut),
+            SomePlugin::Tables(plugin) => plugin.finish(cut),
         }
     }
 
@@ -246,5 +268,7 @@ impl Plugin for SomePlugin {
       | MadeNit p ↦ λ history mark stands. refl
       | MadeZap p ↦ λ history mark stands. refl
       | MadeSvremove p ↦ λ history mark stands. refl
+      | MadeAnalyze p ↦ λ history mark stands. refl
+      | MadeTables p ↦ λ history mark stands. refl
     ] };
 }

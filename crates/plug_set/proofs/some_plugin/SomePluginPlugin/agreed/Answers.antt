@@ -42,3 +42,9 @@ returns-in-Zap c = rw c.in-Zap.is c.agreed-in-Zap.ensures
 
 pub returns-in-Svremove : goal.returns-in-Svremove
 returns-in-Svremove c = rw c.in-Svremove.is c.agreed-in-Svremove.ensures
+
+pub returns-in-Analyze : goal.returns-in-Analyze
+returns-in-Analyze c = rw c.in-Analyze.is c.agreed-in-Analyze.ensures
+
+pub returns-in-Tables : goal.returns-in-Tables
+returns-in-Tables c = rw c.in-Tables.is c.agreed-in-Tables.ensures

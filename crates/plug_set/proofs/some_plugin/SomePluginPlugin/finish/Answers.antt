@@ -27,3 +27,9 @@ returns-in-Zap c = rw c.in-Zap.is c.finish-in-Zap.ensures
 
 pub returns-in-Svremove : goal.returns-in-Svremove
 returns-in-Svremove c = rw c.in-Svremove.is c.finish-in-Svremove.ensures
+
+pub returns-in-Analyze : goal.returns-in-Analyze
+returns-in-Analyze c = rw c.in-Analyze.is c.finish-in-Analyze.ensures
+
+pub returns-in-Tables : goal.returns-in-Tables
+returns-in-Tables c = rw c.in-Tables.is c.finish-in-Tables.ensures

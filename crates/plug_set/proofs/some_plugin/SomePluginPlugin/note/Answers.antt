@@ -24,3 +24,9 @@ returns-in-Zap-clause-notes c = rw c.in-Zap.is c.note-in-Zap.ensures.notes
 
 pub returns-in-Svremove-clause-notes : goal.returns-in-Svremove-clause-notes
 returns-in-Svremove-clause-notes c = rw c.in-Svremove.is c.note-in-Svremove.ensures.notes
+
+pub returns-in-Analyze-clause-notes : goal.returns-in-Analyze-clause-notes
+returns-in-Analyze-clause-notes c = rw c.in-Analyze.is c.note-in-Analyze.ensures.notes
+
+pub returns-in-Tables-clause-notes : goal.returns-in-Tables-clause-notes
+returns-in-Tables-clause-notes c = rw c.in-Tables.is c.note-in-Tables.ensures.notes

@@ -78,3 +78,15 @@ returns-in-Svremove-clause-tells c = rw c.in-Svremove.is c.step-in-Svremove.ensu
 
 pub returns-in-Svremove-clause-meets : goal.returns-in-Svremove-clause-meets
 returns-in-Svremove-clause-meets c = rw c.in-Svremove.is c.step-in-Svremove.ensures.meets
+
+pub returns-in-Analyze-clause-tells : goal.returns-in-Analyze-clause-tells
+returns-in-Analyze-clause-tells c = rw c.in-Analyze.is c.step-in-Analyze.ensures.tells
+
+pub returns-in-Analyze-clause-meets : goal.returns-in-Analyze-clause-meets
+returns-in-Analyze-clause-meets c = rw c.in-Analyze.is c.step-in-Analyze.ensures.meets
+
+pub returns-in-Tables-clause-tells : goal.returns-in-Tables-clause-tells
+returns-in-Tables-clause-tells c = rw c.in-Tables.is c.step-in-Tables.ensures.tells
+
+pub returns-in-Tables-clause-meets : goal.returns-in-Tables-clause-meets
+returns-in-Tables-clause-meets c = rw c.in-Tables.is c.step-in-Tables.ensures.meets

@@ -159,3 +159,27 @@ returns-in-Svremove-clause-far c = rw c.in-Svremove.is c.steps-in-Svremove.ensur
 
 pub returns-in-Svremove-clause-met : goal.returns-in-Svremove-clause-met
 returns-in-Svremove-clause-met c = rw c.in-Svremove.is c.steps-in-Svremove.ensures.met
+
+pub returns-in-Analyze-clause-makes : goal.returns-in-Analyze-clause-makes
+returns-in-Analyze-clause-makes c = rw c.in-Analyze.is c.steps-in-Analyze.ensures.makes
+
+pub returns-in-Analyze-clause-agreed : goal.returns-in-Analyze-clause-agreed
+returns-in-Analyze-clause-agreed c = rw c.in-Analyze.is c.steps-in-Analyze.ensures.agreed
+
+pub returns-in-Analyze-clause-far : goal.returns-in-Analyze-clause-far
+returns-in-Analyze-clause-far c = rw c.in-Analyze.is c.steps-in-Analyze.ensures.far
+
+pub returns-in-Analyze-clause-met : goal.returns-in-Analyze-clause-met
+returns-in-Analyze-clause-met c = rw c.in-Analyze.is c.steps-in-Analyze.ensures.met
+
+pub returns-in-Tables-clause-makes : goal.returns-in-Tables-clause-makes
+returns-in-Tables-clause-makes c = rw c.in-Tables.is c.steps-in-Tables.ensures.makes
+
+pub returns-in-Tables-clause-agreed : goal.returns-in-Tables-clause-agreed
+returns-in-Tables-clause-agreed c = rw c.in-Tables.is c.steps-in-Tables.ensures.agreed
+
+pub returns-in-Tables-clause-far : goal.returns-in-Tables-clause-far
+returns-in-Tables-clause-far c = rw c.in-Tables.is c.steps-in-Tables.ensures.far
+
+pub returns-in-Tables-clause-met : goal.returns-in-Tables-clause-met
+returns-in-Tables-clause-met c = rw c.in-Tables.is c.steps-in-Tables.ensures.met

@@ -1,0 +1,7 @@
+pub mod CountersLemmas
+pub mod NotesLemmas
+pub mod NotesKeeping
+pub mod ServicesKeeping
+pub mod SummaryLemmas
+pub mod Analyzing
+mod Rows

@@ -1,0 +1,37 @@
+-- What `analyze` notes of a packet. This project's own rule.
+use Rattle.std.specs.Prelude.{ℕ, List, [], ◌∷◌, length, Bool, true, false}
+use Rattle.ts_packet.specs.declared.cell.Cell.{Cell}
+use Rattle.ts_packet.specs.Header.{pid_of, has_payload_of}
+use Rattle.plug_watch.specs.declared.continuity_error.ContinuityError.{ContinuityError}
+use Rattle.plug_watch.specs.ContinuityErrors.{error_on}
+use Rattle.plug_watch.specs.Notes.{notes_after}
+use Rattle.plug_analyze.specs.AnalyzeRule.{all_pids, has_pcr, is_scrambled}
+use Rattle.plug_analyze.specs.declared.note.Note.{Note}
+
+-- there is a fault
+abbrev pub is_any : List ContinuityError → Bool
+is_any [] = false
+is_any (error ∷ errors) = true
+
+-- the counter of a packet behind a history is a fault
+abbrev pub is_fault_at : List Cell → List ℕ → Bool
+is_fault_at history packet = is_any (error_on all_pids history packet)
+
+-- the note of a packet behind a history
+abbrev pub noted : List Cell → List ℕ → Note
+noted history packet = record {
+  at = length history;
+  pid = pid_of packet;
+  has_payload = has_payload_of packet;
+  is_scrambled = is_scrambled packet;
+  is_fault = is_fault_at history packet;
+  has_pcr = has_pcr packet;
+}
+
+-- each packet has one
+abbrev pub note_on : List Cell → List ℕ → List Note
+note_on history packet = noted history packet ∷ []
+
+-- the notes of a list of cells
+abbrev pub notes_in : List Cell → List Note
+notes_in cells = notes_after note_on [] cells

@@ -1,0 +1,17 @@
+-- When a value of `analyze` stands for the cells that it met. This project's own rule.
+use Rattle.std.specs.Prelude.{Bool, ℕ, List}
+use Rattle.ts_packet.specs.declared.cell.Cell.{Cell}
+use Rattle.plug_analyze.specs.AnalyzeState.{Analyzes, AnalyzesSome}
+use Rattle.plug_analyze.specs.declared.analyze.Analyze.{Analyze}
+
+-- whether memory was wanting
+abbrev pub has_failed : Analyze → Bool
+has_failed s = s.failed
+
+-- its parts stand for the cells and the greatest mark
+abbrev pub StandsFor : Analyze → List Cell → ℕ → Type 0
+StandsFor s history mark = Analyzes s.counters s.noted s.services history mark
+
+-- they stand for some list of just so many cells
+abbrev pub StandsForSome : Analyze → ℕ → Type 0
+StandsForSome s at = AnalyzesSome s.counters s.noted s.services at

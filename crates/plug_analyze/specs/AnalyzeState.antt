@@ -1,0 +1,32 @@
+-- What a value of `analyze` keeps. This project's own rule.
+use Rattle.std.specs.Prelude.{◌≡◌, ◌≤◌, ℕ, List, length}
+use Rattle.ts_packet.specs.declared.cell.Cell.{Cell}
+use Rattle.ts_packet.specs.Cells.{live_packets}
+use Rattle.chain_model.specs.declared.positions.TheConstants.{POSITION_LIMIT}
+use Rattle.plug_psi.specs.ForceStands as forcing
+use Rattle.plug_analyze.specs.CountersSeen.{IsSeen}
+use Rattle.plug_analyze.specs.NotesKept.{KeepsNotes}
+use Rattle.plug_analyze.specs.ServicesKept.{KeepsServices}
+use Rattle.plug_analyze.specs.declared.counters.Counters.{Counters}
+use Rattle.plug_analyze.specs.declared.noted.Noted.{Noted}
+use Rattle.plug_analyze.specs.declared.services.Services.{Services}
+
+-- the tables in force are those of the history, and the services those of each position from the mark on
+pub record Serves (services : Services) (history : List Cell) (mark : ℕ) : Type 0 where
+  pub fed : forcing.StandsFor services.force (live_packets history)
+  pub kept : KeepsServices services.services.items services.changes.items history mark
+
+-- the parts stand for the cells that were met, and for the greatest mark
+pub record Analyzes (counters : Counters) (noted : Noted) (services : Services) (history : List Cell) (mark : ℕ) : Type 0 where
+  pub seen : IsSeen counters.seen.items history
+  pub notes : KeepsNotes noted.totals noted.notes.items history mark
+  pub serves : Serves services history mark
+  pub marked : mark ≤ length history
+  pub short : length history ≤ POSITION_LIMIT
+
+-- they stand for some list of just so many cells
+pub record AnalyzesSome (counters : Counters) (noted : Noted) (services : Services) (at : ℕ) : Type 0 where
+  pub history : List Cell
+  pub mark : ℕ
+  pub stands : Analyzes counters noted services history mark
+  pub count : length history ≡ at

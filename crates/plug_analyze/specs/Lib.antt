@@ -1,0 +1,10 @@
+pub mod AnalyzeRule
+pub mod AnalyzeNotes
+pub mod AnalyzeSettings
+pub mod AnalyzeState
+pub mod AnalyzeStands
+pub mod AnalyzeWords
+pub mod CountersSeen
+pub mod NotesKept
+pub mod ServicesKept
+pub mod TotalsOf

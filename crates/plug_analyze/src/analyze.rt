@@ -1,0 +1,146 @@
+ghost use Rattle.std.specs.Prelude.{◌≡◌, IfOk, [], None};
+ghost use Rattle.plug_analyze.specs.AnalyzeRule.{analyze_rule};
+
+use crate::analyze_conf::AnalyzeConf;
+use crate::counters::Counters;
+use crate::note::Note;
+use crate::noted::Noted;
+use crate::services::Services;
+use crate::summary::push_summary;
+use plugin_trait::{Line, Outcome, Plugin};
+use std::alloc::{AllocError, Global};
+use ts_packet::{Cell, Packet};
+
+/// Tells what the packets were, by PID, and which services were in force.
+///
+/// A step may want memory, and then every later step does, and nothing is told.
+#[derive(Drop)]
+pub struct Analyze {
+    counters: Counters,
+    noted: Noted,
+    services: Services,
+    failed: bool,
+    alloc: Global,
+}
+
+impl Analyze {
+    ghost use Rattle.std.specs.Prelude.{◌≡◌, ◌<◌, ◌∷◌, ◌++◌, IfOk, OnOk, OnErr, IsErr, [], None, ℕ, List, length, true, false};
+    ghost use Rattle.ts_packet.specs.declared.cell.Cell.{Cell as GivenCell};
+    ghost use Rattle.ts_packet.specs.declared.cell.Cell.TheVariants.{Live};
+    ghost use Rattle.chain_model.specs.declared.positions.TheConstants.{POSITION_LIMIT};
+    ghost use Rattle.plug_analyze.specs.AnalyzeRule.{analyze_rule};
+    ghost use Rattle.plug_analyze.specs.AnalyzeSettings.{IsLawfulAnalyze};
+    ghost use Rattle.plug_analyze.specs.AnalyzeStands.{StandsFor, StandsForSome, has_failed};
+
+    /// A plugin that met no cell yet. It takes room for its tables, and for notes on as many packets as the buffer
+    /// holds; the tables in force grow with the stream.
+    pub fn new(alloc: Global, _conf: &AnalyzeConf, buffer: usize) -> Result<Analyze, AllocError>
+        requires { IsLawfulAnalyze _conf.now }
+        ensures rule { IfOk result (λ plugin. ⟦<Analyze as Plugin>⟧.rule plugin ≡ analyze_rule) }
+        ensures fresh { IfOk result (λ plugin. ⟦<Analyze as Plugin>⟧.stands_for plugin [] 0) }
+        ensures steady { IfOk result (λ plugin. ⟦<Analyze as Plugin>⟧.steady plugin ≡ None) }
+    {
+        Ok(Analyze {
+            counters: Counters::new(alloc)?,
+            noted: Noted::new(alloc, buffer)?,
+            services: Services::new(alloc)?,
+            failed: false,
+            alloc,
+        })
+    }
+
+    // Meets the packet at a position, as long as memory was there.
+    fn meet(&mut self, at: u64, packet: &Packet) -> Result<(), AllocError>
+        requires met { has_failed self.old ≡ false → StandsForSome self.old at }
+        requires in_range { at < POSITION_LIMIT }
+        ensures met { OnOk result ((history : List GivenCell) (mark : ℕ) → StandsFor self.old history mark → length history ≡ at → (labels : ℕ)
+            → StandsFor self.new (history ++ Live packet.now labels ∷ []) mark) }
+        ensures spent { OnErr result (has_failed self.new ≡ true) }
+        ensures stays_spent { has_failed self.old ≡ true → IsErr result }
+    {
+        if self.failed {
+            return Err(AllocError);
+        }
+        match self.take(at, packet) {
+            Ok(()) => Ok(()),
+            Err(error) => {
+                self.failed = true;
+                Err(error)
+            }
+        }
+    }
+
+    // Notes the packet at a position.
+    fn take(&mut self, at: u64, packet: &Packet) -> Result<(), AllocError>
+        requires met { StandsForSome self.old at }
+        requires in_range { at < POSITION_LIMIT }
+        ensures { OnOk result ((history : List GivenCell) (mark : ℕ) → StandsFor self.old history mark → length history ≡ at → (labels : ℕ)
+            → StandsFor self.new (history ++ Live packet.now labels ∷ []) mark) }
+    {
+        self.services.meet(at, packet)?;
+        let note = Note {
+            at,
+            pid: packet.pid(),
+            has_payload: packet.has_payload(),
+            is_scrambled: packet.scrambling() != 0,
+            is_fault: self.counters.meet(packet),
+            has_pcr: packet.pcr().is_some(),
+        };
+        self.noted.push(note)?;
+        Ok(())
+    }
+}
+
+impl Plugin for Analyze {
+    ghost use Rattle.std.specs.Prelude.{◌≡◌, ◌≤◌, length, false, None, refl};
+    ghost use Rattle.plug_analyze.specs.AnalyzeRule.{analyze_rule};
+    ghost use Rattle.plug_analyze.specs.AnalyzeStands.{StandsFor, has_failed};
+
+    ghost rule = { λ s. analyze_rule };
+
+    ghost stands_for = { λ s history mark. (has_failed s ≡ false → StandsFor s history mark) × (mark ≤ length history) };
+
+    ghost steady = { λ s. None };
+
+    #[inline]
+    fn step(&mut self, at: u64, cell: &mut Cell) -> Outcome {
+        let Cell::Live(packet, _) = cell else {
+            return Outcome::Pass;
+        };
+        match self.meet(at, packet) {
+            Ok(()) => Outcome::Pass,
+            Err(_) => Outcome::NoMemory,
+        }
+    }
+
+    fn note(&mut self, written: u64) -> Result<(), AllocError> {
+        if self.failed {
+            return Ok(());
+        }
+        self.noted.fold_below(written);
+        self.services.fold_below(written);
+        Ok(())
+    }
+
+    fn agreed(&self) -> bool {
+        false
+    }
+
+    fn finish(&mut self, cut: u64) -> Result<Vec<Line>, AllocError> {
+        if self.failed {
+            return Err(AllocError);
+        }
+        self.noted.fold_below(cut);
+        self.services.fold_below(cut);
+        let mut lines = Vec::new(self.alloc);
+        push_summary(
+            &mut lines,
+            cut,
+            self.noted.totals(),
+            self.services.as_slice(),
+        )?;
+        Ok(lines)
+    }
+
+    ghost starts_open = { λ plugin history mark stands. refl };
+}

@@ -1,0 +1,3 @@
+/// Settings of `analyze`, which has none.
+#[derive(Drop, Debug)]
+pub struct AnalyzeConf {}

@@ -1,0 +1,16 @@
+/// What is kept of a packet for as long as it may still stand behind the cut.
+#[derive(Debug, Clone, Copy, PartialEq, Eq)]
+pub struct Note {
+    /// The position of the packet.
+    pub at: u64,
+    /// Its PID.
+    pub pid: u16,
+    /// It has a payload.
+    pub has_payload: bool,
+    /// It is scrambled.
+    pub is_scrambled: bool,
+    /// Its continuity counter is a fault.
+    pub is_fault: bool,
+    /// It has a PCR.
+    pub has_pcr: bool,
+}

@@ -1,0 +1,64 @@
+ghost use Rattle.std.specs.Prelude.{◌≡◌, ◌<◌, ◌++◌, ◌∷◌, [], ℕ, List, IfOk, length, slice_index, if◌then◌else◌};
+ghost use Rattle.plug_watch.specs.Tallies.{IsTally, HasRoomFor};
+
+use std::alloc::{AllocError, Global};
+use ts_packet::PID_COUNT;
+
+/// How many packets were counted on each PID, and in all.
+#[derive(Drop, Debug)]
+pub struct PidTally {
+    counts: Vec<u64>,
+    total: u64,
+}
+
+impl PidTally {
+    /// Nothing counted yet. It takes 64 KiB.
+    pub fn new(alloc: Global) -> Result<PidTally, AllocError>
+        ensures { IfOk result (λ tally. IsTally tally.counts.items tally.total []) }
+    {
+        let mut counts = Vec::with_capacity(alloc, usize::from(PID_COUNT))?;
+        for _ in 0..PID_COUNT {
+            counts.push(0)?;
+        }
+        Ok(PidTally { counts, total: 0 })
+    }
+
+    /// Counts one packet more on a PID.
+    fn add(&mut self, pid: u16)
+        requires on_pid { pid < PID_COUNT }
+        requires room { HasRoomFor self.old.counts.items self.old.total }
+        ensures { (pids : List ℕ) → IsTally self.old.counts.items self.old.total pids
+            → IsTally self.new.counts.items self.new.total (pids ++ pid ∷ []) }
+    {
+        self.counts[usize::from(pid)] += 1;
+        self.total += 1;
+    }
+
+    /// Counts one packet more on a PID, if it is one of those that are counted.
+    pub fn add_if(&mut self, is_one: bool, pid: u16)
+        requires on_pid { pid < PID_COUNT }
+        requires room { HasRoomFor self.old.counts.items self.old.total }
+        ensures { (pids : List ℕ) → IsTally self.old.counts.items self.old.total pids
+            → IsTally self.new.counts.items self.new.total (pids ++ (if is_one then pid ∷ [] else [])) }
+    {
+        if is_one {
+            self.add(pid);
+        }
+    }
+
+    /// How many packets were counted on a PID.
+    pub fn count_on(&self, pid: u16) -> u64
+        requires on_pid { pid < PID_COUNT }
+        requires whole { length self.now.counts.items ≡ PID_COUNT }
+        ensures { result ≡ slice_index self.now.counts.items pid }
+    {
+        self.counts[usize::from(pid)]
+    }
+
+    /// How many packets were counted in all.
+    pub fn total(&self) -> u64
+        ensures { result ≡ self.now.total }
+    {
+        self.total
+    }
+}

@@ -1,0 +1,127 @@
+//! The services in force.
+ghost use Rattle.std.specs.Prelude.{◌≡◌, ◌≤◌, ◌<◌, ◌∷◌, ℕ, List, IfOk, IfSome, IfNone, OnOk, [], length, Some, option_map};
+ghost use Rattle.plug_psi.specs.ForceStands.{StandsFor as IsFed};
+ghost use Rattle.plug_psi.specs.InForce.{pmt_of, service_in};
+ghost use Rattle.ts_psi.specs.PatTables.{service_item};
+ghost use Rattle.plug_analyze.specs.AnalyzeRule.{components_in, services_in_force, service_with};
+ghost use Rattle.plug_analyze.specs.ServicesKept.{StartsFrom};
+
+use crate::change::Change;
+use crate::service_count::ServiceCount;
+use plug_psi::InForce;
+use std::alloc::{AllocError, Global};
+use std::collections::VecDeque;
+use ts_packet::Packet;
+use ts_psi::PatService;
+
+/// The tables in force, and the services at each position that may be the cut.
+#[derive(Drop)]
+pub struct Services {
+    force: InForce,
+    /// The services in force at the greatest mark.
+    services: Vec<ServiceCount>,
+    /// Those that came into force behind it.
+    changes: VecDeque<Change>,
+    alloc: Global,
+}
+
+impl Services {
+    ghost use Rattle.std.specs.Prelude.{◌≡◌, ◌∷◌, ◌++◌, [], ℕ, List, IfOk, OnOk, length};
+    ghost use Rattle.ts_packet.specs.declared.cell.Cell.{Cell as GivenCell};
+    ghost use Rattle.ts_packet.specs.declared.cell.Cell.TheVariants.{Live};
+    ghost use Rattle.plug_analyze.specs.AnalyzeState.{Serves};
+    ghost use Rattle.plug_analyze.specs.ServicesKept.{DropsChanges};
+
+    /// Nothing is in force before a packet was met.
+    pub fn new(alloc: Global) -> Result<Services, AllocError>
+        ensures { IfOk result (λ services. Serves services [] 0) }
+    {
+        let force = InForce::new(alloc)?;
+        let services = services_of(alloc, &force)?;
+        Ok(Services {
+            force,
+            services,
+            changes: VecDeque::new(alloc),
+            alloc,
+        })
+    }
+
+    /// Meets the packet at a position, and notes the services in force with it, where they may have changed. After
+    /// `AllocError` no more is to be asked.
+    pub fn meet(&mut self, at: u64, packet: &Packet) -> Result<(), AllocError>
+        ensures { OnOk result ((history : List GivenCell) (mark : ℕ) → Serves self.old history mark → length history ≡ at → (labels : ℕ)
+            → Serves self.new (history ++ Live packet.now labels ∷ []) mark) }
+    {
+        if !self.force.update(packet)? {
+            return Ok(());
+        }
+        let services = services_of(self.alloc, &self.force)?;
+        self.changes.push_back(Change { at, services })?;
+        Ok(())
+    }
+
+    /// Takes the changes below a position off.
+    pub fn fold_below(&mut self, mark: u64)
+        ensures folds { DropsChanges mark self.old.services.items self.new.services.items self.old.changes.items self.new.changes.items }
+        ensures force { self.new.force ≡ self.old.force }
+    {
+        while let Some(change) = pop_below(&mut self.changes, mark) {
+            self.services = change.services;
+        }
+    }
+
+    /// The services in force at the greatest mark.
+    pub fn as_slice(&self) -> &[ServiceCount]
+        ensures { result.now ≡ self.now.services.items }
+    {
+        self.services.as_slice()
+    }
+}
+
+// Takes the first change off, where it is below a position.
+fn pop_below(changes: &mut VecDeque<Change>, mark: u64) -> Option<Change>
+    ensures taken { IfSome result (λ change. (changes.old.items ≡ change ∷ changes.new.items) × (change.at < mark)) }
+    ensures left { IfNone result ((changes.new.items ≡ changes.old.items) × StartsFrom mark changes.old.items) }
+{
+    if changes.front()?.at >= mark {
+        return None;
+    }
+    changes.pop_front()
+}
+
+// The services of the PAT in force, in its order.
+fn services_of(alloc: Global, force: &InForce) -> Result<Vec<ServiceCount>, AllocError>
+    ensures { IfOk result (λ services. (fed : List (List ℕ)) → IsFed force.now fed → services.items ≡ services_in_force fed) }
+{
+    let mut services = Vec::new(alloc);
+    let Some(pat) = force.pat() else {
+        return Ok(services);
+    };
+    let entries = pat.services.as_slice();
+    for service in entries {
+        services.push(service_count(force, service))?;
+    }
+    Ok(services)
+}
+
+// A service of the PAT in force.
+fn service_count(force: &InForce, service: &PatService) -> ServiceCount
+    ensures { (fed : List (List ℕ)) → IsFed force.now fed
+        → Some result ≡ option_map (service_with (λ id. pmt_of id fed)) (service_in (service_item service.now)) }
+{
+    ServiceCount {
+        id: service.service_id,
+        pid: service.pid,
+        components: components_of(force, service.service_id),
+    }
+}
+
+// How many components the PMT in force of a service has.
+fn components_of(force: &InForce, service: u16) -> u64
+    ensures { (fed : List (List ℕ)) → IsFed force.now fed → result ≡ components_in (pmt_of service fed) }
+{
+    match force.pmt(service) {
+        Some(pmt) => pmt.components.as_slice().len() as u64,
+        None => 0,
+    }
+}

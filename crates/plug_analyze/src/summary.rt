@@ -1,0 +1,113 @@
+//! The summary of what was met.
+ghost use Rattle.std.specs.Prelude.{◌≡◌, ◌<◌, ◌++◌, ◌∷◌, [], ℕ, List, IfOk, OnOk, length, map, if◌then◌else◌};
+ghost use Rattle.std.specs.List.{All};
+ghost use Rattle.ts_packet.specs.declared.cell.Cell.{Cell as GivenCell};
+ghost use Rattle.ts_packet.specs.Cells.{live_packets};
+ghost use Rattle.ts_packet.specs.Header.{pid_of};
+ghost use Rattle.plugin_trait.specs.PlacedLines.{placed_at};
+ghost use Rattle.plug_analyze.specs.AnalyzeRule.{head_lines, pid_text, counts_on, pids_with, service_text, services_in_force, summary_on};
+ghost use Rattle.plug_analyze.specs.TotalsOf.{AreCounted, AreWhole, IsCounted};
+
+use crate::lines::push_line;
+use crate::service_count::ServiceCount;
+use crate::totals::Totals;
+use plugin_trait::{Line, LineText};
+use std::alloc::{AllocError, Global};
+use ts_packet::{NULL_PID, PID_COUNT};
+
+/// Puts the summary behind other lines: the numbers of all packets, the PIDs, and the services in force.
+pub fn push_summary(
+    lines: &mut Vec<Line>,
+    cut: u64,
+    totals: &Totals,
+    services: &[ServiceCount],
+) -> Result<(), AllocError>
+    requires { AreWhole totals.now }
+    ensures { OnOk result ((cells : List GivenCell) → AreCounted totals.now cells → services.now ≡ services_in_force (live_packets cells)
+        → lines.new.items ≡ lines.old.items ++ placed_at cut (summary_on cells)) }
+{
+    let pids = pids_with_packets(*lines.allocator(), totals)?;
+    push_head(lines, cut, totals, pids.len())?;
+    push_pids(lines, cut, totals, &pids)?;
+    push_services(lines, cut, services)
+}
+
+// The PIDs that have packets, ascending.
+fn pids_with_packets(alloc: Global, totals: &Totals) -> Result<Vec<u16>, AllocError>
+    requires { length totals.now.packets.counts.items ≡ PID_COUNT }
+    ensures pids { IfOk result (λ pids. (packets : List (List ℕ)) → IsCounted totals.now.packets (map pid_of packets)
+        → pids.items ≡ pids_with packets) }
+    ensures range { IfOk result (λ pids. All (λ pid. pid < PID_COUNT) pids.items) }
+{
+    let mut pids = Vec::new(alloc);
+    for pid in 0..PID_COUNT {
+        push_if(&mut pids, totals.packets_on(pid) != 0, pid)?;
+    }
+    Ok(pids)
+}
+
+// Puts a PID behind others, if it is one of those that are wanted.
+fn push_if(pids: &mut Vec<u16>, is_one: bool, pid: u16) -> Result<(), AllocError>
+    ensures { OnOk result (pids.new.items ≡ pids.old.items ++ (if is_one then pid ∷ [] else [])) }
+{
+    if is_one {
+        pids.push(pid)?;
+    }
+    Ok(())
+}
+
+// Puts the numbers of all packets behind other lines.
+fn push_head(
+    lines: &mut Vec<Line>,
+    cut: u64,
+    totals: &Totals,
+    pids: usize,
+) -> Result<(), AllocError>
+    requires { length totals.now.packets.counts.items ≡ PID_COUNT }
+    ensures { OnOk result ((packets : List (List ℕ)) → IsCounted totals.now.packets (map pid_of packets) → pids ≡ length (pids_with packets)
+        → lines.new.items ≡ lines.old.items ++ placed_at cut (head_lines packets)) }
+{
+    let alloc = *lines.allocator();
+    let packets = format!(in alloc; "packets {}", totals.packets())?;
+    push_line(lines, cut, LineText::of(packets))?;
+    let pids = format!(in alloc; "pids {pids}")?;
+    push_line(lines, cut, LineText::of(pids))?;
+    let nulls = format!(in alloc; "nulls {}", totals.packets_on(NULL_PID))?;
+    push_line(lines, cut, LineText::of(nulls))
+}
+
+// Puts the lines of PIDs behind other lines.
+fn push_pids(
+    lines: &mut Vec<Line>,
+    cut: u64,
+    totals: &Totals,
+    pids: &[u16],
+) -> Result<(), AllocError>
+    requires range { All (λ pid. pid < PID_COUNT) pids.now }
+    requires whole { AreWhole totals.now }
+    ensures { OnOk result ((cells : List GivenCell) → AreCounted totals.now cells
+        → lines.new.items ≡ lines.old.items ++ placed_at cut (map (λ pid. pid_text pid (counts_on pid cells)) pids.now)) }
+{
+    let alloc = *lines.allocator();
+    for pid in pids {
+        let text = totals.counts_on(*pid).text(alloc, *pid)?;
+        push_line(lines, cut, text)?;
+    }
+    Ok(())
+}
+
+// Puts the lines of services behind other lines.
+fn push_services(
+    lines: &mut Vec<Line>,
+    cut: u64,
+    services: &[ServiceCount],
+) -> Result<(), AllocError>
+    ensures { OnOk result (lines.new.items ≡ lines.old.items ++ placed_at cut (map service_text services.now)) }
+{
+    let alloc = *lines.allocator();
+    for service in services {
+        let text = service.text(alloc)?;
+        push_line(lines, cut, text)?;
+    }
+    Ok(())
+}

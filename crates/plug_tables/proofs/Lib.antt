@@ -1,0 +1,4 @@
+pub mod ToldLemmas
+pub mod WatchedLemmas
+pub mod WatcherLemmas
+mod Rows

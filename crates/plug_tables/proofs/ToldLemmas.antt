@@ -1,0 +1,194 @@
+-- Lines of tables, one packet after another, and those below a position.
+use Rattle.std.proofs.Common.{◌≡◌, ℕ, suc, ◌+◌, ◌-◌, ◌<◌, ◌≤◌, List, [], ◌∷◌, ◌++◌, length, take, map, filter, ap, sym, subst, ◌∙◌, inl, inr, refl, Bool, true, false, nat_lt, if◌then◌else◌, append_assoc, append-nil, arith, length-append, get_or}
+use Rattle.std.specs.List.{take_while}
+use Rattle.std.proofs.Math.Seq.{take-nil}
+use Rattle.std.proofs.lemmas.Bool.{cases_lt}
+use Rattle.std.proofs.lemmas.Bool.Decides.{nat_tests}
+use Rattle.std.proofs.lemmas.Grind.{flat_map-append}
+use Rattle.std.proofs.lemmas.List.{map-append, take_more}
+use Rattle.std.proofs.lemmas.List.Elements.{filter-append}
+use Rattle.std.proofs.lemmas.List.Sums.{take_while-cons}
+use Rattle.ts_packet.specs.declared.cell.Cell.{Cell}
+use Rattle.ts_packet.specs.declared.cell.Cell.TheVariants.{Live, Dropped}
+use Rattle.ts_packet.specs.Cells.{live_packets, packet_in}
+use Rattle.ts_packet.specs.Header.{pid_of}
+use Rattle.chain_model.specs.PluginRule.{PluginRule}
+use Rattle.plugin_trait.specs.declared.line.Line.{Line}
+use Rattle.plugin_trait.specs.PlacedLines.{placed_after, placed_at, placed_of}
+use Rattle.plug_tables.specs.TablesRule.{is_told, rule_with, table_text, table_texts}
+use Rattle.plug_tables.specs.TablesState.{StartsFrom, TellsTables}
+use Rattle.plug_tables.specs.WatchedPackets.{Choice, tables_with}
+use Rattle.plug_tables.specs.WatchedState.{HasMet, choice_in}
+use Rattle.plug_tables.specs.declared.watched.Watched.{Watched}
+
+not_below : (m n : ℕ) → n ≤ m → nat_lt m n ≡ false
+not_below m n h = grind (arith, nat_tests)
+
+is_below : (m n : ℕ) → m < n → nat_lt m n ≡ true
+is_below m n h = grind (arith, nat_tests)
+
+placed_at-append : (at : ℕ) (xs ys : List (List ℕ)) → placed_at at (xs ++ ys) ≡ placed_at at xs ++ placed_at at ys
+placed_at-append at xs ys = map-append (λ (text : List ℕ). let line : Line = record { at = at; text = text } in line) xs ys
+
+-- the lines with those of one table more
+pub texts_more : (tids : List (ℕ × ℕ)) (at pid i : ℕ) (tables : List (List (List ℕ))) (table : List (List ℕ)) (before told told_new : List Line) → i < length tables
+    → table ≡ get_or tables i table
+    → told ≡ before ++ placed_at at (table_texts tids at pid (take i tables))
+    → told_new ≡ told ++ placed_at at (table_texts tids at pid (table ∷ []))
+    → told_new ≡ before ++ placed_at at (table_texts tids at pid (take (i + 1) tables))
+texts_more tids at pid i tables table before told told_new lt is so_far pushed =
+    let f : List (List (List ℕ)) → List (List ℕ) = table_texts tids at pid in
+    pushed
+    ∙ (ap (λ (ls : List Line). ls ++ placed_at at (f (table ∷ []))) so_far
+    ∙ (append_assoc before (placed_at at (f (take i tables))) (placed_at at (f (table ∷ [])))
+    ∙ ap (λ (ls : List Line). before ++ ls)
+    (sym (placed_at-append at (f (take i tables)) (f (table ∷ [])))
+    ∙ ap (placed_at at)
+    (sym (map-append (table_text at pid) (filter (is_told tids) (take i tables)) (filter (is_told tids) (table ∷ [])))
+    ∙ ap (map (table_text at pid))
+    (sym (filter-append (is_told tids) (take i tables) (table ∷ []))
+    ∙ ap (filter (is_told tids))
+    (ap (λ (t : List (List ℕ)). take i tables ++ t ∷ []) is ∙ sym (take_more tables i table lt)))))))
+
+-- a table that is told, and one that is not
+pub text_one : (tids : List (ℕ × ℕ)) (at pid : ℕ) (table : List (List ℕ)) (b : Bool) → is_told tids table ≡ b
+    → table_texts tids at pid (table ∷ []) ≡ (if b then table_text at pid table ∷ [] else [])
+text_one tids at pid table b e =
+    ap (λ (x : Bool). map (table_text at pid) (if x then table ∷ [] else [])) e ∙ pick b
+  where
+    pick : (x : Bool) → map (table_text at pid) (if x then table ∷ [] else []) ≡ (if x then table_text at pid table ∷ [] else [])
+    pick true = refl
+    pick false = refl
+
+-- the lines with one cell more
+placed_after-append : (rule : PluginRule) (history xs ys : List Cell) → placed_after rule history (xs ++ ys) ≡ placed_after rule history xs ++ placed_after rule (history ++ xs) ys
+placed_after-append rule history [] ys = ap (λ (h : List Cell). placed_after rule h ys) (sym (append-nil history))
+placed_after-append rule history (Live packet labels ∷ xs) ys =
+    ap (λ (ls : List Line). placed_at (length history) (rule.lines_of history packet labels) ++ ls) (placed_after-append rule (history ++ Live packet labels ∷ []) xs ys)
+    ∙ (sym (append_assoc (placed_at (length history) (rule.lines_of history packet labels)) (placed_after rule (history ++ Live packet labels ∷ []) xs) (placed_after rule ((history ++ Live packet labels ∷ []) ++ xs) ys))
+    ∙ ap (λ (h : List Cell). (placed_at (length history) (rule.lines_of history packet labels) ++ placed_after rule (history ++ Live packet labels ∷ []) xs) ++ placed_after rule h ys) (append_assoc history (Live packet labels ∷ []) xs))
+placed_after-append rule history (Dropped ∷ xs) ys =
+    placed_after-append rule (history ++ Dropped ∷ []) xs ys
+    ∙ ap (λ (h : List Cell). placed_after rule (history ++ Dropped ∷ []) xs ++ placed_after rule h ys) (append_assoc history (Dropped ∷ []) xs)
+
+live-live : (history : List Cell) (packet : List ℕ) (labels : ℕ) → live_packets (history ++ Live packet labels ∷ []) ≡ live_packets history ++ packet ∷ []
+live-live history packet labels = flat_map-append packet_in history (Live packet labels ∷ [])
+
+live-dropped : (history : List Cell) → live_packets (history ++ Dropped ∷ []) ≡ live_packets history
+live-dropped history = flat_map-append packet_in history (Dropped ∷ []) ∙ append-nil (live_packets history)
+
+-- a dropped cell
+pub tells_dropped : (watched : Watched) (tids : List (ℕ × ℕ)) (told : List Line) (history : List Cell) (mark : ℕ) → TellsTables watched tids told history mark
+    → TellsTables watched tids told (history ++ Dropped ∷ []) mark
+tells_dropped watched tids told history mark w = record {
+  met = subst (HasMet watched) (sym (live-dropped history)) w.met;
+  lines = w.lines ∙ sym (placed_after-append (rule_with (choice_in watched) tids) [] history (Dropped ∷ []) ∙ append-nil (placed_after (rule_with (choice_in watched) tids) [] history));
+  marked = omega (arith, w.marked, length-append history (Dropped ∷ []));
+}
+
+-- a packet
+pub tells_live : (watched watched_new : Watched) (tids : List (ℕ × ℕ)) (told told_new : List Line) (history : List Cell) (mark : ℕ) (packet : List ℕ) (labels at pid : ℕ) (tables : List (List (List ℕ)))
+    → TellsTables watched tids told history mark → HasMet watched_new (live_packets history ++ packet ∷ []) → choice_in watched_new ≡ choice_in watched
+    → at ≡ length history → pid ≡ pid_of packet → tables ≡ tables_with (choice_in watched) (live_packets history) packet
+    → told_new ≡ told ++ placed_at at (table_texts tids at pid tables)
+    → TellsTables watched_new tids told_new (history ++ Live packet labels ∷ []) mark
+tells_live watched watched_new tids told told_new history mark packet labels at pid tables w met same at_is pid_is tables_are pushed =
+    let rule : PluginRule = rule_with (choice_in watched) tids in
+    record {
+      met = subst (HasMet watched_new) (sym (live-live history packet labels)) met;
+      lines =
+          pushed
+          ∙ (ap (λ (ls : List Line). ls ++ placed_at at (table_texts tids at pid tables)) w.lines
+          ∙ (ap (λ (n : ℕ). placed_after rule [] history ++ placed_at n (table_texts tids n pid tables)) at_is
+          ∙ (ap (λ (n : ℕ). placed_after rule [] history ++ placed_at (length history) (table_texts tids (length history) n tables)) pid_is
+          ∙ (ap (λ (ts : List (List (List ℕ))). placed_after rule [] history ++ placed_at (length history) (table_texts tids (length history) (pid_of packet) ts)) tables_are
+          ∙ (ap (λ (ls : List Line). placed_after rule [] history ++ ls) (sym (append-nil (placed_at (length history) (rule.lines_of history packet labels))))
+          ∙ (sym (placed_after-append rule [] history (Live packet labels ∷ []))
+          ∙ ap (λ (c : Choice). placed_after (rule_with c tids) [] (history ++ Live packet labels ∷ [])) (sym same)))))));
+      marked = omega (arith, w.marked, length-append history (Live packet labels ∷ []));
+    }
+
+-- lines at a position that is below another are in front
+front_below : (cut at : ℕ) (texts : List (List ℕ)) (rest : List Line) → at < cut
+    → take_while (λ (l : Line). nat_lt l.at cut) (placed_at at texts ++ rest) ≡ placed_at at texts ++ take_while (λ (l : Line). nat_lt l.at cut) rest
+front_below cut at [] rest lt = refl
+front_below cut at (text ∷ texts) rest lt =
+    let line : Line = record { at = at; text = text } in
+    let test : Line → Bool = λ l. nat_lt l.at cut in
+    take_while-cons test line (placed_at at texts ++ rest)
+    ∙ (ap (λ (b : Bool). if b then line ∷ take_while test (placed_at at texts ++ rest) else []) (is_below at cut lt)
+    ∙ ap (λ (ls : List Line). line ∷ ls) (front_below cut at texts rest lt))
+
+front_late : (cut at : ℕ) (texts : List (List ℕ)) (rest : List Line) → cut ≤ at → take_while (λ (l : Line). nat_lt l.at cut) rest ≡ []
+    → take_while (λ (l : Line). nat_lt l.at cut) (placed_at at texts ++ rest) ≡ []
+front_late cut at [] rest le none = none
+front_late cut at (text ∷ texts) rest le none =
+    let line : Line = record { at = at; text = text } in
+    let test : Line → Bool = λ l. nat_lt l.at cut in
+    take_while-cons test line (placed_at at texts ++ rest)
+    ∙ ap (λ (b : Bool). if b then line ∷ take_while test (placed_at at texts ++ rest) else []) (not_below at cut le)
+
+-- behind a history that is long enough there is none
+placed_late : (rule : PluginRule) (cut : ℕ) (history cells : List Cell) → cut ≤ length history → take_while (λ (l : Line). nat_lt l.at cut) (placed_after rule history cells) ≡ []
+placed_late rule cut history [] le = refl
+placed_late rule cut history (Live packet labels ∷ cells) le =
+    front_late cut (length history) (rule.lines_of history packet labels) (placed_after rule (history ++ Live packet labels ∷ []) cells) le
+    (placed_late rule cut (history ++ Live packet labels ∷ []) cells (omega (arith, length-append history (Live packet labels ∷ []))))
+placed_late rule cut history (Dropped ∷ cells) le =
+    placed_late rule cut (history ++ Dropped ∷ []) cells (omega (arith, length-append history (Dropped ∷ [])))
+
+late_take : (rule : PluginRule) (cut : ℕ) (history cells : List Cell) → cut ≤ length history
+    → take_while (λ (l : Line). nat_lt l.at cut) (placed_after rule history cells) ≡ placed_after rule history (take (cut - length history) cells)
+late_take rule cut history cells late =
+    placed_late rule cut history cells late
+    ∙ ap (λ (k : ℕ). placed_after rule history (take k cells)) (let none : 0 ≡ cut - length history = omega arith in none)
+
+-- the lines below a position are those of the cells before it
+below_placed : (rule : PluginRule) (cut : ℕ) (history cells : List Cell)
+    → take_while (λ (l : Line). nat_lt l.at cut) (placed_after rule history cells) ≡ placed_after rule history (take (cut - length history) cells)
+below_placed rule cut history [] = ap (placed_after rule history) (sym (take-nil (cut - length history)))
+below_placed rule cut history (Live packet labels ∷ cells) =
+    elim (cases_lt (length history) cut) [
+      | inl below ↦
+          let next = history ++ Live packet labels ∷ [] in
+          let more : cut - length history ≡ suc (cut - length next) = omega (arith, length-append history (Live packet labels ∷ [])) in
+          front_below cut (length history) (rule.lines_of history packet labels) (placed_after rule next cells) below
+          ∙ (ap (λ (ls : List Line). placed_at (length history) (rule.lines_of history packet labels) ++ ls) (below_placed rule cut next cells)
+          ∙ ap (λ (k : ℕ). placed_after rule history (take k (Live packet labels ∷ cells))) (sym more))
+      | inr late ↦ late_take rule cut history (Live packet labels ∷ cells) late
+    ]
+below_placed rule cut history (Dropped ∷ cells) =
+    elim (cases_lt (length history) cut) [
+      | inl below ↦
+          let next = history ++ Dropped ∷ [] in
+          let more : cut - length history ≡ suc (cut - length next) = omega (arith, length-append history (Dropped ∷ [])) in
+          below_placed rule cut next cells
+          ∙ ap (λ (k : ℕ). placed_after rule history (take k (Dropped ∷ cells))) (sym more)
+      | inr late ↦ late_take rule cut history (Dropped ∷ cells) late
+    ]
+
+-- the report over the cells before a position
+pub report_is : (watched : Watched) (tids : List (ℕ × ℕ)) (told lines : List Line) (history : List Cell) (mark cut : ℕ) → TellsTables watched tids told history mark
+    → lines ≡ take_while (λ (l : Line). nat_lt l.at cut) told → lines ≡ placed_of (rule_with (choice_in watched) tids) (take cut history)
+report_is watched tids told lines history mark cut w is =
+    let rule : PluginRule = rule_with (choice_in watched) tids in
+    is
+    ∙ (ap (take_while (λ (l : Line). nat_lt l.at cut)) w.lines
+    ∙ (below_placed rule cut [] history
+    ∙ (ap (λ (k : ℕ). placed_after rule [] (take k history)) (let all : cut - 0 ≡ cut = omega arith in all)
+    ∙ sym (append-nil (placed_after rule [] (take cut history))))))
+
+-- one line below the position is taken off
+pub one_below : (cut : ℕ) (taken rest : List Line) (line : Line) → taken ≡ line ∷ rest → line.at < cut
+    → take_while (λ (l : Line). nat_lt l.at cut) taken ≡ line ∷ take_while (λ (l : Line). nat_lt l.at cut) rest
+one_below cut taken rest line is lt =
+    let test : Line → Bool = λ l. nat_lt l.at cut in
+    ap (take_while test) is
+    ∙ (take_while-cons test line rest
+    ∙ ap (λ (b : Bool). if b then line ∷ take_while test rest else []) (is_below line.at cut lt))
+
+pub none_below : (cut : ℕ) (lines : List Line) → StartsFrom cut lines → take_while (λ (l : Line). nat_lt l.at cut) lines ≡ []
+none_below cut [] starts = refl
+none_below cut (line ∷ lines) starts =
+    let test : Line → Bool = λ l. nat_lt l.at cut in
+    take_while-cons test line lines ∙ ap (λ (b : Bool). if b then line ∷ take_while test lines else []) (not_below line.at cut starts)

@@ -1,0 +1,8 @@
+pub mod TablesRule
+pub mod TablesSettings
+pub mod TablesStands
+pub mod TablesState
+pub mod TablesWords
+pub mod WatchedPackets
+pub mod WatchedState
+pub mod WatcherState

@@ -1,0 +1,17 @@
+//! The plugin `tables`: packets come in and pass; each table that they complete on a watched PID comes out as a line with
+//! its JSON element. The layer above reads settings of words, makes the plugin, and uses it by the clauses of `Plugin`,
+//! which hold the lines to the cells that count.
+#![tactic(auto)]
+
+mod limits;
+mod tables;
+mod tables_conf;
+mod tables_words;
+mod telling;
+mod watched;
+mod watcher;
+
+pub use limits::LAST_TABLE_ID;
+pub use tables::Tables;
+pub use tables_conf::TablesConf;
+pub use tables_words::{tables_command, tables_settings};

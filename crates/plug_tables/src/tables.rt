@@ -1,0 +1,146 @@
+ghost use Rattle.std.specs.Prelude.{◌≡◌, ◌<◌, ◌∷◌, IfOk, IfSome, IfNone, OnOk, [], None, nat_lt};
+ghost use Rattle.std.specs.List.{take_while};
+ghost use Rattle.plug_tables.specs.TablesRule.{tables_rule};
+ghost use Rattle.plug_tables.specs.TablesState.{StartsFrom};
+
+use crate::tables_conf::TablesConf;
+use crate::telling::tell_tables;
+use crate::watched::Watched;
+use plug_conf::NumberSet;
+use plugin_trait::{Line, Outcome, Plugin};
+use std::alloc::{AllocError, Global};
+use std::collections::VecDeque;
+use ts_packet::{Cell, Packet};
+
+/// Tells the tables of a stream as JSON, each at the packet that completes it.
+///
+/// A step may want memory, and then every later step does, and nothing is told.
+#[derive(Drop)]
+pub struct Tables {
+    watched: Watched,
+    tids: NumberSet,
+    /// The lines so far, in the order of their positions.
+    told: VecDeque<Line>,
+    failed: bool,
+    alloc: Global,
+}
+
+impl Tables {
+    ghost use Rattle.std.specs.Prelude.{◌≡◌, ◌<◌, ◌∷◌, ◌++◌, IfOk, OnOk, OnErr, IsErr, [], None, ℕ, List, length, true};
+    ghost use Rattle.ts_packet.specs.declared.cell.Cell.{Cell as GivenCell};
+    ghost use Rattle.ts_packet.specs.declared.cell.Cell.TheVariants.{Live};
+    ghost use Rattle.plug_tables.specs.TablesRule.{tables_rule};
+    ghost use Rattle.plug_tables.specs.TablesSettings.{IsLawfulTables};
+    ghost use Rattle.plug_tables.specs.TablesStands.{StandsFor, has_failed, rule_in};
+
+    /// A plugin that met no cell yet. Its lines, and what is kept of the tables, grow with the stream.
+    pub fn new(alloc: Global, conf: &TablesConf, buffer: usize) -> Result<Tables, AllocError>
+        requires { IsLawfulTables conf.now }
+        ensures rule { IfOk result (λ plugin. ⟦<Tables as Plugin>⟧.rule plugin ≡ tables_rule conf.now) }
+        ensures fresh { IfOk result (λ plugin. ⟦<Tables as Plugin>⟧.stands_for plugin [] 0) }
+        ensures steady { IfOk result (λ plugin. ⟦<Tables as Plugin>⟧.steady plugin ≡ None) }
+    {
+        let _ = buffer;
+        Ok(Tables {
+            watched: Watched::new(alloc, &conf.pid)?,
+            tids: NumberSet::of(Vec::from_slice(alloc, conf.tid.as_slice())?),
+            told: VecDeque::new(alloc),
+            failed: false,
+            alloc,
+        })
+    }
+
+    // Meets the packet at a position, as long as memory was there.
+    fn meet(&mut self, at: u64, packet: &Packet) -> Result<(), AllocError>
+        ensures met { OnOk result ((history : List GivenCell) (mark : ℕ) → StandsFor self.old history mark → length history ≡ at → (labels : ℕ)
+            → StandsFor self.new (history ++ Live packet.now labels ∷ []) mark) }
+        ensures same_rule { rule_in self.new ≡ rule_in self.old }
+        ensures spent { OnErr result (has_failed self.new ≡ true) }
+        ensures stays_spent { has_failed self.old ≡ true → IsErr result }
+    {
+        if self.failed {
+            return Err(AllocError);
+        }
+        match self.take(at, packet) {
+            Ok(()) => Ok(()),
+            Err(error) => {
+                self.failed = true;
+                Err(error)
+            }
+        }
+    }
+
+    // Tells the tables that the packet at a position completes.
+    fn take(&mut self, at: u64, packet: &Packet) -> Result<(), AllocError>
+        ensures met { OnOk result ((history : List GivenCell) (mark : ℕ) → StandsFor self.old history mark → length history ≡ at → (labels : ℕ)
+            → StandsFor self.new (history ++ Live packet.now labels ∷ []) mark) }
+        ensures same_rule { rule_in self.new ≡ rule_in self.old }
+    {
+        let tables = self.watched.meet(packet)?;
+        let pid = packet.pid();
+        tell_tables(self.alloc, &mut self.told, &self.tids, at, pid, &tables)?;
+        Ok(())
+    }
+}
+
+// Takes the first line off, where it is below a position.
+fn pop_below(told: &mut VecDeque<Line>, cut: u64) -> Option<Line>
+    ensures taken { IfSome result (λ line. (told.old.items ≡ line ∷ told.new.items) × (line.at < cut)) }
+    ensures left { IfNone result (StartsFrom cut told.old.items) }
+{
+    if told.front()?.at >= cut {
+        return None;
+    }
+    told.pop_front()
+}
+
+// The lines below a position, which are taken off.
+fn lines_below(alloc: Global, told: &mut VecDeque<Line>, cut: u64) -> Result<Vec<Line>, AllocError>
+    ensures { IfOk result (λ lines. lines.items ≡ take_while (λ line. nat_lt line.at cut) told.old.items) }
+{
+    let mut lines = Vec::new(alloc);
+    while let Some(line) = pop_below(told, cut) {
+        lines.push(line)?;
+    }
+    Ok(lines)
+}
+
+impl Plugin for Tables {
+    ghost use Rattle.std.specs.Prelude.{◌≡◌, ◌≤◌, length, false, None, refl};
+    ghost use Rattle.plug_tables.specs.TablesStands.{StandsFor, has_failed, rule_in};
+
+    ghost rule = { λ s. rule_in s };
+
+    ghost stands_for = { λ s history mark. (has_failed s ≡ false → StandsFor s history mark) × (mark ≤ length history) };
+
+    ghost steady = { λ s. None };
+
+    #[inline]
+    fn step(&mut self, at: u64, cell: &mut Cell) -> Outcome {
+        let Cell::Live(packet, _) = cell else {
+            return Outcome::Pass;
+        };
+        match self.meet(at, packet) {
+            Ok(()) => Outcome::Pass,
+            Err(_) => Outcome::NoMemory,
+        }
+    }
+
+    fn note(&mut self, _written: u64) -> Result<(), AllocError> {
+        Ok(())
+    }
+
+    fn agreed(&self) -> bool {
+        false
+    }
+
+    fn finish(&mut self, cut: u64) -> Result<Vec<Line>, AllocError> {
+        if self.failed {
+            return Err(AllocError);
+        }
+        let lines = lines_below(self.alloc, &mut self.told, cut)?;
+        Ok(lines)
+    }
+
+    ghost starts_open = { λ plugin history mark stands. refl };
+}

@@ -1,0 +1,32 @@
+ghost use Rattle.std.specs.Prelude.{◌≡◌, IfOk};
+ghost use Rattle.clap.specs.Simple.{app_of};
+ghost use Rattle.plug_tables.specs.TablesSettings.{IsLawfulTables};
+ghost use Rattle.plug_tables.specs.TablesWords.{tables, tables_rows};
+ghost use Rattle.option_words.specs.Options.{command_of};
+ghost use Rattle.option_words.specs.Refusal.{ReadsParsed};
+
+use crate::limits::LAST_TABLE_ID;
+use crate::tables_conf::TablesConf;
+use clap::Command;
+use option_words::{ParsedOptions, Refusal, new_command, with_value};
+use plug_conf::LAST_PID;
+use std::alloc::{AllocError, Global};
+
+/// The command of `tables`, which has its options.
+pub fn tables_command<'a>(alloc: Global) -> Result<Command<'a>, AllocError>
+    ensures { IfOk result (λ c. app_of c ≡ command_of tables_rows) }
+{
+    let command = with_value(alloc, new_command(alloc), "pid")?;
+    with_value(alloc, command, "tid")
+}
+
+/// Reads the settings of `tables` from what its command found in the words.
+pub fn tables_settings(alloc: Global, found: &ParsedOptions) -> Result<TablesConf, Refusal>
+    ensures reads { ReadsParsed tables found.now result }
+    ensures lawful { IfOk result IsLawfulTables }
+{
+    Ok(TablesConf {
+        pid: found.ranges(alloc, "pid", LAST_PID)?,
+        tid: found.ranges(alloc, "tid", LAST_TABLE_ID)?,
+    })
+}

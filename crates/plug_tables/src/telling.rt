@@ -1,0 +1,86 @@
+//! Tables as lines of a report.
+ghost use Rattle.std.specs.Prelude.{◌≡◌, ◌++◌, ◌∷◌, [], IfOk, OnOk};
+ghost use Rattle.std.specs.String.{string_bytes};
+ghost use Rattle.plugin_trait.specs.PlacedLines.{placed_at};
+ghost use Rattle.plug_tables.specs.TablesRule.{element_text, id_of, is_told, table_text, table_texts};
+
+use plug_conf::NumberSet;
+use plugin_trait::{Line, LineText};
+use std::alloc::{AllocError, Global};
+use std::collections::VecDeque;
+use ts_json_tables::{shown_table_is_plain, table_of, to_json};
+use ts_section::TableRun;
+
+/// Puts the lines of the tables that are told behind others. All are complete with the packet at a position on a PID.
+pub fn tell_tables(
+    alloc: Global,
+    told: &mut VecDeque<Line>,
+    tids: &NumberSet,
+    at: u64,
+    pid: u16,
+    tables: &[TableRun],
+) -> Result<(), AllocError>
+    ensures { OnOk result (told.new.items ≡ told.old.items ++ placed_at at (table_texts tids.now at pid tables.now)) }
+{
+    for table in tables {
+        tell_table(alloc, told, tids, at, pid, table)?;
+    }
+    Ok(())
+}
+
+// Puts the line of a table behind others, if it is told.
+fn tell_table(
+    alloc: Global,
+    told: &mut VecDeque<Line>,
+    tids: &NumberSet,
+    at: u64,
+    pid: u16,
+    table: &TableRun,
+) -> Result<(), AllocError>
+    ensures { OnOk result (told.new.items ≡ told.old.items ++ placed_at at (table_texts tids.now at pid (table.now ∷ []))) }
+{
+    if !is_told(tids, table) {
+        return Ok(());
+    }
+    let text = text_of(alloc, at, pid, table)?;
+    told.push_back(Line { at, text })?;
+    Ok(())
+}
+
+// Whether a table is one of those that are told.
+fn is_told(tids: &NumberSet, table: &TableRun) -> bool
+    ensures { result ≡ is_told tids.now table.now }
+{
+    tids.is_empty() || tids.has(u64::from(id_of(table)))
+}
+
+// The table_id of a table.
+fn id_of(table: &TableRun) -> u8
+    ensures { result ≡ id_of table.now }
+{
+    match table.sections().first() {
+        Some(section) => section.table_id(),
+        None => 0,
+    }
+}
+
+// The text of the line of a table.
+fn text_of(alloc: Global, at: u64, pid: u16, table: &TableRun) -> Result<LineText, AllocError>
+    ensures { IfOk result (λ text. text ≡ table_text at pid table.now) }
+{
+    let element = element_of(alloc, table)?;
+    let text = format!(in alloc; "packet {at} pid {pid} {element}")?;
+    Ok(LineText::of(text))
+}
+
+// The canonical text of the JSON element of a table.
+fn element_of(alloc: Global, run: &TableRun) -> Result<String, AllocError>
+    ensures { IfOk result (λ text. string_bytes text ≡ element_text run.now) }
+{
+    let table = table_of(alloc, run)?;
+    // A law, which runs nothing.
+    shown_table_is_plain();
+    let element = to_json(alloc, &table)?;
+    let text = element.to_string(alloc)?;
+    Ok(text)
+}
