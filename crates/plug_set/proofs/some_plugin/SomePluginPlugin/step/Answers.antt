@@ -90,3 +90,6 @@ returns-in-Tables-clause-tells c = rw c.in-Tables.is c.step-in-Tables.ensures.te
 
 pub returns-in-Tables-clause-meets : goal.returns-in-Tables-clause-meets
 returns-in-Tables-clause-meets c = rw c.in-Tables.is c.step-in-Tables.ensures.meets
+
+pub returns-in-Remap-clause-meets : goal.returns-in-Remap-clause-meets
+returns-in-Remap-clause-meets c = rw c.in-Remap.is c.step-in-Remap.ensures.meets

@@ -183,3 +183,9 @@ returns-in-Tables-clause-far c = rw c.in-Tables.is c.steps-in-Tables.ensures.far
 
 pub returns-in-Tables-clause-met : goal.returns-in-Tables-clause-met
 returns-in-Tables-clause-met c = rw c.in-Tables.is c.steps-in-Tables.ensures.met
+
+pub returns-in-Remap-clause-far : goal.returns-in-Remap-clause-far
+returns-in-Remap-clause-far c = rw c.in-Remap.is c.steps-in-Remap.ensures.far
+
+pub returns-in-Remap-clause-met : goal.returns-in-Remap-clause-met
+returns-in-Remap-clause-met c = rw c.in-Remap.is c.steps-in-Remap.ensures.met
