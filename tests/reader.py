@@ -115,7 +115,7 @@ def head_of(run):
 
 
 def table_of(run):
-    """The fields, descriptors and entries of a run of sections; of what is no PAT, PMT, NIT or SDT its bytes."""
+    """The fields, descriptors and entries of a run of sections; of what is no PAT, CAT, PMT, NIT or SDT its bytes."""
     table_id = run[0][0]
     bodies = [section[8:-4] for section in run]
     fields, descriptors, entries = (), (), []
@@ -124,6 +124,9 @@ def table_of(run):
             entries += [((number(body[at:]), number(body[at + 2:], 13)), ()) for at in range(0, len(body), 4)]
         # The network's entry is told first.
         entries.sort(key=lambda entry: entry[0][0] != 0)
+    elif table_id == 1:
+        for body in bodies:
+            descriptors += descriptors_in(body)
     elif table_id == 2:
         body = bodies[0]
         fields, size = (number(body, 13),), number(body[2:], 12)
