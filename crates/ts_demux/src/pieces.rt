@@ -46,7 +46,12 @@ fn drop_front(bytes: &mut Vec<u8>, count: usize)
     requires { count ≤ length bytes.old.items }
     ensures { bytes.new.items ≡ drop count bytes.old.items }
 {
-    bytes.drain(..count);
+    // Mostly all of it goes, and `drain` would clear memory for what is left.
+    if count == bytes.len() {
+        bytes.clear();
+    } else {
+        bytes.drain(..count);
+    }
 }
 
 /// Cuts off the whole pieces in front and lets the lawful sections among them wait.
