@@ -13,6 +13,3 @@ pub use limits::{LAST_LABEL, LAST_OFFSET, LAST_PID, MOST_NUMBER, MOST_PACKETS, M
 pub use number_set::NumberSet;
 pub use pair_list::PairList;
 pub use pid_set::PidSet;
-
-#[cfg(test)]
-mod tests;

@@ -9,6 +9,3 @@ mod until_words;
 pub use until::Until;
 pub use until_conf::UntilConf;
 pub use until_words::{until_command, until_settings};
-
-#[cfg(test)]
-mod tests;

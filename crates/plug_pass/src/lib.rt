@@ -27,6 +27,3 @@ pub use skip_words::{skip_command, skip_settings};
 pub use slice::Slice;
 pub use slice_conf::SliceConf;
 pub use slice_words::{slice_command, slice_settings};
-
-#[cfg(test)]
-mod tests;

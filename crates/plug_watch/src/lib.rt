@@ -25,6 +25,3 @@ pub use count_conf::CountConf;
 pub use count_words::{count_command, count_settings};
 pub use last_packet::LastPacket;
 pub use note::Note;
-
-#[cfg(test)]
-mod tests;

@@ -9,8 +9,6 @@ mod decompiling;
 mod dividing;
 mod fault;
 mod table_runs;
-#[cfg(test)]
-mod tests;
 
 pub use compile_laws::compiled_is_decompiled;
 pub use compiling::compile;

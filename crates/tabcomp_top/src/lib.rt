@@ -10,8 +10,6 @@ mod putting;
 mod status;
 mod task;
 mod telling;
-#[cfg(test)]
-mod tests;
 
 pub use call::tabcomp_call;
 pub use law::{causes, completeness};

@@ -13,6 +13,3 @@ pub use descriptor::Descriptor;
 pub use descriptor_loop::{DescriptorList, LoopFault, read_loop, write_loop};
 pub use loop_laws::loops_are_whole_or_cut;
 pub use row::{ShortInput, bits, put_bits};
-
-#[cfg(test)]
-mod tests;

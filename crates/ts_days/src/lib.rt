@@ -5,8 +5,6 @@
 mod calendar;
 mod days;
 mod digits;
-#[cfg(test)]
-mod tests;
 mod texts_laws;
 mod times;
 

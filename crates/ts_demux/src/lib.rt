@@ -12,6 +12,3 @@ mod table_key;
 pub use assembly::Assembly;
 pub use demux::Demux;
 pub use table_key::TableKey;
-
-#[cfg(test)]
-mod tests;

@@ -7,8 +7,6 @@ mod delivery_descr;
 mod delivery_laws;
 mod satellite;
 mod terrestrial;
-#[cfg(test)]
-mod tests;
 
 pub use cable::Cable;
 pub use delivery_descr::DeliveryDescr;

@@ -17,8 +17,6 @@ mod short_event;
 mod stream_identifier;
 mod subtitle;
 mod teletext_page;
-#[cfg(test)]
-mod tests;
 mod text;
 
 pub use bouquet_name::BouquetName;

@@ -9,8 +9,6 @@ mod maximum_bitrate;
 mod mpeg_descr;
 mod mpeg_laws;
 mod registration;
-#[cfg(test)]
-mod tests;
 
 pub use ca::Ca;
 pub use data_stream_alignment::DataStreamAlignment;

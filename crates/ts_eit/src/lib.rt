@@ -14,6 +14,3 @@ pub use eit::Eit;
 pub use events::{Event, EventList};
 pub use layouts::eit_layout;
 pub use start::Start;
-
-#[cfg(test)]
-mod tests;

@@ -9,8 +9,6 @@ mod layout;
 mod pages_laws;
 mod reader;
 mod rows_laws;
-#[cfg(test)]
-mod tests;
 mod texts;
 mod times;
 mod writer;

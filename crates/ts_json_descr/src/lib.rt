@@ -5,8 +5,6 @@
 mod descr_laws;
 mod reading;
 mod showing;
-#[cfg(test)]
-mod tests;
 
 pub use descr_laws::shown_descr_is_read;
 pub use reading::json_descr;

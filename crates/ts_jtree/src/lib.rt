@@ -8,8 +8,6 @@ mod element_laws;
 mod fault;
 mod number;
 mod shown;
-#[cfg(test)]
-mod tests;
 
 pub use attribute::{member, read_attributes};
 pub use element::{

@@ -8,8 +8,6 @@ mod labels;
 mod no_sync;
 mod numbers;
 mod packet;
-#[cfg(test)]
-mod tests;
 
 pub use cell::Cell;
 pub use label_laws::labels_are_a_set;

@@ -13,6 +13,3 @@ pub use cat::Cat;
 pub use layouts::{cat_layout, pat_layout, pmt_layout};
 pub use pat::{Pat, PatService, PatServiceList};
 pub use pmt::{Component, ComponentList, Pmt};
-
-#[cfg(test)]
-mod tests;

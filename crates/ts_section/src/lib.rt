@@ -16,6 +16,3 @@ pub use long_head::LongHead;
 pub use section::{LONG_BODY_PLACE, MOST_SECTION_LENGTH, SHORT_BODY_PLACE, Section};
 pub use section_laws::{made_sections_are_lawful, runs_share_their_head};
 pub use table_run::TableRun;
-
-#[cfg(test)]
-mod tests;

@@ -18,6 +18,3 @@ pub use nit::Nit;
 pub use sdt::Sdt;
 pub use services::{SdtService, SdtServiceList};
 pub use streams::{NitStream, NitStreamList};
-
-#[cfg(test)]
-mod tests;

@@ -13,8 +13,6 @@ mod read_loop;
 mod read_run;
 mod round_trip;
 mod table;
-#[cfg(test)]
-mod tests;
 mod write_laws;
 mod write_rows;
 mod write_run;

@@ -7,8 +7,6 @@ mod mixed;
 mod rule;
 mod tables;
 mod test_gen;
-#[cfg(test)]
-mod tests;
 
 pub use rule::Rule;
 pub use test_gen::TestGen;

@@ -1,0 +1,74 @@
+//! Descriptors as JSON texts and back, each call that takes memory once with enough of it.
+
+ghost use Rattle.std.specs.Prelude.{◌≤◌, length};
+
+use ts_json_descr::{descr_json, json_descr};
+use serde_json::Value;
+use std::alloc::{AllocError, Global};
+use std::test::Fail;
+use ts_bits::Descriptor;
+use ts_jtree::{JsonKind, ReadRefusal};
+
+/// 346 MHz, 64-QAM, 6.875 Mbaud.
+static CABLE: [u8; 11] = [
+    0x03, 0x46, 0x00, 0x00, 0xFF, 0xF2, 0x03, 0x00, 0x68, 0x75, 0x0F,
+];
+
+/// The same with a digit ten, which is no decimal digit.
+static NO_CABLE: [u8; 11] = [
+    0x0A, 0x46, 0x00, 0x00, 0xFF, 0xF2, 0x03, 0x00, 0x68, 0x75, 0x0F,
+];
+
+const CABLE_TEXT: &str =
+    r##"{"#name":"cable_delivery_system_descriptor","FEC_inner":15,"FEC_outer":2,"frequency":3460000,"modulation":3,"symbol_rate":68750}"##;
+
+const NO_CABLE_TEXT: &str =
+    r##"{"#name":"generic_descriptor","data":"0a460000fff2030068750f","tag":68}"##;
+
+/// The JSON text of a descriptor.
+fn shown(alloc: Global, tag: u8, body: &[u8]) -> Result<String, AllocError>
+    requires { length body.now ≤ 255 }
+{
+    let descriptor = Descriptor::new(alloc, tag, body)?;
+    descr_json(alloc, &descriptor)?.to_string(alloc)
+}
+
+/// The descriptor of a JSON text.
+fn read(alloc: Global, text: &str) -> Result<Descriptor, Fail> {
+    let value = Value::from_str(alloc, text)?;
+    Ok(json_descr(alloc, &value)?)
+}
+
+#[test]
+fn a_cable_is_shown_and_read(rt: HostRuntime) -> Result<(), Fail> {
+    let text = shown(rt.alloc(), 0x44, &CABLE)?;
+    assert_eq!(rt; text.as_str(), CABLE_TEXT);
+    let back = read(rt.alloc(), CABLE_TEXT)?;
+    assert_eq!(rt; back.body(), CABLE.as_slice());
+    Ok(())
+}
+
+#[test]
+fn a_generic_one_is_shown_and_read(rt: HostRuntime) -> Result<(), Fail> {
+    let text = shown(rt.alloc(), 0x44, &NO_CABLE)?;
+    assert_eq!(rt; text.as_str(), NO_CABLE_TEXT);
+    let back = read(rt.alloc(), NO_CABLE_TEXT)?;
+    assert_eq!(rt; back.body(), NO_CABLE.as_slice());
+    Ok(())
+}
+
+/// A CA descriptor's second system has no value.
+const NO_SYSTEM: &str =
+    r##"{"#name":"CA_identifier_descriptor","#nodes":[{"#name":"CA_system_id","value":1},{"#name":"CA_system_id"}]}"##;
+
+#[test]
+fn a_fault_of_a_child_has_its_number(rt: HostRuntime) -> Result<(), Fail> {
+    let value = Value::from_str(rt.alloc(), NO_SYSTEM)?;
+    let Err(ReadRefusal::Json(fault)) = json_descr(rt.alloc(), &value) else {
+        return Err(Fail::from("no fault"));
+    };
+    assert_eq!(rt; fault.path.as_slice(), [1].as_slice());
+    assert_eq!(rt; fault.key.as_str(), "value");
+    assert_eq!(rt; fault.kind, JsonKind::Missing);
+    Ok(())
+}

@@ -1,0 +1,102 @@
+ghost use Rattle.std.specs.Prelude.{[], ◌≤◌, ◌^◌, vec_len};
+
+use plug_end::{Until, UntilConf};
+use plugin_trait::{ListEnd, Plugin, apply_plugin};
+use std::alloc::Global;
+use std::test::Fail;
+use ts_packet::{Cell, Labels, Packet};
+
+const NONE: Option<u64> = None;
+
+/// A null packet with or without its unit start indicator.
+fn packet(unit_start: bool) -> Cell {
+    let mut packet = Packet::null();
+    packet.set_unit_start(unit_start);
+    Cell::Live(packet, Labels::none())
+}
+
+/// A dropped cell, and behind it nine packets of which every third has its unit start indicator.
+fn ten_cells(alloc: Global) -> Result<Vec<Cell>, Fail> {
+    let cells = vec![in alloc;
+        Cell::Dropped,
+        packet(false),
+        packet(false),
+        packet(true),
+        packet(false),
+        packet(false),
+        packet(true),
+        packet(false),
+        packet(false),
+        packet(true),
+    ]?;
+    Ok(cells)
+}
+
+/// How a new plugin leaves a list, and whether it agrees to end behind it.
+fn end_and_agreement(until: &mut Until, cells: &mut Vec<Cell>) -> (ListEnd, bool)
+    requires fresh { ⟦<Until as Plugin>⟧.stands_for until.old [] 0 }
+    requires in_range { vec_len cells.old ≤ 2 ^ 60 }
+{
+    let end = apply_plugin(until, cells);
+    (end, until.agreed())
+}
+
+#[test]
+fn until_ends_the_list(rt: HostRuntime) -> Result<(), Fail> {
+    let rows = [
+        (Some(3), NONE, NONE, false, 4, ListEnd::Last),
+        (Some(3), NONE, NONE, true, 3, ListEnd::Stop),
+        (NONE, Some(3 * 188), NONE, false, 4, ListEnd::Last),
+        (NONE, Some(3 * 188 + 1), NONE, false, 5, ListEnd::Last),
+        (NONE, NONE, Some(2), false, 7, ListEnd::Last),
+        (Some(10), NONE, NONE, false, 10, ListEnd::Through),
+    ];
+    for (packets, bytes, unit_start_count, exclude_last, left, wanted) in rows {
+        let conf = UntilConf {
+            packets,
+            bytes,
+            unit_start_count,
+            exclude_last,
+            joint_termination: false,
+        };
+        let mut until = Until::new(rt.alloc(), &conf, 1)?;
+        let mut cells = ten_cells(rt.alloc())?;
+        let (end, agreed) = end_and_agreement(&mut until, &mut cells);
+        assert_eq!(rt; end, wanted);
+        assert!(rt; !agreed);
+        assert_eq!(rt; cells.len(), left);
+        assert!(rt; matches!(cells.last(), Some(Cell::Live(..))));
+    }
+    Ok(())
+}
+
+/// Each row says of how many cells the list is, and whether the plugin agrees behind them.
+#[test]
+fn joint_until_agrees_and_passes_all(rt: HostRuntime) -> Result<(), Fail> {
+    let rows = [
+        (Some(3), NONE, NONE, 3, false),
+        (Some(3), NONE, NONE, 4, true),
+        (Some(3), NONE, NONE, 10, true),
+        (NONE, Some(3 * 188 + 1), NONE, 4, false),
+        (NONE, Some(3 * 188 + 1), NONE, 5, true),
+        (NONE, NONE, Some(2), 6, false),
+        (NONE, NONE, Some(2), 7, true),
+    ];
+    for (packets, bytes, unit_start_count, met, wanted) in rows {
+        let conf = UntilConf {
+            packets,
+            bytes,
+            unit_start_count,
+            exclude_last: false,
+            joint_termination: true,
+        };
+        let mut until = Until::new(rt.alloc(), &conf, 1)?;
+        let mut cells = ten_cells(rt.alloc())?;
+        cells.truncate(met);
+        let (end, agreed) = end_and_agreement(&mut until, &mut cells);
+        assert_eq!(rt; end, ListEnd::Through);
+        assert_eq!(rt; cells.len(), met);
+        assert_eq!(rt; agreed, wanted);
+    }
+    Ok(())
+}

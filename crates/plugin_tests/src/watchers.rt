@@ -1,0 +1,106 @@
+ghost use Rattle.std.specs.Prelude.{◌<◌, ◌≤◌, ◌^◌, [], IfOk, vec_len};
+
+use plug_watch::{Continuity, ContinuityConf, Count, CountConf};
+use plug_conf::NumberSet;
+use plugin_trait::{Line, ListEnd, Plugin, apply_plugin, report};
+use std::alloc::{AllocError, Global};
+use std::test::Fail;
+use ts_packet::{Cell, Labels, Packet};
+
+/// A packet on a PID with payload and a counter.
+fn packet(pid: u16, counter: u8) -> Cell
+    requires pid { pid < 8192 }
+    requires counter { counter < 16 }
+{
+    let mut packet = Packet::null();
+    packet.set_pid(pid);
+    packet.set_counter(counter);
+    Cell::Live(packet, Labels::none())
+}
+
+/// What a plugin reports of the first cells of a list that goes through it.
+fn said<P: Plugin + Drop>(
+    plugin: P,
+    cells: &mut Vec<Cell>,
+    cut: u64,
+) -> Result<Vec<Line>, AllocError>
+    requires fresh { P.stands_for plugin [] 0 }
+    requires short { vec_len cells.old < 1000 }
+{
+    let mut plugin = plugin;
+    let _end = apply_plugin(&mut plugin, cells);
+    report(&mut plugin, cut.min(cells.len() as u64))
+}
+
+#[test]
+fn count_counts_to_the_cut(rt: HostRuntime) -> Result<(), Fail> {
+    let rows = [
+        (
+            true,
+            false,
+            3,
+            [
+                "packet 0 pid 256",
+                "packet 1 pid 257",
+                "pid 256 packets 1",
+                "pid 257 packets 1",
+                "total 2",
+            ]
+            .as_slice(),
+        ),
+        (
+            false,
+            false,
+            4,
+            ["pid 256 packets 2", "pid 257 packets 1", "total 3"].as_slice(),
+        ),
+        (false, true, 4, ["total 3"].as_slice()),
+    ];
+    for (all, total, cut, wanted) in rows {
+        let conf = CountConf {
+            pid: NumberSet::of(Vec::new(rt.alloc())),
+            negate: true,
+            all,
+            total,
+        };
+        let mut cells = vec![in rt.alloc();
+            packet(256, 0),
+            packet(257, 0),
+            Cell::Dropped,
+            packet(256, 1),
+            packet(258, 0),
+        ]?;
+        let count = Count::new(rt.alloc(), &conf, 2)?;
+        let lines = said(count, &mut cells, cut)?;
+        assert_eq!(rt; lines.len(), wanted.len());
+        for (line, text) in lines.iter().zip(wanted) {
+            assert_eq!(rt; line.text.as_str(), *text);
+        }
+    }
+    Ok(())
+}
+
+#[test]
+fn continuity_reports_and_fixes(rt: HostRuntime) -> Result<(), Fail> {
+    let conf = ContinuityConf {
+        pid: NumberSet::of(Vec::new(rt.alloc())),
+        fix: true,
+    };
+    let mut cells = vec![in rt.alloc();
+        packet(256, 5),
+        packet(256, 6),
+        packet(256, 8),
+        packet(256, 8),
+    ]?;
+    let continuity = Continuity::new(rt.alloc(), &conf, 1)?;
+    let lines = said(continuity, &mut cells, 4)?;
+    let wanted = ["packet 2 pid 256 counter 8 wanted 7", "faults 1"];
+    assert_eq!(rt; lines.len(), wanted.len());
+    for (line, text) in lines.iter().zip(wanted) {
+        assert_eq!(rt; line.text.as_str(), text);
+    }
+    for (cell, counter) in cells.iter().zip([5, 6, 7, 7]) {
+        assert!(rt; matches!(cell, Cell::Live(packet, _) if packet.counter() == counter));
+    }
+    Ok(())
+}

@@ -1,0 +1,96 @@
+//! Calls over a desk in memory: what is written, what is reported, and how a call ends whose desk fails.
+ghost use Rattle.std.specs.Prelude.{◌≡◌, IfOk};
+
+use tabcomp_top::{TabStatus, tabcomp_call};
+use std::alloc::{AllocError, Global};
+use std::process::Abort;
+use std::test::Fail;
+use ts_outside::{FailPlan, FileBytes, FileList, MemoryDesk, NameText, NumberList};
+
+/// A PAT of one service, written as one would by hand.
+const PAT: &[u8] =
+    br##"{"#name":"tsduck","#nodes":[{"#name":"PAT","transport_stream_id":1,"#nodes":[{"#name":"service","service_id":1,"program_map_PID":"0x1000"}]}]}"##;
+
+/// The same as it is decompiled.
+const CANONICAL: &[u8] =
+    br##"{"#name":"tsduck","#nodes":[{"#name":"PAT","#nodes":[{"#name":"service","program_map_PID":4096,"service_id":1}],"current":true,"transport_stream_id":1,"version":0}]}"##;
+
+/// A desk with the text under the name `pat.json`, on which the closing of this number fails.
+fn desk(alloc: Global, failing: u64) -> Result<MemoryDesk, AllocError> {
+    let mut files = Vec::new(alloc);
+    let name = NameText::of(String::from_str(alloc, "pat.json")?);
+    files.push((name, FileBytes::of(Vec::from_slice(alloc, PAT)?)))?;
+    MemoryDesk::new(alloc, FileList::of(files), plan(alloc, failing)?)
+}
+
+/// A plan by which that closing fails, and nothing else.
+fn plan(alloc: Global, failing: u64) -> Result<FailPlan, AllocError>
+    ensures { IfOk result (λ p. (p.read_piece ≡ 100) × (p.write_piece ≡ 70)) }
+{
+    let mut plan = FailPlan::none(alloc, 100, 70, 1000);
+    plan.closes = NumberList::of(Vec::from_slice(alloc, &[failing])?);
+    Ok(plan)
+}
+
+/// The words of a text, which stand between spaces.
+fn words_of(alloc: Global, text: &str) -> Result<Vec<String>, AllocError> {
+    let mut words = Vec::new(alloc);
+    for word in text.split(' ') {
+        words.push(String::from_str(alloc, word)?)?;
+    }
+    Ok(words)
+}
+
+/// Makes a call, and looks at its exit number, at what it reported and at what it wrote.
+fn calls(
+    rt: &(impl Abort + AllocGlobal),
+    words: &[String],
+    failing: u64,
+    code: u8,
+    reported: &[u8],
+    written: Option<&[u8]>,
+) -> Result<(), AllocError> {
+    let mut desk = desk(rt.alloc(), failing)?;
+    let status = tabcomp_call(rt.alloc(), words, &mut desk);
+    assert_eq!(rt; status.exit_code(), code);
+    assert_eq!(rt; desk.reported(), reported);
+    assert_eq!(rt; desk.output(0).map(|(_, bytes)| bytes), written);
+    Ok(())
+}
+
+#[test]
+fn the_canonical_text_is_written(rt: HostRuntime) -> Result<(), Fail> {
+    let words = words_of(rt.alloc(), "--canonical pat.json out.json")?;
+    calls(&rt, &words, 9, 0, b"", Some(CANONICAL))?;
+    Ok(())
+}
+
+#[test]
+fn a_failing_close_is_told(rt: HostRuntime) -> Result<(), Fail> {
+    let words = words_of(rt.alloc(), "--canonical pat.json out.json")?;
+    calls(
+        &rt,
+        &words,
+        1,
+        4,
+        b"tstabcomp: cannot write\n",
+        Some(CANONICAL),
+    )?;
+    Ok(())
+}
+
+#[test]
+fn faulty_words_are_told(rt: HostRuntime) -> Result<(), Fail> {
+    let mut desk = desk(rt.alloc(), 9)?;
+    let none = tabcomp_call(rt.alloc(), &[], &mut desk);
+    assert!(rt; matches!(none, TabStatus::Words { word: 0 }));
+    let words = words_of(rt.alloc(), "--compile a b c")?;
+    let four = tabcomp_call(rt.alloc(), &words, &mut desk);
+    assert!(rt; matches!(four, TabStatus::Words { word: 3 }));
+    assert_eq!(rt;
+        desk.reported(),
+        b"tstabcomp: words\ntstabcomp: words\n".as_slice()
+    );
+    assert_eq!(rt; desk.asked_count(), 0);
+    Ok(())
+}
