@@ -2,11 +2,11 @@
 
 ghost use Rattle.std.specs.Prelude.{◌≤◌, length};
 
-use ts_json_descr::{descr_json, json_descr};
 use serde_json::Value;
 use std::alloc::{AllocError, Global};
 use std::test::Fail;
 use ts_bits::Descriptor;
+use ts_json_descr::{descr_json, json_descr};
 use ts_jtree::{JsonKind, ReadRefusal};
 
 /// 346 MHz, 64-QAM, 6.875 Mbaud.

@@ -1,10 +1,10 @@
 //! Elements read and shown, each call that takes memory once with enough of it.
 
-use ts_jtree::{JsonKind, ReadRefusal, put_text, read_element, show_attributes};
 use serde_json::{Map, Value};
 use std::alloc::{AllocError, Global};
 use std::test::Fail;
 use ts_fields::{Field, FieldValue, Kind};
+use ts_jtree::{JsonKind, ReadRefusal, put_text, read_element, show_attributes};
 
 macro_rules! rows {
     ($($name:literal $kind:expr, $absent:expr;)*) => {

@@ -1,7 +1,7 @@
 ghost use Rattle.std.specs.Prelude.{◌<◌, ◌≤◌, ◌^◌, [], IfOk, vec_len};
 
-use plug_watch::{Continuity, ContinuityConf, Count, CountConf};
 use plug_conf::NumberSet;
+use plug_watch::{Continuity, ContinuityConf, Count, CountConf};
 use plugin_trait::{Line, ListEnd, Plugin, apply_plugin, report};
 use std::alloc::{AllocError, Global};
 use std::test::Fail;

@@ -1,10 +1,10 @@
 //! Calls over a desk in memory: what is written, what is reported, and how a call ends whose desk fails.
 ghost use Rattle.std.specs.Prelude.{◌≡◌, IfOk};
 
-use tabcomp_top::{TabStatus, tabcomp_call};
 use std::alloc::{AllocError, Global};
 use std::process::Abort;
 use std::test::Fail;
+use tabcomp_top::{TabStatus, tabcomp_call};
 use ts_outside::{FailPlan, FileBytes, FileList, MemoryDesk, NameText, NumberList};
 
 /// A PAT of one service, written as one would by hand.

@@ -1,8 +1,8 @@
 //! Texts compiled, and bytes cut and decompiled, each call that takes memory once with enough of it.
 
-use tabcomp_core::{CompileFault, DecompileFault, compile, decompile, sections_of};
 use std::alloc::Global;
 use std::test::Fail;
+use tabcomp_core::{CompileFault, DecompileFault, compile, decompile, sections_of};
 use ts_jtree::JsonKind;
 use ts_section::SectionFault;
 

@@ -1,7 +1,7 @@
 //! Days and starts with numbers from outside, each call once.
 
-use ts_days::{day_of, day_text, start_of, start_text, time_of, time_text};
 use std::test::Fail;
+use ts_days::{day_of, day_text, start_of, start_text, time_of, time_text};
 
 /// Days with their numbers: the first and the last, Unix's first, and the example of ETSI EN 300 468,
 /// annex C.

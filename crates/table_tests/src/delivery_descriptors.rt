@@ -1,8 +1,8 @@
 //! A descriptor read and written again, each call that takes memory once with enough of it.
 
-use ts_descr_delivery::DeliveryDescr;
 use std::test::Fail;
 use ts_bits::Descriptor;
+use ts_descr_delivery::DeliveryDescr;
 
 /// 346.0000 MHz, RS(204/188), 64-QAM, 6.8750 Msymbol/s, no inner FEC.
 static CABLE: [u8; 11] = [

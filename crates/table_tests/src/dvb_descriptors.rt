@@ -1,8 +1,8 @@
 //! Worked rows, and each call that takes memory once with enough of it.
 
-use ts_descr_dvb::{DvbDescr, text_bytes, text_of};
 use std::test::Fail;
 use ts_bits::Descriptor;
+use ts_descr_dvb::{DvbDescr, text_bytes, text_of};
 
 /// A service of type 1, of the provider `p`, with the name `Été`.
 static SERVICE: [u8; 10] = [0x01, 0x01, b'p', 0x06, 0x15, 0xC3, 0x89, 0x74, 0xC3, 0xA9];

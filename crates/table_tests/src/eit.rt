@@ -1,9 +1,9 @@
 //! Worked rows, and each call that takes memory once with enough of it.
 
-use ts_eit::{Eit, Event, EventList, Start};
 use std::alloc::Global;
 use std::test::Fail;
 use ts_bits::{Descriptor, DescriptorList};
+use ts_eit::{Eit, Event, EventList, Start};
 use ts_section::{Section, TableRun};
 use ts_table_rows::{TableFault, TableRefusal, TableRule};
 

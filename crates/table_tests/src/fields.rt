@@ -3,9 +3,11 @@
 ghost use Rattle.std.specs.Prelude.{◌≤◌, length, IsTrue};
 ghost use Rattle.ts_fields.specs.Bodies.{page, page_sound};
 
-use ts_fields::{Field, ItemLayout, Kind, Layout, NotRead, fit_page_is_shaped, read_body, write_body};
 use std::alloc::Global;
 use std::test::Fail;
+use ts_fields::{
+    Field, ItemLayout, Kind, Layout, NotRead, fit_page_is_shaped, read_body, write_body,
+};
 
 macro_rules! rows {
     ($($kind:expr),*) => {

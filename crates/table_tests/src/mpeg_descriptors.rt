@@ -1,8 +1,8 @@
 //! A descriptor read and written again, each call that takes memory once with enough of it.
 
-use ts_descr_mpeg::MpegDescr;
 use std::test::Fail;
 use ts_bits::Descriptor;
+use ts_descr_mpeg::MpegDescr;
 
 /// The languages `eng` and `fra`.
 static LANGUAGES: [u8; 8] = [b'e', b'n', b'g', 0x00, b'f', b'r', b'a', 0x03];

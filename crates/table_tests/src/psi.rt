@@ -5,10 +5,10 @@ ghost use Rattle.ts_psi.specs.CatTables.{cat_held};
 ghost use Rattle.ts_psi.specs.PatTables.{pat_held};
 ghost use Rattle.ts_psi.specs.PsiTables.{pmt_held};
 
-use ts_psi::{Cat, Component, ComponentList, Pat, PatService, PatServiceList, Pmt};
 use std::alloc::Global;
 use std::test::Fail;
 use ts_bits::{Descriptor, DescriptorList};
+use ts_psi::{Cat, Component, ComponentList, Pat, PatService, PatServiceList, Pmt};
 use ts_section::{Section, TableRun};
 use ts_table_rows::TableRefusal;
 

@@ -1,10 +1,10 @@
 //! Worked rows, and each call that takes memory once with enough of it.
 
-use ts_si::{Bat, Nit, NitStream, NitStreamList, Sdt};
 use std::alloc::Global;
 use std::test::Fail;
 use ts_bits::DescriptorList;
 use ts_section::{Section, TableRun};
+use ts_si::{Bat, Nit, NitStream, NitStreamList, Sdt};
 
 /// A NIT of network 0x3001, another than the actual one, with a name and two transport streams, the second of
 /// which has a list of services.

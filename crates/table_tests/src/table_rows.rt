@@ -3,11 +3,13 @@
 ghost use Rattle.std.specs.Prelude.{IsTrue};
 ghost use Rattle.ts_table_rows.specs.TablePages.{table_page, page_sound};
 
-use ts_table_rows::{ItemForm, LoopForm, TableFault, TableLayout, TableRule, read_table, write_table};
 use std::alloc::Global;
 use std::test::Fail;
 use ts_fields::{Field, Kind};
 use ts_section::{LongHead, Section, TableRun};
+use ts_table_rows::{
+    ItemForm, LoopForm, TableFault, TableLayout, TableRule, read_table, write_table,
+};
 
 macro_rules! rows {
     ($($kind:expr),*) => {

@@ -1,11 +1,11 @@
 //! Worked rows, and each call that takes memory once with enough of it.
 
+use std::alloc::Global;
+use std::test::Fail;
 use ts_bits::{
     BcdFault, Descriptor, DescriptorList, LoopFault, ShortInput, bcd, bits, put_bcd, put_bits,
     read_loop, write_loop,
 };
-use std::alloc::Global;
-use std::test::Fail;
 
 /// The head of a null packet.
 const NULL_HEAD: [u8; 4] = [0x47, 0x1F, 0xFF, 0x10];

@@ -1,6 +1,6 @@
-use ts_packetize::{Cycle, packets};
 use std::alloc::{AllocError, Global};
 use std::test::Fail;
+use ts_packetize::{Cycle, packets};
 use ts_section::Section;
 
 /// A short section of 100 bytes without a byte 0xFF.

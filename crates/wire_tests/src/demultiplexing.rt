@@ -1,6 +1,6 @@
-use ts_demux::{Assembly, Demux};
 use std::alloc::{AllocError, Global};
 use std::test::Fail;
+use ts_demux::{Assembly, Demux};
 use ts_packet::Packet;
 use ts_section::{LongHead, Section};
 

@@ -1,5 +1,5 @@
-use ts_testgen::TestGen;
 use std::test::Fail;
+use ts_testgen::TestGen;
 
 /// The first bytes of some packets of the stream of seed 1.
 fn front_at(i: u64) -> Option<[u8; 5]> {

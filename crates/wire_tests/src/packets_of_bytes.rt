@@ -1,5 +1,5 @@
-use ts_packet::{Cell, Labels, NoSync, PACKET_SIZE, Packet};
 use std::process::Abort;
+use ts_packet::{Cell, Labels, NoSync, PACKET_SIZE, Packet};
 
 const NULL_HEAD: [u8; 12] = [
     0x47, 0x1F, 0xFF, 0x10, 0xFF, 0xFF, 0xFF, 0xFF, 0xFF, 0xFF, 0xFF, 0xFF,

@@ -1,8 +1,8 @@
 //! Worked rows, sections that other tools wrote, and each call that takes memory once with enough of it.
 
-use ts_section::{LongHead, Section, SectionFault, SectionRule, TableRun, crc_of};
 use std::alloc::{AllocError, Global};
 use std::test::Fail;
+use ts_section::{LongHead, Section, SectionFault, SectionRule, TableRun, crc_of};
 
 /// A PAT as ffmpeg's muxer writes it: transport_stream_id 1105, the network PID 16, service 769 on PID 272.
 const PAT: [u8; 20] = [
