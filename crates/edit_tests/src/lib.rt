@@ -5,6 +5,8 @@
 #[cfg(test)]
 mod editors;
 #[cfg(test)]
+mod injected;
+#[cfg(test)]
 mod moved_pids;
 #[cfg(test)]
 mod services;

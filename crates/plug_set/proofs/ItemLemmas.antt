@@ -35,6 +35,7 @@ simple kind.Until = refl
 simple kind.Count = refl
 simple kind.Continuity = refl
 simple kind.Remap = refl
+simple kind.Inject = refl
 simple kind.Pat = refl
 simple kind.Cat = refl
 simple kind.Pmt = refl

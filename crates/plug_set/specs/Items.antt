@@ -1,6 +1,6 @@
 -- A plugin of the chain: its settings with the labels that it sees, its words, and the rule that these mean.
 -- This project's own rule.
-use Rattle.std.specs.Prelude.{[], ◌∷◌, ◌++◌, IfSome, codes, option_map}
+use Rattle.std.specs.Prelude.{ℕ, List, [], ◌∷◌, ◌++◌, IfSome, codes, option_map}
 use Rattle.ts_packet.specs.declared.labels.TheConstants.{LABEL_COUNT}
 use Rattle.chain_model.specs.PluginRule.{PluginRule}
 use Rattle.plug_conf.specs.LabelSet.{label_set}
@@ -41,6 +41,7 @@ pub record IsLawfulItem (item : PluginItem) : Type 0 where
   pub settings : IsLawful item.conf
   pub labels : IfSome item.only (AllBelow LABEL_COUNT)
 
--- the rule that the item means: that of the settings, of the packets that the plugin sees
-abbrev pub rule_of_item : PluginItem → PluginRule
-rule_of_item item = rule_for (option_map label_set item.only) (rule_of item.conf)
+-- the rule that the item means, with the sections of the file that its settings name: that of the settings, of the
+-- packets that the plugin sees
+abbrev pub rule_of_item : PluginItem → List (List ℕ) → PluginRule
+rule_of_item item sections = rule_for (option_map label_set item.only) (rule_of item.conf sections)

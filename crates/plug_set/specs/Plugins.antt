@@ -28,6 +28,9 @@ use Rattle.plug_watch.specs.ContinuityWords.{continuity}
 use Rattle.plug_move.specs.RemapRule.{remap_rule}
 use Rattle.plug_move.specs.RemapSettings.{IsLawfulRemap}
 use Rattle.plug_move.specs.RemapWords.{remap}
+use Rattle.plug_inject.specs.InjectRule.{inject_rule}
+use Rattle.plug_inject.specs.InjectSettings.{IsLawfulInject}
+use Rattle.plug_inject.specs.InjectWords.{inject}
 use Rattle.plug_edit.specs.Changes.{change_cat, change_nit, change_pat, change_pmt, change_sdt}
 use Rattle.plug_edit.specs.EditRule.{edit_rule}
 use Rattle.plug_edit.specs.PatSettings.{IsLawfulPat}
@@ -53,14 +56,14 @@ use Rattle.plug_tables.specs.TablesRule.{tables_rule}
 use Rattle.plug_tables.specs.TablesSettings.{IsLawfulTables}
 use Rattle.plug_tables.specs.TablesWords.{tables}
 use Rattle.plug_set.specs.declared.plugin_conf.PluginConf.{PluginConf}
-use Rattle.plug_set.specs.declared.plugin_conf.PluginConf.TheVariants.{Filter, Skip, Slice, Pattern, Until, Count, Continuity, Remap, Pat, Cat, Pmt, Sdt, Nit, Zap, Svremove, Analyze, Tables}
+use Rattle.plug_set.specs.declared.plugin_conf.PluginConf.TheVariants.{Filter, Skip, Slice, Pattern, Until, Count, Continuity, Remap, Inject, Pat, Cat, Pmt, Sdt, Nit, Zap, Svremove, Analyze, Tables}
 use Rattle.plug_set.specs.declared.plugin_conf.PluginKind.{PluginKind}
 use Rattle.plug_set.specs.declared.plugin_conf.PluginKind.TheVariants as kind
 
 -- the plugins
 abbrev pub kinds : List PluginKind
 kinds = kind.Filter ∷ kind.Skip ∷ kind.Slice ∷ kind.Pattern ∷ kind.Until ∷ kind.Count ∷ kind.Continuity ∷ kind.Remap
-    ∷ kind.Pat ∷ kind.Cat ∷ kind.Pmt ∷ kind.Sdt ∷ kind.Nit ∷ kind.Zap ∷ kind.Svremove ∷ kind.Analyze ∷ kind.Tables ∷ []
+    ∷ kind.Inject ∷ kind.Pat ∷ kind.Cat ∷ kind.Pmt ∷ kind.Sdt ∷ kind.Nit ∷ kind.Zap ∷ kind.Svremove ∷ kind.Analyze ∷ kind.Tables ∷ []
 
 -- their names, as the command line and the reports have them
 abbrev pub name_of_kind : PluginKind → List ℕ
@@ -72,6 +75,7 @@ name_of_kind kind.Until = codes "until"
 name_of_kind kind.Count = codes "count"
 name_of_kind kind.Continuity = codes "continuity"
 name_of_kind kind.Remap = codes "remap"
+name_of_kind kind.Inject = codes "inject"
 name_of_kind kind.Pat = codes "pat"
 name_of_kind kind.Cat = codes "cat"
 name_of_kind kind.Pmt = codes "pmt"
@@ -96,6 +100,7 @@ options_of_plugin kind.Until = made_into Until until
 options_of_plugin kind.Count = made_into Count count
 options_of_plugin kind.Continuity = made_into Continuity continuity
 options_of_plugin kind.Remap = made_into Remap remap
+options_of_plugin kind.Inject = made_into Inject inject
 options_of_plugin kind.Pat = made_into Pat pat
 options_of_plugin kind.Cat = made_into Cat cat
 options_of_plugin kind.Pmt = made_into Pmt pmt
@@ -116,6 +121,7 @@ kind_of (Until conf) = kind.Until
 kind_of (Count conf) = kind.Count
 kind_of (Continuity conf) = kind.Continuity
 kind_of (Remap conf) = kind.Remap
+kind_of (Inject conf) = kind.Inject
 kind_of (Pat conf) = kind.Pat
 kind_of (Cat conf) = kind.Cat
 kind_of (Pmt conf) = kind.Pmt
@@ -141,6 +147,7 @@ IsLawful (Until conf) = IsLawfulUntil conf
 IsLawful (Count conf) = IsLawfulCount conf
 IsLawful (Continuity conf) = IsLawfulContinuity conf
 IsLawful (Remap conf) = IsLawfulRemap conf
+IsLawful (Inject conf) = IsLawfulInject conf
 IsLawful (Pat conf) = IsLawfulPat conf
 IsLawful (Cat conf) = IsLawfulCat conf
 IsLawful (Pmt conf) = IsLawfulPmt conf
@@ -151,32 +158,40 @@ IsLawful (Svremove conf) = IsLawfulSvremove conf
 IsLawful (Analyze conf) = IsLawfulAnalyze conf
 IsLawful (Tables conf) = IsLawfulTables conf
 
--- the rule that the settings mean
-abbrev pub rule_of : PluginConf → PluginRule
-rule_of (Filter conf) = filter_rule conf
-rule_of (Skip conf) = skip_rule conf.operand
-rule_of (Slice conf) = slice_rule conf
-rule_of (Pattern conf) = pattern_rule conf
-rule_of (Until conf) = until_rule conf
-rule_of (Count conf) = count_rule conf
-rule_of (Continuity conf) = continuity_rule conf
-rule_of (Remap conf) = remap_rule conf
-rule_of (Pat conf) = edit_rule 0 (change_pat conf)
-rule_of (Cat conf) = edit_rule 1 (change_cat conf)
-rule_of (Pmt conf) = edit_rule conf.pmt_pid (change_pmt conf)
-rule_of (Sdt conf) = edit_rule 17 (change_sdt conf)
-rule_of (Nit conf) = edit_rule 16 (change_nit conf)
-rule_of (Zap conf) = zap_rule conf
-rule_of (Svremove conf) = svremove_rule conf
-rule_of (Analyze conf) = analyze_rule
-rule_of (Tables conf) = tables_rule conf
+-- the file whose sections a plugin takes, where its settings name one; the empty name is standard input
+abbrev pub table_file_of : PluginConf → Option (List ℕ)
+table_file_of (Inject conf) = Some conf.file
+table_file_of _ = None
 
--- for how many positions behind the last mark a plugin takes its room before the run, where it does: all of
--- them do but those whose lines grow with the stream, and those that edit tables, which keep the tables that come
+-- the rule that the settings mean, with the sections of the file that they name, where they name one
+abbrev pub rule_of : PluginConf → List (List ℕ) → PluginRule
+rule_of (Filter conf) sections = filter_rule conf
+rule_of (Skip conf) sections = skip_rule conf.operand
+rule_of (Slice conf) sections = slice_rule conf
+rule_of (Pattern conf) sections = pattern_rule conf
+rule_of (Until conf) sections = until_rule conf
+rule_of (Count conf) sections = count_rule conf
+rule_of (Continuity conf) sections = continuity_rule conf
+rule_of (Remap conf) sections = remap_rule conf
+rule_of (Inject conf) sections = inject_rule conf sections
+rule_of (Pat conf) sections = edit_rule 0 (change_pat conf)
+rule_of (Cat conf) sections = edit_rule 1 (change_cat conf)
+rule_of (Pmt conf) sections = edit_rule conf.pmt_pid (change_pmt conf)
+rule_of (Sdt conf) sections = edit_rule 17 (change_sdt conf)
+rule_of (Nit conf) sections = edit_rule 16 (change_nit conf)
+rule_of (Zap conf) sections = zap_rule conf
+rule_of (Svremove conf) sections = svremove_rule conf
+rule_of (Analyze conf) sections = analyze_rule
+rule_of (Tables conf) sections = tables_rule conf
+
+-- for how many positions behind the last mark a plugin takes its room before the run, where it says so: all of them do
+-- but those whose lines grow with the stream, those that edit tables, which keep the tables that come, and the one that
+-- puts in packets of tables
 abbrev pub steady_of : PluginConf → ℕ → Option ℕ
 steady_of (Count conf) buffer = if conf.all then None else Some buffer
 steady_of (Continuity conf) buffer = None
 steady_of (Remap conf) buffer = if conf.no_psi then Some buffer else None
+steady_of (Inject conf) buffer = None
 steady_of (Pat conf) buffer = None
 steady_of (Cat conf) buffer = None
 steady_of (Pmt conf) buffer = None

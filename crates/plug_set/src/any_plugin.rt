@@ -8,6 +8,7 @@ use crate::some_plugin::SomePlugin;
 use plugin_trait::{Applied, Line, Outcome, Plugin};
 use std::alloc::{AllocError, Global};
 use ts_packet::Cell;
+use ts_section::Section;
 
 /// A plugin of the chain, which sees every packet, or those alone that have one of its labels.
 #[derive(Drop)]
@@ -18,17 +19,23 @@ pub struct AnyPlugin {
 impl AnyPlugin {
     ghost use Rattle.plug_set.specs.Items.{IsLawfulItem};
 
-    /// The plugin of this item, which met no cell yet. `buffer` is the number of positions that the chain holds: for
-    /// so many behind the last mark most plugins take their room here.
-    pub fn of(alloc: Global, item: &PluginItem, buffer: usize) -> Result<AnyPlugin, AllocError>
+    /// The plugin of this item, which met no cell yet. `sections` are those of the file that its settings name
+    /// (`table_file`); where they name none, they are not used. `buffer` is the number of positions that the chain
+    /// holds: for so many behind the last mark most plugins take their room here.
+    pub fn of(
+        alloc: Global,
+        item: &PluginItem,
+        sections: Vec<Section>,
+        buffer: usize,
+    ) -> Result<AnyPlugin, AllocError>
         requires { IsLawfulItem item.now }
-        ensures rule { IfOk result (λ plugin. ⟦<AnyPlugin as Plugin>⟧.rule plugin ≡ rule_of_item item.now) }
+        ensures rule { IfOk result (λ plugin. ⟦<AnyPlugin as Plugin>⟧.rule plugin ≡ rule_of_item item.now sections.items) }
         ensures fresh { IfOk result (λ plugin. ⟦<AnyPlugin as Plugin>⟧.stands_for plugin [] 0) }
         ensures steady { IfOk result (λ plugin. ⟦<AnyPlugin as Plugin>⟧.steady plugin ≡ steady_of item.now.conf buffer) }
     {
         Ok(AnyPlugin {
             masked: MaskedPlugin {
-                plugin: SomePlugin::of(alloc, &item.conf, buffer)?,
+                plugin: SomePlugin::of(alloc, &item.conf, sections, buffer)?,
                 only: item.labels(),
             },
         })

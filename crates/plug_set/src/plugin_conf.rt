@@ -1,5 +1,5 @@
 //! The plugins that there are. A new one has a line in each list of this file.
-ghost use Rattle.std.specs.Prelude.{◌≡◌, IfOk, IfSome, MatchResult, codes, false, map, true};
+ghost use Rattle.std.specs.Prelude.{◌≡◌, IfOk, IfSome, MatchResult, codes, false, map, option_map, true};
 ghost use Rattle.std.specs.String.{string_bytes};
 ghost use Rattle.clap.specs.Simple.{app_of};
 ghost use Rattle.plug_conf.specs.NumberSet.{AllBelow};
@@ -11,7 +11,7 @@ ghost use Rattle.option_words.specs.Refusal.{IsRefusedBy, Reads, ReadsParsed};
 ghost use Rattle.option_words.specs.declared.words_rule.WordsRule.TheVariants.{Value};
 ghost use Rattle.plug_set.specs.declared.plugin_conf.PluginConf.{PluginConf as GivenConf};
 ghost use Rattle.plug_set.specs.Items.{IsLawfulItem, options_of_item, with_only_label};
-ghost use Rattle.plug_set.specs.Plugins.{IsLawful, kind_of, name_of, name_of_kind, options_of_plugin, plugin_kind_named, uses_joint};
+ghost use Rattle.plug_set.specs.Plugins.{IsLawful, kind_of, name_of, name_of_kind, options_of_plugin, plugin_kind_named, table_file_of, uses_joint};
 
 use crate::plugin_item::PluginItem;
 use clap::Command;
@@ -24,6 +24,7 @@ use plug_edit::{
     sdt_settings,
 };
 use plug_end::{UntilConf, until_command, until_settings};
+use plug_inject::{InjectConf, inject_command, inject_settings};
 use plug_move::{RemapConf, remap_command, remap_settings};
 use plug_pass::{
     FilterConf, PatternConf, SkipConf, SliceConf, filter_command, filter_settings, pattern_command,
@@ -51,6 +52,7 @@ pub enum PluginConf {
     Count(CountConf),
     Continuity(ContinuityConf),
     Remap(RemapConf),
+    Inject(InjectConf),
     Pat(EditPatConf),
     Cat(EditCatConf),
     Pmt(EditPmtConf),
@@ -73,6 +75,7 @@ pub enum PluginKind {
     Count,
     Continuity,
     Remap,
+    Inject,
     Pat,
     Cat,
     Pmt,
@@ -98,6 +101,7 @@ impl PluginKind {
             "count" => Some(PluginKind::Count),
             "continuity" => Some(PluginKind::Continuity),
             "remap" => Some(PluginKind::Remap),
+            "inject" => Some(PluginKind::Inject),
             "pat" => Some(PluginKind::Pat),
             "cat" => Some(PluginKind::Cat),
             "pmt" => Some(PluginKind::Pmt),
@@ -124,6 +128,7 @@ impl PluginKind {
             PluginKind::Count => "count",
             PluginKind::Continuity => "continuity",
             PluginKind::Remap => "remap",
+            PluginKind::Inject => "inject",
             PluginKind::Pat => "pat",
             PluginKind::Cat => "cat",
             PluginKind::Pmt => "pmt",
@@ -149,6 +154,7 @@ impl PluginKind {
             PluginKind::Count => count_command(alloc),
             PluginKind::Continuity => continuity_command(alloc),
             PluginKind::Remap => remap_command(alloc),
+            PluginKind::Inject => inject_command(alloc),
             PluginKind::Pat => pat_command(alloc),
             PluginKind::Cat => cat_command(alloc),
             PluginKind::Pmt => pmt_command(alloc),
@@ -177,6 +183,7 @@ impl PluginKind {
                 continuity_settings(alloc, found).map(PluginConf::Continuity)
             }
             PluginKind::Remap => remap_settings(alloc, found).map(PluginConf::Remap),
+            PluginKind::Inject => inject_settings(alloc, found).map(PluginConf::Inject),
             PluginKind::Pat => pat_settings(alloc, found).map(PluginConf::Pat),
             PluginKind::Cat => cat_settings(alloc, found).map(PluginConf::Cat),
             PluginKind::Pmt => pmt_settings(alloc, found).map(PluginConf::Pmt),
@@ -254,6 +261,7 @@ impl PluginConf {
             PluginConf::Count(_) => PluginKind::Count,
             PluginConf::Continuity(_) => PluginKind::Continuity,
             PluginConf::Remap(_) => PluginKind::Remap,
+            PluginConf::Inject(_) => PluginKind::Inject,
             PluginConf::Pat(_) => PluginKind::Pat,
             PluginConf::Cat(_) => PluginKind::Cat,
             PluginConf::Pmt(_) => PluginKind::Pmt,
@@ -271,6 +279,17 @@ impl PluginConf {
         ensures { result.now ≡ name_of self.now }
     {
         self.kind().name()
+    }
+
+    /// The name of the file whose sections the plugin takes; none for a plugin that takes none. The empty name is
+    /// standard input.
+    pub fn table_file(&self) -> Option<&str>
+        ensures { option_map (λ name. name.now) result ≡ table_file_of self.now }
+    {
+        match self {
+            PluginConf::Inject(conf) => Some(conf.file.as_str()),
+            _ => None,
+        }
     }
 
     /// Whether the plugin uses joint termination.

@@ -8,6 +8,7 @@ use plug_edit::{
     SdtEdit,
 };
 use plug_end::Until;
+use plug_inject::Inject;
 use plug_move::Remap;
 use plug_pass::{Filter, Pattern, Skip, Slice};
 use plug_service::{Svremove, Zap};
@@ -16,6 +17,7 @@ use plug_watch::{Continuity, Count};
 use plugin_trait::{Applied, Line, Outcome, Plugin};
 use std::alloc::{AllocError, Global};
 use ts_packet::Cell;
+use ts_section::Section;
 
 /// A plugin of any kind, which is shown each cell.
 #[derive(Drop)]
@@ -28,6 +30,7 @@ pub(crate) enum SomePlugin {
     Count(Count),
     Continuity(Continuity),
     Remap(Remap),
+    Inject(Inject),
     Pat(EditPat),
     Cat(EditCat),
     Pmt(EditPmt),
@@ -42,15 +45,17 @@ pub(crate) enum SomePlugin {
 impl SomePlugin {
     ghost use Rattle.plug_set.specs.Plugins.{IsLawful};
 
-    /// The plugin of these settings, which met no cell yet. `buffer` is the number of positions that the
-    /// chain holds: for so many behind the last mark most plugins take their room here.
+    /// The plugin of these settings, which met no cell yet. `sections` are those of the file that the settings name, and
+    /// `buffer` is the number of positions that the chain holds: for so many behind the last mark most plugins take
+    /// their room here.
     pub(crate) fn of(
         alloc: Global,
         conf: &PluginConf,
+        sections: Vec<Section>,
         buffer: usize,
     ) -> Result<SomePlugin, AllocError>
         requires { IsLawful conf.now }
-        ensures rule { IfOk result (λ plugin. ⟦<SomePlugin as Plugin>⟧.rule plugin ≡ rule_of conf.now) }
+        ensures rule { IfOk result (λ plugin. ⟦<SomePlugin as Plugin>⟧.rule plugin ≡ rule_of conf.now sections.items) }
         ensures fresh { IfOk result (λ plugin. ⟦<SomePlugin as Plugin>⟧.stands_for plugin [] 0) }
         ensures steady { IfOk result (λ plugin. ⟦<SomePlugin as Plugin>⟧.steady plugin ≡ steady_of conf.now buffer) }
     {
@@ -65,6 +70,7 @@ impl SomePlugin {
                 SomePlugin::Continuity(Continuity::new(alloc, conf, buffer)?)
             }
             PluginConf::Remap(conf) => SomePlugin::Remap(Remap::new(alloc, conf, buffer)?),
+            PluginConf::Inject(conf) => SomePlugin::Inject(Inject::new(alloc, conf, sections)?),
             PluginConf::Pat(conf) => SomePlugin::Pat(EditPat::new(alloc, conf, buffer)?),
             PluginConf::Cat(conf) => SomePlugin::Cat(EditCat::new(alloc, conf, buffer)?),
             PluginConf::Pmt(conf) => SomePlugin::Pmt(EditPmt::new(alloc, conf, buffer)?),
@@ -80,7 +86,7 @@ impl SomePlugin {
 
 impl Plugin for SomePlugin {
     ghost use Rattle.std.specs.Prelude.{refl};
-    ghost use Rattle.plug_set.specs.declared.some_plugin.SomePlugin.TheVariants.{Filter as MadeFilter, Skip as MadeSkip, Slice as MadeSlice, Pattern as MadePattern, Until as MadeUntil, Count as MadeCount, Continuity as MadeContinuity, Remap as MadeRemap, Pat as MadePat, Cat as MadeCat, Pmt as MadePmt, Sdt as MadeSdt, Nit as MadeNit, Zap as MadeZap, Svremove as MadeSvremove, Analyze as MadeAnalyze, Tables as MadeTables};
+    ghost use Rattle.plug_set.specs.declared.some_plugin.SomePlugin.TheVariants.{Filter as MadeFilter, Skip as MadeSkip, Slice as MadeSlice, Pattern as MadePattern, Until as MadeUntil, Count as MadeCount, Continuity as MadeContinuity, Remap as MadeRemap, Inject as MadeInject, Pat as MadePat, Cat as MadeCat, Pmt as MadePmt, Sdt as MadeSdt, Nit as MadeNit, Zap as MadeZap, Svremove as MadeSvremove, Analyze as MadeAnalyze, Tables as MadeTables};
 
     ghost rule = { elim [
       | MadeFilter p ↦ ⟦<Filter as Plugin>⟧.rule p
@@ -91,6 +97,7 @@ impl Plugin for SomePlugin {
       | MadeCount p ↦ ⟦<Count as Plugin>⟧.rule p
       | MadeContinuity p ↦ ⟦<Continuity as Plugin>⟧.rule p
       | MadeRemap p ↦ ⟦<Remap as Plugin>⟧.rule p
+      | MadeInject p ↦ ⟦<Inject as Plugin>⟧.rule p
       | MadePat p ↦ ⟦<EditPid<PatEdit> as Plugin>⟧.rule p
       | MadeCat p ↦ ⟦<EditPid<CatEdit> as Plugin>⟧.rule p
       | MadePmt p ↦ ⟦<EditPid<PmtEdit> as Plugin>⟧.rule p
@@ -111,6 +118,7 @@ impl Plugin for SomePlugin {
       | MadeCount p ↦ ⟦<Count as Plugin>⟧.stands_for p
       | MadeContinuity p ↦ ⟦<Continuity as Plugin>⟧.stands_for p
       | MadeRemap p ↦ ⟦<Remap as Plugin>⟧.stands_for p
+      | MadeInject p ↦ ⟦<Inject as Plugin>⟧.stands_for p
       | MadePat p ↦ ⟦<EditPid<PatEdit> as Plugin>⟧.stands_for p
       | MadeCat p ↦ ⟦<EditPid<CatEdit> as Plugin>⟧.stands_for p
       | MadePmt p ↦ ⟦<EditPid<PmtEdit> as Plugin>⟧.stands_for p
@@ -131,6 +139,7 @@ impl Plugin for SomePlugin {
       | MadeCount p ↦ ⟦<Count as Plugin>⟧.steady p
       | MadeContinuity p ↦ ⟦<Continuity as Plugin>⟧.steady p
       | MadeRemap p ↦ ⟦<Remap as Plugin>⟧.steady p
+      | MadeInject p ↦ ⟦<Inject as Plugin>⟧.steady p
       | MadePat p ↦ ⟦<EditPid<PatEdit> as Plugin>⟧.steady p
       | MadeCat p ↦ ⟦<EditPid<CatEdit> as Plugin>⟧.steady p
       | MadePmt p ↦ ⟦<EditPid<PmtEdit> as Plugin>⟧.steady p
@@ -152,6 +161,7 @@ impl Plugin for SomePlugin {
             SomePlugin::Count(plugin) => plugin.step(at, cell),
             SomePlugin::Continuity(plugin) => plugin.step(at, cell),
             SomePlugin::Remap(plugin) => plugin.step(at, cell),
+            SomePlugin::Inject(plugin) => plugin.step(at, cell),
             SomePlugin::Pat(plugin) => plugin.step(at, cell),
             SomePlugin::Cat(plugin) => plugin.step(at, cell),
             SomePlugin::Pmt(plugin) => plugin.step(at, cell),
@@ -174,6 +184,7 @@ impl Plugin for SomePlugin {
             SomePlugin::Count(plugin) => plugin.steps(at, cells, noted),
             SomePlugin::Continuity(plugin) => plugin.steps(at, cells, noted),
             SomePlugin::Remap(plugin) => plugin.steps(at, cells, noted),
+            SomePlugin::Inject(plugin) => plugin.steps(at, cells, noted),
             SomePlugin::Pat(plugin) => plugin.steps(at, cells, noted),
             SomePlugin::Cat(plugin) => plugin.steps(at, cells, noted),
             SomePlugin::Pmt(plugin) => plugin.steps(at, cells, noted),
@@ -196,6 +207,7 @@ impl Plugin for SomePlugin {
             SomePlugin::Count(plugin) => plugin.note(written),
             SomePlugin::Continuity(plugin) => plugin.note(written),
             SomePlugin::Remap(plugin) => plugin.note(written),
+            SomePlugin::Inject(plugin) => plugin.note(written),
             SomePlugin::Pat(plugin) => plugin.note(written),
             SomePlugin::Cat(plugin) => plugin.note(written),
             SomePlugin::Pmt(plugin) => plugin.note(written),
@@ -218,6 +230,7 @@ impl Plugin for SomePlugin {
             SomePlugin::Count(plugin) => plugin.agreed(),
             SomePlugin::Continuity(plugin) => plugin.agreed(),
             SomePlugin::Remap(plugin) => plugin.agreed(),
+            SomePlugin::Inject(plugin) => plugin.agreed(),
             SomePlugin::Pat(plugin) => plugin.agreed(),
             SomePlugin::Cat(plugin) => plugin.agreed(),
             SomePlugin::Pmt(plugin) => plugin.agreed(),
@@ -240,6 +253,7 @@ impl Plugin for SomePlugin {
             SomePlugin::Count(plugin) => plugin.finish(cut),
             SomePlugin::Continuity(plugin) => plugin.finish(cut),
             SomePlugin::Remap(plugin) => plugin.finish(cut),
+            SomePlugin::Inject(plugin) => plugin.finish(cut),
             SomePlugin::Pat(plugin) => plugin.finish(cut),
             SomePlugin::Cat(plugin) => plugin.finish(cut),
             SomePlugin::Pmt(plugin) => plugin.finish(cut),
@@ -261,6 +275,7 @@ impl Plugin for SomePlugin {
       | MadeCount p ↦ λ history mark stands. refl
       | MadeContinuity p ↦ λ history mark stands. refl
       | MadeRemap p ↦ λ history mark stands. refl
+      | MadeInject p ↦ λ history mark stands. refl
       | MadePat p ↦ λ history mark stands. refl
       | MadeCat p ↦ λ history mark stands. refl
       | MadePmt p ↦ λ history mark stands. refl

@@ -4,7 +4,7 @@ use std::test::Fail;
 /// The name of each kind is that of its plugin on the command line. What plugins do is tried by rows of the whole tool.
 #[test]
 fn each_name_is_that_of_its_kind(rt: HostRuntime) -> Result<(), Fail> {
-    let names: [&str; 17] = [
+    let names: [&str; 18] = [
         "filter",
         "skip",
         "slice",
@@ -13,6 +13,7 @@ fn each_name_is_that_of_its_kind(rt: HostRuntime) -> Result<(), Fail> {
         "count",
         "continuity",
         "remap",
+        "inject",
         "pat",
         "cat",
         "pmt",

@@ -48,3 +48,6 @@ returns-in-Analyze c = rw c.in-Analyze.is c.agreed-in-Analyze.ensures
 
 pub returns-in-Tables : goal.returns-in-Tables
 returns-in-Tables c = rw c.in-Tables.is c.agreed-in-Tables.ensures
+
+pub returns-in-Inject : goal.returns-in-Inject
+returns-in-Inject c = rw c.in-Inject.is c.agreed-in-Inject.ensures

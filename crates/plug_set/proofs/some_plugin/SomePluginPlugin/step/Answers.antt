@@ -93,3 +93,9 @@ returns-in-Tables-clause-meets c = rw c.in-Tables.is c.step-in-Tables.ensures.me
 
 pub returns-in-Remap-clause-meets : goal.returns-in-Remap-clause-meets
 returns-in-Remap-clause-meets c = rw c.in-Remap.is c.step-in-Remap.ensures.meets
+
+pub returns-in-Inject-clause-tells : goal.returns-in-Inject-clause-tells
+returns-in-Inject-clause-tells c = rw c.in-Inject.is c.step-in-Inject.ensures.tells
+
+pub returns-in-Inject-clause-meets : goal.returns-in-Inject-clause-meets
+returns-in-Inject-clause-meets c = rw c.in-Inject.is c.step-in-Inject.ensures.meets

@@ -189,3 +189,15 @@ returns-in-Remap-clause-far c = rw c.in-Remap.is c.steps-in-Remap.ensures.far
 
 pub returns-in-Remap-clause-met : goal.returns-in-Remap-clause-met
 returns-in-Remap-clause-met c = rw c.in-Remap.is c.steps-in-Remap.ensures.met
+
+pub returns-in-Inject-clause-makes : goal.returns-in-Inject-clause-makes
+returns-in-Inject-clause-makes c = rw c.in-Inject.is c.steps-in-Inject.ensures.makes
+
+pub returns-in-Inject-clause-far : goal.returns-in-Inject-clause-far
+returns-in-Inject-clause-far c = rw c.in-Inject.is c.steps-in-Inject.ensures.far
+
+pub returns-in-Inject-clause-met : goal.returns-in-Inject-clause-met
+returns-in-Inject-clause-met c = rw c.in-Inject.is c.steps-in-Inject.ensures.met
+
+pub returns-in-Inject-clause-agreed : goal.returns-in-Inject-clause-agreed
+returns-in-Inject-clause-agreed c = rw c.in-Inject.is c.steps-in-Inject.ensures.agreed

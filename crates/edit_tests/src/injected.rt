@@ -1,0 +1,78 @@
+//! Worked rows: null packets and packets on a PID with the packets of one PAT put in their place.
+
+ghost use Rattle.plug_inject.specs.InjectSettings.{IsLawfulMode};
+
+use plug_inject::{Inject, InjectConf, InjectMode};
+use plugin_trait::{ListEnd, apply_plugin};
+use std::alloc::Global;
+use std::test::Fail;
+use ts_outside::NameText;
+use ts_packet::{Cell, Labels, Packet};
+use ts_psi::{Pat, PatService, PatServiceList};
+use ts_section::Section;
+
+/// The PAT of service 1.
+fn pat_sections(alloc: Global) -> Result<Vec<Section>, Fail> {
+    let service = PatService {
+        service_id: 1,
+        pid: 4096,
+    };
+    let pat = Pat {
+        version: 0,
+        current: true,
+        stream_id: 1,
+        network_pid: None,
+        services: PatServiceList::of(vec![in alloc; service]?),
+    };
+    Ok(pat.sections(alloc)?)
+}
+
+/// Seven null packets, taken through the plugin.
+fn injected(alloc: Global, mode: InjectMode, sections: Vec<Section>) -> Result<Vec<Cell>, Fail>
+    requires { IsLawfulMode mode }
+{
+    let conf = InjectConf {
+        file: NameText::of(String::new(alloc)),
+        pid: 0,
+        mode,
+    };
+    let mut inject = Inject::new(alloc, &conf, sections)?;
+    let null = Cell::Live(Packet::null(), Labels::none());
+    let mut cells = vec![in alloc; null, null, null, null, null, null, null]?;
+    match apply_plugin(&mut inject, &mut cells) {
+        ListEnd::Through => Ok(cells),
+        _ => Err("the plugin ended its list".into()),
+    }
+}
+
+/// The counters of the packets on PID 0, which are the PAT's.
+fn counters(alloc: Global, cells: &[Cell]) -> Result<Vec<(usize, u8)>, Fail> {
+    let mut found = Vec::new(alloc);
+    for (at, cell) in cells.iter().enumerate() {
+        if let Cell::Live(packet, _) = cell
+            && packet.pid() == 0
+        {
+            found.push((at, packet.counter()))?;
+        }
+    }
+    Ok(found)
+}
+
+#[test]
+fn each_third_null_packet_is_replaced(rt: HostRuntime) -> Result<(), Fail> {
+    let alloc = rt.alloc();
+    let mode = InjectMode::InterPacket(3);
+    let cells = injected(alloc, mode, pat_sections(alloc)?)?;
+    let found = counters(alloc, &cells)?;
+    assert!(rt; found.as_slice() == [(0, 0), (3, 1), (6, 2)].as_slice());
+    Ok(())
+}
+
+#[test]
+fn no_sections_replace_nothing(rt: HostRuntime) -> Result<(), Fail> {
+    let alloc = rt.alloc();
+    let mode = InjectMode::InterPacket(1);
+    let cells = injected(alloc, mode, Vec::new(alloc))?;
+    assert!(rt; counters(alloc, &cells)?.is_empty());
+    Ok(())
+}

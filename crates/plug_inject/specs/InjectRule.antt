@@ -1,0 +1,88 @@
+-- The rule of `inject`. This project's own rule, over the PID of ISO/IEC 13818-1, 2.4.3.2, and over the packets that carry
+-- sections (2.4.4).
+-- Packets stand here with the newest first: those next before a packet are then the first of the others.
+use Rattle.std.specs.Prelude.{ℕ, ◌-◌, ◌%◌, ◌==◌, ◌&&◌, not, Bool, List, [], ◌∷◌, length, take, reverse, count_by, Option, unwrap_or, is_some, slice_get, if◌then◌else◌}
+use Rattle.std.specs.List.{list_any}
+use Rattle.std.specs.Option.{option_map}
+use Rattle.ts_packet.specs.Cells.{live_packets}
+use Rattle.ts_packet.specs.Header.{pid_of, with_counter}
+use Rattle.ts_packet.specs.declared.numbers.TheConstants.{NULL_PID}
+use Rattle.ts_packetize.specs.Packets.{packets_of}
+use Rattle.chain_model.specs.PluginRule.{PluginRule, passes}
+use Rattle.plugin_trait.specs.SilentRule.{silent_rule}
+use Rattle.plug_inject.specs.declared.inject_conf.InjectConf.{InjectConf}
+use Rattle.plug_inject.specs.declared.inject_conf.InjectMode.{InjectMode}
+use Rattle.plug_inject.specs.declared.inject_conf.InjectMode.TheVariants.{Replace, InterPacket}
+
+-- what is put in, and where: the packets of a cycle, the PID whose packets may be replaced, and how many packets before
+-- one that is replaced were not
+pub record Injection : Type 0 where
+  pub contents : List (List ℕ)
+  pub target : ℕ
+  pub kept : ℕ
+
+-- the PID whose packets may be replaced: that of the sections, or with a distance that of null packets, whatever their
+-- bytes
+abbrev pub target_of : InjectMode → ℕ → ℕ
+target_of Replace pid = pid
+target_of (InterPacket distance) pid = NULL_PID
+
+-- how many packets before one that is replaced were not: with a distance all that it has but one
+abbrev pub kept_before : InjectMode → ℕ
+kept_before Replace = 0
+kept_before (InterPacket distance) = distance - 1
+
+-- what the settings and the sections of their file mean: a cycle has the packets of these sections on the PID
+abbrev pub injection_of : InjectConf → List (List ℕ) → Injection
+injection_of conf sections = record {
+  contents = packets_of conf.pid sections;
+  target = target_of conf.mode conf.pid;
+  kept = kept_before conf.mode;
+}
+
+-- a cycle has packets
+abbrev pub has_packets : List (List ℕ) → Bool
+has_packets contents = is_some (slice_get contents 0)
+
+-- one of these packets was replaced
+abbrev pub some_replaced : List Bool → Bool
+some_replaced marks = list_any (λ mark. mark) marks
+
+-- A packet is replaced, behind others of which is told whether they were: there are contents, it is on the PID, and none
+-- of the packets next before it was replaced, of which there may be fewer at the beginning.
+abbrev pub is_replaced : Injection → List Bool → List ℕ → Bool
+is_replaced how marks packet =
+    has_packets how.contents && (pid_of packet == how.target && not (some_replaced (take how.kept marks)))
+
+-- of a list of packets, which are replaced
+unfoldable pub replaced_among : Injection → List (List ℕ) → List Bool
+replaced_among how [] = []
+replaced_among how (packet ∷ older) =
+    (let marks = replaced_among how older in is_replaced how marks packet ∷ marks)
+
+-- how many packets were put in
+abbrev pub put_in_among : List Bool → ℕ
+put_in_among marks = count_by (λ mark. mark) marks
+
+-- the packet that is put in behind so many others: the one at its place of the cycle, which begins over and over again,
+-- with their number as its counter, modulo 16
+abbrev pub packet_behind : List (List ℕ) → ℕ → Option (List ℕ)
+packet_behind contents before =
+    option_map (λ packet. with_counter packet (before % 16)) (slice_get contents (before % length contents))
+
+-- what goes on in the place of a packet, behind others of which is told whether they were replaced
+abbrev pub put_for : Injection → List Bool → List ℕ → List ℕ
+put_for how marks packet =
+    if is_replaced how marks packet then unwrap_or (packet_behind how.contents (put_in_among marks)) packet else packet
+
+-- what goes on in the place of a packet, behind others
+abbrev pub injected : Injection → List (List ℕ) → List ℕ → List ℕ
+injected how older packet = put_for how (replaced_among how older) packet
+
+-- every packet passes, or another in its place; labels stay
+abbrev pub injecting_rule : Injection → PluginRule
+injecting_rule how = silent_rule (λ history packet. passes (injected how (reverse (live_packets history)) packet))
+
+-- the rule of the settings, with the sections of their file
+abbrev pub inject_rule : InjectConf → List (List ℕ) → PluginRule
+inject_rule conf sections = injecting_rule (injection_of conf sections)

@@ -1,0 +1,28 @@
+-- What a value of `inject` stands for. This project's own rule.
+use Rattle.std.specs.Prelude.{◌≡◌, ◌≤◌, ◌-◌, ℕ, List, [], ◌∷◌, Bool, true, false, length, reverse}
+use Rattle.ts_packet.specs.declared.cell.Cell.{Cell}
+use Rattle.ts_packet.specs.Cells.{live_packets}
+use Rattle.plug_inject.specs.InjectRule.{Injection, put_in_among, replaced_among}
+use Rattle.plug_inject.specs.declared.inject.Inject.{Inject}
+
+-- what the plugin puts in, and where
+abbrev pub how_of : Inject → Injection
+how_of s = record { contents = s.contents; target = s.target; kept = s.kept }
+
+-- how many packets have yet to be met, where so many have to be behind one that was replaced
+unfoldable pub wait_among : ℕ → List Bool → ℕ
+wait_among kept [] = 0
+wait_among kept (true ∷ older) = kept
+wait_among kept (false ∷ older) = wait_among (kept - 1) older
+
+-- the numbers that are kept are those of the packets that were met, the newest first
+pub record Counts (how : Injection) (put_in wait : ℕ) (older : List (List ℕ)) : Type 0 where
+  pub number : put_in ≡ put_in_among (replaced_among how older)
+  pub few : put_in ≤ length older
+  pub turn : wait ≡ wait_among how.kept (replaced_among how older)
+
+-- the same of the cells that were met
+pub record Stands (how : Injection) (put_in wait : ℕ) (history : List Cell) (mark : ℕ) : Type 0 where
+  pub counts : Counts how put_in wait (reverse (live_packets history))
+  pub live : length (live_packets history) ≤ length history
+  pub marked : mark ≤ length history

@@ -1,0 +1,38 @@
+-- The words of `inject`.
+-- This project's own rule.
+use Rattle.std.specs.Prelude.{List, [], ◌∷◌, ◌&&◌, ◌||◌, not, codes, unwrap_or}
+use Rattle.clap.specs.Walk.{Row}
+use Rattle.option_words.specs.Forms.{number, text}
+use Rattle.option_words.specs.Number.{number_within}
+use Rattle.option_words.specs.Options.{OptionRow, flag, has_flag, has_value, operand, read_value, value, value_of}
+use Rattle.option_words.specs.OptionTable.{OptionTable}
+use Rattle.plug_conf.specs.declared.limits.TheConstants.{MOST_NUMBER}
+use Rattle.plug_inject.specs.InjectSettings.{mode_of}
+use Rattle.plug_inject.specs.declared.inject_conf.InjectConf.{InjectConf}
+use Rattle.plug_inject.specs.declared.inject_conf.TheConstants.{LAST_CARRIER}
+
+-- the options
+abbrev pub inject_rows : List OptionRow
+inject_rows = record { name = codes "operand"; kind = operand text }
+    ∷ record { name = codes "pid"; kind = value (number 0 LAST_CARRIER) }
+    ∷ record { name = codes "replace"; kind = flag }
+    ∷ record { name = codes "inter-packet"; kind = value (number 1 MOST_NUMBER) }
+    ∷ []
+
+-- the settings of what is found
+abbrev pub inject_settings : List Row → InjectConf
+inject_settings found = record {
+  file = unwrap_or (value_of (codes "operand") found) [];
+  pid = unwrap_or (read_value (number_within 0 LAST_CARRIER) (codes "pid") found) 0;
+  mode = mode_of (read_value (number_within 1 MOST_NUMBER) (codes "inter-packet") found);
+}
+
+-- the file and the PID have to be given, and one of the two modes, but not both
+abbrev pub inject : OptionTable InjectConf
+inject = record {
+  rows = inject_rows;
+  has_needed = λ found. has_value (codes "operand") found && (has_value (codes "pid") found
+      && (has_flag (codes "replace") found || has_value (codes "inter-packet") found));
+  settings = inject_settings;
+  go_together = λ found. not (has_flag (codes "replace") found && has_value (codes "inter-packet") found);
+}

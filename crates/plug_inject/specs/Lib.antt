@@ -1,0 +1,4 @@
+pub mod InjectRule
+pub mod InjectState
+pub mod InjectSettings
+pub mod InjectWords

@@ -1,0 +1,132 @@
+ghost use Rattle.std.specs.Prelude.{◌≡◌, ◌<◌, ◌^◌, ◌∷◌, ℕ, List, [], None, IfOk, is_some};
+ghost use Rattle.plug_inject.specs.InjectRule.{inject_rule, injected, has_packets, packet_behind};
+ghost use Rattle.plug_inject.specs.InjectSettings.{IsLawfulInject};
+ghost use Rattle.plug_inject.specs.InjectState.{Counts, how_of};
+
+use crate::inject_conf::{InjectConf, InjectMode};
+use plugin_trait::{Line, Outcome, Plugin, silent_report};
+use std::alloc::{AllocError, Global};
+use ts_packet::{Cell, NULL_PID, Packet};
+use ts_packetize::{PacketList, packets};
+use ts_section::Section;
+
+/// Puts the packets of some sections, over and over again, in the place of packets on their PID, or of null packets.
+#[derive(Drop)]
+pub struct Inject {
+    /// The PID of the packets that may be replaced.
+    target: u16,
+    /// So many packets before one that is replaced were not.
+    kept: u64,
+    contents: PacketList,
+    /// How many packets were put in.
+    put_in: u64,
+    /// How many packets have yet to be met before one may be replaced.
+    wait: u64,
+    alloc: Global,
+}
+
+impl Inject {
+    /// A plugin that met no cell yet. It takes room for the packets of the sections, and its steps take none: none of
+    /// them answers `NoMemory`.
+    pub fn new(
+        alloc: Global,
+        conf: &InjectConf,
+        sections: Vec<Section>,
+    ) -> Result<Inject, AllocError>
+        requires { IsLawfulInject conf.now }
+        ensures rule { IfOk result (λ plugin. ⟦<Inject as Plugin>⟧.rule plugin ≡ inject_rule conf.now sections.items) }
+        ensures fresh { IfOk result (λ plugin. ⟦<Inject as Plugin>⟧.stands_for plugin [] 0) }
+        ensures steady { IfOk result (λ plugin. ⟦<Inject as Plugin>⟧.steady plugin ≡ None) }
+    {
+        let pid = conf.pid as u16;
+        let contents = packets(alloc, pid, sections.as_slice())?;
+        let (target, kept) = match conf.mode {
+            InjectMode::Replace => (pid, 0),
+            InjectMode::InterPacket(distance) => (NULL_PID, distance - 1),
+        };
+        Ok(Inject {
+            target,
+            kept,
+            contents,
+            put_in: 0,
+            wait: 0,
+            alloc,
+        })
+    }
+
+    /// The packet that is put in next, if there are contents.
+    fn next_packet(&self) -> Option<Packet>
+        ensures next { result ≡ packet_behind self.now.contents self.now.put_in }
+        ensures some { is_some result ≡ has_packets self.now.contents }
+    {
+        let packets = self.contents.as_slice();
+        if packets.is_empty() {
+            return None;
+        }
+        let mut packet = packets[(self.put_in % packets.len() as u64) as usize];
+        packet.set_counter((self.put_in % 16) as u8);
+        Some(packet)
+    }
+
+    /// Meets the next packet, and puts another in its place where it is replaced.
+    #[inline]
+    fn meet(&mut self, packet: &mut Packet)
+        requires { self.old.put_in < 2 ^ 63 }
+        ensures made { (older : List (List ℕ)) → Counts (how_of self.old) self.old.put_in self.old.wait older
+            → packet.new ≡ injected (how_of self.old) older packet.old }
+        ensures counts { (older : List (List ℕ)) → Counts (how_of self.old) self.old.put_in self.old.wait older
+            → Counts (how_of self.old) self.new.put_in self.new.wait (packet.old ∷ older) }
+        ensures same { how_of self.new ≡ how_of self.old }
+    {
+        let wait = self.wait;
+        self.wait = wait.saturating_sub(1);
+        if wait > 0 {
+            return;
+        }
+        if packet.pid() != self.target {
+            return;
+        }
+        let Some(next) = self.next_packet() else {
+            return;
+        };
+        *packet = next;
+        self.put_in += 1;
+        self.wait = self.kept;
+    }
+}
+
+impl Plugin for Inject {
+    ghost use Rattle.std.specs.Prelude.{◌≤◌, length, reverse, None, refl};
+    ghost use Rattle.ts_packet.specs.Cells.{live_packets};
+    ghost use Rattle.plug_inject.specs.InjectRule.{injecting_rule};
+    ghost use Rattle.plug_inject.specs.InjectState.{Stands, how_of};
+
+    ghost rule = { λ s. injecting_rule (how_of s) };
+
+    ghost stands_for = { λ s history mark. Stands (how_of s) s.put_in s.wait history mark };
+
+    ghost steady = { λ s. None };
+
+    #[inline]
+    fn step(&mut self, _at: u64, cell: &mut Cell) -> Outcome {
+        let Cell::Live(packet, _) = cell else {
+            return Outcome::Pass;
+        };
+        self.meet(packet);
+        Outcome::Pass
+    }
+
+    fn note(&mut self, _written: u64) -> Result<(), AllocError> {
+        Ok(())
+    }
+
+    fn agreed(&self) -> bool {
+        false
+    }
+
+    fn finish(&mut self, _cut: u64) -> Result<Vec<Line>, AllocError> {
+        Ok(silent_report(self.alloc))
+    }
+
+    ghost starts_open = { λ plugin history mark stands. refl };
+}

@@ -1,0 +1,61 @@
+ghost use Rattle.std.specs.Prelude.{◌≡◌, IfOk};
+ghost use Rattle.clap.specs.Simple.{app_of};
+ghost use Rattle.option_words.specs.Options.{command_of};
+ghost use Rattle.option_words.specs.Refusal.{ReadsParsed};
+ghost use Rattle.plug_inject.specs.InjectSettings.{IsLawfulInject};
+ghost use Rattle.plug_inject.specs.InjectWords.{inject, inject_rows};
+
+use crate::inject_conf::{InjectConf, InjectMode, LAST_CARRIER};
+use clap::Command;
+use option_words::{
+    ParsedOptions, Refusal, WordsRule, new_command, with_flag, with_operand, with_value,
+};
+use plug_conf::MOST_NUMBER;
+use std::alloc::{AllocError, Global};
+
+/// The command of `inject`, which has its options.
+pub fn inject_command<'a>(alloc: Global) -> Result<Command<'a>, AllocError>
+    ensures { IfOk result (λ c. app_of c ≡ command_of inject_rows) }
+{
+    let command = with_operand(alloc, new_command(alloc), "operand")?;
+    let command = with_value(alloc, command, "pid")?;
+    let command = with_flag(alloc, command, "replace")?;
+    with_value(alloc, command, "inter-packet")
+}
+
+// Whether the file, the PID and one of the two modes are given.
+fn has_needed(found: &ParsedOptions) -> bool
+    ensures { result ≡ inject.has_needed found.now }
+{
+    found.has_value("operand")
+        && found.has_value("pid")
+        && (found.has_flag("replace") || found.has_value("inter-packet"))
+}
+
+// Whether at most one of the two modes is given.
+fn goes_together(found: &ParsedOptions) -> bool
+    ensures { result ≡ inject.go_together found.now }
+{
+    !(found.has_flag("replace") && found.has_value("inter-packet"))
+}
+
+/// Reads the settings of `inject` from what its command found in the words.
+pub fn inject_settings(alloc: Global, found: &ParsedOptions) -> Result<InjectConf, Refusal>
+    ensures reads { ReadsParsed inject found.now result }
+    ensures lawful { IfOk result IsLawfulInject }
+{
+    if !has_needed(found) {
+        return Err(Refusal::Broken(WordsRule::Missing));
+    }
+    let pid = found.number_or("pid", 0, LAST_CARRIER, 0)?;
+    let inter_packet = found.number("inter-packet", 1, MOST_NUMBER)?;
+    if !goes_together(found) {
+        return Err(Refusal::Broken(WordsRule::Conflict));
+    }
+    let file = found.text(alloc, "operand")?;
+    Ok(InjectConf {
+        file,
+        pid,
+        mode: InjectMode::of(inter_packet),
+    })
+}
