@@ -1,7 +1,7 @@
 ghost use Rattle.std.specs.Prelude.{◌<◌, ℕ, [], length, slice_index};
 
-use plug_pass::{Filter, FilterConf, Pattern, PatternConf, Skip, SkipConf, Slice, SliceConf};
 use plug_conf::NumberSet;
+use plug_pass::{Filter, FilterConf, Pattern, PatternConf, Skip, SkipConf, Slice, SliceConf};
 use plugin_trait::{ListEnd, Plugin, apply_plugin};
 use std::alloc::{AllocError, Global};
 use std::test::Fail;
