@@ -1,29 +1,28 @@
 -- What `analyze` keeps, one cell and one mark after another, and what it reports.
-use Rattle.std.proofs.Common.{◌≡◌, ℕ, ◌<◌, ◌≤◌, List, [], ◌∷◌, ◌++◌, length, take, ap, sym, subst, ◌∙◌, refl, Bool, true, false, arith, length-append}
+use Rattle.std.proofs.Common.{◌≡◌, ℕ, ◌<◌, ◌≤◌, List, [], ◌∷◌, ◌++◌, length, take, ap, sym, subst, ◌∙◌, refl, Bool, append-nil, arith, length-append}
 use Rattle.ts_packet.specs.declared.cell.Cell.{Cell}
 use Rattle.ts_packet.specs.declared.cell.Cell.TheVariants.{Live, Dropped}
-use Rattle.ts_packet.specs.declared.numbers.TheConstants.{PID_COUNT}
 use Rattle.ts_packet.specs.Cells.{live_packets}
 use Rattle.ts_packet.specs.Header.{pid_of, has_payload_of}
 use Rattle.chain_model.specs.declared.positions.TheConstants.{POSITION_LIMIT}
 use Rattle.plugin_trait.specs.declared.line.Line.{Line}
 use Rattle.plugin_trait.specs.PlacedLines.{placed_at, placed_of}
-use Rattle.plug_analyze.specs.declared.counters.Counters.{Counters}
+use Rattle.plug_watch.specs.ContinuitySeen.{Remembers}
+use Rattle.plug_watch.specs.NotesKept.{CanFold, Folds, notes_below}
+use Rattle.plug_watch.specs.declared.last_packets.LastPackets.{LastPackets}
+use Rattle.plug_watch.proofs.Keeping as keeping
+use Rattle.plug_watch.proofs.Watching.{remembers_dropped}
 use Rattle.plug_analyze.specs.declared.note.Note.{Note}
 use Rattle.plug_analyze.specs.declared.noted.Noted.{Noted}
 use Rattle.plug_analyze.specs.declared.service_count.ServiceCount.{ServiceCount}
 use Rattle.plug_analyze.specs.declared.services.Services.{Services}
 use Rattle.plug_analyze.specs.declared.totals.Totals.{Totals}
-use Rattle.plug_analyze.specs.AnalyzeNotes.{is_fault_at, noted}
-use Rattle.plug_analyze.specs.AnalyzeRule.{analyze_rule, has_pcr, is_scrambled, services_in_force, summary_on}
+use Rattle.plug_analyze.specs.AnalyzeNotes.{is_fault_at, note_on, noted, pid_in, place_of}
+use Rattle.plug_analyze.specs.AnalyzeRule.{all_pids, analyze_rule, has_pcr, is_scrambled, services_in_force, summary_on}
 use Rattle.plug_analyze.specs.AnalyzeState.{Analyzes, Serves}
-use Rattle.plug_analyze.specs.CountersSeen.{IsSeen}
-use Rattle.plug_analyze.specs.NotesKept.{Folds, KeepsNotes}
 use Rattle.plug_analyze.specs.ServicesKept.{DropsChanges}
-use Rattle.plug_analyze.specs.TotalsOf.{AreCounted}
-use Rattle.plug_analyze.proofs.CountersLemmas.{seen_dropped}
-use Rattle.plug_analyze.proofs.NotesLemmas.{are_counted}
-use Rattle.plug_analyze.proofs.NotesKeeping.{counted_are, notes_dropped, notes_folded, notes_live}
+use Rattle.plug_analyze.specs.TotalsOf.{AreCounted, AreTotals}
+use Rattle.plug_analyze.proofs.NotesLemmas.{are_counted, on_pids, one_note}
 use Rattle.plug_analyze.proofs.ServicesKeeping.{now_is, serves_dropped, serves_folded}
 use Rattle.plug_analyze.proofs.SummaryLemmas.{report_is}
 
@@ -40,50 +39,57 @@ note_is at pid payload scrambled fault pcr history packet a b c d e f =
     ∙ ap (λ (x : Bool). let note : Note = record { at = length history; pid = pid_of packet; has_payload = has_payload_of packet; is_scrambled = is_scrambled packet; is_fault = is_fault_at history packet; has_pcr = x } in note) f))))
 
 -- a dropped cell
-pub analyzes_dropped : (counters : Counters) (kept : Noted) (services : Services) (history : List Cell) (mark : ℕ) → length history < POSITION_LIMIT
-    → Analyzes counters kept services history mark → Analyzes counters kept services (history ++ Dropped ∷ []) mark
-analyzes_dropped counters kept services history mark few w = record {
-  seen = seen_dropped counters.seen.items history w.seen;
-  notes = notes_dropped kept.totals kept.notes.items history mark w.notes;
+pub analyzes_dropped : (last : LastPackets) (kept : Noted) (services : Services) (history : List Cell) (mark : ℕ) → length history < POSITION_LIMIT
+    → Analyzes last kept services history mark → Analyzes last kept services (history ++ Dropped ∷ []) mark
+analyzes_dropped last kept services history mark few w = record {
+  remembers = remembers_dropped all_pids last history w.remembers;
+  keeps = keeping.keeps_cell note_on place_of one_note kept.notes.items history mark w.keeps Dropped kept.notes.items (sym (append-nil kept.notes.items));
+  totals_are = subst (AreTotals kept.totals) (keeping.below_cell note_on history mark Dropped w.keeps.marked) w.totals_are;
   serves = serves_dropped services history mark w.serves;
-  marked = omega (arith, w.marked, length-append history (Dropped ∷ []));
   short = omega (arith, few, length-append history (Dropped ∷ []));
 }
 
 -- a packet, of which each part was told
-pub analyzes_live : (counters counters_new : Counters) (kept kept_new : Noted) (services services_new : Services) (history : List Cell) (mark : ℕ) (packet : List ℕ) (labels : ℕ) (note : Note)
-    → length history < POSITION_LIMIT → Analyzes counters kept services history mark
-    → IsSeen counters_new.seen.items (history ++ Live packet labels ∷ []) → Serves services_new (history ++ Live packet labels ∷ []) mark
-    → note ≡ noted history packet → note.pid < PID_COUNT → kept_new.notes.items ≡ kept.notes.items ++ note ∷ [] → kept_new.totals ≡ kept.totals
-    → Analyzes counters_new kept_new services_new (history ++ Live packet labels ∷ []) mark
-analyzes_live counters counters_new kept kept_new services services_new history mark packet labels note few w seen serves is below pushed same = record {
-  seen = seen;
-  notes = subst (λ (t : Totals). KeepsNotes t kept_new.notes.items (history ++ Live packet labels ∷ []) mark) (sym same)
-      (notes_live kept.totals kept.notes.items history mark w.notes packet labels note kept_new.notes.items is below pushed);
+pub analyzes_live : (last last_new : LastPackets) (kept kept_new : Noted) (services services_new : Services) (history : List Cell) (mark : ℕ) (packet : List ℕ) (labels : ℕ) (note : Note)
+    → length history < POSITION_LIMIT → Analyzes last kept services history mark
+    → Remembers all_pids last_new (history ++ Live packet labels ∷ []) → Serves services_new (history ++ Live packet labels ∷ []) mark
+    → note ≡ noted history packet → kept_new.notes.items ≡ kept.notes.items ++ note ∷ [] → kept_new.totals ≡ kept.totals
+    → Analyzes last_new kept_new services_new (history ++ Live packet labels ∷ []) mark
+analyzes_live last last_new kept kept_new services services_new history mark packet labels note few w remembers serves is pushed same = record {
+  remembers = remembers;
+  keeps = keeping.keeps_cell note_on place_of one_note kept.notes.items history mark w.keeps (Live packet labels) kept_new.notes.items
+      (pushed ∙ ap (λ (n : Note). kept.notes.items ++ n ∷ []) is);
+  totals_are = subst (λ (t : Totals). AreTotals t (notes_below note_on mark (history ++ Live packet labels ∷ []))) (sym same)
+      (subst (AreTotals kept.totals) (keeping.below_cell note_on history mark (Live packet labels) w.keeps.marked) w.totals_are);
   serves = serves;
-  marked = omega (arith, w.marked, length-append history (Live packet labels ∷ []));
   short = omega (arith, few, length-append history (Live packet labels ∷ []));
 }
 
-module _ (counters : Counters) (kept kept_new : Noted) (services services_new : Services) (history : List Cell) (mark to : ℕ)
-    (w : Analyzes counters kept services history mark) (later : mark ≤ to) (within : to ≤ length history)
-    (folds : Folds to kept.notes.items kept_new.notes.items kept.totals kept_new.totals)
+-- the notes can be counted
+pub can_fold : (last : LastPackets) (kept : Noted) (services : Services) (history : List Cell) (mark : ℕ) → Analyzes last kept services history mark
+    → CanFold pid_in AreTotals kept.notes.items kept.totals
+can_fold last kept services history mark w =
+    keeping.can_fold note_on place_of one_note kept.notes.items history mark w.keeps pid_in AreTotals kept.totals w.totals_are w.short on_pids
+
+module _ (last : LastPackets) (kept kept_new : Noted) (services services_new : Services) (history : List Cell) (mark to : ℕ)
+    (w : Analyzes last kept services history mark) (later : mark ≤ to) (within : to ≤ length history)
+    (folds : Folds place_of AreTotals to kept.notes.items kept_new.notes.items kept.totals kept_new.totals)
     (drops : DropsChanges to services.services.items services_new.services.items services.changes.items services_new.changes.items) where
+  -- what was counted then
+  totals_then : AreTotals kept_new.totals (notes_below note_on to history)
+  totals_then =
+      keeping.counted_below note_on place_of one_note kept.notes.items history mark w.keeps to kept_new.notes.items later within folds.takes AreTotals kept_new.totals
+      (folds.counted (notes_below note_on mark history) w.totals_are)
+
   -- a later mark
-  pub analyzes_folded : services_new.force ≡ services.force → Analyzes counters kept_new services_new history to
+  pub analyzes_folded : services_new.force ≡ services.force → Analyzes last kept_new services_new history to
   analyzes_folded same = record {
-    seen = w.seen;
-    notes = notes_folded kept.totals kept.notes.items history mark w.notes to kept_new.notes.items kept_new.totals later folds;
+    remembers = w.remembers;
+    keeps = keeping.keeps_left note_on place_of one_note kept.notes.items history mark w.keeps to kept_new.notes.items later within folds.takes;
+    totals_are = totals_then;
     serves = serves_folded services services_new history mark to w.serves later within drops same;
-    marked = within;
     short = w.short;
   }
-
-  -- what was counted then
-  pub counted_then : AreCounted kept_new.totals (take to history)
-  counted_then =
-      let after = notes_folded kept.totals kept.notes.items history mark w.notes to kept_new.notes.items kept_new.totals later folds in
-      are_counted kept_new.totals after.before (take to history) (counted_are kept_new.totals kept_new.notes.items history to after folds.left) after.totals_are
 
   -- the report over the cells before the position
   pub report_of : (totals : Totals) (ss : List ServiceCount) (before lines : List Line) → totals ≡ kept_new.totals → ss ≡ services_new.services.items → before ≡ []
@@ -91,6 +97,7 @@ module _ (counters : Counters) (kept kept_new : Noted) (services services_new : 
       → lines ≡ placed_of analyze_rule (take to history)
   report_of totals ss before lines totals_are ss_are none pushed =
       report_is history to lines within
-      (pushed (take to history) (subst (λ (t : Totals). AreCounted t (take to history)) (sym totals_are) counted_then)
+      (pushed (take to history)
+      (subst (λ (t : Totals). AreCounted t (take to history)) (sym totals_are) (are_counted kept_new.totals (notes_below note_on to history) (take to history) refl totals_then))
       (ss_are ∙ now_is services.services.items services.changes.items history mark w.serves.kept to services_new.services.items services_new.changes.items later within drops)
       ∙ ap (λ (ls : List Line). ls ++ placed_at to (summary_on (take to history))) none)

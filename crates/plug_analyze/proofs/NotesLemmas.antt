@@ -1,33 +1,33 @@
 -- The notes of a list of cells, and the PIDs that they have.
-use Rattle.std.proofs.Common.{◌≡◌, ℕ, List, [], ◌∷◌, ◌++◌, length, map, filter, ap, sym, subst, ◌∙◌, inr, refl, Bool, true, false, not, if◌then◌else◌, ◌==◌, append-nil, Option, None, Some}
+use Rattle.std.proofs.Common.{◌≡◌, ◌<◌, ℕ, List, [], ◌∷◌, ◌++◌, length, map, filter, ap, sym, subst, ◌∙◌, inr, refl, Bool, true, false, not, if◌then◌else◌, ◌==◌, Option, None, Some, arith}
+use Rattle.std.specs.List.{All}
 use Rattle.std.proofs.lemmas.List.{map-append}
-use Rattle.std.proofs.lemmas.List.Elements.{filter-append}
+use Rattle.std.proofs.lemmas.List.Elements.{All-push, filter-append}
 use Rattle.ts_packet.specs.declared.cell.Cell.{Cell}
 use Rattle.ts_packet.specs.declared.cell.Cell.TheVariants.{Live, Dropped}
-use Rattle.ts_packet.specs.declared.numbers.TheConstants.{NULL_PID}
+use Rattle.ts_packet.specs.declared.numbers.TheConstants.{NULL_PID, PID_COUNT}
+use Rattle.bit_rows.proofs.Fields.{field-below}
 use Rattle.ts_packet.specs.Header.{pid_of, counter_of, has_payload_of}
 use Rattle.ts_packet.specs.Cells.{live_packets}
 use Rattle.plug_watch.specs.declared.continuity_error.ContinuityError.{ContinuityError}
 use Rattle.plug_watch.specs.ContinuityRule.{is_fault, wanted_behind, last_of}
 use Rattle.plug_watch.specs.ContinuityErrors.{error_behind, error_on}
 use Rattle.plug_watch.specs.Notes.{notes_after}
-use Rattle.plug_watch.proofs.Noting.{IsNoteAt, notes_after-append}
+use Rattle.plug_watch.specs.Tallies.{IsCounted}
+use Rattle.plug_watch.proofs.Noting.{IsNoteAt}
 use Rattle.plug_analyze.specs.declared.note.Note.{Note}
 use Rattle.plug_analyze.specs.declared.totals.Totals.{Totals}
 use Rattle.plug_analyze.specs.AnalyzeRule.{all_pids, fault_pids, has_pcr, is_scrambled}
-use Rattle.plug_analyze.specs.AnalyzeNotes.{is_any, note_on, noted, notes_in}
-use Rattle.plug_analyze.specs.TotalsOf.{AreCounted, AreTotals, IsCounted, pids_of}
+use Rattle.plug_analyze.specs.AnalyzeNotes.{is_any, note_on, noted, pid_in, place_of}
+use Rattle.plug_analyze.specs.TotalsOf.{AreCounted, AreTotals, pids_of}
 
 -- each packet has one note, which bears its position
-pub one_note : (history : List Cell) (packet : List ℕ) → IsNoteAt (λ (n : Note). n.at) (length history) (note_on history packet)
+pub one_note : (history : List Cell) (packet : List ℕ) → IsNoteAt place_of (length history) (note_on history packet)
 one_note history packet = record { one = inr (noted history packet, refl, refl) }
 
--- the notes with one cell more
-pub notes_in-live : (history : List Cell) (packet : List ℕ) (labels : ℕ) → notes_in (history ++ Live packet labels ∷ []) ≡ notes_in history ++ noted history packet ∷ []
-notes_in-live history packet labels = notes_after-append note_on (λ (n : Note). n.at) one_note [] history (Live packet labels ∷ [])
-
-pub notes_in-dropped : (history : List Cell) → notes_in (history ++ Dropped ∷ []) ≡ notes_in history
-notes_in-dropped history = notes_after-append note_on (λ (n : Note). n.at) one_note [] history (Dropped ∷ []) ∙ append-nil (notes_in history)
+-- it is on a PID
+pub on_pids : (history : List Cell) (packet : List ℕ) → All (λ (n : Note). pid_in n < PID_COUNT) (note_on history packet)
+on_pids history packet = All-push (λ (n : Note). pid_in n < PID_COUNT) [] (noted history packet) (λ k d lt. absurd (let less : ⊥ = omega (arith, lt) in less)) (field-below packet 11 13)
 
 -- the PIDs of notes with one more
 pub pids_of-more : (notes : List Note) (note : Note) → pids_of (notes ++ note ∷ []) ≡ pids_of notes ++ note.pid ∷ []
@@ -96,7 +96,7 @@ pids_of-faults history (Live packet labels ∷ cells) =
 pids_of-faults history (Dropped ∷ cells) = pids_of-faults (history ++ Dropped ∷ []) cells
 
 -- what was counted of the notes of cells was counted of the cells
-pub are_counted : (totals : Totals) (notes : List Note) (cells : List Cell) → notes ≡ notes_in cells → AreTotals totals notes → AreCounted totals cells
+pub are_counted : (totals : Totals) (notes : List Note) (cells : List Cell) → notes ≡ notes_after note_on [] cells → AreTotals totals notes → AreCounted totals cells
 are_counted totals notes cells is t = record {
   packets = subst (IsCounted totals.packets) (ap pids_of is ∙ pids_of-notes [] cells) t.packets;
   payload = subst (IsCounted totals.payload)

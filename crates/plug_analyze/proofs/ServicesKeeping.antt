@@ -17,13 +17,14 @@ use Rattle.plug_psi.specs.declared.in_force.InForce.{InForce}
 use Rattle.plug_psi.specs.ForceStands as forcing
 use Rattle.plug_psi.specs.InForce.{pat_of, pmt_of, service_in, services_in}
 use Rattle.plug_psi.specs.SameForce.{SameInForce}
+use Rattle.plug_watch.specs.NotesKept.{StartsFrom}
 use Rattle.plug_watch.proofs.Noting.{is_below, not_below}
 use Rattle.plug_analyze.specs.declared.change.Change.{Change}
 use Rattle.plug_analyze.specs.declared.service_count.ServiceCount.{ServiceCount}
 use Rattle.plug_analyze.specs.declared.services.Services.{Services}
 use Rattle.plug_analyze.specs.AnalyzeRule.{service_with, services_in_force}
 use Rattle.plug_analyze.specs.AnalyzeState.{Serves}
-use Rattle.plug_analyze.specs.ServicesKept.{DropsChanges, KeepsServices, StartsFrom, changes_from, services_at, services_below}
+use Rattle.plug_analyze.specs.ServicesKept.{DropsChanges, KeepsServices, changes_from, place_of_change, services_at, services_below}
 
 -- the packets with one cell more
 live-live : (history : List Cell) (packet : List ℕ) (labels : ℕ) → live_packets (history ++ Live packet labels ∷ []) ≡ live_packets history ++ packet ∷ []
@@ -91,7 +92,7 @@ one_dropped mark services changes rest change is lt = (
 )
 
 -- where none is below the position, none is taken off
-pub none_dropped : (mark : ℕ) (services : List ServiceCount) (changes : List Change) → StartsFrom mark changes
+pub none_dropped : (mark : ℕ) (services : List ServiceCount) (changes : List Change) → StartsFrom place_of_change mark changes
     → (services_below mark services changes ≡ services) × (changes_from mark changes ≡ changes)
 none_dropped mark services [] starts = (refl, refl)
 none_dropped mark services (c ∷ cs) starts = (

@@ -11,15 +11,14 @@ use Rattle.ts_packet.specs.Header.{pid_of}
 use Rattle.plugin_trait.specs.declared.line.Line.{Line}
 use Rattle.plugin_trait.specs.PlacedLines.{placed_after, placed_at, placed_of}
 use Rattle.plug_watch.specs.CountRule.{numbers_below, packets_on}
-use Rattle.plug_watch.specs.Tallies.{IsTally}
+use Rattle.plug_watch.specs.Tallies.{IsCounted}
+use Rattle.plug_watch.specs.declared.tally.Tally.{Tally}
 use Rattle.plug_watch.proofs.Counting.{packets_on-pids}
 use Rattle.plug_watch.proofs.Summing.{numbers_below_more, placed_at-append}
 use Rattle.plug_analyze.specs.AnalyzeRule.{analyze_rule, counts_on, pid_text, summary_on}
-use Rattle.plug_analyze.specs.TotalsOf.{IsCounted}
-use Rattle.plug_analyze.specs.declared.pid_tally.PidTally.{PidTally}
 
 -- the number of packets on a PID is the tally's
-pub packets_known : (tally : PidTally) (packets : List (List ℕ)) (pid : ℕ) → IsCounted tally (map pid_of packets) → pid < PID_COUNT
+pub packets_known : (tally : Tally) (packets : List (List ℕ)) (pid : ℕ) → IsCounted tally (map pid_of packets) → pid < PID_COUNT
     → get_or tally.counts.items pid 0 ≡ packets_on pid packets
 packets_known tally packets pid t below = t.each pid below ∙ packets_on-pids pid packets
 

@@ -28,6 +28,13 @@ noted history packet = record {
   has_pcr = has_pcr packet;
 }
 
+-- the position of a note, and its PID
+abbrev pub place_of : Note → ℕ
+place_of note = note.at
+
+abbrev pub pid_in : Note → ℕ
+pid_in note = note.pid
+
 -- each packet has one
 abbrev pub note_on : List Cell → List ℕ → List Note
 note_on history packet = noted history packet ∷ []

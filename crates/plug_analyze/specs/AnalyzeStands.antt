@@ -10,8 +10,8 @@ has_failed s = s.failed
 
 -- its parts stand for the cells and the greatest mark
 abbrev pub StandsFor : Analyze → List Cell → ℕ → Type 0
-StandsFor s history mark = Analyzes s.counters s.noted s.services history mark
+StandsFor s history mark = Analyzes s.last s.noted s.services history mark
 
 -- they stand for some list of just so many cells
 abbrev pub StandsForSome : Analyze → ℕ → Type 0
-StandsForSome s at = AnalyzesSome s.counters s.noted s.services at
+StandsForSome s at = AnalyzesSome s.last s.noted s.services at

@@ -4,10 +4,13 @@ use Rattle.ts_packet.specs.declared.cell.Cell.{Cell}
 use Rattle.ts_packet.specs.Cells.{live_packets}
 use Rattle.chain_model.specs.declared.positions.TheConstants.{POSITION_LIMIT}
 use Rattle.plug_psi.specs.ForceStands as forcing
-use Rattle.plug_analyze.specs.CountersSeen.{IsSeen}
-use Rattle.plug_analyze.specs.NotesKept.{KeepsNotes}
+use Rattle.plug_watch.specs.ContinuitySeen.{Remembers}
+use Rattle.plug_watch.specs.NotesKept.{KeepsNotes, notes_below}
+use Rattle.plug_watch.specs.declared.last_packets.LastPackets.{LastPackets}
+use Rattle.plug_analyze.specs.AnalyzeNotes.{note_on}
+use Rattle.plug_analyze.specs.AnalyzeRule.{all_pids}
 use Rattle.plug_analyze.specs.ServicesKept.{KeepsServices}
-use Rattle.plug_analyze.specs.declared.counters.Counters.{Counters}
+use Rattle.plug_analyze.specs.TotalsOf.{AreTotals}
 use Rattle.plug_analyze.specs.declared.noted.Noted.{Noted}
 use Rattle.plug_analyze.specs.declared.services.Services.{Services}
 
@@ -17,16 +20,16 @@ pub record Serves (services : Services) (history : List Cell) (mark : ℕ) : Typ
   pub kept : KeepsServices services.services.items services.changes.items history mark
 
 -- the parts stand for the cells that were met, and for the greatest mark
-pub record Analyzes (counters : Counters) (noted : Noted) (services : Services) (history : List Cell) (mark : ℕ) : Type 0 where
-  pub seen : IsSeen counters.seen.items history
-  pub notes : KeepsNotes noted.totals noted.notes.items history mark
+pub record Analyzes (last : LastPackets) (noted : Noted) (services : Services) (history : List Cell) (mark : ℕ) : Type 0 where
+  pub remembers : Remembers all_pids last history
+  pub keeps : KeepsNotes note_on noted.notes.items history mark
+  pub totals_are : AreTotals noted.totals (notes_below note_on mark history)
   pub serves : Serves services history mark
-  pub marked : mark ≤ length history
   pub short : length history ≤ POSITION_LIMIT
 
 -- they stand for some list of just so many cells
-pub record AnalyzesSome (counters : Counters) (noted : Noted) (services : Services) (at : ℕ) : Type 0 where
+pub record AnalyzesSome (last : LastPackets) (noted : Noted) (services : Services) (at : ℕ) : Type 0 where
   pub history : List Cell
   pub mark : ℕ
-  pub stands : Analyzes counters noted services history mark
+  pub stands : Analyzes last noted services history mark
   pub count : length history ≡ at

@@ -4,7 +4,5 @@ pub mod AnalyzeSettings
 pub mod AnalyzeState
 pub mod AnalyzeStands
 pub mod AnalyzeWords
-pub mod CountersSeen
-pub mod NotesKept
 pub mod ServicesKept
 pub mod TotalsOf

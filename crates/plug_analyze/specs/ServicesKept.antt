@@ -22,10 +22,9 @@ abbrev pub changes_from : ℕ → List Change → List Change
 changes_from k [] = []
 changes_from k (change ∷ changes) = if nat_lt change.at k then changes_from k changes else change ∷ changes
 
--- the first change, where there is one, is not below the position
-abbrev pub StartsFrom : ℕ → List Change → Type 0
-StartsFrom mark [] = Unit {0}
-StartsFrom mark (change ∷ changes) = mark ≤ change.at
+-- the position of a change
+abbrev pub place_of_change : Change → ℕ
+place_of_change change = change.at
 
 -- the changes tell of each position from the mark on which services are in force there
 pub record KeepsServices (services : List ServiceCount) (changes : List Change) (history : List Cell) (mark : ℕ) : Type 0 where

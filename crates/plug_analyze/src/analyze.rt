@@ -2,11 +2,12 @@ ghost use Rattle.std.specs.Prelude.{◌≡◌, IfOk, [], None};
 ghost use Rattle.plug_analyze.specs.AnalyzeRule.{analyze_rule};
 
 use crate::analyze_conf::AnalyzeConf;
-use crate::counters::Counters;
+use crate::counters::meet_counter;
 use crate::note::Note;
 use crate::noted::Noted;
 use crate::services::Services;
 use crate::summary::push_summary;
+use plug_watch::LastPackets;
 use plugin_trait::{Line, Outcome, Plugin};
 use std::alloc::{AllocError, Global};
 use ts_packet::{Cell, Packet};
@@ -16,7 +17,7 @@ use ts_packet::{Cell, Packet};
 /// A step may want memory, and then every later step does, and nothing is told.
 #[derive(Drop)]
 pub struct Analyze {
-    counters: Counters,
+    last: LastPackets,
     noted: Noted,
     services: Services,
     failed: bool,
@@ -41,9 +42,9 @@ impl Analyze {
         ensures steady { IfOk result (λ plugin. ⟦<Analyze as Plugin>⟧.steady plugin ≡ None) }
     {
         Ok(Analyze {
-            counters: Counters::new(alloc)?,
+            last: LastPackets::new(alloc)?,
             noted: Noted::new(alloc, buffer)?,
-            services: Services::new(alloc)?,
+            services: Services::new(alloc, buffer)?,
             failed: false,
             alloc,
         })
@@ -83,7 +84,7 @@ impl Analyze {
             pid: packet.pid(),
             has_payload: packet.has_payload(),
             is_scrambled: packet.scrambling() != 0,
-            is_fault: self.counters.meet(packet),
+            is_fault: meet_counter(&mut self.last, at, packet),
             has_pcr: packet.pcr().is_some(),
         };
         self.noted.push(note)?;

@@ -1,4 +1,5 @@
 use crate::service_count::ServiceCount;
+use plug_watch::PacketNote;
 
 /// The services in force from a packet on, with which the tables in force changed.
 #[derive(Drop, Debug)]
@@ -7,4 +8,14 @@ pub struct Change {
     pub at: u64,
     /// The services in force with it.
     pub services: Vec<ServiceCount>,
+}
+
+impl PacketNote for Change {
+    ghost use Rattle.plug_analyze.specs.ServicesKept.{place_of_change};
+
+    ghost place = { place_of_change };
+
+    fn at(&self) -> u64 {
+        self.at
+    }
 }

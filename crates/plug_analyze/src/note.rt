@@ -1,3 +1,5 @@
+use plug_watch::PacketNote;
+
 /// What is kept of a packet for as long as it may still stand behind the cut.
 #[derive(Debug, Clone, Copy, PartialEq, Eq)]
 pub struct Note {
@@ -13,4 +15,14 @@ pub struct Note {
     pub is_fault: bool,
     /// It has a PCR.
     pub has_pcr: bool,
+}
+
+impl PacketNote for Note {
+    ghost use Rattle.plug_analyze.specs.AnalyzeNotes.{place_of};
+
+    ghost place = { place_of };
+
+    fn at(&self) -> u64 {
+        self.at
+    }
 }

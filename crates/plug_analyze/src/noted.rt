@@ -1,46 +1,46 @@
 //! Notes of packets, and what they came to.
-ghost use Rattle.std.specs.Prelude.{◌≡◌, ◌<◌, ◌∷◌, IfSome, IfNone};
-ghost use Rattle.plug_analyze.specs.NotesKept.{StartsFrom};
-
 use crate::note::Note;
 use crate::totals::Totals;
+use circular_buffer::HeapCircularBuffer;
+use plug_watch::{pop_below, push_note};
 use std::alloc::{AllocError, Global};
-use std::collections::VecDeque;
 
 /// Notes of the packets behind the greatest mark, and the numbers of those below it.
 #[derive(Drop, Debug)]
 pub struct Noted {
     totals: Totals,
-    notes: VecDeque<Note>,
+    notes: HeapCircularBuffer<Note>,
 }
 
 impl Noted {
     ghost use Rattle.std.specs.Prelude.{◌≡◌, ◌++◌, ◌∷◌, [], IfOk, OnOk};
-    ghost use Rattle.plug_analyze.specs.NotesKept.{CanFold, Folds, KeepsNotes};
+    ghost use Rattle.plug_watch.specs.NotesKept.{CanFold, Folds};
+    ghost use Rattle.plug_analyze.specs.AnalyzeNotes.{pid_in, place_of};
+    ghost use Rattle.plug_analyze.specs.TotalsOf.{AreTotals};
 
     /// Nothing was noted. It takes 320 KiB, and room for notes on as many packets as the buffer holds.
     pub fn new(alloc: Global, buffer: usize) -> Result<Noted, AllocError>
-        ensures { IfOk result (λ noted. KeepsNotes noted.totals noted.notes.items [] 0) }
+        ensures totals { IfOk result (λ noted. AreTotals noted.totals []) }
+        ensures notes { IfOk result (λ noted. noted.notes.items ≡ []) }
     {
         Ok(Noted {
             totals: Totals::new(alloc)?,
-            notes: VecDeque::with_capacity(alloc, buffer)?,
+            notes: HeapCircularBuffer::with_capacity(alloc, buffer)?,
         })
     }
 
-    /// Notes a packet behind the others.
+    /// Notes a packet behind the others. Where the buffer is full it answers `AllocError`, and no note is lost.
     pub fn push(&mut self, note: Note) -> Result<(), AllocError>
         ensures notes { OnOk result (self.new.notes.items ≡ self.old.notes.items ++ note ∷ []) }
         ensures totals { self.new.totals ≡ self.old.totals }
     {
-        self.notes.push_back(note)?;
-        Ok(())
+        push_note(&mut self.notes, note)
     }
 
     /// Counts the notes below a position, and takes them off.
     pub fn fold_below(&mut self, mark: u64)
-        requires { CanFold self.old.totals self.old.notes.items }
-        ensures { Folds mark self.old.notes.items self.new.notes.items self.old.totals self.new.totals }
+        requires { CanFold pid_in AreTotals self.old.notes.items self.old.totals }
+        ensures { Folds place_of AreTotals mark self.old.notes.items self.new.notes.items self.old.totals self.new.totals }
     {
         while let Some(note) = pop_below(&mut self.notes, mark) {
             self.totals.add(note);
@@ -53,15 +53,4 @@ impl Noted {
     {
         &self.totals
     }
-}
-
-// Takes the first note off, where it is below a position.
-fn pop_below(notes: &mut VecDeque<Note>, mark: u64) -> Option<Note>
-    ensures taken { IfSome result (λ note. (notes.old.items ≡ note ∷ notes.new.items) × (note.at < mark)) }
-    ensures left { IfNone result ((notes.new.items ≡ notes.old.items) × StartsFrom mark notes.old.items) }
-{
-    if notes.front()?.at >= mark {
-        return None;
-    }
-    notes.pop_front()
 }

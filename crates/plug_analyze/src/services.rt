@@ -1,16 +1,16 @@
 //! The services in force.
-ghost use Rattle.std.specs.Prelude.{◌≡◌, ◌≤◌, ◌<◌, ◌∷◌, ℕ, List, IfOk, IfSome, IfNone, OnOk, [], length, Some, option_map};
+ghost use Rattle.std.specs.Prelude.{◌≡◌, ℕ, List, IfOk, Some, option_map};
 ghost use Rattle.plug_psi.specs.ForceStands.{StandsFor as IsFed};
 ghost use Rattle.plug_psi.specs.InForce.{pmt_of, service_in};
 ghost use Rattle.ts_psi.specs.PatTables.{service_item};
-ghost use Rattle.plug_analyze.specs.AnalyzeRule.{components_in, services_in_force, service_with};
-ghost use Rattle.plug_analyze.specs.ServicesKept.{StartsFrom};
+ghost use Rattle.plug_analyze.specs.AnalyzeRule.{components_in, service_with, services_in_force};
 
 use crate::change::Change;
 use crate::service_count::ServiceCount;
+use circular_buffer::HeapCircularBuffer;
 use plug_psi::InForce;
+use plug_watch::{pop_below, push_note};
 use std::alloc::{AllocError, Global};
-use std::collections::VecDeque;
 use ts_packet::Packet;
 use ts_psi::PatService;
 
@@ -21,7 +21,7 @@ pub struct Services {
     /// The services in force at the greatest mark.
     services: Vec<ServiceCount>,
     /// Those that came into force behind it.
-    changes: VecDeque<Change>,
+    changes: HeapCircularBuffer<Change>,
     alloc: Global,
 }
 
@@ -32,16 +32,17 @@ impl Services {
     ghost use Rattle.plug_analyze.specs.AnalyzeState.{Serves};
     ghost use Rattle.plug_analyze.specs.ServicesKept.{DropsChanges};
 
-    /// Nothing is in force before a packet was met.
-    pub fn new(alloc: Global) -> Result<Services, AllocError>
+    /// Nothing is in force before a packet was met. It takes room for changes at as many packets as the buffer holds.
+    pub fn new(alloc: Global, buffer: usize) -> Result<Services, AllocError>
         ensures { IfOk result (λ services. Serves services [] 0) }
     {
         let force = InForce::new(alloc)?;
         let services = services_of(alloc, &force)?;
+        let changes = HeapCircularBuffer::with_capacity(alloc, buffer)?;
         Ok(Services {
             force,
             services,
-            changes: VecDeque::new(alloc),
+            changes,
             alloc,
         })
     }
@@ -56,7 +57,7 @@ impl Services {
             return Ok(());
         }
         let services = services_of(self.alloc, &self.force)?;
-        self.changes.push_back(Change { at, services })?;
+        push_note(&mut self.changes, Change { at, services })?;
         Ok(())
     }
 
@@ -76,17 +77,6 @@ impl Services {
     {
         self.services.as_slice()
     }
-}
-
-// Takes the first change off, where it is below a position.
-fn pop_below(changes: &mut VecDeque<Change>, mark: u64) -> Option<Change>
-    ensures taken { IfSome result (λ change. (changes.old.items ≡ change ∷ changes.new.items) × (change.at < mark)) }
-    ensures left { IfNone result ((changes.new.items ≡ changes.old.items) × StartsFrom mark changes.old.items) }
-{
-    if changes.front()?.at >= mark {
-        return None;
-    }
-    changes.pop_front()
 }
 
 // The services of the PAT in force, in its order.

@@ -6,7 +6,8 @@ ghost use Rattle.ts_packet.specs.Cells.{live_packets};
 ghost use Rattle.ts_packet.specs.Header.{pid_of};
 ghost use Rattle.plugin_trait.specs.PlacedLines.{placed_at};
 ghost use Rattle.plug_analyze.specs.AnalyzeRule.{head_lines, pid_text, counts_on, pids_with, service_text, services_in_force, summary_on};
-ghost use Rattle.plug_analyze.specs.TotalsOf.{AreCounted, AreWhole, IsCounted};
+ghost use Rattle.plug_watch.specs.Tallies.{IsCounted, IsWhole};
+ghost use Rattle.plug_analyze.specs.TotalsOf.{AreCounted, AreWhole};
 
 use crate::lines::push_line;
 use crate::service_count::ServiceCount;
@@ -34,7 +35,7 @@ pub fn push_summary(
 
 // The PIDs that have packets, ascending.
 fn pids_with_packets(alloc: Global, totals: &Totals) -> Result<Vec<u16>, AllocError>
-    requires { length totals.now.packets.counts.items ≡ PID_COUNT }
+    requires { IsWhole totals.now.packets }
     ensures pids { IfOk result (λ pids. (packets : List (List ℕ)) → IsCounted totals.now.packets (map pid_of packets)
         → pids.items ≡ pids_with packets) }
     ensures range { IfOk result (λ pids. All (λ pid. pid < PID_COUNT) pids.items) }
@@ -63,7 +64,7 @@ fn push_head(
     totals: &Totals,
     pids: usize,
 ) -> Result<(), AllocError>
-    requires { length totals.now.packets.counts.items ≡ PID_COUNT }
+    requires { IsWhole totals.now.packets }
     ensures { OnOk result ((packets : List (List ℕ)) → IsCounted totals.now.packets (map pid_of packets) → pids ≡ length (pids_with packets)
         → lines.new.items ≡ lines.old.items ++ placed_at cut (head_lines packets)) }
 {

@@ -4,17 +4,17 @@ ghost use Rattle.ts_packet.specs.declared.numbers.TheConstants.{PID_COUNT};
 
 use crate::note::Note;
 use crate::pid_counts::PidCounts;
-use crate::pid_tally::PidTally;
+use plug_watch::Tally;
 use std::alloc::{AllocError, Global};
 
 /// The packets that were counted, by their PIDs, once for each kind.
 #[derive(Drop, Debug)]
 pub struct Totals {
-    packets: PidTally,
-    payload: PidTally,
-    scrambled: PidTally,
-    faults: PidTally,
-    pcr: PidTally,
+    packets: Tally,
+    payload: Tally,
+    scrambled: Tally,
+    faults: Tally,
+    pcr: Tally,
 }
 
 impl Totals {
@@ -28,11 +28,11 @@ impl Totals {
         ensures { IfOk result (λ totals. AreTotals totals []) }
     {
         Ok(Totals {
-            packets: PidTally::new(alloc)?,
-            payload: PidTally::new(alloc)?,
-            scrambled: PidTally::new(alloc)?,
-            faults: PidTally::new(alloc)?,
-            pcr: PidTally::new(alloc)?,
+            packets: Tally::new(alloc)?,
+            payload: Tally::new(alloc)?,
+            scrambled: Tally::new(alloc)?,
+            faults: Tally::new(alloc)?,
+            pcr: Tally::new(alloc)?,
         })
     }
 
@@ -57,7 +57,8 @@ impl Totals {
     ghost use Rattle.ts_packet.specs.Header.{pid_of};
     ghost use Rattle.plug_watch.specs.CountRule.{packets_on};
     ghost use Rattle.plug_analyze.specs.AnalyzeRule.{counts_on};
-    ghost use Rattle.plug_analyze.specs.TotalsOf.{AreCounted, AreWhole, IsCounted};
+    ghost use Rattle.plug_watch.specs.Tallies.{IsCounted, IsWhole};
+    ghost use Rattle.plug_analyze.specs.TotalsOf.{AreCounted, AreWhole};
 
     /// How many packets were counted in all.
     pub fn packets(&self) -> u64
@@ -69,7 +70,7 @@ impl Totals {
     /// How many packets were counted on a PID.
     pub fn packets_on(&self, pid: u16) -> u64
         requires on_pid { pid < PID_COUNT }
-        requires whole { length self.now.packets.counts.items ≡ PID_COUNT }
+        requires whole { IsWhole self.now.packets }
         ensures { (packets : List (List ℕ)) → IsCounted self.now.packets (map pid_of packets) → result ≡ packets_on pid packets }
     {
         self.packets.count_on(pid)

@@ -1,98 +1,91 @@
 -- Notes that are taken off the front one after another.
-use Rattle.std.proofs.Common.{◌≡◌, ℕ, ◌<◌, List, [], ◌∷◌, ◌++◌, length, map, drop, Bool, ap, sym, subst, ◌∙◌, refl, true, ◌&&◌, nat_lt, append_assoc, append-nil, arith, length-append}
+use Rattle.std.proofs.Common.{◌≡◌, ℕ, ◌+◌, ◌<◌, ◌≤◌, ◌^◌, List, [], ◌∷◌, ◌++◌, length, drop, Bool, ap, sym, subst, ◌∙◌, refl, true, ◌&&◌, nat_lt, append_assoc, append-nil, arith, length-append}
 use Rattle.std.specs.List.{All, list_all}
-use Rattle.std.proofs.lemmas.List.{map-append, length-map}
 use Rattle.std.proofs.lemmas.List.Folds.{list_all-append}
 use Rattle.std.proofs.lemmas.List.Elements.{All-drop, All-head}
 use Rattle.std.proofs.Math.Seq.{drop-append_seam}
-use Rattle.plugin_trait.specs.declared.line.Line.{Line}
 use Rattle.ts_packet.specs.declared.numbers.TheConstants.{PID_COUNT}
-use Rattle.plug_watch.specs.declared.note.Note.{Note}
-use Rattle.plug_watch.specs.Tallies.{IsTally, HasRoomFor}
-use Rattle.plug_watch.specs.Folding.{pids_of, line_of_note, CanFold, FoldsWith, StartsFrom}
+use Rattle.plug_watch.specs.NotesKept.{CanFold, Folds, StartsFrom, TakesBelow}
 use Rattle.plug_watch.proofs.Noting.{is_below}
 
--- some notes were taken off the front, and counted; others may follow
-pub record IsFolding (mark : ℕ) (old new : List Note) (counts : List ℕ) (total : ℕ) (counts_new : List ℕ) (total_new : ℕ) : Type 0 where
-  pub taken : List Note
+-- some notes below the position were taken off the front; others may follow
+pub record IsTaking {N : Type 0} (at : N → ℕ) (mark : ℕ) (old new : List N) : Type 0 where
+  pub taken : List N
   pub split : old ≡ taken ++ new
-  pub below : list_all (λ (note : Note). nat_lt note.at mark) taken ≡ true
-  pub counted : (pids : List ℕ) → IsTally counts total pids → IsTally counts_new total_new (pids ++ pids_of taken)
+  pub below : list_all (λ (note : N). nat_lt (at note) mark) taken ≡ true
 
--- and each has its line behind others
-pub record IsFoldingWith (mark : ℕ) (old new : List Note) (counts : List ℕ) (total : ℕ) (counts_new : List ℕ) (total_new : ℕ) (lines lines_new : List Line) : Type 0 where
-  pub folding : IsFolding mark old new counts total counts_new total_new
-  pub lines_are : lines_new ≡ lines ++ map line_of_note folding.taken
+-- and they were counted
+pub record IsFolding {N S : Type 0} (at : N → ℕ) (Counted : S → List N → Type 0) (mark : ℕ) (old new : List N) (sums sums_new : S) : Type 0 where
+  pub taking : IsTaking at mark old new
+  pub counted : (before : List N) → Counted sums before → Counted sums_new (before ++ taking.taken)
 
-module _ (mark : ℕ) (old new : List Note) (counts : List ℕ) (total : ℕ) (counts_new : List ℕ) (total_new : ℕ)
-    (so_far : IsFolding mark old new counts total counts_new total_new) where
-  -- one more can be counted
-  pub has_room : (note : Note) (rest : List Note) → CanFold old counts total → new ≡ note ∷ rest → HasRoomFor counts_new total_new
-  has_room note rest can is = record {
-    pids = can.pids ++ pids_of so_far.taken;
-    tally = so_far.counted can.pids can.tally;
-    few = omega (
-      arith,
-      can.few,
-      length-append can.pids (pids_of so_far.taken),
-      length-map so_far.taken (λ (n : Note). n.pid),
-      ap length so_far.split,
-      length-append so_far.taken new,
-      ap length is,
-    );
+module _ {N : Type 0} (at : N → ℕ) (mark : ℕ) where
+  -- none is taken yet
+  abbrev pub none_taken : (notes : List N) → IsTaking at mark notes notes
+  none_taken notes = record { taken = []; split = refl; below = refl }
+
+  -- one more is taken
+  abbrev pub one_taken : (old new : List N) → IsTaking at mark old new → (note : N) (rest : List N) → new ≡ note ∷ rest → at note < mark → IsTaking at mark old rest
+  one_taken old new so_far note rest is below = record {
+    taken = so_far.taken ++ note ∷ [];
+    split = so_far.split ∙ (ap (λ (ns : List N). so_far.taken ++ ns) is ∙ sym (append_assoc so_far.taken (note ∷ []) rest));
+    below = list_all-append (λ (n : N). nat_lt (at n) mark) so_far.taken (note ∷ [])
+        ∙ (ap (λ (b : Bool). b && (nat_lt (at note) mark && true)) so_far.below ∙ ap (λ (b : Bool). b && true) (is_below (at note) mark below));
   }
 
-  -- it is on a PID
-  pub on_pid : (note : Note) (rest : List Note) → CanFold old counts total → new ≡ note ∷ rest → note.pid < PID_COUNT
-  on_pid note rest can is =
-      All-head (λ (n : Note). n.pid < PID_COUNT) note rest
-      (subst (All (λ (n : Note). n.pid < PID_COUNT)) (ap (λ (ns : List Note). drop (length so_far.taken) ns) so_far.split ∙ (drop-append_seam so_far.taken new ∙ is))
-      (All-drop (λ (n : Note). n.pid < PID_COUNT) (length so_far.taken) old can.on_pids))
+  -- all are taken that are below the position
+  pub all_taken : (old new rest : List N) → IsTaking at mark old new → rest ≡ new → StartsFrom at mark new → TakesBelow at mark old rest
+  all_taken old new rest so_far same left =
+      subst (λ (ns : List N). TakesBelow at mark old ns) (sym same)
+      (record { taken = so_far.taken; split = so_far.split; below = so_far.below; left = left })
 
-  module _ (note : Note) (rest : List Note) (counts_next : List ℕ) (total_next : ℕ) (is : new ≡ note ∷ rest) (below : note.at < mark)
-      (adds : (pids : List ℕ) → IsTally counts_new total_new pids → IsTally counts_next total_next (pids ++ note.pid ∷ [])) where
-    -- one more is taken
-    abbrev pub one_taken : IsFolding mark old rest counts total counts_next total_next
-    one_taken = record {
-      taken = so_far.taken ++ note ∷ [];
-      split = so_far.split ∙ (ap (λ (ns : List Note). so_far.taken ++ ns) is ∙ sym (append_assoc so_far.taken (note ∷ []) rest));
-      below = list_all-append (λ (n : Note). nat_lt n.at mark) so_far.taken (note ∷ [])
-          ∙ (ap (λ (b : Bool). b && (nat_lt note.at mark && true)) so_far.below ∙ ap (λ (b : Bool). b && true) (is_below note.at mark below));
-      counted = λ pids tally.
-          subst (λ (ps : List ℕ). IsTally counts_next total_next ps)
-          (append_assoc pids (pids_of so_far.taken) (note.pid ∷ []) ∙ ap (λ (ps : List ℕ). pids ++ ps) (sym (map-append (λ (n : Note). n.pid) so_far.taken (note ∷ []))))
-          (adds (pids ++ pids_of so_far.taken) (so_far.counted pids tally));
+  module _ {S : Type 0} (Counted : S → List N → Type 0) where
+    -- none is counted yet
+    pub none_folded : (notes : List N) (sums : S) → IsFolding at Counted mark notes notes sums sums
+    none_folded notes sums = record {
+      taking = none_taken notes;
+      counted = λ before counted. subst (Counted sums) (sym (append-nil before)) counted;
     }
 
-    -- with its line
-    pub one_taken_with : (lines lines_new lines_next : List Line) → lines_new ≡ lines ++ map line_of_note so_far.taken
-        → lines_next ≡ lines_new ++ line_of_note note ∷ [] → IsFoldingWith mark old rest counts total counts_next total_next lines lines_next
-    one_taken_with lines lines_new lines_next lines_are pushed = record {
-      folding = one_taken;
-      lines_are = pushed ∙ (ap (λ (ls : List Line). ls ++ line_of_note note ∷ []) lines_are
-          ∙ (append_assoc lines (map line_of_note so_far.taken) (line_of_note note ∷ [])
-          ∙ ap (λ (ls : List Line). lines ++ ls) (sym (map-append line_of_note so_far.taken (note ∷ [])))));
-    }
+    -- all are counted that are below the position
+    pub all_folded : (old new rest : List N) (sums sums_new : S) → IsFolding at Counted mark old new sums sums_new → rest ≡ new → StartsFrom at mark new
+        → Folds at Counted mark old rest sums sums_new
+    all_folded old new rest sums sums_new so_far same left =
+        let all : Folds at Counted mark old new sums sums_new = record {
+          takes = record { taken = so_far.taking.taken; split = so_far.taking.split; below = so_far.taking.below; left = left };
+          counted = so_far.counted;
+        } in
+        subst (λ (ns : List N). Folds at Counted mark old ns sums sums_new) (sym same) all
 
--- none is taken yet
-pub none_taken_with : (mark : ℕ) (notes : List Note) (counts : List ℕ) (total : ℕ) (lines : List Line) → IsFoldingWith mark notes notes counts total counts total lines lines
-none_taken_with mark notes counts total lines = record {
-  folding = record {
-    taken = [];
-    split = refl;
-    below = refl;
-    counted = λ pids tally. subst (λ (ps : List ℕ). IsTally counts total ps) (sym (append-nil pids)) tally;
-  };
-  lines_are = sym (append-nil lines);
-}
+    module _ (old new : List N) (sums sums_new : S) (so_far : IsFolding at Counted mark old new sums sums_new) (note : N) (rest : List N) (is : new ≡ note ∷ rest) where
+      -- one more is counted
+      pub one_folded : (sums_next : S) → at note < mark → ((notes : List N) → Counted sums_new notes → Counted sums_next (notes ++ note ∷ []))
+          → IsFolding at Counted mark old rest sums sums_next
+      one_folded sums_next below adds = record {
+        taking = one_taken old new so_far.taking note rest is below;
+        counted = λ before counted.
+            subst (Counted sums_next) (append_assoc before so_far.taking.taken (note ∷ [])) (adds (before ++ so_far.taking.taken) (so_far.counted before counted));
+      }
 
--- all are taken that are below the position
-pub all_taken_with : (mark : ℕ) (old new : List Note) (counts : List ℕ) (total : ℕ) (counts_new : List ℕ) (total_new : ℕ) (lines lines_new : List Line)
-    → IsFoldingWith mark old new counts total counts_new total_new lines lines_new → (rest : List Note) → rest ≡ new → StartsFrom mark new
-    → FoldsWith mark old rest counts total counts_new total_new lines lines_new
-all_taken_with mark old new counts total counts_new total_new lines lines_new so_far rest same left =
-    let all : FoldsWith mark old new counts total counts_new total_new lines lines_new = record {
-      folds = record { taken = so_far.folding.taken; split = so_far.folding.split; below = so_far.folding.below; left = left; counted = so_far.folding.counted };
-      lines_are = so_far.lines_are;
-    } in
-    subst (λ (ns : List Note). FoldsWith mark old ns counts total counts_new total_new lines lines_new) (sym same) all
+      module _ (pid : N → ℕ) (can : CanFold pid Counted old sums) where
+        -- what was counted, and how much it is
+        pub counted_now : Counted sums_new (can.before ++ so_far.taking.taken)
+        counted_now = so_far.counted can.before can.counted
+
+        pub few_now : length (can.before ++ so_far.taking.taken) < 2 ^ 63
+        few_now = omega (
+          arith,
+          can.few,
+          length-append can.before so_far.taking.taken,
+          ap length so_far.taking.split,
+          length-append so_far.taking.taken new,
+          ap length is,
+        )
+
+        -- the next one is on a PID
+        pub on_pid : pid note < PID_COUNT
+        on_pid =
+            All-head (λ (n : N). pid n < PID_COUNT) note rest
+            (subst (All (λ (n : N). pid n < PID_COUNT))
+            (ap (λ (ns : List N). drop (length so_far.taking.taken) ns) so_far.taking.split ∙ (drop-append_seam so_far.taking.taken new ∙ is))
+            (All-drop (λ (n : N). pid n < PID_COUNT) (length so_far.taking.taken) old can.on_pids))

@@ -145,3 +145,18 @@ module _ {N : Type 0} (note : List Cell → List ℕ → List N) (at : N → ℕ
       ∙ (ap (λ (ls : List Line). map line (note history packet) ++ ls) (placed_after-notes rule line lines (history ++ Live packet labels ∷ []) cells)
       ∙ sym (map-append line (note history packet) (notes_after note (history ++ Live packet labels ∷ []) cells)))
   placed_after-notes rule line lines history (Dropped ∷ cells) = placed_after-notes rule line lines (history ++ Dropped ∷ []) cells
+
+-- of the lines of the notes below a position one more is made, that of the first
+pub lines_more : {N : Type 0} (at : N → ℕ) (line : N → Line) (mark : ℕ) (lines lines_new all : List Line) (left rest : List N) (note : N) (made : Line)
+    → left ≡ note ∷ rest → at note < mark → made ≡ line note → lines_new ≡ lines ++ made ∷ []
+    → lines ++ map line (take_while (λ n. nat_lt (at n) mark) left) ≡ all
+    → lines_new ++ map line (take_while (λ n. nat_lt (at n) mark) rest) ≡ all
+lines_more {N} at line mark lines lines_new all left rest note made is below made_is pushed so_far =
+    let more = take_while (λ (n : N). nat_lt (at n) mark) rest in
+    let front : take_while (λ (n : N). nat_lt (at n) mark) left ≡ note ∷ more =
+    ap (take_while (λ (n : N). nat_lt (at n) mark)) is
+    ∙ (take_while-cons (λ (n : N). nat_lt (at n) mark) note rest
+    ∙ ap (λ (b : Bool). if b then note ∷ more else []) (is_below (at note) mark below)) in
+    ap (λ (ls : List Line). ls ++ map line more) (pushed ∙ ap (λ (l : Line). lines ++ l ∷ []) made_is)
+    ∙ (append_assoc lines (line note ∷ []) (map line more)
+    ∙ (ap (λ (ns : List N). lines ++ map line ns) (sym front) ∙ so_far))

@@ -16,10 +16,13 @@ use Rattle.ts_packet.specs.Cells.{live_packets, packet_in}
 use Rattle.plug_watch.specs.declared.continuity_conf.ContinuityConf.{ContinuityConf}
 use Rattle.plug_watch.specs.declared.continuity_error.ContinuityError.{ContinuityError}
 use Rattle.plug_watch.specs.declared.last_packet.LastPacket.{LastPacket}
+use Rattle.plug_watch.specs.declared.last_packets.LastPackets.{LastPackets}
 use Rattle.plug_watch.specs.ContinuityRule.{is_watched, is_duplicate, is_fault, wanted_behind, packets_of, last_behind, last_in, last_of, step_behind, steps_behind, right_counter, fault_behind, fault_on, fault_text, faults_in, faults_text, continuity_rule}
-use Rattle.plug_watch.specs.ContinuityErrors.{error_behind, error_on, errors_in, line_of_error, text_of_error}
+use Rattle.plug_watch.specs.ContinuityErrors.{error_behind, error_on, line_of_error, place_of_error, text_of_error}
 use Rattle.plug_watch.specs.Notes.{notes_after}
-use Rattle.plug_watch.specs.ContinuitySeen.{seen_in, seen_with, right_after, fault_after, HasCounters, Watches}
+use Rattle.plug_watch.specs.NotesKept.{TakesBelow, notes_below}
+use Rattle.plug_watch.proofs.Keeping as keeping
+use Rattle.plug_watch.specs.ContinuitySeen.{HasCounters, IsTable, Remembers, Watches, fault_after, right_after, seen_in, seen_with}
 
 -- the last one
 last_behind-append : (first : List ℕ) (rest : List (List ℕ)) (packet : List ℕ) → last_behind first (rest ++ packet ∷ []) ≡ packet
@@ -78,127 +81,150 @@ packets_of-dropped pid history =
     ap (filter (λ p. pid_of p == pid)) (flat_map-append packet_in history (Dropped ∷ []) ∙ append-nil (live_packets history))
 
 -- one fault at most
-one_fault_behind : (at : ℕ) (before : Option (List ℕ)) (packet : List ℕ) → IsNoteAt (λ (f : ContinuityError). f.at) at (error_behind at before packet)
+one_fault_behind : (at : ℕ) (before : Option (List ℕ)) (packet : List ℕ) → IsNoteAt place_of_error at (error_behind at before packet)
 one_fault_behind at None packet = record { one = inl refl }
 one_fault_behind at (Some before) packet =
     let fault : ContinuityError = record { at = at; pid = pid_of packet; counter = counter_of packet; wanted = wanted_behind before packet } in
-    elim (is_fault before packet) as (λ b. IsNoteAt (λ (f : ContinuityError). f.at) at (if b then fault ∷ [] else [])) [
+    elim (is_fault before packet) as (λ b. IsNoteAt place_of_error at (if b then fault ∷ [] else [])) [
       | true ↦ record { one = inr (fault, refl, refl) }
       | false ↦ record { one = inl refl }
     ]
 
-pub one_fault : (conf : ContinuityConf) (history : List Cell) (packet : List ℕ) → IsNoteAt (λ (f : ContinuityError). f.at) (length history) (error_on conf history packet)
+pub one_fault : (conf : ContinuityConf) (history : List Cell) (packet : List ℕ) → IsNoteAt place_of_error (length history) (error_on conf history packet)
 one_fault conf history packet =
-    elim (is_watched conf (pid_of packet)) as (λ b. IsNoteAt (λ (f : ContinuityError). f.at) (length history) (if b then error_behind (length history) (last_of (pid_of packet) history) packet else [])) [
+    elim (is_watched conf (pid_of packet)) as (λ b. IsNoteAt place_of_error (length history) (if b then error_behind (length history) (last_of (pid_of packet) history) packet else [])) [
       | true ↦ one_fault_behind (length history) (last_of (pid_of packet) history) packet
       | false ↦ record { one = inl refl }
     ]
 
--- the faults with one packet more
-faults_in-live : (conf : ContinuityConf) (history : List Cell) (packet : List ℕ) (labels : ℕ) → errors_in conf (history ++ Live packet labels ∷ []) ≡ errors_in conf history ++ error_on conf history packet
-faults_in-live conf history packet labels =
-    notes_after-append (error_on conf) (λ (f : ContinuityError). f.at) (one_fault conf) [] history (Live packet labels ∷ [])
-    ∙ ap (λ (fs : List ContinuityError). errors_in conf history ++ fs) (append-nil (error_on conf history packet))
-
-faults_in-dropped : (conf : ContinuityConf) (history : List Cell) → errors_in conf (history ++ Dropped ∷ []) ≡ errors_in conf history
-faults_in-dropped conf history =
-    notes_after-append (error_on conf) (λ (f : ContinuityError). f.at) (one_fault conf) [] history (Dropped ∷ []) ∙ append-nil (errors_in conf history)
-
--- a cell more is a cell more
-longer : (history : List Cell) (cell : Cell) (mark : ℕ) → mark ≤ length history → mark ≤ length (history ++ cell ∷ [])
-longer history cell mark le = omega (arith, length-append history (cell ∷ []))
-
-module _ (conf : ContinuityConf) (seen : List (Option LastPacket)) (faults : List ContinuityError) (history : List Cell) (mark : ℕ)
-    (w : Watches conf seen faults history mark) where
+module _ (conf : ContinuityConf) (last : LastPackets) (history : List Cell) (r : Remembers conf last history) where
   -- a dropped cell changes nothing of what is kept
-  pub watches_dropped : Watches conf seen faults (history ++ Dropped ∷ []) mark
-  watches_dropped = record {
-    whole = w.whole;
-    each = λ pid below watched. w.each pid below watched ∙ ap seen_in (sym (packets_of-dropped pid history));
-    small = w.small;
-    all = w.all ∙ sym (faults_in-dropped conf history);
-    marked = longer history Dropped mark w.marked;
+  pub remembers_dropped : Remembers conf last (history ++ Dropped ∷ [])
+  remembers_dropped = record {
+    table = r.table;
+    each = λ pid below watched. r.each pid below watched ∙ ap seen_in (sym (packets_of-dropped pid history));
   }
 
   -- nor does a packet on a PID that is not looked at
-  pub watches_other : (packet : List ℕ) (labels : ℕ) → is_watched conf (pid_of packet) ≡ false → Watches conf seen faults (history ++ Live packet labels ∷ []) mark
-  watches_other packet labels unwatched = record {
-    whole = w.whole;
+  pub remembers_other : (packet : List ℕ) (labels : ℕ) → is_watched conf (pid_of packet) ≡ false → Remembers conf last (history ++ Live packet labels ∷ [])
+  remembers_other packet labels unwatched = record {
+    table = r.table;
     each = λ pid below watched.
         let other : pid_of packet ≡ pid → ⊥ = λ same. false≢true (sym unwatched ∙ (ap (is_watched conf) same ∙ watched)) in
-        w.each pid below watched ∙ ap seen_in (sym (
+        r.each pid below watched ∙ ap seen_in (sym (
         packets_of-live pid history packet labels
         ∙ (ap (λ (b : Bool). packets_of pid history ++ (if b then packet ∷ [] else [])) (ne_eqb (pid_of packet) pid other)
         ∙ append-nil (packets_of pid history))));
-    small = w.small;
-    all = w.all ∙ sym (
-        faults_in-live conf history packet labels
-        ∙ (ap (λ (b : Bool). errors_in conf history ++ (if b then error_behind (length history) (last_of (pid_of packet) history) packet else [])) unwatched
-        ∙ append-nil (errors_in conf history)));
-    marked = longer history (Live packet labels) mark w.marked;
   }
 
-  module _ (packet : List ℕ) (labels : ℕ) (before : Option LastPacket) (below : pid_of packet < PID_COUNT) (watched : is_watched conf (pid_of packet) ≡ true)
-      (is : before ≡ get_or seen (pid_of packet) None) where
+  module _ (packet : List ℕ) (before : Option LastPacket) (below : pid_of packet < PID_COUNT) (watched : is_watched conf (pid_of packet) ≡ true)
+      (is : before ≡ get_or last.seen.items (pid_of packet) None) where
     -- what was kept is that of the packets on the PID
-    pub before_is : before ≡ seen_in (packets_of (pid_of packet) history)
-    before_is = is ∙ w.each (pid_of packet) below watched
+    before_is : before ≡ seen_in (packets_of (pid_of packet) history)
+    before_is = is ∙ r.each (pid_of packet) below watched
 
-    -- the packets on the PID with this one
-    packets_with : packets_of (pid_of packet) (history ++ Live packet labels ∷ []) ≡ packets_of (pid_of packet) history ++ packet ∷ []
-    packets_with =
-        packets_of-live (pid_of packet) history packet labels
-        ∙ ap (λ (b : Bool). packets_of (pid_of packet) history ++ (if b then packet ∷ [] else [])) (eq-eqb (pid_of packet) (pid_of packet) refl)
+    -- the fault of the packet
+    pub fault_is : (at : ℕ) → length history ≡ at → fault_after at before packet ≡ error_on conf history packet
+    fault_is at count =
+        ap (λ (s : Option LastPacket). fault_after at s packet) before_is
+        ∙ (ap (λ (n : ℕ). fault_after n (seen_in (packets_of (pid_of packet) history)) packet) (sym count)
+        ∙ (fault_after-seen (length history) (packets_of (pid_of packet) history) packet
+        ∙ sym (ap (λ (b : Bool). if b then error_behind (length history) (last_of (pid_of packet) history) packet else []) watched)))
 
     -- the counter that the packet is to have
     pub right_is : counter_of packet < 16 → right_after before packet ≡ right_counter (packets_of (pid_of packet) history ++ packet ∷ [])
     right_is few =
         ap (λ (s : Option LastPacket). right_after s packet) before_is ∙ sym (right_counter-append (packets_of (pid_of packet) history) packet few)
 
-    -- a packet that is looked at is kept
-    pub watches_live : counter_of packet < 16 → right_after before packet < 16
-        → Watches conf (set seen (pid_of packet) (Some (seen_with before packet))) (faults ++ fault_after (length history) before packet) (history ++ Live packet labels ∷ []) mark
-    watches_live few right_few = record {
-      whole = length-set seen (pid_of packet) (Some (seen_with before packet)) ∙ w.whole;
-      each = λ pid pid_below pid_watched. elim (cases_eq pid (pid_of packet)) [
-        | inl same ↦ subst (λ (q : ℕ). get_or (set seen (pid_of packet) (Some (seen_with before packet))) q None ≡ seen_in (packets_of q (history ++ Live packet labels ∷ []))) (sym same)
-            (get_or-set_same seen (pid_of packet) (Some (seen_with before packet)) None (omega (arith, w.whole))
-            ∙ (ap (λ (s : Option LastPacket). let t : Option LastPacket = Some (seen_with s packet) in t) before_is
-            ∙ (sym (seen_in-append (packets_of (pid_of packet) history) packet few)
-            ∙ ap seen_in (sym packets_with))))
-        | inr other ↦
-            get_or-set_other seen (pid_of packet) pid (Some (seen_with before packet)) None other
-            ∙ (w.each pid pid_below pid_watched
-            ∙ ap seen_in (sym (
-            packets_of-live pid history packet labels
-            ∙ (ap (λ (b : Bool). packets_of pid history ++ (if b then packet ∷ [] else [])) (ne_eqb (pid_of packet) pid (λ same. other (sym same)))
-            ∙ append-nil (packets_of pid history)))))
-      ];
-      small = λ pid. elim (cases_eq pid (pid_of packet)) [
-        | inl same ↦ subst HasCounters (sym (ap (λ (q : ℕ). get_or (set seen (pid_of packet) (Some (seen_with before packet))) q None) same
-            ∙ get_or-set_same seen (pid_of packet) (Some (seen_with before packet)) None (omega (arith, w.whole)))) (few, right_few)
-        | inr other ↦ subst HasCounters (sym (get_or-set_other seen (pid_of packet) pid (Some (seen_with before packet)) None other)) (w.small pid)
-      ];
-      all =
-          ap (λ (fs : List ContinuityError). fs ++ fault_after (length history) before packet) w.all
-          ∙ (ap (λ (fs : List ContinuityError). errors_in conf history ++ fs)
-          (ap (λ (s : Option LastPacket). fault_after (length history) s packet) before_is
-          ∙ (fault_after-seen (length history) (packets_of (pid_of packet) history) packet
-          ∙ sym (ap (λ (b : Bool). if b then error_behind (length history) (last_of (pid_of packet) history) packet else []) watched)))
-          ∙ sym (faults_in-live conf history packet labels));
-      marked = longer history (Live packet labels) mark w.marked;
-    }
+    -- the packets on the PID with this one
+    packets_with : (labels : ℕ) → packets_of (pid_of packet) (history ++ Live packet labels ∷ []) ≡ packets_of (pid_of packet) history ++ packet ∷ []
+    packets_with labels =
+        packets_of-live (pid_of packet) history packet labels
+        ∙ ap (λ (b : Bool). packets_of (pid_of packet) history ++ (if b then packet ∷ [] else [])) (eq-eqb (pid_of packet) (pid_of packet) refl)
 
-    -- the same, in the words of a step that looks the place up, keeps the packet and notes its fault
-    pub watches_kept : (place at : ℕ) (next : LastPacket) (faults_new : List ContinuityError) → counter_of packet < 16 → next.right < 16
-        → place ≡ pid_of packet → next ≡ seen_with before packet → length history ≡ at → faults_new ≡ faults ++ fault_after at before packet
-        → Watches conf (set seen place (Some next)) faults_new (history ++ Live packet labels ∷ []) mark
-    watches_kept place at next faults_new few right_few place_is next_is count faults_are =
-        let stands = watches_live few (subst (λ (s : LastPacket). s.right < 16) next_is right_few) in
-        let with_next = subst (λ (s : LastPacket). Watches conf (set seen (pid_of packet) (Some s)) (faults ++ fault_after (length history) before packet) (history ++ Live packet labels ∷ []) mark) (sym next_is) stands in
-        let with_place = subst (λ (q : ℕ). Watches conf (set seen q (Some next)) (faults ++ fault_after (length history) before packet) (history ++ Live packet labels ∷ []) mark) (sym place_is) with_next in
-        let with_count = subst (λ (n : ℕ). Watches conf (set seen place (Some next)) (faults ++ fault_after n before packet) (history ++ Live packet labels ∷ []) mark) count with_place in
-        subst (λ (fs : List ContinuityError). Watches conf (set seen place (Some next)) fs (history ++ Live packet labels ∷ []) mark) (sym faults_are) with_count
+    module _ (labels : ℕ) (last_new : LastPackets) (few : counter_of packet < 16) (right_few : right_after before packet < 16)
+        (set_is : last_new.seen.items ≡ set last.seen.items (pid_of packet) (Some (seen_with before packet))) where
+      -- at the packet's place
+      at_place : get_or last_new.seen.items (pid_of packet) None ≡ Some (seen_with before packet)
+      at_place =
+          ap (λ (ss : List (Option LastPacket)). get_or ss (pid_of packet) None) set_is
+          ∙ get_or-set_same last.seen.items (pid_of packet) (Some (seen_with before packet)) None (omega (arith, r.table.whole))
+
+      -- at others
+      at_other : (pid : ℕ) → (pid ≡ pid_of packet → ⊥) → get_or last_new.seen.items pid None ≡ get_or last.seen.items pid None
+      at_other pid other =
+          ap (λ (ss : List (Option LastPacket)). get_or ss pid None) set_is
+          ∙ get_or-set_other last.seen.items (pid_of packet) pid (Some (seen_with before packet)) None other
+
+      -- a packet that is looked at is kept
+      pub remembers_live : Remembers conf last_new (history ++ Live packet labels ∷ [])
+      remembers_live = record {
+        table = record {
+          whole = ap length set_is ∙ (length-set last.seen.items (pid_of packet) (Some (seen_with before packet)) ∙ r.table.whole);
+          small = λ pid. elim (cases_eq pid (pid_of packet)) [
+            | inl same ↦ subst HasCounters (sym (ap (λ (q : ℕ). get_or last_new.seen.items q None) same ∙ at_place)) (few, right_few)
+            | inr other ↦ subst HasCounters (sym (at_other pid other)) (r.table.small pid)
+          ];
+        };
+        each = λ pid pid_below pid_watched. elim (cases_eq pid (pid_of packet)) [
+          | inl same ↦ subst (λ (q : ℕ). get_or last_new.seen.items q None ≡ seen_in (packets_of q (history ++ Live packet labels ∷ []))) (sym same)
+              (at_place
+              ∙ (ap (λ (s : Option LastPacket). let t : Option LastPacket = Some (seen_with s packet) in t) before_is
+              ∙ (sym (seen_in-append (packets_of (pid_of packet) history) packet few)
+              ∙ ap seen_in (sym (packets_with labels)))))
+          | inr other ↦
+              at_other pid other
+              ∙ (r.each pid pid_below pid_watched
+              ∙ ap seen_in (sym (
+              packets_of-live pid history packet labels
+              ∙ (ap (λ (b : Bool). packets_of pid history ++ (if b then packet ∷ [] else [])) (ne_eqb (pid_of packet) pid (λ same. other (sym same)))
+              ∙ append-nil (packets_of pid history)))))
+        ];
+      }
+
+module _ (conf : ContinuityConf) (last : LastPackets) (notes : List ContinuityError) (lines : List Line) (history : List Cell) (mark : ℕ)
+    (w : Watches conf last notes lines history mark) where
+  -- one cell more, whose faults stand behind the others
+  pub watches_cell : (cell : Cell) (last_new : LastPackets) (notes_new : List ContinuityError) → Remembers conf last_new (history ++ cell ∷ [])
+      → notes_new ≡ notes ++ notes_after (error_on conf) history (cell ∷ []) → Watches conf last_new notes_new lines (history ++ cell ∷ []) mark
+  watches_cell cell last_new notes_new remembers is = record {
+    remembers = remembers;
+    keeps = keeping.keeps_cell (error_on conf) place_of_error (one_fault conf) notes history mark w.keeps cell notes_new is;
+    lined = w.lined ∙ ap (map line_of_error) (keeping.below_cell (error_on conf) history mark cell w.keeps.marked);
+  }
+
+  -- a dropped cell
+  pub watches_dropped : Watches conf last notes lines (history ++ Dropped ∷ []) mark
+  watches_dropped = watches_cell Dropped last notes (remembers_dropped conf last history w.remembers) (sym (append-nil notes))
+
+  -- a packet on a PID that is not looked at
+  pub watches_other : (packet : List ℕ) (labels : ℕ) → is_watched conf (pid_of packet) ≡ false → Watches conf last notes lines (history ++ Live packet labels ∷ []) mark
+  watches_other packet labels unwatched =
+      watches_cell (Live packet labels) last notes (remembers_other conf last history w.remembers packet labels unwatched)
+      (sym (ap (λ (b : Bool). notes ++ ((if b then error_behind (length history) (last_of (pid_of packet) history) packet else []) ++ [])) unwatched ∙ append-nil notes))
+
+  -- a packet that is looked at
+  pub watches_live : (packet : List ℕ) (labels : ℕ) (last_new : LastPackets) (notes_new faults : List ContinuityError)
+      → Remembers conf last_new (history ++ Live packet labels ∷ []) → faults ≡ error_on conf history packet → notes_new ≡ notes ++ faults
+      → Watches conf last_new notes_new lines (history ++ Live packet labels ∷ []) mark
+  watches_live packet labels last_new notes_new faults remembers faults_are pushed =
+      watches_cell (Live packet labels) last_new notes_new remembers
+      (pushed ∙ ap (λ (fs : List ContinuityError). notes ++ fs) (faults_are ∙ sym (append-nil (error_on conf history packet))))
+
+  -- a later mark
+  pub watches_folded : (to : ℕ) (notes_new : List ContinuityError) (lines_new : List Line) → mark ≤ to → to ≤ length history
+      → TakesBelow place_of_error to notes notes_new
+      → lines_new ≡ lines ++ map line_of_error (take_while (λ (f : ContinuityError). nat_lt (place_of_error f) to) notes)
+      → Watches conf last notes_new lines_new history to
+  watches_folded to notes_new lines_new le within takes pushed = record {
+    remembers = w.remembers;
+    keeps = keeping.keeps_left (error_on conf) place_of_error (one_fault conf) notes history mark w.keeps to notes_new le within takes;
+    lined = keeping.lines_below (error_on conf) place_of_error (one_fault conf) notes history mark w.keeps to notes_new le within takes line_of_error lines lines_new w.lined pushed;
+  }
+
+  -- where memory was wanted
+  pub watches_same : (lines_new : List Line) → lines_new ≡ lines → Watches conf last notes lines_new history mark
+  watches_same lines_new same = record { remembers = w.remembers; keeps = w.keeps; lined = same ∙ w.lined }
 
 -- the rule's line of a packet is that of its fault
 texts_behind : (at : ℕ) (before : Option (List ℕ)) (packet : List ℕ) → fault_behind at before packet ≡ map text_of_error (error_behind at before packet)
@@ -230,22 +256,18 @@ same_number conf history (Live packet labels ∷ cells) =
     ∙ sym (length-append (error_on conf history packet) (notes_after (error_on conf) next cells)))
 same_number conf history (Dropped ∷ cells) = same_number conf (history ++ Dropped ∷ []) cells
 
--- the report over the cells before a position
-pub report_is : (conf : ContinuityConf) (history : List Cell) (cut : ℕ) → cut ≤ length history
-    → let lines : List Line = map line_of_error (take_while (λ (f : ContinuityError). nat_lt f.at cut) (errors_in conf history)) in
-    lines ++ record { at = cut; text = faults_text (length lines) } ∷ [] ≡ placed_of (continuity_rule conf) (take cut history)
-report_is conf history cut within =
-    let cells = take cut history in
-    let all : cut - 0 ≡ cut = omega arith in
-    let front : take_while (λ (f : ContinuityError). nat_lt f.at cut) (errors_in conf history) ≡ errors_in conf cells =
-    take_while-notes_after (error_on conf) (λ (f : ContinuityError). f.at) (one_fault conf) cut [] history
-    ∙ ap (λ (k : ℕ). errors_in conf (take k history)) all in
-    let count : length (map line_of_error (errors_in conf cells)) ≡ length (errors_in conf cells) = length-map (errors_in conf cells) line_of_error in
-    let lines : placed_after (continuity_rule conf) [] cells ≡ map line_of_error (errors_in conf cells) =
-    placed_after-notes (error_on conf) (λ (f : ContinuityError). f.at) (one_fault conf) (continuity_rule conf) line_of_error
-    (λ h packet labels. ap (placed_at (length h)) (texts_on conf h packet) ∙ placed_at-notes (λ (f : ContinuityError). f.at) text_of_error (length h) (error_on conf h packet) (one_fault conf h packet)) [] cells in
-    ap (λ (fs : List ContinuityError). map line_of_error fs ++ (let l : Line = record { at = cut; text = faults_text (length (map line_of_error fs)) } in l) ∷ []) front
-    ∙ (ap (λ (n : ℕ). map line_of_error (errors_in conf cells) ++ (let l : Line = record { at = cut; text = faults_text n } in l) ∷ []) count
-    ∙ (ap (λ (n : ℕ). map line_of_error (errors_in conf cells) ++ (let l : Line = record { at = n; text = faults_text (length (errors_in conf cells)) } in l) ∷ []) (sym (length-take-le cut history within))
-    ∙ (ap (λ (ls : List Line). ls ++ placed_at (length cells) (faults_text (length (errors_in conf cells)) ∷ [])) (sym lines)
-    ∙ ap (λ (n : ℕ). placed_after (continuity_rule conf) [] cells ++ placed_at (length cells) (faults_text n ∷ [])) (sym (same_number conf [] cells)))))
+-- the report over the cells before the mark
+pub report_is : (conf : ContinuityConf) (last : LastPackets) (notes : List ContinuityError) (lines : List Line) (history : List Cell) (mark : ℕ)
+    → Watches conf last notes lines history mark
+    → lines ++ (let l : Line = record { at = mark; text = faults_text (length lines) } in l) ∷ [] ≡ placed_of (continuity_rule conf) (take mark history)
+report_is conf last notes lines history mark w =
+    let cells = take mark history in
+    let errors = notes_after (error_on conf) [] cells in
+    let count : length lines ≡ length (faults_in conf cells) = ap length w.lined ∙ (length-map errors line_of_error ∙ sym (same_number conf [] cells)) in
+    let placed : placed_after (continuity_rule conf) [] cells ≡ map line_of_error errors =
+    placed_after-notes (error_on conf) place_of_error (one_fault conf) (continuity_rule conf) line_of_error
+    (λ h packet labels. ap (placed_at (length h)) (texts_on conf h packet) ∙ placed_at-notes place_of_error text_of_error (length h) (error_on conf h packet) (one_fault conf h packet)) [] cells in
+    ap (λ (n : ℕ). lines ++ (let l : Line = record { at = mark; text = faults_text n } in l) ∷ []) count
+    ∙ (ap (λ (ls : List Line). ls ++ (let l : Line = record { at = mark; text = faults_text (length (faults_in conf cells)) } in l) ∷ []) (w.lined ∙ sym placed)
+    ∙ ap (λ (n : ℕ). placed_after (continuity_rule conf) [] cells ++ (let l : Line = record { at = n; text = faults_text (length (faults_in conf cells)) } in l) ∷ [])
+    (sym (length-take-le mark history w.keeps.marked)))

@@ -27,6 +27,10 @@ error_on conf history packet =
 abbrev pub errors_in : ContinuityConf → List Cell → List ContinuityError
 errors_in conf cells = notes_after (error_on conf) [] cells
 
+-- the position of a fault
+abbrev pub place_of_error : ContinuityError → ℕ
+place_of_error error = error.at
+
 -- the text of a fault
 abbrev pub text_of_error : ContinuityError → List ℕ
 text_of_error error = fault_text error.at error.pid error.counter error.wanted

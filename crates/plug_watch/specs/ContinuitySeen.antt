@@ -1,15 +1,18 @@
 -- What `continuity` keeps of the packets on a PID. This project's own rule.
-use Rattle.std.specs.Prelude.{◌≡◌, ◌<◌, ◌≤◌, ℕ, ◌+◌, ◌%◌, List, [], ◌∷◌, length, Bool, true, not, ◌==◌, ◌&&◌, Option, None, Some, if◌then◌else◌}
+use Rattle.std.specs.Prelude.{◌≡◌, ◌<◌, ℕ, ◌+◌, ◌%◌, List, [], ◌∷◌, length, map, Bool, true, not, ◌==◌, ◌&&◌, Option, None, Some, if◌then◌else◌}
 use Rattle.std.specs.List.{slice_index_or}
 use Rattle.ts_packet.specs.declared.cell.Cell.{Cell}
+use Rattle.plugin_trait.specs.declared.line.Line.{Line}
 use Rattle.ts_packet.specs.Header.{pid_of, counter_of, has_payload_of}
 use Rattle.ts_packet.specs.Adaptation.{discontinuity_of}
 use Rattle.ts_packet.specs.declared.numbers.TheConstants.{PID_COUNT}
 use Rattle.plug_watch.specs.declared.continuity_conf.ContinuityConf.{ContinuityConf}
 use Rattle.plug_watch.specs.ContinuityRule.{is_watched, packets_of, last_behind, right_counter}
-use Rattle.plug_watch.specs.ContinuityErrors.{errors_in}
+use Rattle.plug_watch.specs.ContinuityErrors.{error_on, line_of_error}
+use Rattle.plug_watch.specs.NotesKept.{KeepsNotes, notes_below}
 use Rattle.plug_watch.specs.declared.continuity_error.ContinuityError.{ContinuityError}
 use Rattle.plug_watch.specs.declared.last_packet.LastPacket.{LastPacket}
+use Rattle.plug_watch.specs.declared.last_packets.LastPackets.{LastPackets}
 
 -- of the packets on a PID the last one's counter and payload, and the counter that it was to have
 abbrev pub seen_in : List (List ℕ) → Option LastPacket
@@ -61,17 +64,18 @@ abbrev pub HasCounters : Option LastPacket → Type 0
 HasCounters None = Unit {0}
 HasCounters (Some seen) = (seen.counter < 16) × (seen.right < 16)
 
--- what is kept is that of a history
-pub record Watches (conf : ContinuityConf) (seen : List (Option LastPacket)) (faults : List ContinuityError) (history : List Cell) (mark : ℕ) : Type 0 where
-  pub whole : length seen ≡ PID_COUNT
-  pub each : (pid : ℕ) → pid < PID_COUNT → is_watched conf pid ≡ true → slice_index_or seen pid None ≡ seen_in (packets_of pid history)
-  pub small : (pid : ℕ) → HasCounters (slice_index_or seen pid None)
-  pub all : faults ≡ errors_in conf history
-  pub marked : mark ≤ length history
+-- there is a place for each PID, and counters are below 16
+pub record IsTable (last : LastPackets) : Type 0 where
+  pub whole : length last.seen.items ≡ PID_COUNT
+  pub small : (pid : ℕ) → HasCounters (slice_index_or last.seen.items pid None)
 
--- what is kept is that of some history of so many cells
-pub record WatchesSome (conf : ContinuityConf) (seen : List (Option LastPacket)) (faults : List ContinuityError) (at : ℕ) : Type 0 where
-  pub history : List Cell
-  pub mark : ℕ
-  pub watches : Watches conf seen faults history mark
-  pub count : length history ≡ at
+-- what is kept of each PID that is looked at is that of the packets on it
+pub record Remembers (conf : ContinuityConf) (last : LastPackets) (history : List Cell) : Type 0 where
+  pub table : IsTable last
+  pub each : (pid : ℕ) → pid < PID_COUNT → is_watched conf pid ≡ true → slice_index_or last.seen.items pid None ≡ seen_in (packets_of pid history)
+
+-- the last packets are remembered; the faults before the mark are in the lines, and those behind it in the notes
+pub record Watches (conf : ContinuityConf) (last : LastPackets) (notes : List ContinuityError) (lines : List Line) (history : List Cell) (mark : ℕ) : Type 0 where
+  pub remembers : Remembers conf last history
+  pub keeps : KeepsNotes (error_on conf) notes history mark
+  pub lined : lines ≡ map line_of_error (notes_below (error_on conf) mark history)

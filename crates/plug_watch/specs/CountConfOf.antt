@@ -1,7 +1,14 @@
--- The settings that a value of `count` has. This project's own rule.
+-- The settings that a value of `count` has, and the cells that it stands for. This project's own rule.
+use Rattle.std.specs.Prelude.{ℕ, List}
+use Rattle.ts_packet.specs.declared.cell.Cell.{Cell}
+use Rattle.plug_watch.specs.CountState.{Counts}
 use Rattle.plug_watch.specs.declared.count_conf.CountConf.{CountConf}
 use Rattle.plug_watch.specs.declared.count.Count.{Count}
 
 -- the settings of the plugin
 abbrev pub conf_of : Count → CountConf
 conf_of s = record { pid = s.pids; negate = s.negate; all = s.all; total = s.total }
+
+-- its parts stand for the cells that were met, and for the greatest mark
+abbrev pub StandsFor : Count → List Cell → ℕ → Type 0
+StandsFor s history mark = Counts (conf_of s) s.notes.items s.tally s.lines.items history mark

@@ -4,7 +4,7 @@ pub mod CountNotes
 pub mod ContinuityErrors
 pub mod CountState
 pub mod CountConfOf
-pub mod Folding
+pub mod NotesKept
 pub mod Tallies
 pub mod ContinuityRule
 pub mod ContinuitySeen

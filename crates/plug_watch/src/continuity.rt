@@ -1,17 +1,16 @@
-ghost use Rattle.std.specs.Prelude.{◌≡◌, ◌<◌, ◌≤◌, ◌==◌, ◌&&◌, not, false, IfOk, OnOk, OnErr, ℕ, List, Option, None, [], Some, length, map, nat_lt, if◌then◌else◌};
-ghost use Rattle.std.specs.List.{take_while, slice_index_or};
-ghost use Rattle.ts_packet.specs.declared.cell.Cell.{Cell as GivenCell};
-ghost use Rattle.plug_watch.specs.declared.continuity_error.ContinuityError.{ContinuityError as GivenError};
-ghost use Rattle.plug_watch.specs.ContinuityErrors.{line_of_error};
+ghost use Rattle.std.specs.Prelude.{◌≡◌, IfOk, [], None};
 ghost use Rattle.plug_watch.specs.ContinuityRule.{continuity_rule};
 
 use crate::continuity_conf::ContinuityConf;
 use crate::continuity_error::ContinuityError;
-use crate::last_packet::{LastPacket, push_fault, seen_with};
+use crate::last_packets::LastPackets;
 use crate::lines::push_line;
+use crate::note_row::{drop_below, push_if_any, push_lines_below};
+use circular_buffer::HeapCircularBuffer;
 use plug_conf::PidSet;
 use plugin_trait::{Line, Outcome, Plugin};
 use std::alloc::{AllocError, Global};
+use std::mem;
 use ts_packet::{Cell, NULL_PID, PID_COUNT, Packet};
 
 /// Reports packets whose continuity counter is not the one wanted, and with `fix` puts counters right.
@@ -19,24 +18,27 @@ use ts_packet::{Cell, NULL_PID, PID_COUNT, Packet};
 pub struct Continuity {
     pids: PidSet,
     fix: bool,
-    /// The last packet on each PID.
-    seen: Vec<Option<LastPacket>>,
-    /// The faults so far, in order.
-    faults: Vec<ContinuityError>,
+    last: LastPackets,
+    /// The faults from the greatest mark on.
+    notes: HeapCircularBuffer<ContinuityError>,
+    /// The lines of those below it.
+    lines: Vec<Line>,
     alloc: Global,
 }
 
 impl Continuity {
-    ghost use Rattle.std.specs.Prelude.{◌≡◌, ◌<◌, ◌&&◌, not, ◌==◌, false, true, IfOk, OnOk, OnErr, [], ◌++◌, ◌∷◌, None, Some, length, ℕ, List, if◌then◌else◌};
+    ghost use Rattle.std.specs.Prelude.{◌≡◌, ◌<◌, true, IfOk, OnOk, OnErr, [], ◌++◌, ◌∷◌, None, length, ℕ, List, if◌then◌else◌};
     ghost use Rattle.ts_packet.specs.declared.cell.Cell.{Cell as GivenCell};
     ghost use Rattle.ts_packet.specs.declared.cell.Cell.TheVariants.{Live};
     ghost use Rattle.ts_packet.specs.Header.{pid_of};
+    ghost use Rattle.plugin_trait.specs.Marks.{AllowsMark, Notes};
+    ghost use Rattle.plugin_trait.specs.Steps.{MeetsCells};
     ghost use Rattle.plug_watch.specs.ContinuitySettings.{IsLawfulContinuity};
     ghost use Rattle.plug_watch.specs.ContinuityRule.{continuity_rule, is_watched, fixed};
-    ghost use Rattle.plug_watch.specs.ContinuitySeen.{Watches, WatchesSome};
-    ghost use Rattle.plug_watch.specs.ContinuityConfOf.{conf_of};
+    ghost use Rattle.plug_watch.specs.ContinuityConfOf.{StandsFor, conf_of};
 
-    /// A plugin that met no cell yet. It takes room for its tables; its faults grow with the stream.
+    /// A plugin that met no cell yet. It takes room for its tables, and for notes on as many packets as the buffer
+    /// holds; the lines of its faults grow with the stream.
     pub fn new(
         alloc: Global,
         conf: &ContinuityConf,
@@ -47,12 +49,12 @@ impl Continuity {
         ensures fresh { IfOk result (λ plugin. ⟦<Continuity as Plugin>⟧.stands_for plugin [] 0) }
         ensures steady { IfOk result (λ plugin. ⟦<Continuity as Plugin>⟧.steady plugin ≡ None) }
     {
-        let _ = buffer;
         Ok(Continuity {
             pids: PidSet::of(alloc, &conf.pid)?,
             fix: conf.fix,
-            seen: no_packets(alloc)?,
-            faults: Vec::new(alloc),
+            last: LastPackets::new(alloc)?,
+            notes: HeapCircularBuffer::with_capacity(alloc, buffer)?,
+            lines: Vec::new(alloc),
             alloc,
         })
     }
@@ -68,60 +70,43 @@ impl Continuity {
     // Looks at a packet that is watched, and puts its counter right with `fix`.
     fn watch(&mut self, at: u64, packet: &mut Packet) -> Result<(), AllocError>
         requires watched { is_watched (conf_of self.old) (pid_of packet.old) ≡ true }
-        requires met { WatchesSome (conf_of self.old) self.old.seen.items self.old.faults.items at }
-        ensures edited { OnOk result ((history : List GivenCell) (mark : ℕ) → Watches (conf_of self.old) self.old.seen.items self.old.faults.items history mark
+        requires met { MeetsCells (StandsFor self.old) at }
+        ensures edited { OnOk result ((history : List GivenCell) (mark : ℕ) → StandsFor self.old history mark
             → packet.new ≡ (if self.old.fix then fixed history packet.old else packet.old)) }
-        ensures met { OnOk result ((history : List GivenCell) (mark : ℕ) → Watches (conf_of self.old) self.old.seen.items self.old.faults.items history mark
-            → length history ≡ at → (labels : ℕ) → Watches (conf_of self.old) self.new.seen.items self.new.faults.items (history ++ Live packet.old labels ∷ []) mark) }
+        ensures met { OnOk result ((history : List GivenCell) (mark : ℕ) → StandsFor self.old history mark
+            → length history ≡ at → (labels : ℕ) → StandsFor self.new (history ++ Live packet.old labels ∷ []) mark) }
         ensures same { conf_of self.new ≡ conf_of self.old }
-        ensures err { OnErr result ((self.new.seen.items ≡ self.old.seen.items) × (self.new.faults.items ≡ self.old.faults.items) × (packet.new ≡ packet.old)) }
+        ensures err { OnErr result ((self.new.last ≡ self.old.last) × (self.new.notes.items ≡ self.old.notes.items) × (self.new.lines.items ≡ self.old.lines.items) × (packet.new ≡ packet.old)) }
     {
-        let place = usize::from(packet.pid());
-        let before = self.seen[place];
-        push_fault(&mut self.faults, at, before, packet)?;
-        let next = seen_with(before, packet);
-        self.seen[place] = Some(next);
+        push_if_any(&mut self.notes, self.last.fault(at, packet))?;
+        let right = self.last.keep(packet);
         if self.fix {
-            packet.set_counter(next.right);
+            packet.set_counter(right);
         }
         Ok(())
     }
-}
 
-// No packet on any PID.
-fn no_packets(alloc: Global) -> Result<Vec<Option<LastPacket>>, AllocError>
-    ensures { IfOk result (λ seen. (length seen.items ≡ PID_COUNT) × ((pid : ℕ) → slice_index_or seen.items pid None ≡ None)) }
-{
-    let mut seen = Vec::with_capacity(alloc, usize::from(PID_COUNT))?;
-    for _ in 0..PID_COUNT {
-        seen.push(None)?;
+    // Takes the notes below a position off, and puts their lines behind the others. Where memory was wanted all is as
+    // it was.
+    fn fold(&mut self, mark: u64) -> Result<(), AllocError>
+        requires { AllowsMark (StandsFor self.old) mark }
+        ensures notes { Notes (StandsFor self.old) (StandsFor self.new) mark result }
+        ensures same { conf_of self.new ≡ conf_of self.old }
+    {
+        push_lines_below(&mut self.lines, &self.notes, mark)?;
+        drop_below(&mut self.notes, mark);
+        Ok(())
     }
-    Ok(seen)
-}
-
-// The lines of the faults below a position.
-fn lines_below(alloc: Global, faults: &[ContinuityError], cut: u64) -> Result<Vec<Line>, AllocError>
-    ensures { IfOk result (λ lines. lines.items ≡ map line_of_error (take_while (λ fault. nat_lt fault.at cut) faults.now)) }
-{
-    let mut lines = Vec::new(alloc);
-    for fault in faults {
-        if fault.at >= cut {
-            break;
-        }
-        lines.push(fault.line(alloc)?)?;
-    }
-    Ok(lines)
 }
 
 impl Plugin for Continuity {
     ghost use Rattle.std.specs.Prelude.{None, refl};
     ghost use Rattle.plug_watch.specs.ContinuityRule.{continuity_rule};
-    ghost use Rattle.plug_watch.specs.ContinuitySeen.{Watches};
-    ghost use Rattle.plug_watch.specs.ContinuityConfOf.{conf_of};
+    ghost use Rattle.plug_watch.specs.ContinuityConfOf.{StandsFor, conf_of};
 
     ghost rule = { λ s. continuity_rule (conf_of s) };
 
-    ghost stands_for = { λ s history mark. Watches (conf_of s) s.seen.items s.faults.items history mark };
+    ghost stands_for = { λ s history mark. StandsFor s history mark };
 
     ghost steady = { λ s. None };
 
@@ -139,8 +124,8 @@ impl Plugin for Continuity {
         }
     }
 
-    fn note(&mut self, _written: u64) -> Result<(), AllocError> {
-        Ok(())
+    fn note(&mut self, written: u64) -> Result<(), AllocError> {
+        self.fold(written)
     }
 
     fn agreed(&self) -> bool {
@@ -148,7 +133,8 @@ impl Plugin for Continuity {
     }
 
     fn finish(&mut self, cut: u64) -> Result<Vec<Line>, AllocError> {
-        let mut lines = lines_below(self.alloc, &self.faults, cut)?;
+        self.fold(cut)?;
+        let mut lines = mem::replace(&mut self.lines, Vec::new(self.alloc));
         let text = format!(in self.alloc; "faults {}", lines.len())?;
         push_line(&mut lines, cut, text)?;
         Ok(lines)

@@ -1,6 +1,4 @@
-ghost use Rattle.std.specs.Prelude.{◌≡◌, IfOk};
-ghost use Rattle.plug_watch.specs.ContinuityErrors.{text_of_error};
-
+use crate::note_row::{LineNote, PacketNote};
 use plugin_trait::{Line, LineText};
 use std::alloc::{AllocError, Global};
 
@@ -17,11 +15,22 @@ pub struct ContinuityError {
     pub wanted: u8,
 }
 
-impl ContinuityError {
-    /// The line on the fault.
-    pub fn line(&self, alloc: Global) -> Result<Line, AllocError>
-        ensures { IfOk result (λ line. line ≡ record { at = self.now.at; text = text_of_error self.now }) }
-    {
+impl PacketNote for ContinuityError {
+    ghost use Rattle.plug_watch.specs.ContinuityErrors.{place_of_error};
+
+    ghost place = { place_of_error };
+
+    fn at(&self) -> u64 {
+        self.at
+    }
+}
+
+impl LineNote for ContinuityError {
+    ghost use Rattle.plug_watch.specs.ContinuityErrors.{line_of_error};
+
+    ghost line_of = { line_of_error };
+
+    fn line(&self, alloc: Global) -> Result<Line, AllocError> {
         let text = format!(in alloc;
             "packet {} pid {} counter {} wanted {}",
             self.at, self.pid, self.counter, self.wanted

@@ -1,15 +1,19 @@
-ghost use Rattle.std.specs.Prelude.{◌≡◌, IfOk, [], None, Some, if◌then◌else◌};
+ghost use Rattle.std.specs.Prelude.{◌≡◌, ◌++◌, IfOk, OnOk, OnErr, IsOk, [], None, Some, false, map, nat_lt, if◌then◌else◌};
+ghost use Rattle.std.specs.List.{take_while};
+ghost use Rattle.plug_watch.specs.CountNotes.{IsTallied, line_of_note, pid_in, place_of};
 ghost use Rattle.plug_watch.specs.CountRule.{count_rule};
+ghost use Rattle.plug_watch.specs.NotesKept.{CanFold, Folds};
 
 use crate::count_conf::CountConf;
-use crate::folding::{fold_below, fold_for};
 use crate::note::Note;
+use crate::note_row::{pop_below, push_lines_below, push_note};
 use crate::summary::push_summary;
 use crate::tally::Tally;
+use circular_buffer::HeapCircularBuffer;
 use plug_conf::PidSet;
 use plugin_trait::{Line, Outcome, Plugin};
 use std::alloc::{AllocError, Global};
-use std::collections::VecDeque;
+use std::mem;
 use ts_packet::Cell;
 
 /// Counts packets by PID, and with `all` has a line for each.
@@ -19,53 +23,95 @@ pub struct Count {
     negate: bool,
     all: bool,
     total: bool,
-    /// What was counted below the greatest mark; with `all` nothing is counted before the end.
+    /// What was counted below the greatest mark.
     tally: Tally,
-    /// The packets that are still to be counted.
-    notes: VecDeque<Note>,
-    buffer: usize,
+    /// The packets from the mark on, which are still to be counted.
+    notes: HeapCircularBuffer<Note>,
+    /// With `all`, the lines of the packets below the mark.
+    lines: Vec<Line>,
     alloc: Global,
 }
 
 impl Count {
-    ghost use Rattle.std.specs.Prelude.{◌≡◌, IfOk, [], None, Some, if◌then◌else◌};
+    ghost use Rattle.std.specs.Prelude.{◌≡◌, IfOk, IsOk, [], None, Some, false, if◌then◌else◌};
     ghost use Rattle.plug_watch.specs.CountSettings.{IsLawfulCount};
     ghost use Rattle.plug_watch.specs.CountRule.{count_rule};
+    ghost use Rattle.plug_watch.specs.CountConfOf.{StandsFor, conf_of};
+    ghost use Rattle.plugin_trait.specs.Marks.{AllowsMark, Notes};
 
-    /// A plugin that met no cell yet. It takes room for its tables, and without `all` for notes on as many
-    /// packets as the buffer holds.
+    /// A plugin that met no cell yet. It takes room for its tables, and for notes on as many packets as the buffer
+    /// holds; with `all` its lines grow with the stream.
     pub fn new(alloc: Global, conf: &CountConf, buffer: usize) -> Result<Count, AllocError>
         requires { IsLawfulCount conf.now }
         ensures rule { IfOk result (λ plugin. ⟦<Count as Plugin>⟧.rule plugin ≡ count_rule conf.now) }
         ensures fresh { IfOk result (λ plugin. ⟦<Count as Plugin>⟧.stands_for plugin [] 0) }
         ensures steady { IfOk result (λ plugin. ⟦<Count as Plugin>⟧.steady plugin ≡ (if conf.now.all then None else Some buffer)) }
     {
-        let room = if conf.all { 0 } else { buffer };
         Ok(Count {
             pids: PidSet::of(alloc, &conf.pid)?,
             negate: conf.negate,
             all: conf.all,
             total: conf.total,
             tally: Tally::new(alloc)?,
-            notes: VecDeque::with_capacity(alloc, room)?,
-            buffer,
+            notes: HeapCircularBuffer::with_capacity(alloc, buffer)?,
+            lines: Vec::new(alloc),
             alloc,
         })
+    }
+
+    // Counts the notes below a position and takes them off; with `all` their lines come behind the others. Where
+    // memory was wanted for the lines, all is as it was.
+    fn fold(&mut self, mark: u64) -> Result<(), AllocError>
+        requires { AllowsMark (StandsFor self.old) mark }
+        ensures notes { Notes (StandsFor self.old) (StandsFor self.new) mark result }
+        ensures same { conf_of self.new ≡ conf_of self.old }
+        ensures capacity { self.new.notes.capacity ≡ self.old.notes.capacity }
+        ensures room { self.old.all ≡ false → IsOk result }
+    {
+        push_lines_if(self.all, &mut self.lines, &self.notes, mark)?;
+        fold_below(&mut self.notes, &mut self.tally, mark);
+        Ok(())
+    }
+}
+
+// Puts the lines of the notes below a position behind others, if lines are wanted.
+fn push_lines_if(
+    wanted: bool,
+    lines: &mut Vec<Line>,
+    notes: &HeapCircularBuffer<Note>,
+    mark: u64,
+) -> Result<(), AllocError>
+    ensures ok { OnOk result (lines.new.items ≡ lines.old.items ++ (if wanted then map line_of_note (take_while (λ note. nat_lt (place_of note) mark) notes.now.items) else [])) }
+    ensures err { OnErr result (lines.new.items ≡ lines.old.items) }
+    ensures room { wanted ≡ false → IsOk result }
+{
+    if !wanted {
+        return Ok(());
+    }
+    push_lines_below(lines, notes, mark)
+}
+
+// Counts the notes below a position, and takes them off.
+fn fold_below(notes: &mut HeapCircularBuffer<Note>, tally: &mut Tally, mark: u64)
+    requires { CanFold pid_in IsTallied notes.old.items tally.old }
+    ensures folds { Folds place_of IsTallied mark notes.old.items notes.new.items tally.old tally.new }
+    ensures capacity { notes.new.capacity ≡ notes.old.capacity }
+{
+    while let Some(note) = pop_below(notes, mark) {
+        tally.add(note.pid);
     }
 }
 
 impl Plugin for Count {
     ghost use Rattle.std.specs.Prelude.{None, Some, refl, if◌then◌else◌};
     ghost use Rattle.plug_watch.specs.CountRule.{count_rule};
-    ghost use Rattle.plug_watch.specs.CountConfOf.{conf_of};
-    ghost use Rattle.plug_watch.specs.CountState.{Counts, IsReserved};
-    ghost use Rattle.std.specs.VecDeque.{deque_capacity};
+    ghost use Rattle.plug_watch.specs.CountConfOf.{StandsFor, conf_of};
 
     ghost rule = { λ s. count_rule (conf_of s) };
 
-    ghost stands_for = { λ s history mark. Counts (conf_of s) s.notes.items s.tally.counts.items s.tally.total history mark × IsReserved s.all s.buffer (deque_capacity s.notes) };
+    ghost stands_for = { λ s history mark. StandsFor s history mark };
 
-    ghost steady = { λ s. if s.all then None else Some s.buffer };
+    ghost steady = { λ s. if s.all then None else Some s.notes.capacity };
 
     #[inline]
     fn step(&mut self, at: u64, cell: &mut Cell) -> Outcome {
@@ -76,17 +122,14 @@ impl Plugin for Count {
         if !self.pids.selects(self.negate, pid) {
             return Outcome::Pass;
         }
-        match self.notes.push_back(Note { at, pid }) {
+        match push_note(&mut self.notes, Note { at, pid }) {
             Ok(()) => Outcome::Pass,
             Err(_) => Outcome::NoMemory,
         }
     }
 
     fn note(&mut self, written: u64) -> Result<(), AllocError> {
-        if !self.all {
-            fold_below(&mut self.notes, &mut self.tally, written);
-        }
-        Ok(())
+        self.fold(written)
     }
 
     fn agreed(&self) -> bool {
@@ -94,7 +137,8 @@ impl Plugin for Count {
     }
 
     fn finish(&mut self, cut: u64) -> Result<Vec<Line>, AllocError> {
-        let mut lines = fold_for(self.alloc, &mut self.notes, &mut self.tally, cut, self.all)?;
+        self.fold(cut)?;
+        let mut lines = mem::replace(&mut self.lines, Vec::new(self.alloc));
         push_summary(&mut lines, cut, &self.tally, self.total)?;
         Ok(lines)
     }

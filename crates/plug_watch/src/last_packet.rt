@@ -1,9 +1,8 @@
-ghost use Rattle.std.specs.Prelude.{◌≡◌, ◌<◌, ◌++◌, OnOk, OnErr, IfSome, Option, Some};
+ghost use Rattle.std.specs.Prelude.{◌≡◌, ◌<◌, Some, option_to_list};
 ghost use Rattle.ts_packet.specs.Header.{counter_of, has_payload_of};
 ghost use Rattle.plug_watch.specs.ContinuitySeen.{repeats, wanted_after, is_wrong, fault_after, right_after, seen_with, HasCounters};
 
 use crate::continuity_error::ContinuityError;
-use std::alloc::AllocError;
 use ts_packet::Packet;
 
 /// Counters are below this number.
@@ -92,28 +91,19 @@ fn right_counter(seen: Option<LastPacket>, packet: &Packet) -> u8
     }
 }
 
-/// Notes the fault of the packet at a position, if it is one.
-pub fn push_fault(
-    faults: &mut Vec<ContinuityError>,
-    at: u64,
-    seen: Option<LastPacket>,
-    packet: &Packet,
-) -> Result<(), AllocError>
+/// The fault of the packet at a position, if it is one, behind what is kept of the packet before it on its PID.
+pub fn fault_behind(at: u64, seen: Option<LastPacket>, packet: &Packet) -> Option<ContinuityError>
     requires { HasCounters seen }
-    ensures ok { OnOk result (faults.new.items ≡ faults.old.items ++ fault_after at seen packet.now) }
-    ensures err { OnErr result (faults.new.items ≡ faults.old.items) }
+    ensures { option_to_list result ≡ fault_after at seen packet.now }
 {
-    let Some(seen) = seen else {
-        return Ok(());
-    };
+    let seen = seen?;
     if !seen.is_wrong(packet) {
-        return Ok(());
+        return None;
     }
-    faults.push(ContinuityError {
+    Some(ContinuityError {
         at,
         pid: packet.pid(),
         counter: packet.counter(),
         wanted: seen.wanted(packet),
-    })?;
-    Ok(())
+    })
 }

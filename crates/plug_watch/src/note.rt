@@ -1,6 +1,4 @@
-ghost use Rattle.std.specs.Prelude.{◌≡◌, IfOk};
-ghost use Rattle.plug_watch.specs.CountNotes.{text_on};
-
+use crate::note_row::{LineNote, PacketNote};
 use plugin_trait::{Line, LineText};
 use std::alloc::{AllocError, Global};
 
@@ -13,11 +11,22 @@ pub struct Note {
     pub pid: u16,
 }
 
-impl Note {
-    /// The line on the packet.
-    pub fn line(&self, alloc: Global) -> Result<Line, AllocError>
-        ensures { IfOk result (λ line. line ≡ record { at = self.now.at; text = text_on self.now }) }
-    {
+impl PacketNote for Note {
+    ghost use Rattle.plug_watch.specs.CountNotes.{place_of};
+
+    ghost place = { place_of };
+
+    fn at(&self) -> u64 {
+        self.at
+    }
+}
+
+impl LineNote for Note {
+    ghost use Rattle.plug_watch.specs.CountNotes.{line_of_note};
+
+    ghost line_of = { line_of_note };
+
+    fn line(&self, alloc: Global) -> Result<Line, AllocError> {
         let text = format!(in alloc; "packet {} pid {}", self.at, self.pid)?;
         Ok(Line {
             at: self.at,

@@ -3,7 +3,7 @@ ghost use Rattle.std.specs.Prelude.{◌≡◌, ◌==◌, ◌++◌, ◌∷◌, []
 ghost use Rattle.std.specs.List.{flat_map};
 ghost use Rattle.ts_packet.specs.Header.{pid_of};
 ghost use Rattle.plugin_trait.specs.PlacedLines.{placed_at};
-ghost use Rattle.plug_watch.specs.Tallies.{IsTally};
+ghost use Rattle.plug_watch.specs.Tallies.{IsCounted, IsWhole};
 ghost use Rattle.plug_watch.specs.CountRule.{numbers_below, pid_lines, pid_text, summary_on};
 
 use crate::lines::push_line;
@@ -20,8 +20,8 @@ pub fn push_summary(
     tally: &Tally,
     total: bool,
 ) -> Result<(), AllocError>
-    requires { length tally.now.counts.items ≡ PID_COUNT }
-    ensures { OnOk result ((packets : List (List ℕ)) → IsTally tally.now.counts.items tally.now.total (map pid_of packets)
+    requires { IsWhole tally.now }
+    ensures { OnOk result ((packets : List (List ℕ)) → IsCounted tally.now (map pid_of packets)
         → lines.new.items ≡ lines.old.items ++ placed_at cut (summary_on total packets)) }
 {
     if !total {
@@ -33,8 +33,8 @@ pub fn push_summary(
 
 // Puts a line for each PID that has packets behind other lines.
 fn push_pid_lines(lines: &mut Vec<Line>, cut: u64, tally: &Tally) -> Result<(), AllocError>
-    requires { length tally.now.counts.items ≡ PID_COUNT }
-    ensures { OnOk result ((packets : List (List ℕ)) → IsTally tally.now.counts.items tally.now.total (map pid_of packets)
+    requires { IsWhole tally.now }
+    ensures { OnOk result ((packets : List (List ℕ)) → IsCounted tally.now (map pid_of packets)
         → lines.new.items ≡ lines.old.items ++ placed_at cut (flat_map (pid_lines packets) (numbers_below PID_COUNT))) }
 {
     for pid in 0..PID_COUNT {

@@ -1,5 +1,4 @@
-ghost use Rattle.std.specs.Prelude.{◌≡◌, ◌<◌, ◌^◌, ◌++◌, ◌∷◌, [], ℕ, List, IfOk, length, slice_index};
-ghost use Rattle.plug_watch.specs.Tallies.{IsTally, HasRoomFor};
+ghost use Rattle.std.specs.Prelude.{◌≡◌, ◌<◌, ◌++◌, ◌∷◌, [], ℕ, List, IfOk, slice_index, if◌then◌else◌};
 
 use std::alloc::{AllocError, Global};
 use ts_packet::PID_COUNT;
@@ -12,9 +11,12 @@ pub struct Tally {
 }
 
 impl Tally {
+    ghost use Rattle.std.specs.Prelude.{◌≡◌, ◌<◌, ◌++◌, ◌∷◌, [], ℕ, List, IfOk, slice_index, if◌then◌else◌};
+    ghost use Rattle.plug_watch.specs.Tallies.{IsCounted, HasRoomIn, IsWhole};
+
     /// Nothing counted yet. It takes 64 KiB.
     pub fn new(alloc: Global) -> Result<Tally, AllocError>
-        ensures { IfOk result (λ tally. IsTally tally.counts.items tally.total []) }
+        ensures { IfOk result (λ tally. IsCounted tally []) }
     {
         let mut counts = Vec::with_capacity(alloc, usize::from(PID_COUNT))?;
         for _ in 0..PID_COUNT {
@@ -26,18 +28,28 @@ impl Tally {
     /// Counts one packet more on a PID.
     pub fn add(&mut self, pid: u16)
         requires on_pid { pid < PID_COUNT }
-        requires room { HasRoomFor self.old.counts.items self.old.total }
-        ensures { (pids : List ℕ) → IsTally self.old.counts.items self.old.total pids
-            → IsTally self.new.counts.items self.new.total (pids ++ pid ∷ []) }
+        requires room { HasRoomIn self.old }
+        ensures { (pids : List ℕ) → IsCounted self.old pids → IsCounted self.new (pids ++ pid ∷ []) }
     {
         self.counts[usize::from(pid)] += 1;
         self.total += 1;
     }
 
+    /// Counts one packet more on a PID, if it is one of those that are counted.
+    pub fn add_if(&mut self, is_one: bool, pid: u16)
+        requires on_pid { pid < PID_COUNT }
+        requires room { HasRoomIn self.old }
+        ensures { (pids : List ℕ) → IsCounted self.old pids → IsCounted self.new (pids ++ (if is_one then pid ∷ [] else [])) }
+    {
+        if is_one {
+            self.add(pid);
+        }
+    }
+
     /// How many packets were counted on a PID.
     pub fn count_on(&self, pid: u16) -> u64
         requires on_pid { pid < PID_COUNT }
-        requires whole { length self.now.counts.items ≡ PID_COUNT }
+        requires whole { IsWhole self.now }
         ensures { result ≡ slice_index self.now.counts.items pid }
     {
         self.counts[usize::from(pid)]

@@ -18,18 +18,19 @@ fn packet(pid: u16, counter: u8) -> Cell
     Cell::Live(packet, Labels::none())
 }
 
-/// What a plugin reports of the first cells of a list that goes through it.
-fn said<P: Plugin + Drop>(
+/// How a plugin leaves a list of cells, and what it reports of the first of those that it met.
+fn run<P: Plugin + Drop>(
     plugin: P,
     cells: &mut Vec<Cell>,
     cut: u64,
-) -> Result<Vec<Line>, AllocError>
+) -> Result<(ListEnd, Vec<Line>), AllocError>
     requires fresh { P.stands_for plugin [] 0 }
     requires short { vec_len cells.old < 1000 }
 {
     let mut plugin = plugin;
-    let _end = apply_plugin(&mut plugin, cells);
-    report(&mut plugin, cut.min(cells.len() as u64))
+    let end = apply_plugin(&mut plugin, cells);
+    let lines = report(&mut plugin, cut.min(cells.len() as u64))?;
+    Ok((end, lines))
 }
 
 #[test]
@@ -70,11 +71,38 @@ fn count_counts_to_the_cut(rt: HostRuntime) -> Result<(), Fail> {
             packet(256, 1),
             packet(258, 0),
         ]?;
-        let count = Count::new(rt.alloc(), &conf, 2)?;
-        let lines = said(count, &mut cells, cut)?;
+        let count = Count::new(rt.alloc(), &conf, 4)?;
+        let (_, lines) = run(count, &mut cells, cut)?;
         assert_eq!(rt; lines.len(), wanted.len());
         for (line, text) in lines.iter().zip(wanted) {
             assert_eq!(rt; line.text.as_str(), *text);
+        }
+    }
+    Ok(())
+}
+
+#[test]
+fn count_ends_where_its_buffer_is_full(rt: HostRuntime) -> Result<(), Fail> {
+    let rows = [
+        (0, ListEnd::NoMemory, 0, "total 0"),
+        (2, ListEnd::NoMemory, 2, "total 2"),
+        (3, ListEnd::Through, 3, "total 3"),
+    ];
+    for (buffer, wanted_end, wanted_cells, text) in rows {
+        let conf = CountConf {
+            pid: NumberSet::of(Vec::new(rt.alloc())),
+            negate: false,
+            all: false,
+            total: true,
+        };
+        let mut cells = vec![in rt.alloc(); packet(256, 0), packet(256, 1), packet(257, 0)]?;
+        let count = Count::new(rt.alloc(), &conf, buffer)?;
+        let (end, lines) = run(count, &mut cells, 3)?;
+        assert_eq!(rt; end, wanted_end);
+        assert_eq!(rt; cells.len(), wanted_cells);
+        assert_eq!(rt; lines.len(), 1);
+        for line in &lines {
+            assert_eq!(rt; line.text.as_str(), text);
         }
     }
     Ok(())
@@ -93,7 +121,7 @@ fn continuity_reports_and_fixes(rt: HostRuntime) -> Result<(), Fail> {
         packet(256, 8),
     ]?;
     let continuity = Continuity::new(rt.alloc(), &conf, 1)?;
-    let lines = said(continuity, &mut cells, 4)?;
+    let (_, lines) = run(continuity, &mut cells, 4)?;
     let wanted = ["packet 2 pid 256 counter 8 wanted 7", "faults 1"];
     assert_eq!(rt; lines.len(), wanted.len());
     for (line, text) in lines.iter().zip(wanted) {

@@ -1,11 +1,9 @@
-use Rattle.plug_analyze.proofs.Analyzing.{analyzes_folded}
-use Rattle.plug_analyze.proofs.NotesKeeping.{can_fold}
+use Rattle.plug_analyze.proofs.Analyzing.{can_fold, analyzes_folded}
 use Rattle.plug_analyze.proofs.analyze.AnalyzePlugin.note.Goals as goal
 
 pub fold_below-requires : goal.fold_below-requires
 fold_below-requires c =
-    let s = c.requires.holds.0 c.if-self.false in
-    can_fold _ _ c.requires.history c.requires.mark s.notes s.short
+    can_fold _ _ _ c.requires.history c.requires.mark (c.requires.holds.0 c.if-self.false)
 
 pub returns-clause-notes : goal.returns-clause-notes
 returns-clause-notes c = λ history mark s later within. (

@@ -14,4 +14,4 @@ returns c = λ history mark w count labels.
     let change : Change = record { at = c.args.at; services = c.in_ok-services.services } in
     let fed = c.in_ok-update.ensures.stands (live_packets history) w.fed in
     serves_change c.args.self.now _ history mark w c.args.packet.now labels fed refl change (sym count)
-    (c.in_ok-services.ensures (live_packets history ++ c.args.packet.now ∷ []) fed) c.in_ok-push_back.ensures.items
+    (c.in_ok-services.ensures (live_packets history ++ c.args.packet.now ∷ []) fed) c.in_ok-push_note.ensures.ok

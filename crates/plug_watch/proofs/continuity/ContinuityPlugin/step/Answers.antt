@@ -3,12 +3,10 @@ use Rattle.std.proofs.Math.Bool.{and-true}
 use Rattle.ts_packet.specs.declared.cell.Cell.{Cell}
 use Rattle.ts_packet.specs.declared.cell.Cell.TheVariants.{Live}
 use Rattle.ts_packet.specs.Header.{pid_of}
-use Rattle.plug_watch.specs.declared.continuity_conf.ContinuityConf.{ContinuityConf}
 use Rattle.chain_model.specs.Apply.{became, goes_on}
 use Rattle.plugin_trait.specs.Steps.{SameKind}
 use Rattle.plug_watch.specs.ContinuityRule.{continuity_rule, fixed, is_watched}
-use Rattle.plug_watch.specs.ContinuitySeen.{Watches}
-use Rattle.plug_watch.specs.ContinuityConfOf.{conf_of}
+use Rattle.plug_watch.specs.ContinuityConfOf.{StandsFor, conf_of}
 use Rattle.plug_watch.proofs.Watching.{watches_dropped, watches_other}
 use Rattle.plug_watch.proofs.continuity.ContinuityPlugin.step.Goals as goal
 
@@ -18,14 +16,14 @@ at_cell g P same holds = subst P (sym same) holds
 
 pub returns-in_default-clause-meets : goal.returns-in_default-clause-meets
 returns-in_default-clause-meets c = λ history mark w count.
-    at_cell c.args.cell.now (λ cell. Watches (conf_of c.args.self.now) c.args.self.now.seen.items c.args.self.now.faults.items (history ++ cell ∷ []) mark)
-    c.in_default.is (watches_dropped _ _ _ history mark w)
+    at_cell c.args.cell.now (λ cell. StandsFor c.args.self.now (history ++ cell ∷ []) mark)
+    c.in_default.is (watches_dropped (conf_of c.args.self.now) _ _ _ history mark w)
 
 pub returns-then-not-watches-clause-meets : goal.returns-then-not-watches-clause-meets
 returns-then-not-watches-clause-meets c = λ history mark w count.
-    at_cell c.args.cell.now (λ cell. Watches (conf_of c.args.self.now) c.args.self.now.seen.items c.args.self.now.faults.items (history ++ cell ∷ []) mark)
+    at_cell c.args.cell.now (λ cell. StandsFor c.args.self.now (history ++ cell ∷ []) mark)
     c.in-Live.is
-    (watches_other _ _ _ history mark w c.in-Live.packet c.in-Live.field-1 (ap (is_watched (conf_of c.args.self.now)) (sym c.pid.ensures.field) ∙ sym c.if-not-watches.ensures))
+    (watches_other (conf_of c.args.self.now) _ _ _ history mark w c.in-Live.packet c.in-Live.field-1 (ap (is_watched (conf_of c.args.self.now)) (sym c.pid.ensures.field) ∙ sym c.if-not-watches.ensures))
 
 pub returns-in-Ok-clause-tells : goal.returns-in-Ok-clause-tells
 returns-in-Ok-clause-tells c = λ history mark w count.
@@ -41,7 +39,4 @@ returns-in-Ok-clause-tells c = λ history mark w count.
 
 pub returns-in-Ok-clause-meets : goal.returns-in-Ok-clause-meets
 returns-in-Ok-clause-meets c = λ history mark w count.
-    at_cell c.args.cell.now (λ cell. Watches (conf_of c.watch.new.self) c.watch.new.self.seen.items c.watch.new.self.faults.items (history ++ cell ∷ []) mark)
-    c.in-Live.is
-    (subst (λ (conf : ContinuityConf). Watches conf c.watch.new.self.seen.items c.watch.new.self.faults.items (history ++ Live c.in-Live.packet c.in-Live.field-1 ∷ []) mark)
-    (sym c.in-Ok.ensures.same) (c.in-Ok.ensures.met history mark w count c.in-Live.field-1))
+    at_cell c.args.cell.now (λ cell. StandsFor c.watch.new.self (history ++ cell ∷ []) mark) c.in-Live.is (c.in-Ok.ensures.met history mark w count c.in-Live.field-1)

@@ -1,5 +1,4 @@
 use Rattle.std.proofs.Common.{◌≡◌, ℕ, ◌≤◌, [], ◌∷◌, ◌++◌, length, ap, sym, subst, ◌∙◌, refl, arith}
-use Rattle.std.specs.VecDeque.{deque_capacity}
 use Rattle.ts_packet.specs.declared.cell.Cell.{Cell}
 use Rattle.plug_conf.specs.Selection.{is_selected}
 use Rattle.plug_watch.specs.declared.note.Note.{Note}
@@ -13,34 +12,28 @@ at_cell : (g : Cell) {h : Cell} (P : Cell → Type 0) → g ≡ h → P h → P 
 at_cell g P same holds = subst P (sym same) holds
 
 pub returns-in_default-clause-meets : goal.returns-in_default-clause-meets
-returns-in_default-clause-meets c = λ history mark w count. (
-  at_cell c.args.cell.now (λ cell. Counts (conf_of c.args.self.now) c.args.self.now.notes.items c.args.self.now.tally.counts.items c.args.self.now.tally.total (history ++ cell ∷ []) mark)
-      c.in_default.is (counts_dropped (conf_of c.args.self.now) _ _ _ history mark w.0 (omega (arith, count, c.requires.in_range))),
-  w.1,
-)
+returns-in_default-clause-meets c = λ history mark w count.
+    at_cell c.args.cell.now (λ cell. Counts (conf_of c.args.self.now) c.args.self.now.notes.items c.args.self.now.tally c.args.self.now.lines.items (history ++ cell ∷ []) mark)
+    c.in_default.is (counts_dropped (conf_of c.args.self.now) _ _ _ history mark w (omega (arith, count, c.requires.in_range)))
 
 pub returns-then-not-selects-clause-meets : goal.returns-then-not-selects-clause-meets
-returns-then-not-selects-clause-meets c = λ history mark w count. (
-  at_cell c.args.cell.now (λ cell. Counts (conf_of c.args.self.now) c.args.self.now.notes.items c.args.self.now.tally.counts.items c.args.self.now.tally.total (history ++ cell ∷ []) mark)
-      c.in-Live.is (counts_other (conf_of c.args.self.now) _ _ _ history mark w.0 c.in-Live.packet c.in-Live.field-1 (omega (arith, count, c.requires.in_range))
-      (ap (is_selected c.args.self.now.pids c.args.self.now.negate) (sym c.pid-pid.ensures.field) ∙ sym c.if-not-selects.ensures)),
-  w.1,
-)
+returns-then-not-selects-clause-meets c = λ history mark w count.
+    at_cell c.args.cell.now (λ cell. Counts (conf_of c.args.self.now) c.args.self.now.notes.items c.args.self.now.tally c.args.self.now.lines.items (history ++ cell ∷ []) mark)
+    c.in-Live.is
+    (counts_other (conf_of c.args.self.now) _ _ _ history mark w c.in-Live.packet c.in-Live.field-1 (omega (arith, count, c.requires.in_range))
+    (ap (is_selected c.args.self.now.pids c.args.self.now.negate) (sym c.pid-pid.ensures.field) ∙ sym c.if-not-selects.ensures))
 
 pub returns-in-Ok-clause-meets : goal.returns-in-Ok-clause-meets
-returns-in-Ok-clause-meets c = λ history mark w count. (
-  at_cell c.args.cell.now (λ cell. Counts (conf_of c.args.self.now) c.push_back.new.self.items c.args.self.now.tally.counts.items c.args.self.now.tally.total (history ++ cell ∷ []) mark)
-      c.in-Live.is (counts_live (conf_of c.args.self.now) _ _ _ history mark w.0 c.in-Live.packet c.in-Live.field-1 (record { at = c.args.at; pid = c.pid-pid.result }) c.push_back.new.self.items
-      (omega (arith, count, c.requires.in_range))
-      (ap (is_selected c.args.self.now.pids c.args.self.now.negate) (sym c.pid-pid.ensures.field) ∙ (sym c.selects.ensures ∙ c.if-not-selects.false))
-      (omega (arith, c.pid-pid.ensures.field, c.pid-pid.ensures.range))
-      (ap (λ (n : ℕ). let note : Note = record { at = n; pid = c.pid-pid.result } in note) (sym count) ∙ ap (λ (n : ℕ). let note : Note = record { at = length history; pid = n } in note) c.pid-pid.ensures.field)
-      c.in-Ok.ensures.items),
-  λ none. let before : c.args.self.now.buffer ≤ deque_capacity c.args.self.now.notes = w.1 none in omega (arith, before, c.push_back.ensures.capacity),
-)
+returns-in-Ok-clause-meets c = λ history mark w count.
+    at_cell c.args.cell.now (λ cell. Counts (conf_of c.args.self.now) c.push_note.new.notes.items c.args.self.now.tally c.args.self.now.lines.items (history ++ cell ∷ []) mark)
+    c.in-Live.is
+    (counts_live (conf_of c.args.self.now) _ _ _ history mark w c.in-Live.packet c.in-Live.field-1 (omega (arith, count, c.requires.in_range))
+    (record { at = c.args.at; pid = c.pid-pid.result }) c.push_note.new.notes.items
+    (ap (is_selected c.args.self.now.pids c.args.self.now.negate) (sym c.pid-pid.ensures.field) ∙ (sym c.selects.ensures ∙ c.if-not-selects.false))
+    (ap (λ (n : ℕ). let note : Note = record { at = n; pid = c.pid-pid.result } in note) (sym count) ∙ ap (λ (n : ℕ). let note : Note = record { at = length history; pid = n } in note) c.pid-pid.ensures.field)
+    c.in-Ok.ensures.ok)
 
 pub returns-in-Err-clause-room : goal.returns-in-Err-clause-room
 returns-in-Err-clause-room c = λ room said.
-    let few : deque_capacity c.args.self.now.notes ≤ length c.args.self.now.notes.items = omega (arith, c.in-Err.ensures.full, c.args.self.now.notes.ok) in
-    not_full (conf_of c.args.self.now) _ _ _ room.history room.mark room.holds.0 c.args.self.now.buffer (deque_capacity c.args.self.now.notes) room.room c.args.at
-    c.args.self.now.all refl room.is_steady room.holds.1 room.count room.within few
+    not_full (conf_of c.args.self.now) _ _ _ room.history room.mark room.holds c.args.self.now.notes.capacity room.room c.args.at
+    c.args.self.now.all room.is_steady room.count room.within (c.in-Err.ensures.full refl)

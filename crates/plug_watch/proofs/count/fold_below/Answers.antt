@@ -1,0 +1,36 @@
+use Rattle.std.proofs.Common.{List, [], ◌∷◌, ◌++◌, ap, map, refl, subst, sym, ◌∙◌}
+use Rattle.std.proofs.lemmas.List.{map-append}
+use Rattle.plug_watch.specs.declared.note.Note.{Note}
+use Rattle.plug_watch.specs.CountNotes.{IsTallied, pid_in, place_of}
+use Rattle.plug_watch.specs.Tallies.{IsCounted}
+use Rattle.plug_watch.proofs.CountStates.{has_room}
+use Rattle.plug_watch.proofs.FoldingSteps as folding
+use Rattle.plug_watch.proofs.count.fold_below.Goals as goal
+
+pub loop-note-init : goal.loop-note-init
+loop-note-init c = record {
+  folding = folding.none_folded place_of c.args.mark IsTallied c.args.notes.now.items c.args.tally.now;
+  capacity = refl;
+}
+
+pub add-requires-clause-on_pid : goal.add-requires-clause-on_pid
+add-requires-clause-on_pid c =
+    folding.on_pid place_of c.args.mark IsTallied _ _ _ _ c.loop-note.invariant.folding c.in-Some.note c.pop_below.new.notes.items c.in-Some.ensures.taken.0 pid_in c.requires
+
+pub add-requires-clause-room : goal.add-requires-clause-room
+add-requires-clause-room c =
+    has_room c.loop-note.tally _
+    (folding.counted_now place_of c.args.mark IsTallied _ _ _ _ c.loop-note.invariant.folding c.in-Some.note c.pop_below.new.notes.items c.in-Some.ensures.taken.0 pid_in c.requires)
+    (folding.few_now place_of c.args.mark IsTallied _ _ _ _ c.loop-note.invariant.folding c.in-Some.note c.pop_below.new.notes.items c.in-Some.ensures.taken.0 pid_in c.requires)
+
+pub loop-note-preserved : goal.loop-note-preserved
+loop-note-preserved c = record {
+  folding = folding.one_folded place_of c.args.mark IsTallied _ _ _ _ c.loop-note.invariant.folding c.in-Some.note c.pop_below.new.notes.items c.in-Some.ensures.taken.0 c.add.new.self
+      c.in-Some.ensures.taken.1
+      (λ notes tallied. subst (IsCounted c.add.new.self) (sym (map-append pid_in notes (c.in-Some.note ∷ []))) (c.add.ensures (map pid_in notes) tallied));
+  capacity = c.in-Some.ensures.capacity ∙ c.loop-note.invariant.capacity;
+}
+
+pub returns-clause-folds : goal.returns-clause-folds
+returns-clause-folds c =
+    folding.all_folded place_of c.args.mark IsTallied _ _ c.pop_below.new.notes.items _ _ c.loop-note.invariant.folding c.in_default.ensures.left.0 c.in_default.ensures.left.1
