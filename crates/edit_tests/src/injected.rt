@@ -27,6 +27,11 @@ fn pat_sections(alloc: Global) -> Result<Vec<Section>, Fail> {
     Ok(pat.sections(alloc)?)
 }
 
+/// A null packet.
+fn null() -> Cell {
+    Cell::Live(Packet::null(), Labels::none())
+}
+
 /// Seven null packets, taken through the plugin.
 fn injected(alloc: Global, mode: InjectMode, sections: Vec<Section>) -> Result<Vec<Cell>, Fail>
     requires { IsLawfulMode mode }
@@ -37,8 +42,7 @@ fn injected(alloc: Global, mode: InjectMode, sections: Vec<Section>) -> Result<V
         mode,
     };
     let mut inject = Inject::new(alloc, &conf, sections)?;
-    let null = Cell::Live(Packet::null(), Labels::none());
-    let mut cells = vec![in alloc; null, null, null, null, null, null, null]?;
+    let mut cells = vec![in alloc; null(), null(), null(), null(), null(), null(), null()]?;
     match apply_plugin(&mut inject, &mut cells) {
         ListEnd::Through => Ok(cells),
         _ => Err("the plugin ended its list".into()),
