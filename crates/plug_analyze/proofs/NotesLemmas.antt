@@ -17,7 +17,7 @@ use Rattle.plug_watch.specs.Tallies.{IsCounted}
 use Rattle.plug_watch.proofs.Noting.{IsNoteAt}
 use Rattle.plug_analyze.specs.declared.note.Note.{Note}
 use Rattle.plug_analyze.specs.declared.totals.Totals.{Totals}
-use Rattle.plug_analyze.specs.AnalyzeRule.{all_pids, fault_pids, has_pcr, is_scrambled}
+use Rattle.plug_analyze.specs.AnalyzeRule.{all_pids, has_pcr, is_scrambled}
 use Rattle.plug_analyze.specs.AnalyzeNotes.{is_any, note_on, noted, pid_in, place_of}
 use Rattle.plug_analyze.specs.TotalsOf.{AreCounted, AreTotals, pids_of}
 

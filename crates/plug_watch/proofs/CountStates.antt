@@ -1,5 +1,5 @@
 -- What a value of `count` keeps, one cell after another, and what it reports.
-use Rattle.std.proofs.Common.{◌≡◌, ℕ, ◌+◌, ◌-◌, ◌<◌, ◌≤◌, ◌^◌, List, [], ◌∷◌, ◌++◌, length, take, map, ap, sym, subst, ◌∙◌, refl, Bool, true, false, nat_lt, if◌then◌else◌, append-nil, None, Some, arith, length-append}
+use Rattle.std.proofs.Common.{◌≡◌, ℕ, ◌+◌, ◌<◌, ◌≤◌, ◌^◌, List, [], ◌∷◌, ◌++◌, length, take, map, ap, sym, subst, ◌∙◌, refl, Bool, true, false, nat_lt, if◌then◌else◌, append-nil, None, Some, arith, length-append}
 use Rattle.std.specs.List.{take_while}
 use Rattle.std.proofs.lemmas.List.{length-map, length-take-le}
 use Rattle.ts_packet.specs.declared.cell.Cell.{Cell}

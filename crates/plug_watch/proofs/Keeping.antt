@@ -1,6 +1,6 @@
 -- Notes that are kept, one cell and one mark after another.
-use Rattle.std.proofs.Common.{◌≡◌, ℕ, ◌+◌, ◌-◌, ◌<◌, ◌≤◌, ◌^◌, List, [], ◌∷◌, ◌++◌, length, take, drop, map, ap, sym, subst, ◌∙◌, refl, true, not, nat_lt, arith, length-append, length-take, length-drop, drop-drop}
-use Rattle.std.specs.List.{All, list_all, take_while}
+use Rattle.std.proofs.Common.{◌≡◌, ℕ, ◌+◌, ◌-◌, ◌<◌, ◌≤◌, List, [], ◌∷◌, ◌++◌, length, take, drop, map, ap, sym, subst, ◌∙◌, refl, true, not, nat_lt, arith, length-append, length-take, length-drop, drop-drop}
+use Rattle.std.specs.List.{All, take_while}
 use Rattle.std.proofs.Math.Seq.{take-add}
 use Rattle.std.proofs.lemmas.List.{append_cancel_left, drop-append-le, map-append, take-append-drop, take-append-le}
 use Rattle.std.proofs.lemmas.List.Elements.{All-append}

@@ -1,5 +1,5 @@
 -- What is kept of the packets on a PID, one packet after another.
-use Rattle.std.proofs.Common.{◌≡◌, ℕ, ◌+◌, ◌%◌, ◌<◌, ◌≤◌, List, [], ◌∷◌, ◌++◌, length, map, filter, get_or, set, ap, ap₂, sym, subst, ◌∙◌, inl, inr, refl, Bool, true, false, not, ◌&&◌, if◌then◌else◌, ◌==◌, append-nil, Option, None, Some, add_assoc, arith, length-append, length-set, get_or-set_same, get_or-set_other, eq-eqb, take, nat_lt, ◌-◌}
+use Rattle.std.proofs.Common.{◌≡◌, ℕ, ◌+◌, ◌%◌, ◌<◌, ◌≤◌, List, [], ◌∷◌, ◌++◌, length, map, filter, get_or, set, ap, ap₂, sym, subst, ◌∙◌, inl, inr, refl, Bool, true, false, not, ◌&&◌, if◌then◌else◌, ◌==◌, append-nil, Option, None, Some, add_assoc, arith, length-append, length-set, get_or-set_same, get_or-set_other, eq-eqb, take, nat_lt}
 use Rattle.std.specs.List.{take_while}
 use Rattle.std.proofs.lemmas.List.{length-take-le, length-map}
 use Rattle.plugin_trait.specs.declared.line.Line.{Line}
@@ -8,7 +8,7 @@ use Rattle.std.proofs.lemmas.Grind.{flat_map-append}
 use Rattle.std.proofs.lemmas.List.Elements.{filter-append}
 use Rattle.std.proofs.lemmas.Bool.{cases_eq, ne_eqb, false≢true}
 use Rattle.ts_packet.specs.declared.numbers.TheConstants.{PID_COUNT}
-use Rattle.plug_watch.proofs.Noting.{IsNoteAt, notes_after-append, take_while-notes_after, placed_at-notes, placed_after-notes}
+use Rattle.plug_watch.proofs.Noting.{IsNoteAt, placed_at-notes, placed_after-notes}
 use Rattle.ts_packet.specs.declared.cell.Cell.{Cell}
 use Rattle.ts_packet.specs.declared.cell.Cell.TheVariants.{Live, Dropped}
 use Rattle.ts_packet.specs.Header.{pid_of, counter_of, has_payload_of}
@@ -20,9 +20,9 @@ use Rattle.plug_watch.specs.declared.last_packets.LastPackets.{LastPackets}
 use Rattle.plug_watch.specs.ContinuityRule.{is_watched, is_duplicate, is_fault, wanted_behind, packets_of, last_behind, last_in, last_of, step_behind, steps_behind, right_counter, fault_behind, fault_on, fault_text, faults_in, faults_text, continuity_rule}
 use Rattle.plug_watch.specs.ContinuityErrors.{error_behind, error_on, line_of_error, place_of_error, text_of_error}
 use Rattle.plug_watch.specs.Notes.{notes_after}
-use Rattle.plug_watch.specs.NotesKept.{TakesBelow, notes_below}
+use Rattle.plug_watch.specs.NotesKept.{TakesBelow}
 use Rattle.plug_watch.proofs.Keeping as keeping
-use Rattle.plug_watch.specs.ContinuitySeen.{HasCounters, IsTable, Remembers, Watches, fault_after, right_after, seen_in, seen_with}
+use Rattle.plug_watch.specs.ContinuitySeen.{HasCounters, Remembers, Watches, fault_after, right_after, seen_in, seen_with}
 
 -- the last one
 last_behind-append : (first : List ℕ) (rest : List (List ℕ)) (packet : List ℕ) → last_behind first (rest ++ packet ∷ []) ≡ packet

@@ -1,6 +1,5 @@
-use Rattle.std.proofs.Common.{List, [], ◌∷◌, ◌++◌, ap, map, refl, subst, sym, ◌∙◌}
+use Rattle.std.proofs.Common.{[], ◌∷◌, map, refl, subst, sym, ◌∙◌}
 use Rattle.std.proofs.lemmas.List.{map-append}
-use Rattle.plug_watch.specs.declared.note.Note.{Note}
 use Rattle.plug_watch.specs.CountNotes.{IsTallied, pid_in, place_of}
 use Rattle.plug_watch.specs.Tallies.{IsCounted}
 use Rattle.plug_watch.proofs.CountStates.{has_room}

@@ -1,4 +1,4 @@
-use Rattle.std.proofs.Common.{[], ◌∷◌, ◌++◌, arith, ap, ◌∙◌}
+use Rattle.std.proofs.Common.{arith}
 use Rattle.plug_watch.proofs.Noting.{lines_more}
 use Rattle.plug_watch.proofs.note_row.lines_below.Goals as goal
 

@@ -1,5 +1,5 @@
 use Rattle.plug_watch.specs.ContinuityConfOf as conf
-use Rattle.plug_watch.proofs.Watching.{watches_folded, watches_same}
+use Rattle.plug_watch.proofs.Watching.{watches_folded}
 use Rattle.plug_watch.proofs.continuity.Continuity.fold.Goals as goal
 
 pub returns-clause-notes : goal.returns-clause-notes

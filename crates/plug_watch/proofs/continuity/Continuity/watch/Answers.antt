@@ -1,4 +1,4 @@
-use Rattle.std.proofs.Common.{List, Bool, if◌then◌else◌, ap, sym, ◌∙◌}
+use Rattle.std.proofs.Common.{Bool, if◌then◌else◌, ap, sym, ◌∙◌}
 use Rattle.ts_packet.specs.Header.{with_counter}
 use Rattle.plug_watch.specs.ContinuityConfOf.{conf_of}
 use Rattle.plug_watch.specs.ContinuityRule.{fixed}

@@ -1,5 +1,5 @@
 use Rattle.plug_watch.specs.CountConfOf.{conf_of}
-use Rattle.plug_watch.proofs.CountStates.{can_fold, counts_folded, counts_same}
+use Rattle.plug_watch.proofs.CountStates.{can_fold, counts_folded}
 use Rattle.plug_watch.proofs.count.Count.fold.Goals as goal
 
 pub fold_below-requires : goal.fold_below-requires

@@ -1,4 +1,4 @@
-use Rattle.std.proofs.Common.{◌≡◌, ℕ, ◌≤◌, [], ◌∷◌, ◌++◌, length, ap, sym, subst, ◌∙◌, refl, arith}
+use Rattle.std.proofs.Common.{◌≡◌, ℕ, [], ◌∷◌, ◌++◌, length, ap, sym, subst, ◌∙◌, refl, arith}
 use Rattle.ts_packet.specs.declared.cell.Cell.{Cell}
 use Rattle.plug_conf.specs.Selection.{is_selected}
 use Rattle.plug_watch.specs.declared.note.Note.{Note}

@@ -1,4 +1,4 @@
-use Rattle.std.proofs.Common.{◌≡◌, ◌<◌, ℕ, None, get_or, ap, sym, ◌∙◌, arith}
+use Rattle.std.proofs.Common.{ℕ, None, get_or, ap, ◌∙◌, arith}
 use Rattle.plug_watch.proofs.Watching.{fault_is}
 use Rattle.plug_watch.proofs.last_packets.LastPackets.fault.Goals as goal
 

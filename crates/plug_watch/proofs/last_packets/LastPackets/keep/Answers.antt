@@ -1,4 +1,4 @@
-use Rattle.std.proofs.Common.{◌≡◌, ◌<◌, ℕ, None, Some, Option, get_or, set, ap, sym, subst, ◌∙◌, arith}
+use Rattle.std.proofs.Common.{◌<◌, ℕ, None, Some, Option, get_or, set, ap, subst, ◌∙◌, arith}
 use Rattle.ts_packet.specs.Header.{pid_of}
 use Rattle.plug_watch.specs.declared.last_packet.LastPacket.{LastPacket}
 use Rattle.plug_watch.proofs.Watching.{remembers_live, right_is}
