@@ -179,3 +179,9 @@ module _ {X : Type 0} (F : X → X → Type 0) where
   beside_each [] (y ∷ ys) e at = absurd (omega (arith, e))
   beside_each (x ∷ xs) [] e at = absurd (omega (arith, e))
   beside_each (x ∷ xs) (y ∷ ys) e at = (at 0 x (omega arith), beside_each xs ys (omega (arith, e)) (λ i d lt. at (suc i) d (omega (arith, lt))))
+
+module _ {X : Type 0} (F : X → Type 0) where
+  pub each_at : (xs : List X) (i : ℕ) (d : X) → Each F xs → i < length xs → F (slice_index_or xs i d)
+  each_at [] i d all lt = absurd (omega (arith, lt))
+  each_at (x ∷ xs) zero d all lt = all.0
+  each_at (x ∷ xs) (suc i) d all lt = each_at xs i d all.1 (omega (arith, lt))

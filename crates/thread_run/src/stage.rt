@@ -168,7 +168,7 @@ impl<S: Source, K: Sink, P: Plugin> Stage<S, K, P> {
 
     /// A turn, and where it worked another one, which gives on what was worked on: the stages behind it in its row find it
     /// at their next turn. What the last one came to.
-    #[tactic(auto, using(crate::proofs::Carries::kept_then, crate::proofs::Carries::one_still_ready))]
+    #[tactic(auto, using(crate::proofs::Carries::kept_then))]
     pub(crate) fn serve<G: Gate>(&mut self, ring: &Ring, gate: &G) -> Turn
         requires { IsReady (seeing S.seen K.seen P.rule P.stands_for P.steady) ring.now self.old }
         ensures keeps { Keeps (seeing S.seen K.seen P.rule P.stands_for P.steady) ring.now self.old self.new }

@@ -4,12 +4,13 @@ ghost use Rattle.stage_run.specs.Seeing.{seeing};
 ghost use Rattle.thread_run.specs.Driving.{AreReady, Carried, HaveEnded};
 
 use crate::Stage;
+use crate::at_once::on_both;
 use crate::driving::{drive, finish};
 use crate::start_line::StartLine;
 use plugin_trait::Plugin;
 use std::marker::{Send, Sync};
 use std::sync::Wait;
-use std::thread::{Threads, for_each_chunk_mut, join_mut};
+use std::thread::{Threads, for_each_chunk_mut};
 use ts_outside::{Gate, Sink, Source};
 use window_ring::Ring;
 
@@ -53,6 +54,24 @@ fn spread<R: Threads + Wait + Sync, S: Source + Send, K: Sink + Send, P: Plugin 
     );
 }
 
+/// Drives the input, which is side 0, or else the rows behind it.
+fn drive_side<
+    R: Threads + Wait + Sync,
+    S: Source + Send,
+    K: Sink + Send,
+    P: Plugin + Send,
+    G: Gate,
+>(rt: &R, ring: &Ring, gate: &G, line: &StartLine, side: usize, stages: &mut [Stage<S, K, P>])
+    requires ready { AreReady (seeing S.seen K.seen P.rule P.stands_for P.steady) ring.now stages.old }
+    ensures carried { Carried (seeing S.seen K.seen P.rule P.stands_for P.steady) ring.now stages.old stages.new }
+{
+    if side == 0 {
+        drive_from(rt, ring, gate, line, stages);
+        return;
+    }
+    spread(rt, ring, gate, line, stages);
+}
+
 /// Drives the input beside the rows behind it.
 fn drive_both<
     R: Threads + Wait + Sync,
@@ -73,15 +92,15 @@ fn drive_both<
     ensures input { Carried (seeing S.seen K.seen P.rule P.stands_for P.steady) ring.now input.old input.new }
     ensures others { Carried (seeing S.seen K.seen P.rule P.stands_for P.steady) ring.now others.old others.new }
 {
-    let mut front = ||
-        requires { IsSync R.row × IsSync G.row × AreReady (seeing S.seen K.seen P.rule P.stands_for P.steady) ring.now input.now }
-        ensures { Carried (seeing S.seen K.seen P.rule P.stands_for P.steady) ring.entry.now input.entry.now input.exit.now }
-    { drive_from(rt, ring, gate, line, input) };
-    let mut back = ||
-        requires { IsSync R.row × IsSync G.row × AreReady (seeing S.seen K.seen P.rule P.stands_for P.steady) ring.now others.now }
-        ensures { Carried (seeing S.seen K.seen P.rule P.stands_for P.steady) ring.entry.now others.entry.now others.exit.now }
-    { spread(rt, ring, gate, line, others) };
-    join_mut(rt, &mut front, &mut back);
+    on_both(
+        rt,
+        &|side: usize, stages: &mut [Stage<S, K, P>]|
+            requires { IsSync R.row × IsSync G.row × AreReady (seeing S.seen K.seen P.rule P.stands_for P.steady) ring.now stages.now }
+            ensures { Carried (seeing S.seen K.seen P.rule P.stands_for P.steady) ring.entry.now stages.entry.now stages.exit.now }
+        { drive_side(rt, ring, gate, line, side, stages) },
+        input,
+        others,
+    );
 }
 
 /// Drives the stages of all rows, each row in a thread of its own where one can be started.
