@@ -1,4 +1,4 @@
-use Rattle.std.proofs.Common.{rules, slice_index_or, subst, sym}
+use Rattle.std.proofs.Common.{rules, slice_index_or, subst}
 use denote.Exit.{no}
 use denote.Param.Send.{param_send, arg_send}
 use Rattle.stage_run.specs.Seeing.{seeing}
