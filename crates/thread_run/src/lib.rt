@@ -2,6 +2,7 @@
 //! of the chain. The layer above uses the clauses of `run_threads`, which are those of `run_serial` in `chain_run`.
 #![tactic(auto)]
 
+mod at_once;
 mod driving;
 mod laws;
 mod stage;

@@ -9,7 +9,6 @@ use crate::laws::run_laws;
 use chain_core::{News, StageWord};
 use plugin_trait::Plugin;
 use stage_run::{StagePart, Work};
-use std::sync::Wait;
 use ts_outside::{Gate, Sink, Source};
 use window_ring::{Ring, StageSeat, Visited};
 
@@ -80,11 +79,6 @@ impl<S, K, P> Stage<S, K, P> {
             over: _,
         } = self;
         (part, seat)
-    }
-
-    /// Waits until there may be news for the stage since its last visit, or returns at once.
-    pub fn wait_news<R: Wait>(&self, rt: &R, ring: &Ring) {
-        ring.wait_news(rt, &self.seat);
     }
 }
 
@@ -170,5 +164,19 @@ impl<S: Source, K: Sink, P: Plugin> Stage<S, K, P> {
         let turn = self.turn(ring, gate);
         self.over = turn.ends();
         turn
+    }
+
+    /// A turn, and where it worked another one, which gives on what was worked on: the stages behind it in its row find it
+    /// at their next turn. What the last one came to.
+    #[tactic(auto, using(crate::proofs::Carries::kept_then))]
+    pub(crate) fn serve<G: Gate>(&mut self, ring: &Ring, gate: &G) -> Turn
+        requires { IsReady (seeing S.seen K.seen P.rule P.stands_for P.steady) ring.now self.old }
+        ensures keeps { Keeps (seeing S.seen K.seen P.rule P.stands_for P.steady) ring.now self.old self.new }
+        ensures over { self.new.over ≡ is_ended result }
+    {
+        match self.step(ring, gate) {
+            Turn::Worked => self.step(ring, gate),
+            turn => turn,
+        }
     }
 }

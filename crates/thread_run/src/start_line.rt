@@ -2,33 +2,33 @@ use std::sync::atomic::AtomicU64;
 use std::sync::atomic::Ordering::SeqCst;
 use std::thread::yield_now;
 
-/// What the count is once the wait was given up, or more; there are fewer stages.
+/// What the count is once the wait was given up, or more; there are fewer rows.
 const GIVEN_UP: u64 = 1 << 32;
 
 /// How often a thread lets others go first before it gives up.
 const PATIENCE: u32 = 100_000;
 
-/// Where the threads of all stages meet before any begins.
+/// Where the threads of all rows meet before any begins.
 ///
-/// A stage may sleep until another one wakes it, so none begins before all have a thread of their own. One word
+/// A row may sleep until another one wakes it, so none begins before all have a thread of their own. One word
 /// decides, so either every thread is told that all are here, or every one that the wait was given up. No clause
 /// speaks of it.
 #[derive(Drop)]
 pub(crate) struct StartLine {
     here: AtomicU64,
-    stages: u64,
+    rows: u64,
 }
 
 impl StartLine {
-    /// For so many stages.
-    pub(crate) fn new(stages: u64) -> StartLine {
+    /// For so many rows.
+    pub(crate) fn new(rows: u64) -> StartLine {
         StartLine {
             here: AtomicU64::new(0),
-            stages,
+            rows,
         }
     }
 
-    /// Waits a while until the threads of all stages have called this. Whether they have.
+    /// Waits a while until the threads of all rows have called this. Whether they have.
     pub(crate) fn all_here(&self) -> bool {
         self.here.fetch_add(1, SeqCst);
         for _ in 0..PATIENCE {
@@ -42,7 +42,7 @@ impl StartLine {
 
     /// Gives up, unless the others come at the last moment. Whether they came.
     fn give_up(&self) -> bool {
-        for _ in 0..=self.stages {
+        for _ in 0..=self.rows {
             let here = self.here.load(SeqCst);
             if let Some(all) = self.decided(here) {
                 return all;
@@ -61,7 +61,7 @@ impl StartLine {
 
     /// What a count says, where it says it.
     fn decided(&self, here: u64) -> Option<bool> {
-        if here == self.stages {
+        if here == self.rows {
             return Some(true);
         }
         if here >= GIVEN_UP {

@@ -1,4 +1,4 @@
-//! The run with a thread for each stage.
+//! The run in threads.
 ghost use Rattle.std.specs.Prelude.{◌≡◌, ◌≤◌, vec_len};
 ghost use Rattle.chain_core.specs.CoreNumbers.{IsLawfulPlan};
 ghost use Rattle.chain_run.specs.Fresh.{AreFresh};
@@ -17,7 +17,7 @@ use std::thread::{Threads, available_parallelism};
 use thread_run::run_threads;
 use ts_outside::{Gate, Sink, Source};
 
-/// Runs a chain, each stage in a thread of its own where one can be started, and gives its parts back.
+/// Runs a chain in at most so many threads, and gives its parts back.
 ///
 /// `closed` is `AllocError` where memory was wanting for the run; then nothing was done. It may wait, and owes no
 /// return.
@@ -26,6 +26,7 @@ pub(crate) fn run_in_threads<R, S, K, P, G>(
     alloc: Global,
     stages: Stages<S, K, P>,
     core: &CorePlan,
+    threads: usize,
     gate: &G,
 ) -> RunEnd<S, K, P>
 where
@@ -43,7 +44,7 @@ where
         stages.stuffing core.now stages.input result.input
         stages.plugins.items result.plugins.items stages.output result.output result.closed }
 {
-    run_threads(rt, alloc, stages, core, gate)
+    run_threads(rt, alloc, stages, core, threads, gate)
 }
 
 /// A chain of fewer plugins runs in one thread: what its stages do at once is less than what it costs to hand packets
@@ -58,12 +59,25 @@ pub(crate) fn is_for_threads(plugins: usize) -> bool {
     plugins >= LEAST_PLUGINS
 }
 
-/// Whether the threads of this program may run on processors enough for more than one of them. Where the system does not
-/// say so, they may.
-fn has_processors(rt: &impl Threads) -> bool {
+/// In how many threads a chain runs at least that does not run in one: the input and the output each copy every packet, so
+/// neither shares a thread with all plugins.
+const LEAST_THREADS: usize = 4;
+
+/// In how many threads a chain runs that is for threads: as many as there are processors on which they may run, where that
+/// is not too few. Where the system does not say so, there are enough.
+fn threads_for(rt: &impl Threads) -> usize {
     match available_parallelism(rt) {
-        Ok(processors) => processors.get() >= LEAST_PROCESSORS,
-        Err(_) => true,
+        Ok(processors) => threads_on(processors.get()),
+        Err(_) => LEAST_THREADS,
+    }
+}
+
+/// In how many threads it runs on so many processors.
+fn threads_on(processors: usize) -> usize {
+    if processors < LEAST_PROCESSORS {
+        1
+    } else {
+        processors.max(LEAST_THREADS)
     }
 }
 
@@ -92,8 +106,11 @@ where
         stages.stuffing core.now stages.input result.input
         stages.plugins.items result.plugins.items stages.output result.output result.closed }
 {
-    if is_for_threads(core.plugins) && has_processors(rt) {
-        return run_in_threads(rt, alloc, stages, core, gate);
+    if is_for_threads(core.plugins) {
+        let threads = threads_for(rt);
+        if threads > 1 {
+            return run_in_threads(rt, alloc, stages, core, threads, gate);
+        }
     }
     run_in_one_thread(alloc, stages, core, gate)
 }

@@ -31,7 +31,11 @@ impl Ring {
         ensures { (made : ℕ) (held : List Holding) → root.me ≡ (root_view (key_of self) made held, [])
             → CoversAll (key_of self) held → Opened (key_of self) held result }
     {
-        let Ring { table, bells: _ } = self;
+        let Ring {
+            table,
+            rows: _,
+            bells: _,
+        } = self;
         let mut closed = table.close_with(root);
         let value = closed.take(0);
         closed.free();
@@ -68,7 +72,6 @@ impl Ring {
             seat,
             stage: _,
             hand,
-            heard: _,
         } = last;
         self.take_back(&mut root, seat);
         let Left {
@@ -100,7 +103,6 @@ impl Ring {
             seat,
             stage: _,
             hand,
-            heard: _,
         } = last;
         self.take_back(&mut root, seat);
         let Left { links, all, closed } = self.gather(root, seats);

@@ -2,6 +2,7 @@ ghost use Rattle.std.specs.Prelude.{◌≡◌, ◌+◌, [], ◌∷◌, length};
 ghost use Rattle.window_ring.specs.Seats.{key_of, table_of, IsAt, HasVisited};
 
 use crate::bell::Bell;
+use crate::rows::Rows;
 use crate::rule::{Leaving, RingRule, Taking};
 use crate::stage_seat::StageSeat;
 use crate::state::State;
@@ -15,7 +16,8 @@ use std::sync::Wait;
 /// The ring, which the threads of all stages share.
 pub struct Ring {
     pub(crate) table: Table<State, View, Key, RingRule, Global>,
-    // One for each stage.
+    pub(crate) rows: Rows,
+    // One for each row.
     pub(crate) bells: Vec<Bell>,
 }
 
@@ -32,7 +34,6 @@ impl Ring {
         ensures of_table { seat.new.seat.table_id ≡ seat.old.seat.table_id }
     {
         one_visit();
-        seat.heard = self.heard(seat.stage);
         let found = self
             .table
             .shared
@@ -51,17 +52,27 @@ impl Ring {
         Visited::Given(news)
     }
 
-    /// Waits until there may be news for the seat's stage since its last visit, or returns at once. It
+    /// How the stages are put into rows.
+    pub fn rows(&self) -> Rows {
+        self.rows
+    }
+
+    /// Waits until there may be news for a stage of this row since so many rings were heard, or returns at once. It
     /// changes no list.
-    pub fn wait_news<R: Wait>(&self, rt: &R, seat: &StageSeat) {
-        if let Some(bell) = self.bells.get(seat.stage) {
-            bell.wait(rt, seat.heard);
+    ///
+    /// Nothing is missed where the rings were counted before the row's stages made their visits. What may be news for a
+    /// stage, as cells, free slots, an end beside it or the limit, another stage's visit makes within its turn, and it
+    /// rings behind that turn. So either the stage's own visit came later and found the news, or the ring comes behind
+    /// the count, also where it is from a stage of the same row, and this returns.
+    pub fn wait_news<R: Wait>(&self, rt: &R, row: usize, heard: u64) {
+        if let Some(bell) = self.bells.get(row) {
+            bell.wait(rt, heard);
         }
     }
 
-    // How often a stage's bell rang.
-    fn heard(&self, stage: usize) -> u64 {
-        match self.bells.get(stage) {
+    /// How often the bell of a row rang.
+    pub fn heard(&self, row: usize) -> u64 {
+        match self.bells.get(row) {
             Some(bell) => bell.heard(),
             None => 0,
         }
@@ -70,8 +81,6 @@ impl Ring {
     // Rings for whom a visit may be news: the stage behind for cells, the input for free slots, both
     // neighbours for an end, and all where an agreement may have made the limit known.
     fn call(&self, stage: usize, done: usize, word: StageWord, news: &News) {
-        let behind = stage.saturating_add(1);
-        let next = if behind < self.bells.len() { behind } else { 0 };
         if word.agreed.is_some() && news.limit.is_some() {
             for bell in &self.bells {
                 bell.ring();
@@ -80,7 +89,7 @@ impl Ring {
         }
         let ended = word.ended.is_some();
         if done > 0 || ended {
-            self.ring_at(next);
+            self.ring_at(self.rows.next_of(stage));
         }
         if ended && stage > 0 {
             self.ring_at(stage - 1);
@@ -88,7 +97,7 @@ impl Ring {
     }
 
     fn ring_at(&self, stage: usize) {
-        if let Some(bell) = self.bells.get(stage) {
+        if let Some(bell) = self.bells.get(self.rows.row_of(stage)) {
             bell.ring();
         }
     }

@@ -15,8 +15,6 @@ pub struct StageSeat {
     pub(crate) seat: Seat<State, View>,
     pub(crate) stage: usize,
     pub(crate) hand: Hand,
-    // How often the stage's bell had rung before the last visit.
-    pub(crate) heard: u64,
 }
 
 impl StageSeat {

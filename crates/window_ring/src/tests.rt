@@ -7,7 +7,7 @@ ghost use Rattle.window_ring.specs.Closing.{IsDone};
 ghost use Rattle.window_ring.specs.Seats.{key_of, table_of};
 
 use crate::hand::Hand;
-use crate::{NewRing, Ring, StageSeat, Visited, new_ring};
+use crate::{NewRing, Ring, Rows, StageSeat, Visited, new_ring};
 use chain_core::{CorePlan, StageEnd, StageSet, StageWord, one_visit};
 use ts_land::land;
 use ts_packet::Cell;
@@ -64,14 +64,15 @@ fn opens_and_closes(rt: HostRuntime) {
         ring,
         root,
         mut seats,
-    } = new_ring(rt.alloc(), &plan).expect(&rt, "memory");
+    } = new_ring(rt.alloc(), &plan, Rows::of(2, 2)).expect(&rt, "memory");
     shared(&ring);
     sent(&seats[0]);
+    let heard = ring.heard(1);
     if !ends_at_once(&ring, &mut seats[0]) {
         panic!(&rt; "another stage has the turn");
     }
     // The end of the input has rung for the output: this returns.
-    ring.wait_news(&rt, &seats[1]);
+    ring.wait_news(&rt, 1, heard);
     if !ends_at_once(&ring, &mut seats[1]) {
         panic!(&rt; "another stage has the turn");
     }

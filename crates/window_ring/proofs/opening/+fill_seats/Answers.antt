@@ -10,7 +10,7 @@ pub fill_seats-requires : goal.fill_seats-requires
 fill_seats-requires t c =
     let r = c.requires in let key = c.args.ring.now.table.shared.key in let table = c.args.ring.now.table.shared.table_id in let old = c.args.seats.now.items in let new = c.push_reserved.new.self.items in
     let two = c.next_seat-seat.ensures.seats (vec_len c.args.seats.now) [] r.root in
-    let seat : StageSeat = record { seat = c.next_seat-seat.result; stage = c.len-stage.result; hand = c.none.result; heard = 0 } in
+    let seat : StageSeat = record { seat = c.next_seat-seat.result; stage = c.len-stage.result; hand = c.none.result } in
     let is : new ≡ old ++ seat ∷ [] = c.push_reserved.ensures.items in
     let len = c.push_reserved.ensures.len in let below = c.if-len-stages.false in let l0 = c.len.ensures in
     let n : vec_len c.args.seats.now ≡ length old = omega arith in
