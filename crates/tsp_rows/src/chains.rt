@@ -42,7 +42,7 @@ fn print_chain<R: Threads + Wait + Sync + Print + AllocGlobal>(
         for batch in BATCHES {
             let words = sized_words(rt.alloc(), chain, buffer, batch)?;
             let other = by_tsp_call(rt, case_of(words.as_slice()), &OpenGate)?;
-            tally = tally.with(first.is_like(&other));
+            tally = tally.with(first.is_like(rt.alloc(), &other)?);
         }
     }
     println!(rt;

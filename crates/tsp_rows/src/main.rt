@@ -19,6 +19,7 @@ mod plugin_rows;
 mod row;
 mod service_rows;
 mod stream_rows;
+mod table_rows;
 mod tally;
 mod threads;
 mod trial;
@@ -34,6 +35,7 @@ use plugin_rows::{JOINT_ROWS, LABEL_ROWS, PLUGIN_ROWS, WATCH_ROWS};
 use row::print_rows;
 use service_rows::{SERVICE_ROWS, SERVICE_WORD_ROWS};
 use stream_rows::{STREAM_ROWS, STREAM_WORD_ROWS};
+use table_rows::{TABLE_FAULT_ROWS, TABLE_ROWS};
 use tally::Tally;
 use word_rows::WORD_ROWS;
 
@@ -47,6 +49,8 @@ fn main(rt: HostRuntime) -> Result<()> {
     print_rows(&rt, &EDIT_ROWS, &mut tally)?;
     print_rows(&rt, &SERVICE_ROWS, &mut tally)?;
     print_rows(&rt, &STREAM_ROWS, &mut tally)?;
+    print_rows(&rt, &TABLE_ROWS, &mut tally)?;
+    print_rows(&rt, &TABLE_FAULT_ROWS, &mut tally)?;
     print_rows(&rt, &OPENING_ROWS, &mut tally)?;
     print_rows(&rt, &RUN_ROWS, &mut tally)?;
     print_rows(&rt, &LATE_ROWS, &mut tally)?;

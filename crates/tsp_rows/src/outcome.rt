@@ -10,7 +10,7 @@ const SHORT: usize = 2000;
 
 /// Prints the status, the report and the outputs.
 pub(crate) fn print_outcome(rt: &impl Print, trial: &Trial) -> Result<()> {
-    let status = trial.status;
+    let status = &trial.status;
     let exit = status.exit_code();
     let asked = trial.desk.asked_count();
     println!(rt; "  {status:?}, exit {exit}, names asked for: {asked}")?;

@@ -56,5 +56,5 @@ fn print_case<R: Threads + Wait + Sync + Print + AllocGlobal>(rt: &R, case: Case
 
 fn is_serial_like(alloc: Global, case: Case, outcome: &Trial) -> Result<bool, AllocError> {
     let serial = by_serial_call(alloc, case, &OpenGate)?;
-    Ok(outcome.is_like(&serial))
+    outcome.is_like(alloc, &serial)
 }

@@ -25,12 +25,21 @@ pub(crate) struct Trial {
 impl Trial {
     /// Whether two calls came to the same status, the same report, the same names asked for and the same first output.
     /// No row has a second output.
-    pub(crate) fn is_like(&self, other: &Trial) -> bool {
-        self.status == other.status
-            && self.desk.reported() == other.desk.reported()
-            && self.desk.asked_count() == other.desk.asked_count()
-            && self.desk.output_count() == other.desk.output_count()
-            && self.written() == other.written()
+    pub(crate) fn is_like(&self, alloc: Global, other: &Trial) -> Result<bool, AllocError> {
+        let same_status = self.status_text(alloc)? == other.status_text(alloc)?;
+        Ok(
+            same_status
+                && self.desk.reported() == other.desk.reported()
+                && self.desk.asked_count() == other.desk.asked_count()
+                && self.desk.output_count() == other.desk.output_count()
+                && self.written() == other.written(),
+        )
+    }
+
+    /// The status with all that it tells.
+    fn status_text(&self, alloc: Global) -> Result<String, AllocError> {
+        let status = &self.status;
+        format!(in alloc; "{status:?}")
     }
 
     /// The bytes of the first output.

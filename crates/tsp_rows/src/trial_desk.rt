@@ -1,4 +1,4 @@
-//! The desk of a trial: its one file under two names, and the calls that fail.
+//! The desk of a trial: its input under two names, files of tables, and the calls that fail.
 ghost use Rattle.std.specs.Prelude.{◌≡◌, IfOk};
 
 use crate::inputs::{Input, input_bytes};
@@ -7,6 +7,10 @@ use ts_outside::{FailPlan, FileBytes, FileList, MemoryDesk, NameText, NumberList
 
 /// The name of the file; it stands under the empty name, too, as the standard input.
 const FILE_NAME: &str = "in";
+
+/// A text of one table: a PAT with the service 1 on PID 4096.
+const TABLES: &str =
+    r##"{"#name":"tsduck","#nodes":[{"#name":"PAT","transport_stream_id":1,"#nodes":[{"#name":"service","service_id":1,"program_map_PID":"0x1000"}]}]}"##;
 
 /// The most bytes that an output or the reports hold.
 const ROOM: usize = 20_000;
@@ -31,17 +35,30 @@ pub(crate) fn filled_desk(
     MemoryDesk::new(alloc, files(alloc, input)?, fail_plan(alloc, fails)?)
 }
 
-/// The file under its name and under the empty one.
+/// The input under its name and under the empty one, a text of tables, one that is no JSON, and a file of no section.
 fn files(alloc: Global, input: Input) -> Result<FileList, AllocError> {
     let mut files = Vec::new(alloc);
-    files.push(file(alloc, FILE_NAME, input)?)?;
-    files.push(file(alloc, "", input)?)?;
+    files.push(input_file(alloc, FILE_NAME, input)?)?;
+    files.push(input_file(alloc, "", input)?)?;
+    files.push(text_file(alloc, "t.json", TABLES)?)?;
+    files.push(text_file(alloc, "bad.json", "{")?)?;
+    files.push(text_file(alloc, "e.bin", "")?)?;
     Ok(FileList::of(files))
 }
 
-fn file(alloc: Global, name: &str, input: Input) -> Result<(NameText, FileBytes), AllocError> {
+fn input_file(
+    alloc: Global,
+    name: &str,
+    input: Input,
+) -> Result<(NameText, FileBytes), AllocError> {
     let name = NameText::of(String::from_str(alloc, name)?);
     Ok((name, FileBytes::of(input_bytes(alloc, input)?)))
+}
+
+fn text_file(alloc: Global, name: &str, text: &str) -> Result<(NameText, FileBytes), AllocError> {
+    let name = NameText::of(String::from_str(alloc, name)?);
+    let bytes = Vec::from_slice(alloc, text.as_bytes())?;
+    Ok((name, FileBytes::of(bytes)))
 }
 
 fn number(alloc: Global, number: u64) -> Result<NumberList, AllocError> {

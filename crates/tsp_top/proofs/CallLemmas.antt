@@ -1,5 +1,5 @@
 -- The stream theorem of calls that ended before the chain ran.
-use Rattle.std.proofs.Common.{◌≡◌, ℕ, ◌≤◌, List, [], ◌∷◌, ◌++◌, Bool, true, false, Option, Err, refl, ap, sym, ◌∙◌, subst, take, length, codes, inl, arith}
+use Rattle.std.proofs.Common.{◌≡◌, ℕ, ◌≤◌, List, [], ◌∷◌, ◌++◌, Bool, true, false, Option, Result, Ok, Err, MatchResult, refl, ap, sym, ◌∙◌, subst, take, length, codes, inl, arith}
 use Rattle.std.specs.Prelude.{IsSome}
 use Rattle.std.proofs.lemmas.List.{take_all, take-append-le}
 use Rattle.ts_packet.specs.declared.cell.Cell.{Cell}
@@ -25,6 +25,8 @@ use Rattle.tsp_top.specs.PlannedChain.{input_name, output_name}
 use Rattle.tsp_top.specs.Openings.{asked_input, asked_input_in_vain, asked_output_in_vain, NamesInput, NamesOutput, OpensInput, input_closed_as}
 use Rattle.tsp_top.specs.CallEnd.{no_input, no_output, out_of_memory}
 use Rattle.tsp_top.specs.StreamTheorem.{StreamTheorem, asked_for}
+use Rattle.tsp_top.specs.TspCall.{IsOverBefore}
+use Rattle.tsp_top.specs.declared.status.Status.{Status}
 use Rattle.tsp_top.specs.declared.status.Status.TheVariants.{NoMemory, ReadFault, WriteFault}
 use Rattle.tsp_top.proofs.DeskLemmas.{SameOutside, same-asked_input, asked-asked_input, leaves-input_closed, outputs-input_closed, write_faults-input_closed, leaves-says}
 use Rattle.tsp_top.proofs.SourceLemmas.{reads-nothing, some-files}
@@ -57,9 +59,9 @@ output-named (output.File name) named = refl
 output-named output.Drop named = absurd named
 
 -- the input was not opened
-pub no-input-theorem : (plan : Plan) (old made new : DeskView) (failed : Bool) → NamesInput plan.input → made ≡ asked_input_in_vain old plan.input
-    → Says made new (codes "tsp: cannot open input" ++ 10 ∷ []) failed → StreamTheorem plan old new ReadFault
-no-input-theorem plan old made new failed named asked says =
+pub no-input-theorem : (plan : Plan) (tables : List (List (List ℕ))) (old made new : DeskView) (failed : Bool) → NamesInput plan.input → made ≡ asked_input_in_vain old plan.input
+    → Says made new (codes "tsp: cannot open input" ++ 10 ∷ []) failed → StreamTheorem plan tables old new ReadFault
+no-input-theorem plan tables old made new failed named asked says =
     let text : List ℕ = codes "tsp: cannot open input" ++ 10 ∷ [] in
     let vain : DeskView = asked_input_in_vain old plan.input in
     let said : Says vain new text failed = subst (λ (d : DeskView). Says d new text failed) asked says in
@@ -81,10 +83,10 @@ no-input-theorem plan old made new failed named asked says =
     }
 
 -- the output was not opened, and the input was closed
-pub no-output-theorem : {S : Type 0} (seen : S → SourceView) (plan : Plan) (old made new : DeskView) (part : InputPart S) (failed : Bool) → OpensInput seen old plan.input part → NamesOutput plan.output
+pub no-output-theorem : {S : Type 0} (seen : S → SourceView) (plan : Plan) (tables : List (List (List ℕ))) (old made new : DeskView) (part : InputPart S) (failed : Bool) → OpensInput seen old plan.input part → NamesOutput plan.output
     → made ≡ input_closed_as seen (asked_output_in_vain (asked_input old plan.input) plan.output) part
-    → Says made new (codes "tsp: cannot open output" ++ 10 ∷ []) failed → StreamTheorem plan old new WriteFault
-no-output-theorem seen plan old made new part failed opens named asked says =
+    → Says made new (codes "tsp: cannot open output" ++ 10 ∷ []) failed → StreamTheorem plan tables old new WriteFault
+no-output-theorem seen plan tables old made new part failed opens named asked says =
     let text : List ℕ = codes "tsp: cannot open output" ++ 10 ∷ [] in
     let first : DeskView = asked_input old plan.input in
     let vain : DeskView = asked_output_in_vain first plan.output in
@@ -121,9 +123,9 @@ take-first xs ys =
     take-append-le (length xs) xs ys le ∙ take_all (length xs) xs le
 
 -- there was no memory for the output, and the input was closed
-pub no-memory-theorem : {S : Type 0} (seen : S → SourceView) (plan : Plan) (old new : DeskView) (part : InputPart S)
-    → OpensInput seen old plan.input part → new ≡ input_closed_as seen (asked_input old plan.input) part → StreamTheorem plan old new NoMemory
-no-memory-theorem seen plan old new part opens is =
+pub no-memory-theorem : {S : Type 0} (seen : S → SourceView) (plan : Plan) (tables : List (List (List ℕ))) (old new : DeskView) (part : InputPart S)
+    → OpensInput seen old plan.input part → new ≡ input_closed_as seen (asked_input old plan.input) part → StreamTheorem plan tables old new NoMemory
+no-memory-theorem seen plan tables old new part opens is =
     let first : DeskView = asked_input old plan.input in
     let one : List Asked = asked_for Input (input_name plan.input) true in
     let two : List Asked = asked_for Output (output_name plan.output) true in
@@ -162,3 +164,9 @@ open-failed P Q R e is h = subst (λ (f : OpenFault). MatchOpen (Err f) P Q R) i
 
 pub open-no-memory : {T : Type 0} (P : T → Type 0) (Q R : Type 0) (e : OpenFault) → e ≡ fault.NoMemory → MatchOpen (Err e) P Q R → R
 open-no-memory P Q R e is h = subst (λ (f : OpenFault). MatchOpen (Err f) P Q R) is h
+
+-- the stream theorem of a call that is over before its run
+pub over-before : {X : Type 0} (P : X → Type 0) (r : Result X Status) (plan : Plan) (tables : List (List (List ℕ))) (old new : DeskView)
+    → MatchResult r P (λ status. StreamTheorem plan tables old new status) → MatchResult r P (λ status. IsOverBefore plan tables old new status)
+over-before P (Ok x) plan tables old new h = h
+over-before P (Err status) plan tables old new h = inl h

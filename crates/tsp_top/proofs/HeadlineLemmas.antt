@@ -1,5 +1,5 @@
 -- The headline, from the stream theorem.
-use Rattle.std.proofs.Common.{◌≡◌, ◌⊎◌, inl, inr, ℕ, zero, suc, List, [], ◌∷◌, ◌++◌, map, Bool, true, false, if◌then◌else◌, Option, Some, None, refl, ap, sym, ◌∙◌, subst, arith, append-nil}
+use Rattle.std.proofs.Common.{◌≡◌, ◌⊎◌, inl, inr, ℕ, zero, suc, List, [], ◌∷◌, ◌++◌, ◌+◌, length, Bool, true, false, if◌then◌else◌, Option, Some, None, refl, ap, sym, ◌∙◌, subst, arith, append-nil}
 use Rattle.std.specs.Prelude.{IsTrue, IfSome, is_some}
 use Rattle.std.proofs.lemmas.Bool.{cond-true}
 use Rattle.chain_model.specs.declared.input_end.InputEnd.TheVariants.{End, Sync, ReadFault, TooLong}
@@ -25,14 +25,15 @@ use Rattle.ts_outside.specs.Desk.{DeskView, file_of}
 use Rattle.tsp_top.specs.CallEnd.{CallEnd, no_input, no_output, ran, unreported, out_of_memory, status_of, status_when_late, FaultRose, StatusTellsCause}
 use Rattle.tsp_top.specs.CanEnd.{CanEnd, CanEndBy}
 use Rattle.tsp_top.specs.MemoryFirst.{IsSteady, AreSteady, NoStageWants, TakesLater}
-use Rattle.tsp_top.specs.PlannedChain.{chain_of, input_of, named_rule_of, output_name, stuffing_of, users_from, users_of}
-use Rattle.tsp_top.specs.StreamTheorem.{EndsRight, IsWrittenTo, outputs_with, Writes, Reports, StreamTheorem}
-use Rattle.tsp_top.specs.TspCall.{CallsTsp}
-use Rattle.tsp_top.specs.Headline.{TellsInput, NothingFails, IsPureOrWants, IsPureOfSome, EndsWell, SameButSizes}
+use Rattle.tsp_top.specs.PlannedChain.{chain_of, input_of, named_rules, output_name, stuffing_of, users_from, users_of}
+use Rattle.tsp_top.specs.PlannedTables.{AreTables, tables_asked}
+use Rattle.tsp_top.specs.StreamTheorem.{EndsRight, IsWrittenTo, outputs_with, Writes, Reports}
+use Rattle.tsp_top.specs.TspCall.{CallsPlan, CallsTsp}
+use Rattle.tsp_top.specs.Headline.{TellsInput, TellsTables, NothingFails, IsPureOrWants, IsPureOrEnds, EndsWell, SameButSizes}
 use Rattle.tsp_top.specs.WantsMemory.{WantsMemoryFirst}
 use Rattle.tsp_top.specs.declared.status.Status.{Status}
 use Rattle.tsp_top.specs.declared.status.Status.TheVariants as status
-use Rattle.tsp_top.proofs.SourceLemmas.{some-files}
+use Rattle.tsp_top.proofs.TableFacts.{tables-same, no-end, ends-not-wanting}
 
 -- where no fault happened there is none to tell
 quiet-no_cause : (old new : ℕ) → IsQuiet old new → HasCause old new → ⊥
@@ -67,11 +68,11 @@ only-memory (Refuse j reason) fault no_write no_read = cc
 only-memory WriteFault fault no_write no_read = absurd (no_write refl)
 only-memory (NoMemory k) fault no_write no_read = refl
 
-module _ (plan : Plan) (files : List (List ℕ × List ℕ)) (old new : DeskView) (answer : Status) (fine : NothingFails old new) where
+module _ (plan : Plan) (tables : List (List (List ℕ))) (files : List (List ℕ × List ℕ)) (old new : DeskView) (answer : Status) (fine : NothingFails old new) where
   abbrev chain : Chain
-  chain = chain_of plan files
+  chain = chain_of plan tables files
 
-  by-end : (end : CallEnd) → StatusTellsCause (output_name plan.output) old new answer end → EndsRight chain end → Writes plan chain old new end → Reports chain old new end → IsPureOrWants plan files old new answer
+  by-end : (end : CallEnd) → StatusTellsCause (output_name plan.output) old new answer end → EndsRight chain end → Writes plan chain old new end → Reports chain old new end → IsPureOrWants plan tables files old new answer
   by-end no_input tells right writes reports = absurd (quiet-no_cause old.read_faults new.read_faults fine.reads tells.1)
   by-end no_output tells right writes reports = absurd (quiet-no_cause old.write_faults new.write_faults fine.writes tells.1)
   by-end (ran cut why true) tells right writes reports =
@@ -102,49 +103,77 @@ no-fault words plan word rule is fault =
     let none : plan_of words ≡ None = cond-true _ _ _ (ap is_some fault) in
     let e : None ≡ Some plan = sym none ∙ is in absurd cc
 
--- a call whose words have a plan: the stream theorem of it, or memory was wanting before anything was opened
+-- a call whose words have a plan is one of it, or memory was wanting before anything was opened
 pub planned-call : (words : List (List ℕ)) (plan : Plan) (old new : DeskView) (answer : Status) → plan_of words ≡ Some plan → CallsTsp words old new answer
-    → StreamTheorem plan old new answer ⊎ ((answer ≡ status.NoMemory) × (new ≡ old))
+    → CallsPlan plan old new answer ⊎ ((answer ≡ status.NoMemory) × (new ≡ old))
 planned-call words plan old new answer is calls =
     elim calls [
       | inl planned ↦ (let e : Some planned.0 ≡ Some plan = sym planned.1 ∙ is in
-          let same : planned.0 ≡ plan = cc in inl (subst (λ p. StreamTheorem p old new answer) same planned.2))
+          let same : planned.0 ≡ plan = cc in inl (subst (λ p. CallsPlan p old new answer) same planned.2))
       | inr other ↦ elim other [
         | inl refused ↦ absurd (no-fault words plan refused.0 refused.1 is refused.2)
         | inr wanting ↦ inr wanting
       ]
     ]
 
--- over any desk, for the files of the theorem
+-- over any desk, for the tables and the files of the theorem
+pure-or-ends : (plan : Plan) (old new : DeskView) (answer : Status) → CallsPlan plan old new answer → NothingFails old new → IsPureOrEnds plan old new answer
+pure-or-ends plan old new answer (inl runs) fine =
+    let t = runs.theorem in
+    elim (by-end plan runs.tables t.files (tables_asked old plan) new answer (record { reads = fine.reads; writes = fine.writes; reports = fine.reports })
+    t.end t.status_tells_cause t.pure_or_fault t.written t.reported) [
+      | inl wants ↦ inl wants
+      | inr pure ↦ inr (inl (record {
+        tables = runs.tables;
+        tables_are = runs.tables_are;
+        files = t.files;
+        files_are = t.files_are;
+        pure = record { written = pure.written; reported = pure.reported; answered = pure.answered };
+      }))
+    ]
+pure-or-ends plan old new answer (inr (inl ends)) fine = inr (inr ends)
+pure-or-ends plan old new answer (inr (inr wants)) fine = inl wants.status_is
+
 pub of-some : (words : List (List ℕ)) (plan : Plan) (old new : DeskView) (answer : Status)
-    → plan_of words ≡ Some plan → CallsTsp words old new answer → NothingFails old new → IsPureOfSome plan old new answer
+    → plan_of words ≡ Some plan → CallsTsp words old new answer → NothingFails old new → IsPureOrEnds plan old new answer
 of-some words plan old new answer is calls fine =
     elim (planned-call words plan old new answer is calls) [
-      | inl t ↦ (t.files, t.files_are, by-end plan t.files old new answer fine t.end t.status_tells_cause t.pure_or_fault t.written t.reported)
-      | inr wanting ↦ (let files = some-files old in (files.0, files.1, inl wanting.0))
+      | inl planned ↦ pure-or-ends plan old new answer planned fine
+      | inr wanting ↦ inl wanting.0
     ]
 
 -- a plan's chain over two lists of files, where the input is told, is one
-same-chain : (conf : InputConf) (desk : DeskView) (files other : List (List ℕ × List ℕ)) → TellsInput conf desk files → IfSome desk.files (λ told. other ≡ told)
+same-input : (conf : InputConf) (desk : DeskView) (files other : List (List ℕ × List ℕ)) → TellsInput conf desk files → IfSome desk.files (λ told. other ≡ told)
     → input_of conf other ≡ input_of conf files
-same-chain (input.File name) desk files other tells is =
+same-input (input.File name) desk files other tells is =
     let same : other ≡ files = subst (λ (o : Option (List (List ℕ × List ℕ))). IfSome o (λ told. other ≡ told)) tells is in
     ap (λ (fs : List (List ℕ × List ℕ)). input_of_bytes (file_of fs name)) same
-same-chain (input.Null count) desk files other tells is = refl
-same-chain (input.TestGen seed count) desk files other tells is = refl
+same-input (input.Null count) desk files other tells is = refl
+same-input (input.TestGen seed count) desk files other tells is = refl
 
-pub headline : (words : List (List ℕ)) (plan : Plan) (files : List (List ℕ × List ℕ)) (old new : DeskView) (answer : Status)
-    → plan_of words ≡ Some plan → TellsInput plan.input old files → CallsTsp words old new answer → NothingFails old new → IsPureOrWants plan files old new answer
-headline words plan files old new answer is tells calls fine =
-    let some = of-some words plan old new answer is calls fine in
-    let chain : InputList → Chain = λ i. record { input = stuffed (stuffing_of plan.general) i; plugins = map named_rule_of plan.plugins; users = users_of plan } in
-    elim some.2 [
+same-chain : (plan : Plan) (old : DeskView) (tables some : List (List (List ℕ))) (files other : List (List ℕ × List ℕ))
+    → TellsInput plan.input old files → TellsTables plan.plugins old files → AreTables old plan.plugins tables → AreTables old plan.plugins some → IfSome old.files (λ told. other ≡ told)
+    → chain_of plan some other ≡ chain_of plan tables files
+same-chain plan old tables some files other tells tells_tables are some_are is =
+    let C : List (List (List ℕ)) → InputList → Chain = λ t i. record { input = stuffed (stuffing_of plan.general) i; plugins = named_rules plan.plugins t; users = users_of plan } in
+    ap (λ (t : List (List (List ℕ))). C t (input_of plan.input other)) (tables-same old files plan.plugins some tables tells_tables some_are are)
+    ∙ ap (λ (i : InputList). C tables i) (same-input plan.input old files other tells is)
+
+pub headline : (words : List (List ℕ)) (plan : Plan) (tables : List (List (List ℕ))) (files : List (List ℕ × List ℕ)) (old new : DeskView) (answer : Status)
+    → plan_of words ≡ Some plan → TellsInput plan.input old files → TellsTables plan.plugins old files → AreTables old plan.plugins tables
+    → CallsTsp words old new answer → NothingFails old new → IsPureOrWants plan tables files old new answer
+headline words plan tables files old new answer is tells tells_tables are calls fine =
+    elim (of-some words plan old new answer is calls fine) [
       | inl wants ↦ inl wants
-      | inr pure ↦ (let same : chain (input_of plan.input some.0) ≡ chain (input_of plan.input files) = ap chain (same-chain plan.input old files some.0 tells some.1) in inr (record {
-        written = pure.written ∙ ap (λ (c : Chain). outputs_with (output_name plan.output) old.outputs (pure_run c).written) same;
-        reported = pure.reported ∙ ap (λ (c : Chain). grown old.reported (pure_run c).reported) same;
-        answered = pure.answered ∙ ap (λ (c : Chain). status_of (pure_run c).cause) same;
-      }))
+      | inr other ↦ elim other [
+        | inl some ↦ (let same : chain_of plan some.tables some.files ≡ chain_of plan tables files =
+            same-chain plan old tables some.tables files some.files tells tells_tables are some.tables_are some.files_are in inr (record {
+              written = some.pure.written ∙ ap (λ (c : Chain). outputs_with (output_name plan.output) old.outputs (pure_run c).written) same;
+              reported = some.pure.reported ∙ ap (λ (c : Chain). grown old.reported (pure_run c).reported) same;
+              answered = some.pure.answered ∙ ap (λ (c : Chain). status_of (pure_run c).cause) same;
+            }))
+        | inr ends ↦ absurd (no-end old files plan.plugins tables new answer tells_tables are (quiet-no_cause old.read_faults new.read_faults fine.reads) ends)
+      ]
     ]
 
 -- a cause that is no fault gives the status `Done`
@@ -160,20 +189,21 @@ well-done (Refuse j reason) well = absurd well
 well-done WriteFault well = absurd well
 well-done (NoMemory k) well = absurd well
 
-pub completeness : (words : List (List ℕ)) (plan : Plan) (files : List (List ℕ × List ℕ)) (old new : DeskView) (answer : Status)
-    → plan_of words ≡ Some plan → TellsInput plan.input old files → CallsTsp words old new answer → NothingFails old new
-    → EndsWell (pure_run (chain_of plan files)).cause → (answer ≡ status.Done) ⊎ (answer ≡ status.NoMemory)
-completeness words plan files old new answer is tells calls fine well =
-    elim (headline words plan files old new answer is tells calls fine) [
+pub completeness : (words : List (List ℕ)) (plan : Plan) (tables : List (List (List ℕ))) (files : List (List ℕ × List ℕ)) (old new : DeskView) (answer : Status)
+    → plan_of words ≡ Some plan → TellsInput plan.input old files → TellsTables plan.plugins old files → AreTables old plan.plugins tables
+    → CallsTsp words old new answer → NothingFails old new
+    → EndsWell (pure_run (chain_of plan tables files)).cause → (answer ≡ status.Done) ⊎ (answer ≡ status.NoMemory)
+completeness words plan tables files old new answer is tells tells_tables are calls fine well =
+    elim (headline words plan tables files old new answer is tells tells_tables are calls fine) [
       | inl wants ↦ inr wants
-      | inr pure ↦ inl (pure.answered ∙ well-done (pure_run (chain_of plan files)).cause well)
+      | inr pure ↦ inl (pure.answered ∙ well-done (pure_run (chain_of plan tables files)).cause well)
     ]
 
 -- plans that differ in their sizes alone have one chain
-pub same-but-sizes : (one other : Plan) (files : List (List ℕ × List ℕ)) → SameButSizes one other → chain_of other files ≡ chain_of one files
-same-but-sizes one other files same =
-    let S : Stuffing → InputConf → Chain = λ s i. record { input = stuffed s (input_of i files); plugins = map named_rule_of other.plugins; users = users_of other } in
-    let U : List PluginItem → Bool → Chain = λ items ignored. record { input = stuffed (stuffing_of one.general) (input_of one.input files); plugins = map named_rule_of items; users = if ignored then [] else users_from 1 items } in
+pub same-but-sizes : (one other : Plan) (tables : List (List (List ℕ))) (files : List (List ℕ × List ℕ)) → SameButSizes one other → chain_of other tables files ≡ chain_of one tables files
+same-but-sizes one other tables files same =
+    let S : Stuffing → InputConf → Chain = λ s i. record { input = stuffed s (input_of i files); plugins = named_rules other.plugins tables; users = users_of other } in
+    let U : List PluginItem → Bool → Chain = λ items ignored. record { input = stuffed (stuffing_of one.general) (input_of one.input files); plugins = named_rules items tables; users = if ignored then [] else users_from 1 items } in
     let stuffing : stuffing_of other.general ≡ stuffing_of one.general = cc (same.start, same.stop, same.between) in
     ap (λ (s : Stuffing). S s other.input) stuffing
     ∙ ap (λ (i : InputConf). S (stuffing_of one.general) i) same.input
@@ -192,7 +222,11 @@ no-want plan why steady can (suc j) is =
     none-later plan.plugins j (all_by_recursion IsSteady plan.plugins steady) (subst (λ (w : Cause). CanEndBy plan w) is can)
 
 -- memory first: what is left where memory was wanting
-module _ (plan : Plan) (files : List (List ℕ × List ℕ)) (old new : DeskView) (files_are : IfSome old.files (λ told. files ≡ told)) (steady : AreSteady plan.plugins) where
+module _ (plan : Plan) (tables : List (List (List ℕ))) (files : List (List ℕ × List ℕ)) (old new : DeskView) (tables_are : AreTables old plan.plugins tables) (files_are : IfSome old.files (λ told. files ≡ told))
+    (steady : AreSteady plan.plugins) where
+  abbrev behind : DeskView
+  behind = tables_asked old plan
+
   not-done : (why : Cause) (late : Bool) → NoStageWants why → status.NoMemory ≡ (if late then status_when_late (status_of why) else status_of why) → ⊥
   not-done (Input (End left)) true none is = cc
   not-done (Input (End left)) false none is = cc
@@ -214,24 +248,39 @@ module _ (plan : Plan) (files : List (List ℕ × List ℕ)) (old new : DeskView
   not-done WriteFault false none is = cc
   not-done (NoMemory k) late none is = none k refl
 
-  wants-first : (end : CallEnd) → StatusTellsCause (output_name plan.output) old new status.NoMemory end → CanEnd plan end → EndsRight (chain_of plan files) end
-      → Writes plan (chain_of plan files) old new end → Reports (chain_of plan files) old new end → WantsMemoryFirst plan old new
+  wants-first : (end : CallEnd) → StatusTellsCause (output_name plan.output) behind new status.NoMemory end → CanEnd plan end → EndsRight (chain_of plan tables files) end
+      → Writes plan (chain_of plan tables files) behind new end → Reports (chain_of plan tables files) behind new end → WantsMemoryFirst plan old new
   wants-first no_input tells first right writes reports = absurd (let e = tells.0 in cc)
   wants-first no_output tells first right writes reports = absurd (let e = tells.0 in cc)
   wants-first (ran cut why late) tells first right writes reports = absurd (not-done why late (no-want plan why steady first) tells.0)
   wants-first (unreported cut why) tells first right writes reports =
-      (reports, inr (inr (record { files = files; files_are = files_are; cut = cut; why = why; no_want = no-want plan why steady first; pure_or_fault = right; written = writes })))
+      (reports, inr (inr (record { tables = tables; tables_are = tables_are; files = files; files_are = files_are; cut = cut; why = why; no_want = no-want plan why steady first; pure_or_fault = right; written = writes })))
   wants-first out_of_memory tells first right writes reports =
       (reports, elim writes [ inl none ↦ inl none | inr empty ↦ inr (inl empty) ])
+
+-- nothing is left where only files of tables were asked for
+wants-at-once : (plan : Plan) (old new : DeskView) → new ≡ old → WantsMemoryFirst plan old new
+wants-at-once plan old new same = (
+  (ap (λ (d : DeskView). d.reported) same, ap (λ (d : DeskView). d.report_faults) same),
+  inl (ap (λ (d : DeskView). d.outputs) same),
+)
+
+planned-first : (plan : Plan) (old new : DeskView) (answer : Status) → AreSteady plan.plugins → CallsPlan plan old new answer → answer ≡ status.NoMemory → WantsMemoryFirst plan old new
+planned-first plan old new answer steady (inl runs) want =
+    let t = runs.theorem in
+    wants-first plan runs.tables t.files old new runs.tables_are t.files_are steady t.end
+    (subst (λ (s : Status). StatusTellsCause (output_name plan.output) (tables_asked old plan) new s t.end) want t.status_tells_cause) t.can_end t.pure_or_fault t.written t.reported
+planned-first plan old new answer steady (inr (inl ends)) want =
+    absurd (ends-not-wanting (length ends.before + 1) ends.ends.2.end (sym want ∙ ends.ends.2.status_is))
+planned-first plan old new answer steady (inr (inr wants)) want = (
+  (ap (λ (d : DeskView). d.reported) wants.desk_is, ap (λ (d : DeskView). d.report_faults) wants.desk_is),
+  inl (ap (λ (d : DeskView). d.outputs) wants.desk_is),
+)
 
 pub memory-first : (words : List (List ℕ)) (plan : Plan) (old new : DeskView) (answer : Status)
     → plan_of words ≡ Some plan → AreSteady plan.plugins → CallsTsp words old new answer → answer ≡ status.NoMemory → WantsMemoryFirst plan old new
 memory-first words plan old new answer is steady calls want =
     elim (planned-call words plan old new answer is calls) [
-      | inl t ↦ wants-first plan t.files old new t.files_are steady t.end (subst (λ (s : Status). StatusTellsCause (output_name plan.output) old new s t.end) want t.status_tells_cause)
-          t.can_end t.pure_or_fault t.written t.reported
-      | inr wanting ↦ (
-        (ap (λ (d : DeskView). d.reported) wanting.1, ap (λ (d : DeskView). d.report_faults) wanting.1),
-        inl (ap (λ (d : DeskView). d.outputs) wanting.1),
-      )
+      | inl planned ↦ planned-first plan old new answer steady planned want
+      | inr wanting ↦ wants-at-once plan old new wanting.1
     ]

@@ -8,6 +8,9 @@ pub mod CutLemmas
 pub mod StreamLemmas
 pub mod RanTheorem
 pub mod CallLemmas
+pub mod BeginLemmas
+pub mod TableLemmas
+pub mod TableFacts
 pub mod HeadlineLemmas
 pub mod SteadyLemmas
 pub mod Rows

@@ -37,13 +37,12 @@ use Rattle.ts_outside.specs.Sink.{SinkView}
 use Rattle.ts_outside.specs.Told.{grown}
 use Rattle.ts_outside.specs.Desk.{DeskView}
 use Rattle.chain_run.specs.RunOf.{LeftInput, LeftOutput, RunOf}
-use Rattle.plug_set.specs.Items.{rule_of_item}
 use Rattle.plug_set.specs.Plugins.{steady_of}
 use Rattle.tsp_top.specs.CallEnd.{ran, unreported, out_of_memory, status_of, status_when_late, FaultRose, LateRose}
 use Rattle.tsp_top.specs.CanEnd.{CanEndBy}
 use Rattle.tsp_top.specs.MemoryFirst.{TakesLater}
 use Rattle.tsp_top.specs.Openings.{asked_input, asked_output, input_closed_as, output_closed_as, OpensInput, OpensOutput, WasOpened}
-use Rattle.tsp_top.specs.PlannedChain.{chain_of, input_of, stuffing_of, users_of, named_rule_of, input_name, output_name}
+use Rattle.tsp_top.specs.PlannedChain.{chain_of, input_of, stuffing_of, users_of, named_rules, input_name, output_name}
 use Rattle.tsp_top.specs.Ran.{IsReady, RanEnds, RanOpened, closed_desk}
 use Rattle.tsp_top.specs.Readings.{ReadsTo}
 use Rattle.tsp_top.specs.Reported.{ReportsRun}
@@ -78,22 +77,22 @@ record Desks (plan : Plan) (old made closed_in closed_out : DeskView) : Type 0 w
   first_outputs : (asked_input old plan.input).outputs ≡ old.outputs
 
 -- what holds of a run whose ends were opened and closed, of the desk when all is over
-record RanFacts (plan : Plan) (files : List (List ℕ × List ℕ)) (old new : DeskView) (cut : ℕ) (why : Cause) : Type 0 where
+record RanFacts (plan : Plan) (tables : List (List (List ℕ))) (files : List (List ℕ × List ℕ)) (old new : DeskView) (cut : ℕ) (why : Cause) : Type 0 where
   files_are : IfSome old.files (λ told. files ≡ told)
   rose : FaultRose old new why
   can : CanEndBy plan why
-  closes : IsPureOrFault (chain_of plan files) cut why
+  closes : IsPureOrFault (chain_of plan tables files) cut why
   reads : ReadsTo plan.general plan.input files old new cut why
-  written : WritesTo plan (chain_of plan files) old new cut why
+  written : WritesTo plan (chain_of plan tables files) old new cut why
   asked : new.asked ≡ grown old.asked (both_asked plan)
   files_stay : new.files ≡ old.files
 
 -- a run that was reported
-reported-theorem : (plan : Plan) (files : List (List ℕ × List ℕ)) (old made new : DeskView) (cut : ℕ) (why : Cause) (late said : Bool) (st : Status)
-    → RanFacts plan files old new cut why → LateRose (output_name plan.output) old new why late
+reported-theorem : (plan : Plan) (tables : List (List (List ℕ))) (files : List (List ℕ × List ℕ)) (old made new : DeskView) (cut : ℕ) (why : Cause) (late said : Bool) (st : Status)
+    → RanFacts plan tables files old new cut why → LateRose (output_name plan.output) old new why late
     → st ≡ (if late then status_when_late (status_of why) else status_of why)
-    → made.reported ≡ old.reported → made.report_faults ≡ old.report_faults → Says made new (reported_at (chain_of plan files) cut why) said → StreamTheorem plan old new st
-reported-theorem plan files old made new cut why late said st facts rose told reported report_faults says = record {
+    → made.reported ≡ old.reported → made.report_faults ≡ old.report_faults → Says made new (reported_at (chain_of plan tables files) cut why) said → StreamTheorem plan tables old new st
+reported-theorem plan tables files old made new cut why late said st facts rose told reported report_faults says = record {
   end = ran cut why late;
   files = files;
   files_are = facts.files_are;
@@ -102,15 +101,15 @@ reported-theorem plan files old made new cut why late said st facts rose told re
   pure_or_fault = facts.closes;
   reads = facts.reads;
   written = facts.written;
-  reported = reports-text old made new (reported_at (chain_of plan files) cut why) said reported report_faults says;
+  reported = reports-text old made new (reported_at (chain_of plan tables files) cut why) said reported report_faults says;
   opened = facts.asked;
   files_stay = facts.files_stay;
 }
 
 -- a run for whose report there was no memory
-unreported-theorem : (plan : Plan) (files : List (List ℕ × List ℕ)) (old new : DeskView) (cut : ℕ) (why : Cause) (st : Status)
-    → RanFacts plan files old new cut why → st ≡ NoMemory → new.reported ≡ old.reported → new.report_faults ≡ old.report_faults → StreamTheorem plan old new st
-unreported-theorem plan files old new cut why st facts told reported report_faults = record {
+unreported-theorem : (plan : Plan) (tables : List (List (List ℕ))) (files : List (List ℕ × List ℕ)) (old new : DeskView) (cut : ℕ) (why : Cause) (st : Status)
+    → RanFacts plan tables files old new cut why → st ≡ NoMemory → new.reported ≡ old.reported → new.report_faults ≡ old.report_faults → StreamTheorem plan tables old new st
+unreported-theorem plan tables files old new cut why st facts told reported report_faults = record {
   end = unreported cut why;
   files = files;
   files_are = facts.files_are;
@@ -167,10 +166,10 @@ desks in_seen out_seen plan old made made_from made_to failed is =
     }
 
 -- a run for which there was no memory
-not-run : {S K : Type 0} (in_seen : S → SourceView) (out_seen : K → SinkView) (plan : Plan) (old made new : DeskView) (from : InputPart S) (to : OutputPart K) (failed : Bool) (st : Status)
+not-run : {S K : Type 0} (in_seen : S → SourceView) (out_seen : K → SinkView) (plan : Plan) (tables : List (List (List ℕ))) (old made new : DeskView) (from : InputPart S) (to : OutputPart K) (failed : Bool) (st : Status)
     → Opened in_seen out_seen plan old made from to
-    → st ≡ NoMemory → new ≡ closed_desk in_seen out_seen made from to failed → StreamTheorem plan old new st
-not-run in_seen out_seen plan old made new from to failed st opened e is =
+    → st ≡ NoMemory → new ≡ closed_desk in_seen out_seen made from to failed → StreamTheorem plan tables old new st
+not-run in_seen out_seen plan tables old made new from to failed st opened e is =
     let desks = desks in_seen out_seen plan old made from to failed opened.asked in
     let all : List Asked = both_asked plan in
     let empty = outputs-empty out_seen (asked_input old plan.input) (input_closed_as in_seen made from) plan.output to failed opened.output desks.outputs in
@@ -251,11 +250,6 @@ subst-three F a b c d e f p q r h =
     let C : List ℕ → Type 0 = λ x. F b d x in
     subst C r (subst B q (subst A p h))
 
--- the rules of a plan's plugins, with their names or without
-named-rules : (items : List PluginItem) → map rule_of_item items ≡ rules_of (map named_rule_of items)
-named-rules [] = refl
-named-rules (item ∷ items) = ap (λ (rs : List PluginRule). rule_of_item item ∷ rs) (named-rules items)
-
 -- what was written of the lists of some chain
 abbrev WritesOf : Plan → DeskView → DeskView → ℕ → Cause → List PluginRule → StageList → List ℕ → Type 0
 WritesOf plan old new cut why rules list users =
@@ -273,10 +267,10 @@ takes-later (item ∷ items) buffer zero less no_room = λ steady.
     no_room (subst S (sym (steady buffer)) enough)
 takes-later (item ∷ items) buffer (suc j) less no_room = takes-later items buffer j (omega arith) no_room
 
-module _ {S K P : Type 0} (see : Seeing S K P) (plan : Plan) (old made new : DeskView) (from made_from : InputPart S) (stuffing : Stuffing)
+module _ {S K P : Type 0} (see : Seeing S K P) (plan : Plan) (tables : List (List (List ℕ))) (old made new : DeskView) (from made_from : InputPart S) (stuffing : Stuffing)
     (plugins : List P) (to made_to : OutputPart K) (failed : Bool) (numbers : CorePlan) (closed : Closed)
     (opened : Opened see.source see.sink plan old made from to)
-    (ready : IsReady see.rule see.stands see.steady plan stuffing numbers plugins) where
+    (ready : IsReady see.rule see.stands see.steady plan tables stuffing numbers plugins) where
   abbrev d2 : DeskView
   d2 = input_closed_as see.source made made_from
 
@@ -303,10 +297,10 @@ module _ {S K P : Type 0} (see : Seeing S K P) (plan : Plan) (old made new : Des
 
     -- what holds of the run's lists holds of the plan's chain
     of-plan : (F : List PluginRule → StageList → List ℕ → Type 0) → F own run.list users
-        → F (chain_rules (chain_of plan chosen.files)) (chain_of plan chosen.files).input (chain_of plan chosen.files).users
+        → F (chain_rules (chain_of plan tables chosen.files)) (chain_of plan tables chosen.files).input (chain_of plan tables chosen.files).users
     of-plan F h =
-        subst-three F own (rules_of (map named_rule_of plan.plugins)) run.list (stuffed (stuffing_of plan.general) (input_of plan.input chosen.files)) users (users_of plan)
-        (ready.rules ∙ named-rules plan.plugins) chosen.list_is ready.numbers_are.users h
+        subst-three F own (rules_of (named_rules plan.plugins tables)) run.list (stuffed (stuffing_of plan.general) (input_of plan.input chosen.files)) users (users_of plan)
+        ready.rules chosen.list_is ready.numbers_are.users h
 
     want : (k : ℕ) → closed.cause ≡ cause.NoMemory k → CanEndBy plan (cause.NoMemory k)
     want zero is = absurd (let a = (run.memory zero is).behind_input in omega arith)
@@ -330,7 +324,7 @@ module _ {S K P : Type 0} (see : Seeing S K P) (plan : Plan) (old made new : Des
           written-begins own run.list users closed.cut closed.cause took.part run.closes took.cut_part,
         )
 
-    ran-facts : LeavesAll d3 new → RanFacts plan chosen.files old new closed.cut closed.cause
+    ran-facts : LeavesAll d3 new → RanFacts plan tables chosen.files old new closed.cut closed.cause
     ran-facts leaves = record {
       files_are = chosen.files_are;
       rose = faults-rose see.source see.sink plan old made new from made_from to made_to failed (stage.stuffing_of stuffing) numbers.buffer cells closed.cut closed.cause opened run.input run.output leaves;
@@ -347,41 +341,41 @@ module _ {S K P : Type 0} (see : Seeing S K P) (plan : Plan) (old made new : Des
     }
 
     -- the text of the run's report is that of the plan's chain
-    report-same : reports (map named_rule_of plan.plugins) run.list closed.cut closed.cause ≡ reported_at (chain_of plan chosen.files) closed.cut closed.cause
-    report-same = ap (λ (l : StageList). reports (map named_rule_of plan.plugins) l closed.cut closed.cause) chosen.list_is
+    report-same : reports (named_rules plan.plugins tables) run.list closed.cut closed.cause ≡ reported_at (chain_of plan tables chosen.files) closed.cut closed.cause
+    report-same = ap (λ (l : StageList). reports (named_rules plan.plugins tables) l closed.cut closed.cause) chosen.list_is
 
     -- a run that was closed, and then reported, or not where there was no memory for that
     ran-closed : (st : Status) → OnTrue failed (WasOpened made_to)
-        → ReportsRun (reports (map named_rule_of plan.plugins) run.list closed.cut closed.cause) closed.cause failed d3 new st → StreamTheorem plan old new st
+        → ReportsRun (reports (named_rules plan.plugins tables) run.list closed.cut closed.cause) closed.cause failed d3 new st → StreamTheorem plan tables old new st
     ran-closed st closing (inl report) =
-        let text : List ℕ = reported_at (chain_of plan chosen.files) closed.cut closed.cause in
+        let text : List ℕ = reported_at (chain_of plan tables chosen.files) closed.cut closed.cause in
         let T : List ℕ → Type 0 = λ t. Says d3 new t report.0 in
         let says : Says d3 new text report.0 = subst T report-same report.1 in
         let facts = ran-facts (leaves-says d3 new text report.0 says) in
         let late = lates-rose see.source see.sink plan old made new from made_from to made_to failed report.0 text cells closed.cut closed.cause opened closing run.output says in
-        reported-theorem plan chosen.files old d3 new closed.cut closed.cause (failed || report.0) report.0 st facts late report.2 steps.reported steps.report_faults says
+        reported-theorem plan tables chosen.files old d3 new closed.cut closed.cause (failed || report.0) report.0 st facts late report.2 steps.reported steps.report_faults says
     ran-closed st closing (inr none) =
-        unreported-theorem plan chosen.files old new closed.cut closed.cause st (ran-facts (leaves-all d3 new none.1)) none.0
+        unreported-theorem plan tables chosen.files old new closed.cut closed.cause st (ran-facts (leaves-all d3 new none.1)) none.0
         (ap (λ (v : DeskView). v.reported) none.1 ∙ steps.reported) (ap (λ (v : DeskView). v.report_faults) none.1 ∙ steps.report_faults)
 
 -- a run between two opened ends
-pub ran-theorem : {S K P : Type 0} (see : Seeing S K P) (plan : Plan) (stuffing : Stuffing) (numbers : CorePlan) (old made new : DeskView) (from : InputPart S) (plugins : List P) (to : OutputPart K) (st : Status)
+pub ran-theorem : {S K P : Type 0} (see : Seeing S K P) (plan : Plan) (tables : List (List (List ℕ))) (stuffing : Stuffing) (numbers : CorePlan) (old made new : DeskView) (from : InputPart S) (plugins : List P) (to : OutputPart K) (st : Status)
     → made ≡ asked_output (asked_input old plan.input) plan.output
     → OpensInput see.source old plan.input from → OpensOutput see.sink (asked_input old plan.input) plan.output to
-    → IsReady see.rule see.stands see.steady plan stuffing numbers plugins
-    → RanOpened see plan stuffing numbers made new from plugins to st
-    → StreamTheorem plan old new st
-ran-theorem {S} {K} {P} see plan stuffing numbers old made new from plugins to st is opens_in opens_out ready run =
+    → IsReady see.rule see.stands see.steady plan tables stuffing numbers plugins
+    → RanOpened see plan tables stuffing numbers made new from plugins to st
+    → StreamTheorem plan tables old new st
+ran-theorem {S} {K} {P} see plan tables stuffing numbers old made new from plugins to st is opens_in opens_out ready run =
     ran-ends run.made_from run.made_to run.failed run.failed_opened run.ends
   where
     ran-ends : (made_from : InputPart S) (made_to : OutputPart K) (failed : Bool) → OnTrue failed (WasOpened made_to)
-        → RanEnds see plan stuffing numbers made new from made_from plugins to made_to failed st → StreamTheorem plan old new st
+        → RanEnds see plan tables stuffing numbers made new from made_from plugins to made_to failed st → StreamTheorem plan tables old new st
     ran-ends made_from made_to failed closing (inl closed) =
         let opened : Opened see.source see.sink plan old made from to = record { asked = is; input = opens_in; output = opens_out } in
-        ran-closed see plan old made new from made_from stuffing plugins to made_to failed numbers closed.0 opened ready closed.1.made closed.1.run st closing closed.1.reported
+        ran-closed see plan tables old made new from made_from stuffing plugins to made_to failed numbers closed.0 opened ready closed.1.made closed.1.run st closing closed.1.reported
     ran-ends made_from made_to failed closing (inr none) =
         let opened : Opened see.source see.sink plan old made from to = record { asked = is; input = opens_in; output = opens_out } in
         let F : InputPart S → Type 0 = λ p. new ≡ closed_desk see.source see.sink made p made_to failed in
         let T : OutputPart K → Type 0 = λ p. new ≡ closed_desk see.source see.sink made from p failed in
-        not-run see.source see.sink plan old made new from to failed st opened none.status_is
+        not-run see.source see.sink plan tables old made new from to failed st opened none.status_is
         (subst T none.output_same (subst F none.input_same none.desk))

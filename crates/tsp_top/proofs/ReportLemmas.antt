@@ -6,12 +6,12 @@ use Rattle.chain_model.specs.PluginRule.{PluginRule}
 use Rattle.chain_model.specs.Apply.{StageList}
 use Rattle.chain_model.specs.StageLists.{stage_list}
 use Rattle.chain_model.specs.declared.cause.Cause.{Cause}
-use Rattle.chain_model.specs.Reports.{plugin_line, said_of, rules_of, reports_from, reports, end_line}
+use Rattle.chain_model.specs.Reports.{NamedRule, plugin_line, said_of, rules_of, reports_from, reports, end_line}
 use Rattle.plugin_trait.specs.Marks.{AllowsMark}
 use Rattle.chain_run.specs.Met.{AllMetTo}
 use Rattle.plug_set.specs.declared.plugin_item.PluginItem.{PluginItem}
 use Rattle.plug_set.specs.Items.{rule_of_item}
-use Rattle.tsp_top.specs.PlannedChain.{named_rule_of}
+use Rattle.tsp_top.specs.PlannedChain.{first_table, later_tables, named_rules}
 use Rattle.plug_set.specs.Plugins.{name_of}
 use Rattle.tsp_top.specs.Reported.{ReachesCut}
 
@@ -34,55 +34,69 @@ ReachesCut-split {P} stands plugins rest plugin cut j e reaches =
 
 -- what plugins report begins with the lines of the first of them
 pub record ReportSplit {P : Type 0} (stands : P → List Cell → ℕ → Type 0) (rules : List PluginRule) (input : StageList)
-    (rest : List P) (items later : List PluginItem) (name : List ℕ) (j cut : ℕ) (lines : List (List ℕ)) : Type 0 where
-  pub said : reports_from rules input cut j (map named_rule_of items)
-      ≡ flat_map (plugin_line (j + 1) name) lines ++ reports_from rules input cut (j + 1) (map named_rule_of later)
+    (rest : List P) (items later : List PluginItem) (tables : List (List (List ℕ))) (name : List ℕ) (j cut : ℕ) (lines : List (List ℕ)) : Type 0 where
+  pub said : reports_from rules input cut j (named_rules items tables)
+      ≡ flat_map (plugin_line (j + 1) name) lines ++ reports_from rules input cut (j + 1) (named_rules later (later_tables tables))
   pub met : AllMetTo stands rules input cut (j + 1) rest
 
 report-of-cons : {P : Type 0} (rule : P → PluginRule) (stands : P → List Cell → ℕ → Type 0) (rules : List PluginRule) (input : StageList)
-    (rest : List P) (plugin : P) (item : PluginItem) (later : List PluginItem) (j cut : ℕ) (lines : List (List ℕ))
-    → AllMetTo stands rules input cut j (plugin ∷ rest) → rule plugin ≡ rule_of_item item
+    (rest : List P) (plugin : P) (item : PluginItem) (later : List PluginItem) (tables : List (List (List ℕ))) (j cut : ℕ) (lines : List (List ℕ))
+    → AllMetTo stands rules input cut j (plugin ∷ rest) → rule plugin ≡ rule_of_item item (first_table tables)
     → ((history : List Cell) (mark : ℕ) → stands plugin history mark → mark ≤ cut → cut ≤ length history → lines ≡ said_of (rule plugin) (take cut history))
-    → ReportSplit stands rules input rest (item ∷ later) later (name_of item.conf) j cut lines
-report-of-cons rule stands rules input rest plugin item later j cut lines met same says =
+    → ReportSplit stands rules input rest (item ∷ later) later tables (name_of item.conf) j cut lines
+report-of-cons rule stands rules input rest plugin item later tables j cut lines met same says =
     let met_list : List Cell = take cut (stage_list rules input j).cells in
-    let own : lines ≡ said_of (rule_of_item item) met_list =
+    let own : lines ≡ said_of (rule_of_item item (first_table tables)) met_list =
     says met.0.history met.0.mark met.0.holds met.0.told met.0.reach ∙ ap (said_of (rule plugin)) met.0.same ∙ ap (λ (r : PluginRule). said_of r met_list) same in
     let B : ℕ → Type 0 = λ k. AllMetTo stands rules input cut k rest in
+    let behind : List NamedRule = named_rules later (later_tables tables) in
     record {
-      said = ap (λ texts. flat_map (plugin_line (suc j) (name_of item.conf)) texts ++ reports_from rules input cut (suc j) (map named_rule_of later)) (sym own)
-          ∙ ap (λ k. flat_map (plugin_line k (name_of item.conf)) lines ++ reports_from rules input cut k (map named_rule_of later)) (sym (add-one j));
+      said = ap (λ texts. flat_map (plugin_line (suc j) (name_of item.conf)) texts ++ reports_from rules input cut (suc j) behind) (sym own)
+          ∙ ap (λ k. flat_map (plugin_line k (name_of item.conf)) lines ++ reports_from rules input cut k behind) (sym (add-one j));
       met = subst B (sym (add-one j)) met.1;
     }
 
 first-same : (a b : PluginRule) (rest later : List PluginRule) → a ∷ rest ≡ b ∷ later → a ≡ b
 first-same a b rest later e = cc
 
+later-same : (a b : PluginRule) (rest later : List PluginRule) → a ∷ rest ≡ b ∷ later → rest ≡ later
+later-same a b rest later e = cc
+
+-- the rules of plugins and of settings that have a first
+rules-of-cons : {P : Type 0} (rule : P → PluginRule) (plugins rest : List P) (plugin : P) (items later : List PluginItem) (item : PluginItem) (tables : List (List (List ℕ)))
+    → plugins ≡ plugin ∷ rest → items ≡ item ∷ later → map rule plugins ≡ rules_of (named_rules items tables)
+    → rule plugin ∷ map rule rest ≡ rule_of_item item (first_table tables) ∷ rules_of (named_rules later (later_tables tables))
+rules-of-cons {P} rule plugins rest plugin items later item tables e f same =
+    sym (ap (λ (l : List P). map rule l) e) ∙ same ∙ ap (λ (l : List PluginItem). rules_of (named_rules l tables)) f
+
 pub report-split : {P : Type 0} (rule : P → PluginRule) (stands : P → List Cell → ℕ → Type 0) (rules : List PluginRule) (input : StageList)
-    (plugins rest : List P) (plugin : P) (items later : List PluginItem) (item : PluginItem) (j cut : ℕ) (lines : List (List ℕ))
-    → plugins ≡ plugin ∷ rest → items ≡ item ∷ later → map rule plugins ≡ map rule_of_item items → AllMetTo stands rules input cut j plugins
+    (plugins rest : List P) (plugin : P) (items later : List PluginItem) (item : PluginItem) (tables : List (List (List ℕ))) (j cut : ℕ) (lines : List (List ℕ))
+    → plugins ≡ plugin ∷ rest → items ≡ item ∷ later → map rule plugins ≡ rules_of (named_rules items tables) → AllMetTo stands rules input cut j plugins
     → ((history : List Cell) (mark : ℕ) → stands plugin history mark → mark ≤ cut → cut ≤ length history → lines ≡ said_of (rule plugin) (take cut history))
-    → ReportSplit stands rules input rest items later (name_of item.conf) j cut lines
-report-split {P} rule stands rules input plugins rest plugin items later item j cut lines e f same met says =
+    → ReportSplit stands rules input rest items later tables (name_of item.conf) j cut lines
+report-split {P} rule stands rules input plugins rest plugin items later item tables j cut lines e f same met says =
     let M : List P → Type 0 = λ l. AllMetTo stands rules input cut j l in
-    let own : rule plugin ∷ map rule rest ≡ rule_of_item item ∷ map rule_of_item later =
-    sym (ap (λ (l : List P). map rule l) e) ∙ same ∙ ap (λ (l : List PluginItem). map rule_of_item l) f in
-    let B : List PluginItem → Type 0 = λ l. ReportSplit stands rules input rest l later (name_of item.conf) j cut lines in
-    subst B (sym f) (report-of-cons rule stands rules input rest plugin item later j cut lines (subst M e met) (first-same (rule plugin) (rule_of_item item) (map rule rest) (map rule_of_item later) own) says)
+    let B : List PluginItem → Type 0 = λ l. ReportSplit stands rules input rest l later tables (name_of item.conf) j cut lines in
+    subst B (sym f)
+    (report-of-cons rule stands rules input rest plugin item later tables j cut lines (subst M e met)
+    (first-same (rule plugin) (rule_of_item item (first_table tables)) (map rule rest) (rules_of (named_rules later (later_tables tables)))
+    (rules-of-cons rule plugins rest plugin items later item tables e f same)) says)
 
 -- the plugins behind the first have the rules of the settings behind the first
-pub rest-rules : {P : Type 0} (rule : P → PluginRule) (plugins rest : List P) (plugin : P) (items later : List PluginItem) (item : PluginItem)
-    → plugins ≡ plugin ∷ rest → items ≡ item ∷ later → map rule plugins ≡ map rule_of_item items → map rule rest ≡ map rule_of_item later
-rest-rules {P} rule plugins rest plugin items later item e f same =
-    let own : rule plugin ∷ map rule rest ≡ rule_of_item item ∷ map rule_of_item later =
-    sym (ap (λ (l : List P). map rule l) e) ∙ same ∙ ap (λ (l : List PluginItem). map rule_of_item l) f in cc
+pub rest-rules : {P : Type 0} (rule : P → PluginRule) (plugins rest : List P) (plugin : P) (items later : List PluginItem) (item : PluginItem) (tables : List (List (List ℕ)))
+    → plugins ≡ plugin ∷ rest → items ≡ item ∷ later → map rule plugins ≡ rules_of (named_rules items tables) → map rule rest ≡ rules_of (named_rules later (later_tables tables))
+rest-rules rule plugins rest plugin items later item tables e f same =
+    later-same (rule plugin) (rule_of_item item (first_table tables)) (map rule rest) (rules_of (named_rules later (later_tables tables)))
+    (rules-of-cons rule plugins rest plugin items later item tables e f same)
+
+-- where there are no plugins, nothing is reported of settings
+pub no-plugins : {P : Type 0} (rule : P → PluginRule) (plugins : List P) (items : List PluginItem) (tables : List (List (List ℕ))) (rules : List PluginRule) (input : StageList) (cut j : ℕ)
+    → plugins ≡ [] → map rule plugins ≡ rules_of (named_rules items tables) → reports_from rules input cut j (named_rules items tables) ≡ []
+no-plugins {P} rule plugins [] tables rules input cut j e same = refl
+no-plugins {P} rule plugins (item ∷ items) tables rules input cut j e same =
+    absurd (let f : [] ≡ rule_of_item item (first_table tables) ∷ rules_of (named_rules items (later_tables tables)) = sym (ap (λ (l : List P). map rule l) e) ∙ same in cc)
 
 -- the reports of a run begin with those of its plugins, whose rules are those of the settings
-rules-named : (items : List PluginItem) → map rule_of_item items ≡ rules_of (map named_rule_of items)
-rules-named [] = refl
-rules-named (item ∷ items) = ap (λ (rs : List PluginRule). rule_of_item item ∷ rs) (rules-named items)
-
-pub reports-same : (rules : List PluginRule) (items : List PluginItem) (input : StageList) (cut : ℕ) (cause : Cause) → rules ≡ map rule_of_item items
-    → reports_from rules input cut 0 (map named_rule_of items) ++ end_line cause cut ≡ reports (map named_rule_of items) input cut cause
-reports-same rules items input cut cause same =
-    ap (λ (rs : List PluginRule). reports_from rs input cut 0 (map named_rule_of items) ++ end_line cause cut) (same ∙ rules-named items)
+pub reports-same : (rules : List PluginRule) (named : List NamedRule) (input : StageList) (cut : ℕ) (cause : Cause) → rules ≡ rules_of named
+    → reports_from rules input cut 0 named ++ end_line cause cut ≡ reports named input cut cause
+reports-same rules named input cut cause same = ap (λ (rs : List PluginRule). reports_from rs input cut 0 named ++ end_line cause cut) same

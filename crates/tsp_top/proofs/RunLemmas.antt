@@ -1,9 +1,7 @@
 -- A run of a chain, and what its plugins met.
-use Rattle.std.proofs.Common.{◌≡◌, ℕ, List, Result, Ok, Err, ap, sym, ◌∙◌, subst, map, OnErr, IfOk, is_err, Bool}
+use Rattle.std.proofs.Common.{◌≡◌, ℕ, suc, ◌≤◌, List, [], ◌∷◌, length, refl, arith, Result, Ok, Err, ap, sym, ◌∙◌, subst, map, OnErr, IfOk, is_err, Bool}
 use Rattle.std.specs.declared.alloc.AllocError.{AllocError}
 use Rattle.std.specs.Bool.{OnTrue}
-use Rattle.plug_set.specs.declared.plugin_item.PluginItem.{PluginItem}
-use Rattle.plug_set.specs.Items.{rule_of_item}
 use Rattle.ts_outside.specs.Desk.{DeskView}
 use Rattle.chain_model.specs.PluginRule.{PluginRule}
 use Rattle.chain_model.specs.declared.cause.Cause.{Cause}
@@ -16,7 +14,12 @@ use Rattle.stage_run.specs.Seeing.{Seeing}
 use Rattle.chain_run.specs.Met.{AllMetTo}
 use Rattle.chain_run.specs.RunOf.{RunOf}
 use Rattle.chain_run.proofs.RunUses.{met-to}
-use Rattle.tsp_top.specs.Ran.{EndsRun}
+use Rattle.std.proofs.lemmas.List.{length-map}
+use Rattle.plug_set.specs.declared.plugin_item.PluginItem.{PluginItem}
+use Rattle.chain_args.specs.declared.plan_type.Plan.{Plan}
+use Rattle.chain_model.specs.Reports.{rules_of}
+use Rattle.tsp_top.specs.PlannedChain.{later_tables, named_rules}
+use Rattle.tsp_top.specs.Ran.{EndsRun, IsReady}
 use Rattle.tsp_top.specs.Reported.{ReachesCut, ReportsRun}
 use Rattle.tsp_top.specs.declared.status.Status.{Status}
 
@@ -61,11 +64,11 @@ run-reaches see from made_from stuffing plugins made to made_to core closed run 
 
 -- the plugins that a run gives back have the rules of the settings still
 pub ends-rules : {S K P : Type 0} (see : Seeing S K P) (stuffing : Stuffing) (core : CorePlan) (from made_from : InputPart S) (plugins made : List P)
-    (to made_to : OutputPart K) (closed : Result Closed AllocError) (items : List PluginItem)
-    → EndsRun see stuffing core from made_from plugins made to made_to closed → map see.rule plugins ≡ map rule_of_item items → map see.rule made ≡ map rule_of_item items
-ends-rules see stuffing core from made_from plugins made to made_to (Ok closed) items ends rules = ends.run.rules ∙ rules
-ends-rules see stuffing core from made_from plugins made to made_to (Err e) items ends rules =
-    ap (λ (l : List _). map see.rule l) ends.never_began.plugins_same ∙ rules
+    (to made_to : OutputPart K) (closed : Result Closed AllocError) (rules : List PluginRule)
+    → EndsRun see stuffing core from made_from plugins made to made_to closed → map see.rule plugins ≡ rules → map see.rule made ≡ rules
+ends-rules see stuffing core from made_from plugins made to made_to (Ok closed) rules ends are = ends.run.rules ∙ are
+ends-rules see stuffing core from made_from plugins made to made_to (Err e) rules ends are =
+    ap (λ (l : List _). map see.rule l) ends.never_began.plugins_same ∙ are
 
 -- and they reach its cut, if it was closed
 pub ends-reach : {S K P : Type 0} (see : Seeing S K P) (stuffing : Stuffing) (core : CorePlan) (from made_from : InputPart S) (plugins made : List P)
@@ -73,3 +76,19 @@ pub ends-reach : {S K P : Type 0} (see : Seeing S K P) (stuffing : Stuffing) (co
     → EndsRun see stuffing core from made_from plugins made to made_to closed → IfOk closed (λ closed. ReachesCut see.stands made closed.cut 0)
 ends-reach see stuffing core from made_from plugins made to made_to (Ok closed) ends = run-reaches see from made_from stuffing plugins made to made_to core closed ends.run
 ends-reach see stuffing core from made_from plugins made to made_to (Err e) ends = tt
+
+-- a run gives as many plugins back as its plan has, at most 62
+length-named_rules : (items : List PluginItem) (tables : List (List (List ℕ))) → length (rules_of (named_rules items tables)) ≡ length items
+length-named_rules [] tables = refl
+length-named_rules (item ∷ items) tables = ap suc (length-named_rules items (later_tables tables))
+
+pub ends-few : {S K P : Type 0} (see : Seeing S K P) (stuffing : Stuffing) (core : CorePlan) (from made_from : InputPart S) (plugins made : List P)
+    (to made_to : OutputPart K) (closed : Result Closed AllocError) (plan : Plan) (tables : List (List (List ℕ)))
+    → EndsRun see stuffing core from made_from plugins made to made_to closed → IsReady see.rule see.stands see.steady plan tables stuffing core plugins → length made ≤ 62
+ends-few see stuffing core from made_from plugins made to made_to closed plan tables ends ready =
+    let rules = ends-rules see stuffing core from made_from plugins made to made_to closed (rules_of (named_rules plan.plugins tables)) ends ready.rules in
+    let count : length made ≡ length plan.plugins =
+    sym (length-map made see.rule) ∙ ap (λ (l : List PluginRule). length l) rules ∙ length-named_rules plan.plugins tables in
+    let few : core.plugins ≤ 62 = ready.numbers_are.lawful.plugins in
+    let same : core.plugins ≡ length plan.plugins = ready.numbers_are.plugins in
+    omega (arith, count, few, same)

@@ -1,9 +1,11 @@
 -- The headline: a call that meets no fault and no want of memory. This project's own rule.
-use Rattle.std.specs.Prelude.{◌≡◌, ◌⊎◌, ℕ, List, Some, IfSome}
+use Rattle.std.specs.Prelude.{◌≡◌, ◌⊎◌, ℕ, List, [], ◌∷◌, Option, None, Some, IfSome}
 use Rattle.chain_model.specs.declared.input_end.InputEnd.TheVariants.{End}
 use Rattle.chain_model.specs.declared.cause.Cause.{Cause}
 use Rattle.chain_model.specs.declared.cause.Cause.TheVariants.{Input, Joint, Until, Stop}
 use Rattle.chain_model.specs.PureRun.{pure_run}
+use Rattle.plug_set.specs.declared.plugin_item.PluginItem.{PluginItem}
+use Rattle.plug_set.specs.Plugins.{table_file_of}
 use Rattle.chain_args.specs.declared.input_conf.InputConf.{InputConf}
 use Rattle.chain_args.specs.declared.input_conf.InputConf.TheVariants as input
 use Rattle.chain_args.specs.declared.plan_type.Plan.{Plan}
@@ -12,7 +14,9 @@ use Rattle.ts_outside.specs.Told.{grown}
 use Rattle.ts_outside.specs.Desk.{DeskView}
 use Rattle.tsp_top.specs.CallEnd.{status_of}
 use Rattle.tsp_top.specs.PlannedChain.{chain_of, output_name}
+use Rattle.tsp_top.specs.PlannedTables.{AreTables}
 use Rattle.tsp_top.specs.StreamTheorem.{outputs_with}
+use Rattle.tsp_top.specs.TableEnds.{EndsAtTables}
 use Rattle.tsp_top.specs.declared.status.Status.{Status}
 use Rattle.tsp_top.specs.declared.status.Status.TheVariants.{NoMemory}
 
@@ -22,6 +26,15 @@ TellsInput (input.File name) desk files = desk.files ≡ Some files
 TellsInput (input.Null count) desk files = Unit {0}
 TellsInput (input.TestGen seed count) desk files = Unit {0}
 
+-- and where a plugin's settings name one
+abbrev pub TellsTable : Option (List ℕ) → DeskView → List (List ℕ × List ℕ) → Type 0
+TellsTable None desk files = Unit {0}
+TellsTable (Some name) desk files = desk.files ≡ Some files
+
+abbrev pub TellsTables : List PluginItem → DeskView → List (List ℕ × List ℕ) → Type 0
+TellsTables [] desk files = Unit {0}
+TellsTables (item ∷ items) desk files = TellsTable (table_file_of item.conf) desk files × TellsTables items desk files
+
 -- nothing failed outside: no count of faults rose, and none stood at its end
 pub record NothingFails (old new : DeskView) : Type 0 where
   pub reads : IsQuiet old.read_faults new.read_faults
@@ -29,22 +42,31 @@ pub record NothingFails (old new : DeskView) : Type 0 where
   pub reports : IsQuiet old.report_faults new.report_faults
 
 -- the call wrote, reported and answered what applying the plugins one after another to the whole list of packets gives
-pub record IsPureCall (plan : Plan) (files : List (List ℕ × List ℕ))
+pub record IsPureCall (plan : Plan) (tables : List (List (List ℕ))) (files : List (List ℕ × List ℕ))
     (old new : DeskView) (status : Status) : Type 0 where
   pub written : new.outputs
-      ≡ outputs_with (output_name plan.output) old.outputs (pure_run (chain_of plan files)).written
-  pub reported : new.reported ≡ grown old.reported (pure_run (chain_of plan files)).reported
-  pub answered : status ≡ status_of (pure_run (chain_of plan files)).cause
+      ≡ outputs_with (output_name plan.output) old.outputs (pure_run (chain_of plan tables files)).written
+  pub reported : new.reported ≡ grown old.reported (pure_run (chain_of plan tables files)).reported
+  pub answered : status ≡ status_of (pure_run (chain_of plan tables files)).cause
 
 -- the call did so, or memory was wanting
-abbrev pub IsPureOrWants : Plan → List (List ℕ × List ℕ) → DeskView → DeskView → Status → Type 0
-IsPureOrWants plan files old new status = (status ≡ NoMemory) ⊎ IsPureCall plan files old new status
+abbrev pub IsPureOrWants : Plan → List (List (List ℕ)) → List (List ℕ × List ℕ)
+    → DeskView → DeskView → Status → Type 0
+IsPureOrWants plan tables files old new status =
+    (status ≡ NoMemory) ⊎ IsPureCall plan tables files old new status
 
--- over any desk: the call did so for the files that the desk tells, and where it tells none, for some
-abbrev pub IsPureOfSome : Plan → DeskView → DeskView → Status → Type 0
-IsPureOfSome plan old new status =
-    (files : List (List ℕ × List ℕ)) × IfSome old.files (λ told. files ≡ told)
-    × IsPureOrWants plan files old new status
+-- over any desk: the call did so for the tables and the files that the desk tells, and where it tells none, for some
+pub record IsPureOfSome (plan : Plan) (old new : DeskView) (status : Status) : Type 0 where
+  pub tables : List (List (List ℕ))
+  pub tables_are : AreTables old plan.plugins tables
+  pub files : List (List ℕ × List ℕ)
+  pub files_are : IfSome old.files (λ told. files ≡ told)
+  pub pure : IsPureCall plan tables files old new status
+
+-- the call did so, or memory was wanting, or a file that was read has no sections
+abbrev pub IsPureOrEnds : Plan → DeskView → DeskView → Status → Type 0
+IsPureOrEnds plan old new status =
+    (status ≡ NoMemory) ⊎ (IsPureOfSome plan old new status ⊎ EndsAtTables plan.plugins old new status)
 
 -- an end that is no fault, no refusal and no lost sync: the input's plain end, joint termination, `until` or a stop
 abbrev pub EndsWell : Cause → Type 0

@@ -4,6 +4,7 @@ pub mod ExitNumber
 pub mod MemoryFirst
 pub mod Openings
 pub mod PlannedChain
+pub mod PlannedTables
 pub mod Ran
 pub mod Readings
 pub mod Refusals
@@ -11,6 +12,7 @@ pub mod Reported
 pub mod Saying
 pub mod Sizes
 pub mod StreamTheorem
+pub mod TableEnds
 pub mod TspCall
 pub mod Headline
 pub mod WantsMemory

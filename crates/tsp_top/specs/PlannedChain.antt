@@ -1,5 +1,5 @@
--- The chain that a plan asks for, over files by name. This project's own rule.
-use Rattle.std.specs.Prelude.{ℕ, suc, List, [], ◌∷◌, ◌++◌, map, if◌then◌else◌, Option, None, Some}
+-- The chain that a plan asks for, over the tables of its plugins and files by name. This project's own rule.
+use Rattle.std.specs.Prelude.{ℕ, suc, List, [], ◌∷◌, ◌++◌, if◌then◌else◌, Option, None, Some}
 use Rattle.plug_set.specs.declared.plugin_item.PluginItem.{PluginItem}
 use Rattle.plug_set.specs.Plugins.{name_of, uses_joint}
 use Rattle.plug_set.specs.Items.{rule_of_item}
@@ -44,15 +44,29 @@ users_from j (item ∷ items) = user_at j item ++ users_from (suc j) items
 abbrev pub users_of : Plan → List ℕ
 users_of plan = if plan.general.ignore_joint_termination then [] else users_from 1 plan.plugins
 
--- a plugin: the rule of its settings over the packets that it sees, and its name
-abbrev pub named_rule_of : PluginItem → NamedRule
-named_rule_of item = record { rule = rule_of_item item; name = name_of item.conf }
+-- a plugin: the rule of its settings over these sections, of the packets that it sees, and its name
+abbrev pub named_rule_of : PluginItem → List (List ℕ) → NamedRule
+named_rule_of item table = record { rule = rule_of_item item table; name = name_of item.conf }
+
+-- the first of tables, which is of no section where there is none, and those behind it
+abbrev pub first_table : List (List (List ℕ)) → List (List ℕ)
+first_table [] = []
+first_table (table ∷ tables) = table
+
+abbrev pub later_tables : List (List (List ℕ)) → List (List (List ℕ))
+later_tables [] = []
+later_tables (table ∷ tables) = tables
+
+-- plugins, each with the sections at its place
+abbrev pub named_rules : List PluginItem → List (List (List ℕ)) → List NamedRule
+named_rules [] tables = []
+named_rules (item ∷ items) tables = named_rule_of item (first_table tables) ∷ named_rules items (later_tables tables)
 
 -- the chain of a plan
-abbrev pub chain_of : Plan → List (List ℕ × List ℕ) → Chain
-chain_of plan files = record {
+abbrev pub chain_of : Plan → List (List (List ℕ)) → List (List ℕ × List ℕ) → Chain
+chain_of plan tables files = record {
   input = stuffed (stuffing_of plan.general) (input_of plan.input files);
-  plugins = map named_rule_of plan.plugins;
+  plugins = named_rules plan.plugins tables;
   users = users_of plan;
 }
 

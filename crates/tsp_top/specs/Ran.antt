@@ -10,7 +10,7 @@ use Rattle.chain_args.specs.declared.plan_type.Plan.{Plan}
 use Rattle.chain_core.specs.declared.closed.Closed.{Closed}
 use Rattle.chain_core.specs.declared.core_plan.CorePlan.{CorePlan}
 use Rattle.chain_model.specs.PluginRule.{PluginRule}
-use Rattle.chain_model.specs.Reports.{reports}
+use Rattle.chain_model.specs.Reports.{reports, rules_of}
 use Rattle.stage_run.specs.declared.input_part.InputPart.{InputPart}
 use Rattle.stage_run.specs.declared.output_part.OutputPart.{OutputPart}
 use Rattle.stage_run.specs.declared.stuffing.Stuffing.{Stuffing}
@@ -19,9 +19,9 @@ use Rattle.stage_run.specs.Parts.{IsUnused}
 use Rattle.stage_run.specs.Seeing.{Seeing}
 use Rattle.chain_run.specs.Fresh.{AreFresh}
 use Rattle.chain_run.specs.RunOf.{RunOf, NeverBegan}
-use Rattle.plug_set.specs.Items.{rule_of_item}
 use Rattle.plug_set.specs.Plugins.{steady_of}
-use Rattle.tsp_top.specs.PlannedChain.{stuffing_of, named_rule_of}
+use Rattle.tsp_top.specs.PlannedChain.{stuffing_of, named_rules}
+use Rattle.tsp_top.specs.PlannedTables.{AreTables, tables_asked}
 use Rattle.tsp_top.specs.Sizes.{IsPlannedCore}
 use Rattle.tsp_top.specs.Openings.{asked_input, asked_output, OpensInput, OpensOutput, input_closed_as, output_closed_as, WasOpened}
 use Rattle.tsp_top.specs.Reported.{ReportsRun}
@@ -34,27 +34,35 @@ abbrev pub closed_desk : {S K : Type 0} → (S → SourceView) → (K → SinkVi
 closed_desk in_seen out_seen desk input output failed =
     output_closed_as out_seen (input_closed_as in_seen desk input) output failed
 
--- a chain that is ready to run: its stuffing, its numbers and its plugins are the plan's, and no plugin met a cell
+-- a chain that is ready to run: its stuffing, its numbers and its plugins are the plan's, with these tables, and no
+-- plugin met a cell
 pub record IsReady {P : Type 0}
     (rule : P → PluginRule) (stands : P → List Cell → ℕ → Type 0) (steady : P → Option ℕ)
-    (plan : Plan) (stuffing : Stuffing) (numbers : CorePlan) (plugins : List P) : Type 0 where
+    (plan : Plan) (tables : List (List (List ℕ))) (stuffing : Stuffing) (numbers : CorePlan) (plugins : List P) : Type 0 where
   pub stuffing_is : stage.stuffing_of stuffing ≡ stuffing_of plan.general
   pub every : 1 ≤ stuffing.every
   pub numbers_are : IsPlannedCore plan numbers
-  pub rules : map rule plugins ≡ map rule_of_item plan.plugins
+  pub rules : map rule plugins ≡ rules_of (named_rules plan.plugins tables)
   -- each took its room for as many positions as the buffer has, where its settings say that it does
   pub rooms : map steady plugins ≡ map (λ item. steady_of item.conf numbers.buffer) plan.plugins
   pub fresh : AreFresh stands plugins
 
 -- a call whose chain is ready and whose two ends were opened, the input first
 pub record IsOpened {S K P : Type 0} (see : Seeing S K P)
-    (plan : Plan) (numbers : CorePlan) (old made : DeskView)
+    (plan : Plan) (tables : List (List (List ℕ))) (numbers : CorePlan) (old made : DeskView)
     (from : InputPart S) (stuffing : Stuffing) (plugins : List P) (to : OutputPart K) : Type 0 where
-  pub ready : IsReady see.rule see.stands see.steady plan stuffing numbers plugins
+  pub ready : IsReady see.rule see.stands see.steady plan tables stuffing numbers plugins
   pub asked : made ≡ asked_output (asked_input old plan.input) plan.output
   pub input : OpensInput see.source old plan.input from
   pub unused : IsUnused from
   pub output : OpensOutput see.sink (asked_input old plan.input) plan.output to
+
+-- the same of a call whose tables were read before
+abbrev pub OpensPlan : {S K P : Type 0} → Seeing S K P → Plan → CorePlan → DeskView → DeskView
+    → InputPart S → Stuffing → List P → OutputPart K → Type 0
+OpensPlan see plan numbers old made from stuffing plugins to =
+    (tables : List (List (List ℕ))) × AreTables old plan.plugins tables
+    × IsOpened see plan tables numbers (tables_asked old plan) made from stuffing plugins to
 
 -- what every run owes, whoever serves the stages: it was closed, or there was no memory for it
 pub record EndsRun {S K P : Type 0} (see : Seeing S K P) (stuffing : Stuffing) (numbers : CorePlan)
@@ -65,12 +73,12 @@ pub record EndsRun {S K P : Type 0} (see : Seeing S K P) (stuffing : Stuffing) (
 
 -- a run that was closed and reported, or closed only, where there was no memory for its report
 pub record RanClosed {S K P : Type 0} (see : Seeing S K P)
-    (plan : Plan) (stuffing : Stuffing) (numbers : CorePlan) (old new : DeskView)
+    (plan : Plan) (tables : List (List (List ℕ))) (stuffing : Stuffing) (numbers : CorePlan) (old new : DeskView)
     (from made_from : InputPart S) (plugins : List P) (to made_to : OutputPart K)
     (failed : Bool) (status : Status) (closed : Closed) : Type 0 where
   pub made : List P
   pub run : RunOf see from made_from stuffing plugins made to made_to numbers closed
-  pub reported : ReportsRun (reports (map named_rule_of plan.plugins) run.list closed.cut closed.cause)
+  pub reported : ReportsRun (reports (named_rules plan.plugins tables) run.list closed.cut closed.cause)
       closed.cause failed (closed_desk see.source see.sink old made_from made_to failed) new status
 
 -- there was no memory for the run: the ends were closed as they were opened
@@ -83,20 +91,20 @@ pub record NotRun {S K P : Type 0} (see : Seeing S K P) (old new : DeskView)
   pub desk : new ≡ closed_desk see.source see.sink old made_from made_to failed
 
 -- one of the two
-abbrev pub RanEnds : {S K P : Type 0} → Seeing S K P → Plan → Stuffing → CorePlan → DeskView → DeskView
+abbrev pub RanEnds : {S K P : Type 0} → Seeing S K P → Plan → List (List (List ℕ)) → Stuffing → CorePlan → DeskView → DeskView
     → InputPart S → InputPart S → List P → OutputPart K → OutputPart K → Bool → Status → Type 0
-RanEnds see plan stuffing numbers old new from made_from plugins to made_to failed status =
+RanEnds see plan tables stuffing numbers old new from made_from plugins to made_to failed status =
     ((closed : Closed)
-    × RanClosed see plan stuffing numbers old new from made_from plugins to made_to failed status closed)
+    × RanClosed see plan tables stuffing numbers old new from made_from plugins to made_to failed status closed)
     ⊎ NotRun see old new from made_from to made_to failed status
 
 -- the chain ran, both ends were closed, and the run was reported; or there was no memory for the run
 pub record RanOpened {S K P : Type 0} (see : Seeing S K P)
-    (plan : Plan) (stuffing : Stuffing) (numbers : CorePlan) (old new : DeskView)
+    (plan : Plan) (tables : List (List (List ℕ))) (stuffing : Stuffing) (numbers : CorePlan) (old new : DeskView)
     (from : InputPart S) (plugins : List P) (to : OutputPart K) (status : Status) : Type 0 where
   pub made_from : InputPart S
   pub made_to : OutputPart K
   -- whether the closing of the output failed
   pub failed : Bool
   pub failed_opened : OnTrue failed (WasOpened made_to)
-  pub ends : RanEnds see plan stuffing numbers old new from made_from plugins to made_to failed status
+  pub ends : RanEnds see plan tables stuffing numbers old new from made_from plugins to made_to failed status

@@ -115,8 +115,8 @@ Opens plan old new out_of_memory =
     (take n (asked_for Input (input_name plan.input) true
     ++ asked_for Output (output_name plan.output) true)))
 
--- a call of `tsp` whose words have this plan
-pub record StreamTheorem (plan : Plan) (old new : DeskView) (status : Status) : Type 0 where
+-- a call of `tsp` whose words have this plan and whose plugins have these tables, from when their files were read
+pub record StreamTheorem (plan : Plan) (tables : List (List (List ℕ))) (old new : DeskView) (status : Status) : Type 0 where
   pub end : CallEnd
   -- the files by name: those that the desk tells, and where it tells none, some
   pub files : List (List ℕ × List ℕ)
@@ -126,13 +126,13 @@ pub record StreamTheorem (plan : Plan) (old new : DeskView) (status : Status) : 
   -- it is an end that this plan can come to
   pub can_end : CanEnd plan end
   -- a cause without fault is the cause of the run without faults, at its cut
-  pub pure_or_fault : EndsRight (chain_of plan files) end
+  pub pure_or_fault : EndsRight (chain_of plan tables files) end
   -- what is read
   pub reads : Reads plan files old new end
   -- what is written
-  pub written : Writes plan (chain_of plan files) old new end
+  pub written : Writes plan (chain_of plan tables files) old new end
   -- what is reported
-  pub reported : Reports (chain_of plan files) old new end
+  pub reported : Reports (chain_of plan tables files) old new end
   -- what is opened, in which order
   pub opened : Opens plan old new end
   pub files_stay : new.files ≡ old.files

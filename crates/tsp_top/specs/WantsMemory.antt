@@ -5,17 +5,20 @@ use Rattle.chain_args.specs.declared.plan_type.Plan.{Plan}
 use Rattle.ts_outside.specs.Desk.{DeskView}
 use Rattle.tsp_top.specs.MemoryFirst.{NoStageWants}
 use Rattle.tsp_top.specs.PlannedChain.{chain_of, output_name}
+use Rattle.tsp_top.specs.PlannedTables.{AreTables}
 use Rattle.tsp_top.specs.StreamTheorem.{IsPureOrFault, WritesTo, ReportsNothing, outputs_with}
 
 -- the run wrote all that its cut and cause say, and no stage wanted memory: only the report did
 pub record WroteUnreported (plan : Plan) (old new : DeskView) : Type 0 where
+  pub tables : List (List (List ℕ))
+  pub tables_are : AreTables old plan.plugins tables
   pub files : List (List ℕ × List ℕ)
   pub files_are : IfSome old.files (λ told. files ≡ told)
   pub cut : ℕ
   pub why : Cause
   pub no_want : NoStageWants why
-  pub pure_or_fault : IsPureOrFault (chain_of plan files) cut why
-  pub written : WritesTo plan (chain_of plan files) old new cut why
+  pub pure_or_fault : IsPureOrFault (chain_of plan tables files) cut why
+  pub written : WritesTo plan (chain_of plan tables files) old new cut why
 
 -- nothing is reported; and no output was closed, or an empty one, or one with all that the run wrote
 abbrev pub WantsMemoryFirst : Plan → DeskView → DeskView → Type 0

@@ -1,20 +1,21 @@
-//! A call until its run: the words are read, the chain is made ready, and its two ends are opened.
-ghost use Rattle.std.specs.Prelude.{◌≡◌, map, MatchResult, Some};
+//! A call until its run: the words are read, and then the tables; the chain is made ready, and its two ends are opened.
+ghost use Rattle.std.specs.Prelude.{◌≡◌, ℕ, List, map, MatchResult, Some};
 ghost use Rattle.std.specs.String.{string_bytes};
 ghost use Rattle.chain_args.specs.LawfulPlan.{IsLawfulPlan};
 ghost use Rattle.chain_args.specs.PlanOf.{plan_of};
 ghost use Rattle.stage_run.specs.Seeing.{seeing};
 ghost use Rattle.ts_outside.specs.Desk.{DeskView};
 ghost use Rattle.tsp_top.specs.Openings.{asked_input, OpensInput};
-ghost use Rattle.tsp_top.specs.Ran.{IsReady, IsOpened};
+ghost use Rattle.tsp_top.specs.Ran.{IsReady, IsOpened, OpensPlan};
 ghost use Rattle.tsp_top.specs.StreamTheorem.{StreamTheorem};
-ghost use Rattle.tsp_top.specs.TspCall.{CallsTsp, IsOverBefore};
+ghost use Rattle.tsp_top.specs.TspCall.{CallsPlan, CallsTsp, IsOverBefore};
 
 use crate::opened_call::OpenedCall;
 use crate::opening::{close_input, open_input, open_output};
 use crate::ready::{ReadyChain, ready_chain};
 use crate::saying::say;
 use crate::status::Status;
+use crate::tables::read_tables;
 use crate::words::refuse_words;
 use chain_args::{Plan, WordsFault, plan};
 use chain_run::Stages;
@@ -23,8 +24,10 @@ use plugin_trait::Plugin;
 use stage_run::InputPart;
 use std::alloc::{AllocError, Global};
 use ts_outside::{Desk, OpenFault};
+use ts_section::Section;
 
-/// Reads the words and opens what they name. The answer is the call that is open, or the status of one that is over.
+/// Reads the words, reads and opens what they name. The answer is the call that is open, or the status of one that is
+/// over.
 pub(crate) fn begin<D: Desk>(
     alloc: Global,
     words: &[String],
@@ -32,7 +35,7 @@ pub(crate) fn begin<D: Desk>(
 ) -> Result<OpenedCall<D::In, D::Out, AnyPlugin>, Status>
     ensures { MatchResult result
         (λ call. (plan_of (map string_bytes words.now) ≡ Some call.plan)
-        × IsOpened
+        × OpensPlan
         (seeing D.In.seen D.Out.seen
         ⟦<AnyPlugin as Plugin>⟧.rule ⟦<AnyPlugin as Plugin>⟧.stands_for ⟦<AnyPlugin as Plugin>⟧.steady)
         call.plan call.core (D.seen desk.old) (D.seen desk.new)
@@ -46,7 +49,7 @@ pub(crate) fn begin<D: Desk>(
     }
 }
 
-/// Makes the chain of a plan ready, and opens its ends.
+/// Reads the tables of a plan, and begins its chain.
 fn begin_plan<D: Desk>(
     alloc: Global,
     desk: &mut D,
@@ -55,14 +58,38 @@ fn begin_plan<D: Desk>(
     requires { IsLawfulPlan plan }
     ensures { MatchResult result
         (λ call. (call.plan ≡ plan)
-        × IsOpened
+        × OpensPlan
         (seeing D.In.seen D.Out.seen
         ⟦<AnyPlugin as Plugin>⟧.rule ⟦<AnyPlugin as Plugin>⟧.stands_for ⟦<AnyPlugin as Plugin>⟧.steady)
         plan call.core (D.seen desk.old) (D.seen desk.new)
         call.stages.input call.stages.stuffing call.stages.plugins.items call.stages.output)
-        (λ status. IsOverBefore plan (D.seen desk.old) (D.seen desk.new) status) }
+        (λ status. CallsPlan plan (D.seen desk.old) (D.seen desk.new) status) }
 {
-    match ready_chain(alloc, &plan) {
+    match read_tables(alloc, desk, &plan) {
+        Ok(tables) => begin_chain(alloc, desk, plan, tables),
+        Err(status) => Err(status),
+    }
+}
+
+/// Makes the chain of a plan with these tables ready, and opens its ends.
+fn begin_chain<D: Desk>(
+    alloc: Global,
+    desk: &mut D,
+    plan: Plan,
+    tables: Vec<Vec<Section>>,
+) -> Result<OpenedCall<D::In, D::Out, AnyPlugin>, Status>
+    requires { IsLawfulPlan plan }
+    ensures { MatchResult result
+        (λ call. (call.plan ≡ plan)
+        × IsOpened
+        (seeing D.In.seen D.Out.seen
+        ⟦<AnyPlugin as Plugin>⟧.rule ⟦<AnyPlugin as Plugin>⟧.stands_for ⟦<AnyPlugin as Plugin>⟧.steady)
+        plan (map (λ table. table.items) tables.items) call.core (D.seen desk.old) (D.seen desk.new)
+        call.stages.input call.stages.stuffing call.stages.plugins.items call.stages.output)
+        (λ status. IsOverBefore plan (map (λ table. table.items) tables.items)
+        (D.seen desk.old) (D.seen desk.new) status) }
+{
+    match ready_chain(alloc, &plan, tables) {
         Ok(ready) => open_ends(alloc, desk, plan, ready),
         Err(AllocError) => Err(Status::NoMemory),
     }
@@ -75,13 +102,14 @@ fn open_ends<P: Plugin + Drop, D: Desk>(
     plan: Plan,
     ready: ReadyChain<P>,
 ) -> Result<OpenedCall<D::In, D::Out, P>, Status>
-    requires { IsReady P.rule P.stands_for P.steady plan ready.stuffing ready.core ready.plugins.items }
-    ensures { MatchResult result
+    ensures { (tables : List (List (List ℕ)))
+        → IsReady P.rule P.stands_for P.steady plan tables ready.stuffing ready.core ready.plugins.items
+        → MatchResult result
         (λ call. (call.plan ≡ plan)
         × IsOpened (seeing D.In.seen D.Out.seen P.rule P.stands_for P.steady)
-        plan call.core (D.seen desk.old) (D.seen desk.new)
+        plan tables call.core (D.seen desk.old) (D.seen desk.new)
         call.stages.input call.stages.stuffing call.stages.plugins.items call.stages.output)
-        (λ status. IsOverBefore plan (D.seen desk.old) (D.seen desk.new) status) }
+        (λ status. IsOverBefore plan tables (D.seen desk.old) (D.seen desk.new) status) }
 {
     match open_input(alloc, desk, &plan.input) {
         Ok(input) => open_behind(desk, plan, ready, input),
@@ -100,16 +128,17 @@ fn open_behind<P: Plugin + Drop, D: Desk>(
     ready: ReadyChain<P>,
     input: InputPart<D::In>,
 ) -> Result<OpenedCall<D::In, D::Out, P>, Status>
-    requires opened { ((old : DeskView) × OpensInput D.In.seen old plan.input input) }
-    requires ready { IsReady P.rule P.stands_for P.steady plan ready.stuffing ready.core ready.plugins.items }
-    ensures { (old : DeskView) → D.seen desk.old ≡ asked_input old plan.input
+    requires { ((old : DeskView) × OpensInput D.In.seen old plan.input input) }
+    ensures { (tables : List (List (List ℕ))) (old : DeskView)
+        → IsReady P.rule P.stands_for P.steady plan tables ready.stuffing ready.core ready.plugins.items
+        → D.seen desk.old ≡ asked_input old plan.input
         → OpensInput D.In.seen old plan.input input
         → MatchResult result
         (λ call. (call.plan ≡ plan)
         × IsOpened (seeing D.In.seen D.Out.seen P.rule P.stands_for P.steady)
-        plan call.core old (D.seen desk.new)
+        plan tables call.core old (D.seen desk.new)
         call.stages.input call.stages.stuffing call.stages.plugins.items call.stages.output)
-        (λ status. StreamTheorem plan old (D.seen desk.new) status) }
+        (λ status. StreamTheorem plan tables old (D.seen desk.new) status) }
 {
     match open_output(desk, &plan.output) {
         Ok(output) => {

@@ -16,13 +16,16 @@ use ts_outside::{Desk, Gate};
 
 /// Does what the words of a command line ask for, given without the program's name.
 ///
-/// The words name an input, plugins and an output (`chain_args::plan`). Input and output are opened, in this order,
-/// the packets go from one through the plugins to the other, both are closed, and then the end line and the plugins'
-/// lines are reported. Of the statuses
+/// The words name an input, plugins and an output (`chain_args::plan`). The files of tables that plugins name are read,
+/// then input and output are opened, in this order. The packets go from one through the plugins to the other, both are
+/// closed, and then the end line and the plugins' lines are reported. Of the statuses
 ///
 /// - `Words` comes where the words break a rule: its line is reported, and nothing is opened;
-/// - `NoMemory` where memory was wanting: before anything was opened, at the opening, in the run or for the report;
-/// - `ReadFault` where the input was not opened, or a read failed that ended the run;
+/// - `NoMemory` where memory was wanting: before anything was opened, at the reading of a file of tables or the opening,
+///   in the run or for the report;
+/// - `TableFile` where a file of tables was read and has more than 16,777,216 bytes or no sections; its line is reported,
+///   and nothing more is read or opened;
+/// - `ReadFault` where a file of tables was not read, the input was not opened, or a read failed that ended the run;
 /// - `WriteFault` where the output was not opened, where a write ended the run, or where the closing of the output or
 ///   a report failed behind a run that would be `Done`;
 /// - `Sync`, `Refused` and `TooLong` where that ended the run;

@@ -1,9 +1,10 @@
 //! A call behind its run: both ends are closed, and the run is reported.
-ghost use Rattle.std.specs.Prelude.{◌≡◌, ◌≤◌, List, length, map, IfOk};
+ghost use Rattle.std.specs.Prelude.{◌≡◌, ◌≤◌, ℕ, List, length, map, IfOk};
+ghost use Rattle.chain_model.specs.Reports.{rules_of};
 ghost use Rattle.chain_core.specs.declared.core_plan.CorePlan.{CorePlan};
-ghost use Rattle.plug_set.specs.Items.{rule_of_item};
 ghost use Rattle.stage_run.specs.Seeing.{seeing};
 ghost use Rattle.stage_run.specs.declared.stuffing.Stuffing.{Stuffing};
+ghost use Rattle.tsp_top.specs.PlannedChain.{named_rules};
 ghost use Rattle.tsp_top.specs.Ran.{EndsRun, RanOpened};
 ghost use Rattle.tsp_top.specs.Reported.{ReachesCut};
 
@@ -24,15 +25,15 @@ pub(crate) fn finish<P: Plugin + Drop, D: Desk>(
     plan: &Plan,
     end: RunEnd<D::In, D::Out, P>,
 ) -> Status
-    requires rules { map P.rule end.plugins.items ≡ map rule_of_item plan.now.plugins }
-    requires few { length plan.now.plugins ≤ 62 }
+    requires few { length end.plugins.items ≤ 62 }
     requires reach { IfOk end.closed (λ closed. ReachesCut P.stands_for end.plugins.items closed.cut 0) }
-    ensures { (stuffing : Stuffing) (numbers : CorePlan) (from : InputPart D.In)
+    ensures { (tables : List (List (List ℕ))) (stuffing : Stuffing) (numbers : CorePlan) (from : InputPart D.In)
         (plugins : List P) (to : OutputPart D.Out)
+        → map P.rule end.plugins.items ≡ rules_of (named_rules plan.now.plugins tables)
         → EndsRun (seeing D.In.seen D.Out.seen P.rule P.stands_for P.steady)
         stuffing numbers from end.input plugins end.plugins.items to end.output end.closed
         → RanOpened (seeing D.In.seen D.Out.seen P.rule P.stands_for P.steady)
-        plan.now stuffing numbers (D.seen desk.old) (D.seen desk.new) from plugins to result }
+        plan.now tables stuffing numbers (D.seen desk.old) (D.seen desk.new) from plugins to result }
 {
     let RunEnd {
         input,

@@ -18,6 +18,7 @@ mod saying;
 mod status;
 mod steady;
 mod stream_law;
+mod tables;
 mod words;
 
 pub use call::{serial_call, tsp_call};
@@ -25,3 +26,4 @@ pub use chain_args::{WordsFault, WordsRule};
 pub use status::Status;
 pub use steady::steady_call;
 pub use stream_law::{completeness, headline, memory_first, sizes_change_nothing};
+pub use table_file::TableFileFault;

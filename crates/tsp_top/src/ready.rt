@@ -1,10 +1,12 @@
 //! A chain that is ready to run: its numbers and its plugins, before anything is opened.
 ghost use Rattle.std.specs.Prelude.{◌≡◌, ◌++◌, map, IfOk, OnOk};
 ghost use Rattle.std.specs.List.{All};
-ghost use Rattle.plug_set.specs.Items.{IsLawfulItem, rule_of_item};
+ghost use Rattle.plug_set.specs.Items.{IsLawfulItem};
 ghost use Rattle.plug_set.specs.Plugins.{steady_of};
 ghost use Rattle.chain_args.specs.LawfulPlan.{IsLawfulPlan};
+ghost use Rattle.chain_model.specs.Reports.{rules_of};
 ghost use Rattle.chain_run.specs.Fresh.{AreFresh};
+ghost use Rattle.tsp_top.specs.PlannedChain.{first_table, later_tables, named_rules};
 ghost use Rattle.tsp_top.specs.Ran.{IsReady};
 
 use crate::planning::{planned_core, planned_stuffing};
@@ -14,6 +16,7 @@ use plug_set::{AnyPlugin, PluginItem};
 use plugin_trait::Plugin;
 use stage_run::Stuffing;
 use std::alloc::{AllocError, Global};
+use ts_section::Section;
 
 /// What a plan gives a run, but for its two ends.
 #[derive(Drop)]
@@ -23,19 +26,33 @@ pub(crate) struct ReadyChain<P> {
     pub(crate) plugins: Vec<P>,
 }
 
-/// Puts the plugins of these settings, which met no cell yet, behind others.
+/// Takes the first of tables out; where there is none it is of no section.
+fn take_table(alloc: Global, tables: &mut Vec<Vec<Section>>) -> Vec<Section>
+    ensures first { result.items ≡ first_table (map (λ table. table.items) tables.old.items) }
+    ensures later { map (λ table. table.items) tables.new.items
+        ≡ later_tables (map (λ table. table.items) tables.old.items) }
+{
+    if tables.len() == 0 {
+        Vec::new(alloc)
+    } else {
+        tables.remove(0)
+    }
+}
+
+/// Puts the plugins of these settings and tables, which met no cell yet, behind others.
 #[tactic(auto, using(crate::proofs::CallLemmas::fresh_push))]
 fn add_plugins(
     alloc: Global,
     plugins: &mut Vec<AnyPlugin>,
     items: &[PluginItem],
+    tables: &mut Vec<Vec<Section>>,
     buffer: usize,
 ) -> Result<(), AllocError>
     requires lawful { All IsLawfulItem items.now }
     requires before { AreFresh ⟦<AnyPlugin as Plugin>⟧.stands_for plugins.old.items }
     ensures rules { OnOk result
         (map ⟦<AnyPlugin as Plugin>⟧.rule plugins.new.items
-        ≡ map ⟦<AnyPlugin as Plugin>⟧.rule plugins.old.items ++ map rule_of_item items.now) }
+        ≡ map ⟦<AnyPlugin as Plugin>⟧.rule plugins.old.items ++ rules_of (named_rules items.now (map (λ table. table.items) tables.old.items))) }
     ensures rooms { OnOk result
         (map ⟦<AnyPlugin as Plugin>⟧.steady plugins.new.items
         ≡ map ⟦<AnyPlugin as Plugin>⟧.steady plugins.old.items
@@ -45,20 +62,32 @@ fn add_plugins(
     let Some((item, rest)) = items.split_first() else {
         return Ok(());
     };
-    plugins.push(AnyPlugin::of(alloc, item, buffer)?)?;
-    add_plugins(alloc, plugins, rest, buffer)
+    let table = take_table(alloc, tables);
+    plugins.push(AnyPlugin::of(alloc, item, table, buffer)?)?;
+    add_plugins(alloc, plugins, rest, tables, buffer)
 }
 
-/// Makes ready what a plan asks for.
-pub(crate) fn ready_chain(alloc: Global, plan: &Plan) -> Result<ReadyChain<AnyPlugin>, AllocError>
+/// Makes ready what a plan asks for, with the tables of its plugins.
+pub(crate) fn ready_chain(
+    alloc: Global,
+    plan: &Plan,
+    tables: Vec<Vec<Section>>,
+) -> Result<ReadyChain<AnyPlugin>, AllocError>
     requires { IsLawfulPlan plan.now }
     ensures { IfOk result (λ ready. IsReady
         ⟦<AnyPlugin as Plugin>⟧.rule ⟦<AnyPlugin as Plugin>⟧.stands_for ⟦<AnyPlugin as Plugin>⟧.steady
-        plan.now ready.stuffing ready.core ready.plugins.items) }
+        plan.now (map (λ table. table.items) tables.items) ready.stuffing ready.core ready.plugins.items) }
 {
+    let mut tables = tables;
     let core = planned_core(plan);
     let mut plugins: Vec<AnyPlugin> = Vec::new(alloc);
-    add_plugins(alloc, &mut plugins, plan.plugins.as_slice(), core.buffer)?;
+    add_plugins(
+        alloc,
+        &mut plugins,
+        plan.plugins.as_slice(),
+        &mut tables,
+        core.buffer,
+    )?;
     Ok(ReadyChain {
         stuffing: planned_stuffing(&plan.general),
         core,

@@ -1,11 +1,10 @@
 //! The report of a run that was closed, and the status that tells it.
-ghost use Rattle.std.specs.Prelude.{◌≡◌, ◌<◌, ◌^◌, length, map, IfOk};
+ghost use Rattle.std.specs.Prelude.{◌≡◌, ◌<◌, ◌^◌, ℕ, List, length, map, IfOk};
 ghost use Rattle.std.specs.String.{string_bytes};
 ghost use Rattle.chain_model.specs.Apply.{StageList};
-ghost use Rattle.chain_model.specs.Reports.{reports};
+ghost use Rattle.chain_model.specs.Reports.{reports, rules_of};
 ghost use Rattle.chain_run.specs.Met.{AllMetTo};
-ghost use Rattle.plug_set.specs.Items.{rule_of_item};
-ghost use Rattle.tsp_top.specs.PlannedChain.{named_rule_of};
+ghost use Rattle.tsp_top.specs.PlannedChain.{named_rules};
 ghost use Rattle.tsp_top.specs.Reported.{ReachesCut, ReportsRun};
 
 use crate::end_line::end_line_text;
@@ -25,13 +24,13 @@ fn report_text<P: Plugin>(
     items: &[PluginItem],
     closed: Closed,
 ) -> Result<String, AllocError>
-    requires rules { map P.rule plugins.old ≡ map rule_of_item items.now }
     requires numbers { length plugins.old < 2 ^ 62 }
     requires reach { ReachesCut P.stands_for plugins.old closed.cut 0 }
-    ensures { (input : StageList)
+    ensures { (tables : List (List (List ℕ))) (input : StageList)
+        → map P.rule plugins.old ≡ rules_of (named_rules items.now tables)
         → AllMetTo P.stands_for (map P.rule plugins.old) input closed.cut 0 plugins.old
         → IfOk result (λ text.
-        string_bytes text ≡ reports (map named_rule_of items.now) input closed.cut closed.cause) }
+        string_bytes text ≡ reports (named_rules items.now tables) input closed.cut closed.cause) }
 {
     let mut text = String::new(alloc);
     push_reports(&mut text, plugins, items, 0, closed.cut)?;
@@ -49,12 +48,12 @@ pub(crate) fn report_run<P: Plugin, D: Desk>(
     closed: Closed,
     closing_failed: bool,
 ) -> Status
-    requires rules { map P.rule plugins.old ≡ map rule_of_item items.now }
     requires numbers { length plugins.old < 2 ^ 62 }
     requires reach { ReachesCut P.stands_for plugins.old closed.cut 0 }
-    ensures { (input : StageList)
+    ensures { (tables : List (List (List ℕ))) (input : StageList)
+        → map P.rule plugins.old ≡ rules_of (named_rules items.now tables)
         → AllMetTo P.stands_for (map P.rule plugins.old) input closed.cut 0 plugins.old
-        → ReportsRun (reports (map named_rule_of items.now) input closed.cut closed.cause)
+        → ReportsRun (reports (named_rules items.now tables) input closed.cut closed.cause)
         closed.cause closing_failed (D.seen desk.old) (D.seen desk.new) result }
 {
     match report_text(alloc, plugins, items, closed) {

@@ -1,13 +1,12 @@
 //! The report of a run: what each plugin has to say of the cells that count.
-ghost use Rattle.std.specs.Prelude.{◌≡◌, ◌<◌, ◌+◌, ◌^◌, ◌≤◌, ◌++◌, length, map, OnOk, List};
+ghost use Rattle.std.specs.Prelude.{◌≡◌, ℕ, ◌<◌, ◌+◌, ◌^◌, ◌≤◌, ◌++◌, length, map, OnOk, List};
 ghost use Rattle.std.specs.List.{flat_map};
 ghost use Rattle.std.specs.String.{string_bytes};
-ghost use Rattle.chain_model.specs.Reports.{plugin_line, reports_from};
+ghost use Rattle.chain_model.specs.Reports.{plugin_line, reports_from, rules_of};
 ghost use Rattle.chain_model.specs.PluginRule.{PluginRule};
 ghost use Rattle.chain_model.specs.Apply.{StageList};
 ghost use Rattle.chain_run.specs.Met.{AllMetTo};
-ghost use Rattle.plug_set.specs.Items.{rule_of_item};
-ghost use Rattle.tsp_top.specs.PlannedChain.{named_rule_of};
+ghost use Rattle.tsp_top.specs.PlannedChain.{named_rules};
 ghost use Rattle.tsp_top.specs.Reported.{ReachesCut};
 
 use plug_set::PluginItem;
@@ -40,13 +39,13 @@ pub(crate) fn push_reports<P: Plugin>(
     j: usize,
     cut: u64,
 ) -> Result<(), AllocError>
-    requires same_rules { map P.rule plugins.old ≡ map rule_of_item items.now }
     requires numbers { j + length plugins.old < 2 ^ 63 }
     requires reach { ReachesCut P.stands_for plugins.old cut j }
-    ensures { (rules : List PluginRule) (input : StageList)
+    ensures { (tables : List (List (List ℕ))) (rules : List PluginRule) (input : StageList)
+        → map P.rule plugins.old ≡ rules_of (named_rules items.now tables)
         → AllMetTo P.stands_for rules input cut j plugins.old
         → OnOk result (string_bytes text.new
-        ≡ string_bytes text.old ++ reports_from rules input cut j (map named_rule_of items.now)) }
+        ≡ string_bytes text.old ++ reports_from rules input cut j (named_rules items.now tables)) }
 {
     let Some((first, rest)) = plugins.split_first_mut() else {
         return Ok(());

@@ -4,9 +4,10 @@ ghost use Rattle.tsp_top.specs.ExitNumber.{exit_number};
 
 use chain_args::WordsFault;
 use chain_model::{Cause, InputEnd, Reason};
+use table_file::TableFileFault;
 
 /// How a call of `tsp` ended.
-#[derive(Debug, Clone, Copy, PartialEq, Eq)]
+#[derive(Debug, Drop)]
 pub enum Status {
     /// Everything was written and reported.
     Done,
@@ -14,12 +15,14 @@ pub enum Status {
     NoMemory,
     /// The words are no command line; nothing was opened.
     Words(WordsFault),
-    /// A read, or the opening of the input, failed.
+    /// A read, the opening of the input or the reading of a table file failed.
     ReadFault,
     /// A write, a report, the opening or the closing of the output failed.
     WriteFault,
     /// The input packet of this number does not begin with the sync byte.
     Sync { packet: u64 },
+    /// The file of tables of this plugin, counted from 1, was read and has no sections.
+    TableFile { plugin: u32, fault: TableFileFault },
     /// This plugin, counted from 1, refused a packet. A chain has at most 62 plugins.
     Refused { plugin: u32, reason: Reason },
     /// A packet would have had position 2^60.
@@ -28,8 +31,8 @@ pub enum Status {
 
 impl Status {
     /// The program's exit number.
-    pub fn exit_code(self) -> u8
-        ensures { result ≡ exit_number self }
+    pub fn exit_code(&self) -> u8
+        ensures { result ≡ exit_number self.now }
     {
         match self {
             Status::Done => 0,
@@ -38,6 +41,7 @@ impl Status {
             Status::ReadFault => 3,
             Status::WriteFault => 4,
             Status::Sync { .. } => 5,
+            Status::TableFile { .. } => 6,
             Status::Refused { .. } => 7,
             Status::TooLong => 8,
         }

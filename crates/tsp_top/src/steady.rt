@@ -1,10 +1,12 @@
-ghost use Rattle.std.specs.Prelude.{◌≡◌, ◌⊎◌, map, Some};
+ghost use Rattle.std.specs.Prelude.{◌≡◌, ◌⊎◌, ℕ, List, map, Some};
 ghost use Rattle.std.specs.String.{string_bytes};
 ghost use Rattle.chain_model.specs.PureRun.{pure_run};
 ghost use Rattle.chain_args.specs.PlanOf.{plan_of};
 ghost use Rattle.chain_args.specs.declared.plan_type.Plan.{Plan};
 ghost use Rattle.tsp_top.specs.CallEnd.{status_of};
 ghost use Rattle.tsp_top.specs.PlannedChain.{chain_of};
+ghost use Rattle.tsp_top.specs.PlannedTables.{AreTables};
+ghost use Rattle.ts_outside.specs.Steady.{steady_desk};
 ghost use Rattle.tsp_top.specs.declared.status.Status.TheVariants.{NoMemory};
 
 use crate::call::serial_call;
@@ -15,11 +17,12 @@ use ts_outside::{OpenGate, SteadyDesk};
 
 /// Does what the words ask for at a desk that never fails, in one thread.
 ///
-/// There nothing is left open: where the words have a plan, the status is that of the run without faults over the files of
-/// the desk, unless memory was wanting.
+/// There nothing is left open: where the words have a plan, and the files of its tables have these, the status is that of
+/// the run without faults over the files of the desk, unless memory was wanting.
 pub fn steady_call(alloc: Global, words: &[String], desk: &mut SteadyDesk) -> Status
-    ensures { (plan : Plan) → plan_of (map string_bytes words.now) ≡ Some plan
-        → (result ≡ NoMemory) ⊎ (result ≡ status_of (pure_run (chain_of plan desk.old.files)).cause) }
+    ensures { (plan : Plan) (tables : List (List (List ℕ))) → plan_of (map string_bytes words.now) ≡ Some plan
+        → AreTables (steady_desk desk.old) plan.plugins tables
+        → (result ≡ NoMemory) ⊎ (result ≡ status_of (pure_run (chain_of plan tables desk.old.files)).cause) }
 {
     headline();
     serial_call(alloc, words, desk, &OpenGate)

@@ -5,8 +5,9 @@ ghost use Rattle.chain_args.specs.PlanOf.{plan_of};
 ghost use Rattle.chain_args.specs.declared.plan_type.Plan.{Plan};
 ghost use Rattle.ts_outside.specs.Desk.{DeskView};
 ghost use Rattle.tsp_top.specs.PlannedChain.{chain_of};
+ghost use Rattle.tsp_top.specs.PlannedTables.{AreTables};
 ghost use Rattle.tsp_top.specs.TspCall.{CallsTsp};
-ghost use Rattle.tsp_top.specs.Headline.{TellsInput, NothingFails, IsPureOrWants, IsPureOfSome, EndsWell, SameButSizes};
+ghost use Rattle.tsp_top.specs.Headline.{TellsInput, TellsTables, NothingFails, IsPureOrWants, IsPureOrEnds, EndsWell, SameButSizes};
 ghost use Rattle.tsp_top.specs.MemoryFirst.{AreSteady};
 ghost use Rattle.tsp_top.specs.WantsMemory.{WantsMemoryFirst};
 ghost use Rattle.tsp_top.specs.declared.status.Status.{Status};
@@ -14,35 +15,38 @@ ghost use Rattle.tsp_top.specs.declared.status.Status.TheVariants.{Done, NoMemor
 
 /// Whatever the words that have a plan, the files and the sizes, a call that meets no fault outside and no want of memory
 /// writes exactly the packets, prints exactly the reports, and answers exactly the status, that applying the plugins one
-/// after another to the whole list of packets gives.
+/// after another to the whole list of packets gives; each file of tables has sections, and its plugin those.
 ///
-/// Over a desk that does not tell its files, as the real one, it does so for some bytes of its input; null packets are
-/// known whatever the desk tells.
+/// Over a desk that does not tell its files, as the real one, it does so for some bytes of its input and some tables,
+/// unless a file of tables has none; null packets are known whatever the desk tells.
 pub fn headline()
-    ensures told { (words : List (List ℕ)) (plan : Plan)
+    ensures told { (words : List (List ℕ)) (plan : Plan) (tables : List (List (List ℕ)))
         (files : List (List ℕ × List ℕ)) (old new : DeskView) (status : Status)
         → plan_of words ≡ Some plan → TellsInput plan.input old files
+        → TellsTables plan.plugins old files → AreTables old plan.plugins tables
         → CallsTsp words old new status → NothingFails old new
-        → IsPureOrWants plan files old new status }
+        → IsPureOrWants plan tables files old new status }
     ensures any_desk { (words : List (List ℕ)) (plan : Plan) (old new : DeskView) (status : Status)
         → plan_of words ≡ Some plan → CallsTsp words old new status → NothingFails old new
-        → IsPureOfSome plan old new status }
+        → IsPureOrEnds plan old new status }
 {}
 
 /// Where the run without faults ends by the input's plain end, by joint termination, by `until` or by a stop, a call that
 /// meets no fault outside answers `Done`, or that memory was wanting.
 pub fn completeness()
-    ensures { (words : List (List ℕ)) (plan : Plan)
+    ensures { (words : List (List ℕ)) (plan : Plan) (tables : List (List (List ℕ)))
         (files : List (List ℕ × List ℕ)) (old new : DeskView) (status : Status)
         → plan_of words ≡ Some plan → TellsInput plan.input old files
+        → TellsTables plan.plugins old files → AreTables old plan.plugins tables
         → CallsTsp words old new status → NothingFails old new
-        → EndsWell (pure_run (chain_of plan files)).cause → (status ≡ Done) ⊎ (status ≡ NoMemory) }
+        → EndsWell (pure_run (chain_of plan tables files)).cause → (status ≡ Done) ⊎ (status ≡ NoMemory) }
 {}
 
 /// The run without faults is the same for plans that differ in the three sizes alone.
 pub fn sizes_change_nothing()
-    ensures { (one other : Plan) (files : List (List ℕ × List ℕ)) → SameButSizes one other
-        → pure_run (chain_of other files) ≡ pure_run (chain_of one files) }
+    ensures { (one other : Plan) (tables : List (List (List ℕ))) (files : List (List ℕ × List ℕ))
+        → SameButSizes one other
+        → pure_run (chain_of other tables files) ≡ pure_run (chain_of one tables files) }
 {}
 
 /// Where all plugins take their room before the run, want of memory comes before it, or behind all that was written.

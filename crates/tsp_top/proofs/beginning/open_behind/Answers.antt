@@ -6,10 +6,10 @@ use Rattle.tsp_top.proofs.CallLemmas.{no-output-theorem, no-memory-theorem, open
 use Rattle.tsp_top.proofs.beginning.open_behind.Goals as goal
 
 pub returns-in-Ok : goal.returns-in-Ok
-returns-in-Ok g c = λ old asked opens. (
+returns-in-Ok g c = λ tables old ready asked opens. (
   refl,
   record {
-    ready = c.requires.ready;
+    ready = ready;
     asked = c.in-Ok.ensures.asked ∙ ap (λ (d : DeskView). asked_output d c.args.plan.output) asked;
     input = opens;
     unused = opened-unused g.D.In.Source.seen old c.args.plan.input c.args.input opens;
@@ -18,17 +18,17 @@ returns-in-Ok g c = λ old asked opens. (
 )
 
 pub returns-in-Err-Failed : goal.returns-in-Err-Failed
-returns-in-Err-Failed g c = λ old asked opens.
+returns-in-Err-Failed g c = λ tables old ready asked opens.
     let vain : g.D.Desk.seen c.open_output.new.desk ≡ asked_output_in_vain (asked_input old c.args.plan.input) c.args.plan.output =
     open-failed _ _ _ c.in-Err-Failed.field-0 c.in-Err-Failed.field-0-is c.in-Err-Failed.ensures.asked ∙ ap (λ (d : DeskView). asked_output_in_vain d c.args.plan.output) asked in
-    no-output-theorem g.D.In.Source.seen c.args.plan old (g.D.Desk.seen c.close_input.new.desk) (g.D.Desk.seen c.say.new.desk) c.args.input c.say.result
+    no-output-theorem g.D.In.Source.seen c.args.plan tables old (g.D.Desk.seen c.close_input.new.desk) (g.D.Desk.seen c.say.new.desk) c.args.input c.say.result
     opens c.in-Err-Failed.ensures.named
     (c.close_input.ensures ∙ ap (λ (d : DeskView). input_closed_as g.D.In.Source.seen d c.args.input) vain)
     c.say.ensures
 
 pub returns : goal.returns
-returns g c = λ old asked opens.
+returns g c = λ tables old ready asked opens.
     let same : g.D.Desk.seen c.open_output.new.desk ≡ asked_input old c.args.plan.input =
     open-no-memory _ _ _ c.in-Err-NoMemory.field-0 c.in-Err-NoMemory.field-0-is c.in-Err-NoMemory.ensures.asked ∙ asked in
-    no-memory-theorem g.D.In.Source.seen c.args.plan old (g.D.Desk.seen c.close_input-in-Err-NoMemory.new.desk) c.args.input
+    no-memory-theorem g.D.In.Source.seen c.args.plan tables old (g.D.Desk.seen c.close_input-in-Err-NoMemory.new.desk) c.args.input
     opens (c.close_input-in-Err-NoMemory.ensures ∙ ap (λ (d : DeskView). input_closed_as g.D.In.Source.seen d c.args.input) same)

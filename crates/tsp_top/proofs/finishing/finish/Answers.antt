@@ -1,8 +1,8 @@
-use Rattle.std.proofs.Common.{is_err, ap, map, List, ◌∙◌, refl, inl, inr}
+use Rattle.std.proofs.Common.{is_err, ap, map, List, ◌∙◌, sym, refl, inl, inr}
 use Rattle.plug_set.specs.declared.plugin_item.PluginItem.{PluginItem}
-use Rattle.chain_model.specs.Reports.{reports}
+use Rattle.chain_model.specs.Reports.{reports, rules_of}
 use Rattle.ts_outside.specs.Desk.{DeskView}
-use Rattle.tsp_top.specs.PlannedChain.{named_rule_of}
+use Rattle.tsp_top.specs.PlannedChain.{named_rules}
 use Rattle.tsp_top.specs.Openings.{output_closed_as}
 use Rattle.tsp_top.proofs.RunLemmas.{run-met, if-ok, on-err, on-true-is_err, reports-run-same}
 use Rattle.tsp_top.proofs.finishing.finish.Goals as goal
@@ -12,7 +12,7 @@ report_run-requires-clause-reach g c κs within =
     rw c.deref_mut.ensures.value (if-ok c.args.end.closed c.in-Ok.closed _ c.in-Ok.is c.requires.reach)
 
 pub returns-in-Ok : goal.returns-in-Ok
-returns-in-Ok g c = λ stuffing numbers from plugins to ends.
+returns-in-Ok g c = λ tables stuffing numbers from plugins to rules ends.
     let run = if-ok c.args.end.closed c.in-Ok.closed _ c.in-Ok.is ends.run in
     record {
       made_from = c.args.end.input;
@@ -25,17 +25,19 @@ returns-in-Ok g c = λ stuffing numbers from plugins to ends.
           made = c.args.end.plugins.items;
           run = run;
           reported = reports-run-same _ _ c.in-Ok.closed.cause c.is_err.result (is_err c.close_output-closing.result) (g.D.Desk.seen c.close_output-closing.new.desk) _ _ _
-              (ap (λ (items : List PluginItem). reports (map named_rule_of items) run.list c.in-Ok.closed.cut c.in-Ok.closed.cause) c.as_slice.ensures)
+              (ap (λ (items : List PluginItem). reports (named_rules items tables) run.list c.in-Ok.closed.cut c.in-Ok.closed.cause) c.as_slice.ensures)
               c.is_err.ensures.value
               (c.close_output-closing.ensures.closed
               ∙ ap (λ (d : DeskView). output_closed_as g.D.Out.Sink.seen d c.args.end.output (is_err c.close_output-closing.result)) c.close_input.ensures)
-              (c.report_run.ensures run.list (rw c.deref_mut.ensures.value (run-met _ from c.args.end.input stuffing plugins c.args.end.plugins.items to c.args.end.output numbers c.in-Ok.closed run)));
+              (c.report_run.ensures tables run.list
+              (ap (λ (l : List _). map g.P.Plugin.rule l) c.deref_mut.ensures.value ∙ rules ∙ ap (λ (items : List PluginItem). rules_of (named_rules items tables)) (sym c.as_slice.ensures))
+              (rw c.deref_mut.ensures.value (run-met _ from c.args.end.input stuffing plugins c.args.end.plugins.items to c.args.end.output numbers c.in-Ok.closed run)));
         },
       );
     }
 
 pub returns : goal.returns
-returns g c = λ stuffing numbers from plugins to ends.
+returns g c = λ tables stuffing numbers from plugins to rules ends.
     let none = on-err c.args.end.closed c.in-Err.field-0 _ c.in-Err.is ends.never_began in
     record {
       made_from = c.args.end.input;

@@ -1,0 +1,41 @@
+ghost use Rattle.std.specs.Prelude.{◌≡◌};
+ghost use Rattle.table_file.specs.declared.fault.NoTables.TheVariants.{NoMemory};
+
+use std::alloc::{AllocError, AllocFailed};
+use tabcomp_core::{CompileFault, DecompileFault};
+
+/// Why a file has no tables, whatever memory there is.
+#[derive(Debug, Drop)]
+pub enum TableFileFault {
+    /// It has more than 16,777,216 bytes.
+    TooMany,
+    /// It is a JSON text by its name, and is not compiled.
+    Compile(CompileFault),
+    /// Its bytes, or those that its text is compiled to, are not sections one after another.
+    Sections(DecompileFault),
+}
+
+/// Why the sections of a file were not told.
+#[derive(Debug, Drop)]
+pub enum NoTables {
+    /// It has none, for this reason.
+    Refused(TableFileFault),
+    /// Memory was wanting; nothing is left behind.
+    NoMemory,
+}
+
+impl From<AllocError> for NoTables {
+    ghost from_gives = { λ _ fault. fault ≡ NoMemory };
+
+    fn from(_error: AllocError) -> NoTables {
+        NoTables::NoMemory
+    }
+}
+
+impl<T: Drop> From<AllocFailed<T>> for NoTables {
+    ghost from_gives = { λ _ fault. fault ≡ NoMemory };
+
+    fn from(_error: AllocFailed<T>) -> NoTables {
+        NoTables::NoMemory
+    }
+}
