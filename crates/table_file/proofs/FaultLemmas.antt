@@ -46,10 +46,14 @@ of-compiled : (text : Result (List ℕ) CompileFault) → (text ≡ Err NoMemory
 of-compiled (Ok bytes) fine = of-sections (sections_in bytes)
 of-compiled (Err fault) fine = ((λ is. fine (let same : fault ≡ NoMemory = cc in cc)), λ is. cc)
 
+-- a file that is refused
+abbrev refused : TableFileFault → Result (List (List ℕ)) TableFileFault
+refused fault = Err fault
+
 -- the cases of a file
 of-file : (long text : Bool) (compiled cut : Result (List (List ℕ)) TableFileFault) (fault : TableFileFault)
-    → (Err TooMany ≡ Err fault → ⊥) → (compiled ≡ Err fault → ⊥) → (cut ≡ Err fault → ⊥)
-    → (if long then Err TooMany else (if text then compiled else cut)) ≡ Err fault → ⊥
+    → (refused TooMany ≡ refused fault → ⊥) → (compiled ≡ refused fault → ⊥) → (cut ≡ refused fault → ⊥)
+    → (if long then refused TooMany else (if text then compiled else cut)) ≡ refused fault → ⊥
 of-file true text compiled cut fault not_long not_text not_cut is = not_long is
 of-file false true compiled cut fault not_long not_text not_cut is = not_text is
 of-file false false compiled cut fault not_long not_text not_cut is = not_cut is
