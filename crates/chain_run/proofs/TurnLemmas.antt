@@ -6,7 +6,7 @@ use Rattle.std.proofs.lemmas.Bool.{cases_eq, cases_Bool, cond-true, cond-false, 
 use Rattle.ts_outside.specs.Source.{SourceView}
 use Rattle.chain_model.specs.Apply.{StageList, input_over}
 use Rattle.chain_model.specs.InputList.{input_of_bytes, input_of_nulls}
-use Rattle.chain_model.specs.Stuffed.{null_cells, stuffed_after, stop_nulls, stuffed}
+use Rattle.chain_model.specs.Stuffed.{null_cells, stuffed_after, stop_nulls}
 use Rattle.chain_model.specs.Stuffed as model
 use Rattle.chain_model.specs.declared.input_end.InputEnd.{InputEnd}
 use Rattle.chain_core.specs.declared.core_plan.CorePlan.{CorePlan}

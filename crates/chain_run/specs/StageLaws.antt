@@ -1,12 +1,12 @@
 -- What can be said of one stage of a run, whoever serves it, through its own work and what others do.
 -- This project's own rule.
-use Rattle.std.specs.Prelude.{◌≡◌, ℕ, suc, ◌+◌, ◌<◌, ◌≤◌, List, [], ◌++◌, length, take, drop, Option, None}
+use Rattle.std.specs.Prelude.{◌≡◌, ℕ, suc, ◌+◌, ◌≤◌, List, [], ◌++◌, length, take, drop, Option, None}
 use Rattle.ts_packet.specs.declared.cell.Cell.{Cell}
 use Rattle.chain_model.specs.Apply.{StageList}
 use Rattle.chain_core.specs.declared.news.News.{News}
 use Rattle.chain_core.specs.declared.stage_end.StageEnd.{StageEnd}
 use Rattle.chain_core.specs.Numbers.{written_of, limit_of, news_of}
-use Rattle.chain_core.specs.Machine.{ChainState, Visit, progress_of_stages, visit_of, start, Allowed}
+use Rattle.chain_core.specs.Machine.{Visit, progress_of_stages, visit_of, start, Allowed}
 use Rattle.chain_core.specs.ChainRun.{ChainRun, state_after, took}
 use Rattle.chain_core.specs.Keeps.{AllKeep, Keeps, StageKeeps}
 use Rattle.stage_run.specs.Seeing.{Seeing}
@@ -18,7 +18,7 @@ use Rattle.stage_run.specs.Parts.{IsListOf}
 use Rattle.stage_run.specs.Works.{PartWork}
 use Rattle.chain_run.specs.Runs.{RunStart, nothing_told}
 use Rattle.chain_run.specs.Ran.{IsLawfulRun}
-use Rattle.chain_run.specs.OneStage.{SoFarUpTo, Doing, MayBe, StandsIn}
+use Rattle.chain_run.specs.OneStage.{SoFarUpTo, Doing, MayBe}
 
 -- what is known of a list that may be the input's: nothing, that the chain theorem held of what was seen, or that a part
 -- gives it

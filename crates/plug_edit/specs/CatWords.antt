@@ -1,6 +1,6 @@
 -- The words of `cat`.
 -- This project's own rule.
-use Rattle.std.specs.Prelude.{[], ◌∷◌, List, codes, true}
+use Rattle.std.specs.Prelude.{◌∷◌, List, codes, true}
 use Rattle.clap.specs.Walk.{Row}
 use Rattle.plug_conf.specs.declared.limits.TheConstants.{LAST_PID}
 use Rattle.option_words.specs.Forms.{ranges}

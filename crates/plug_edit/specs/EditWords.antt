@@ -2,7 +2,7 @@
 -- This project's own rule.
 use Rattle.std.specs.Prelude.{ℕ, List, [], ◌∷◌, Option, codes, unwrap_or}
 use Rattle.clap.specs.Walk.{Row}
-use Rattle.option_words.specs.Forms.{Form, number, pairs}
+use Rattle.option_words.specs.Forms.{number, pairs}
 use Rattle.option_words.specs.Number.{number_within}
 use Rattle.option_words.specs.Options.{OptionRow, flag, read_value, value}
 use Rattle.option_words.specs.Pairs.{pairs_of}

@@ -1,6 +1,6 @@
 -- The words of `nit`.
 -- This project's own rule.
-use Rattle.std.specs.Prelude.{[], ◌∷◌, List, codes, true}
+use Rattle.std.specs.Prelude.{◌∷◌, List, codes, true}
 use Rattle.clap.specs.Walk.{Row}
 use Rattle.option_words.specs.Forms.{ranges, text}
 use Rattle.option_words.specs.Options.{OptionRow, has_flag, value, value_of}

@@ -1,6 +1,6 @@
 -- The words of `pmt`.
 -- This project's own rule.
-use Rattle.std.specs.Prelude.{[], ◌∷◌, List, codes, unwrap_or}
+use Rattle.std.specs.Prelude.{◌∷◌, List, codes, unwrap_or}
 use Rattle.clap.specs.Walk.{Row}
 use Rattle.plug_conf.specs.declared.limits.TheConstants.{LAST_PID}
 use Rattle.option_words.specs.Forms.{ranges}

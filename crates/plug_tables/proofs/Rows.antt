@@ -1,5 +1,5 @@
 -- Worked rows of `tables`, computed on the definitions.
-use Rattle.std.proofs.Common.{◌≡◌, true, false, List, [], ◌∷◌, refl}
+use Rattle.std.proofs.Common.{◌≡◌, true, false, [], ◌∷◌, refl}
 use Rattle.bit_rows.specs.BitRow.{bit_of, field}
 use Rattle.plug_tables.specs.TablesRule.{choice_of, is_told}
 use Rattle.plug_tables.specs.WatchedPackets.{is_fixed, usual}

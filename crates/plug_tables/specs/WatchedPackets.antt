@@ -1,11 +1,10 @@
 -- The packets of a PID that `tables` watches, and the tables that they complete. This project's own rule, over the PIDs of
 -- ISO/IEC 13818-1, 2.4.4.2, and EN 300 468, 5.1.3.
-use Rattle.std.specs.Prelude.{ℕ, List, [], ◌∷◌, ◌++◌, length, drop, filter, Bool, true, not, ◌==◌, ◌&&◌, ◌||◌, Option, if◌then◌else◌}
+use Rattle.std.specs.Prelude.{ℕ, List, [], ◌∷◌, ◌++◌, length, drop, filter, Bool, true, not, ◌==◌, ◌&&◌, if◌then◌else◌}
 use Rattle.ts_packet.specs.Header.{pid_of}
 use Rattle.ts_packet.specs.declared.numbers.TheConstants.{NULL_PID}
-use Rattle.ts_table_rows.specs.TableValues.{TableHolding}
 use Rattle.plug_conf.specs.NumberSet.{has_number}
-use Rattle.plug_psi.specs.InForce.{names, taken_on}
+use Rattle.plug_psi.specs.InForce.{taken_on}
 use Rattle.plug_psi.specs.LastFound.{tables_on}
 
 -- which PIDs are watched: those that are listed, and whether also those of the PMTs that the PAT in force names

@@ -12,13 +12,13 @@ use Rattle.chain_model.specs.declared.input_end.InputEnd.{InputEnd}
 use Rattle.chain_model.specs.declared.input_end.InputEnd.TheVariants.{End, Sync, ReadFault, TooLong}
 use Rattle.chain_model.specs.Apply.{StageList}
 use Rattle.chain_model.specs.InputList.{input_of_bytes, input_of_nulls}
-use Rattle.chain_model.specs.Stuffed.{null_cells, nulls_behind, stuffed_after, stop_nulls, stuffed}
+use Rattle.chain_model.specs.Stuffed.{null_cells, nulls_behind, stuffed_after, stuffed}
 use Rattle.chain_model.specs.Stuffed as model
 use Rattle.stage_run.specs.declared.packet_feed.PacketFeed.{PacketFeed}
 use Rattle.stage_run.specs.declared.packet_feed.PacketFeed.TheVariants.{Stream, Nulls, Generated}
 use Rattle.stage_run.specs.declared.input_stage.InputStage.{InputStage}
 use Rattle.stage_run.specs.PartLists.{PartLists}
-use Rattle.stage_run.specs.GeneratedInput.{generated_from, input_of_generated}
+use Rattle.stage_run.specs.GeneratedInput.{input_of_generated}
 use Rattle.stage_run.proofs.GeneratedLemmas.{length-generated}
 use Rattle.stage_run.specs.Feeds.{FeedStands, FeedLooks, FeedPuts, SameFeed, StandsAtSource, packets_put, hand_of}
 use Rattle.stage_run.specs.InputStands.{InputHolds, FeedGives, MayGive, stuffing_of, stuffed_so_far}

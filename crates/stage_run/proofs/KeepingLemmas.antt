@@ -9,7 +9,7 @@ use Rattle.chain_model.specs.declared.input_end.InputEnd.{InputEnd}
 use Rattle.chain_model.specs.declared.input_end.InputEnd.TheVariants.{End, Sync, ReadFault, TooLong}
 use Rattle.chain_model.specs.Prefix.{IsPrefix}
 use Rattle.chain_model.specs.Apply.{StageList, input_over, last_passed}
-use Rattle.chain_model.specs.Stuffed.{null_cells, within_limit, stuffed}
+use Rattle.chain_model.specs.Stuffed.{null_cells, within_limit}
 use Rattle.chain_model.specs.Stuffed as model
 use Rattle.chain_core.specs.declared.stage_end.StageEnd.{StageEnd}
 use Rattle.chain_core.specs.declared.stage_end.StageEnd.TheVariants.{Input, Last, Stop, Refuse, WriteFault, NoMemory, Followed}

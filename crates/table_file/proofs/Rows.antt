@@ -1,5 +1,5 @@
 -- Worked rows, computed on the definitions.
-use Rattle.std.proofs.Common.{◌≡◌, ℕ, List, [], codes, true, false, Ok, Err, refl}
+use Rattle.std.proofs.Common.{◌≡◌, [], codes, true, false, Ok, Err, refl}
 use Rattle.tabcomp_core.specs.declared.fault.CompileFault.TheVariants.{NotJson}
 use Rattle.tabcomp_core.specs.Cutting.{sections_from}
 use Rattle.table_file.specs.declared.fault.TableFileFault.TheVariants.{Compile}

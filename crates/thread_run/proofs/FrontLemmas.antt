@@ -1,5 +1,5 @@
 -- A window that was written to, put back.
-use Rattle.std.proofs.Common.{◌≡◌, ◌⊎◌, ℕ, zero, suc, ◌+◌, ◌%◌, ◌<◌, ◌≤◌, List, [], ◌∷◌, ◌++◌, length, take, drop, refl, sym, ap, ◌∙◌, subst, arith}
+use Rattle.std.proofs.Common.{◌≡◌, ◌⊎◌, ℕ, ◌+◌, List, [], ◌∷◌, ◌++◌, length, take, drop, refl, ap, ◌∙◌, arith}
 use Rattle.ts_packet.specs.declared.cell.Cell.{Cell}
 use Rattle.ts_land.specs.Pieces.{Piece, with_cells}
 use Rattle.window_ring.specs.Hands.{Row, IsFront}

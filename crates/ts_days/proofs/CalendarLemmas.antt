@@ -1,16 +1,15 @@
 -- Days and their numbers, by the day counts of `jiff`.
-use Rattle.std.proofs.Common.{◌≡◌, ℕ, zero, suc, ◌+◌, ◌-◌, ◌*◌, ◌<◌, ◌≤◌, ◌⊎◌, inl, inr, Bool, true, false, nat_lt, nat_le, nat_eq, refl, sym, ap, ◌∙◌, arith, lit<, add-zero, ℤ, pos, negsuc, ◌-ℤ◌, unsigned_abs, ◌+ℤ◌, ◌≤ℤ◌, ◌<ℤ◌, w64, FitsSigned, to_z, of_z}
+use Rattle.std.proofs.Common.{◌≡◌, ℕ, zero, suc, ◌+◌, ◌-◌, ◌<◌, ◌≤◌, ◌⊎◌, inl, inr, Bool, true, false, nat_lt, nat_le, refl, sym, ap, ◌∙◌, arith, lit<, add-zero, ℤ, pos, negsuc, ◌-ℤ◌, unsigned_abs, ◌+ℤ◌, ◌≤ℤ◌, ◌<ℤ◌, w64, FitsSigned, to_z, of_z}
 use Rattle.std.specs.Prelude.{◌&&◌, if◌then◌else◌, Option, Some, None, IfSome, IfNone}
 use Rattle.std.proofs.lemmas.Bool.{lt-ltb, ltb-true, ltb-false, le-leb, leb-true, lt-leb, le-ltb}
 use Rattle.std.proofs.lemmas.Int.{by_lt_z}
 use Rattle.std.proofs.Math.Facts.{to_z-of_z}
-use Rattle.jiff_core.specs.Calendar.{days_in_year, days_in_month, days_of_months, day_of_year, day_count, days_from_civil, IsDate, IsCivilDate}
+use Rattle.jiff_core.specs.Calendar.{days_of_months, day_of_year, day_count, days_from_civil, IsDate, IsCivilDate}
 use Rattle.jiff_core.proofs.SignedLemmas.{signed_arith}
 use Rattle.jiff_core.proofs.CalendarLemmas.{day_count-epoch, days_from_civil-day_count, days_of_months-zero, days_of_months_more, days_of_months_all, days_of_months_mono, day_count-day_of_year, day_count-next_year, day_count-lt_year}
 use Rattle.ts_days.specs.declared.calendar.Day.{Day}
 use Rattle.ts_days.specs.Calendar as calendar
 use Rattle.ts_days.specs.Calendar.{year_length, month_length, is_day, years_length, months_length, days_before, number_of_day, day_of_month, day_numbered}
-use borrow.Author.Differences.{up, down}
 
 pub both : (a b : Bool) → (a && b) ≡ true → (a ≡ true) × (b ≡ true)
 both true b is = (refl, is)

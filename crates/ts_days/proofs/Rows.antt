@@ -1,5 +1,5 @@
 -- Worked rows: the definitions computed.
-use Rattle.std.proofs.Common.{◌≡◌, true, false, refl}
+use Rattle.std.proofs.Common.{◌≡◌, refl}
 use Rattle.std.specs.Prelude.{codes, Some, None}
 use Rattle.ts_days.specs.Calendar.{years_length, months_length, days_before, number_of_day, day_of_month, day_of_year}
 use Rattle.ts_days.specs.DayTexts.{day_written, day_of, day_text}

@@ -1,14 +1,14 @@
 -- Texts of days and times, and the numbers that they tell.
-use Rattle.std.proofs.Common.{◌≡◌, ℕ, zero, suc, ◌+◌, ◌-◌, ◌*◌, ◌/◌, ◌%◌, ◌^◌, ◌<◌, ◌≤◌, Bool, true, false, List, [], ◌∷◌, ◌++◌, length, take, drop, nat_lt, nat_le, nat_eq, refl, sym, ap, ◌∙◌, arith}
-use Rattle.std.specs.Prelude.{◌&&◌, ◌||◌, if◌then◌else◌, Option, Some, None, slice_index, bytes_eq, codes}
-use Rattle.std.proofs.lemmas.Bool.{lt-ltb, ltb-true, le-leb, leb-true, eqb-true, ne_eqb}
+use Rattle.std.proofs.Common.{◌≡◌, ℕ, ◌+◌, ◌-◌, ◌*◌, ◌/◌, ◌%◌, ◌^◌, ◌<◌, ◌≤◌, Bool, true, false, List, ◌∷◌, ◌++◌, length, take, drop, nat_le, nat_eq, refl, sym, ap, ◌∙◌, arith}
+use Rattle.std.specs.Prelude.{◌&&◌, ◌||◌, if◌then◌else◌, Some, slice_index, bytes_eq, codes}
+use Rattle.std.proofs.lemmas.Bool.{le-leb, leb-true, eqb-true, ne_eqb}
 use Rattle.ts_fields.specs.Times.{is_pair, is_time, is_start}
 use Rattle.ts_days.specs.declared.calendar.Day.{Day}
-use Rattle.ts_days.specs.Calendar.{month_length, is_day, number_of_day, day_numbered}
-use Rattle.ts_days.specs.Digits.{is_digit, digit_at, last_digit, ◌>>=◌}
+use Rattle.ts_days.specs.Calendar.{month_length, day_numbered}
+use Rattle.ts_days.specs.Digits.{digit_at, last_digit}
 use Rattle.ts_days.specs.DayTexts.{text_of_day, day_written, day_of, day_text}
-use Rattle.ts_days.specs.TimeTexts.{low_digit, time_text, digits_written, time_of, start_text, moment_of, start_of}
-use Rattle.ts_days.proofs.CalendarLemmas.{both, Told, every_number, lawful}
+use Rattle.ts_days.specs.TimeTexts.{time_text, digits_written, time_of, start_text, moment_of, start_of}
+use Rattle.ts_days.proofs.CalendarLemmas.{both, every_number, lawful}
 
 -- a digit of a number below ten
 digit_there : (text : List ℕ) (place n : ℕ) → slice_index text place ≡ 48 + n → n ≤ 9 → digit_at text place ≡ Some n

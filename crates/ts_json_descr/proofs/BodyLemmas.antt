@@ -10,9 +10,9 @@ use Rattle.ts_fields.specs.Fitting.{shaped}
 use Rattle.ts_fields.specs.Layout.{Row, Held, number, bytes}
 use Rattle.ts_jtree.specs.declared.fault.JsonKind.TheVariants.{OutOfRange}
 use Rattle.ts_jtree.specs.declared.fault.JsonFault.{JsonFault}
-use Rattle.ts_jtree.specs.Attributes.{attribute_of, data_attribute, hex_attribute, holds_bytes, holds_number, in_range, number_at, number_attribute, number_in, read_attributes, within}
+use Rattle.ts_jtree.specs.Attributes.{attribute_of, data_attribute, hex_attribute, holds_bytes, holds_number, number_at, number_attribute, number_in, read_attributes, within}
 use Rattle.ts_jtree.specs.Elements.{keys_known, members_of, name_key, name_of, named, no_children, nodes_of, read_element}
-use Rattle.ts_jtree.specs.Faults.{Reading, at_child, or_refuse, refuse, ◌>>=◌}
+use Rattle.ts_jtree.specs.Faults.{at_child, or_refuse, refuse, ◌>>=◌}
 use Rattle.ts_jtree.specs.Numbers.{number_of}
 use Rattle.ts_json_descr.specs.DescrElements.{generic_page, generic_rows}
 use Rattle.ts_json_descr.specs.DescrReading.{are_tagged, read_children, read_holding, read_item, read_items, read_typed}

@@ -1,8 +1,8 @@
 -- A descriptor that is shown is read again.
-use Rattle.std.proofs.Common.{◌≡◌, ℕ, ◌+◌, ◌*◌, ◌<◌, ◌≤◌, Bool, true, false, List, [], ◌∷◌, length, refl, sym, ap, arith, map}
-use Rattle.std.specs.Prelude.{Option, Some, None, Ok, Err, option_map, option_and_then, nat_lt, nat_le, ◌&&◌, if◌then◌else◌}
+use Rattle.std.proofs.Common.{◌≡◌, ℕ, ◌+◌, ◌<◌, ◌≤◌, Bool, true, false, List, [], ◌∷◌, length, refl, sym, ap, arith, map}
+use Rattle.std.specs.Prelude.{Option, Some, None, Ok, Err, option_map, option_and_then, nat_lt}
 use Rattle.std.proofs.lemmas.Bool.{lt-ltb, le-leb}
-use Rattle.serde_json.specs.Data.{Data, array, Items, no_items, item}
+use Rattle.serde_json.specs.Data.{Data, Items}
 use Rattle.serde_json.specs.Find.{get_member}
 use Rattle.serde_json.specs.View.{items_of}
 use Rattle.ts_bits.specs.TaggedBody.{TaggedBody}
@@ -18,7 +18,7 @@ use Rattle.ts_jtree.specs.Shown.{are_within, element_members, rows_show}
 use Rattle.ts_json_descr.specs.DescrElements.{body_shown, descr_shown, generic_name, generic_page, generic_rows, generic_shown, item_shown, items_shown, shown_by}
 use Rattle.ts_json_descr.specs.DescrReading.{descr_read, read_children, read_generic, read_holding, read_item, read_items, read_typed, sized}
 use Rattle.ts_json_descr.proofs.BodyLemmas.{Lengths}
-use Rattle.ts_json_descr.proofs.PageLemmas.{Good, items_show, page_good, plain, plain_within, show_again}
+use Rattle.ts_json_descr.proofs.PageLemmas.{items_show, page_good, plain, plain_within, show_again}
 use Rattle.ts_json_descr.proofs.StepLemmas.{both, not_more}
 use Rattle.std.proofs.lemmas.Slice.Eq.{bytes_eq-Decides}
 use Rattle.std.specs.Prelude.{bytes_eq}

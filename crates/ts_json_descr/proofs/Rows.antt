@@ -3,7 +3,7 @@ use Rattle.std.proofs.Common.{◌≡◌, ◌∷◌, [], refl}
 use Rattle.std.specs.Prelude.{codes, Err}
 use Rattle.serde_json.specs.Data.{member, no_members, object, string}
 use Rattle.serde_json.specs.Written.{compact_text}
-use Rattle.ts_fields.specs.Bits.{bits, bits_of, number_of}
+use Rattle.ts_fields.specs.Bits.{bits, number_of}
 use Rattle.ts_fields.specs.Bodies.{read_page, read_behind, read_items}
 use Rattle.ts_fields.specs.Reading.{read_number, read_bytes, read_decimal, read_rest, read_field, read_rows}
 use Rattle.ts_jtree.specs.declared.fault.JsonKind.TheVariants.{Missing, UnknownKey}

@@ -1,8 +1,8 @@
 -- Descriptors as elements of JSON.
 -- This project's own rule: a descriptor whose body is of its tag's page is an element of the page's name,
 -- its fields attributes and its items children; every other one is a `generic_descriptor` of tag and bytes.
-use Rattle.std.specs.Prelude.{ℕ, ◌&&◌, List, [], ◌∷◌, map, codes, Bool, true, is_none, bytes_eq, Option, Some, None, option_map, option_and_then}
-use Rattle.serde_json.specs.Data.{Data, object, array, Members}
+use Rattle.std.specs.Prelude.{ℕ, List, [], ◌∷◌, map, codes, Option, Some, None, option_map, option_and_then}
+use Rattle.serde_json.specs.Data.{Data, object, array}
 use Rattle.serde_json.specs.View.{items_of}
 use Rattle.ts_bits.specs.TaggedBody.{TaggedBody}
 use Rattle.ts_fields.specs.declared.field.Kind.TheVariants.{Number, Hex}
@@ -11,7 +11,7 @@ use Rattle.ts_fields.specs.Bodies.{Page, Holding, read_page}
 use Rattle.ts_fields.specs.Layout.{Row, Held, number, bytes}
 use Rattle.ts_pages.specs.PageRows.{field}
 use Rattle.ts_pages.specs.Pages.{page_of}
-use Rattle.ts_jtree.specs.Shown.{element_members, rows_show}
+use Rattle.ts_jtree.specs.Shown.{element_members}
 
 -- the element of an item
 abbrev pub item_shown : List ℕ × List Row → List Held → Data

@@ -1,28 +1,22 @@
 -- Children that are shown are read again.
-use Rattle.std.proofs.Common.{◌≡◌, ℕ, ◌+◌, ◌<◌, ◌≤◌, Bool, true, false, List, [], ◌∷◌, ◌++◌, length, refl, sym, ap, ◌∙◌, arith, map, subst}
-use Rattle.std.specs.Prelude.{Option, Some, None, Ok, Err, All, ◌||◌, ◌&&◌, if◌then◌else◌, bytes_eq, option_map}
-use Rattle.std.specs.List.{list_all}
+use Rattle.std.proofs.Common.{◌≡◌, ℕ, ◌+◌, ◌<◌, ◌≤◌, Bool, true, List, [], ◌∷◌, ◌++◌, length, refl}
+use Rattle.std.specs.Prelude.{Option, Ok, bytes_eq}
 use Rattle.std.proofs.lemmas.Slice.Eq.{bytes_eq-Decides}
-use Rattle.serde_json.specs.Data.{Data, array, Items, no_items, item, Members}
+use Rattle.serde_json.specs.Data.{Data}
 use Rattle.serde_json.specs.Find.{get_member}
 use Rattle.serde_json.specs.View.{items_of}
-use Rattle.ts_bits.specs.TaggedBody.{TaggedBody, IsDescriptor}
+use Rattle.ts_bits.specs.TaggedBody.{TaggedBody}
 use Rattle.ts_fields.specs.Bits.{bits_of}
 use Rattle.ts_fields.specs.Fitting.{are_bytes, fits}
-use Rattle.ts_fields.specs.Layout.{Row, Held, number, bytes}
+use Rattle.ts_fields.specs.Layout.{Row, Held, bytes}
 use Rattle.ts_jtree.specs.Attributes.{read_attributes}
-use Rattle.ts_jtree.specs.Elements.{keys_known, members_of, name_of, nodes_at, nodes_key, nodes_of, no_children}
-use Rattle.ts_jtree.specs.Faults.{Reading, ◌>>=◌, at_child}
+use Rattle.ts_jtree.specs.Elements.{keys_known, name_of, nodes_key}
+use Rattle.ts_jtree.specs.Faults.{Reading}
 use Rattle.ts_jtree.specs.Shown.{are_within, element_members, rows_show}
 use Rattle.ts_json_descr.specs.DescrElements.{descr_shown}
 use Rattle.ts_json_descr.specs.DescrReading.{descr_read}
 use Rattle.ts_table_rows.specs.BodySpelling.{bytes_of}
-use Rattle.ts_table_rows.specs.TablePages.{ItemPage}
-use Rattle.ts_table_rows.specs.TableValues.{ItemHolding}
-use Rattle.ts_table_rows.specs.TableFitting.{item_fits, none_there}
-use Rattle.ts_json_tables.specs.TableElements.{described_shown, descrs_shown, item_shown}
-use Rattle.ts_json_tables.specs.TableReading.{read_described, read_descr, read_each, read_item}
-use Rattle.ts_json_tables.proofs.StepLemmas.{both}
+use Rattle.ts_json_tables.specs.TableReading.{read_each}
 
 -- what the laws of elements, descriptors and bits say, which are on the contracts of the crates below
 pub record Laws : Type 0 where

@@ -1,19 +1,18 @@
 -- Bytes and their bits, and how many children there are.
-use Rattle.std.proofs.Common.{◌≡◌, ℕ, ◌<◌, Bool, true, false, List, [], ◌∷◌, length, refl, sym, ap, ◌∙◌, arith, map, add-one}
-use Rattle.std.specs.Prelude.{Ok, Err, All, ◌&&◌, nat_lt, if◌then◌else◌}
-use Rattle.std.specs.List.{list_all}
+use Rattle.std.proofs.Common.{◌≡◌, ℕ, ◌<◌, Bool, true, false, List, [], ◌∷◌, length, refl, sym, ap, arith}
+use Rattle.std.specs.Prelude.{Ok, All, nat_lt}
 use Rattle.std.proofs.lemmas.Bool.{and_from, lt-ltb}
 use Rattle.std.proofs.lemmas.List.Elements.{All-head, All-tail}
 use Rattle.serde_json.specs.Data.{Data, Items}
 use Rattle.serde_json.specs.declared.value.Value.{Value}
-use Rattle.serde_json.specs.View.{items_view, items_of, view}
-use Rattle.ts_bits.specs.TaggedBody.{TaggedBody, IsDescriptor}
+use Rattle.serde_json.specs.View.{items_view, items_of}
+use Rattle.ts_bits.specs.TaggedBody.{TaggedBody}
 use Rattle.ts_fields.specs.Bits.{bits_of}
 use Rattle.ts_fields.specs.Fitting.{are_bytes}
 use Rattle.ts_jtree.specs.declared.fault.JsonKind.TheVariants.{OutOfRange}
 use Rattle.ts_jtree.specs.declared.fault.ReadRefusal.{ReadRefusal}
 use Rattle.ts_jtree.specs.Elements.{nodes_key}
-use Rattle.ts_jtree.specs.Faults.{Reading, IsRefusal, Stops, ◌>>=◌}
+use Rattle.ts_jtree.specs.Faults.{IsRefusal, Stops}
 use Rattle.ts_json_descr.specs.DescrReading.{descr_read}
 use Rattle.ts_table_rows.specs.BodySpelling.{bytes_of}
 use Rattle.ts_json_tables.specs.TableReading.{count_of, is_lawful_count, read_descr, sections_counted}

@@ -1,19 +1,17 @@
 -- Entries of 0 and the others.
-use Rattle.std.proofs.Common.{◌≡◌, ℕ, ◌+◌, ◌<◌, ◌≤◌, Bool, true, false, List, [], ◌∷◌, ◌++◌, refl, sym, ap, ◌∙◌, arith, subst}
-use Rattle.std.specs.Prelude.{◌&&◌, Option, Some, None, is_some, nat_eq, nat_lt, nat_le, if◌then◌else◌}
+use Rattle.std.proofs.Common.{◌≡◌, ℕ, ◌+◌, ◌<◌, Bool, true, false, List, [], ◌∷◌, ◌++◌, refl, sym, ap, ◌∙◌, arith}
+use Rattle.std.specs.Prelude.{◌&&◌, Option, Some, None, is_some, nat_eq, nat_lt, nat_le}
 use Rattle.std.specs.List.{list_all}
 use Rattle.std.proofs.lemmas.Bool.{and_from, leb-true, lt-ltb, ne_eqb}
 use Rattle.ts_jtree.specs.Shown.{are_within}
-use Rattle.ts_table_rows.specs.BodyReading.{first_number, is_zero}
 use Rattle.ts_table_rows.specs.TableFitting.{item_fits, items_fit, zeros_from}
 use Rattle.ts_table_rows.specs.TablePages.{ItemPage}
 use Rattle.ts_table_rows.specs.TableValues.{ItemHolding}
 use Rattle.ts_fields.specs.Fitting.{fits}
 use Rattle.ts_psi.specs.PatTables.{entry_item, is_network, network_items}
 use Rattle.ts_psi.specs.PsiPages.{entry_page}
-use Rattle.ts_json_tables.specs.LawfulTables.{items_within}
 use Rattle.ts_json_tables.specs.TableElements.{begins_with_zero, shown_items}
-use Rattle.ts_json_tables.proofs.ShowLemmas.{IsEntry, is_entry}
+use Rattle.ts_json_tables.proofs.ShowLemmas.{is_entry}
 use Rattle.ts_json_tables.proofs.StepLemmas.{both}
 
 entry_above : (id pid : ℕ) → are_within entry_page.rows (entry_item id pid).values ≡ true → nat_eq id 0 ≡ false

@@ -1,6 +1,6 @@
 -- What a table that fits its page has.
-use Rattle.std.proofs.Common.{◌≡◌, ℕ, ◌<◌, ◌≤◌, Bool, true, false, List, [], ◌∷◌, ◌++◌, refl, sym, ap, ◌∙◌}
-use Rattle.std.specs.Prelude.{◌&&◌, is_some, nat_lt}
+use Rattle.std.proofs.Common.{◌≡◌, ◌<◌, true, false}
+use Rattle.std.specs.Prelude.{is_some, nat_lt}
 use Rattle.std.proofs.lemmas.Bool.{ltb-true}
 use Rattle.ts_fields.specs.Fitting.{fits}
 use Rattle.ts_table_rows.specs.BodySpelling.{common_values, head_values}

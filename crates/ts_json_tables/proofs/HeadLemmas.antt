@@ -1,6 +1,6 @@
 -- Steps of reading the attributes of a table.
-use Rattle.std.proofs.Common.{◌≡◌, ℕ, refl, sym, ap, ◌∙◌}
-use Rattle.std.specs.Prelude.{Ok, Err, Some}
+use Rattle.std.proofs.Common.{◌≡◌, ℕ, refl}
+use Rattle.std.specs.Prelude.{Ok, Some}
 use Rattle.serde_json.specs.Data.{Members}
 use Rattle.ts_jtree.specs.declared.fault.ReadRefusal.{ReadRefusal}
 use Rattle.ts_jtree.specs.declared.fault.ReadRefusal.TheVariants.{Json, NoMemory}

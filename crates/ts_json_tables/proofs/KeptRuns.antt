@@ -1,14 +1,13 @@
 -- The sections of a run's table tell that table.
-use Rattle.std.proofs.Common.{◌≡◌, ℕ, zero, suc, ◌+◌, ◌-◌, ◌<◌, ◌≤◌, Bool, true, false, List, [], ◌∷◌, length, get_or, map, refl, sym, ap, ◌∙◌, subst, arith, ◌⊎◌, inl, inr}
-use Rattle.std.specs.Prelude.{◌&&◌, All, Option, Some, None, Result, Ok, Err, nat_le, if◌then◌else◌}
+use Rattle.std.proofs.Common.{◌≡◌, ℕ, ◌+◌, ◌-◌, ◌<◌, Bool, true, false, List, [], ◌∷◌, length, get_or, map, refl, sym, ap, ◌∙◌, subst, arith, inl, inr}
+use Rattle.std.specs.Prelude.{All, Option, Some, None, Result, Ok, Err, if◌then◌else◌}
 use Rattle.std.specs.List.{list_all}
 use Rattle.std.proofs.lemmas.List.{get_or-map, length-map}
 use Rattle.std.proofs.lemmas.List.Elements.{All-get_or}
 use Rattle.ts_fields.specs.Fitting.{are_bytes}
 use Rattle.ts_section.specs.LawfulSection.{IsSection}
-use Rattle.ts_section.specs.SectionFields.{body_of, current_of, extension_of, is_long, last_number_of, number_of, section_length_of, table_id_of, version_of}
-use Rattle.ts_section.specs.SectionRun.{AllMembers, IsMember, IsTableRun, stands_alone}
-use Rattle.ts_section.specs.WrittenSection.{IsLongSectionOf}
+use Rattle.ts_section.specs.SectionFields.{body_of, current_of, extension_of, is_long, last_number_of, number_of, table_id_of, version_of}
+use Rattle.ts_section.specs.SectionRun.{IsTableRun}
 use Rattle.ts_table_rows.specs.RunReading.{FirstBroken, read_run}
 use Rattle.ts_table_rows.specs.TablePages.{TablePage}
 use Rattle.ts_table_rows.specs.TableValues.{TableHolding}
@@ -17,13 +16,13 @@ use Rattle.ts_json_tables.specs.ElementRows.{is_eit_id}
 use Rattle.ts_json_tables.specs.HeldTables.{LongHolding, TableValue, laid, long, short}
 use Rattle.ts_json_tables.specs.KnownPages.{page_with_id}
 use Rattle.ts_json_tables.specs.LawfulTables.{IsOfBytes, IsTable}
-use Rattle.ts_json_tables.specs.RunTables.{bytes_table, long_head, long_of, long_sections, numbers_used, read_or_bytes, sections_of_table, short_of, table_by, table_of_run}
+use Rattle.ts_json_tables.specs.RunTables.{bytes_table, long_of, long_sections, numbers_used, read_or_bytes, sections_of_table, short_of, table_by, table_of_run}
 use Rattle.ts_json_tables.specs.ToldTables.{IsKept, TellsTable, laid_or_long, long_by_page, told_again}
 use Rattle.ts_json_tables.proofs.MadeBodies.{Spelled}
 use Rattle.ts_json_tables.proofs.MadeSections.{MadeLawful, long_size}
 use Rattle.ts_json_tables.proofs.OfBytesLemmas.{bodies_bytes}
 use Rattle.ts_json_tables.proofs.RunLemmas.{bytes_lawful, eit_alone, long_alone}
-use Rattle.ts_json_tables.proofs.RunsAlike.{Alike, AllAlike, alike_by, runs_alike}
+use Rattle.ts_json_tables.proofs.RunsAlike.{Alike, alike_by, runs_alike}
 use Rattle.ts_json_tables.proofs.ToldLaid.{ShortLawful, Written, laid_told, short_told}
 use Rattle.ts_json_tables.proofs.ToldLong.{LongParts, long_at, long_count, long_parts, long_told}
 

@@ -1,29 +1,27 @@
 -- Tables that are read are lawful, of a page or of bytes.
 use Rattle.std.proofs.Common.{◌≡◌, ℕ, ◌<◌, Bool, true, false, List, [], ◌∷◌, ◌++◌, length, take, drop, refl, sym, ap, ◌∙◌, arith, subst}
-use Rattle.std.specs.Prelude.{◌&&◌, Option, Some, None, Result, Ok, Err, IfOk, is_some, bytes_eq, nat_lt, if◌then◌else◌}
+use Rattle.std.specs.Prelude.{Option, Some, None, Result, Ok, Err, IfOk, bytes_eq, nat_lt, if◌then◌else◌}
 use Rattle.std.specs.List.{list_all}
 use Rattle.std.proofs.Math.Seq.{take-append_seam, drop-append_seam}
 use Rattle.std.proofs.lemmas.Bool.{and_from, lt-ltb}
-use Rattle.serde_json.specs.Data.{Data, Items, Members}
-use Rattle.ts_bits.specs.TaggedBody.{TaggedBody}
+use Rattle.serde_json.specs.Data.{Members}
 use Rattle.ts_fields.specs.Fitting.{fits}
 use Rattle.ts_fields.specs.Layout.{Held}
 use Rattle.ts_jtree.specs.declared.fault.ReadRefusal.{ReadRefusal}
 use Rattle.ts_jtree.specs.declared.fault.JsonKind.TheVariants.{UnknownKey}
 use Rattle.ts_jtree.specs.Attributes.{read_attributes}
-use Rattle.ts_jtree.specs.Elements.{keys_known, members_of, name_key, name_of, nodes_of}
+use Rattle.ts_jtree.specs.Elements.{keys_known, name_key, nodes_of}
 use Rattle.ts_jtree.specs.Faults.{Answers, Reading, or_refuse, ◌>>=◌}
-use Rattle.ts_psi.specs.PatTables.{network_items}
 use Rattle.ts_psi.specs.PsiPages.{entry_page}
 use Rattle.ts_table_rows.specs.BodySpelling.{held_count}
-use Rattle.ts_table_rows.specs.TableFitting.{body_fits, head_fits, items_fit, numbers_fit, own_fit, table_fits, values_fit, zeros_from}
+use Rattle.ts_table_rows.specs.TableFitting.{head_fits, items_fit, own_fit, values_fit}
 use Rattle.ts_table_rows.specs.TablePages.{ItemPage, TablePage, has_id}
 use Rattle.ts_table_rows.specs.TableSections.{Thing, items_in, owns_in}
-use Rattle.ts_table_rows.specs.TableValues.{ItemHolding, TableHolding}
+use Rattle.ts_table_rows.specs.TableValues.{ItemHolding}
 use Rattle.ts_json_tables.specs.declared.table.Table.{Table}
 use Rattle.ts_json_tables.specs.ElementRows.{current_row, element_rows, extension_row, long_name, network_row, short_name, version_row}
 use Rattle.ts_json_tables.specs.HeadReading.{Heading, names_network, read_extension, read_heading, read_id, read_kept, read_network, read_number, read_pid, read_truth}
-use Rattle.ts_json_tables.specs.HeldTables.{TableValue, laid, long, short, table_value}
+use Rattle.ts_json_tables.specs.HeldTables.{TableValue, laid, table_value}
 use Rattle.ts_json_tables.specs.KnownPages.{page_named}
 use Rattle.ts_json_tables.specs.LawfulTables.{IsLaid, IsTable, items_within}
 use Rattle.ts_json_tables.specs.RunTables.{settled_extension}

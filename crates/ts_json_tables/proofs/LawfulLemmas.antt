@@ -1,40 +1,32 @@
 -- Tables that are read are lawful.
-use Rattle.std.proofs.Common.{◌≡◌, ℕ, ◌+◌, ◌-◌, ◌^◌, ◌<◌, ◌≤◌, Bool, true, false, List, [], ◌∷◌, ◌++◌, length, take, drop, refl, sym, ap, ◌∙◌, arith, subst, ◌⊎◌, inl, inr}
-use Rattle.std.specs.Prelude.{option_to_list, ◌&&◌, ◌||◌, Option, Some, None, Ok, Err, is_some, nat_eq, nat_lt, nat_le, bytes_eq, codes, if◌then◌else◌}
+use Rattle.std.proofs.Common.{◌≡◌, ℕ, ◌+◌, ◌-◌, ◌<◌, Bool, true, false, List, [], ◌∷◌, ◌++◌, length, refl, sym, ap, ◌∙◌, arith, subst}
+use Rattle.std.specs.Prelude.{option_to_list, ◌&&◌, ◌||◌, Option, Some, None, Ok, nat_lt, nat_le, bytes_eq, codes, if◌then◌else◌}
 use Rattle.std.specs.List.{list_all}
-use Rattle.std.proofs.Math.Seq.{take-append_seam, drop-append_seam}
-use Rattle.std.proofs.lemmas.Bool.{and_from, cond_both, le-leb, lt-ltb, leb-true}
-use Rattle.serde_json.specs.Data.{Data, Items, no_items, item, Members}
+use Rattle.std.proofs.lemmas.Bool.{and_from, lt-ltb, leb-true}
+use Rattle.serde_json.specs.Data.{Data, Items, Members}
 use Rattle.serde_json.specs.Find.{get_member}
 use Rattle.ts_bits.specs.TaggedBody.{TaggedBody}
 use Rattle.ts_fields.specs.Fitting.{fits}
 use Rattle.ts_fields.specs.Layout.{Row, Held, number, bytes}
 use Rattle.ts_jtree.specs.declared.fault.JsonKind.TheVariants.{WrongKind}
-use Rattle.ts_jtree.specs.Attributes.{attribute_of, holds_bytes, holds_number, data_attribute, hex_attribute, number_at, number_attribute, number_in, read_attribute, read_attributes, within}
-use Rattle.ts_jtree.specs.Elements.{keys_known, members_of, name_of, named, name_key, no_children, nodes_of}
-use Rattle.ts_jtree.specs.Faults.{Reading, or_refuse, ◌>>=◌}
+use Rattle.ts_jtree.specs.Attributes.{attribute_of, holds_bytes, holds_number, data_attribute, hex_attribute, number_at, number_attribute, number_in, read_attributes, within}
+use Rattle.ts_jtree.specs.Elements.{keys_known, members_of, name_of, named, no_children, nodes_of}
+use Rattle.ts_jtree.specs.Faults.{or_refuse, ◌>>=◌}
 use Rattle.ts_jtree.specs.Numbers.{number_of}
 use Rattle.ts_jtree.specs.Shown.{are_within}
 use Rattle.ts_table_rows.specs.declared.layout.LoopForm.{LoopForm}
 use Rattle.ts_table_rows.specs.declared.layout.LoopForm.TheVariants.{Absent, Counted, ToEnd}
-use Rattle.ts_table_rows.specs.BodyReading.{first_number, is_zero}
-use Rattle.ts_table_rows.specs.BodySpelling.{common_values, head_values, held_count}
-use Rattle.ts_table_rows.specs.TableFitting.{body_fits, head_fits, item_fits, items_fit, none_there, numbers_fit, own_fit, table_fits, values_fit, zeros_from}
-use Rattle.ts_table_rows.specs.TablePages.{ItemPage, TablePage, has_id}
+use Rattle.ts_table_rows.specs.TableFitting.{item_fits, items_fit, none_there, numbers_fit, own_fit}
+use Rattle.ts_table_rows.specs.TablePages.{ItemPage, TablePage}
 use Rattle.ts_table_rows.specs.TableSections.{Thing, own_thing, item_thing, items_in, owns_in}
-use Rattle.ts_table_rows.specs.TableValues.{ItemHolding, TableHolding}
-use Rattle.ts_psi.specs.PatTables.{entry_item, network_items}
-use Rattle.ts_psi.specs.PsiPages.{entry_page}
-use Rattle.ts_json_tables.specs.ElementRows.{element_rows, extension_row, is_eit_id, last_section_number_row, long_name, long_rows, network_row, payload_row, section_name, section_number_row, section_rows, short_name, short_rows, table_id_row, version_row, current_row, private_row}
-use Rattle.ts_json_tables.specs.HeadReading.{Heading, is_eit_number, is_eit_value, only_number, names_eit, names_network, numbers_in_order, only_bytes, read_bytes, read_extension, read_heading, read_id, read_kept, read_network, read_number, read_numbers, read_pid, read_truth}
-use Rattle.ts_json_tables.specs.HeldTables.{LongHolding, ShortHolding, TableValue, laid, long, short}
-use Rattle.ts_json_tables.specs.KnownPages.{page_named}
-use Rattle.ts_json_tables.specs.LawfulTables.{IsLaid, IsTable, is_long, is_payload, is_short, items_within, numbers_kept}
-use Rattle.ts_json_tables.specs.RunTables.{settled_extension}
-use Rattle.ts_json_tables.specs.TableElements.{begins_with_zero, shown_items}
-use Rattle.ts_json_tables.specs.TableReading.{count_of, has_own, holding_of, is_lawful_count, kept_or_none, parted, read_by_name, read_child, read_described, read_descr, read_each, read_item, read_laid, read_long, read_long_head, read_named, read_own, read_section, read_short, sections_counted, table_read, with_payloads}
+use Rattle.ts_table_rows.specs.TableValues.{ItemHolding}
+use Rattle.ts_json_tables.specs.ElementRows.{extension_row, is_eit_id, last_section_number_row, long_rows, payload_row, section_name, section_number_row, section_rows, short_rows, table_id_row, version_row, current_row, private_row}
+use Rattle.ts_json_tables.specs.HeadReading.{is_eit_number, is_eit_value, only_number, names_eit, numbers_in_order, only_bytes, read_bytes, read_kept, read_number, read_numbers, read_truth}
+use Rattle.ts_json_tables.specs.HeldTables.{LongHolding, TableValue}
+use Rattle.ts_json_tables.specs.LawfulTables.{IsTable, is_long, is_payload, items_within, numbers_kept}
+use Rattle.ts_json_tables.specs.TableReading.{count_of, has_own, is_lawful_count, kept_or_none, read_child, read_described, read_descr, read_each, read_item, read_long, read_long_head, read_named, read_own, read_section, read_short, sections_counted, with_payloads}
 use Rattle.ts_json_tables.proofs.KnownLemmas.{ItemsPlain}
-use Rattle.ts_json_tables.proofs.NumberLemmas.{number_bounded, number_read, tested}
+use Rattle.ts_json_tables.proofs.NumberLemmas.{number_bounded, tested}
 use Rattle.ts_json_tables.proofs.ReadLemmas.{are_plain, each_all, each_count, read_good}
 use Rattle.ts_json_tables.proofs.RowLemmas.{read_count}
 use Rattle.ts_json_tables.proofs.StepLemmas.{both, same_ok, then_ok}

@@ -1,25 +1,23 @@
 -- The bodies of a table's sections are bytes, and leave room for the head and the CRC.
-use Rattle.std.proofs.Common.{◌≡◌, ℕ, zero, suc, ◌+◌, ◌-◌, ◌*◌, ◌/◌, ◌%◌, ◌<◌, ◌≤◌, Bool, true, false, List, [], ◌∷◌, ◌++◌, length, take, drop, map, refl, sym, ap, ◌∙◌, subst, arith, append_assoc, append-nil, length-append}
-use Rattle.std.specs.Prelude.{◌&&◌, ◌||◌, Option, Some, None, Result, Ok, Err, IsTrue, not, nat_eq, nat_le, nat_lt, if◌then◌else◌}
+use Rattle.std.proofs.Common.{◌≡◌, ℕ, zero, suc, ◌+◌, ◌-◌, ◌*◌, ◌/◌, ◌<◌, ◌≤◌, Bool, true, false, List, [], ◌∷◌, ◌++◌, length, take, drop, map, refl, ap, ◌∙◌, subst, arith, length-append}
+use Rattle.std.specs.Prelude.{Option, Some, None, Ok, nat_le, nat_lt, if◌then◌else◌}
 use Rattle.std.specs.List.{list_all, flat_map}
-use Rattle.std.proofs.lemmas.Bool.{and_from, and_parts, cond_both, le-leb, leb-true, leb-false, ltb-false}
+use Rattle.std.proofs.lemmas.Bool.{and_from, cond_both, le-leb, leb-true, ltb-false}
 use Rattle.std.proofs.lemmas.List.{length-drop, length-map}
-use Rattle.ts_bits.specs.TaggedBody.{TaggedBody, descriptor_bytes, loop_bytes}
+use Rattle.ts_bits.specs.TaggedBody.{descriptor_bytes, loop_bytes}
 use Rattle.ts_fields.specs.Bits.{bits, bits_of, number_of}
 use Rattle.ts_fields.specs.Fitting.{are_bytes}
 use Rattle.ts_fields.specs.Layout.{Held}
 use Rattle.ts_fields.specs.Reading.{read_bytes, read_number}
 use Rattle.ts_fields.specs.Spelling.{spell_rows}
-use Rattle.ts_table_rows.specs.declared.fault.TableRefusal.{TableRefusal}
 use Rattle.ts_table_rows.specs.declared.layout.LoopForm.{LoopForm}
 use Rattle.ts_table_rows.specs.declared.layout.LoopForm.TheVariants.{Absent, Counted, ToEnd}
 use Rattle.ts_table_rows.specs.BodySpelling.{body_row, bytes_of, common_values, head_values, item_row, read_row, spell_behind, spell_counted, spell_own, spell_parts}
 use Rattle.ts_table_rows.specs.Filling.{AllFit, Each, pieces, total}
-use Rattle.ts_table_rows.specs.TablePages.{ItemPage, TablePage, page_sound}
-use Rattle.ts_table_rows.specs.TableSections.{Thing, above, body_rows, empty_length, first_large, item_thing, items_in, length_with, needed_length, own_thing, owns_in, piece_body, plus, room_in, section_bodies, thing_row, thing_size, things, unless_large}
-use Rattle.ts_table_rows.specs.TableValues.{BodyHolding, ItemHolding}
+use Rattle.ts_table_rows.specs.TablePages.{ItemPage, TablePage}
+use Rattle.ts_table_rows.specs.TableSections.{Thing, above, body_rows, empty_length, first_large, item_thing, items_in, length_with, own_thing, owns_in, piece_body, plus, room_in, thing_size, things, unless_large}
+use Rattle.ts_table_rows.specs.TableValues.{BodyHolding}
 use Rattle.ts_json_tables.specs.LawfulTables.{is_payload}
-use Rattle.ts_json_tables.proofs.StepLemmas.{both}
 
 -- what the layer below ensures of numbers and bytes that are spelled and read
 pub record Spelled : Type 0 where

@@ -1,5 +1,5 @@
 -- The table of a run is of bytes.
-use Rattle.std.proofs.Common.{◌≡◌, ℕ, ◌-◌, ◌<◌, Bool, true, false, List, [], ◌∷◌, ◌++◌, length, take, drop, map, refl}
+use Rattle.std.proofs.Common.{◌≡◌, ℕ, ◌-◌, ◌<◌, Bool, true, List, [], ◌∷◌, length, take, drop, map, refl}
 use Rattle.std.specs.Prelude.{All, Option, Some, None, Result, Ok, Err, find, filter, not, option_to_list}
 use Rattle.std.specs.List.{list_all}
 use Rattle.std.proofs.lemmas.Bool.{and_from, cond_both}
@@ -13,10 +13,10 @@ use Rattle.ts_table_rows.specs.RunReading.{FirstBroken, read_run}
 use Rattle.ts_table_rows.specs.TableFitting.{DescriptorsFit}
 use Rattle.ts_table_rows.specs.TablePages.{TablePage}
 use Rattle.ts_table_rows.specs.TableValues.{ItemHolding, TableHolding}
-use Rattle.ts_json_tables.specs.HeldTables.{TableValue, long, short}
+use Rattle.ts_json_tables.specs.HeldTables.{long, short}
 use Rattle.ts_json_tables.specs.KnownPages.{page_with_id}
 use Rattle.ts_json_tables.specs.LawfulTables.{IsOfBytes}
-use Rattle.ts_json_tables.specs.RunTables.{bytes_table, long_of, read_or_bytes, settled, settled_items, short_of, table_by, table_of_run}
+use Rattle.ts_json_tables.specs.RunTables.{bytes_table, long_of, read_or_bytes, settled, short_of, table_by, table_of_run}
 use Rattle.ts_json_tables.proofs.ByteLemmas.{all_bytes}
 use Rattle.ts_json_tables.proofs.OfBytesReading.{BytesRead, run_described}
 

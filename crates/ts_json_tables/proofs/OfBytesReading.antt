@@ -1,7 +1,6 @@
 -- What a run holds as a table has descriptors alone, each with its bytes.
-use Rattle.std.proofs.Common.{◌≡◌, ℕ, zero, suc, ◌+◌, ◌<◌, ◌≤◌, ◌/◌, Bool, true, false, List, [], ◌∷◌, ◌++◌, length, refl, sym, ap, ◌∙◌, subst, arith}
-use Rattle.std.specs.Prelude.{All, Option, Some, None, Result, Ok, Err, nat_eq, nat_le, nat_lt, if◌then◌else◌, ◌&&◌}
-use Rattle.std.specs.List.{list_all}
+use Rattle.std.proofs.Common.{◌≡◌, ℕ, zero, suc, ◌+◌, ◌<◌, ◌/◌, Bool, true, false, List, [], ◌∷◌, ◌++◌, length, refl, sym, ap, ◌∙◌, subst, arith}
+use Rattle.std.specs.Prelude.{All, Option, Some, None, Result, Ok, Err, nat_eq, nat_le, nat_lt}
 use Rattle.std.proofs.lemmas.Bool.{and_parts, cond_both, ltb-true}
 use Rattle.std.proofs.lemmas.List.Elements.{All-append, All-cons, All-nil, All-weaker}
 use Rattle.std.proofs.lemmas.List.Folds.{list_all-append}
@@ -10,7 +9,6 @@ use Rattle.ts_bits.specs.DescriptorLoop.{descriptors_of}
 use Rattle.ts_bits.specs.TaggedBody.{TaggedBody, IsDescriptor, loop_bytes}
 use Rattle.ts_fields.specs.Bits.{bits_of}
 use Rattle.ts_fields.specs.Fitting.{are_bytes}
-use Rattle.ts_fields.specs.Layout.{Row, Held}
 use Rattle.ts_fields.specs.Reading as fields
 use Rattle.ts_fields.specs.Reading.{read_bytes, read_number, read_rest}
 use Rattle.ts_section.specs.SectionFields.{body_of, section_length_of}
@@ -24,7 +22,7 @@ use Rattle.ts_table_rows.specs.RunReading as run
 use Rattle.ts_table_rows.specs.RunReading.{FirstBroken, in_section, read_by, read_run, read_section, read_sections, table_head, too_many, unseen}
 use Rattle.ts_table_rows.specs.TableFitting.{DescriptorsFit}
 use Rattle.ts_table_rows.specs.TablePages.{ItemPage, TablePage, fixed_part}
-use Rattle.ts_table_rows.specs.TableValues.{BodyHolding, ItemHolding, TableHolding, joined, no_body}
+use Rattle.ts_table_rows.specs.TableValues.{BodyHolding, ItemHolding, TableHolding, joined}
 
 -- what the layers below ensure of bytes and of loops that are read
 pub record BytesRead : Type 0 where

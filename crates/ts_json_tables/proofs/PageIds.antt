@@ -1,7 +1,7 @@
 -- Each table_id is one known table's, whose sections form runs.
-use Rattle.std.proofs.Common.{◌≡◌, ℕ, ◌<◌, ◌≤◌, Bool, true, false, List, [], ◌∷◌, refl, sym, ap, ◌∙◌, subst, arith, ◌⊎◌, inl, inr}
-use Rattle.std.specs.Prelude.{◌&&◌, ◌||◌, Option, Some, None, find, bytes_eq, nat_le, if◌then◌else◌}
-use Rattle.std.proofs.lemmas.Bool.{and_from, and_right, cond-false, cond-true, le-leb, leb-true, lt-leb, or_cases, or_from}
+use Rattle.std.proofs.Common.{◌≡◌, ℕ, ◌<◌, ◌≤◌, Bool, true, false, List, [], ◌∷◌, refl, ◌∙◌, subst, arith, inl, inr}
+use Rattle.std.specs.Prelude.{◌&&◌, ◌||◌, Option, Some, find, bytes_eq, nat_le, if◌then◌else◌}
+use Rattle.std.proofs.lemmas.Bool.{and_right, cond-false, cond-true, leb-true, lt-leb, or_cases, or_from}
 use Rattle.std.proofs.lemmas.Option.{same_Some}
 use Rattle.ts_table_rows.specs.RoundTrip.{forms_runs}
 use Rattle.ts_table_rows.specs.TablePages.{TablePage, has_id}

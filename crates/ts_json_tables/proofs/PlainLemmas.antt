@@ -1,10 +1,10 @@
 -- Elements have no numbers but whole ones, and are not deep.
-use Rattle.std.proofs.Common.{◌≡◌, ℕ, suc, ◌+◌, ◌≤◌, Bool, true, false, ◌||◌, List, [], ◌∷◌, ◌++◌, map, refl, arith, ◌∙◌, sym, ap, subst, Ordering, Less, Equal, Greater}
-use Rattle.std.specs.Prelude.{Option, Some, None, max}
+use Rattle.std.proofs.Common.{◌≡◌, ℕ, suc, ◌+◌, ◌≤◌, Bool, true, false, ◌||◌, List, [], ◌∷◌, ◌++◌, map, refl, arith, Ordering, Less, Equal, Greater}
+use Rattle.std.specs.Prelude.{Option, Some, None}
 use Rattle.std.specs.Ordering.{nat_cmp, match_ordering}
 use Rattle.std.specs.Cmp.Lexicographic.{slice_cmp}
 use Rattle.std.proofs.lemmas.Bool.{or_from, or_parts}
-use Rattle.serde_json.specs.Data.{Data, boolean, number, unsigned, string, array, object, Items, no_items, item, Members, no_members, member, put, depth, items_depth, members_depth}
+use Rattle.serde_json.specs.Data.{Data, number, unsigned, string, array, object, Members, no_members, member, put, depth, members_depth}
 use Rattle.serde_json.specs.View.{items_of}
 use Rattle.serde_json.specs.Written.{has_float, items_have_float, members_have_float}
 use Rattle.ts_bits.specs.TaggedBody.{TaggedBody}
@@ -18,9 +18,9 @@ use Rattle.ts_fields.specs.Texts.{text_of}
 use Rattle.ts_jtree.specs.Elements.{name_key, nodes_key}
 use Rattle.ts_jtree.specs.Shown.{put_attribute, put_attributes, put_number, put_bytes, put_text_of, put_nodes, element_base, element_members}
 use Rattle.ts_json_descr.specs.DescrElements as descrs
-use Rattle.ts_json_descr.specs.DescrElements.{body_shown, descr_shown, generic_shown, generic_rows, generic_name, shown_by, typed}
+use Rattle.ts_json_descr.specs.DescrElements.{body_shown, descr_shown, generic_rows, generic_name, shown_by, typed}
 use Rattle.ts_table_rows.specs.TablePages.{ItemPage, TablePage}
-use Rattle.ts_table_rows.specs.TableValues.{ItemHolding, BodyHolding, TableHolding}
+use Rattle.ts_table_rows.specs.TableValues.{ItemHolding, BodyHolding}
 use Rattle.ts_json_tables.specs.HeldTables.{TableValue, laid, short, long}
 use Rattle.ts_json_tables.specs.TableElements.{children_shown, described_shown, descrs_shown, item_shown, items_shown, section_shown, shown_items, table_shown}
 use Rattle.std.specs.Prelude.{slice_get, drop}

@@ -1,6 +1,6 @@
 -- Tables that are read have descriptors that are some, and bytes below 256.
-use Rattle.std.proofs.Common.{◌≡◌, ℕ, ◌+◌, ◌-◌, ◌*◌, ◌/◌, ◌%◌, ◌^◌, ◌<◌, ◌≤◌, Bool, true, false, List, [], ◌∷◌, ◌++◌, length, refl, sym, ap, ◌∙◌, subst, arith}
-use Rattle.std.specs.Prelude.{◌&&◌, ◌==◌, All, Option, Some, None, Result, Ok, Err, bytes_eq, codes, find, nat_eq, nat_le, nat_lt, option_to_list, if◌then◌else◌}
+use Rattle.std.proofs.Common.{◌≡◌, ℕ, ◌+◌, ◌-◌, ◌*◌, ◌%◌, ◌^◌, ◌<◌, ◌≤◌, Bool, true, false, List, [], ◌∷◌, ◌++◌, length, refl, sym, ap, ◌∙◌, subst, arith}
+use Rattle.std.specs.Prelude.{◌&&◌, ◌==◌, All, Option, Some, None, Result, Ok, Err, bytes_eq, codes, find, nat_le, nat_lt, option_to_list, if◌then◌else◌}
 use Rattle.std.specs.List.{list_all}
 use Rattle.std.proofs.lemmas.Bool.{and_from, cond_both, leb-true, lt-ltb, ltb-false, ltb-true}
 use Rattle.std.proofs.lemmas.List.Elements.{All-append, All-cons, All-head, All-nil, All-tail}
@@ -11,31 +11,30 @@ use Rattle.hex.specs.Hex.{decode_of, decode_pairs, digit_or_error, hex_digit_val
 use Rattle.serde_json.specs.Data.{Data, Items, Members, item, no_items}
 use Rattle.serde_json.specs.Find.{as_str, get_member}
 use Rattle.ts_bits.specs.TaggedBody.{IsDescriptor, TaggedBody}
-use Rattle.ts_fields.specs.declared.field.Kind.TheVariants.{Hex, Number}
+use Rattle.ts_fields.specs.declared.field.Kind.TheVariants.{Hex}
 use Rattle.ts_fields.specs.Bits.{bits_of}
 use Rattle.ts_fields.specs.Bodies.{Holding, Page, spell_page}
 use Rattle.ts_fields.specs.Fitting.{are_bytes}
 use Rattle.ts_fields.specs.Layout.{Held, Row, bytes, number}
 use Rattle.ts_jtree.specs.declared.fault.JsonKind.TheVariants.{OutOfRange, UnknownKey, WrongKind}
-use Rattle.ts_jtree.specs.Attributes.{attribute_of, data_attribute, hex_at, hex_attribute, holds_bytes, holds_number, number_attribute, ok_part, read_attribute, read_attributes}
+use Rattle.ts_jtree.specs.Attributes.{attribute_of, data_attribute, hex_at, hex_attribute, holds_bytes, holds_number, number_attribute, ok_part, read_attributes}
 use Rattle.ts_jtree.specs.Elements.{keys_known, members_of, name_key, name_of, named, no_children, nodes_of}
 use Rattle.ts_jtree.specs.Faults.{Reading, at_child, or_refuse, refuse, ◌>>=◌}
 use Rattle.ts_json_descr.specs.DescrElements.{generic_name, generic_page, generic_rows}
 use Rattle.ts_json_descr.specs.DescrReading as descrs
-use Rattle.ts_json_descr.specs.DescrReading.{descr_read, read_generic, read_holding, read_typed, sized, tagged}
+use Rattle.ts_json_descr.specs.DescrReading.{descr_read, read_generic, read_holding, read_typed, tagged}
 use Rattle.ts_pages.specs.Pages as descr_pages
 use Rattle.ts_table_rows.specs.BodySpelling.{bytes_of}
-use Rattle.ts_table_rows.specs.TableFitting.{DescriptorsFit}
 use Rattle.ts_table_rows.specs.TablePages.{ItemPage, TablePage}
 use Rattle.ts_table_rows.specs.TableSections.{Thing, item_thing, items_in, own_thing, owns_in}
 use Rattle.ts_table_rows.specs.TableValues.{ItemHolding}
 use Rattle.ts_psi.specs.PatTables.{entry_item, network_items}
 use Rattle.ts_json_tables.specs.ElementRows.{element_rows, long_name, long_rows, payload_row, private_row, section_name, section_rows, short_name, short_rows, table_id_row}
-use Rattle.ts_json_tables.specs.HeadReading.{Heading, names_eit, names_network, only_bytes, read_bytes, read_heading, read_number, read_truth}
-use Rattle.ts_json_tables.specs.HeldTables.{LongHolding, TableValue, laid, long, short}
+use Rattle.ts_json_tables.specs.HeadReading.{names_eit, names_network, only_bytes, read_bytes, read_heading, read_number, read_truth}
+use Rattle.ts_json_tables.specs.HeldTables.{TableValue, laid, long}
 use Rattle.ts_json_tables.specs.KnownPages.{page_named}
 use Rattle.ts_json_tables.specs.LawfulTables.{IsOfBytes, IsTable}
-use Rattle.ts_json_tables.specs.TableReading.{has_own, holding_of, parted, read_by_name, read_child, read_descr, read_described, read_each, read_item, read_laid, read_long, read_long_head, read_named, read_own, read_section, read_short, sections_counted, table_read, with_payloads}
+use Rattle.ts_json_tables.specs.TableReading.{has_own, holding_of, parted, read_by_name, read_child, read_descr, read_described, read_each, read_item, read_laid, read_long, read_long_head, read_named, read_own, read_section, read_short, sections_counted, table_read}
 use Rattle.ts_json_tables.proofs.LawfulEnd.{name_lawful}
 use Rattle.ts_json_tables.proofs.LawfulLemmas.{data_small, first_of}
 use Rattle.ts_json_tables.proofs.MadeBodies.{Spelled, bytes_length}

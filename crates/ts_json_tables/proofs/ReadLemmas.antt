@@ -1,8 +1,8 @@
 -- What is read from an element is what its rows can hold.
-use Rattle.std.proofs.Common.{◌≡◌, ℕ, ◌+◌, ◌-◌, ◌^◌, ◌<◌, ◌≤◌, Bool, true, false, List, [], ◌∷◌, ◌++◌, length, drop, refl, sym, ap, ◌∙◌, arith, subst, ◌⊎◌, inl, inr}
-use Rattle.std.specs.Prelude.{◌&&◌, ◌||◌, Option, Some, None, Ok, Err, option_to_list, is_none, slice_get, nat_lt, nat_le, if◌then◌else◌}
+use Rattle.std.proofs.Common.{◌≡◌, ℕ, ◌+◌, ◌-◌, ◌^◌, Bool, true, false, List, [], ◌∷◌, ◌++◌, length, drop, refl, sym, ap, ◌∙◌, arith, subst, ◌⊎◌, inl, inr}
+use Rattle.std.specs.Prelude.{◌&&◌, ◌||◌, Option, Some, None, Ok, Err, option_to_list, is_none, slice_get, nat_lt, nat_le}
 use Rattle.std.specs.List.{list_all}
-use Rattle.std.proofs.lemmas.Bool.{and_from, leb-true, ltb-true, lt-ltb}
+use Rattle.std.proofs.lemmas.Bool.{and_from, ltb-true, lt-ltb}
 use Rattle.serde_json.specs.Data.{Data, Items, no_items, item, Members}
 use Rattle.serde_json.specs.Find.{get_member}
 use Rattle.ts_fields.specs.declared.field.Kind.{Kind}
@@ -10,11 +10,11 @@ use Rattle.ts_fields.specs.declared.field.Kind.TheVariants.{Number, Ones, Free, 
 use Rattle.ts_fields.specs.Fitting.{fits, field_fits}
 use Rattle.ts_fields.specs.Layout.{Row, Held, number, bytes}
 use Rattle.ts_fields.specs.Spelling.{holds}
-use Rattle.ts_jtree.specs.Attributes.{attribute_of, data_attribute, duration_attribute, flag_attribute, hex_attribute, holds_bytes, holds_number, in_range, number_at, number_attribute, number_in, read_attribute, read_attributes, start_attribute, within}
-use Rattle.ts_jtree.specs.Faults.{Reading, at_child, or_refuse, ◌>>=◌}
+use Rattle.ts_jtree.specs.Attributes.{attribute_of, duration_attribute, flag_attribute, holds_number, number_at, number_attribute, number_in, read_attribute, read_attributes, start_attribute, within}
+use Rattle.ts_jtree.specs.Faults.{Reading, at_child, or_refuse}
 use Rattle.ts_jtree.specs.Numbers.{number_of}
 use Rattle.ts_jtree.specs.Shown.{are_within, value_within}
-use Rattle.ts_json_tables.specs.HeadReading.{default_below, is_number_row, number_bound, only_bytes, only_number, read_bytes, read_number}
+use Rattle.ts_json_tables.specs.HeadReading.{default_below}
 use Rattle.ts_json_tables.specs.TableReading.{count_of, read_each}
 use Rattle.ts_json_tables.proofs.NumberLemmas.{flag_small, number_small, tested}
 use Rattle.ts_json_tables.proofs.StepLemmas.{both, child_ok, same_ok, then_ok}

@@ -1,20 +1,18 @@
 -- A table that is shown is read again.
-use Rattle.std.proofs.Common.{◌≡◌, ℕ, ◌+◌, ◌-◌, ◌<◌, ◌≤◌, Bool, true, false, List, [], ◌∷◌, ◌++◌, length, take, drop, refl, sym, ap, ◌∙◌, map, arith, subst}
-use Rattle.std.specs.Prelude.{◌&&◌, ◌||◌, All, Option, Some, None, Ok, Err, codes, is_some, bytes_eq, nat_eq, nat_le, nat_lt, if◌then◌else◌}
+use Rattle.std.proofs.Common.{◌≡◌, ℕ, ◌+◌, ◌-◌, ◌<◌, Bool, true, false, List, [], ◌∷◌, ◌++◌, length, drop, refl, sym, ap, ◌∙◌, map, arith}
+use Rattle.std.specs.Prelude.{All, Option, Some, None, Ok, codes, is_some, nat_eq, nat_lt, if◌then◌else◌}
 use Rattle.std.specs.List.{list_all}
-use Rattle.std.proofs.lemmas.Bool.{and_from, eqb-true, leb-true, le-leb, lt-ltb, ltb-true}
+use Rattle.std.proofs.lemmas.Bool.{eqb-true, le-leb, lt-ltb, ltb-true}
 use Rattle.std.proofs.lemmas.List.{length-map, take-append-drop}
 use Rattle.std.proofs.lemmas.List.Elements.{All-drop}
-use Rattle.serde_json.specs.Data.{Data, Items, Members, array, object}
+use Rattle.serde_json.specs.Data.{Members, array}
 use Rattle.serde_json.specs.Find.{get_member}
 use Rattle.serde_json.specs.View.{items_of}
 use Rattle.ts_bits.specs.TaggedBody.{TaggedBody, IsDescriptor}
 use Rattle.ts_fields.specs.Fitting.{are_bytes, fits}
-use Rattle.ts_fields.specs.Layout.{Row, Held, number, bytes}
+use Rattle.ts_fields.specs.Layout.{Held, number, bytes}
 use Rattle.ts_jtree.specs.Attributes.{read_attributes}
-use Rattle.ts_jtree.specs.Elements.{keys_known, name_of, nodes_key, nodes_of, no_children}
-use Rattle.ts_jtree.specs.Faults.{Reading, ◌>>=◌}
-use Rattle.ts_jtree.specs.Numbers.{truth_bit}
+use Rattle.ts_jtree.specs.Elements.{keys_known, nodes_key, nodes_of, no_children}
 use Rattle.ts_jtree.specs.Shown.{are_within, element_members, rows_show}
 use Rattle.ts_table_rows.specs.declared.layout.LoopForm.{LoopForm}
 use Rattle.ts_table_rows.specs.declared.layout.LoopForm.TheVariants.{Absent, Counted, ToEnd}
@@ -23,16 +21,16 @@ use Rattle.ts_table_rows.specs.TableFitting.{DescriptorsFit, item_fits, items_fi
 use Rattle.ts_table_rows.specs.TablePages.{ItemPage, TablePage}
 use Rattle.ts_table_rows.specs.TableValues.{ItemHolding, TableHolding}
 use Rattle.ts_json_tables.specs.ElementRows.{current_row, element_rows, extension_row, extension_rows, first_rows, id_rows, network_key, is_eit_id, kept_rows, long_name, long_rows, network_rows, payload_row, private_row, section_name, section_rows, short_name, short_rows, table_id_row, version_row}
-use Rattle.ts_json_tables.specs.HeadReading.{Heading, names_eit, names_network, only_bytes, read_bytes, read_heading, read_network}
+use Rattle.ts_json_tables.specs.HeadReading.{names_eit, names_network, read_bytes, read_heading, read_network}
 use Rattle.ts_json_tables.specs.HeldTables.{LongHolding, ShortHolding, TableValue, laid, long, short}
-use Rattle.ts_json_tables.specs.LawfulTables.{IsLaid, IsOfBytes, IsTable, is_payload, is_short, items_within, numbers_kept}
+use Rattle.ts_json_tables.specs.LawfulTables.{IsLaid, IsOfBytes, IsTable, is_payload, is_short, numbers_kept}
 use Rattle.ts_json_tables.specs.LawfulTables as lawful
-use Rattle.ts_json_tables.specs.TableElements.{begins_with_zero, children_shown, element_values, extension_values, first_values, id_values, kept_values, laid_shown, long_shown, long_values, network_values, section_shown, short_shown, short_values, shown_items, table_shown, truth}
-use Rattle.ts_json_tables.specs.TableReading.{has_own, holding_of, is_lawful_count, kept_or_none, parted, read_by_name, read_child, read_each, read_laid, read_long, read_long_head, read_section, read_short, sections_counted, table_read, with_payloads}
-use Rattle.ts_json_tables.proofs.AgainLemmas.{AllRead, Laws, each_read, self_name}
+use Rattle.ts_json_tables.specs.TableElements.{begins_with_zero, children_shown, element_values, extension_values, first_values, id_values, kept_values, long_values, network_values, section_shown, short_values, shown_items, table_shown, truth}
+use Rattle.ts_json_tables.specs.TableReading.{has_own, is_lawful_count, kept_or_none, read_laid, read_long, read_long_head, read_section, read_short, sections_counted, table_read, with_payloads}
+use Rattle.ts_json_tables.proofs.AgainLemmas.{AllRead, Laws, each_read}
 use Rattle.ts_json_tables.proofs.ByteLemmas.{count_list}
 use Rattle.ts_json_tables.proofs.EntryLemmas.{begins_not}
-use Rattle.ts_json_tables.proofs.FitLemmas.{Parts, fit_parts}
+use Rattle.ts_json_tables.proofs.FitLemmas.{fit_parts}
 use Rattle.ts_json_tables.proofs.KnownLemmas.{Facts, named_facts}
 use Rattle.ts_json_tables.proofs.LawfulLemmas.{eit_same}
 use Rattle.ts_json_tables.proofs.RangeLemmas.{element_within}
@@ -40,8 +38,8 @@ use Rattle.ts_json_tables.proofs.RoundHead.{Network, extension_again, key_absent
 use Rattle.ts_json_tables.proofs.RoundLemmas.{children_again}
 use Rattle.ts_json_tables.proofs.RowLemmas.{fits_count, plain, plain_within, split_read}
 use Rattle.ts_json_tables.proofs.SectionLemmas.{LongFacts, long_facts}
-use Rattle.ts_json_tables.proofs.ShowLemmas.{element_fits, extension_fit, first_fit, id_fit, kept_fit, truth_small}
-use Rattle.ts_json_tables.proofs.StepLemmas.{both, same_ok, then_ok}
+use Rattle.ts_json_tables.proofs.ShowLemmas.{element_fits, first_fit, id_fit, kept_fit, truth_small}
+use Rattle.ts_json_tables.proofs.StepLemmas.{both}
 use Rattle.ts_json_tables.proofs.TruthLemmas.{number_again, truth_read}
 
 -- ---- attributes of a table of a page

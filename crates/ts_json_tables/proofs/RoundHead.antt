@@ -1,8 +1,7 @@
 -- A table that is shown is read again: its attributes.
-use Rattle.std.proofs.Common.{◌≡◌, ℕ, ◌+◌, ◌<◌, ◌≤◌, Bool, true, false, List, [], ◌∷◌, ◌++◌, length, take, drop, refl, sym, ap, ◌∙◌, arith, subst}
-use Rattle.std.specs.Prelude.{◌&&◌, ◌||◌, Option, Some, None, Ok, Err, is_some, bytes_eq, nat_eq, nat_le, nat_lt, if◌then◌else◌}
+use Rattle.std.proofs.Common.{◌≡◌, ℕ, ◌+◌, Bool, true, false, List, [], ◌∷◌, ◌++◌, refl, sym, ap, ◌∙◌, subst}
+use Rattle.std.specs.Prelude.{Option, Some, None, Ok, is_some, bytes_eq, nat_le, nat_lt, if◌then◌else◌}
 use Rattle.std.proofs.lemmas.Bool.{eqb-true}
-use Rattle.std.proofs.lemmas.List.{take-append-drop}
 use Rattle.std.proofs.lemmas.Map.Text.{is_eq-slice_cmp}
 use Rattle.std.specs.Ordering.{is_eq, match_ordering, nat_cmp}
 use Rattle.std.specs.Cmp.Lexicographic.{slice_cmp}
@@ -11,29 +10,24 @@ use Rattle.std.specs.declared.cmp.Ordering.TheVariants.{Less, Equal, Greater}
 use Rattle.std.proofs.lemmas.Slice.Eq.{bytes_eq-Decides}
 use Rattle.serde_json.specs.Data.{Data, Members, no_members, member}
 use Rattle.serde_json.specs.Find.{get_member}
-use Rattle.ts_fields.specs.Fitting.{fits}
-use Rattle.ts_fields.specs.Layout.{Row, Held, number, bytes}
+use Rattle.ts_fields.specs.Layout.{Row, Held, number}
 use Rattle.ts_jtree.specs.declared.fault.JsonKind.TheVariants.{UnknownKey}
-use Rattle.ts_jtree.specs.Attributes.{attribute_of, holds_number, number_at, number_attribute, read_attribute, read_attributes}
+use Rattle.ts_jtree.specs.Attributes.{attribute_of, holds_number, number_at, number_attribute, read_attributes}
 use Rattle.ts_jtree.specs.Elements.{is_known, keys_known}
-use Rattle.ts_jtree.specs.Faults.{Reading, refuse, ◌>>=◌}
+use Rattle.ts_jtree.specs.Faults.{refuse}
 use Rattle.ts_psi.specs.PatTables.{entry_item, network_items}
 use Rattle.ts_psi.specs.PsiPages.{entry_page}
 use Rattle.ts_table_rows.specs.BodyReading.{first_number, is_zero}
-use Rattle.ts_table_rows.specs.BodySpelling.{common_values, head_values, held_count}
 use Rattle.ts_table_rows.specs.TableFitting.{item_fits, items_fit, numbers_fit}
-use Rattle.ts_table_rows.specs.TablePages.{ItemPage, TablePage}
-use Rattle.ts_table_rows.specs.TableValues.{ItemHolding, TableHolding}
-use Rattle.ts_json_tables.specs.ElementRows.{current_row, element_rows, extension_row, extension_rows, first_rows, id_rows, kept_rows, last_section_number_row, network_key, network_row, network_rows, section_number_row, version_row}
-use Rattle.ts_json_tables.specs.HeadReading.{Heading, names_network, numbers_in_order, only_number, read_extension, read_heading, read_id, read_kept, read_network, read_number, read_numbers, read_pid}
-use Rattle.ts_json_tables.specs.LawfulTables.{IsLaid}
+use Rattle.ts_table_rows.specs.TablePages.{ItemPage}
+use Rattle.ts_table_rows.specs.TableValues.{ItemHolding}
+use Rattle.ts_json_tables.specs.ElementRows.{extension_row, extension_rows, kept_rows, last_section_number_row, network_key, network_row, network_rows, section_number_row}
+use Rattle.ts_json_tables.specs.HeadReading.{read_extension, read_kept, read_network, read_numbers, read_pid}
 use Rattle.ts_json_tables.specs.RunTables.{settled_extension}
-use Rattle.ts_json_tables.specs.TableElements.{begins_with_zero, element_values, extension_values, first_values, id_values, kept_values, network_values, shown_items}
-use Rattle.ts_json_tables.proofs.FitLemmas.{Parts, fit_parts}
-use Rattle.ts_json_tables.proofs.KnownLemmas.{Facts}
-use Rattle.ts_json_tables.proofs.RowLemmas.{fits_count, split_read}
-use Rattle.ts_json_tables.proofs.ShowLemmas.{IsEntry, extension_fit, id_fit, is_entry, kept_fit}
-use Rattle.ts_json_tables.proofs.StepLemmas.{both, same_ok, then_ok}
+use Rattle.ts_json_tables.specs.TableElements.{begins_with_zero, extension_values, kept_values, network_values, shown_items}
+use Rattle.ts_json_tables.proofs.RowLemmas.{split_read}
+use Rattle.ts_json_tables.proofs.ShowLemmas.{IsEntry, is_entry}
+use Rattle.ts_json_tables.proofs.StepLemmas.{both, then_ok}
 use Rattle.ts_json_tables.proofs.TruthLemmas.{number_again}
 
 -- ---- keys

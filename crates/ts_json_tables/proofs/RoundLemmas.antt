@@ -1,15 +1,14 @@
 -- A table that is shown is read again: its children.
-use Rattle.std.proofs.Common.{◌≡◌, ℕ, ◌<◌, ◌≤◌, Bool, true, false, List, [], ◌∷◌, ◌++◌, length, refl, sym, ap, ◌∙◌, map, subst}
-use Rattle.std.specs.Prelude.{◌&&◌, ◌||◌, All, Option, Some, None, Ok, Err, bytes_eq, if◌then◌else◌}
+use Rattle.std.proofs.Common.{◌≡◌, ℕ, Bool, true, false, List, [], ◌∷◌, ◌++◌, refl, ap, ◌∙◌, map, subst}
+use Rattle.std.specs.Prelude.{◌||◌, All, Option, Some, None, Ok, Err, bytes_eq, if◌then◌else◌}
 use Rattle.std.specs.List.{list_all}
 use Rattle.std.proofs.lemmas.List.Elements.{All-head, All-tail}
 use Rattle.std.proofs.lemmas.Slice.Eq.{bytes_eq-Decides}
-use Rattle.serde_json.specs.Data.{Data, Items, Members, object}
+use Rattle.serde_json.specs.Data.{Data, Members, object}
 use Rattle.serde_json.specs.View.{items_of}
 use Rattle.ts_bits.specs.TaggedBody.{TaggedBody, IsDescriptor}
 use Rattle.ts_fields.specs.Bits.{bits_of}
 use Rattle.ts_fields.specs.Fitting.{fits}
-use Rattle.ts_fields.specs.Layout.{Held}
 use Rattle.ts_jtree.specs.declared.fault.JsonKind.TheVariants.{UnknownKey}
 use Rattle.ts_jtree.specs.Elements.{members_of, name_key, name_of, nodes_at, nodes_of, no_children}
 use Rattle.ts_jtree.specs.Faults.{Reading, or_refuse, ◌>>=◌}
@@ -19,14 +18,14 @@ use Rattle.ts_json_descr.specs.DescrElements.{descr_shown, generic_name}
 use Rattle.ts_json_descr.specs.DescrReading.{descr_read, read_generic, read_typed}
 use Rattle.ts_table_rows.specs.TableFitting.{item_fits, items_fit, none_there}
 use Rattle.ts_table_rows.specs.TablePages.{ItemPage, TablePage}
-use Rattle.ts_table_rows.specs.TableSections.{Thing, own_thing, item_thing, items_in, owns_in}
-use Rattle.ts_table_rows.specs.TableValues.{BodyHolding, ItemHolding}
+use Rattle.ts_table_rows.specs.TableSections.{own_thing, item_thing, items_in, owns_in}
+use Rattle.ts_table_rows.specs.TableValues.{ItemHolding}
 use Rattle.ts_json_tables.specs.LawfulTables.{items_within}
 use Rattle.ts_json_tables.specs.TableElements.{described_shown, descrs_shown, item_shown, items_shown}
 use Rattle.ts_json_tables.specs.TableReading.{has_own, parted, read_child, read_described, read_descr, read_each, read_item, read_named, read_own}
 use Rattle.ts_json_tables.proofs.AgainLemmas.{AllRead, Laws, all_append, each_read, self_name}
 use Rattle.ts_json_tables.proofs.ByteLemmas.{all_bytes, descr_told}
-use Rattle.ts_json_tables.proofs.KnownLemmas.{ItemFacts, ItemsFacts}
+use Rattle.ts_json_tables.proofs.KnownLemmas.{ItemsFacts}
 use Rattle.ts_json_tables.proofs.StepLemmas.{both, then_ok}
 
 -- ---- descriptors

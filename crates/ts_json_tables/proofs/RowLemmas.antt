@@ -1,6 +1,6 @@
 -- Rows one after another, and the values that they hold.
-use Rattle.std.proofs.Common.{◌≡◌, ℕ, ◌+◌, ◌^◌, ◌-◌, ◌<◌, ◌≤◌, Bool, true, false, List, [], ◌∷◌, ◌++◌, length, drop, refl, sym, ap, ◌∙◌, arith, subst, ◌⊎◌, inl, inr, ⊎_elim, length-append}
-use Rattle.std.specs.Prelude.{◌&&◌, Option, Some, None, Ok, Err, option_to_list, slice_get, is_none, nat_lt, nat_le}
+use Rattle.std.proofs.Common.{◌≡◌, ℕ, ◌+◌, ◌-◌, Bool, true, false, List, [], ◌∷◌, ◌++◌, length, drop, refl, sym, ap, ◌∙◌, arith, ◌⊎◌, inl, inr, length-append}
+use Rattle.std.specs.Prelude.{◌&&◌, Option, Some, None, Ok, Err, option_to_list, slice_get, is_none}
 use Rattle.std.specs.List.{list_all}
 use Rattle.serde_json.specs.Data.{Members}
 use Rattle.ts_fields.specs.declared.field.Kind.{Kind}
@@ -9,7 +9,7 @@ use Rattle.ts_fields.specs.Fitting.{fits, field_fits}
 use Rattle.ts_fields.specs.Layout.{Row, Held, number, bytes}
 use Rattle.ts_fields.specs.Spelling.{holds}
 use Rattle.ts_jtree.specs.Attributes.{attribute_of, read_attribute, read_attributes, holds_bytes, holds_number}
-use Rattle.ts_jtree.specs.Faults.{Reading, ◌>>=◌}
+use Rattle.ts_jtree.specs.Faults.{Reading}
 use Rattle.ts_jtree.specs.Shown.{are_within, value_within}
 use Rattle.ts_table_rows.specs.BodySpelling.{held_count}
 use Rattle.ts_json_tables.proofs.StepLemmas.{both, then_ok, same_ok}

@@ -1,38 +1,36 @@
 -- The table of a run is lawful.
-use Rattle.std.proofs.Common.{◌≡◌, ℕ, zero, suc, ◌+◌, ◌-◌, ◌^◌, ◌<◌, ◌≤◌, Bool, true, false, List, [], ◌∷◌, ◌++◌, length, take, drop, get_or, map, refl, sym, ap, ◌∙◌, arith, subst, ◌⊎◌, inl, inr}
-use Rattle.std.specs.Prelude.{◌&&◌, ◌||◌, All, Option, Some, None, Result, Ok, Err, IfOk, EachIndex, slice_index_or, find, filter, option_to_list, is_some, not, nat_eq, nat_lt, nat_le, if◌then◌else◌}
+use Rattle.std.proofs.Common.{◌≡◌, ℕ, zero, suc, ◌+◌, ◌-◌, ◌<◌, ◌≤◌, Bool, true, false, List, [], ◌∷◌, ◌++◌, length, take, drop, get_or, map, refl, sym, ap, ◌∙◌, arith, subst, inl, inr}
+use Rattle.std.specs.Prelude.{◌&&◌, ◌||◌, All, Option, Some, None, Result, Ok, Err, IfOk, find, filter, option_to_list, is_some, not, nat_eq, nat_lt, nat_le, if◌then◌else◌}
 use Rattle.std.specs.declared.alloc.AllocError.{AllocError}
 use Rattle.std.specs.List.{list_all}
-use Rattle.std.proofs.lemmas.Bool.{and_from, eq-eqb, eqb-true, le-leb, lt-ltb, ltb-true, ne_eqb}
+use Rattle.std.proofs.lemmas.Bool.{and_from, eqb-true, le-leb, lt-ltb}
 use Rattle.std.proofs.lemmas.List.{length-drop, length-map, length-take-le}
 use Rattle.std.proofs.lemmas.List.Elements.{All-get_or, All-head}
 use Rattle.bit_rows.proofs.Fields.{field-below}
 use Rattle.ts_jtree.specs.Shown.{are_within}
 use Rattle.ts_section.specs.LawfulSection.{IsSection}
-use Rattle.ts_section.specs.SectionFields.{body_of, extension_of, is_long, last_number_of, number_of, section_length_of, table_id_of, version_of}
-use Rattle.ts_section.specs.SectionRun.{AllMembers, IsMember, IsTableRun, stands_alone}
+use Rattle.ts_section.specs.SectionFields.{body_of, extension_of, is_long, last_number_of, number_of, table_id_of, version_of}
+use Rattle.ts_section.specs.SectionRun.{IsTableRun, stands_alone}
 use Rattle.ts_fields.specs.Fitting.{fits}
-use Rattle.ts_psi.specs.PatTables.{entry_item, is_network, network_items, ordered}
+use Rattle.ts_psi.specs.PatTables.{entry_item, is_network, network_items}
 use Rattle.ts_psi.specs.PsiPages.{entry_page}
-use Rattle.ts_table_rows.specs.RunReading.{FirstBroken, read_run}
-use Rattle.ts_table_rows.specs.TableFitting.{body_fits, head_fits, item_fits, items_fit, numbers_fit, own_fit, table_fits, values_fit, zeros_from}
+use Rattle.ts_table_rows.specs.TableFitting.{head_fits, item_fits, items_fit, own_fit, table_fits, values_fit, zeros_from}
 use Rattle.ts_table_rows.specs.TablePages.{ItemPage, TablePage, has_id}
 use Rattle.ts_table_rows.specs.TableValues.{ItemHolding, TableHolding}
 use Rattle.ts_json_tables.specs.declared.table.Table.{Table}
 use Rattle.ts_json_tables.specs.ElementRows.{is_eit_id}
-use Rattle.ts_json_tables.specs.HeldTables.{TableValue, laid, long, short, table_value}
-use Rattle.ts_json_tables.specs.KnownPages.{page_with_id}
+use Rattle.ts_json_tables.specs.HeldTables.{TableValue, long, short, table_value}
 use Rattle.ts_json_tables.specs.LawfulTables.{IsLaid, IsTable, is_payload, items_within, numbers_kept}
 use Rattle.ts_json_tables.specs.LawfulTables as lawful
-use Rattle.ts_json_tables.specs.RunTables.{bytes_table, kept_numbers, long_of, read_or_bytes, settled, settled_extension, settled_items, short_of, table_by}
+use Rattle.ts_json_tables.specs.RunTables.{bytes_table, kept_numbers, long_of, settled, settled_extension, settled_items, short_of}
 use Rattle.ts_json_tables.specs.TableElements.{shown_items}
 use Rattle.ts_json_tables.specs.TableReading.{is_lawful_count}
-use Rattle.ts_json_tables.proofs.EntryLemmas.{Settled, begins_not, settled_free, settled_none, settled_some}
-use Rattle.ts_json_tables.proofs.FitLemmas.{Parts, fit_parts}
-use Rattle.ts_json_tables.proofs.KnownLemmas.{Facts, ItemsBare, id_facts}
-use Rattle.ts_json_tables.proofs.RowLemmas.{plain, plain_within}
-use Rattle.ts_json_tables.proofs.ShowLemmas.{IsEntry, is_entry}
-use Rattle.ts_json_tables.proofs.StepLemmas.{both, not_true}
+use Rattle.ts_json_tables.proofs.EntryLemmas.{Settled, begins_not, settled_none, settled_some}
+use Rattle.ts_json_tables.proofs.FitLemmas.{fit_parts}
+use Rattle.ts_json_tables.proofs.KnownLemmas.{Facts, ItemsBare}
+use Rattle.ts_json_tables.proofs.RowLemmas.{plain_within}
+use Rattle.ts_json_tables.proofs.ShowLemmas.{is_entry}
+use Rattle.ts_json_tables.proofs.StepLemmas.{both}
 
 -- ---- bytes
 

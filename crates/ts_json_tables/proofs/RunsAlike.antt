@@ -1,14 +1,14 @@
 -- Runs that differ in bits that no table holds are read alike.
-use Rattle.std.proofs.Common.{◌≡◌, ℕ, zero, suc, ◌+◌, ◌<◌, ◌≤◌, Bool, true, false, List, [], ◌∷◌, length, get_or, refl, sym, ap, ◌∙◌, subst, arith}
+use Rattle.std.proofs.Common.{◌≡◌, ℕ, suc, ◌+◌, ◌<◌, Bool, List, [], ◌∷◌, length, get_or, refl, ap, ◌∙◌, arith}
 use Rattle.std.specs.Prelude.{◌&&◌, Option, Some, None, Result, Ok, Err, nat_lt, if◌then◌else◌}
 use Rattle.ts_fields.specs.Bits.{bits_of}
 use Rattle.ts_section.specs.SectionFields.{body_of, current_of, extension_of, is_long, last_number_of, number_of, section_length_of, table_id_of, version_of}
 use Rattle.ts_table_rows.specs.declared.table.TableHead.{TableHead}
 use Rattle.ts_table_rows.specs.BodyReading.{Seen, read_body}
 use Rattle.ts_table_rows.specs.RunReading as runs
-use Rattle.ts_table_rows.specs.RunReading.{FirstBroken, broken_at, in_section, is_of, kept_head, read_by, read_run, read_section, read_sections, table_head, too_many, unseen}
+use Rattle.ts_table_rows.specs.RunReading.{FirstBroken, broken_at, in_section, is_of, kept_head, read_by, read_run, read_section, read_sections, table_head, unseen}
 use Rattle.ts_table_rows.specs.TablePages.{TablePage, has_id}
-use Rattle.ts_table_rows.specs.TableValues.{BodyHolding, TableHolding, joined}
+use Rattle.ts_table_rows.specs.TableValues.{BodyHolding, joined}
 use Rattle.ts_table_rows.specs.declared.fault.TableRule.TheVariants.{Sections, TooLong}
 
 -- what a table holds of a section is the same in another

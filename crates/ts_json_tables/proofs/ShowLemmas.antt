@@ -1,5 +1,5 @@
 -- Elements as they are put together.
-use Rattle.std.proofs.Common.{◌≡◌, ℕ, ◌<◌, ◌^◌, Bool, true, false, List, [], ◌∷◌, ◌++◌, refl, sym, ap, ◌∙◌, arith, subst, map, drop}
+use Rattle.std.proofs.Common.{◌≡◌, ℕ, ◌<◌, ◌^◌, Bool, true, false, List, [], ◌∷◌, refl, ap, ◌∙◌, arith, drop}
 use Rattle.std.specs.Prelude.{◌&&◌, Option, Some, None, nat_lt, nat_le, nat_eq, if◌then◌else◌}
 use Rattle.std.proofs.lemmas.Bool.{and_from, lt-ltb, ltb-true, leb-true}
 use Rattle.serde_json.specs.Data.{Members, object}
@@ -19,7 +19,7 @@ use Rattle.ts_json_tables.specs.HeldTables.{LongHolding, ShortHolding}
 use Rattle.ts_json_tables.specs.LawfulTables.{IsLaid}
 use Rattle.ts_json_tables.specs.TableElements.{begins_with_zero, element_values, extension_values, first_values, id_values, kept_values, long_values, network_values, short_values}
 use Rattle.ts_json_tables.proofs.FitLemmas.{Parts, fit_parts}
-use Rattle.ts_json_tables.proofs.KnownLemmas.{Facts, named_facts}
+use Rattle.ts_json_tables.proofs.KnownLemmas.{named_facts}
 use Rattle.ts_json_tables.proofs.RowLemmas.{fits_append}
 use Rattle.ts_json_tables.proofs.StepLemmas.{both}
 

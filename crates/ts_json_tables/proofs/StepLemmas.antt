@@ -1,5 +1,5 @@
 -- Reading that went on, and tests.
-use Rattle.std.proofs.Common.{◌≡◌, ◌≤◌, ℕ, Bool, true, false, refl, sym, ap, arith}
+use Rattle.std.proofs.Common.{◌≡◌, ℕ, Bool, true, false, refl, sym, ap}
 use Rattle.std.specs.Prelude.{◌&&◌, not, Ok, Err, List}
 use Rattle.ts_jtree.specs.declared.fault.JsonKind.{JsonKind}
 use Rattle.ts_jtree.specs.declared.fault.ReadRefusal.{ReadRefusal}

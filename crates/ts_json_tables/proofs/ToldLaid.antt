@@ -1,14 +1,12 @@
 -- The sections of a table of a page tell it, and so does the section of the short form.
-use Rattle.std.proofs.Common.{◌≡◌, ℕ, ◌+◌, ◌-◌, ◌<◌, ◌≤◌, Bool, true, false, List, [], ◌∷◌, ◌++◌, length, drop, map, refl, sym, ap, ◌∙◌, subst, arith, inl}
-use Rattle.std.specs.Prelude.{◌&&◌, All, IsTrue, Option, Some, None, Result, Ok, Err, filter, find, not, nat_le, nat_lt, option_to_list, if◌then◌else◌}
+use Rattle.std.proofs.Common.{◌≡◌, ℕ, ◌+◌, ◌-◌, ◌<◌, ◌≤◌, Bool, true, false, List, [], ◌∷◌, ◌++◌, length, drop, refl, sym, ap, ◌∙◌, subst, arith, inl}
+use Rattle.std.specs.Prelude.{All, IsTrue, Option, Some, None, Result, Ok, Err, filter, find, not, nat_le, nat_lt, option_to_list, if◌then◌else◌}
 use Rattle.std.specs.List.{list_all}
 use Rattle.std.proofs.lemmas.Bool.{cond_both, leb-true, ltb-false, ltb-true}
 use Rattle.std.proofs.lemmas.List.Elements.{All-cons, All-nil}
 use Rattle.ts_fields.specs.Fitting.{are_bytes}
-use Rattle.ts_fields.specs.Bits.{bits, bits_of}
-use Rattle.ts_section.specs.declared.long_head.LongHead.{LongHead}
 use Rattle.ts_section.specs.LawfulSection.{IsSection}
-use Rattle.ts_section.specs.SectionFields.{body_of, is_long, private_of, table_id_of}
+use Rattle.ts_section.specs.SectionFields.{is_long, table_id_of}
 use Rattle.ts_section.specs.SectionRun.{IsTableRun, stands_alone}
 use Rattle.ts_section.specs.WrittenSection.{IsShortSectionOf, short_section}
 use Rattle.ts_jtree.specs.Shown.{are_within}
@@ -19,21 +17,21 @@ use Rattle.ts_table_rows.specs.declared.fault.TableRule.TheVariants.{WrongTable}
 use Rattle.ts_table_rows.specs.declared.table.TableHead.{TableHead}
 use Rattle.ts_table_rows.specs.RoundTrip.{IsReadAgain, IsWrittenWhole, forms_runs}
 use Rattle.ts_table_rows.specs.RunReading as runs
-use Rattle.ts_table_rows.specs.RunReading.{FirstBroken, broken_at, is_of, kept_head, read_by, read_run, read_sections, table_head, too_many, unseen}
+use Rattle.ts_table_rows.specs.RunReading.{FirstBroken, broken_at, is_of, kept_head, read_by, read_run, read_sections, too_many, unseen}
 use Rattle.ts_table_rows.specs.TableFitting.{DescriptorsFit, item_fits, items_fit, numbers_fit, table_fits}
-use Rattle.ts_table_rows.specs.TablePages.{ItemPage, TablePage, has_id, page_sound}
+use Rattle.ts_table_rows.specs.TablePages.{ItemPage, TablePage, page_sound}
 use Rattle.ts_table_rows.specs.TableSections as writing
 use Rattle.ts_table_rows.specs.TableSections.{body_rows, head_with, numbers_of, sections_of, sections_with}
 use Rattle.ts_table_rows.specs.TableValues.{BodyHolding, ItemHolding, TableHolding}
-use Rattle.ts_json_tables.specs.HeldTables.{ShortHolding, TableValue, laid, long, short}
+use Rattle.ts_json_tables.specs.HeldTables.{ShortHolding, laid, long, short}
 use Rattle.ts_json_tables.specs.KnownPages.{page_with_id}
 use Rattle.ts_json_tables.specs.LawfulTables.{IsLaid, is_payload, is_short, items_within}
-use Rattle.ts_json_tables.specs.RunTables.{bytes_table, long_of, read_or_bytes, settled, settled_extension, settled_items, short_of, table_by, table_of_run}
-use Rattle.ts_json_tables.specs.TableElements.{begins_with_zero, shown_items}
+use Rattle.ts_json_tables.specs.RunTables.{bytes_table, long_of, read_or_bytes, settled, settled_items, short_of, table_by, table_of_run}
+use Rattle.ts_json_tables.specs.TableElements.{shown_items}
 use Rattle.ts_json_tables.specs.ToldTables.{TellsTable}
 use Rattle.ts_json_tables.proofs.EntryLemmas.{not_zero}
 use Rattle.ts_json_tables.proofs.FitLemmas.{Parts, fit_parts}
-use Rattle.ts_json_tables.proofs.KnownLemmas.{Facts, named_facts}
+use Rattle.ts_json_tables.proofs.KnownLemmas.{named_facts}
 use Rattle.ts_json_tables.proofs.MadeBodies.{AreBodies, Spelled, bodies_are}
 use Rattle.ts_json_tables.proofs.MadeSections.{AreHeads, MadeLawful, all_made, made_by, rows_made, small_bytes}
 use Rattle.ts_json_tables.proofs.PageIds.{IdFacts, named_ids}

@@ -1,29 +1,25 @@
 -- The sections of a table of bytes tell it, and are read as those that it is of.
-use Rattle.std.proofs.Common.{◌≡◌, ℕ, zero, suc, ◌+◌, ◌-◌, ◌<◌, ◌≤◌, Bool, true, false, List, [], ◌∷◌, length, get_or, map, refl, sym, ap, ◌∙◌, subst, arith, ◌⊎◌, inl, inr}
-use Rattle.std.specs.Prelude.{◌&&◌, ◌||◌, All, Option, Some, None, Result, Ok, Err, not, nat_eq, nat_le, nat_lt, if◌then◌else◌}
+use Rattle.std.proofs.Common.{◌≡◌, ℕ, suc, ◌+◌, ◌-◌, ◌<◌, Bool, true, false, List, [], ◌∷◌, length, get_or, map, refl, sym, ap, ◌∙◌, subst, arith, inl, inr}
+use Rattle.std.specs.Prelude.{All, Option, Some, None, Result, Ok, Err, nat_eq, nat_le, nat_lt, if◌then◌else◌}
 use Rattle.std.specs.List.{list_all}
 use Rattle.std.proofs.lemmas.Bool.{eqb-true, leb-true, ltb-true}
-use Rattle.std.proofs.lemmas.List.{get_or-map, length-map}
-use Rattle.std.proofs.lemmas.List.Elements.{All-cons, All-get_or, All-head, All-nil}
 use Rattle.ts_fields.specs.Fitting.{are_bytes}
-use Rattle.ts_section.specs.declared.long_head.LongHead.{LongHead}
 use Rattle.ts_section.specs.LawfulSection.{IsSection}
 use Rattle.ts_section.specs.SectionFields.{body_of, current_of, extension_of, is_long, last_number_of, number_of, private_of, table_id_of, version_of}
 use Rattle.ts_section.specs.SectionRun.{AllMembers, IsMember, IsTableRun, stands_alone}
-use Rattle.ts_section.specs.WrittenSection.{IsLongSectionOf, IsShortSectionOf, short_section}
+use Rattle.ts_section.specs.WrittenSection.{IsLongSectionOf}
 use Rattle.ts_table_rows.specs.RunReading.{FirstBroken, read_run}
 use Rattle.ts_table_rows.specs.TablePages.{TablePage}
 use Rattle.ts_table_rows.specs.TableValues.{TableHolding}
 use Rattle.ts_json_tables.specs.ElementRows.{is_eit_id}
-use Rattle.ts_json_tables.specs.HeldTables.{LongHolding, ShortHolding, TableValue, laid, long, short}
+use Rattle.ts_json_tables.specs.HeldTables.{LongHolding, long, short}
 use Rattle.ts_json_tables.specs.KnownPages.{page_with_id}
-use Rattle.ts_json_tables.specs.LawfulTables.{is_payload, is_short, numbers_kept}
+use Rattle.ts_json_tables.specs.LawfulTables.{is_payload, numbers_kept}
 use Rattle.ts_json_tables.specs.LawfulTables as lawful
-use Rattle.ts_json_tables.specs.RunTables.{bytes_table, kept_numbers, long_head, long_of, long_sections, numbered, numbers_used, read_or_bytes, settled, short_of, table_by, table_of_run}
+use Rattle.ts_json_tables.specs.RunTables.{bytes_table, kept_numbers, long_head, long_of, long_sections, numbered, numbers_used, read_or_bytes, short_of, table_by, table_of_run}
 use Rattle.ts_json_tables.specs.TableReading.{is_lawful_count}
 use Rattle.ts_json_tables.specs.ToldTables.{TellsTable, laid_or_long, long_by_page, told_again}
-use Rattle.ts_json_tables.proofs.MadeSections.{AreHeads, MadeLawful, all_made, long_size, made_at, made_by, made_length, numbered_made}
-use Rattle.ts_json_tables.proofs.RunsAlike.{Alike, AllAlike, alike_by, runs_alike}
+use Rattle.ts_json_tables.proofs.MadeSections.{AreHeads, MadeLawful, all_made, made_at, made_by, made_length, numbered_made}
 use Rattle.ts_json_tables.proofs.SectionLemmas.{LongFacts, long_facts}
 use Rattle.ts_json_tables.proofs.StepLemmas.{both}
 

@@ -1,5 +1,5 @@
 -- Values put one behind another.
-use Rattle.std.proofs.Common.{◌≡◌, List, [], ◌∷◌, ◌++◌, refl, ap, ◌∙◌, append_assoc}
+use Rattle.std.proofs.Common.{◌≡◌, List, [], ◌∷◌, ◌++◌, ap, ◌∙◌, append_assoc}
 use Rattle.ts_fields.specs.Layout.{Held}
 
 pub values_joined : (n t : Held) (id ext common kept others net v1 v2 v3 v4 v5 v6 v7 v8 : List Held)

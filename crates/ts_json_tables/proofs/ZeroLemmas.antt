@@ -1,5 +1,5 @@
 -- Where an item of 0 stands.
-use Rattle.std.proofs.Common.{◌≡◌, ℕ, zero, suc, ◌+◌, ◌<◌, ◌≤◌, Bool, true, false, List, [], ◌∷◌, ◌++◌, length, take, drop, get_or, map, refl, sym, ap, ◌∙◌, arith, zero-add, subst}
+use Rattle.std.proofs.Common.{◌≡◌, ℕ, suc, ◌+◌, ◌<◌, ◌≤◌, Bool, true, false, List, [], ◌∷◌, ◌++◌, length, take, drop, get_or, map, refl, sym, ap, ◌∙◌, arith, zero-add, subst}
 use Rattle.std.specs.Prelude.{Option, Some, None, option_map, option_to_list, filter, find, not, is_some, if◌then◌else◌}
 use Rattle.std.proofs.lemmas.List.{drop_more, drop_all, take-map, drop-map, map-append, get_or-map}
 use Rattle.ts_table_rows.specs.declared.table.TableItem.{TableItem}

@@ -1,11 +1,9 @@
 -- Tables that are lawful: those that sections and elements tell.
 -- This project's own rule: a table of a page is in the form in which it is kept, a table of bytes within the bounds of
 -- its sections.
-use Rattle.std.specs.Prelude.{◌≡◌, ℕ, ◌&&◌, ◌++◌, List, [], ◌∷◌, length, Bool, true, false, nat_eq, nat_le, nat_lt, not, if◌then◌else◌, Option, Some, None, All}
+use Rattle.std.specs.Prelude.{◌≡◌, ℕ, ◌&&◌, List, length, Bool, true, false, nat_eq, nat_le, nat_lt, Option, Some, None}
 use Rattle.std.specs.List.{list_all}
-use Rattle.ts_bits.specs.TaggedBody.{TaggedBody, IsDescriptor}
 use Rattle.ts_fields.specs.Fitting.{are_bytes}
-use Rattle.ts_fields.specs.Layout.{Held, number, bytes}
 use Rattle.ts_jtree.specs.Shown.{are_within}
 use Rattle.ts_table_rows.specs.TableFitting.{DescriptorsFit, table_fits}
 use Rattle.ts_table_rows.specs.TablePages.{ItemPage, TablePage}

@@ -6,11 +6,10 @@ use Rattle.ts_section.specs.declared.long_head.LongHead.{LongHead}
 use Rattle.ts_section.specs.SectionFields.{body_of, current_of, extension_of, is_long, last_number_of, number_of, private_of, table_id_of, version_of}
 use Rattle.ts_section.specs.WrittenSection.{long_section, short_section}
 use Rattle.ts_table_rows.specs.declared.fault.TableRefusal.{TableRefusal}
-use Rattle.ts_table_rows.specs.declared.table.TableHead.{TableHead}
 use Rattle.ts_table_rows.specs.RunReading.{FirstBroken, read_run}
 use Rattle.ts_table_rows.specs.TablePages.{TablePage}
 use Rattle.ts_table_rows.specs.TableSections.{sections_of}
-use Rattle.ts_table_rows.specs.TableValues.{ItemHolding, BodyHolding, TableHolding}
+use Rattle.ts_table_rows.specs.TableValues.{ItemHolding, TableHolding}
 use Rattle.ts_psi.specs.PatTables.{is_network, ordered}
 use Rattle.ts_json_tables.specs.ElementRows.{is_eit_id}
 use Rattle.ts_json_tables.specs.HeldTables.{ShortHolding, LongHolding, TableValue, laid, short, long}

@@ -5,7 +5,7 @@ use Rattle.std.specs.Prelude.{ℕ, ◌&&◌, List, [], ◌∷◌, ◌++◌, map,
 use Rattle.serde_json.specs.Data.{Data, object, array}
 use Rattle.serde_json.specs.View.{items_of}
 use Rattle.ts_bits.specs.TaggedBody.{TaggedBody}
-use Rattle.ts_fields.specs.Layout.{Row, Held, number, bytes}
+use Rattle.ts_fields.specs.Layout.{Held, number, bytes}
 use Rattle.ts_jtree.specs.Numbers.{truth_bit}
 use Rattle.ts_jtree.specs.Shown.{element_members}
 use Rattle.ts_json_descr.specs.DescrElements.{descr_shown}

@@ -1,10 +1,9 @@
 -- Tables from elements of JSON.
 -- This project's own rule: an element is checked step by step, and then its children in their order, descriptors and
 -- items as they come; a fault in a child is told with the child's number from 0.
-use Rattle.std.specs.Prelude.{ℕ, ◌+◌, ◌&&◌, List, [], ◌∷◌, ◌++◌, length, Bool, true, false, bytes_eq, nat_eq, nat_le, if◌then◌else◌, Option, Some, None, Ok}
+use Rattle.std.specs.Prelude.{ℕ, ◌+◌, ◌&&◌, List, [], ◌∷◌, ◌++◌, Bool, true, false, bytes_eq, nat_eq, nat_le, if◌then◌else◌, Option, Some, None, Ok}
 use Rattle.serde_json.specs.Data.{Data, Items, no_items, item, Members}
 use Rattle.ts_bits.specs.TaggedBody.{TaggedBody}
-use Rattle.ts_fields.specs.Layout.{Held}
 use Rattle.ts_jtree.specs.declared.fault.JsonKind.TheVariants.{UnknownKey, OutOfRange}
 use Rattle.ts_jtree.specs.Attributes.{read_attributes}
 use Rattle.ts_jtree.specs.Elements.{name_key, nodes_key, members_of, name_of, named, keys_known, nodes_of, no_children}
@@ -13,7 +12,7 @@ use Rattle.ts_json_descr.specs.DescrReading.{descr_read}
 use Rattle.ts_table_rows.specs.declared.layout.LoopForm.{LoopForm}
 use Rattle.ts_table_rows.specs.declared.layout.LoopForm.TheVariants.{Absent, Counted, ToEnd}
 use Rattle.ts_table_rows.specs.TablePages.{ItemPage, TablePage}
-use Rattle.ts_table_rows.specs.TableValues.{ItemHolding, BodyHolding, TableHolding, item_held}
+use Rattle.ts_table_rows.specs.TableValues.{ItemHolding, TableHolding, item_held}
 use Rattle.ts_table_rows.specs.TableSections.{Thing, own_thing, item_thing, owns_in, items_in}
 use Rattle.ts_table_rows.specs.BodySpelling.{bytes_of}
 use Rattle.ts_psi.specs.PatTables.{network_items}

@@ -1,7 +1,7 @@
 -- Attributes that are shown are read again.
-use Rattle.std.proofs.Common.{◌≡◌, ℕ, zero, suc, ◌+◌, ◌-◌, ◌^◌, ◌<◌, ◌≤◌, ◌⊎◌, inl, inr, Bool, true, false, List, [], ◌∷◌, ◌++◌, length, drop, refl, sym, ap, ◌∙◌, arith, length-append}
-use Rattle.std.specs.Prelude.{nat_le, nat_lt, nat_eq, ◌&&◌, ◌||◌, not, bytes_eq, Option, Some, None, Ok, option_to_list, slice_get, codes, if◌then◌else◌}
-use Rattle.std.proofs.lemmas.Bool.{ltb-true, le-leb, lt-ltb}
+use Rattle.std.proofs.Common.{◌≡◌, ℕ, zero, suc, ◌+◌, ◌-◌, ◌^◌, ◌<◌, ◌≤◌, ◌⊎◌, inl, inr, Bool, true, false, List, [], ◌∷◌, ◌++◌, length, drop, refl, ap, ◌∙◌, arith, length-append}
+use Rattle.std.specs.Prelude.{nat_lt, nat_eq, ◌&&◌, ◌||◌, not, bytes_eq, Option, Some, None, Ok, option_to_list, slice_get, codes}
+use Rattle.std.proofs.lemmas.Bool.{ltb-true, le-leb}
 use Rattle.std.proofs.lemmas.Slice.Eq.{bytes_eq-Decides}
 use Rattle.hex.specs.Hex.{encode_lower, IsBytes}
 use Rattle.hex.proofs.HexLemmas.{decode_of-encode_lower}
@@ -19,7 +19,6 @@ use Rattle.ts_fields.specs.Texts.{text_of, text_bytes}
 use Rattle.ts_fields.specs.Times.{is_start, is_time}
 use Rattle.ts_days.specs.TimeTexts.{start_of, start_text, time_of, time_text}
 use Rattle.ts_jtree.specs.Attributes.{attribute_of, data_attribute, duration_attribute, flag_attribute, hex_attribute, hex_key, language_attribute, number_attribute, number_in, read_attributes, start_attribute, text_at, text_attribute, within}
-use Rattle.ts_jtree.specs.Faults.{◌>>=◌}
 use Rattle.ts_jtree.specs.Numbers.{number_of, bit_of, truth_bit}
 use Rattle.ts_jtree.specs.Shown.{are_within, is_key, is_key_of, keys_differ, put_attribute, put_attributes, put_hex, put_text, put_text_of, value_within}
 use Rattle.ts_jtree.proofs.RowLemmas.{both, neither, not_true, second_true}

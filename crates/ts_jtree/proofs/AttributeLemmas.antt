@@ -1,6 +1,6 @@
 -- Attributes one after another.
 use Rattle.std.proofs.Common.{◌≡◌, ℕ, ◌+◌, ◌<◌, ◌≤◌, List, [], ◌∷◌, ◌++◌, length, drop, refl, sym, ap, ◌∙◌, append_assoc, append-nil, get_or}
-use Rattle.std.specs.Prelude.{Option, Result, Ok, Err, option_to_list}
+use Rattle.std.specs.Prelude.{Option, Ok, Err, option_to_list}
 use Rattle.std.proofs.lemmas.List.{drop_all}
 use Rattle.serde_json.specs.Data.{Members}
 use Rattle.ts_fields.specs.declared.field.Field.{Field}

@@ -1,10 +1,9 @@
 -- Reading that goes on and that stops.
-use Rattle.std.proofs.Common.{◌≡◌, ℕ, List, [], ◌∷◌, refl, sym, ap, ◌∙◌}
-use Rattle.std.specs.Prelude.{Option, Some, None, Ok, Err, slice_get}
+use Rattle.std.proofs.Common.{◌≡◌, ℕ, List, [], ◌∷◌, refl, sym, ap}
+use Rattle.std.specs.Prelude.{Some, None, Ok, Err, slice_get}
 use Rattle.serde_json.specs.declared.value.Value.{Value}
 use Rattle.serde_json.specs.View.{items_view, view}
 use Rattle.ts_jtree.specs.declared.fault.JsonKind.{JsonKind}
-use Rattle.ts_jtree.specs.declared.fault.JsonFault.{JsonFault}
 use Rattle.ts_jtree.specs.declared.fault.ReadRefusal.{ReadRefusal}
 use Rattle.ts_jtree.specs.declared.fault.ReadRefusal.TheVariants.{Json, NoMemory}
 use Rattle.ts_jtree.specs.Elements.{no_children, read_stranger}

@@ -1,6 +1,6 @@
 -- Keys of elements.
 use Rattle.std.proofs.Common.{◌≡◌, ℕ, ◌+◌, ◌<◌, ◌≤◌, Bool, true, false, List, [], ◌∷◌, ◌++◌, length, take, drop, refl, sym, ap, ◌∙◌, arith, get_or, length-append}
-use Rattle.std.specs.Prelude.{bytes_eq, codes, not, ◌||◌, String, string_bytes, Result, Ok, Err}
+use Rattle.std.specs.Prelude.{bytes_eq, codes, not, String, string_bytes, Ok, Err}
 use Rattle.std.specs.declared.alloc.Global.{Global}
 use Rattle.std.proofs.lemmas.Slice.Eq.{bytes_eq-Decides}
 use Rattle.std.proofs.lemmas.List.{take-append-drop, drop_all}

@@ -1,10 +1,10 @@
 -- An element that is shown has a name, known keys alone, its values and its children.
-use Rattle.std.proofs.Common.{◌≡◌, ℕ, ◌+◌, Bool, true, false, List, [], ◌∷◌, drop, refl, sym, ap, ◌∙◌, Ordering, Less, Equal, Greater}
-use Rattle.std.specs.Prelude.{Option, Some, None, Ok, Err, slice_get, is_none, nat_eq, bytes_eq, not, ◌&&◌, ◌||◌, if◌then◌else◌}
+use Rattle.std.proofs.Common.{◌≡◌, ℕ, Bool, true, false, List, [], ◌∷◌, drop, refl, ap, ◌∙◌, Ordering, Less, Equal, Greater}
+use Rattle.std.specs.Prelude.{Option, Some, None, Ok, Err, slice_get, bytes_eq, not, ◌&&◌, if◌then◌else◌}
 use Rattle.std.specs.Ordering.{nat_cmp, match_ordering}
 use Rattle.std.specs.Cmp.Lexicographic.{slice_cmp}
 use Rattle.hex.specs.Hex.{encode_lower}
-use Rattle.serde_json.specs.Data.{Data, string, number, boolean, unsigned, Members, no_members, member, put}
+use Rattle.serde_json.specs.Data.{Data, string, number, Members, no_members, member, put}
 use Rattle.serde_json.specs.Find.{get_member}
 use Rattle.serde_json.proofs.Views.{get_member-put, get_member-put_other}
 use Rattle.ts_fields.specs.declared.field.Kind.{Kind}

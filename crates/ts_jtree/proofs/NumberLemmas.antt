@@ -1,21 +1,21 @@
 -- Texts of numbers, and numbers of 64 bits.
-use Rattle.std.proofs.Common.{◌≡◌, ◌≢◌, ◌≤◌, ◌^◌, ◌<◌, ℕ, Bool, true, false, List, [], ◌∷◌, length, drop, Option, Some, None, Result, Ok, Err, refl, ap, sym, ◌∙◌, subst, cond, arith, nat_lt, nat_le, nat_eq, get_or, codes}
+use Rattle.std.proofs.Common.{◌≡◌, ◌≢◌, ◌≤◌, ◌^◌, ◌<◌, ℕ, Bool, true, false, List, [], ◌∷◌, length, drop, Option, Some, None, Result, Ok, Err, refl, ap, sym, ◌∙◌, subst, cond, arith, nat_lt, nat_eq, get_or, codes}
 use Rattle.std.specs.Prelude.{IfNone, IfSome, option_map, ◌&&◌, if◌then◌else◌}
 use Rattle.std.specs.Bool.{Decides}
 use Rattle.std.specs.Char.{digit_value}
-use Rattle.std.specs.List.{list_all, starts_with}
+use Rattle.std.specs.List.{starts_with}
 use Rattle.std.specs.Result.{OkIff, result_ok}
 use Rattle.std.specs.Str.{IsCharBoundary}
 use Rattle.std.specs.Str.Parse.{AllDigits, IsNumeral, ParsesUnsigned, digits_value, without_leading_plus}
 use Rattle.std.specs.Str.Pattern.{FindsTextPrefix, StripsPrefix}
-use Rattle.std.proofs.lemmas.Bool.{lt-ltb, ltb-true, ltb-false, lt-leb, ne_eqb}
+use Rattle.std.proofs.lemmas.Bool.{ltb-false, lt-leb, ne_eqb}
 use Rattle.std.proofs.lemmas.Bool.Decides.{Decides-and, Decides-ltb}
 use Rattle.std.proofs.lemmas.Option.{same_Some}
 use Rattle.std.proofs.lemmas.Str.Pattern.{starts_text}
 use Rattle.serde_json.specs.Data.{Data}
 use Rattle.ts_jtree.specs.declared.fault.JsonKind.TheVariants.{WrongKind}
 use Rattle.ts_jtree.specs.Attributes.{in_range, number_in}
-use Rattle.ts_jtree.specs.Faults.{Reading, or_refuse, refuse, ◌>>=◌}
+use Rattle.ts_jtree.specs.Faults.{or_refuse, refuse, ◌>>=◌}
 use Rattle.ts_jtree.specs.Numbers.{are_digits, number_of_text, numeral, number_of, capped}
 
 digits_test : (radix : ℕ) (ds : List ℕ) → Decides (are_digits radix ds) (AllDigits radix ds)

@@ -1,12 +1,12 @@
 -- Rows and values one after another.
-use Rattle.std.proofs.Common.{◌≡◌, ℕ, zero, suc, ◌+◌, ◌*◌, ◌^◌, ◌<◌, ◌≤◌, Bool, true, false, List, [], ◌∷◌, ◌++◌, length, drop, get_or, map, refl, sym, ap, ◌∙◌, arith}
+use Rattle.std.proofs.Common.{◌≡◌, ℕ, zero, suc, ◌+◌, ◌^◌, ◌<◌, ◌≤◌, Bool, true, false, List, [], ◌∷◌, ◌++◌, length, drop, get_or, map, refl, ap, ◌∙◌, arith}
 use Rattle.std.specs.Prelude.{◌&&◌, ◌||◌, not, IsTrue, Option, Some, None, option_map, option_to_list, slice_get}
 use Rattle.std.proofs.lemmas.Grind.{common_steps}
 use Rattle.std.proofs.lemmas.List.{drop_more, map-append}
 use Rattle.ts_fields.specs.declared.field.Kind.TheVariants.{Number}
 use Rattle.ts_fields.specs.declared.field.Field.{Field}
 use Rattle.ts_fields.specs.declared.field.FieldValue.{FieldValue}
-use Rattle.ts_fields.specs.Layout.{Row, Held, held, row, rows_of}
+use Rattle.ts_fields.specs.Layout.{held, row, rows_of}
 use Rattle.ts_fields.specs.SoundRows.{is_sound, are_sound}
 
 -- both halves of a test

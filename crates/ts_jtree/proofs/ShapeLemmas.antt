@@ -1,6 +1,6 @@
 -- What is read from attributes has numbers where numbers are wanted.
-use Rattle.std.proofs.Common.{◌≡◌, ℕ, Bool, true, false, List, [], ◌∷◌, ◌++◌, drop, refl}
-use Rattle.std.specs.Prelude.{◌&&◌, Option, Some, None, Ok, Err, slice_get, option_to_list}
+use Rattle.std.proofs.Common.{◌≡◌, ℕ, true, List, [], ◌∷◌, ◌++◌, drop, refl}
+use Rattle.std.specs.Prelude.{Option, Some, None, Ok, Err, slice_get, option_to_list}
 use Rattle.serde_json.specs.Data.{Members}
 use Rattle.ts_fields.specs.declared.field.Kind.{Kind}
 use Rattle.ts_fields.specs.declared.field.Kind.TheVariants.{Number, Ones, Free, Flag, Start, Duration, Decimal, Language, CountedText, Text, Hex}
@@ -8,7 +8,7 @@ use Rattle.ts_fields.specs.Fitting.{field_shaped, is_number, shaped}
 use Rattle.ts_fields.specs.Layout.{Row, Held, number, bytes}
 use Rattle.ts_fields.specs.Spelling.{holds}
 use Rattle.ts_jtree.specs.Attributes.{attribute_of, holds_bytes, holds_number, read_attributes}
-use Rattle.ts_jtree.specs.Faults.{Reading, ◌>>=◌}
+use Rattle.ts_jtree.specs.Faults.{Reading}
 use Rattle.ts_jtree.proofs.FaultLemmas.{same_ok, then_ok}
 
 number_sort : (read : Reading ℕ) (value : Option Held) (more : List Held) → holds_number read ≡ Ok value

@@ -1,14 +1,14 @@
 -- Elements: objects with a name, attributes and children.
 -- This project's own rule: an element is checked in the order of its steps, a line of `read_element` each, and
 -- what is wrong first is told.
-use Rattle.std.specs.Prelude.{ℕ, ◌+◌, ◌&&◌, ◌||◌, List, [], ◌∷◌, codes, Bool, true, false, is_none, bytes_eq, if◌then◌else◌, Option, Some, None, Ok}
+use Rattle.std.specs.Prelude.{ℕ, ◌&&◌, ◌||◌, List, [], ◌∷◌, codes, Bool, false, is_none, bytes_eq, if◌then◌else◌, Option, Some, None, Ok}
 use Rattle.serde_json.specs.Data.{Data, Items, no_items, item, Members, no_members, member}
 use Rattle.serde_json.specs.Find.{get_member, as_object, as_str, as_array}
 use Rattle.ts_fields.specs.declared.field.Kind.{Kind}
 use Rattle.ts_fields.specs.declared.field.Kind.TheVariants.{Ones, Free, CountedText, Text}
 use Rattle.ts_fields.specs.Layout.{Row, Held}
 use Rattle.ts_jtree.specs.declared.fault.JsonKind.TheVariants.{Missing, WrongKind, UnknownKey}
-use Rattle.ts_jtree.specs.Faults.{Reading, refuse, or_refuse, at_child, ◌>>=◌}
+use Rattle.ts_jtree.specs.Faults.{Reading, refuse, or_refuse, at_child}
 use Rattle.ts_jtree.specs.Attributes.{hex_key, read_attributes}
 
 -- the key of an element's name

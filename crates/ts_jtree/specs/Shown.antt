@@ -1,7 +1,7 @@
 -- How elements are written.
 -- This project's own rule: every attribute is written, whatever it is by default; numbers are numbers, flags
 -- truth values, bytes lower case, and a text that is none in JSON is written by its bytes alone.
-use Rattle.std.specs.Prelude.{ℕ, ◌+◌, ◌&&◌, ◌||◌, List, [], ◌∷◌, drop, length, Bool, true, false, not, bytes_eq, nat_eq, slice_get, Option, Some, None}
+use Rattle.std.specs.Prelude.{ℕ, ◌&&◌, ◌||◌, List, [], ◌∷◌, drop, length, Bool, true, false, not, bytes_eq, nat_eq, slice_get, Option, Some, None}
 use Rattle.hex.specs.Hex.{encode_lower}
 use Rattle.serde_json.specs.Data.{Data, boolean, string, number, unsigned, Members, no_members, put}
 use Rattle.ts_fields.specs.declared.field.Kind.{Kind}

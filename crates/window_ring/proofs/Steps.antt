@@ -4,7 +4,7 @@ use mathlib.Core.Option.{none, some, some-injective, some-ne-none}
 use lib.ListN.{get_elem?}
 use prog.Atomic.{either}
 use Rattle.atomic_table.specs.Table as table
-use Rattle.atomic_table.specs.Table.{Me, Step, Act, takes, gives, keeps, Allows}
+use Rattle.atomic_table.specs.Table.{Step, Act, takes, gives, keeps, Allows}
 use Rattle.atomic_table.proofs.Lists.{at_set, set_again, set_else, at_longer}
 use Rattle.window_ring.specs.declared.view.Key.{Key}
 use Rattle.chain_core.specs.Machine.{Visit, Allowed}

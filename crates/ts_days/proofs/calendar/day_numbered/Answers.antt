@@ -1,10 +1,8 @@
-use Rattle.std.proofs.Common.{◌≡◌, ◌+◌, ◌∙◌, ap, refl, sym, arith, pos, ℤ, w64, FitsSigned, to_z, of_z, ◌+ℤ◌, ◌-ℤ◌, ◌≤ℤ◌, unsigned_abs}
+use Rattle.std.proofs.Common.{arith, FitsSigned}
 use Rattle.std.proofs.Math.Facts.{to_z-of_z}
 use mir.Syntax.{w16}
-use Rattle.jiff_core.specs.Calendar.{days_from_civil}
 use Rattle.jiff_core.proofs.DateLemmas.{civil}
 use Rattle.jiff_core.proofs.SignedLemmas.{signed_arith}
-use Rattle.ts_days.specs.Calendar.{day_numbered}
 use Rattle.ts_days.proofs.CalendarLemmas.{day_found, epoch_day_is}
 use Rattle.ts_days.proofs.calendar.day_numbered.Goals as goal
 

@@ -1,10 +1,9 @@
-use Rattle.std.proofs.Common.{◌≡◌, ◌∙◌, ap, refl, sym, arith, pos, ℤ, w32, FitsSigned, to_z, of_z}
+use Rattle.std.proofs.Common.{◌≡◌, ◌∙◌, refl, arith, pos, w32, FitsSigned, to_z, of_z}
 use Rattle.std.proofs.lemmas.Int.{to_z_pos}
 use Rattle.std.proofs.Math.Facts.{to_z-of_z}
 use mir.Syntax.{w8, w16}
-use Rattle.jiff_core.specs.Calendar.{days_from_civil, IsDate}
+use Rattle.jiff_core.specs.Calendar.{IsDate}
 use Rattle.jiff_core.proofs.SignedLemmas.{signed_arith}
-use Rattle.ts_days.specs.Calendar
 use Rattle.ts_days.proofs.CalendarLemmas.{early, no_day, found, date_is_day, day_is_date, same_date}
 use Rattle.ts_days.proofs.calendar.number_of_day.Goals as goal
 

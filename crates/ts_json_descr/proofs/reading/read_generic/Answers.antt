@@ -1,4 +1,3 @@
-use Rattle.std.proofs.Common.{◌≡◌}
 use Rattle.serde_json.specs.View.{members_view}
 use Rattle.ts_fields.specs.Bodies.{body_held}
 use Rattle.ts_json_descr.proofs.BodyLemmas.{generic_tagged}

@@ -1,6 +1,5 @@
-use Rattle.std.proofs.Common.{◌≡◌, ◌∙◌, ℕ, Bool, List, arith, refl}
+use Rattle.std.proofs.Common.{◌∙◌, ℕ, Bool, List, arith, refl}
 use Rattle.serde_json.specs.View.{members_view}
-use Rattle.ts_fields.specs.Bits.{bits_of}
 use Rattle.ts_fields.specs.Bodies.{page, body_held}
 use Rattle.ts_json_descr.proofs.BodyLemmas.{holding_shaped, typed_large, typed_small}
 use Rattle.ts_json_descr.proofs.StepLemmas.{refusal_stops}

@@ -1,4 +1,4 @@
-use Rattle.std.proofs.Common.{◌≡◌, map, true, ap, ◌∙◌}
+use Rattle.std.proofs.Common.{map, ap, ◌∙◌}
 use Rattle.ts_fields.specs.Bodies.{page, body_held, items_fit}
 use Rattle.ts_fields.specs.Fitting.{fits}
 use Rattle.ts_fields.specs.Layout.{held, rows_of}

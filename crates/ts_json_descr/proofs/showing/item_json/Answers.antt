@@ -1,4 +1,4 @@
-use Rattle.std.proofs.Common.{◌≡◌, map, true, ap, ◌∙◌}
+use Rattle.std.proofs.Common.{map, ap, ◌∙◌}
 use Rattle.ts_fields.specs.Bodies.{item_held}
 use Rattle.ts_fields.specs.Layout.{held, rows_of}
 use Rattle.ts_jtree.specs.Shown.{are_shown}

@@ -1,7 +1,6 @@
-use Rattle.std.proofs.Common.{◌≡◌, ◌++◌, drop, map}
+use Rattle.std.proofs.Common.{◌≡◌, drop, map}
 use Rattle.serde_json.specs.View.{items_view}
 use Rattle.ts_table_rows.specs.TablePages.{table_page}
-use Rattle.ts_table_rows.specs.TableSections.{items_in, owns_in}
 use Rattle.ts_table_rows.specs.TableValues.{item_held}
 use Rattle.ts_json_tables.specs.TableReading.{parted, read_child, read_each}
 use Rattle.ts_json_tables.proofs.EachLemmas.{made_of}

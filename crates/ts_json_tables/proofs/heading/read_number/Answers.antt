@@ -1,7 +1,6 @@
-use Rattle.std.proofs.Common.{◌≡◌, ◌∙◌, refl}
+use Rattle.std.proofs.Common.{◌∙◌, refl}
 use Rattle.serde_json.specs.View.{members_view}
 use Rattle.ts_fields.specs.Layout.{row}
-use Rattle.ts_json_tables.specs.HeadReading.{read_number}
 use Rattle.ts_json_tables.proofs.NumberLemmas.{number_bounded, number_read}
 use Rattle.ts_json_tables.proofs.heading.read_number.Goals as goal
 

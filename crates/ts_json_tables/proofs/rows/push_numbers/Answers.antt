@@ -1,4 +1,4 @@
-use Rattle.std.proofs.Common.{◌≡◌, ◌∙◌, ap}
+use Rattle.std.proofs.Common.{◌∙◌, ap}
 use Rattle.std.proofs.lemmas.List.{map-append}
 use Rattle.ts_fields.specs.Layout.{row, rows_of}
 use Rattle.ts_json_tables.proofs.rows.push_numbers.Goals as goal

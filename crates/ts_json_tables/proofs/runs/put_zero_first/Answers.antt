@@ -1,4 +1,4 @@
-use Rattle.std.proofs.Common.{◌≡◌, ◌∙◌, ◌∷◌, ap, sym, map}
+use Rattle.std.proofs.Common.{◌∙◌, ◌∷◌, ap, sym, map}
 use Rattle.ts_table_rows.specs.TableValues.{item_held}
 use Rattle.ts_json_tables.specs.RunTables.{zero_place}
 use Rattle.ts_json_tables.proofs.ZeroLemmas.{zero_absent, zero_first}

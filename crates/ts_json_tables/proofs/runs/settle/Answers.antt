@@ -1,5 +1,3 @@
-use Rattle.std.proofs.Common.{◌≡◌, true}
-use Rattle.std.specs.Prelude.{◌&&◌, is_some}
 use Rattle.ts_table_rows.specs.TablePages.{table_page}
 use Rattle.ts_table_rows.specs.TableValues.{table_held}
 use Rattle.ts_json_tables.proofs.FitLemmas.{fit_parts}

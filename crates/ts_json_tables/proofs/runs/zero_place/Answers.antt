@@ -1,4 +1,4 @@
-use Rattle.std.proofs.Common.{◌≡◌, ◌∙◌, ap, arith, refl, sym}
+use Rattle.std.proofs.Common.{◌∙◌, ap, arith, refl, sym}
 use Rattle.std.specs.Prelude.{Some}
 use Rattle.ts_json_tables.proofs.ZeroLemmas.{zero_here, zero_later, zero_nowhere, zeros_begin}
 use Rattle.ts_json_tables.proofs.runs.zero_place.Goals as goal

@@ -1,9 +1,7 @@
-use Rattle.std.proofs.Common.{◌≡◌, ◌∙◌, ◌∷◌, [], ◌++◌, ℕ, List, Vec, Global, arith, ap, sym, refl}
+use Rattle.std.proofs.Common.{◌∙◌, arith, ap, sym}
 use Rattle.std.specs.Prelude.{Ok}
 use Rattle.std.proofs.lemmas.List.{length-map}
 use Rattle.ts_json_tables.specs.HeldTables.{long_held}
-use Rattle.ts_json_tables.specs.RunTables.{long_head, numbered, numbers_used}
-use Rattle.ts_section.specs.WrittenSection.{long_section}
 use Rattle.ts_json_tables.proofs.SectionLemmas.{long_facts, numbered_done, numbered_goes_on, numbered_whole, row_fits}
 use Rattle.ts_json_tables.proofs.sections.numbered_sections.Goals as goal
 

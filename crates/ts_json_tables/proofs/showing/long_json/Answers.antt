@@ -1,4 +1,4 @@
-use Rattle.std.proofs.Common.{◌≡◌, ◌∙◌, map, ap}
+use Rattle.std.proofs.Common.{◌∙◌, map, ap}
 use Rattle.ts_fields.specs.Layout.{held, rows_of}
 use Rattle.ts_json_tables.specs.ElementRows.{is_eit_id, long_rows}
 use Rattle.ts_json_tables.specs.HeldTables.{long_held}

@@ -1,6 +1,6 @@
-use Rattle.std.proofs.Common.{◌≡◌, ◌∙◌, ◌∷◌, [], ◌++◌, List, ap, sym, map, take, drop}
+use Rattle.std.proofs.Common.{◌≡◌, ◌∙◌, ◌∷◌, [], ◌++◌, ap, sym, map, take, drop}
 use Rattle.std.proofs.lemmas.List.{take-map, drop-map}
-use Rattle.ts_fields.specs.Layout.{Held, held, number}
+use Rattle.ts_fields.specs.Layout.{held, number}
 use Rattle.ts_table_rows.specs.BodySpelling.{held_count}
 use Rattle.ts_table_rows.specs.TablePages.{table_page}
 use Rattle.ts_table_rows.specs.TableValues.{item_held}

@@ -1,4 +1,3 @@
-use Rattle.std.proofs.Common.{◌≤◌, ◌^◌}
 use Rattle.ts_jtree.proofs.RowLemmas.{ten_power}
 use Rattle.ts_jtree.proofs.attribute.read_attribute.Goals as goal
 

@@ -1,8 +1,8 @@
-use Rattle.std.proofs.Common.{◌≡◌, ◌++◌, ◌+◌, drop, map, sym, ap, ◌∙◌}
+use Rattle.std.proofs.Common.{map}
 use Rattle.std.specs.Prelude.{option_map}
 use Rattle.std.proofs.lemmas.Result.{err_from_is_err_and}
 use Rattle.serde_json.specs.View.{members_view}
-use Rattle.ts_fields.specs.Layout.{held, rows_of}
+use Rattle.ts_fields.specs.Layout.{held}
 use Rattle.ts_jtree.proofs.RowLemmas.{sound_more, held_more}
 use Rattle.ts_jtree.proofs.AttributeLemmas.{values_go_on, values_stop, values_done}
 use Rattle.ts_jtree.proofs.attribute.read_attributes.Goals as goal

@@ -1,4 +1,4 @@
-use Rattle.std.proofs.Common.{◌≡◌, ℕ, sym, ◌∙◌}
+use Rattle.std.proofs.Common.{ℕ, sym, ◌∙◌}
 use Rattle.serde_json.specs.View.{view}
 use Rattle.ts_jtree.specs.declared.fault.JsonKind.TheVariants.{WrongKind}
 use Rattle.ts_jtree.proofs.FaultLemmas.{refusal_stops}

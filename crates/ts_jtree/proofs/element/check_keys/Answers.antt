@@ -1,4 +1,4 @@
-use Rattle.std.proofs.Common.{◌≡◌, sym, ap, ◌∙◌, subst}
+use Rattle.std.proofs.Common.{sym, ap, ◌∙◌, subst}
 use Rattle.ts_jtree.specs.Faults.{IsRefusal}
 use Rattle.ts_jtree.specs.declared.fault.JsonKind.TheVariants.{UnknownKey}
 use Rattle.serde_json.specs.View.{members_view}

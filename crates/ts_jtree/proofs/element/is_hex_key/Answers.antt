@@ -1,5 +1,4 @@
-use Rattle.std.proofs.Common.{◌≡◌, ◌++◌, length, take, drop, sym, ap, ◌∙◌, true, false, Bool, List, ℕ}
-use Rattle.std.specs.Prelude.{bytes_eq, codes, not}
+use Rattle.std.proofs.Common.{length, take, drop, ap, ◌∙◌}
 use Rattle.ts_jtree.proofs.KeyLemmas.{front_differs, front_agrees}
 use Rattle.ts_jtree.proofs.element.is_hex_key.Goals as goal
 

@@ -1,4 +1,4 @@
-use Rattle.std.proofs.Common.{◌≡◌, sym, ◌∙◌}
+use Rattle.std.proofs.Common.{sym, ◌∙◌}
 use Rattle.serde_json.specs.View.{members_view}
 use Rattle.ts_jtree.proofs.KeyLemmas.{named_here, named_later, named_nowhere}
 use Rattle.ts_jtree.proofs.element.is_some_field_key.Goals as goal

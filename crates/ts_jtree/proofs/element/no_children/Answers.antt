@@ -1,4 +1,4 @@
-use Rattle.std.proofs.Common.{◌≡◌, sym, ap, ◌∙◌}
+use Rattle.std.proofs.Common.{sym, ap, ◌∙◌}
 use Rattle.std.specs.Prelude.{option_map}
 use Rattle.ts_jtree.proofs.FaultLemmas.{none_there, one_there}
 use Rattle.ts_jtree.proofs.element.no_children.Goals as goal

@@ -1,6 +1,3 @@
-use Rattle.std.proofs.Common.{◌≡◌, ap, sym, ◌∙◌}
-use Rattle.std.specs.Prelude.{option_map}
-use Rattle.ts_jtree.specs.Numbers.{capped}
 use Rattle.ts_jtree.proofs.NumberLemmas.{after_sign, without_sign}
 use Rattle.ts_jtree.proofs.number.number_of_text.Goals as goal
 

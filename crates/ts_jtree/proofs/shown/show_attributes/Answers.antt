@@ -1,6 +1,6 @@
-use Rattle.std.proofs.Common.{◌≡◌, ◌+◌, ◌≤◌, drop, map, true, sym, ap, ◌∙◌, arith}
+use Rattle.std.proofs.Common.{◌+◌, drop, map, true, ap, ◌∙◌, arith}
 use Rattle.serde_json.specs.View.{members_view}
-use Rattle.ts_fields.specs.Layout.{row, rows_of, held}
+use Rattle.ts_fields.specs.Layout.{rows_of, held}
 use Rattle.ts_jtree.specs.Shown.{put_attributes, are_shown}
 use Rattle.ts_jtree.proofs.ShownLemmas.{held_at, shown_more, shown_done, shown_first}
 use Rattle.ts_jtree.proofs.shown.show_attributes.Goals as goal

@@ -1,4 +1,4 @@
-use Rattle.std.proofs.Common.{◌≡◌, ℕ, [], ◌∷◌, ◌++◌, length, Bool, true, false, refl, subst, sym, arith, length-append}
+use Rattle.std.proofs.Common.{◌≡◌, [], ◌∷◌, ◌++◌, Bool, true, false, refl, subst, sym, arith, length-append}
 use Rattle.ts_packet.specs.declared.cell.Cell.{Cell}
 use Rattle.plug_tables.specs.TablesStands.{StandsFor, has_failed}
 use Rattle.plug_tables.proofs.ToldLemmas.{tells_dropped}

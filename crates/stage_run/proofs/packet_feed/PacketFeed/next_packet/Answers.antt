@@ -1,4 +1,4 @@
-use Rattle.std.proofs.Common.{◌≡◌, ℕ, List, [], ◌∷◌, ◌++◌, ap, sym, ◌∙◌}
+use Rattle.std.proofs.Common.{ℕ, List, [], ◌∷◌, ◌++◌, ap, sym, ◌∙◌}
 use Rattle.ts_testgen.specs.Generated.{generated}
 use Rattle.stage_run.specs.GeneratedInput.{generated_from}
 use Rattle.stage_run.proofs.GeneratedLemmas.{generated-push}
