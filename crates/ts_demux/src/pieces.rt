@@ -46,7 +46,7 @@ fn drop_front(bytes: &mut Vec<u8>, count: usize)
     requires { count ≤ length bytes.old.items }
     ensures { bytes.new.items ≡ drop count bytes.old.items }
 {
-    // Mostly all of it goes, and `drain` would clear memory for what is left.
+    // Where all of it goes, as where a section fills its packet, there is nothing for `drain` to move.
     if count == bytes.len() {
         bytes.clear();
     } else {
