@@ -6,7 +6,7 @@ use Rattle.std.specs.Str.{is_utf8}
 use Rattle.serde_json.specs.Data.{Data}
 use Rattle.serde_json.specs.Read.{read}
 use Rattle.ts_jtree.specs.Elements.{read_element}
-use Rattle.ts_jtree.specs.Faults.{Reading}
+use Rattle.ts_jtree.specs.Faults.{Reading, ◌>>=◌}
 use Rattle.ts_table_rows.specs.declared.fault.TableRefusal.{TableRefusal}
 use Rattle.ts_json_tables.specs.HeldTables.{TableValue}
 use Rattle.ts_json_tables.specs.RunTables.{sections_of_table}

@@ -2,7 +2,7 @@
 -- This project's own rule: a day is written YYYY-MM-DD.
 use Rattle.std.specs.Prelude.{ℕ, ◌+◌, ◌*◌, ◌/◌, ◌&&◌, List, [], ◌∷◌, length, slice_index, nat_eq, Bool, if◌then◌else◌, Option, Some, None}
 use Rattle.ts_days.specs.declared.calendar.Day.{Day}
-use Rattle.ts_days.specs.Digits.{digit_at, last_digit}
+use Rattle.ts_days.specs.Digits.{digit_at, last_digit, ◌>>=◌}
 use Rattle.ts_days.specs.Calendar.{number_of_day, day_numbered}
 
 -- the ten bytes of a day

@@ -2,7 +2,7 @@
 -- This project's own rule: a time is written hh:mm:ss, a start YYYY-MM-DD hh:mm:ss or `undefined`.
 use Rattle.std.specs.Prelude.{ℕ, ◌+◌, ◌*◌, ◌/◌, ◌%◌, ◌&&◌, List, [], ◌∷◌, ◌++◌, length, take, drop, slice_index, codes, bytes_eq, nat_eq, Bool, if◌then◌else◌, Option, Some, None}
 use Rattle.ts_fields.specs.Times.{is_time}
-use Rattle.ts_days.specs.Digits.{digit_at}
+use Rattle.ts_days.specs.Digits.{digit_at, ◌>>=◌}
 use Rattle.ts_days.specs.DayTexts.{day_of, day_text}
 
 -- the byte of a digit of four bits

@@ -5,6 +5,7 @@ use Rattle.std.specs.List.{find}
 use Rattle.ts_bits.specs.TaggedBody.{TaggedBody}
 use Rattle.ts_fields.specs.Bits.{bits_of}
 use Rattle.ts_fields.specs.Layout.{Row, Held}
+use Rattle.ts_fields.specs.Reading.{◌>>=◌}
 use Rattle.ts_fields.specs.Bodies.{Page, Holding, read_page, spell_page}
 use Rattle.ts_descr.specs.declared.refusal.DescrRefusal.{DescrRefusal}
 use Rattle.ts_descr.specs.declared.refusal.DescrRefusal.TheVariants.{TooLarge, NoMemory}

@@ -10,7 +10,7 @@ use Rattle.ts_pages.specs.Pages.{page_named}
 use Rattle.ts_jtree.specs.declared.fault.JsonKind.TheVariants.{UnknownKey, OutOfRange}
 use Rattle.ts_jtree.specs.Attributes.{read_attributes}
 use Rattle.ts_jtree.specs.Elements.{name_key, members_of, name_of, keys_known, nodes_of, no_children, read_element}
-use Rattle.ts_jtree.specs.Faults.{Reading, refuse, or_refuse, at_child}
+use Rattle.ts_jtree.specs.Faults.{Reading, refuse, or_refuse, at_child, ◌>>=◌}
 use Rattle.ts_json_descr.specs.DescrElements.{generic_name, generic_page}
 
 -- an item, which has no children itself

@@ -9,7 +9,7 @@ use Rattle.ts_fields.specs.Layout.{Row, Held, number, bytes, held}
 use Rattle.ts_fields.specs.SoundRows.{is_sound}
 use Rattle.ts_jtree.specs.declared.fault.JsonKind.TheVariants.{OutOfRange}
 use Rattle.ts_jtree.specs.Attributes.{read_attributes}
-use Rattle.ts_jtree.specs.Faults.{Reading, refuse}
+use Rattle.ts_jtree.specs.Faults.{Reading, refuse, ◌>>=◌}
 use Rattle.ts_jtree.specs.Numbers.{number_of}
 use Rattle.ts_table_rows.specs.declared.table.TableHead.{TableHead}
 use Rattle.ts_table_rows.specs.TablePages.{TablePage}

@@ -8,7 +8,7 @@ use Rattle.ts_fields.specs.declared.field.Kind.{Kind}
 use Rattle.ts_fields.specs.declared.field.Kind.TheVariants.{Ones, Free, CountedText, Text}
 use Rattle.ts_fields.specs.Layout.{Row, Held}
 use Rattle.ts_jtree.specs.declared.fault.JsonKind.TheVariants.{Missing, WrongKind, UnknownKey}
-use Rattle.ts_jtree.specs.Faults.{Reading, refuse, or_refuse, at_child}
+use Rattle.ts_jtree.specs.Faults.{Reading, refuse, or_refuse, at_child, ◌>>=◌}
 use Rattle.ts_jtree.specs.Attributes.{hex_key, read_attributes}
 
 -- the key of an element's name

@@ -2,7 +2,7 @@
 -- ISO/IEC 13818-1, 2.4.4.6: the bits in the place of table_id_extension are reserved.
 use Rattle.std.specs.Prelude.{ℕ, List, [], None, Result, Ok}
 use Rattle.ts_table_rows.specs.TableValues.{TableHolding}
-use Rattle.ts_table_rows.specs.RunReading.{FirstBroken, read_run}
+use Rattle.ts_table_rows.specs.RunReading.{FirstBroken, read_run, ◌>>=◌}
 use Rattle.ts_psi.specs.PsiPages.{cat_page}
 use Rattle.ts_psi.specs.declared.cat.Cat.{Cat}
 

@@ -5,7 +5,7 @@ use Rattle.std.specs.Prelude.{ℕ, List, [], ◌∷◌, ◌++◌, map, filter, f
 use Rattle.ts_fields.specs.Layout.{number}
 use Rattle.ts_table_rows.specs.TableValues.{ItemHolding, TableHolding}
 use Rattle.ts_table_rows.specs.BodyReading.{first_number, is_zero}
-use Rattle.ts_table_rows.specs.RunReading.{FirstBroken, read_run}
+use Rattle.ts_table_rows.specs.RunReading.{FirstBroken, read_run, ◌>>=◌}
 use Rattle.ts_psi.specs.PsiPages.{entry_page, pat_page}
 use Rattle.ts_table_rows.specs.TableFitting.{item_fits}
 use Rattle.ts_psi.specs.declared.pat.PatService.{PatService}
