@@ -1,14 +1,17 @@
 -- What is found in the last of some tables, one section after another.
-use Rattle.std.proofs.Common.{◌≡◌, ℕ, List, [], ◌∷◌, ◌++◌, fold, Option, Some, None, refl, sym, ◌∙◌, ap, append-nil, subst}
-use Rattle.std.specs.Prelude.{nat_eq, option_map}
+use Rattle.std.proofs.Common.{◌≡◌, ℕ, ◌==◌, ◌&&◌, false, List, [], ◌∷◌, ◌++◌, fold, Option, Some, None, refl, sym, ◌∙◌, ap, append-nil, subst}
+use Rattle.std.specs.Prelude.{is_some, nat_eq, not, option_map}
 use Rattle.std.specs.List.{filter_map, cons_option}
 use Rattle.std.specs.Option.{option_to_list}
 use Rattle.std.specs.Map.{lookup}
 use Rattle.indexmap.specs.IndexMap.{IndexMap, get}
+use Rattle.ts_packet.specs.Header.{error_indicator_of, pid_of, scrambling_of}
+use Rattle.ts_packet.specs.Payload.{payload_start_of}
+use Rattle.ts_demux.specs.CountedPackets.{counts}
 use Rattle.ts_demux.specs.SectionsOfPid.{sections_of_pid}
 use Rattle.ts_demux.specs.Tables.{tables_of, tables_behind}
 use Rattle.ts_demux.specs.DemuxState as demuxing
-use Rattle.ts_demux.specs.DemuxState.{DemuxState, GivesFirst}
+use Rattle.ts_demux.specs.DemuxState.{DemuxState, GivesFirst, TakesIn}
 use Rattle.ts_demux.specs.AssemblyState as assembling
 use Rattle.ts_demux.specs.AssemblyState.{AssemblyState}
 use Rattle.ts_psi.specs.PatTables.{pat_held}
@@ -51,6 +54,18 @@ pub pmts-new :
 pmts-new demux assembly pmts pid d a e =
     subst (HoldsPmts demux assembly pmts pid []) (sym (no_sections pid))
     (record { demuxed = d; assembled = a; kept = λ service. ap (λ entries. option_map pmt_held (lookup (nat_eq service) entries)) e ∙ sym (found-none (current_pmt service)) })
+
+-- the PAT behind a packet of another PID
+pub pat-unfed :
+    (demux : DemuxState) (assembly : AssemblyState) (pat : Option Pat) (fed : List (List ℕ)) (p : List ℕ) → (pid_of p == 0) ≡ false →
+    ((d : DemuxState) (q : List ℕ) → counts d.pid q ≡ false → TakesIn d d q 0) →
+    HoldsPat demux assembly pat fed (sections_of_pid 0 fed) → HoldsPat demux assembly pat (fed ++ p ∷ []) (sections_of_pid 0 (fed ++ p ∷ []))
+pat-unfed demux assembly pat fed p other law h =
+    let apart : counts 0 p ≡ false = ap (λ b. b && ((scrambling_of p == 0) && (not (error_indicator_of p) && is_some (payload_start_of p)))) other in
+    let takes : TakesIn demux demux p 0 = law demux p (ap (λ n. counts n p) h.demuxed.same_pid ∙ apart) in
+    let after = takes.stands 0 fed (sections_of_pid 0 fed) h.demuxed in
+    subst (HoldsPat demux assembly pat (fed ++ p ∷ [])) (h.demuxed.sections ∙ sym after.sections)
+    (record { demuxed = after; assembled = h.assembled; kept = h.kept })
 
 pub pmts-section :
     {S : Type 0} (d e : DemuxState) (a b : AssemblyState) (t u : IndexMap ℕ Pmt S) (s : List ℕ) (table : Option (List (List ℕ))) →

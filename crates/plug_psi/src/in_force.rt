@@ -62,6 +62,7 @@ impl InForce {
 
     /// Takes the next packet as `feed` does. Where the answer is `false`, the same PAT and PMTs are in force as before;
     /// `true` tells that a PAT or a PMT may have come into force with it, so what was made of them is to be made anew.
+    #[inline]
     pub fn update(&mut self, packet: &Packet) -> Result<bool, AllocError>
         ensures stands { OnOk result ((fed : List (List ℕ)) → StandsFor self.old fed → StandsFor self.new (fed ++ packet.now ∷ [])) }
         ensures same { IfOk result (λ came. came ≡ false → (fed : List (List ℕ)) → StandsFor self.old fed → SameInForce fed packet.now) }
@@ -105,6 +106,7 @@ impl InForce {
     }
 
     /// Takes the next packet as long as memory was there.
+    #[inline]
     fn take(&mut self, packet: &Packet) -> Result<bool, AllocError>
         ensures stands { OnOk result ((fed : List (List ℕ)) → StandsFor self.old fed → StandsFor self.new (fed ++ packet.now ∷ [])) }
         ensures same { IfOk result (λ came. came ≡ false → (fed : List (List ℕ)) → StandsFor self.old fed → SameInForce fed packet.now) }
@@ -129,6 +131,7 @@ fn is_taken(zero: &OnZero, pid: u16) -> bool
 }
 
 /// Sees that a PID has its entry.
+#[inline(never)]
 fn see_entry(alloc: Global, pids: &mut Pids, pid: u16) -> Result<(), AllocError>
     requires { pid < PID_COUNT }
     ensures has_entry { OnOk result (HasEntry (get nat_eq pids.new pid)) }
@@ -168,6 +171,7 @@ fn pmt_in(pids: &Pids, pid: u16, service: u16) -> Option<&Pmt>
 }
 
 /// Takes a packet on a PID that has its entry, and answers whether a PMT came with it.
+#[inline(never)]
 fn take_on(alloc: Global, pids: &mut Pids, pid: u16, packet: &Packet) -> Result<bool, AllocError>
     requires { HasEntry (get nat_eq pids.old pid) }
     ensures stands { OnOk result ((taken : List (List ℕ)) → EntryStands (get nat_eq pids.old pid) pid taken

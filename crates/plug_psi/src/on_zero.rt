@@ -9,11 +9,14 @@ ghost use Rattle.plug_psi.specs.ForceState.{HoldsPat};
 
 use crate::current_pat::CurrentPat;
 use std::alloc::{AllocError, Global};
-use ts_demux::{Assembly, Demux};
+use ts_demux::{Assembly, Demux, other_packets_change_nothing};
 use ts_packet::Packet;
 use ts_psi::Pat;
 use ts_section::TableRun;
 use ts_table_rows::TableFault;
+
+/// The PID of the PAT (ISO/IEC 13818-1, 2.4.3.3).
+const PAT_PID: u16 = 0;
 
 /// The PAT in force of all packets that were fed.
 #[derive(Drop)]
@@ -31,23 +34,30 @@ impl OnZero {
         ensures { IfOk result (λ zero. HasFed zero []) }
     {
         Ok(OnZero {
-            demux: Demux::new(alloc, 0)?,
+            demux: Demux::new(alloc, PAT_PID)?,
             assembly: Assembly::new(alloc)?,
             pat: CurrentPat::none(alloc)?,
         })
     }
 
     /// Takes the next packet, of any PID, and answers whether a PAT came into force with it.
+    #[inline]
     pub(crate) fn take(&mut self, alloc: Global, packet: &Packet) -> Result<bool, AllocError>
         ensures stands { OnOk result ((fed : List (List ℕ)) → HasFed self.old fed → HasFed self.new (fed ++ packet.now ∷ [])) }
         ensures same { IfOk result (λ came. came ≡ false → self.new.pat ≡ self.old.pat) }
     {
+        other_packets_change_nothing();
+        // Nearly all packets are of other PIDs.
+        if packet.pid() != PAT_PID {
+            return Ok(false);
+        }
         self.demux.feed(packet)?;
         take_pats(alloc, &mut self.demux, &mut self.assembly, &mut self.pat)
     }
 }
 
 /// Takes the sections that wait, and answers whether a PAT came into force with them.
+#[inline(never)]
 fn take_pats(
     alloc: Global,
     demux: &mut Demux,

@@ -1,5 +1,6 @@
 -- Readers that hold little.
-use Rattle.std.proofs.Common.{◌≡◌, ℕ, Bool, true, false, List, [], length, Some, None, ap, ◌∙◌, arith, refl, sym, ◌++◌, append_assoc, append-nil}
+use Rattle.std.proofs.Common.{◌≡◌, ℕ, ◌-◌, Bool, true, false, List, [], length, take, drop, subst, Some, None, ap, ◌∙◌, arith, refl, sym, ◌++◌, append_assoc, append-nil}
+use Rattle.std.proofs.lemmas.List.{take_rest}
 use Rattle.ts_demux.proofs.Choice.{if_true, if_false}
 use Rattle.ts_demux.proofs.Cutting.{short_is_not_whole, unfinished_is_short, sections_in-over, sections_in-stop}
 use Rattle.ts_demux.specs.Cut.{is_whole_in_front}
@@ -33,17 +34,28 @@ rest-fresh r n o e =
     }
 
 -- a stretch of which nothing more comes may be closed
-pub sections_behind-over :
-    (before after : List (List ℕ)) (was_open is_open : Bool) (old bytes grown left empty more : List ℕ) →
-    was_open ≡ true → is_open ≡ false → grown ≡ old ++ bytes → IsOver left →
-    before ++ sections_in (grown ++ more) ≡ after ++ sections_in (left ++ more) →
+pub sections_behind-ended :
+    (before after : List (List ℕ)) (was_open is_open : Bool) (old bytes grown empty more : List ℕ) →
+    was_open ≡ true → is_open ≡ false → grown ≡ old ++ bytes →
+    before ++ sections_in (grown ++ more) ≡ after →
     before ++ sections_behind was_open old (bytes ++ more) ≡ after ++ sections_behind is_open empty more
-sections_behind-over before after was_open is_open old bytes grown left empty more o c g over h =
+sections_behind-ended before after was_open is_open old bytes grown empty more o c g h =
     let a : sections_behind was_open old (bytes ++ more) ≡ sections_in (old ++ (bytes ++ more)) = if_true was_open (sections_in (old ++ (bytes ++ more))) [] o in
     let b : sections_in (grown ++ more) ≡ sections_in (old ++ (bytes ++ more)) = ap sections_in (ap (λ t. t ++ more) g ∙ append_assoc old bytes more) in
     let d : sections_behind is_open empty more ≡ [] = if_false is_open (sections_in (empty ++ more)) [] c in
-    let e = sections_in-over left more over in
-    ap (λ t. before ++ t) (a ∙ sym b) ∙ h ∙ ap (λ t. after ++ t) (e ∙ sym d)
+    ap (λ t. before ++ t) (a ∙ sym b) ∙ h ∙ sym (ap (λ t. after ++ t) d ∙ append-nil after)
+
+-- of bytes whose rest behind the whole pieces is over, no more than these pieces come
+pub cut-over :
+    (before after : List (List ℕ)) (bytes given seen : List ℕ) (at : ℕ) → given ≡ bytes → seen ≡ bytes →
+    ((more : List ℕ) → before ++ sections_in (given ++ more) ≡ after ++ sections_in (drop at given ++ more)) →
+    IsOver (take (length seen - at) (drop at seen)) → (more : List ℕ) → before ++ sections_in (bytes ++ more) ≡ after
+cut-over before after bytes given seen at g s h over more =
+    let there : IsOver (drop at seen) = subst IsOver (take_rest seen at) over in
+    let rest : IsOver (drop at bytes) = subst (λ b. IsOver (drop at b)) s there in
+    let cut : before ++ sections_in (bytes ++ more) ≡ after ++ sections_in (drop at bytes ++ more) =
+    subst (λ b. before ++ sections_in (b ++ more) ≡ after ++ sections_in (drop at b ++ more)) g (h more) in
+    cut ∙ ap (λ t. after ++ t) (sections_in-over (drop at bytes) more rest) ∙ append-nil after
 
 -- with no more bytes nothing comes of what is not whole
 pub sections_behind-nothing :

@@ -5,10 +5,12 @@
 mod assembly;
 mod demux;
 mod era;
+mod laws;
 mod pieces;
 mod reader;
 mod table_key;
 
 pub use assembly::Assembly;
 pub use demux::Demux;
+pub use laws::other_packets_change_nothing;
 pub use table_key::TableKey;

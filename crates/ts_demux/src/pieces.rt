@@ -22,23 +22,28 @@ const MOST_LENGTH: usize = 4093;
 const STUFFING: u8 = 0xFF;
 
 /// Cuts the whole pieces off the front of unfinished bytes and lets the lawful sections among them wait.
-/// Answers whether nothing more comes of what is left, whatever follows it.
+/// Answers whether nothing more comes of what is left, whatever follows it; the bytes are done with then.
 pub(crate) fn cut_off(
     unfinished: &mut Vec<u8>,
     waiting: &mut VecDeque<Section>,
 ) -> Result<bool, AllocError>
-    ensures not_whole { OnOk result (is_whole_in_front unfinished.new.items ≡ false) }
-    ensures over { IfOk result (λ over. over ≡ true → IsOver unfinished.new.items) }
+    ensures over { IfOk result (λ over. over ≡ true → (more : List ℕ) →
+        waiting.old.items ++ sections_in (unfinished.old.items ++ more) ≡ waiting.new.items) }
+    ensures not_whole { IfOk result (λ over. over ≡ false → is_whole_in_front unfinished.new.items ≡ false) }
     ensures alive { IfOk result (λ over. over ≡ false → IsAlive unfinished.new.items) }
-    ensures sections { OnOk result ((more : List ℕ) →
+    ensures sections { IfOk result (λ over. over ≡ false → (more : List ℕ) →
         waiting.old.items ++ sections_in (unfinished.old.items ++ more)
         ≡ waiting.new.items ++ sections_in (unfinished.new.items ++ more)) }
     ensures grows { OnOk result (length waiting.old.items ≤ length waiting.new.items) }
 {
     let alloc = *unfinished.allocator();
     let at = cut_pieces(alloc, unfinished.as_slice(), waiting)?;
+    // Stuffing follows most sections: what is over is not moved to the front.
+    if is_over(&unfinished[at..]) {
+        return Ok(true);
+    }
     drop_front(unfinished, at);
-    Ok(is_over(unfinished.as_slice()))
+    Ok(false)
 }
 
 /// Drops the first bytes.
