@@ -51,6 +51,7 @@ impl Analyze {
     }
 
     // Meets the packet at a position, as long as memory was there.
+    #[inline]
     fn meet(&mut self, at: u64, packet: &Packet) -> Result<(), AllocError>
         requires met { has_failed self.old ≡ false → StandsForSome self.old at }
         requires in_range { at < POSITION_LIMIT }
@@ -72,6 +73,7 @@ impl Analyze {
     }
 
     // Notes the packet at a position.
+    #[inline]
     fn take(&mut self, at: u64, packet: &Packet) -> Result<(), AllocError>
         requires met { StandsForSome self.old at }
         requires in_range { at < POSITION_LIMIT }

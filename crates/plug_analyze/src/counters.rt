@@ -11,6 +11,7 @@ use ts_packet::{NULL_PID, Packet};
 
 /// Meets the packet at a position, of any PID, and answers whether its counter is a fault. Those of null packets never
 /// are.
+#[inline]
 pub fn meet_counter(last: &mut LastPackets, at: u64, packet: &Packet) -> bool
     requires { IsTable last.old }
     ensures fault { (history : List GivenCell) → Remembers all_pids last.old history → length history ≡ at → result ≡ is_fault_at history packet.now }

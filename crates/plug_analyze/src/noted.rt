@@ -30,6 +30,7 @@ impl Noted {
     }
 
     /// Notes a packet behind the others. Where the buffer is full it answers `AllocError`, and no note is lost.
+    #[inline]
     pub fn push(&mut self, note: Note) -> Result<(), AllocError>
         ensures notes { OnOk result (self.new.notes.items ≡ self.old.notes.items ++ note ∷ []) }
         ensures totals { self.new.totals ≡ self.old.totals }

@@ -49,6 +49,7 @@ impl Services {
 
     /// Meets the packet at a position, and notes the services in force with it, where they may have changed. After
     /// `AllocError` no more is to be asked.
+    #[inline]
     pub fn meet(&mut self, at: u64, packet: &Packet) -> Result<(), AllocError>
         ensures { OnOk result ((history : List GivenCell) (mark : ℕ) → Serves self.old history mark → length history ≡ at → (labels : ℕ)
             → Serves self.new (history ++ Live packet.now labels ∷ []) mark) }
@@ -80,6 +81,7 @@ impl Services {
 }
 
 // The services of the PAT in force, in its order.
+#[inline(never)]
 fn services_of(alloc: Global, force: &InForce) -> Result<Vec<ServiceCount>, AllocError>
     ensures { IfOk result (λ services. (fed : List (List ℕ)) → IsFed force.now fed → services.items ≡ services_in_force fed) }
 {

@@ -37,6 +37,7 @@ impl Totals {
     }
 
     /// Counts one packet more.
+    #[inline]
     pub fn add(&mut self, note: Note)
         requires on_pid { note.pid < PID_COUNT }
         requires room { HasRoom self.old }

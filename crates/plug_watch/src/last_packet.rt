@@ -21,6 +21,7 @@ pub struct LastPacket {
 
 impl LastPacket {
     // Whether the packet repeats the one that was seen.
+    #[inline]
     fn is_repeated_by(&self, packet: &Packet) -> bool
         ensures { result ≡ repeats self.now packet.now }
     {
@@ -31,6 +32,7 @@ impl LastPacket {
     }
 
     // The counter that is wanted of a packet.
+    #[inline]
     fn wanted(&self, packet: &Packet) -> u8
         requires { self.now.counter < 16 }
         ensures { result ≡ wanted_after self.now packet.now }
@@ -43,6 +45,7 @@ impl LastPacket {
     }
 
     // Whether the counter of a packet is a fault.
+    #[inline]
     fn is_wrong(&self, packet: &Packet) -> bool
         requires { self.now.counter < 16 }
         ensures { result ≡ is_wrong self.now packet.now }
@@ -53,6 +56,7 @@ impl LastPacket {
     }
 
     // The counter that a packet is to have.
+    #[inline]
     fn right_counter(&self, packet: &Packet) -> u8
         requires { self.now.right < 16 }
         ensures { result ≡ right_after (Some self.now) packet.now }
@@ -66,6 +70,7 @@ impl LastPacket {
 }
 
 /// What is kept with one packet more.
+#[inline]
 pub fn seen_with(seen: Option<LastPacket>, packet: &Packet) -> LastPacket
     requires { HasCounters seen }
     ensures with { result ≡ seen_with seen packet.now }
@@ -80,6 +85,7 @@ pub fn seen_with(seen: Option<LastPacket>, packet: &Packet) -> LastPacket
 }
 
 // The counter that a packet is to have: its own, if it is the first on its PID.
+#[inline]
 fn right_counter(seen: Option<LastPacket>, packet: &Packet) -> u8
     requires { HasCounters seen }
     ensures right { result ≡ right_after seen packet.now }
@@ -92,6 +98,7 @@ fn right_counter(seen: Option<LastPacket>, packet: &Packet) -> u8
 }
 
 /// The fault of the packet at a position, if it is one, behind what is kept of the packet before it on its PID.
+#[inline]
 pub fn fault_behind(at: u64, seen: Option<LastPacket>, packet: &Packet) -> Option<ContinuityError>
     requires { HasCounters seen }
     ensures { option_to_list result ≡ fault_after at seen packet.now }

@@ -34,6 +34,7 @@ impl LastPackets {
     }
 
     /// The fault of the packet at a position, if it is one.
+    #[inline]
     pub fn fault(&self, at: u64, packet: &Packet) -> Option<ContinuityError>
         requires { IsTable self.now }
         ensures { (conf : GivenConf) (history : List GivenCell) → Remembers conf self.now history → is_watched conf (pid_of packet.now) ≡ true
@@ -43,6 +44,7 @@ impl LastPackets {
     }
 
     /// Keeps a packet, and answers the counter that it is to have.
+    #[inline]
     pub fn keep(&mut self, packet: &Packet) -> u8
         requires { IsTable self.old }
         ensures right { (conf : GivenConf) (history : List GivenCell) → Remembers conf self.old history → is_watched conf (pid_of packet.now) ≡ true
@@ -58,6 +60,7 @@ impl LastPackets {
     }
 
     // What is kept of the last packet on a PID.
+    #[inline]
     fn on(&self, pid: u16) -> Option<LastPacket>
         requires on_pid { pid < PID_COUNT }
         requires table { IsTable self.now }

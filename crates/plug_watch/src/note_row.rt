@@ -34,6 +34,7 @@ pub trait LineNote: PacketNote {
 }
 
 /// Puts a note behind the others. Where the buffer is full it answers `AllocError`, and no note is lost.
+#[inline]
 pub fn push_note<N: Drop>(notes: &mut HeapCircularBuffer<N>, note: N) -> Result<(), AllocError>
     ensures ok { OnOk result (notes.new.items ≡ notes.old.items ++ note ∷ []) }
     ensures err { OnErr result (notes.new.items ≡ notes.old.items) }
@@ -48,6 +49,7 @@ pub fn push_note<N: Drop>(notes: &mut HeapCircularBuffer<N>, note: N) -> Result<
 }
 
 /// Puts a note behind the others, if there is one.
+#[inline]
 pub fn push_if_any<N: Drop>(
     notes: &mut HeapCircularBuffer<N>,
     note: Option<N>,
@@ -63,6 +65,7 @@ pub fn push_if_any<N: Drop>(
 }
 
 /// Takes the first note off, where it is below a position.
+#[inline]
 pub fn pop_below<N: PacketNote>(notes: &mut HeapCircularBuffer<N>, mark: u64) -> Option<N>
     ensures taken { IfSome result (λ note. (notes.old.items ≡ note ∷ notes.new.items) × (N.place note < mark)) }
     ensures left { IfNone result ((notes.new.items ≡ notes.old.items) × StartsFrom N.place mark notes.old.items) }

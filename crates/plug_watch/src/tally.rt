@@ -26,6 +26,7 @@ impl Tally {
     }
 
     /// Counts one packet more on a PID.
+    #[inline]
     pub fn add(&mut self, pid: u16)
         requires on_pid { pid < PID_COUNT }
         requires room { HasRoomIn self.old }
@@ -36,6 +37,7 @@ impl Tally {
     }
 
     /// Counts one packet more on a PID, if it is one of those that are counted.
+    #[inline]
     pub fn add_if(&mut self, is_one: bool, pid: u16)
         requires on_pid { pid < PID_COUNT }
         requires room { HasRoomIn self.old }
