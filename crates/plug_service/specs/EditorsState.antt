@@ -1,6 +1,6 @@
 -- When editors stand for the packets that were met.
 -- This project's own rule.
-use Rattle.std.specs.Prelude.{◌≡◌, ℕ, List, [], Option, Some, None, nat_eq}
+use Rattle.std.specs.Prelude.{◌≡◌, ℕ, Bool, List, [], Option, Some, None, nat_eq, if◌then◌else◌}
 use Rattle.indexmap.specs.IndexMap.{get}
 use Rattle.plug_psi.specs.declared.editor.Editor.{Editor}
 use Rattle.plug_service.specs.ServiceEdits.{pat_change, sdt_change, pmt_change}
@@ -14,6 +14,10 @@ use Rattle.plug_service.specs.declared.editors.Editors.{Editors}
 abbrev pub EntryStands : ℕ → Option (Editor PmtAlone) → ℕ → List (List ℕ) → Type 0
 EntryStands service None pid taken = taken ≡ []
 EntryStands service (Some editor) pid taken = Edits (record { service = service }) (pmt_change service) editor pid taken
+
+-- the packet that is left in the place of one, where one passes
+abbrev pub left_by : Bool → List ℕ → Option (List ℕ)
+left_by passes packet = if passes then Some packet else None
 
 -- a PID has its editor
 abbrev pub HasEntry : Option (Editor PmtAlone) → Type 0

@@ -1,10 +1,11 @@
 //! The editors of all PIDs.
 
-ghost use Rattle.std.specs.Prelude.{◌≡◌, ℕ, ◌++◌, ◌∷◌, [], List, IfOk, OnOk};
+ghost use Rattle.std.specs.Prelude.{◌≡◌, ℕ, ◌++◌, ◌∷◌, [], List, IfOk, OnOk, OnErr};
 ghost use Rattle.ts_packet.specs.Header.{pid_of};
 ghost use Rattle.plug_service.specs.Fates.{fate_after};
 ghost use Rattle.plug_service.specs.FatesState.{IsEditable};
 ghost use Rattle.plug_service.specs.ServiceRule.{made_by};
+ghost use Rattle.plug_service.specs.EditorsState.{left_by};
 
 use crate::fate::Fate;
 use crate::limits::{PAT_PID, SDT_PID};
@@ -39,26 +40,38 @@ impl Editors {
         })
     }
 
-    /// The packet in the place of one by its fate; none where it does not pass.
-    pub(crate) fn make(
+    /// Edits a packet by its fate where it stands, and answers whether one passes in its place. What passes as it came
+    /// is not touched. After `AllocError` the packet is as it was.
+    #[inline]
+    pub(crate) fn edit(
         &mut self,
         alloc: Global,
         fate: Fate,
-        packet: &Packet,
-    ) -> Result<Option<Packet>, AllocError>
-        requires { IsEditable fate (pid_of packet.now) }
-        ensures made { IfOk result (λ made. (way : Way) (service : ℕ) (met : List (List ℕ)) → EditorsStand way service self.old met
-            → made ≡ made_by way service fate met packet.now) }
+        packet: &mut Packet,
+    ) -> Result<bool, AllocError>
+        requires { IsEditable fate (pid_of packet.old) }
+        ensures made { IfOk result (λ passes. (way : Way) (service : ℕ) (met : List (List ℕ)) → EditorsStand way service self.old met
+            → left_by passes packet.new ≡ made_by way service fate met packet.old) }
         ensures stands { OnOk result ((way : Way) (service : ℕ) (met : List (List ℕ)) → EditorsStand way service self.old met
-            → fate ≡ fate_after way service (met ++ packet.now ∷ []) (pid_of packet.now)
-            → EditorsStand way service self.new (met ++ packet.now ∷ [])) }
+            → fate ≡ fate_after way service (met ++ packet.old ∷ []) (pid_of packet.old)
+            → EditorsStand way service self.new (met ++ packet.old ∷ [])) }
+        ensures as_it_was { OnErr result (packet.new ≡ packet.old) }
     {
         match fate {
-            Fate::EditPat => Ok(Some(step_editor(&mut self.pat, packet)?)),
-            Fate::EditSdt => Ok(Some(step_editor(&mut self.sdt, packet)?)),
-            Fate::EditPmt => Ok(Some(self.pmts.edit(alloc, packet.pid(), packet)?)),
-            Fate::Pass => Ok(Some(*packet)),
-            Fate::Drop => Ok(None),
+            Fate::EditPat => {
+                step_editor(&mut self.pat, packet)?;
+                Ok(true)
+            }
+            Fate::EditSdt => {
+                step_editor(&mut self.sdt, packet)?;
+                Ok(true)
+            }
+            Fate::EditPmt => {
+                self.pmts.edit(alloc, packet.pid(), packet)?;
+                Ok(true)
+            }
+            Fate::Pass => Ok(true),
+            Fate::Drop => Ok(false),
         }
     }
 }

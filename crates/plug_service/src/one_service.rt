@@ -5,6 +5,7 @@ ghost use Rattle.ts_packet.specs.declared.cell.Cell.{Cell as PlacedCell};
 ghost use Rattle.ts_packet.specs.Cells.{live_packets};
 ghost use Rattle.plugin_trait.specs.Steps.{StepTells, met_after};
 ghost use Rattle.plug_service.specs.ServiceRule.{made_of};
+ghost use Rattle.plug_service.specs.EditorsState.{left_by};
 
 use crate::editors::Editors;
 use crate::watch::Watch;
@@ -54,6 +55,7 @@ impl OneService {
     }
 
     /// Takes the next cell, and leaves in it what becomes of it.
+    #[inline]
     pub(crate) fn step(&mut self, cell: &mut Cell) -> Outcome
         ensures tells { (history : List PlacedCell) → StandsFor self.old (live_packets history)
             → StepTells (rule_of self.old) history cell.old result cell.new }
@@ -68,11 +70,8 @@ impl OneService {
             return Outcome::Pass;
         };
         match self.take(packet) {
-            Ok(Some(new)) => {
-                *packet = new;
-                Outcome::Pass
-            }
-            Ok(None) => {
+            Ok(true) => Outcome::Pass,
+            Ok(false) => {
                 if self.stuffing {
                     *packet = Packet::null();
                     return Outcome::Pass;
@@ -84,13 +83,15 @@ impl OneService {
         }
     }
 
-    /// Takes the next packet, and answers the one in its place; none where it does not pass. After `AllocError` every
-    /// later call answers `AllocError`.
-    fn take(&mut self, packet: &Packet) -> Result<Option<Packet>, AllocError>
-        ensures made { IfOk result (λ made. (met : List (List ℕ)) → StandsFor self.old met
-            → made ≡ made_of self.old.way self.old.service met packet.now) }
-        ensures stands { OnOk result ((met : List (List ℕ)) → StandsFor self.old met → StandsFor self.new (met ++ packet.now ∷ [])) }
+    /// Takes the next packet, edits it where it stands, and answers whether one passes in its place. After `AllocError`
+    /// the packet is as it was, and every later call answers `AllocError`.
+    #[inline]
+    fn take(&mut self, packet: &mut Packet) -> Result<bool, AllocError>
+        ensures made { IfOk result (λ passes. (met : List (List ℕ)) → StandsFor self.old met
+            → left_by passes packet.new ≡ made_of self.old.way self.old.service met packet.old) }
+        ensures stands { OnOk result ((met : List (List ℕ)) → StandsFor self.old met → StandsFor self.new (met ++ packet.old ∷ [])) }
         ensures spent { OnErr result (self.new.failed ≡ true) }
+        ensures as_it_was { OnErr result (packet.new ≡ packet.old) }
         ensures way { self.new.way ≡ self.old.way }
         ensures service { self.new.service ≡ self.old.service }
         ensures stuffing { self.new.stuffing ≡ self.old.stuffing }
@@ -99,7 +100,7 @@ impl OneService {
             return Err(AllocError);
         }
         match self.advance(packet) {
-            Ok(made) => Ok(made),
+            Ok(passes) => Ok(passes),
             Err(error) => {
                 self.failed = true;
                 Err(error)
@@ -107,19 +108,21 @@ impl OneService {
         }
     }
 
-    /// Takes the next packet as long as memory was there.
-    fn advance(&mut self, packet: &Packet) -> Result<Option<Packet>, AllocError>
-        ensures made { IfOk result (λ made. (way : Way) (service : ℕ) (met : List (List ℕ)) → Served way service self.old met
-            → made ≡ made_of way service met packet.now) }
+    /// Takes the next packet as long as memory was there. After `AllocError` the packet is as it was.
+    #[inline]
+    fn advance(&mut self, packet: &mut Packet) -> Result<bool, AllocError>
+        ensures made { IfOk result (λ passes. (way : Way) (service : ℕ) (met : List (List ℕ)) → Served way service self.old met
+            → left_by passes packet.new ≡ made_of way service met packet.old) }
         ensures stands { OnOk result ((way : Way) (service : ℕ) (met : List (List ℕ)) → Served way service self.old met
-            → Served way service self.new (met ++ packet.now ∷ [])) }
+            → Served way service self.new (met ++ packet.old ∷ [])) }
+        ensures as_it_was { OnErr result (packet.new ≡ packet.old) }
         ensures way { self.new.way ≡ self.old.way }
         ensures service { self.new.service ≡ self.old.service }
         ensures stuffing { self.new.stuffing ≡ self.old.stuffing }
         ensures failed { self.new.failed ≡ self.old.failed }
     {
         let fate = self.watch.meet(self.alloc, packet)?;
-        let made = self.editors.make(self.alloc, fate, packet)?;
-        Ok(made)
+        let passes = self.editors.edit(self.alloc, fate, packet)?;
+        Ok(passes)
     }
 }

@@ -71,6 +71,7 @@ impl PidFates {
     }
 
     /// Other tables are in force. It takes memory as it goes, and keeps none.
+    #[inline(never)]
     pub(crate) fn renew(&mut self, alloc: Global, force: &InForce) -> Result<(), AllocError>
         ensures stands { OnOk result (length self.old.flags.items ≡ PID_COUNT → (fed : List (List ℕ)) → Forced force.now fed
             → FatesStand self.new (pat_of fed) (λ other. pmt_of other fed)) }

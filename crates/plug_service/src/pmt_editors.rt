@@ -1,6 +1,6 @@
 //! The editors of the PIDs that the service's PMT had.
 
-ghost use Rattle.std.specs.Prelude.{◌≡◌, ℕ, ◌<◌, ◌++◌, ◌∷◌, [], List, None, false, IfOk, OnOk, nat_eq};
+ghost use Rattle.std.specs.Prelude.{◌≡◌, ℕ, ◌<◌, ◌++◌, ◌∷◌, [], List, None, false, OnOk, OnErr, nat_eq};
 ghost use Rattle.indexmap.specs.IndexMap.{get};
 ghost use Rattle.plug_psi.specs.EditedCycles.{replaced};
 ghost use Rattle.plug_service.specs.EditorsState.{EntryStands, HasEntry};
@@ -35,18 +35,20 @@ impl PmtEditors {
         }
     }
 
-    /// The packet that is put in the place of one on a PID that is edited.
+    /// Puts the packet of the cycle in the place of one on a PID that is edited. After `AllocError` the packet is as
+    /// it was.
     pub(crate) fn edit(
         &mut self,
         alloc: Global,
         pid: u16,
-        packet: &Packet,
-    ) -> Result<Packet, AllocError>
+        packet: &mut Packet,
+    ) -> Result<(), AllocError>
         requires { pid < NULL_PID }
-        ensures made { IfOk result (λ new. (taken : List (List ℕ)) → EntryStands self.old.service (get nat_eq self.old.editors pid) pid taken
-            → new ≡ replaced pid (pmt_change self.old.service) taken packet.now) }
+        ensures made { OnOk result ((taken : List (List ℕ)) → EntryStands self.old.service (get nat_eq self.old.editors pid) pid taken
+            → packet.new ≡ replaced pid (pmt_change self.old.service) taken packet.old) }
         ensures stands { OnOk result ((taken : List (List ℕ)) → EntryStands self.old.service (get nat_eq self.old.editors pid) pid taken
-            → EntryStands self.old.service (get nat_eq self.new.editors pid) pid (taken ++ packet.now ∷ [])) }
+            → EntryStands self.old.service (get nat_eq self.new.editors pid) pid (taken ++ packet.old ∷ [])) }
+        ensures as_it_was { OnErr result (packet.new ≡ packet.old) }
         ensures others { OnOk result ((other : ℕ) → nat_eq pid other ≡ false → get nat_eq self.new.editors other ≡ get nat_eq self.old.editors other) }
         ensures service { self.new.service ≡ self.old.service }
     {
@@ -88,20 +90,21 @@ fn fresh_entry(
     Ok(())
 }
 
-/// The packet that the editor of a PID puts in the place of one.
-fn edit_on(editors: &mut Entries, pid: u16, packet: &Packet) -> Result<Packet, AllocError>
+/// Has the editor of a PID take a packet and put the one of its cycle in its place.
+fn edit_on(editors: &mut Entries, pid: u16, packet: &mut Packet) -> Result<(), AllocError>
     requires { HasEntry (get nat_eq editors.old pid) }
-    ensures made { IfOk result (λ new. (service : ℕ) (taken : List (List ℕ)) → EntryStands service (get nat_eq editors.old pid) pid taken
-        → new ≡ replaced pid (pmt_change service) taken packet.now) }
+    ensures made { OnOk result ((service : ℕ) (taken : List (List ℕ)) → EntryStands service (get nat_eq editors.old pid) pid taken
+        → packet.new ≡ replaced pid (pmt_change service) taken packet.old) }
     ensures stands { OnOk result ((service : ℕ) (taken : List (List ℕ)) → EntryStands service (get nat_eq editors.old pid) pid taken
-        → EntryStands service (get nat_eq editors.new pid) pid (taken ++ packet.now ∷ [])) }
+        → EntryStands service (get nat_eq editors.new pid) pid (taken ++ packet.old ∷ [])) }
+    ensures as_it_was { OnErr result (packet.new ≡ packet.old) }
     ensures others { OnOk result ((other : ℕ) → nat_eq pid other ≡ false → get nat_eq editors.new other ≡ get nat_eq editors.old other) }
 {
     match editors.get_mut(&pid) {
         Some(editor) => {
-            let new = step_editor(editor, packet)?;
-            Ok(new)
+            step_editor(editor, packet)?;
+            Ok(())
         }
-        None => Ok(*packet),
+        None => Ok(()),
     }
 }

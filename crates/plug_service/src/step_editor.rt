@@ -1,6 +1,6 @@
-//! A step of an editor on a packet that stays as it is.
+//! A step of an editor, in the words of this crate.
 
-ghost use Rattle.std.specs.Prelude.{◌≡◌, ℕ, ◌++◌, ◌∷◌, [], List, IfOk, OnOk};
+ghost use Rattle.std.specs.Prelude.{◌≡◌, ℕ, ◌++◌, ◌∷◌, [], List, OnOk, OnErr};
 ghost use Rattle.plug_psi.specs.EditedCycles.{replaced};
 ghost use Rattle.plug_service.specs.EditorStands.{Edits};
 
@@ -8,17 +8,17 @@ use plug_psi::{Editor, TableEdit};
 use std::alloc::AllocError;
 use ts_packet::Packet;
 
-/// The packet that an editor puts in the place of one that it takes.
+/// Has an editor take a packet and put the one of its cycle in its place. After `AllocError` the packet is as it was.
 pub(crate) fn step_editor<E: TableEdit + Drop>(
     editor: &mut Editor<E>,
-    packet: &Packet,
-) -> Result<Packet, AllocError>
-    ensures made { IfOk result (λ new. (edit : E) (pid : ℕ) (taken : List (List ℕ)) → Edits edit (E.change edit) editor.old pid taken
-        → new ≡ replaced pid (E.change edit) taken packet.now) }
+    packet: &mut Packet,
+) -> Result<(), AllocError>
+    ensures made { OnOk result ((edit : E) (pid : ℕ) (taken : List (List ℕ)) → Edits edit (E.change edit) editor.old pid taken
+        → packet.new ≡ replaced pid (E.change edit) taken packet.old) }
     ensures stands { OnOk result ((edit : E) (pid : ℕ) (taken : List (List ℕ)) → Edits edit (E.change edit) editor.old pid taken
-        → Edits edit (E.change edit) editor.new pid (taken ++ packet.now ∷ [])) }
+        → Edits edit (E.change edit) editor.new pid (taken ++ packet.old ∷ [])) }
+    ensures as_it_was { OnErr result (packet.new ≡ packet.old) }
 {
-    let mut new = *packet;
-    editor.step(&mut new)?;
-    Ok(new)
+    editor.step(packet)?;
+    Ok(())
 }

@@ -36,6 +36,7 @@ impl Watch {
     }
 
     /// Meets the next packet, of any PID, and answers its fate.
+    #[inline]
     pub(crate) fn meet(&mut self, alloc: Global, packet: &Packet) -> Result<Fate, AllocError>
         ensures stands { OnOk result ((way : Way) (service : ℕ) (met : List (List ℕ)) → Watches way service self.old met
             → Watches way service self.new (met ++ packet.now ∷ [])) }
@@ -50,6 +51,7 @@ impl Watch {
 }
 
 /// Makes the fates anew where tables came into force.
+#[inline]
 fn renew_where(
     alloc: Global,
     force: &InForce,

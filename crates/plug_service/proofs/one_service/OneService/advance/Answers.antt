@@ -3,5 +3,5 @@ use Rattle.plug_service.proofs.one_service.OneService.advance.Goals as goal
 pub returns-clause-stands : goal.returns-clause-stands
 returns-clause-stands c = λ way service met h. record {
   watched = c.in_ok-fate.ensures.stands way service met h.watched;
-  edited = c.in_ok-made.ensures.stands way service met h.edited (c.in_ok-fate.ensures.tells way service met h.watched);
+  edited = c.in_ok-passes.ensures.stands way service met h.edited (c.in_ok-fate.ensures.tells way service met h.watched);
 }

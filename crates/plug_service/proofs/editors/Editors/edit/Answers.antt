@@ -4,7 +4,7 @@ use Rattle.ts_packet.specs.Header.{pid_of}
 use Rattle.plug_service.specs.ServiceRule.{made_by, packets_on, taken_on}
 use Rattle.plug_service.specs.declared.fate.Fate.TheVariants.{EditPat, EditSdt, EditPmt, Pass, Drop}
 use Rattle.plug_service.proofs.EditLemmas.{editors-next, entry-next}
-use Rattle.plug_service.proofs.editors.Editors.make.Goals as goal
+use Rattle.plug_service.proofs.editors.Editors.edit.Goals as goal
 
 pub returns-in_ok-step_editor-in-EditPat-clause-made : goal.returns-in_ok-step_editor-in-EditPat-clause-made
 returns-in_ok-step_editor-in-EditPat-clause-made c = λ way service met h.
