@@ -31,8 +31,8 @@ use ts_outside::{Desk, Gate};
 /// - `Sync`, `Refused` and `TooLong` where that ended the run;
 /// - `Done` in all other cases.
 ///
-/// A chain of more than one plugin runs in threads, one for each stage, where there are processors for more than one;
-/// the runtime is there to wait and to start them with. `serial_call` does the same without it.
+/// The chain runs in threads, each for one stage or some neighbours, where there are processors for more than one; the
+/// runtime is there to wait and to start them with. `serial_call` does the same without it.
 pub fn tsp_call<R: Threads + Wait + Sync, D: Desk, G: Gate>(
     rt: &R,
     alloc: Global,

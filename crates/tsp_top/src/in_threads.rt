@@ -47,24 +47,15 @@ where
     run_threads(rt, alloc, stages, core, threads, gate)
 }
 
-/// A chain of fewer plugins runs in one thread: what its stages do at once is less than what it costs to hand packets
-/// from thread to thread.
-const LEAST_PLUGINS: usize = 2;
-
 /// On fewer processors every chain runs in one thread: there the stages do nothing at once.
 const LEAST_PROCESSORS: usize = 2;
-
-/// Whether a chain of so many plugins runs in threads, where there are processors for them.
-pub(crate) fn is_for_threads(plugins: usize) -> bool {
-    plugins >= LEAST_PLUGINS
-}
 
 /// In how many threads a chain runs at least that does not run in one: the input and the output each copy every packet, so
 /// neither shares a thread with all plugins.
 const LEAST_THREADS: usize = 4;
 
-/// In how many threads a chain runs that is for threads: as many as there are processors on which they may run, where that
-/// is not too few. Where the system does not say so, there are enough.
+/// In how many threads a chain runs: as many as there are processors on which they may run, where that is not too few.
+/// Where the system does not say so, there are enough.
 fn threads_for(rt: &impl Threads) -> usize {
     match available_parallelism(rt) {
         Ok(processors) => threads_on(processors.get()),
@@ -81,7 +72,7 @@ fn threads_on(processors: usize) -> usize {
     }
 }
 
-/// Runs a chain, in threads where it has plugins enough and there are processors for them, and gives its parts back.
+/// Runs a chain, in threads where there are processors for them, and gives its parts back.
 ///
 /// `closed` is `AllocError` where memory was wanting for the run; then nothing was done.
 pub(crate) fn run_in_threads_or_one<R, S, K, P, G>(
@@ -106,11 +97,9 @@ where
         stages.stuffing core.now stages.input result.input
         stages.plugins.items result.plugins.items stages.output result.output result.closed }
 {
-    if is_for_threads(core.plugins) {
-        let threads = threads_for(rt);
-        if threads > 1 {
-            return run_in_threads(rt, alloc, stages, core, threads, gate);
-        }
+    let threads = threads_for(rt);
+    if threads > 1 {
+        return run_in_threads(rt, alloc, stages, core, threads, gate);
     }
     run_in_one_thread(alloc, stages, core, gate)
 }

@@ -7,7 +7,6 @@ ghost use Rattle.stage_run.specs.InputStands as stage;
 ghost use Rattle.tsp_top.specs.PlannedChain.{stuffing_of, user_at, users_from, users_of};
 ghost use Rattle.tsp_top.specs.Sizes.{default_buffer, default_batch, IsSize, lesser_batch, IsPlannedCore};
 
-use crate::in_threads::is_for_threads;
 use chain_args::{GeneralConf, Plan};
 use chain_core::{CorePlan, StageSet};
 use plug_set::PluginItem;
@@ -32,28 +31,15 @@ pub(crate) fn planned_stuffing(general: &GeneralConf) -> Stuffing
 /// way.
 const CHOSEN_BATCH: u64 = 1024;
 
-/// How many batches the buffer has where the words do not say and each stage has a thread: some for the stages to work on
-/// at once, and few enough to stay in the cache.
-const CHOSEN_BATCHES: u64 = 4;
+/// How many packets the buffer has where the words do not say: four batches, so that the stages have some to work on at
+/// once, and few enough to stay in the cache.
+const CHOSEN_BUFFER: u64 = 4 * CHOSEN_BATCH;
 
 /// How many packets a stage takes at a time by an option that is not given, where the other one is.
 const DEFAULT_BATCH: u64 = 10_000;
 
-/// How many packets the buffer has where the words do not say, for so many plugins. Where the stages take turns, more than
-/// one batch serves nothing.
-fn chosen_buffer(plugins: usize) -> u64
-    ensures some { 1 ≤ result }
-    ensures bound { result ≤ default_buffer }
-{
-    if is_for_threads(plugins) {
-        CHOSEN_BATCHES * CHOSEN_BATCH
-    } else {
-        CHOSEN_BATCH
-    }
-}
-
 /// How many packets the buffer has.
-fn planned_buffer(general: &GeneralConf, plugins: usize) -> u64
+fn planned_buffer(general: &GeneralConf) -> u64
     requires { IsLawfulGeneral general.now }
     ensures size { IsSize general.now.buffer_packets default_buffer result }
     ensures some { 1 ≤ result }
@@ -61,7 +47,7 @@ fn planned_buffer(general: &GeneralConf, plugins: usize) -> u64
 {
     match general.buffer_packets {
         Some(given) => given,
-        None => chosen_buffer(plugins),
+        None => CHOSEN_BUFFER,
     }
 }
 
@@ -124,10 +110,9 @@ pub(crate) fn planned_core(plan: &Plan) -> CorePlan
     requires { args.IsLawfulPlan plan.now }
     ensures { IsPlannedCore plan.now result }
 {
-    let plugins = plan.plugins.as_slice().len();
     CorePlan {
-        plugins,
-        buffer: planned_buffer(&plan.general, plugins) as usize,
+        plugins: plan.plugins.as_slice().len(),
+        buffer: planned_buffer(&plan.general) as usize,
         most: planned_batch(&plan.general) as usize,
         users: planned_users(plan),
     }
