@@ -5,7 +5,7 @@ use Rattle.tsp_top.proofs.planning.planned_core.Goals as goal
 
 pub returns : goal.returns
 returns c =
-    let count : length c.as_slice-plugins.result.now ≡ length c.args.plan.now.plugins = ap (λ (l : List PluginItem). length l) c.as_slice-plugins.ensures in
+    let count : length c.as_slice.result.now ≡ length c.args.plan.now.plugins = ap (λ (l : List PluginItem). length l) c.as_slice.ensures in
     record {
       lawful = record {
         plugins = rw count c.requires.few;
