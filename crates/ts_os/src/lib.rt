@@ -3,6 +3,7 @@
 #![tactic(auto)]
 
 mod calls;
+mod file_id;
 mod os_desk;
 mod os_sink;
 mod os_source;

@@ -8,10 +8,11 @@ ghost use Rattle.ts_outside.specs.Desk.{stream_name, content, asked_well, asked_
 ghost use Rattle.ts_os.specs.Untold.{untold_desk, untold_sink, untold_source};
 
 use crate::calls::write_some;
+use crate::file_id::FileId;
 use crate::os_sink::{Made, OsSink};
 use crate::os_source::{Opened, OsSource};
 use std::alloc::Global;
-use std::fs::File;
+use std::fs::{File, OpenOptions, metadata};
 use std::marker::Model;
 use ts_outside::{Desk, Failed, FileBytes, FileFault, OpenFault, one_more, read_to_end};
 
@@ -19,11 +20,16 @@ use ts_outside::{Desk, Failed, FileBytes, FileFault, OpenFault, one_more, read_t
 /// as where reports go.
 ///
 /// Reports go to standard error once `open_out` was asked for the standard stream, and to standard output otherwise.
-/// An output file is made where it is absent and emptied where it is there.
+/// An output file is made where it is absent and emptied where it is there. A regular file that is open as an input at
+/// that moment, under whatever name, is not opened as an output and stays as it is: emptied, it would take with it what
+/// was still to be read.
 #[derive(Drop)]
 pub struct OsDesk {
     rt: HostRuntime,
     alloc: Global,
+
+    /// The regular files that are open as inputs.
+    inputs: Vec<FileId>,
     read_faults: u64,
     write_faults: u64,
     report_faults: u64,
@@ -51,6 +57,7 @@ impl OsDesk {
         OsDesk {
             rt,
             alloc: rt.alloc(),
+            inputs: Vec::new(rt.alloc()),
             read_faults: 0,
             write_faults: 0,
             report_faults: 0,
@@ -62,12 +69,20 @@ impl OsDesk {
     fn source(&self, named: &str) -> Option<OsSource>
         ensures { IfSome result (λ s. s ≡ 0) }
     {
-        let from = if named.is_empty() {
-            Opened::Stream(self.rt.stdin())
+        let (from, told) = if named.is_empty() {
+            let told = metadata(&self.rt, "/dev/stdin");
+            (Opened::Stream(self.rt.stdin()), told)
         } else {
-            Opened::File(File::open(&self.rt, named).ok()?)
+            let file = File::open(&self.rt, named).ok()?;
+            let told = file.metadata();
+            (Opened::File(file), told)
         };
-        Some(OsSource { from, faults: 0 })
+        let file = told.ok().and_then(|it| FileId::of(&it));
+        Some(OsSource {
+            from,
+            file,
+            faults: 0,
+        })
     }
 
     /// A sink of a name that opened.
@@ -77,9 +92,34 @@ impl OsDesk {
         let to = if named.is_empty() {
             Made::Stream(self.rt.stdout())
         } else {
-            Made::File(File::create(&self.rt, named).ok()?)
+            Made::File(self.emptied(named)?)
         };
         Some(OsSink { to, faults: 0 })
+    }
+
+    /// Once less among the open inputs: a file may be open as two of them.
+    fn forget(&mut self, closed: FileId)
+        ensures { self.new ≡ self.old }
+    {
+        if let Some(at) = self.inputs.iter().position(|it| *it == closed) {
+            self.inputs.swap_remove(at);
+        }
+    }
+
+    /// The file of a name, made or emptied. It is compared with the open inputs before it is emptied.
+    fn emptied(&self, named: &str) -> Option<File> {
+        let file = OpenOptions::new()
+            .write(true)
+            .create(true)
+            .open(&self.rt, named)
+            .ok()?;
+        if let Some(id) = FileId::of(&file.metadata().ok()?) {
+            if self.inputs.contains(&id) {
+                return None;
+            }
+            file.set_len(0).ok()?;
+        }
+        Some(file)
     }
 }
 
@@ -100,8 +140,16 @@ impl Desk for OsDesk {
             IfOk result (λ s. untold_source s ≡ record { left = content (untold_desk self.old) named; faults = 0 }) }
         ensures aside { self.new.aside ≡ self.old.aside }
     {
+        if self.inputs.reserve(1).is_err() {
+            return Err(OpenFault::NoMemory);
+        }
         match self.source(name.unwrap_or("")) {
-            Some(source) => Ok(source),
+            Some(source) => {
+                if let Some(id) = source.file {
+                    self.inputs.push_reserved(id);
+                }
+                Ok(source)
+            }
             None => {
                 self.read_faults = one_more(self.read_faults);
                 Err(OpenFault::Failed)
@@ -141,7 +189,14 @@ impl Desk for OsDesk {
         ensures closed { untold_desk self.new ≡ input_closed (untold_desk self.old) (untold_source input) }
         ensures aside { self.new.aside ≡ self.old.aside }
     {
-        let OsSource { from: _, faults } = input;
+        let OsSource {
+            from: _,
+            file,
+            faults,
+        } = input;
+        if let Some(id) = file {
+            self.forget(id);
+        }
         if faults > 0 {
             self.read_faults = one_more(self.read_faults);
         }
@@ -179,7 +234,11 @@ impl Desk for OsDesk {
         let read = match self.source(name.unwrap_or("")) {
             Some(mut source) => {
                 let read = read_to_end(self.alloc, &mut source, most);
-                let OsSource { from: _, faults: _ } = source;
+                let OsSource {
+                    from: _,
+                    file: _,
+                    faults: _,
+                } = source;
                 read
             }
             None => Err(FileFault::Failed),

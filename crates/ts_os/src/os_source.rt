@@ -3,6 +3,7 @@ ghost use Rattle.ts_outside.specs.Source.{read_failed, unread};
 ghost use Rattle.ts_os.specs.Untold.{untold_source};
 
 use crate::calls::read_some;
+use crate::file_id::FileId;
 use std::fs::File;
 use std::io::Stdin;
 use std::marker::Model;
@@ -20,6 +21,7 @@ pub(crate) enum Opened {
 /// Each call asks the system once, for as many bytes as have a place. A directory opens and fails at its first read.
 pub struct OsSource {
     pub(crate) from: Opened,
+    pub(crate) file: Option<FileId>,
     pub(crate) faults: u64,
 }
 
