@@ -7,6 +7,12 @@ ghost use Rattle.ts_pages.specs.Pages.{page_of, page_named};
 use crate::{delivery, dvb, mpeg};
 use ts_fields::Layout;
 
+// The tags that have a page, in their order: those of `layout_of`.
+static TAGS: [u8; 21] = [
+    0x05, 0x06, 0x09, 0x0A, 0x0E, 0x40, 0x41, 0x43, 0x44, 0x47, 0x48, 0x4D, 0x50, 0x52, 0x53, 0x54,
+    0x55, 0x56, 0x59, 0x5A, 0x5F,
+];
+
 /// The page of a descriptor's tag; none for a tag that has no page here.
 pub fn layout_of(tag: u8) -> Option<&'static Layout>
     ensures page { option_map (λ l. page l.now) result ≡ page_of tag }
@@ -45,28 +51,12 @@ pub fn layout_named(name: &str) -> Option<&'static Layout>
     ensures sound { IfSome result (λ l. IsTrue (page_sound (page l.now))) }
     ensures exact { IfSome result (λ l. page_exact (page l.now) ≡ true) }
 {
-    match name {
-        "registration_descriptor" => Some(&mpeg::REGISTRATION),
-        "data_stream_alignment_descriptor" => Some(&mpeg::DATA_STREAM_ALIGNMENT),
-        "CA_descriptor" => Some(&mpeg::CA),
-        "ISO_639_language_descriptor" => Some(&mpeg::LANGUAGE),
-        "maximum_bitrate_descriptor" => Some(&mpeg::MAXIMUM_BITRATE),
-        "network_name_descriptor" => Some(&dvb::NETWORK_NAME),
-        "service_list_descriptor" => Some(&dvb::SERVICE_LIST),
-        "satellite_delivery_system_descriptor" => Some(&delivery::SATELLITE),
-        "cable_delivery_system_descriptor" => Some(&delivery::CABLE),
-        "bouquet_name_descriptor" => Some(&dvb::BOUQUET_NAME),
-        "service_descriptor" => Some(&dvb::SERVICE),
-        "short_event_descriptor" => Some(&dvb::SHORT_EVENT),
-        "component_descriptor" => Some(&dvb::COMPONENT),
-        "stream_identifier_descriptor" => Some(&dvb::STREAM_IDENTIFIER),
-        "CA_identifier_descriptor" => Some(&dvb::CA_IDENTIFIER),
-        "content_descriptor" => Some(&dvb::CONTENT),
-        "parental_rating_descriptor" => Some(&dvb::PARENTAL_RATING),
-        "teletext_descriptor" => Some(&dvb::TELETEXT),
-        "subtitling_descriptor" => Some(&dvb::SUBTITLING),
-        "terrestrial_delivery_system_descriptor" => Some(&delivery::TERRESTRIAL),
-        "private_data_specifier_descriptor" => Some(&dvb::PRIVATE_DATA_SPECIFIER),
-        _ => None,
+    for tag in &TAGS {
+        if let Some(layout) = layout_of(*tag) {
+            if name == layout.name {
+                return Some(layout);
+            }
+        }
     }
+    None
 }
