@@ -1,5 +1,5 @@
 /// The general options, each with its default where it is not given; of the three sizes it tells whether they are.
-#[derive(Drop, Debug, Clone, Copy, PartialEq, Eq)]
+#[derive(Drop, Clone, Copy, PartialEq, Eq)]
 pub struct GeneralConf {
     /// Null packets before the first packet of the input, 0 to 1,000,000, else 0.
     pub add_start_stuffing: u64,

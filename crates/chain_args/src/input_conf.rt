@@ -4,7 +4,7 @@ use ts_outside::NameText;
 pub const MOST_SEED: u64 = u64::MAX;
 
 /// Where the packets come from.
-#[derive(Drop, Debug)]
+#[derive(Drop)]
 pub enum InputConf {
     /// A file; the empty name is standard input.
     File(NameText),

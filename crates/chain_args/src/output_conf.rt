@@ -1,7 +1,7 @@
 use ts_outside::NameText;
 
 /// Where the packets go.
-#[derive(Drop, Debug)]
+#[derive(Drop)]
 pub enum OutputConf {
     /// A file; the empty name is standard output.
     File(NameText),

@@ -4,7 +4,7 @@ use crate::output_conf::OutputConf;
 use crate::plugin_list::PluginList;
 
 /// What a command line asks for: the chain from its input to its output.
-#[derive(Drop, Debug)]
+#[derive(Drop)]
 pub struct Plan {
     /// The general options.
     pub general: GeneralConf,

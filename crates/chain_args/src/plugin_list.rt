@@ -4,7 +4,7 @@ use plug_set::PluginItem;
 use std::marker::Model;
 
 /// The plugins of a chain, seen as their list.
-#[derive(Drop, Debug)]
+#[derive(Drop)]
 pub struct PluginList {
     plugins: Vec<PluginItem>,
 }

@@ -1,3 +1,3 @@
 /// Settings of `analyze`, which has none.
-#[derive(Drop, Debug)]
+#[derive(Drop)]
 pub struct AnalyzeConf {}

@@ -2,7 +2,7 @@ use crate::service_count::ServiceCount;
 use plug_watch::PacketNote;
 
 /// The services in force from a packet on, with which the tables in force changed.
-#[derive(Drop, Debug)]
+#[derive(Drop)]
 pub struct Change {
     /// The position of the packet.
     pub at: u64,

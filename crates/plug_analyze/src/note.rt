@@ -1,7 +1,7 @@
 use plug_watch::PacketNote;
 
 /// What is kept of a packet for as long as it may still stand behind the cut.
-#[derive(Debug, Clone, Copy, PartialEq, Eq)]
+#[derive(Clone, Copy, PartialEq, Eq)]
 pub struct Note {
     /// The position of the packet.
     pub at: u64,

@@ -6,7 +6,7 @@ use plug_watch::{pop_below, push_note};
 use std::alloc::{AllocError, Global};
 
 /// Notes of the packets behind the greatest mark, and the numbers of those below it.
-#[derive(Drop, Debug)]
+#[derive(Drop)]
 pub struct Noted {
     totals: Totals,
     notes: HeapCircularBuffer<Note>,

@@ -5,7 +5,7 @@ use plugin_trait::LineText;
 use std::alloc::{AllocError, Global};
 
 /// How many packets on a PID are of each kind.
-#[derive(Debug, Clone, Copy, PartialEq, Eq)]
+#[derive(Clone, Copy, PartialEq, Eq)]
 pub struct PidCounts {
     /// All of them.
     pub packets: u64,

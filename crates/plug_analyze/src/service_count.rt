@@ -5,7 +5,7 @@ use plugin_trait::LineText;
 use std::alloc::{AllocError, Global};
 
 /// A service of the PAT in force.
-#[derive(Debug, Clone, Copy, PartialEq, Eq)]
+#[derive(Clone, Copy, PartialEq, Eq)]
 pub struct ServiceCount {
     /// Its number.
     pub id: u16,

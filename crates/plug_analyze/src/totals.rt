@@ -8,7 +8,7 @@ use plug_watch::Tally;
 use std::alloc::{AllocError, Global};
 
 /// The packets that were counted, by their PIDs, once for each kind.
-#[derive(Drop, Debug)]
+#[derive(Drop)]
 pub struct Totals {
     packets: Tally,
     payload: Tally,

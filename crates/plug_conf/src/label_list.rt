@@ -7,7 +7,7 @@ use std::marker::Model;
 use ts_packet::Labels;
 
 /// The labels that an option lists, seen as its ranges. They are kept as one set, which is not searched.
-#[derive(Drop, Debug)]
+#[derive(Drop)]
 pub struct LabelList {
     ranges: NumberSet,
     labels: Labels,

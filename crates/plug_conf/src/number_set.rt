@@ -9,7 +9,7 @@ use ts_packet::{LABEL_COUNT, Labels};
 /// A set of numbers, kept as ranges and seen as the list of their pairs of a least and a most.
 ///
 /// An option that is not given leaves an empty set.
-#[derive(Drop, Debug)]
+#[derive(Drop)]
 pub struct NumberSet {
     pairs: Vec<(u64, u64)>,
 }

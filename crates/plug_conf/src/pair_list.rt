@@ -3,7 +3,7 @@ ghost use Rattle.std.specs.Prelude.{◌≡◌};
 use std::marker::Model;
 
 /// Pairs of numbers in their order, as `remap` has them of a source and a target.
-#[derive(Drop, Debug)]
+#[derive(Drop)]
 pub struct PairList {
     pairs: Vec<(u64, u64)>,
 }

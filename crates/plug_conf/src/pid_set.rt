@@ -9,7 +9,7 @@ use std::marker::Model;
 use ts_packet::PID_COUNT;
 
 /// A set of PIDs, seen as its ranges. Whether a PID is in it is looked up, and not searched.
-#[derive(Drop, Debug)]
+#[derive(Drop)]
 pub struct PidSet {
     ranges: NumberSet,
     table: Vec<bool>,

@@ -4,7 +4,7 @@ use plug_conf::{NumberSet, PairList};
 use std::alloc::{AllocError, Global};
 
 /// Settings of `cat`, which edits the CAT on PID 1.
-#[derive(Drop, Debug)]
+#[derive(Drop)]
 pub struct EditCatConf {
     /// CA descriptors that are put in, each a CA_system_id, 0 to 65535, and a CA_PID, without private bytes.
     pub add_ca: PairList,

@@ -13,7 +13,7 @@ use ts_psi::Cat;
 use ts_section::TableRun;
 
 /// The edit of `cat`, of each current CAT that reads.
-#[derive(Drop, Debug)]
+#[derive(Drop)]
 pub struct CatEdit {
     conf: EditCatConf,
     ghost lawful: { IsLawfulCat conf },

@@ -6,7 +6,7 @@ use std::alloc::{AllocError, Global};
 use ts_outside::NameText;
 
 /// Settings of `nit`, which edits the NIT of the actual network on PID 16.
-#[derive(Drop, Debug)]
+#[derive(Drop)]
 pub struct EditNitConf {
     /// Transport streams that are left out.
     pub remove_ts: NumberSet,

@@ -13,7 +13,7 @@ use ts_section::TableRun;
 use ts_si::Nit;
 
 /// The edit of `nit`, of each current NIT of the actual network that reads.
-#[derive(Drop, Debug)]
+#[derive(Drop)]
 pub struct NitEdit {
     conf: EditNitConf,
     ghost lawful: { IsLawfulNit conf },

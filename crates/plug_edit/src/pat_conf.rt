@@ -4,7 +4,7 @@ use plug_conf::{NumberSet, PairList};
 use std::alloc::{AllocError, Global};
 
 /// Settings of `pat`, which edits the PAT on PID 0.
-#[derive(Drop, Debug)]
+#[derive(Drop)]
 pub struct EditPatConf {
     /// Services that are put in, each with the PID of its PMT, one after another: services from 1 to 65535.
     pub add_service: PairList,

@@ -13,7 +13,7 @@ use ts_psi::Pat;
 use ts_section::TableRun;
 
 /// The edit of `pat`, of each current PAT that reads.
-#[derive(Drop, Debug)]
+#[derive(Drop)]
 pub struct PatEdit {
     conf: EditPatConf,
     ghost lawful: { IsLawfulPat conf },

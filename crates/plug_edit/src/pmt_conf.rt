@@ -4,7 +4,7 @@ use plug_conf::{NumberSet, PairList};
 use std::alloc::{AllocError, Global};
 
 /// Settings of `pmt`, which edits the PMTs on a PID.
-#[derive(Drop, Debug)]
+#[derive(Drop)]
 pub struct EditPmtConf {
     /// The PID of the PMTs, 0 to 8191. On 8191, the PID of null packets, nothing is edited.
     pub pmt_pid: u64,

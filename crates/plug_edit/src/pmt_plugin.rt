@@ -13,7 +13,7 @@ use ts_psi::Pmt;
 use ts_section::TableRun;
 
 /// The edit of `pmt`, of each current PMT that reads.
-#[derive(Drop, Debug)]
+#[derive(Drop)]
 pub struct PmtEdit {
     conf: EditPmtConf,
     ghost lawful: { IsLawfulPmt conf },

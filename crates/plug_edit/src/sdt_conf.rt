@@ -8,7 +8,7 @@ use std::alloc::{AllocError, Global};
 use ts_outside::NameText;
 
 /// Settings of `sdt`, which edits the SDT of the actual stream on PID 17.
-#[derive(Drop, Debug)]
+#[derive(Drop)]
 pub struct EditSdtConf {
     /// Services that are left out.
     pub remove_service: NumberSet,

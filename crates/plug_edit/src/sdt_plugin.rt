@@ -13,7 +13,7 @@ use ts_section::TableRun;
 use ts_si::Sdt;
 
 /// The edit of `sdt`, of each current SDT of the actual transport stream that reads.
-#[derive(Drop, Debug)]
+#[derive(Drop)]
 pub struct SdtEdit {
     conf: EditSdtConf,
     ghost lawful: { IsLawfulSdt conf },

@@ -9,7 +9,7 @@ use ts_packet::{Cell, PACKET_SIZE};
 /// Passes packets until a number of packets, of their bytes or of unit starts is reached. The packet
 /// with which it is reached is the last one, or is left out. With joint termination every packet
 /// passes, and the plugin agrees to end from that packet on.
-#[derive(Drop, Debug)]
+#[derive(Drop)]
 pub struct Until {
     packets: Option<u64>,
     bytes: Option<u64>,

@@ -5,7 +5,7 @@ ghost use Rattle.plug_end.specs.UntilSettings.{until_together};
 ///
 /// Exactly one of the three numbers is given. Each is from 1 to 2^60. Of the two flags at most one is
 /// given.
-#[derive(Drop, Debug)]
+#[derive(Drop)]
 pub struct UntilConf {
     /// So many packets.
     pub packets: Option<u64>,

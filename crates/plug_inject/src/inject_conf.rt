@@ -8,7 +8,7 @@ use ts_packet::NULL_PID;
 pub const LAST_CARRIER: u64 = NULL_PID as u64 - 1;
 
 /// Settings of `inject`, which puts packets of sections in the place of others.
-#[derive(Drop, Debug)]
+#[derive(Drop)]
 pub struct InjectConf {
     /// The name of the file with the sections; the empty name is standard input.
     pub file: NameText,
@@ -19,7 +19,7 @@ pub struct InjectConf {
 }
 
 /// Which packets are replaced.
-#[derive(Drop, Debug, Clone, Copy, PartialEq, Eq)]
+#[derive(Drop, Clone, Copy, PartialEq, Eq)]
 pub enum InjectMode {
     /// Every packet on the PID of the sections.
     Replace,

@@ -11,7 +11,7 @@ use std::marker::Model;
 use ts_packet::PID_COUNT;
 
 /// What `remap` does with the packets on a PID.
-#[derive(Debug, Clone, Copy, PartialEq, Eq)]
+#[derive(Clone, Copy, PartialEq, Eq)]
 pub enum Move {
     /// They stay on it.
     Keep,
@@ -23,7 +23,7 @@ pub enum Move {
 
 /// What `remap` does with the packets on each PID, looked up and not searched. It is seen as the pairs
 /// of sources and targets, and whether targets are unchecked.
-#[derive(Drop, Debug)]
+#[derive(Drop)]
 pub struct MoveTable {
     pairs: PairList,
     unchecked: bool,

@@ -7,7 +7,7 @@ use ts_packet::NULL_PID;
 /// Settings of `remap`, which gives packets other PIDs.
 ///
 /// The sources differ and none is 8191. Unless `unchecked` is set the targets differ too.
-#[derive(Drop, Debug)]
+#[derive(Drop)]
 pub struct RemapConf {
     /// A source and its target each, 1 to 1,000 of them.
     pub operand: PairList,

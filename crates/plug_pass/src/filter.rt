@@ -9,7 +9,7 @@ use ts_packet::{Cell, Labels, Packet};
 
 /// Selects the packets that meet one of its conditions, or with `negate` those that meet none. It passes these alone,
 /// or, where it sets labels, every packet, and adds the labels to those of the selected ones.
-#[derive(Drop, Debug)]
+#[derive(Drop)]
 pub struct Filter {
     pids: PidSet,
     pcr: bool,

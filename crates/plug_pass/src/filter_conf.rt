@@ -7,7 +7,7 @@ use plug_conf::NumberSet;
 ///
 /// At least one of the five conditions is given. Without labels to be set the selected packets pass, and the others
 /// do not; with them every packet passes, and the selected ones get these labels.
-#[derive(Drop, Debug)]
+#[derive(Drop)]
 pub struct FilterConf {
     /// The PID is one of these; none where it is no condition.
     pub pid: NumberSet,

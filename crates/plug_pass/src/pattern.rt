@@ -9,7 +9,7 @@ use ts_outside::FileBytes;
 use ts_packet::{Cell, PACKET_SIZE, PAYLOAD_SIZE, Packet};
 
 /// Writes a pattern over the payloads of packets on selected PIDs.
-#[derive(Drop, Debug)]
+#[derive(Drop)]
 pub struct Pattern {
     pattern: FileBytes,
     pids: PidSet,

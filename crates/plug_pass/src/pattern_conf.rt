@@ -2,7 +2,7 @@ use plug_conf::NumberSet;
 use ts_outside::FileBytes;
 
 /// Settings of `pattern`, which writes a pattern over the payload.
-#[derive(Drop, Debug)]
+#[derive(Drop)]
 pub struct PatternConf {
     /// The pattern, 1 to 184 bytes.
     pub operand: FileBytes,

@@ -7,7 +7,7 @@ use std::alloc::{AllocError, Global};
 use ts_packet::Cell;
 
 /// Drops the first packets.
-#[derive(Drop, Debug)]
+#[derive(Drop)]
 pub struct Skip {
     /// How many packets are dropped in all.
     count: u64,

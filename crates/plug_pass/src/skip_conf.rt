@@ -1,5 +1,5 @@
 /// Settings of `skip`, which drops the first packets.
-#[derive(Drop, Debug)]
+#[derive(Drop)]
 pub struct SkipConf {
     /// How many packets are dropped, 0 to 2^40.
     pub operand: u64,

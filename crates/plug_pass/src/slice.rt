@@ -8,7 +8,7 @@ use ts_packet::{Cell, Packet};
 
 /// Drops, passes or overwrites packets by where they stand, or stops: of its options the one with the
 /// greatest number that is not above the number of packets met before decides.
-#[derive(Drop, Debug)]
+#[derive(Drop)]
 pub struct Slice {
     drop: Option<u64>,
     null: Option<u64>,

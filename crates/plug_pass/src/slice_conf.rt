@@ -5,7 +5,7 @@ ghost use Rattle.plug_pass.specs.SliceSettings.{same_numbers, slices_differ};
 ///
 /// Packets are counted from 0. At least one option is given, and no two have the same number. Each
 /// number is at most 2^60.
-#[derive(Drop, Debug)]
+#[derive(Drop)]
 pub struct SliceConf {
     /// From here on packets are dropped.
     pub drop: Option<u64>,

@@ -1,7 +1,7 @@
 //! What becomes of the packets on a PID.
 
 /// What becomes of the packets on a PID.
-#[derive(Debug, Clone, Copy, PartialEq, Eq)]
+#[derive(Clone, Copy, PartialEq, Eq)]
 pub(crate) enum Fate {
     /// They carry the edited PATs.
     EditPat,

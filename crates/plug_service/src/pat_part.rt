@@ -13,7 +13,7 @@ use ts_psi::{Pat, PatService, PatServiceList};
 use ts_section::TableRun;
 
 /// Leaves out of each current PAT that reads the services that do not stay.
-#[derive(Drop, Debug)]
+#[derive(Drop)]
 pub(crate) struct PatPart {
     pub(crate) way: Way,
     pub(crate) service: u16,

@@ -7,7 +7,7 @@ use ts_psi::Pmt;
 use ts_section::TableRun;
 
 /// Carries the current PMT of a service as it is, where it reads, and no other table.
-#[derive(Drop, Debug)]
+#[derive(Drop)]
 pub(crate) struct PmtAlone {
     pub(crate) service: u16,
 }

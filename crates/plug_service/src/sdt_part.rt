@@ -15,7 +15,7 @@ use ts_si::{Sdt, SdtService, SdtServiceList};
 
 /// Leaves out of each current SDT of the actual transport stream that reads the services that do not stay. Where a
 /// service is kept, no table but those that are current and have the table_id of such an SDT is carried.
-#[derive(Drop, Debug)]
+#[derive(Drop)]
 pub(crate) struct SdtPart {
     pub(crate) way: Way,
     pub(crate) service: u16,

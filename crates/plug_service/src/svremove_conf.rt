@@ -1,5 +1,5 @@
 /// Settings of `svremove`.
-#[derive(Drop, Debug)]
+#[derive(Drop)]
 pub struct SvremoveConf {
     /// The number of the service, 1 to 65535.
     pub service: u64,

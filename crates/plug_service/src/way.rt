@@ -1,7 +1,7 @@
 //! What is done with a service.
 
 /// What is done with a service.
-#[derive(Debug, Clone, Copy, PartialEq, Eq)]
+#[derive(Clone, Copy, PartialEq, Eq)]
 pub(crate) enum Way {
     /// It is kept, and all others are removed.
     Keep,

@@ -1,5 +1,5 @@
 /// Settings of `zap`.
-#[derive(Drop, Debug)]
+#[derive(Drop)]
 pub struct ZapConf {
     /// The number of the service, 1 to 65535.
     pub service: u64,

@@ -42,7 +42,7 @@ use std::alloc::{AllocError, Global};
 use ts_packet::LABEL_COUNT;
 
 /// The settings of one plugin of the chain.
-#[derive(Drop, Debug)]
+#[derive(Drop)]
 pub enum PluginConf {
     Filter(FilterConf),
     Skip(SkipConf),
@@ -65,7 +65,7 @@ pub enum PluginConf {
 }
 
 /// A kind of plugin.
-#[derive(Clone, Copy, Debug, PartialEq, Eq)]
+#[derive(Clone, Copy, PartialEq, Eq)]
 pub enum PluginKind {
     Filter,
     Skip,

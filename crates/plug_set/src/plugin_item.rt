@@ -6,7 +6,7 @@ use plug_conf::NumberSet;
 use ts_packet::Labels;
 
 /// One plugin of the chain.
-#[derive(Drop, Debug)]
+#[derive(Drop)]
 pub struct PluginItem {
     /// The settings of the plugin.
     pub conf: PluginConf,

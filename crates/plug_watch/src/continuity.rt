@@ -14,7 +14,7 @@ use std::mem;
 use ts_packet::{Cell, NULL_PID, PID_COUNT, Packet};
 
 /// Reports packets whose continuity counter is not the one wanted, and with `fix` puts counters right.
-#[derive(Drop, Debug)]
+#[derive(Drop)]
 pub struct Continuity {
     pids: PidSet,
     fix: bool,

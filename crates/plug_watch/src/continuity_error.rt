@@ -3,7 +3,7 @@ use plugin_trait::{Line, LineText};
 use std::alloc::{AllocError, Global};
 
 /// That a packet's continuity counter was not the one wanted.
-#[derive(Debug, Clone, Copy, PartialEq, Eq)]
+#[derive(Clone, Copy, PartialEq, Eq)]
 pub struct ContinuityError {
     /// The position of the packet.
     pub at: u64,

@@ -17,7 +17,7 @@ use std::mem;
 use ts_packet::Cell;
 
 /// Counts packets by PID, and with `all` has a line for each.
-#[derive(Drop, Debug)]
+#[derive(Drop)]
 pub struct Count {
     pids: PidSet,
     negate: bool,

@@ -1,7 +1,7 @@
 use plug_conf::NumberSet;
 
 /// Settings of `count`, which counts packets by PID.
-#[derive(Drop, Debug)]
+#[derive(Drop)]
 pub struct CountConf {
     /// The PIDs that are counted; none where all are.
     pub pid: NumberSet,

@@ -9,7 +9,7 @@ use ts_packet::Packet;
 const COUNTER_BOUND: u8 = 16;
 
 /// What is kept of the last packet on a PID.
-#[derive(Debug, Clone, Copy, PartialEq, Eq)]
+#[derive(Clone, Copy, PartialEq, Eq)]
 pub struct LastPacket {
     /// Its counter as it came, 0 to 15.
     pub counter: u8,

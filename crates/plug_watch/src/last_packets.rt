@@ -8,7 +8,7 @@ use std::alloc::{AllocError, Global};
 use ts_packet::{PID_COUNT, Packet};
 
 /// The last packet on each PID.
-#[derive(Drop, Debug)]
+#[derive(Drop)]
 pub struct LastPackets {
     seen: Vec<Option<LastPacket>>,
 }

@@ -3,7 +3,7 @@ use plugin_trait::{Line, LineText};
 use std::alloc::{AllocError, Global};
 
 /// That a packet was counted.
-#[derive(Debug, Clone, Copy, PartialEq, Eq)]
+#[derive(Clone, Copy, PartialEq, Eq)]
 pub struct Note {
     /// The position of the packet.
     pub at: u64,

@@ -4,7 +4,7 @@ use std::alloc::{AllocError, Global};
 use ts_packet::PID_COUNT;
 
 /// How many packets were counted on each PID, and in all.
-#[derive(Drop, Debug)]
+#[derive(Drop)]
 pub struct Tally {
     counts: Vec<u64>,
     total: u64,

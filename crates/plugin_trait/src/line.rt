@@ -1,7 +1,7 @@
 use crate::LineText;
 
 /// A line that a plugin has to report.
-#[derive(Drop, Debug)]
+#[derive(Drop)]
 pub struct Line {
     /// The position of the packet that the line is about. For a line of the summary it is the cut.
     pub at: u64,

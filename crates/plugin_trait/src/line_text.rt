@@ -4,7 +4,7 @@ ghost use Rattle.std.specs.String.{string_bytes};
 use std::marker::Model;
 
 /// The text of a line of a report, seen as the bytes of its UTF-8 form. It has no end of line.
-#[derive(Drop, Debug)]
+#[derive(Drop)]
 pub struct LineText {
     text: String,
 }

@@ -16,7 +16,7 @@ pub enum ListEnd {
 }
 
 /// What a plugin made of a piece of a list.
-#[derive(Debug, Clone, Copy, PartialEq, Eq)]
+#[derive(Clone, Copy, PartialEq, Eq)]
 pub struct Applied {
     /// So many cells at the front of the piece belong to the plugin's own list.
     pub count: usize,

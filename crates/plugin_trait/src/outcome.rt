@@ -1,7 +1,7 @@
 use chain_model::Reason;
 
 /// What a plugin does with a cell.
-#[derive(Debug, Clone, Copy, PartialEq, Eq)]
+#[derive(Clone, Copy, PartialEq, Eq)]
 pub enum Outcome {
     /// The list goes on with the cell, which may have been edited.
     Pass,

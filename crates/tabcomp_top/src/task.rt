@@ -2,7 +2,7 @@ ghost use Rattle.std.specs.Prelude.{◌≡◌};
 ghost use Rattle.tabcomp_top.specs.TabWords.{task_of};
 
 /// What is to be done with the input.
-#[derive(Drop, Debug, Clone, Copy, PartialEq, Eq)]
+#[derive(Drop, Clone, Copy, PartialEq, Eq)]
 pub(crate) enum Task {
     /// A JSON text to the sections of its tables.
     Compile,

@@ -8,7 +8,7 @@ use std::marker::Model;
 
 /// A tag and at most 255 bytes behind the length (ISO/IEC 13818-1, 2.6). What the bytes mean is for the
 /// layer above.
-#[derive(Debug, Drop)]
+#[derive(Drop)]
 pub struct Descriptor {
     tag: u8,
     body: Vec<u8>,

@@ -35,7 +35,7 @@ impl<T: Drop> From<AllocFailed<T>> for LoopFault {
 }
 
 /// Descriptors in their order.
-#[derive(Debug, Drop)]
+#[derive(Drop)]
 pub struct DescriptorList {
     descriptors: Vec<Descriptor>,
 }

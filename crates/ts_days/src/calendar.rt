@@ -9,7 +9,7 @@ use jiff_core::civil::Date;
 const EPOCH: i32 = 40_587;
 
 /// A day as a text writes it, whether or not the calendar has it.
-#[derive(Clone, Copy, Debug)]
+#[derive(Clone, Copy)]
 pub struct Day {
     /// The year, from 0 to 9999.
     pub year: u32,

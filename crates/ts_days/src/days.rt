@@ -9,7 +9,7 @@ use std::marker::Model;
 use ts_fields::text_of;
 
 /// The text of a day, seen as its ten bytes. `day_text` makes it.
-#[derive(Clone, Copy, Debug)]
+#[derive(Clone, Copy)]
 pub struct DayText {
     bytes: [u8; 10],
 }

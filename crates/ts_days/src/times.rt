@@ -13,7 +13,7 @@ use ts_fields::{is_time, text_of};
 const UNDEFINED: u64 = 0xFF_FFFF_FFFF;
 
 /// The text of a time, seen as its eight bytes. `time_text` makes it.
-#[derive(Clone, Copy, Debug)]
+#[derive(Clone, Copy)]
 pub struct TimeText {
     bytes: [u8; 8],
 }

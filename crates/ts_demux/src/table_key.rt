@@ -8,7 +8,7 @@ use ts_section::{LongHead, Section, TableRun};
 
 /// What the sections of one table share besides version and last number: table_id, table_id_extension and
 /// current_next_indicator (ISO/IEC 13818-1, 2.4.4.11).
-#[derive(Clone, Copy, Debug, PartialEq, Eq, Hash)]
+#[derive(Clone, Copy, PartialEq, Eq, Hash)]
 pub struct TableKey {
     table_id: u8,
     extension: u16,

@@ -8,7 +8,7 @@ use std::marker::Model;
 use ts_fields::are_printable;
 
 /// The code of a language or a country: three bytes, each in 0x20 to 0x7E. Contracts see the bytes.
-#[derive(Debug, Clone, Copy, PartialEq, Eq)]
+#[derive(Clone, Copy, PartialEq, Eq)]
 pub struct LanguageCode {
     letters: [u8; 3],
 }

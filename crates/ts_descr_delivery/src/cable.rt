@@ -7,7 +7,7 @@ use ts_descr::Fields;
 use ts_fields::FieldValue;
 
 /// How a cable carries a transport stream (ETSI EN 300 468, 6.2.13.1).
-#[derive(Debug, Drop)]
+#[derive(Drop)]
 pub struct Cable {
     /// `frequency`, 8 decimal digits.
     pub frequency: u32,

@@ -13,7 +13,7 @@ use ts_descr::{DescrRefusal, read_fields, write_fields};
 use ts_pages::delivery;
 
 /// A descriptor of ETSI EN 300 468, 6.2.13, with a field for each name of its page.
-#[derive(Debug, Drop)]
+#[derive(Drop)]
 pub enum DeliveryDescr {
     /// Tag 0x43: how a satellite carries a transport stream (6.2.13.2).
     Satellite(Satellite),

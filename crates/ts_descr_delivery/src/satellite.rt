@@ -7,7 +7,7 @@ use ts_descr::Fields;
 use ts_fields::FieldValue;
 
 /// How a satellite carries a transport stream (ETSI EN 300 468, 6.2.13.2).
-#[derive(Debug, Drop)]
+#[derive(Drop)]
 pub struct Satellite {
     /// `frequency`, 8 decimal digits.
     pub frequency: u32,
@@ -77,7 +77,7 @@ impl Fields for Satellite {
 }
 
 /// Where a satellite stands and sends.
-#[derive(Debug, Drop)]
+#[derive(Drop)]
 struct Beam {
     frequency: u32,
     orbital_position: u16,
@@ -123,7 +123,7 @@ impl Beam {
 }
 
 /// How it sends.
-#[derive(Debug, Drop)]
+#[derive(Drop)]
 struct Signal {
     roll_off: u8,
     modulation_system: u8,

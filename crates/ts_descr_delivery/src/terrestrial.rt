@@ -7,7 +7,7 @@ use ts_descr::Fields;
 use ts_fields::FieldValue;
 
 /// How a terrestrial transmitter carries a transport stream (ETSI EN 300 468, 6.2.13.4).
-#[derive(Debug, Drop)]
+#[derive(Drop)]
 pub struct Terrestrial {
     /// `centre_frequency`, 32 bits.
     pub centre_frequency: u32,
@@ -93,7 +93,7 @@ impl Fields for Terrestrial {
 }
 
 /// Where a terrestrial transmitter sends, and for whom.
-#[derive(Debug, Drop)]
+#[derive(Drop)]
 struct Channel {
     centre_frequency: u32,
     bandwidth: u8,
@@ -142,7 +142,7 @@ impl Channel {
 }
 
 /// How it protects what it sends.
-#[derive(Debug, Drop)]
+#[derive(Drop)]
 struct Coding {
     constellation: u8,
     hierarchy: u8,
@@ -188,7 +188,7 @@ impl Coding {
 }
 
 /// Its carriers.
-#[derive(Debug, Drop)]
+#[derive(Drop)]
 struct Carriers {
     guard_interval: u8,
     transmission_mode: u8,

@@ -5,7 +5,7 @@ use ts_descr::Fields;
 use ts_fields::FieldValue;
 
 /// The name of a bouquet (ETSI EN 300 468, 6.2.4).
-#[derive(Debug, Drop)]
+#[derive(Drop)]
 pub struct BouquetName {
     /// `bouquet_name`: a text up to the end.
     pub bouquet_name: Vec<u8>,

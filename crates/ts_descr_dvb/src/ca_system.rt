@@ -5,7 +5,7 @@ use ts_descr::Fields;
 use ts_fields::FieldValue;
 
 /// One conditional access system (ETSI EN 300 468, 6.2.5).
-#[derive(Debug, Drop)]
+#[derive(Drop)]
 pub struct CaSystem {
     /// `value`, 16 bits.
     pub value: u16,

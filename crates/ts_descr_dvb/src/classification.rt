@@ -7,7 +7,7 @@ use ts_descr::Fields;
 use ts_fields::FieldValue;
 
 /// One genre of an event (ETSI EN 300 468, 6.2.9).
-#[derive(Debug, Drop)]
+#[derive(Drop)]
 pub struct Classification {
     /// `content_nibble_level_1`, 4 bits.
     pub content_nibble_level_1: u8,

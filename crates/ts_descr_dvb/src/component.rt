@@ -7,7 +7,7 @@ use ts_descr::{Fields, LanguageCode};
 use ts_fields::FieldValue;
 
 /// What a component is (ETSI EN 300 468, 6.2.8).
-#[derive(Debug, Drop)]
+#[derive(Drop)]
 pub struct Component {
     /// `stream_content_ext`, 4 bits.
     pub stream_content_ext: u8,

@@ -5,7 +5,7 @@ use ts_descr::{Fields, LanguageCode};
 use ts_fields::FieldValue;
 
 /// The least age for an event in one country (ETSI EN 300 468, 6.2.28).
-#[derive(Debug, Drop)]
+#[derive(Drop)]
 pub struct Country {
     /// `country_code`.
     pub country_code: LanguageCode,

@@ -23,7 +23,7 @@ use ts_descr::{DescrRefusal, read_fields, read_items, write_fields, write_items}
 use ts_pages::dvb;
 
 /// A descriptor of ETSI EN 300 468, 6.2, with a field for each name of its page.
-#[derive(Debug, Drop)]
+#[derive(Drop)]
 pub enum DvbDescr {
     /// Tag 0x40: the name of a network (6.2.27).
     NetworkName(NetworkName),

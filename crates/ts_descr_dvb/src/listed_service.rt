@@ -5,7 +5,7 @@ use ts_descr::Fields;
 use ts_fields::FieldValue;
 
 /// One service of a transport stream (ETSI EN 300 468, 6.2.35).
-#[derive(Debug, Drop)]
+#[derive(Drop)]
 pub struct ListedService {
     /// `service_id`, 16 bits.
     pub service_id: u16,

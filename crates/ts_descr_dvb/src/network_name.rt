@@ -5,7 +5,7 @@ use ts_descr::Fields;
 use ts_fields::FieldValue;
 
 /// The name of a network (ETSI EN 300 468, 6.2.27).
-#[derive(Debug, Drop)]
+#[derive(Drop)]
 pub struct NetworkName {
     /// `network_name`: a text up to the end.
     pub network_name: Vec<u8>,

@@ -5,7 +5,7 @@ use ts_descr::Fields;
 use ts_fields::FieldValue;
 
 /// Whose private descriptors follow (ETSI EN 300 468, 6.2.31).
-#[derive(Debug, Drop)]
+#[derive(Drop)]
 pub struct PrivateDataSpecifier {
     /// `private_data_specifier`, 32 bits.
     pub private_data_specifier: u32,

@@ -5,7 +5,7 @@ use ts_descr::Fields;
 use ts_fields::FieldValue;
 
 /// The type, the provider and the name of a service (ETSI EN 300 468, 6.2.33).
-#[derive(Debug, Drop)]
+#[derive(Drop)]
 pub struct Service {
     /// `service_type`, 8 bits.
     pub service_type: u8,

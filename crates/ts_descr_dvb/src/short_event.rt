@@ -5,7 +5,7 @@ use ts_descr::{Fields, LanguageCode};
 use ts_fields::FieldValue;
 
 /// The name of an event and a short text on it (ETSI EN 300 468, 6.2.37).
-#[derive(Debug, Drop)]
+#[derive(Drop)]
 pub struct ShortEvent {
     /// `language_code`.
     pub language_code: LanguageCode,

@@ -5,7 +5,7 @@ use ts_descr::Fields;
 use ts_fields::FieldValue;
 
 /// The tag by which a component is named elsewhere (ETSI EN 300 468, 6.2.39).
-#[derive(Debug, Drop)]
+#[derive(Drop)]
 pub struct StreamIdentifier {
     /// `component_tag`, 8 bits.
     pub component_tag: u8,

@@ -5,7 +5,7 @@ use ts_descr::{Fields, LanguageCode};
 use ts_fields::FieldValue;
 
 /// The subtitles of a component in one language (ETSI EN 300 468, 6.2.41).
-#[derive(Debug, Drop)]
+#[derive(Drop)]
 pub struct Subtitle {
     /// `language_code`.
     pub language_code: LanguageCode,

@@ -7,7 +7,7 @@ use ts_descr::{Fields, LanguageCode};
 use ts_fields::FieldValue;
 
 /// One Teletext page of a component (ETSI EN 300 468, 6.2.43).
-#[derive(Debug, Drop)]
+#[derive(Drop)]
 pub struct TeletextPage {
     /// `language_code`.
     pub language_code: LanguageCode,

@@ -7,7 +7,7 @@ use std::alloc::{AllocError, Global};
 use std::marker::Model;
 
 /// A text. Contracts see its bytes in UTF-8.
-#[derive(Debug, Drop)]
+#[derive(Drop)]
 pub struct TextValue {
     text: String,
 }
@@ -30,7 +30,7 @@ impl TextValue {
 }
 
 /// The bytes of a text as a descriptor has them. Contracts see the list.
-#[derive(Debug, Drop)]
+#[derive(Drop)]
 pub struct TextBytes {
     bytes: Vec<u8>,
 }

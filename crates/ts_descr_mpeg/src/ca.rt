@@ -7,7 +7,7 @@ use ts_descr::Fields;
 use ts_fields::FieldValue;
 
 /// The PID of the messages of a conditional access system (ISO/IEC 13818-1, 2.6.16).
-#[derive(Debug, Drop)]
+#[derive(Drop)]
 pub struct Ca {
     /// `CA_system_id`, 16 bits.
     pub ca_system_id: u16,

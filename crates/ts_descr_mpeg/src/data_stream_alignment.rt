@@ -5,7 +5,7 @@ use ts_descr::Fields;
 use ts_fields::FieldValue;
 
 /// Which units of a stream begin its packets (ISO/IEC 13818-1, 2.6.10).
-#[derive(Debug, Drop)]
+#[derive(Drop)]
 pub struct DataStreamAlignment {
     /// `alignment_type`, 8 bits.
     pub alignment_type: u8,

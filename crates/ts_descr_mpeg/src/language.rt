@@ -5,7 +5,7 @@ use ts_descr::{Fields, LanguageCode};
 use ts_fields::FieldValue;
 
 /// One language of a component (ISO/IEC 13818-1, 2.6.18).
-#[derive(Debug, Drop)]
+#[derive(Drop)]
 pub struct Language {
     /// `code`.
     pub code: LanguageCode,

@@ -7,7 +7,7 @@ use ts_descr::Fields;
 use ts_fields::FieldValue;
 
 /// The most bits of a component, in units of 50 bytes a second (ISO/IEC 13818-1, 2.6.26).
-#[derive(Debug, Drop)]
+#[derive(Drop)]
 pub struct MaximumBitrate {
     /// `maximum_bitrate`, 22 bits.
     pub maximum_bitrate: u32,

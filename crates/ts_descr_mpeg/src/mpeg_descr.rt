@@ -15,7 +15,7 @@ use ts_descr::{DescrRefusal, read_fields, read_items, write_fields, write_items}
 use ts_pages::mpeg;
 
 /// A descriptor of ISO/IEC 13818-1, 2.6, with a field for each name of its page.
-#[derive(Debug, Drop)]
+#[derive(Drop)]
 pub enum MpegDescr {
     /// Tag 0x05: who gives the private data of a program or component their meaning (2.6.8).
     Registration(Registration),

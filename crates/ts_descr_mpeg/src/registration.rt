@@ -5,7 +5,7 @@ use ts_descr::Fields;
 use ts_fields::FieldValue;
 
 /// Who gives the private data of a program or component their meaning (ISO/IEC 13818-1, 2.6.8).
-#[derive(Debug, Drop)]
+#[derive(Drop)]
 pub struct Registration {
     /// `format_identifier`, 32 bits.
     pub format_identifier: u32,

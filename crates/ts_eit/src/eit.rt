@@ -13,7 +13,7 @@ use ts_section::{Section, TableRun};
 use ts_table_rows::{Table, TableBody, TableFault, TableRefusal, read_table, write_table};
 
 /// One section of an event information table, which is a part of a longer list of events.
-#[derive(Debug, Drop)]
+#[derive(Drop)]
 pub struct Eit {
     /// table_id, 0x4E to 0x6F: which stream's events, present and following or of a schedule.
     pub table_id: u8,

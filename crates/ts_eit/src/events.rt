@@ -12,7 +12,7 @@ use ts_fields::FieldValue;
 use ts_table_rows::TableItem;
 
 /// An event of a service.
-#[derive(Debug, Drop)]
+#[derive(Drop)]
 pub struct Event {
     /// event_id.
     pub event_id: u16,
@@ -89,7 +89,7 @@ impl Event {
 }
 
 /// Events in their order.
-#[derive(Debug, Drop)]
+#[derive(Drop)]
 pub struct EventList {
     events: Vec<Event>,
 }

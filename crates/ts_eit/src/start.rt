@@ -3,7 +3,7 @@
 ghost use Rattle.std.specs.Prelude.{◌<◌};
 
 /// When an event starts, in universal time.
-#[derive(Debug, Clone, Copy)]
+#[derive(Clone, Copy)]
 pub struct Start {
     /// The last 16 bits of the Modified Julian Date: 40587 is 1970-01-01.
     pub day: u16,

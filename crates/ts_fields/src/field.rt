@@ -4,7 +4,7 @@ ghost use Rattle.std.specs.Prelude.{◌≡◌, ◌≤◌};
 ghost use Rattle.ts_fields.specs.Spelling.{holds};
 
 /// How a field is written. Numbers have their highest bit first (ISO/IEC 13818-1, 2.2.6).
-#[derive(Debug, Clone, Copy, PartialEq, Eq)]
+#[derive(Clone, Copy, PartialEq, Eq)]
 pub enum Kind {
     /// A whole number of so many bits, at most 63.
     Number(u32),
@@ -45,7 +45,7 @@ impl Kind {
 }
 
 /// One row of a table of the standard.
-#[derive(Debug, Clone, Copy)]
+#[derive(Clone, Copy)]
 pub struct Field {
     /// The standard's name of the field; empty for reserved bits.
     pub name: &'static str,
@@ -58,7 +58,7 @@ pub struct Field {
 }
 
 /// What a field holds.
-#[derive(Debug, Drop)]
+#[derive(Drop)]
 pub enum FieldValue {
     /// The number of a number, a flag, decimal digits, a start (40 bits) or a duration (24 bits).
     Number(u64),

@@ -3,7 +3,7 @@
 use crate::field::{Field, FieldValue};
 
 /// The rows of each item.
-#[derive(Debug, Clone, Copy)]
+#[derive(Clone, Copy)]
 pub struct ItemLayout {
     /// The item's name.
     pub name: &'static str,
@@ -12,7 +12,7 @@ pub struct ItemLayout {
 }
 
 /// A page of the standard.
-#[derive(Debug, Clone, Copy)]
+#[derive(Clone, Copy)]
 pub struct Layout {
     /// The descriptor's tag.
     pub tag: u8,
@@ -25,14 +25,14 @@ pub struct Layout {
 }
 
 /// What the fields of one item hold.
-#[derive(Debug, Drop)]
+#[derive(Drop)]
 pub struct Item {
     /// In the order of the rows, reserved bits left out.
     pub values: Vec<FieldValue>,
 }
 
 /// What a body holds.
-#[derive(Debug, Drop)]
+#[derive(Drop)]
 pub struct Body {
     /// What the rows that stand first hold, in their order, reserved bits left out.
     pub head: Vec<FieldValue>,

@@ -98,7 +98,7 @@ fn read_item(
 }
 
 /// A child of a table.
-#[derive(Debug, Drop)]
+#[derive(Drop)]
 pub enum Child {
     /// A descriptor of the table's own.
     Own(Descriptor),
@@ -183,7 +183,7 @@ fn read_child_at(
 }
 
 /// Children by their sort, each sort in its order.
-#[derive(Debug, Drop)]
+#[derive(Drop)]
 pub struct Children {
     /// The table's own descriptors.
     pub descriptors: Vec<Descriptor>,

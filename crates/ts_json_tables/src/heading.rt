@@ -22,7 +22,7 @@ use ts_jtree::{JsonKind, ReadRefusal, member, number_of_value, read_attributes, 
 use ts_table_rows::{TableHead, TableLayout};
 
 /// What the attributes of a table hold.
-#[derive(Debug, Drop)]
+#[derive(Drop)]
 pub struct Heading {
     /// What it keeps of the heads of its sections.
     pub head: TableHead,

@@ -3,7 +3,7 @@
 use ts_table_rows::TableLayout;
 
 /// A table of a layout that is known here.
-#[derive(Debug, Drop)]
+#[derive(Drop)]
 pub struct LaidTable {
     /// Its layout.
     pub layout: &'static TableLayout,
@@ -12,7 +12,7 @@ pub struct LaidTable {
 }
 
 /// One section of the short form, by its bytes.
-#[derive(Debug, Drop)]
+#[derive(Drop)]
 pub struct ShortTable {
     /// table_id, 0 to 254.
     pub table_id: u8,
@@ -23,7 +23,7 @@ pub struct ShortTable {
 }
 
 /// Sections of the long form, by the bytes of their bodies.
-#[derive(Debug, Drop)]
+#[derive(Drop)]
 pub struct LongTable {
     /// version_number, 0 to 31.
     pub version: u8,
@@ -44,7 +44,7 @@ pub struct LongTable {
 }
 
 /// A table.
-#[derive(Debug, Drop)]
+#[derive(Drop)]
 pub enum Table {
     /// PAT, CAT or PMT.
     Laid(LaidTable),

@@ -11,7 +11,7 @@ use ts_table_rows::{
 };
 
 /// A conditional access table.
-#[derive(Debug, Drop)]
+#[derive(Drop)]
 pub struct Cat {
     /// version_number, 0 to 31.
     pub version: u8,

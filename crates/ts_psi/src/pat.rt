@@ -12,7 +12,7 @@ use ts_section::{Section, TableRun};
 use ts_table_rows::{Table, TableBody, TableFault, TableRefusal, read_table, write_table};
 
 /// A service, and the PID of its PMT.
-#[derive(Debug, Clone, Copy)]
+#[derive(Clone, Copy)]
 pub struct PatService {
     /// program_number, 1 to 65535.
     pub service_id: u16,
@@ -23,7 +23,7 @@ pub struct PatService {
 }
 
 /// Services in their order.
-#[derive(Debug, Drop)]
+#[derive(Drop)]
 pub struct PatServiceList {
     services: Vec<PatService>,
 }
@@ -72,7 +72,7 @@ impl PatServiceList {
 }
 
 /// A program association table.
-#[derive(Debug, Drop)]
+#[derive(Drop)]
 pub struct Pat {
     /// version_number, 0 to 31.
     pub version: u8,

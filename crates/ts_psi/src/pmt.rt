@@ -14,7 +14,7 @@ use ts_table_rows::{
 };
 
 /// One elementary stream of a program.
-#[derive(Debug, Drop)]
+#[derive(Drop)]
 pub struct Component {
     /// stream_type, 0 to 255.
     pub stream_type: u8,
@@ -79,7 +79,7 @@ impl Component {
 }
 
 /// Components in their order.
-#[derive(Debug, Drop)]
+#[derive(Drop)]
 pub struct ComponentList {
     components: Vec<Component>,
 }
@@ -134,7 +134,7 @@ impl ComponentList {
 }
 
 /// A program map table.
-#[derive(Debug, Drop)]
+#[derive(Drop)]
 pub struct Pmt {
     /// version_number, 0 to 31.
     pub version: u8,

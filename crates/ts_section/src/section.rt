@@ -26,7 +26,7 @@ pub const LONG_BODY_PLACE: usize = 8;
 const CRC_SIZE: usize = 4;
 
 /// One lawful section of the short or the long form (ISO/IEC 13818-1, 2.4.4.11), at most 4096 bytes.
-#[derive(Debug, Drop)]
+#[derive(Drop)]
 pub struct Section {
     bytes: Vec<u8>,
 }

@@ -13,7 +13,7 @@ use std::marker::Model;
 
 /// The sections of one whole table: one short section, or one EIT section (table_id 0x4E to 0x6F),
 /// or long sections numbered from 0 to the last under one head.
-#[derive(Debug, Drop)]
+#[derive(Drop)]
 pub struct TableRun {
     sections: Vec<Section>,
 }

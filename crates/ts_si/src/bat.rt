@@ -12,7 +12,7 @@ use ts_section::{Section, TableRun};
 use ts_table_rows::{Table, TableBody, TableFault, TableRefusal, read_table, write_table};
 
 /// A bouquet association table.
-#[derive(Debug, Drop)]
+#[derive(Drop)]
 pub struct Bat {
     /// version_number, 0 to 31.
     pub version: u8,

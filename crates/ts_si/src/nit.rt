@@ -12,7 +12,7 @@ use ts_section::{Section, TableRun};
 use ts_table_rows::{Table, TableBody, TableFault, TableRefusal, read_table, write_table};
 
 /// A network information table.
-#[derive(Debug, Drop)]
+#[derive(Drop)]
 pub struct Nit {
     /// Whether it is that of the actual network, the one that the stream belongs to: table_id 0x40, else 0x41.
     pub actual: bool,

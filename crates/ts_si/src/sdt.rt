@@ -13,7 +13,7 @@ use ts_section::{Section, TableRun};
 use ts_table_rows::{Table, TableBody, TableFault, TableRefusal, read_table, write_table};
 
 /// A service description table.
-#[derive(Debug, Drop)]
+#[derive(Drop)]
 pub struct Sdt {
     /// Whether it is that of the actual transport stream, the one that it stands in: table_id 0x42, else 0x46.
     pub actual: bool,

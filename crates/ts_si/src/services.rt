@@ -10,7 +10,7 @@ use ts_fields::FieldValue;
 use ts_table_rows::TableItem;
 
 /// A service of a transport stream.
-#[derive(Debug, Drop)]
+#[derive(Drop)]
 pub struct SdtService {
     /// service_id.
     pub service_id: u16,
@@ -86,7 +86,7 @@ impl SdtService {
 }
 
 /// Services in their order.
-#[derive(Debug, Drop)]
+#[derive(Drop)]
 pub struct SdtServiceList {
     services: Vec<SdtService>,
 }

@@ -8,7 +8,7 @@ use ts_fields::FieldValue;
 use ts_table_rows::TableItem;
 
 /// A transport stream of a network or of a bouquet.
-#[derive(Debug, Drop)]
+#[derive(Drop)]
 pub struct NitStream {
     /// transport_stream_id.
     pub stream_id: u16,
@@ -68,7 +68,7 @@ impl NitStream {
 }
 
 /// Transport streams in their order.
-#[derive(Debug, Drop)]
+#[derive(Drop)]
 pub struct NitStreamList {
     streams: Vec<NitStream>,
 }

@@ -18,7 +18,7 @@ use ts_bits::DescriptorList;
 use ts_fields::FieldValue;
 
 /// A descriptor of the table's own, or an item, as bytes.
-#[derive(Debug, Drop)]
+#[derive(Drop)]
 pub struct ThingRow {
     /// Whether it is an item.
     pub is_item: bool,
@@ -27,7 +27,7 @@ pub struct ThingRow {
 }
 
 /// What one section holds: the bytes of descriptors, and those of items.
-#[derive(Debug, Drop)]
+#[derive(Drop)]
 pub struct Piece {
     /// The bytes of the table's own descriptors.
     pub own: Vec<u8>,

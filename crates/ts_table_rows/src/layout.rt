@@ -3,7 +3,7 @@
 use ts_fields::Field;
 
 /// Where the descriptors of a section stand that belong to no item.
-#[derive(Debug, Clone, Copy, PartialEq, Eq)]
+#[derive(Clone, Copy, PartialEq, Eq)]
 pub enum LoopForm {
     /// There are none.
     Absent,
@@ -14,7 +14,7 @@ pub enum LoopForm {
 }
 
 /// The items of a table: entries, components, services, streams, events.
-#[derive(Debug, Clone, Copy)]
+#[derive(Clone, Copy)]
 pub struct ItemForm {
     /// The item's name.
     pub name: &'static str,
@@ -28,7 +28,7 @@ pub struct ItemForm {
 }
 
 /// The layout of a table, in the standard's order of its fields.
-#[derive(Debug, Clone, Copy)]
+#[derive(Clone, Copy)]
 pub struct TableLayout {
     /// The table's name.
     pub name: &'static str,

@@ -17,7 +17,7 @@ use std::alloc::{AllocError, Global};
 use ts_fields::{BitReader, FieldValue};
 
 /// What the sections of a run have shown so far.
-#[derive(Debug, Clone, Copy)]
+#[derive(Clone, Copy)]
 pub struct SeenSoFar {
     /// The number that all sections have alike, if there was a section.
     pub first: Option<u64>,

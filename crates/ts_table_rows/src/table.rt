@@ -4,7 +4,7 @@ use ts_bits::DescriptorList;
 use ts_fields::FieldValue;
 
 /// The fields of a section's head that a table keeps.
-#[derive(Debug, Clone, Copy, PartialEq, Eq)]
+#[derive(Clone, Copy, PartialEq, Eq)]
 pub struct TableHead {
     /// table_id.
     pub table_id: u8,
@@ -20,7 +20,7 @@ pub struct TableHead {
 }
 
 /// One item of a table.
-#[derive(Debug, Drop)]
+#[derive(Drop)]
 pub struct TableItem {
     /// What its fields hold, in their order, reserved bits left out.
     pub values: Vec<FieldValue>,
@@ -29,7 +29,7 @@ pub struct TableItem {
 }
 
 /// What stands in the bodies of a table's sections.
-#[derive(Debug, Drop)]
+#[derive(Drop)]
 pub struct TableBody {
     /// What the fields hold that stand in no item, in their order, reserved bits left out.
     pub values: Vec<FieldValue>,
@@ -40,7 +40,7 @@ pub struct TableBody {
 }
 
 /// A table.
-#[derive(Debug, Drop)]
+#[derive(Drop)]
 pub struct Table {
     /// What it keeps of the heads of its sections.
     pub head: TableHead,

@@ -4,7 +4,7 @@ ghost use Rattle.ts_testgen.specs.Counters.{counted_pids};
 ghost use Rattle.ts_testgen.specs.Rules.{rule_at, pid_by};
 
 /// What the packet with a number is.
-#[derive(Clone, Copy, Debug, PartialEq, Eq)]
+#[derive(Clone, Copy, PartialEq, Eq)]
 pub enum Rule {
     /// The PAT.
     Pat,

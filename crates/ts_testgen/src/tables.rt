@@ -28,7 +28,7 @@ const SDT_BODY: [u8; 37] = [
 ];
 
 /// The packets of the tables, with counter 0.
-#[derive(Clone, Copy, Debug)]
+#[derive(Clone, Copy)]
 pub(crate) struct Tables {
     pub pat: Packet,
     pub first_pmt: Packet,

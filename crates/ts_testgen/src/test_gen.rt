@@ -16,7 +16,7 @@ use ts_packet::Packet;
 /// Gives the packets of the generated stream of a seed, in order.
 ///
 /// Contracts see the seed, and how many packets it has given.
-#[derive(Debug, Drop)]
+#[derive(Drop)]
 pub struct TestGen {
     seed: u64,
     given: u64,
