@@ -6,7 +6,7 @@ use Rattle.std.proofs.lemmas.Bool.{and_from, le-leb, lt-ltb}
 use Rattle.ts_table_rows.specs.TableFitting.{item_fits, head_fits, body_fits, table_fits, values_fit}
 use Rattle.ts_table_rows.specs.TablePages.{has_id}
 use Rattle.ts_table_rows.proofs.ListLemmas.{zeros_free}
-use Rattle.ts_eit.specs.EitPages.{event_page, eit_page}
+use Rattle.ts_table_pages.specs.EitPages.{event_page, eit_page}
 use Rattle.ts_eit.specs.EitTables.{event_item, eit_held}
 use Rattle.ts_eit.specs.declared.eit.Eit.{Eit}
 

@@ -5,11 +5,11 @@ ghost use Rattle.std.specs.Prelude.{◌≤◌, ◌<◌};
 use crate::event_rows::{event_items, events_of};
 use crate::events::EventList;
 use crate::heads::{fields_of, numbers_of, table_head};
-use crate::layouts::eit_layout;
 use std::alloc::{AllocError, Global};
 use ts_bits::DescriptorList;
 use ts_fields::FieldValue;
 use ts_section::{Section, TableRun};
+use ts_table_pages::eit_layout;
 use ts_table_rows::{Table, TableBody, TableFault, TableRefusal, read_table, write_table};
 
 /// One section of an event information table, which is a part of a longer list of events.
@@ -51,7 +51,7 @@ impl Eit {
     ghost use Rattle.ts_table_rows.specs.TableFitting.{table_fits, values_fit};
     ghost use Rattle.ts_table_rows.specs.TableSections.{Writes, sections_of};
     ghost use Rattle.ts_table_rows.specs.TableValues.{table_held};
-    ghost use Rattle.ts_eit.specs.EitPages.{eit_page};
+    ghost use Rattle.ts_table_pages.specs.EitPages.{eit_page};
     ghost use Rattle.ts_eit.specs.EitTables.{eit_held};
 
     /// The EIT that a table is.

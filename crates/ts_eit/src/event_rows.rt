@@ -7,7 +7,7 @@ ghost use Rattle.ts_fields.specs.Layout.{held, number};
 ghost use Rattle.ts_table_rows.specs.RowWords.{flag};
 ghost use Rattle.ts_table_rows.specs.TableFitting.{item_fits};
 ghost use Rattle.ts_table_rows.specs.TableValues.{item_held};
-ghost use Rattle.ts_eit.specs.EitPages.{event_page};
+ghost use Rattle.ts_table_pages.specs.EitPages.{event_page};
 ghost use Rattle.ts_eit.specs.EitTables.{event_item};
 ghost use Rattle.ts_eit.specs.EventTimes.{start_bits, time_bits};
 

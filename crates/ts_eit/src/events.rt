@@ -34,7 +34,7 @@ impl Event {
     ghost use Rattle.std.specs.Prelude.{◌≡◌, IfOk, OnOk, true};
     ghost use Rattle.ts_table_rows.specs.TableFitting.{item_fits};
     ghost use Rattle.ts_table_rows.specs.TableValues.{item_held};
-    ghost use Rattle.ts_eit.specs.EitPages.{event_page};
+    ghost use Rattle.ts_table_pages.specs.EitPages.{event_page};
     ghost use Rattle.ts_eit.specs.EitTables.{event_item};
 
     /// An equal event.

@@ -3,7 +3,7 @@
 ghost use Rattle.std.specs.Prelude.{◌≡◌, ◌≤◌, ◌<◌, [], ◌∷◌, map, true, Some};
 ghost use Rattle.ts_fields.specs.Layout.{held, number};
 ghost use Rattle.ts_table_rows.specs.TableFitting.{numbers_fit, values_fit};
-ghost use Rattle.ts_eit.specs.EitPages.{eit_page};
+ghost use Rattle.ts_table_pages.specs.EitPages.{eit_page};
 
 use ts_fields::FieldValue;
 use ts_table_rows::TableHead;

@@ -6,11 +6,10 @@ mod eit;
 mod event_rows;
 mod events;
 mod heads;
-mod layouts;
 mod start;
 mod times;
 
 pub use eit::Eit;
 pub use events::{Event, EventList};
-pub use layouts::eit_layout;
 pub use start::Start;
+pub use ts_table_pages::eit_layout;

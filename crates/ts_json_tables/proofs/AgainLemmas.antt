@@ -8,7 +8,7 @@ use Rattle.serde_json.specs.View.{items_of}
 use Rattle.ts_bits.specs.TaggedBody.{TaggedBody}
 use Rattle.ts_fields.specs.Bits.{bits_of}
 use Rattle.ts_fields.specs.Fitting.{are_bytes, fits}
-use Rattle.ts_fields.specs.Layout.{Row, Held, bytes}
+use Rattle.ts_fields.specs.Layout.{Row, Held}
 use Rattle.ts_jtree.specs.Attributes.{read_attributes}
 use Rattle.ts_jtree.specs.Elements.{keys_known, name_of, nodes_key}
 use Rattle.ts_jtree.specs.Faults.{Reading}

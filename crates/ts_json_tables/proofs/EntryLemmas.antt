@@ -1,5 +1,5 @@
 -- Entries of 0 and the others.
-use Rattle.std.proofs.Common.{◌≡◌, ℕ, ◌+◌, ◌<◌, Bool, true, false, List, [], ◌∷◌, ◌++◌, refl, sym, ap, ◌∙◌, arith}
+use Rattle.std.proofs.Common.{◌≡◌, ℕ, ◌<◌, Bool, true, false, List, [], ◌∷◌, ◌++◌, refl, sym, ap, ◌∙◌, arith}
 use Rattle.std.specs.Prelude.{◌&&◌, Option, Some, None, is_some, nat_eq, nat_lt, nat_le}
 use Rattle.std.specs.List.{list_all}
 use Rattle.std.proofs.lemmas.Bool.{and_from, leb-true, lt-ltb, ne_eqb}
@@ -8,8 +8,8 @@ use Rattle.ts_table_rows.specs.TableFitting.{item_fits, items_fit, zeros_from}
 use Rattle.ts_table_rows.specs.TablePages.{ItemPage}
 use Rattle.ts_table_rows.specs.TableValues.{ItemHolding}
 use Rattle.ts_fields.specs.Fitting.{fits}
-use Rattle.ts_psi.specs.PatTables.{entry_item, is_network, network_items}
-use Rattle.ts_psi.specs.PsiPages.{entry_page}
+use Rattle.ts_table_pages.specs.PatEntries.{entry_item, is_network, network_items}
+use Rattle.ts_table_pages.specs.PsiPages.{entry_page}
 use Rattle.ts_json_tables.specs.TableElements.{begins_with_zero, shown_items}
 use Rattle.ts_json_tables.proofs.ShowLemmas.{is_entry}
 use Rattle.ts_json_tables.proofs.StepLemmas.{both}

@@ -10,11 +10,11 @@ use Rattle.ts_fields.specs.Layout.{Row, Held, number, bytes}
 use Rattle.ts_pages.specs.Pages as descrs
 use Rattle.ts_json_descr.specs.DescrElements.{generic_name}
 use Rattle.ts_table_rows.specs.TablePages.{ItemPage, TablePage, has_id, page_sound}
-use Rattle.ts_psi.specs.PsiPages.{cat_page, entry_page, pat_page, pmt_page}
-use Rattle.ts_si.specs.SiPages.{bat_page, nit_page, sdt_page}
-use Rattle.ts_eit.specs.EitPages.{eit_page}
+use Rattle.ts_table_pages.specs.PsiPages.{cat_page, entry_page, pat_page, pmt_page}
+use Rattle.ts_table_pages.specs.SiPages.{bat_page, nit_page, sdt_page}
+use Rattle.ts_table_pages.specs.EitPages.{eit_page}
 use Rattle.ts_json_tables.specs.ElementRows.{actual_row, element_rows, id_rows, kept_rows, long_name, network_key, network_rows, short_name, table_id_row}
-use Rattle.ts_json_tables.specs.KnownPages.{page_named, page_with_id, table_pages}
+use Rattle.ts_json_tables.specs.KnownPages.{page_named, table_pages}
 use Rattle.std.proofs.lemmas.Bool.{eq-eqb, eqb-true, le-leb, leb-true}
 use Rattle.ts_jtree.specs.Faults.{Reading}
 use Rattle.ts_jtree.specs.Attributes.{read_attributes}
@@ -315,6 +315,3 @@ facts_in test (q ∷ ps) p all found =
 
 pub named_facts : (name : List ℕ) (p : TablePage) → page_named name ≡ Some p → Facts p
 named_facts name p found = facts_in (λ q. bytes_eq name q.name) table_pages p all_facts found
-
-pub id_facts : (id : ℕ) (p : TablePage) → page_with_id id ≡ Some p → Facts p
-id_facts id p found = facts_in (λ q. has_id q.ids id) table_pages p all_facts found

@@ -12,7 +12,7 @@ use Rattle.ts_jtree.specs.declared.fault.JsonKind.TheVariants.{UnknownKey}
 use Rattle.ts_jtree.specs.Attributes.{read_attributes}
 use Rattle.ts_jtree.specs.Elements.{keys_known, name_key, nodes_of}
 use Rattle.ts_jtree.specs.Faults.{Answers, Reading, or_refuse, ◌>>=◌}
-use Rattle.ts_psi.specs.PsiPages.{entry_page}
+use Rattle.ts_table_pages.specs.PsiPages.{entry_page}
 use Rattle.ts_table_rows.specs.BodySpelling.{held_count}
 use Rattle.ts_table_rows.specs.TableFitting.{head_fits, items_fit, own_fit, values_fit}
 use Rattle.ts_table_rows.specs.TablePages.{ItemPage, TablePage, has_id}

@@ -6,7 +6,7 @@ use Rattle.std.proofs.lemmas.Bool.{and_from, cond_both}
 use Rattle.std.proofs.lemmas.List.Elements.{All-append, All-cons, All-drop, All-filter, All-head, All-nil, All-tail, All-take}
 use Rattle.ts_bits.specs.TaggedBody.{IsDescriptor}
 use Rattle.ts_fields.specs.Fitting.{are_bytes}
-use Rattle.ts_psi.specs.PatTables.{is_network, ordered}
+use Rattle.ts_table_pages.specs.PatEntries.{is_network, ordered}
 use Rattle.ts_section.specs.LawfulSection.{IsSection}
 use Rattle.ts_section.specs.SectionFields.{body_of, is_long, table_id_of}
 use Rattle.ts_table_rows.specs.RunReading.{FirstBroken, read_run}

@@ -5,9 +5,9 @@ use Rattle.std.proofs.lemmas.Bool.{and_right, cond-false, cond-true, leb-true, l
 use Rattle.std.proofs.lemmas.Option.{same_Some}
 use Rattle.ts_table_rows.specs.RoundTrip.{forms_runs}
 use Rattle.ts_table_rows.specs.TablePages.{TablePage, has_id}
-use Rattle.ts_psi.specs.PsiPages.{cat_page, pat_page, pmt_page}
-use Rattle.ts_si.specs.SiPages.{bat_page, nit_page, sdt_page}
-use Rattle.ts_eit.specs.EitPages.{eit_page}
+use Rattle.ts_table_pages.specs.PsiPages.{cat_page, pat_page, pmt_page}
+use Rattle.ts_table_pages.specs.SiPages.{bat_page, nit_page, sdt_page}
+use Rattle.ts_table_pages.specs.EitPages.{eit_page}
 use Rattle.ts_json_tables.specs.KnownPages.{page_named, page_with_id, table_pages}
 use Rattle.ts_json_tables.proofs.KnownLemmas.{or_no}
 use Rattle.ts_json_tables.proofs.StepLemmas.{both}

@@ -28,10 +28,10 @@ use Rattle.ts_table_rows.specs.BodySpelling.{bytes_of}
 use Rattle.ts_table_rows.specs.TablePages.{ItemPage, TablePage}
 use Rattle.ts_table_rows.specs.TableSections.{Thing, item_thing, items_in, own_thing, owns_in}
 use Rattle.ts_table_rows.specs.TableValues.{ItemHolding}
-use Rattle.ts_psi.specs.PatTables.{entry_item, network_items}
+use Rattle.ts_table_pages.specs.PatEntries.{entry_item, network_items}
 use Rattle.ts_json_tables.specs.ElementRows.{element_rows, long_name, long_rows, payload_row, private_row, section_name, section_rows, short_name, short_rows, table_id_row}
 use Rattle.ts_json_tables.specs.HeadReading.{names_eit, names_network, only_bytes, read_bytes, read_heading, read_number, read_truth}
-use Rattle.ts_json_tables.specs.HeldTables.{TableValue, laid, long}
+use Rattle.ts_json_tables.specs.HeldTables.{TableValue, laid}
 use Rattle.ts_json_tables.specs.KnownPages.{page_named}
 use Rattle.ts_json_tables.specs.LawfulTables.{IsOfBytes, IsTable}
 use Rattle.ts_json_tables.specs.TableReading.{has_own, holding_of, parted, read_by_name, read_child, read_descr, read_described, read_each, read_item, read_laid, read_long, read_long_head, read_named, read_own, read_section, read_short, sections_counted, table_read}

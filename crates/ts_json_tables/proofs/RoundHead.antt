@@ -1,5 +1,5 @@
 -- A table that is shown is read again: its attributes.
-use Rattle.std.proofs.Common.{◌≡◌, ℕ, ◌+◌, Bool, true, false, List, [], ◌∷◌, ◌++◌, refl, sym, ap, ◌∙◌, subst}
+use Rattle.std.proofs.Common.{◌≡◌, ℕ, Bool, true, false, List, [], ◌∷◌, ◌++◌, refl, sym, ap, ◌∙◌, subst}
 use Rattle.std.specs.Prelude.{Option, Some, None, Ok, is_some, bytes_eq, nat_le, nat_lt, if◌then◌else◌}
 use Rattle.std.proofs.lemmas.Bool.{eqb-true}
 use Rattle.std.proofs.lemmas.Map.Text.{is_eq-slice_cmp}
@@ -15,8 +15,8 @@ use Rattle.ts_jtree.specs.declared.fault.JsonKind.TheVariants.{UnknownKey}
 use Rattle.ts_jtree.specs.Attributes.{attribute_of, holds_number, number_at, number_attribute, read_attributes}
 use Rattle.ts_jtree.specs.Elements.{is_known, keys_known}
 use Rattle.ts_jtree.specs.Faults.{refuse}
-use Rattle.ts_psi.specs.PatTables.{entry_item, network_items}
-use Rattle.ts_psi.specs.PsiPages.{entry_page}
+use Rattle.ts_table_pages.specs.PatEntries.{entry_item, network_items}
+use Rattle.ts_table_pages.specs.PsiPages.{entry_page}
 use Rattle.ts_table_rows.specs.BodyReading.{first_number, is_zero}
 use Rattle.ts_table_rows.specs.TableFitting.{item_fits, items_fit, numbers_fit}
 use Rattle.ts_table_rows.specs.TablePages.{ItemPage}

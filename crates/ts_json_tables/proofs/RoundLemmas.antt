@@ -4,7 +4,7 @@ use Rattle.std.specs.Prelude.{◌||◌, All, Option, Some, None, Ok, Err, bytes_
 use Rattle.std.specs.List.{list_all}
 use Rattle.std.proofs.lemmas.List.Elements.{All-head, All-tail}
 use Rattle.std.proofs.lemmas.Slice.Eq.{bytes_eq-Decides}
-use Rattle.serde_json.specs.Data.{Data, Members, object}
+use Rattle.serde_json.specs.Data.{Data, Members}
 use Rattle.serde_json.specs.View.{items_of}
 use Rattle.ts_bits.specs.TaggedBody.{TaggedBody, IsDescriptor}
 use Rattle.ts_fields.specs.Bits.{bits_of}

@@ -1,5 +1,5 @@
 -- Rows one after another, and the values that they hold.
-use Rattle.std.proofs.Common.{◌≡◌, ℕ, ◌+◌, ◌-◌, Bool, true, false, List, [], ◌∷◌, ◌++◌, length, drop, refl, sym, ap, ◌∙◌, arith, ◌⊎◌, inl, inr, length-append}
+use Rattle.std.proofs.Common.{◌≡◌, ℕ, ◌+◌, Bool, true, false, List, [], ◌∷◌, ◌++◌, length, drop, refl, sym, ap, ◌∙◌, arith, ◌⊎◌, inl, inr, length-append}
 use Rattle.std.specs.Prelude.{◌&&◌, Option, Some, None, Ok, Err, option_to_list, slice_get, is_none}
 use Rattle.std.specs.List.{list_all}
 use Rattle.serde_json.specs.Data.{Members}

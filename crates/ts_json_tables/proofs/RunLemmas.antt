@@ -1,5 +1,5 @@
 -- The table of a run is lawful.
-use Rattle.std.proofs.Common.{◌≡◌, ℕ, zero, suc, ◌+◌, ◌-◌, ◌<◌, ◌≤◌, Bool, true, false, List, [], ◌∷◌, ◌++◌, length, take, drop, get_or, map, refl, sym, ap, ◌∙◌, arith, subst, inl, inr}
+use Rattle.std.proofs.Common.{◌≡◌, ℕ, zero, suc, ◌-◌, ◌<◌, ◌≤◌, Bool, true, false, List, [], ◌∷◌, ◌++◌, length, take, drop, get_or, map, refl, sym, ap, ◌∙◌, arith, subst, inl, inr}
 use Rattle.std.specs.Prelude.{◌&&◌, ◌||◌, All, Option, Some, None, Result, Ok, Err, IfOk, find, filter, option_to_list, is_some, not, nat_eq, nat_lt, nat_le, if◌then◌else◌}
 use Rattle.std.specs.declared.alloc.AllocError.{AllocError}
 use Rattle.std.specs.List.{list_all}
@@ -12,8 +12,8 @@ use Rattle.ts_section.specs.LawfulSection.{IsSection}
 use Rattle.ts_section.specs.SectionFields.{body_of, extension_of, is_long, last_number_of, number_of, table_id_of, version_of}
 use Rattle.ts_section.specs.SectionRun.{IsTableRun, stands_alone}
 use Rattle.ts_fields.specs.Fitting.{fits}
-use Rattle.ts_psi.specs.PatTables.{entry_item, is_network, network_items}
-use Rattle.ts_psi.specs.PsiPages.{entry_page}
+use Rattle.ts_table_pages.specs.PatEntries.{entry_item, is_network, network_items}
+use Rattle.ts_table_pages.specs.PsiPages.{entry_page}
 use Rattle.ts_table_rows.specs.TableFitting.{head_fits, item_fits, items_fit, own_fit, table_fits, values_fit, zeros_from}
 use Rattle.ts_table_rows.specs.TablePages.{ItemPage, TablePage, has_id}
 use Rattle.ts_table_rows.specs.TableValues.{ItemHolding, TableHolding}

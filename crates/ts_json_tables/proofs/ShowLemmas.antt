@@ -7,8 +7,8 @@ use Rattle.ts_fields.specs.Fitting.{fits}
 use Rattle.ts_fields.specs.Layout.{Row, Held, number, bytes}
 use Rattle.ts_jtree.specs.Numbers.{truth_bit}
 use Rattle.ts_jtree.specs.Shown.{are_shown, put_attributes}
-use Rattle.ts_psi.specs.PatTables.{entry_item}
-use Rattle.ts_psi.specs.PsiPages.{entry_page}
+use Rattle.ts_table_pages.specs.PatEntries.{entry_item}
+use Rattle.ts_table_pages.specs.PsiPages.{entry_page}
 use Rattle.ts_table_rows.specs.BodyReading.{first_number, is_zero}
 use Rattle.ts_table_rows.specs.TableFitting.{item_fits, items_fit, none_there, numbers_fit}
 use Rattle.ts_table_rows.specs.TablePages.{ItemPage, TablePage}

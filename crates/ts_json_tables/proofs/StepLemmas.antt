@@ -1,6 +1,6 @@
 -- Reading that went on, and tests.
 use Rattle.std.proofs.Common.{◌≡◌, ℕ, Bool, true, false, refl, sym, ap}
-use Rattle.std.specs.Prelude.{◌&&◌, not, Ok, Err, List}
+use Rattle.std.specs.Prelude.{◌&&◌, Ok, Err, List}
 use Rattle.ts_jtree.specs.declared.fault.JsonKind.{JsonKind}
 use Rattle.ts_jtree.specs.declared.fault.ReadRefusal.{ReadRefusal}
 use Rattle.ts_jtree.specs.declared.fault.ReadRefusal.TheVariants.{Json, NoMemory}
@@ -10,10 +10,6 @@ use Rattle.ts_jtree.specs.Faults.{Reading, refuse, at_child, IsRefusal, Stops, �
 pub both : (a b : Bool) → (a && b) ≡ true → (a ≡ true) × (b ≡ true)
 both true b is = (refl, is)
 both false b is = cc
-
-pub not_true : (b : Bool) → not b ≡ true → b ≡ false
-not_true true is = cc
-not_true false is = refl
 
 -- where reading went on, each of its steps did
 pub then_ok : {A B P : Type 0} (read : Reading A) (next : A → Reading B) (y : B) → (read >>= next) ≡ Ok y

@@ -1,5 +1,5 @@
 -- The sections of a table of a page tell it, and so does the section of the short form.
-use Rattle.std.proofs.Common.{◌≡◌, ℕ, ◌+◌, ◌-◌, ◌<◌, ◌≤◌, Bool, true, false, List, [], ◌∷◌, ◌++◌, length, drop, refl, sym, ap, ◌∙◌, subst, arith, inl}
+use Rattle.std.proofs.Common.{◌≡◌, ℕ, ◌+◌, ◌<◌, ◌≤◌, Bool, true, false, List, [], ◌∷◌, ◌++◌, length, drop, refl, sym, ap, ◌∙◌, subst, arith, inl}
 use Rattle.std.specs.Prelude.{All, IsTrue, Option, Some, None, Result, Ok, Err, filter, find, not, nat_le, nat_lt, option_to_list, if◌then◌else◌}
 use Rattle.std.specs.List.{list_all}
 use Rattle.std.proofs.lemmas.Bool.{cond_both, leb-true, ltb-false, ltb-true}
@@ -10,8 +10,8 @@ use Rattle.ts_section.specs.SectionFields.{is_long, table_id_of}
 use Rattle.ts_section.specs.SectionRun.{IsTableRun, stands_alone}
 use Rattle.ts_section.specs.WrittenSection.{IsShortSectionOf, short_section}
 use Rattle.ts_jtree.specs.Shown.{are_within}
-use Rattle.ts_psi.specs.PatTables.{is_network, ordered}
-use Rattle.ts_psi.specs.PsiPages.{entry_page}
+use Rattle.ts_table_pages.specs.PatEntries.{is_network, ordered}
+use Rattle.ts_table_pages.specs.PsiPages.{entry_page}
 use Rattle.ts_table_rows.specs.declared.fault.TableRefusal.{TableRefusal}
 use Rattle.ts_table_rows.specs.declared.fault.TableRule.TheVariants.{WrongTable}
 use Rattle.ts_table_rows.specs.declared.table.TableHead.{TableHead}

@@ -16,7 +16,7 @@ use Rattle.ts_json_tables.specs.HeldTables.{LongHolding, long, short}
 use Rattle.ts_json_tables.specs.KnownPages.{page_with_id}
 use Rattle.ts_json_tables.specs.LawfulTables.{is_payload, numbers_kept}
 use Rattle.ts_json_tables.specs.LawfulTables as lawful
-use Rattle.ts_json_tables.specs.RunTables.{bytes_table, kept_numbers, long_head, long_of, long_sections, numbered, numbers_used, read_or_bytes, short_of, table_by, table_of_run}
+use Rattle.ts_json_tables.specs.RunTables.{bytes_table, kept_numbers, long_head, long_of, long_sections, numbers_used, read_or_bytes, short_of, table_by, table_of_run}
 use Rattle.ts_json_tables.specs.TableReading.{is_lawful_count}
 use Rattle.ts_json_tables.specs.ToldTables.{TellsTable, laid_or_long, long_by_page, told_again}
 use Rattle.ts_json_tables.proofs.MadeSections.{AreHeads, MadeLawful, all_made, made_at, made_by, made_length, numbered_made}

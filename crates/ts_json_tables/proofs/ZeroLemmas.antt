@@ -5,7 +5,7 @@ use Rattle.std.proofs.lemmas.List.{drop_more, drop_all, take-map, drop-map, map-
 use Rattle.ts_table_rows.specs.declared.table.TableItem.{TableItem}
 use Rattle.ts_table_rows.specs.TableFitting.{zeros_from}
 use Rattle.ts_table_rows.specs.TableValues.{ItemHolding, item_held}
-use Rattle.ts_psi.specs.PatTables.{is_network, ordered}
+use Rattle.ts_table_pages.specs.PatEntries.{is_network, ordered}
 use Rattle.ts_json_tables.specs.RunTables.{zero_place}
 
 items_left : (items : List TableItem) (i : ℕ) (x : TableItem) → i < length items → x ≡ get_or items i x

@@ -2,9 +2,9 @@
 -- ISO/IEC 13818-1, 2.4.4, and ETSI EN 300 468, 5.2. A table that is known here has one line in `table_pages`.
 use Rattle.std.specs.Prelude.{ℕ, List, [], ◌∷◌, bytes_eq, find, Option}
 use Rattle.ts_table_rows.specs.TablePages.{TablePage, has_id}
-use Rattle.ts_psi.specs.PsiPages.{pat_page, cat_page, pmt_page}
-use Rattle.ts_si.specs.SiPages.{nit_page, bat_page, sdt_page}
-use Rattle.ts_eit.specs.EitPages.{eit_page}
+use Rattle.ts_table_pages.specs.PsiPages.{pat_page, cat_page, pmt_page}
+use Rattle.ts_table_pages.specs.SiPages.{nit_page, bat_page, sdt_page}
+use Rattle.ts_table_pages.specs.EitPages.{eit_page}
 
 -- their pages
 abbrev pub table_pages : List TablePage

@@ -10,7 +10,7 @@ use Rattle.ts_table_rows.specs.RunReading.{FirstBroken, read_run}
 use Rattle.ts_table_rows.specs.TablePages.{TablePage}
 use Rattle.ts_table_rows.specs.TableSections.{sections_of}
 use Rattle.ts_table_rows.specs.TableValues.{ItemHolding, TableHolding}
-use Rattle.ts_psi.specs.PatTables.{is_network, ordered}
+use Rattle.ts_table_pages.specs.PatEntries.{is_network, ordered}
 use Rattle.ts_json_tables.specs.ElementRows.{is_eit_id}
 use Rattle.ts_json_tables.specs.HeldTables.{ShortHolding, LongHolding, TableValue, laid, short, long}
 use Rattle.ts_json_tables.specs.KnownPages.{page_with_id}

@@ -15,7 +15,7 @@ use Rattle.ts_table_rows.specs.TablePages.{ItemPage, TablePage}
 use Rattle.ts_table_rows.specs.TableValues.{ItemHolding, TableHolding, item_held}
 use Rattle.ts_table_rows.specs.TableSections.{Thing, own_thing, item_thing, owns_in, items_in}
 use Rattle.ts_table_rows.specs.BodySpelling.{bytes_of}
-use Rattle.ts_psi.specs.PatTables.{network_items}
+use Rattle.ts_table_pages.specs.PatEntries.{network_items}
 use Rattle.ts_json_tables.specs.declared.children.Child.{Child}
 use Rattle.ts_json_tables.specs.declared.children.Child.TheVariants as sorts
 use Rattle.ts_json_tables.specs.ElementRows.{current_row, element_rows, extension_row, long_name, long_rows, payload_row, private_row, section_name, section_rows, short_name, short_rows, table_id_row, version_row}

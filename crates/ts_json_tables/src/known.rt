@@ -4,9 +4,9 @@ ghost use Rattle.std.specs.Prelude.{◌≡◌, option_map, IfSome, IsTrue};
 ghost use Rattle.ts_table_rows.specs.TablePages.{table_page, page_sound};
 ghost use Rattle.ts_json_tables.specs.KnownPages.{page_named, page_with_id};
 
-use ts_eit::eit_layout;
-use ts_psi::{cat_layout, pat_layout, pmt_layout};
-use ts_si::{bat_layout, nit_layout, sdt_layout};
+use ts_table_pages::{
+    bat_layout, cat_layout, eit_layout, nit_layout, pat_layout, pmt_layout, sdt_layout,
+};
 use ts_table_rows::TableLayout;
 
 /// The layout of an element's name; none where no table has it.

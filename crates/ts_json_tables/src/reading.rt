@@ -5,7 +5,7 @@ ghost use Rattle.serde_json.specs.View.{view, items_view, members_view};
 ghost use Rattle.ts_jtree.specs.Faults.{Answers, at_child};
 ghost use Rattle.ts_table_rows.specs.TablePages.{table_page, page_sound};
 ghost use Rattle.ts_table_rows.specs.TableValues.{item_held};
-ghost use Rattle.ts_psi.specs.PatTables.{network_items};
+ghost use Rattle.ts_table_pages.specs.PatEntries.{network_items};
 ghost use Rattle.ts_json_tables.specs.HeldTables.{laid_value, long, long_held, short, short_held, table_value};
 ghost use Rattle.ts_json_tables.specs.LawfulTables.{IsTable};
 ghost use Rattle.ts_json_tables.specs.TableReading;

@@ -8,7 +8,7 @@ ghost use Rattle.ts_table_rows.specs.TableFitting.{zeros_from};
 ghost use Rattle.ts_table_rows.specs.TablePages.{table_page, page_sound};
 ghost use Rattle.ts_table_rows.specs.TableFitting.{table_fits};
 ghost use Rattle.ts_table_rows.specs.TableValues.{item_held, table_held};
-ghost use Rattle.ts_psi.specs.PatTables.{ordered};
+ghost use Rattle.ts_table_pages.specs.PatEntries.{ordered};
 ghost use Rattle.ts_json_tables.specs.ElementRows;
 ghost use Rattle.ts_json_tables.specs.HeldTables.{short, table_value};
 ghost use Rattle.ts_json_tables.specs.KnownPages.{page_named};

@@ -9,7 +9,7 @@ use Rattle.ts_fields.specs.Fitting.{fits}
 use Rattle.ts_table_rows.specs.TableValues.{ItemHolding}
 use Rattle.ts_table_rows.specs.TableFitting.{item_fits, zeros_from, head_fits, body_fits, table_fits}
 use Rattle.ts_table_rows.proofs.ListLemmas.{zeros_free}
-use Rattle.ts_psi.specs.PsiPages.{component_page, entry_page, pmt_head_rows, cat_page, pat_page, pmt_page}
+use Rattle.ts_table_pages.specs.PsiPages.{component_page, entry_page, pmt_head_rows, cat_page, pat_page, pmt_page}
 use Rattle.ts_psi.specs.PsiTables.{component_item, pmt_held}
 use Rattle.ts_psi.specs.CatTables.{cat_held}
 use Rattle.ts_psi.specs.PatTables.{entry_item, service_item, network_items, is_network, service_serves, pat_held}

@@ -5,7 +5,7 @@ use Rattle.std.specs.List.{list_all}
 use Rattle.std.proofs.lemmas.Bool.{and_parts, not-true}
 use Rattle.ts_table_rows.specs.TableFitting.{item_fits}
 use Rattle.ts_table_rows.specs.TableValues.{ItemHolding, TableHolding}
-use Rattle.ts_psi.specs.PsiPages.{entry_page}
+use Rattle.ts_table_pages.specs.PsiPages.{entry_page}
 use Rattle.ts_psi.specs.PatTables.{entry_item, service_item, network_items, is_network, service_serves, ordered, pat_held, pat_table}
 use Rattle.ts_psi.specs.declared.pat.Pat.{Pat}
 

@@ -3,7 +3,7 @@
 use Rattle.std.specs.Prelude.{ℕ, List, [], None, Result, Ok}
 use Rattle.ts_table_rows.specs.TableValues.{TableHolding}
 use Rattle.ts_table_rows.specs.RunReading.{FirstBroken, read_run, ◌>>=◌}
-use Rattle.ts_psi.specs.PsiPages.{cat_page}
+use Rattle.ts_table_pages.specs.PsiPages.{cat_page}
 use Rattle.ts_psi.specs.declared.cat.Cat.{Cat}
 
 -- a CAT as a table, with reserved bits as ones

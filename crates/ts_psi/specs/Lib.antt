@@ -1,4 +1,4 @@
-pub mod PsiPages
+pub use Rattle.ts_table_pages.specs.PsiPages
 pub mod PsiTables
 pub mod CatTables
 pub mod PatTables

@@ -2,10 +2,10 @@
 
 ghost use Rattle.std.specs.Prelude.{◌<◌};
 
-use crate::layouts::cat_layout;
 use std::alloc::{AllocError, Global};
 use ts_bits::DescriptorList;
 use ts_section::{Section, TableRun};
+use ts_table_pages::cat_layout;
 use ts_table_rows::{
     Table, TableBody, TableFault, TableHead, TableRefusal, read_table, write_table,
 };
@@ -29,7 +29,7 @@ impl Cat {
     ghost use Rattle.ts_table_rows.specs.TableFitting.{table_fits};
     ghost use Rattle.ts_table_rows.specs.TableSections.{Writes, sections_of};
     ghost use Rattle.ts_table_rows.specs.TableValues.{table_held};
-    ghost use Rattle.ts_psi.specs.PsiPages.{cat_page};
+    ghost use Rattle.ts_table_pages.specs.PsiPages.{cat_page};
     ghost use Rattle.ts_psi.specs.CatTables.{cat_held, cat_table, read_cat};
 
     /// The CAT that a table is; its table_id_extension is reserved and read as anything.

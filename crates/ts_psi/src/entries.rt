@@ -5,7 +5,7 @@ ghost use Rattle.std.specs.List.{list_all};
 ghost use Rattle.std.specs.Option.{ForSome};
 ghost use Rattle.ts_table_rows.specs.TableFitting.{item_fits};
 ghost use Rattle.ts_table_rows.specs.TableValues.{item_held};
-ghost use Rattle.ts_psi.specs.PsiPages.{entry_page};
+ghost use Rattle.ts_table_pages.specs.PsiPages.{entry_page};
 ghost use Rattle.ts_psi.specs.PatTables.{entry_item, is_network, network_items, service_item, service_serves};
 
 use crate::pat::PatService;

@@ -4,12 +4,11 @@
 
 mod cat;
 mod entries;
-mod layouts;
 mod pat;
 mod pmt;
 mod pmt_values;
 
 pub use cat::Cat;
-pub use layouts::{cat_layout, pat_layout, pmt_layout};
 pub use pat::{Pat, PatService, PatServiceList};
 pub use pmt::{Component, ComponentList, Pmt};
+pub use ts_table_pages::{cat_layout, pat_layout, pmt_layout};

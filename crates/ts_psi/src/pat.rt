@@ -4,11 +4,11 @@ ghost use Rattle.std.specs.Prelude.{◌<◌};
 ghost use Rattle.std.specs.Option.{ForSome};
 
 use crate::entries::{network_of, network_rows, pat_head, service_rows, services_of};
-use crate::layouts::pat_layout;
 use std::alloc::{AllocError, Global};
 use std::marker::Model;
 use ts_bits::DescriptorList;
 use ts_section::{Section, TableRun};
+use ts_table_pages::pat_layout;
 use ts_table_rows::{Table, TableBody, TableFault, TableRefusal, read_table, write_table};
 
 /// A service, and the PID of its PMT.
@@ -95,7 +95,7 @@ impl Pat {
     ghost use Rattle.ts_table_rows.specs.TableFitting.{table_fits};
     ghost use Rattle.ts_table_rows.specs.TableSections.{Writes, sections_of};
     ghost use Rattle.ts_table_rows.specs.TableValues.{table_held};
-    ghost use Rattle.ts_psi.specs.PsiPages.{pat_page};
+    ghost use Rattle.ts_table_pages.specs.PsiPages.{pat_page};
     ghost use Rattle.ts_psi.specs.PatTables.{pat_held, pat_table, read_pat};
 
     /// The PAT that a table is.

@@ -2,13 +2,13 @@
 
 ghost use Rattle.std.specs.Prelude.{◌<◌};
 
-use crate::layouts::pmt_layout;
 use crate::pmt_values::pcr_of;
 use std::alloc::{AllocError, Global};
 use std::marker::Model;
 use ts_bits::DescriptorList;
 use ts_fields::FieldValue;
 use ts_section::{Section, TableRun};
+use ts_table_pages::pmt_layout;
 use ts_table_rows::{
     Table, TableBody, TableFault, TableHead, TableItem, TableRefusal, read_table, write_table,
 };
@@ -29,7 +29,7 @@ impl Component {
     ghost use Rattle.std.specs.Prelude.{◌≡◌, IfOk, Some, option_map, true};
     ghost use Rattle.ts_table_rows.specs.TableFitting.{item_fits};
     ghost use Rattle.ts_table_rows.specs.TableValues.{item_held};
-    ghost use Rattle.ts_psi.specs.PsiPages.{component_page};
+    ghost use Rattle.ts_table_pages.specs.PsiPages.{component_page};
     ghost use Rattle.ts_psi.specs.PsiTables.{component_item};
 
     /// An equal component.
@@ -160,7 +160,7 @@ impl Pmt {
     ghost use Rattle.ts_table_rows.specs.TableFitting.{item_fits, table_fits};
     ghost use Rattle.ts_table_rows.specs.TableSections.{Writes, sections_of};
     ghost use Rattle.ts_table_rows.specs.TableValues.{item_held, table_held};
-    ghost use Rattle.ts_psi.specs.PsiPages.{component_page, pmt_page};
+    ghost use Rattle.ts_table_pages.specs.PsiPages.{component_page, pmt_page};
     ghost use Rattle.ts_psi.specs.PsiTables.{component_item, pmt_held};
 
     /// The components that items of the table are.

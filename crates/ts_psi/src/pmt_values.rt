@@ -3,7 +3,7 @@
 ghost use Rattle.std.specs.Prelude.{◌≡◌, ◌<◌, [], ◌∷◌, map, true};
 ghost use Rattle.ts_fields.specs.Fitting.{fits};
 ghost use Rattle.ts_fields.specs.Layout.{held, number};
-ghost use Rattle.ts_psi.specs.PsiPages.{pmt_head_rows};
+ghost use Rattle.ts_table_pages.specs.PsiPages.{pmt_head_rows};
 
 use ts_fields::FieldValue;
 

@@ -8,7 +8,7 @@ use Rattle.ts_fields.specs.Fitting.{fits}
 use Rattle.ts_table_rows.specs.TableValues.{ItemHolding}
 use Rattle.ts_table_rows.specs.TableFitting.{item_fits, zeros_from, head_fits, body_fits, table_fits, values_fit}
 use Rattle.ts_table_rows.proofs.ListLemmas.{zeros_free}
-use Rattle.ts_si.specs.SiPages.{network_rows, stream_page, service_page, nit_page, bat_page, sdt_page}
+use Rattle.ts_table_pages.specs.SiPages.{network_rows, stream_page, service_page, nit_page, bat_page, sdt_page}
 use Rattle.ts_si.specs.SiTables.{nit_id, sdt_id, stream_item, service_item, nit_held, bat_held, sdt_held}
 use Rattle.ts_si.specs.declared.nit.Nit.{Nit}
 use Rattle.ts_si.specs.declared.bat.Bat.{Bat}

@@ -1,2 +1,2 @@
-pub mod SiPages
+pub use Rattle.ts_table_pages.specs.SiPages
 pub mod SiTables

@@ -3,12 +3,12 @@
 ghost use Rattle.std.specs.Prelude.{◌<◌};
 
 use crate::heads::{holds_nothing, table_head};
-use crate::layouts::bat_layout;
 use crate::stream_rows::{stream_items, streams_of};
 use crate::streams::NitStreamList;
 use std::alloc::{AllocError, Global};
 use ts_bits::DescriptorList;
 use ts_section::{Section, TableRun};
+use ts_table_pages::bat_layout;
 use ts_table_rows::{Table, TableBody, TableFault, TableRefusal, read_table, write_table};
 
 /// A bouquet association table.
@@ -34,7 +34,7 @@ impl Bat {
     ghost use Rattle.ts_table_rows.specs.TableFitting.{table_fits};
     ghost use Rattle.ts_table_rows.specs.TableSections.{Writes, sections_of};
     ghost use Rattle.ts_table_rows.specs.TableValues.{table_held};
-    ghost use Rattle.ts_si.specs.SiPages.{bat_page};
+    ghost use Rattle.ts_table_pages.specs.SiPages.{bat_page};
     ghost use Rattle.ts_si.specs.SiTables.{bat_held};
 
     /// The BAT that a table is.

@@ -4,7 +4,7 @@ ghost use Rattle.std.specs.Prelude.{◌≡◌, ◌≤◌, ◌<◌, [], ◌∷◌
 ghost use Rattle.ts_fields.specs.Fitting.{fits};
 ghost use Rattle.ts_fields.specs.Layout.{held, number};
 ghost use Rattle.ts_table_rows.specs.TableFitting.{values_fit};
-ghost use Rattle.ts_si.specs.SiPages.{network_rows, sdt_page};
+ghost use Rattle.ts_table_pages.specs.SiPages.{network_rows, sdt_page};
 ghost use Rattle.ts_si.specs.SiTables;
 
 use ts_fields::FieldValue;

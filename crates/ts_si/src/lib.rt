@@ -4,7 +4,6 @@
 
 mod bat;
 mod heads;
-mod layouts;
 mod nit;
 mod sdt;
 mod service_rows;
@@ -13,8 +12,8 @@ mod stream_rows;
 mod streams;
 
 pub use bat::Bat;
-pub use layouts::{bat_layout, nit_layout, sdt_layout};
 pub use nit::Nit;
 pub use sdt::Sdt;
 pub use services::{SdtService, SdtServiceList};
 pub use streams::{NitStream, NitStreamList};
+pub use ts_table_pages::{bat_layout, nit_layout, sdt_layout};

@@ -3,12 +3,12 @@
 ghost use Rattle.std.specs.Prelude.{◌<◌};
 
 use crate::heads::{holds_nothing, is_actual_nit, nit_id, table_head};
-use crate::layouts::nit_layout;
 use crate::stream_rows::{stream_items, streams_of};
 use crate::streams::NitStreamList;
 use std::alloc::{AllocError, Global};
 use ts_bits::DescriptorList;
 use ts_section::{Section, TableRun};
+use ts_table_pages::nit_layout;
 use ts_table_rows::{Table, TableBody, TableFault, TableRefusal, read_table, write_table};
 
 /// A network information table.
@@ -36,7 +36,7 @@ impl Nit {
     ghost use Rattle.ts_table_rows.specs.TableFitting.{table_fits};
     ghost use Rattle.ts_table_rows.specs.TableSections.{Writes, sections_of};
     ghost use Rattle.ts_table_rows.specs.TableValues.{table_held};
-    ghost use Rattle.ts_si.specs.SiPages.{nit_page};
+    ghost use Rattle.ts_table_pages.specs.SiPages.{nit_page};
     ghost use Rattle.ts_si.specs.SiTables.{nit_held};
 
     /// The NIT that a table is.

@@ -3,13 +3,13 @@
 ghost use Rattle.std.specs.Prelude.{◌<◌};
 
 use crate::heads::{is_actual_sdt, original_of, sdt_id, table_head};
-use crate::layouts::sdt_layout;
 use crate::service_rows::{service_items, services_of};
 use crate::services::SdtServiceList;
 use std::alloc::{AllocError, Global};
 use ts_bits::DescriptorList;
 use ts_fields::FieldValue;
 use ts_section::{Section, TableRun};
+use ts_table_pages::sdt_layout;
 use ts_table_rows::{Table, TableBody, TableFault, TableRefusal, read_table, write_table};
 
 /// A service description table.
@@ -37,7 +37,7 @@ impl Sdt {
     ghost use Rattle.ts_table_rows.specs.TableFitting.{table_fits};
     ghost use Rattle.ts_table_rows.specs.TableSections.{Writes, sections_of};
     ghost use Rattle.ts_table_rows.specs.TableValues.{table_held};
-    ghost use Rattle.ts_si.specs.SiPages.{sdt_page};
+    ghost use Rattle.ts_table_pages.specs.SiPages.{sdt_page};
     ghost use Rattle.ts_si.specs.SiTables.{sdt_held};
 
     /// The SDT that a table is.

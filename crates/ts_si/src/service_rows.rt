@@ -7,7 +7,7 @@ ghost use Rattle.ts_fields.specs.Layout.{held, number};
 ghost use Rattle.ts_table_rows.specs.RowWords.{flag};
 ghost use Rattle.ts_table_rows.specs.TableFitting.{item_fits};
 ghost use Rattle.ts_table_rows.specs.TableValues.{item_held};
-ghost use Rattle.ts_si.specs.SiPages.{service_page};
+ghost use Rattle.ts_table_pages.specs.SiPages.{service_page};
 ghost use Rattle.ts_si.specs.SiTables.{service_item};
 
 use crate::services::{SdtService, SdtServiceList};

@@ -31,7 +31,7 @@ impl SdtService {
     ghost use Rattle.std.specs.Prelude.{◌≡◌, IfOk, OnOk, true};
     ghost use Rattle.ts_table_rows.specs.TableFitting.{item_fits};
     ghost use Rattle.ts_table_rows.specs.TableValues.{item_held};
-    ghost use Rattle.ts_si.specs.SiPages.{service_page};
+    ghost use Rattle.ts_table_pages.specs.SiPages.{service_page};
     ghost use Rattle.ts_si.specs.SiTables.{service_item};
 
     /// An equal service.

@@ -6,7 +6,7 @@ ghost use Rattle.ts_fields.specs.Fitting.{fits};
 ghost use Rattle.ts_fields.specs.Layout.{held, number};
 ghost use Rattle.ts_table_rows.specs.TableFitting.{item_fits};
 ghost use Rattle.ts_table_rows.specs.TableValues.{item_held};
-ghost use Rattle.ts_si.specs.SiPages.{stream_page};
+ghost use Rattle.ts_table_pages.specs.SiPages.{stream_page};
 ghost use Rattle.ts_si.specs.SiTables.{stream_item};
 
 use crate::streams::{NitStream, NitStreamList};

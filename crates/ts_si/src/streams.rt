@@ -22,7 +22,7 @@ impl NitStream {
     ghost use Rattle.std.specs.Prelude.{◌≡◌, IfOk, OnOk, true};
     ghost use Rattle.ts_table_rows.specs.TableFitting.{item_fits};
     ghost use Rattle.ts_table_rows.specs.TableValues.{item_held};
-    ghost use Rattle.ts_si.specs.SiPages.{stream_page};
+    ghost use Rattle.ts_table_pages.specs.SiPages.{stream_page};
     ghost use Rattle.ts_si.specs.SiTables.{stream_item};
 
     /// An equal stream.

@@ -1,7 +1,7 @@
 use Rattle.ts_table_rows.specs.TableFitting.{item_fits}
 use Rattle.ts_table_rows.specs.TableValues.{item_held}
 use Rattle.ts_table_rows.proofs.ListLemmas.{map_one_more, map_all, test_one_more, test_all}
-use Rattle.ts_eit.specs.EitPages.{event_page}
+use Rattle.ts_table_pages.specs.EitPages.{event_page}
 use Rattle.ts_eit.specs.EitTables.{event_item}
 use Rattle.ts_eit.proofs.event_rows.event_items.Goals as goal
 

@@ -3,7 +3,7 @@ use Rattle.std.specs.List.{list_all}
 use Rattle.std.specs.Vec.Iter.{into_iter_items}
 use Rattle.ts_table_rows.specs.TableFitting.{item_fits}
 use Rattle.ts_table_rows.specs.TableValues.{item_held}
-use Rattle.ts_eit.specs.EitPages.{event_page}
+use Rattle.ts_table_pages.specs.EitPages.{event_page}
 use Rattle.ts_eit.specs.EitTables.{event_item}
 use Rattle.ts_eit.proofs.event_rows.events_of.Given as goal
 

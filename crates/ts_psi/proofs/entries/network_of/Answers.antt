@@ -1,6 +1,6 @@
 use Rattle.ts_table_rows.specs.TableFitting.{item_fits}
 use Rattle.ts_table_rows.specs.TableValues.{item_held}
-use Rattle.ts_psi.specs.PsiPages.{entry_page}
+use Rattle.ts_table_pages.specs.PsiPages.{entry_page}
 use Rattle.ts_psi.proofs.EntryLemmas.{test_at, network_here, network_later, network_none}
 use Rattle.ts_psi.proofs.entries.network_of.Goals as goal
 

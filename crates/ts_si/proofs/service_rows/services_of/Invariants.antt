@@ -3,7 +3,7 @@ use Rattle.std.specs.List.{list_all}
 use Rattle.std.specs.Vec.Iter.{into_iter_items}
 use Rattle.ts_table_rows.specs.TableFitting.{item_fits}
 use Rattle.ts_table_rows.specs.TableValues.{item_held}
-use Rattle.ts_si.specs.SiPages.{service_page}
+use Rattle.ts_table_pages.specs.SiPages.{service_page}
 use Rattle.ts_si.specs.SiTables.{service_item}
 use Rattle.ts_si.proofs.service_rows.services_of.Given as goal
 

@@ -1,7 +1,7 @@
 use Rattle.ts_table_rows.specs.TableFitting.{item_fits}
 use Rattle.ts_table_rows.specs.TableValues.{item_held}
 use Rattle.ts_table_rows.proofs.ListLemmas.{map_one_more, map_all, test_one_more, test_all}
-use Rattle.ts_si.specs.SiPages.{stream_page}
+use Rattle.ts_table_pages.specs.SiPages.{stream_page}
 use Rattle.ts_si.specs.SiTables.{stream_item}
 use Rattle.ts_si.proofs.stream_rows.stream_items.Goals as goal
 

@@ -2,7 +2,7 @@ use Rattle.std.proofs.Common.{◌≡◌, map, take, true}
 use Rattle.std.specs.List.{list_all}
 use Rattle.ts_table_rows.specs.TableFitting.{item_fits}
 use Rattle.ts_table_rows.specs.TableValues.{item_held}
-use Rattle.ts_si.specs.SiPages.{stream_page}
+use Rattle.ts_table_pages.specs.SiPages.{stream_page}
 use Rattle.ts_si.specs.SiTables.{stream_item}
 use Rattle.ts_si.proofs.stream_rows.stream_items.Given as goal
 

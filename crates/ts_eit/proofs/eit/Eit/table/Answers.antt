@@ -1,7 +1,7 @@
 use Rattle.std.proofs.Common.{map, sym, ap, ◌∙◌}
 use Rattle.std.specs.List.{list_all}
 use Rattle.ts_table_rows.specs.TableFitting.{item_fits}
-use Rattle.ts_eit.specs.EitPages.{event_page}
+use Rattle.ts_table_pages.specs.EitPages.{event_page}
 use Rattle.ts_eit.specs.EitTables.{event_item}
 use Rattle.ts_eit.proofs.FitLemmas.{eit_fits}
 use Rattle.ts_eit.proofs.eit.Eit.table.Goals as goal

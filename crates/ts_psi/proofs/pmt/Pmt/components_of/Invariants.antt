@@ -3,7 +3,7 @@ use Rattle.std.specs.List.{list_all}
 use Rattle.std.specs.Vec.Iter.{into_iter_items}
 use Rattle.ts_table_rows.specs.TableFitting.{item_fits}
 use Rattle.ts_table_rows.specs.TableValues.{item_held}
-use Rattle.ts_psi.specs.PsiPages.{component_page}
+use Rattle.ts_table_pages.specs.PsiPages.{component_page}
 use Rattle.ts_psi.specs.PsiTables.{component_item}
 use Rattle.ts_psi.proofs.pmt.Pmt.components_of.Given as goal
 

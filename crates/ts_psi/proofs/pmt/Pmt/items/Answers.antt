@@ -1,6 +1,6 @@
 use Rattle.ts_table_rows.specs.TableFitting.{item_fits}
 use Rattle.ts_table_rows.specs.TableValues.{item_held}
-use Rattle.ts_psi.specs.PsiPages.{component_page}
+use Rattle.ts_table_pages.specs.PsiPages.{component_page}
 use Rattle.ts_psi.specs.PsiTables.{component_item}
 use Rattle.ts_table_rows.proofs.ListLemmas.{map_one_more, map_all, test_one_more, test_all}
 use Rattle.ts_psi.proofs.pmt.Pmt.items.Goals as goal

@@ -2,7 +2,7 @@ use Rattle.std.proofs.Common.{◌≡◌, map, take, true}
 use Rattle.std.specs.List.{list_all}
 use Rattle.ts_table_rows.specs.TableFitting.{item_fits}
 use Rattle.ts_table_rows.specs.TableValues.{item_held}
-use Rattle.ts_psi.specs.PsiPages.{component_page}
+use Rattle.ts_table_pages.specs.PsiPages.{component_page}
 use Rattle.ts_psi.specs.PsiTables.{component_item}
 use Rattle.ts_psi.proofs.pmt.Pmt.items.Given as goal
 

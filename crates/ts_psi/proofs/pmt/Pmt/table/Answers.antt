@@ -1,7 +1,7 @@
 use Rattle.std.proofs.Common.{map, sym, ap, ◌∙◌, arith}
 use Rattle.std.specs.List.{list_all}
 use Rattle.ts_table_rows.specs.TableFitting.{item_fits}
-use Rattle.ts_psi.specs.PsiPages.{component_page}
+use Rattle.ts_table_pages.specs.PsiPages.{component_page}
 use Rattle.ts_psi.specs.PsiTables.{component_item}
 use Rattle.ts_psi.proofs.FitLemmas.{pmt_fits}
 use Rattle.ts_psi.proofs.pmt.Pmt.table.Goals as goal

@@ -1,7 +1,7 @@
 use Rattle.std.proofs.Common.{map, sym, ap, ◌∙◌, arith}
 use Rattle.std.specs.List.{list_all}
 use Rattle.ts_table_rows.specs.TableFitting.{item_fits}
-use Rattle.ts_si.specs.SiPages.{stream_page}
+use Rattle.ts_table_pages.specs.SiPages.{stream_page}
 use Rattle.ts_si.specs.SiTables.{stream_item}
 use Rattle.ts_si.proofs.FitLemmas.{nit_fits}
 use Rattle.ts_si.proofs.nit.Nit.table.Goals as goal

@@ -1,7 +1,7 @@
 use Rattle.std.proofs.Common.{map, sym, ap, ◌∙◌, arith}
 use Rattle.std.specs.List.{list_all}
 use Rattle.ts_table_rows.specs.TableFitting.{item_fits}
-use Rattle.ts_si.specs.SiPages.{service_page}
+use Rattle.ts_table_pages.specs.SiPages.{service_page}
 use Rattle.ts_si.specs.SiTables.{service_item}
 use Rattle.ts_si.proofs.FitLemmas.{sdt_fits}
 use Rattle.ts_si.proofs.sdt.Sdt.table.Goals as goal

@@ -2,16 +2,10 @@
 
 ghost use Rattle.std.specs.Prelude.{◌≡◌, IsTrue};
 ghost use Rattle.ts_table_rows.specs.TablePages.{table_page, page_sound};
-ghost use Rattle.ts_psi.specs.PsiPages.{pat_page, cat_page, pmt_page};
+ghost use Rattle.ts_table_pages.specs.PsiPages.{pat_page, cat_page, pmt_page};
 
 use ts_fields::{Field, Kind};
 use ts_table_rows::{ItemForm, LoopForm, TableLayout};
-
-macro_rules! rows {
-    ($($name:literal $kind:expr, $absent:expr, $range:expr;)*) => {
-        &[$(Field { name: $name, kind: $kind, absent: $absent, range: $range }),*]
-    };
-}
 
 /// Program association table (ISO/IEC 13818-1, 2.4.4.3).
 static PAT: TableLayout = TableLayout {

@@ -2,16 +2,10 @@
 
 ghost use Rattle.std.specs.Prelude.{◌≡◌, IsTrue};
 ghost use Rattle.ts_table_rows.specs.TablePages.{table_page, page_sound};
-ghost use Rattle.ts_eit.specs.EitPages.{eit_page};
+ghost use Rattle.ts_table_pages.specs.EitPages.{eit_page};
 
 use ts_fields::{Field, Kind};
 use ts_table_rows::{ItemForm, LoopForm, TableLayout};
-
-macro_rules! rows {
-    ($($name:literal $kind:expr, $absent:expr;)*) => {
-        &[$(Field { name: $name, kind: $kind, absent: $absent, range: None }),*]
-    };
-}
 
 /// Event information table (ETSI EN 300 468, 5.2.4).
 static EIT: TableLayout = TableLayout {

@@ -1,0 +1,4 @@
+pub mod PsiPages
+pub mod SiPages
+pub mod EitPages
+pub mod PatEntries
