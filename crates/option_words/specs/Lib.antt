@@ -3,6 +3,7 @@ pub mod HexText
 pub mod Joined
 pub mod Number
 pub mod OptionTable
+pub mod OptionWords
 pub mod Options
 pub mod Pairs
 pub mod Ranges

@@ -5,6 +5,7 @@
 mod commands;
 mod hex_text;
 mod number;
+mod option_word;
 mod pairs;
 mod parsed_options;
 mod ranges;
@@ -12,7 +13,8 @@ mod refusal;
 mod signs;
 mod words_rule;
 
-pub use commands::{new_command, with_flag, with_operand, with_operands, with_value};
+pub use commands::{command_with, new_command, with_flag, with_operand, with_operands, with_value};
+pub use option_word::OptionWord;
 pub use parsed_options::ParsedOptions;
 pub use refusal::Refusal;
 pub use words_rule::WordsRule;
