@@ -7,19 +7,24 @@ ghost use Rattle.option_words.specs.Refusal.{ReadsParsed};
 
 use crate::until_conf::UntilConf;
 use clap::Command;
-use option_words::{ParsedOptions, Refusal, WordsRule, new_command, with_flag, with_value};
+use option_words::{OptionWord, ParsedOptions, Refusal, WordsRule, command_with};
 use plug_conf::MOST_NUMBER;
 use std::alloc::{AllocError, Global};
+
+// The options of `until`.
+static UNTIL: [OptionWord; 5] = [
+    OptionWord::Value("packets"),
+    OptionWord::Value("bytes"),
+    OptionWord::Value("unit-start-count"),
+    OptionWord::Flag("exclude-last"),
+    OptionWord::Flag("joint-termination"),
+];
 
 /// The command of `until`, which has its options.
 pub fn until_command<'a>(alloc: Global) -> Result<Command<'a>, AllocError>
     ensures { IfOk result (λ c. app_of c ≡ command_of until_rows) }
 {
-    let command = with_value(alloc, new_command(alloc), "packets")?;
-    let command = with_value(alloc, command, "bytes")?;
-    let command = with_value(alloc, command, "unit-start-count")?;
-    let command = with_flag(alloc, command, "exclude-last")?;
-    with_flag(alloc, command, "joint-termination")
+    command_with(alloc, &UNTIL)
 }
 
 /// Reads the settings of `until` from what its command found in the words.
