@@ -1,34 +1,33 @@
 ghost use Rattle.std.specs.Prelude.{◌≡◌, IfOk};
 ghost use Rattle.clap.specs.Simple.{app_of};
 ghost use Rattle.plug_pass.specs.FilterSettings.{IsLawfulFilter};
-ghost use Rattle.plug_pass.specs.FilterWords.{condition_rows, filter, filter_rows};
+ghost use Rattle.plug_pass.specs.FilterWords.{filter, filter_rows};
 ghost use Rattle.option_words.specs.Options.{command_of};
 ghost use Rattle.option_words.specs.Refusal.{ReadsParsed};
 
 use crate::filter_conf::FilterConf;
 use clap::Command;
-use option_words::{ParsedOptions, Refusal, WordsRule, new_command, with_flag, with_value};
+use option_words::{OptionWord, ParsedOptions, Refusal, WordsRule, command_with};
 use plug_conf::{LAST_LABEL, LAST_PID};
 use std::alloc::{AllocError, Global};
 
-// The command of the conditions alone.
-fn conditions_command<'a>(alloc: Global) -> Result<Command<'a>, AllocError>
-    ensures { IfOk result (λ c. app_of c ≡ command_of condition_rows) }
-{
-    let command = with_value(alloc, new_command(alloc), "pid")?;
-    let command = with_flag(alloc, command, "pcr")?;
-    let command = with_flag(alloc, command, "unit-start")?;
-    let command = with_flag(alloc, command, "scrambled")?;
-    with_value(alloc, command, "label")
-}
+// The options of `filter`, of which the first five are conditions.
+static FILTER: [OptionWord; 8] = [
+    OptionWord::Value("pid"),
+    OptionWord::Flag("pcr"),
+    OptionWord::Flag("unit-start"),
+    OptionWord::Flag("scrambled"),
+    OptionWord::Value("label"),
+    OptionWord::Flag("negate"),
+    OptionWord::Flag("stuffing"),
+    OptionWord::Value("set-label"),
+];
 
 /// The command of `filter`, which has its options.
 pub fn filter_command<'a>(alloc: Global) -> Result<Command<'a>, AllocError>
     ensures { IfOk result (λ c. app_of c ≡ command_of filter_rows) }
 {
-    let command = with_flag(alloc, conditions_command(alloc)?, "negate")?;
-    let command = with_flag(alloc, command, "stuffing")?;
-    with_value(alloc, command, "set-label")
+    command_with(alloc, &FILTER)
 }
 
 // Whether one of the five conditions is given.

@@ -7,22 +7,25 @@ ghost use Rattle.option_words.specs.Refusal.{ReadsParsed};
 
 use crate::pattern_conf::PatternConf;
 use clap::Command;
-use option_words::{
-    ParsedOptions, Refusal, WordsRule, new_command, with_flag, with_operand, with_value,
-};
+use option_words::{OptionWord, ParsedOptions, Refusal, WordsRule, command_with};
 use plug_conf::{LAST_OFFSET, LAST_PID};
 use std::alloc::{AllocError, Global};
 use ts_packet::PAYLOAD_SIZE;
+
+// The options of `pattern`.
+static PATTERN: [OptionWord; 5] = [
+    OptionWord::Operand("operand"),
+    OptionWord::Value("pid"),
+    OptionWord::Value("offset-pusi"),
+    OptionWord::Value("offset-non-pusi"),
+    OptionWord::Flag("negate"),
+];
 
 /// The command of `pattern`, which has its options.
 pub fn pattern_command<'a>(alloc: Global) -> Result<Command<'a>, AllocError>
     ensures { IfOk result (λ c. app_of c ≡ command_of pattern_rows) }
 {
-    let command = with_operand(alloc, new_command(alloc), "operand")?;
-    let command = with_value(alloc, command, "pid")?;
-    let command = with_value(alloc, command, "offset-pusi")?;
-    let command = with_value(alloc, command, "offset-non-pusi")?;
-    with_flag(alloc, command, "negate")
+    command_with(alloc, &PATTERN)
 }
 
 /// Reads the settings of `pattern` from what its command found in the words.
@@ -33,10 +36,10 @@ pub fn pattern_settings(alloc: Global, found: &ParsedOptions) -> Result<PatternC
     if !found.has_value("operand") {
         return Err(Refusal::Broken(WordsRule::Missing));
     }
-    let operand = found.bytes(alloc, "operand", 1, PAYLOAD_SIZE)?;
-    let pid = found.ranges(alloc, "pid", LAST_PID)?;
     let offset_pusi = found.number("offset-pusi", 0, LAST_OFFSET)?;
     let offset_non_pusi = found.number("offset-non-pusi", 0, LAST_OFFSET)?;
+    let pid = found.ranges(alloc, "pid", LAST_PID)?;
+    let operand = found.bytes(alloc, "operand", 1, PAYLOAD_SIZE)?;
     Ok(PatternConf {
         operand,
         pid,

@@ -7,15 +7,18 @@ ghost use Rattle.option_words.specs.Refusal.{ReadsParsed};
 
 use crate::skip_conf::SkipConf;
 use clap::Command;
-use option_words::{ParsedOptions, Refusal, WordsRule, new_command, with_operand};
+use option_words::{OptionWord, ParsedOptions, Refusal, WordsRule, command_with};
 use plug_conf::MOST_PACKETS;
 use std::alloc::{AllocError, Global};
+
+// The options of `skip`.
+static SKIP: [OptionWord; 1] = [OptionWord::Operand("operand")];
 
 /// The command of `skip`, which has its options.
 pub fn skip_command<'a>(alloc: Global) -> Result<Command<'a>, AllocError>
     ensures { IfOk result (λ c. app_of c ≡ command_of skip_rows) }
 {
-    with_operand(alloc, new_command(alloc), "operand")
+    command_with(alloc, &SKIP)
 }
 
 /// Reads the settings of `skip` from what its command found in the words.

@@ -7,18 +7,23 @@ ghost use Rattle.option_words.specs.Refusal.{ReadsParsed};
 
 use crate::slice_conf::SliceConf;
 use clap::Command;
-use option_words::{ParsedOptions, Refusal, WordsRule, new_command, with_value};
+use option_words::{OptionWord, ParsedOptions, Refusal, WordsRule, command_with};
 use plug_conf::MOST_NUMBER;
 use std::alloc::{AllocError, Global};
+
+// The options of `slice`.
+static SLICE: [OptionWord; 4] = [
+    OptionWord::Value("drop"),
+    OptionWord::Value("null"),
+    OptionWord::Value("pass"),
+    OptionWord::Value("stop"),
+];
 
 /// The command of `slice`, which has its options.
 pub fn slice_command<'a>(alloc: Global) -> Result<Command<'a>, AllocError>
     ensures { IfOk result (λ c. app_of c ≡ command_of slice_rows) }
 {
-    let command = with_value(alloc, new_command(alloc), "drop")?;
-    let command = with_value(alloc, command, "null")?;
-    let command = with_value(alloc, command, "pass")?;
-    with_value(alloc, command, "stop")
+    command_with(alloc, &SLICE)
 }
 
 /// Reads the settings of `slice` from what its command found in the words.

@@ -5,7 +5,7 @@ use Rattle.plug_pass.proofs.pattern_words.pattern_settings.Goals as goal
 
 pub returns-in_err-offset_pusi-clause-reads : goal.returns-in_err-offset_pusi-clause-reads
 returns-in_err-offset_pusi-clause-reads c =
-    value_refused pattern c.args.found.now _ _ _ c.from_residual-in_err-offset_pusi.ensures.1 c.in_err-offset_pusi.ensures.reads (sym c.has_value.ensures ∙ c.if-not-has_value.false)
+    value_refused pattern c.args.found.now _ _ _ c.from_residual.ensures.1 c.in_err-offset_pusi.ensures.reads (sym c.has_value.ensures ∙ c.if-not-has_value.false)
     (malformed pattern_rows c.args.found.now 2 _ refl)
 
 pub returns-in_err-offset_non_pusi-clause-reads : goal.returns-in_err-offset_non_pusi-clause-reads
