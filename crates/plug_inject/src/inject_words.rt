@@ -7,20 +7,23 @@ ghost use Rattle.plug_inject.specs.InjectWords.{inject, inject_rows};
 
 use crate::inject_conf::{InjectConf, InjectMode, LAST_CARRIER};
 use clap::Command;
-use option_words::{
-    ParsedOptions, Refusal, WordsRule, new_command, with_flag, with_operand, with_value,
-};
+use option_words::{OptionWord, ParsedOptions, Refusal, WordsRule, command_with};
 use plug_conf::MOST_NUMBER;
 use std::alloc::{AllocError, Global};
+
+// The options of `inject`.
+static INJECT: [OptionWord; 4] = [
+    OptionWord::Operand("operand"),
+    OptionWord::Value("pid"),
+    OptionWord::Flag("replace"),
+    OptionWord::Value("inter-packet"),
+];
 
 /// The command of `inject`, which has its options.
 pub fn inject_command<'a>(alloc: Global) -> Result<Command<'a>, AllocError>
     ensures { IfOk result (λ c. app_of c ≡ command_of inject_rows) }
 {
-    let command = with_operand(alloc, new_command(alloc), "operand")?;
-    let command = with_value(alloc, command, "pid")?;
-    let command = with_flag(alloc, command, "replace")?;
-    with_value(alloc, command, "inter-packet")
+    command_with(alloc, &INJECT)
 }
 
 // Whether the file, the PID and one of the two modes are given.
