@@ -7,16 +7,18 @@ ghost use Rattle.option_words.specs.Refusal.{ReadsParsed};
 
 use crate::continuity_conf::ContinuityConf;
 use clap::Command;
-use option_words::{ParsedOptions, Refusal, new_command, with_flag, with_value};
+use option_words::{OptionWord, ParsedOptions, Refusal, command_with};
 use plug_conf::LAST_PID;
 use std::alloc::{AllocError, Global};
+
+// The options of `continuity`.
+static CONTINUITY: [OptionWord; 2] = [OptionWord::Value("pid"), OptionWord::Flag("fix")];
 
 /// The command of `continuity`, which has its options.
 pub fn continuity_command<'a>(alloc: Global) -> Result<Command<'a>, AllocError>
     ensures { IfOk result (λ c. app_of c ≡ command_of continuity_rows) }
 {
-    let command = with_value(alloc, new_command(alloc), "pid")?;
-    with_flag(alloc, command, "fix")
+    command_with(alloc, &CONTINUITY)
 }
 
 /// Reads the settings of `continuity` from what its command found in the words.

@@ -7,18 +7,23 @@ ghost use Rattle.option_words.specs.Refusal.{ReadsParsed};
 
 use crate::count_conf::CountConf;
 use clap::Command;
-use option_words::{ParsedOptions, Refusal, new_command, with_flag, with_value};
+use option_words::{OptionWord, ParsedOptions, Refusal, command_with};
 use plug_conf::LAST_PID;
 use std::alloc::{AllocError, Global};
+
+// The options of `count`.
+static COUNT: [OptionWord; 4] = [
+    OptionWord::Value("pid"),
+    OptionWord::Flag("negate"),
+    OptionWord::Flag("all"),
+    OptionWord::Flag("total"),
+];
 
 /// The command of `count`, which has its options.
 pub fn count_command<'a>(alloc: Global) -> Result<Command<'a>, AllocError>
     ensures { IfOk result (λ c. app_of c ≡ command_of count_rows) }
 {
-    let command = with_value(alloc, new_command(alloc), "pid")?;
-    let command = with_flag(alloc, command, "negate")?;
-    let command = with_flag(alloc, command, "all")?;
-    with_flag(alloc, command, "total")
+    command_with(alloc, &COUNT)
 }
 
 /// Reads the settings of `count` from what its command found in the words.
