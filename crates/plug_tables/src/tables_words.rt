@@ -8,16 +8,18 @@ ghost use Rattle.option_words.specs.Refusal.{ReadsParsed};
 use crate::limits::LAST_TABLE_ID;
 use crate::tables_conf::TablesConf;
 use clap::Command;
-use option_words::{ParsedOptions, Refusal, new_command, with_value};
+use option_words::{OptionWord, ParsedOptions, Refusal, command_with};
 use plug_conf::LAST_PID;
 use std::alloc::{AllocError, Global};
+
+// The options of `tables`.
+static TABLES: [OptionWord; 2] = [OptionWord::Value("pid"), OptionWord::Value("tid")];
 
 /// The command of `tables`, which has its options.
 pub fn tables_command<'a>(alloc: Global) -> Result<Command<'a>, AllocError>
     ensures { IfOk result (λ c. app_of c ≡ command_of tables_rows) }
 {
-    let command = with_value(alloc, new_command(alloc), "pid")?;
-    with_value(alloc, command, "tid")
+    command_with(alloc, &TABLES)
 }
 
 /// Reads the settings of `tables` from what its command found in the words.
