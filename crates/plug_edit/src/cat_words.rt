@@ -12,22 +12,28 @@ ghost use Rattle.plug_edit.specs.EditWords.{pairs_found, slash};
 ghost use Rattle.plug_edit.specs.declared.limits.TheConstants.{LAST_ID};
 
 use crate::cat_conf::EditCatConf;
-use crate::edit_words::{number_up_to, with_version};
+use crate::edit_words::number_up_to;
 use crate::limits::{LAST_ID, LAST_VERSION};
 use crate::versions::versions_agree;
 use clap::Command;
-use option_words::{ParsedOptions, Refusal, WordsRule, new_command, with_value};
+use option_words::{OptionWord, ParsedOptions, Refusal, WordsRule, command_with};
 use plug_conf::{LAST_PID, PairList};
 use std::alloc::{AllocError, Global};
+
+// The options of `cat`.
+static CAT: [OptionWord; 5] = [
+    OptionWord::Value("add-ca"),
+    OptionWord::Value("remove-casid"),
+    OptionWord::Value("remove-pid"),
+    OptionWord::Value("new-version"),
+    OptionWord::Flag("increment-version"),
+];
 
 /// The command of `cat`, which has its options.
 pub fn cat_command<'a>(alloc: Global) -> Result<Command<'a>, AllocError>
     ensures { IfOk result (λ c. app_of c ≡ command_of cat_rows) }
 {
-    let command = with_value(alloc, new_command(alloc), "add-ca")?;
-    let command = with_value(alloc, command, "remove-casid")?;
-    let command = with_value(alloc, command, "remove-pid")?;
-    with_version(alloc, command)
+    command_with(alloc, &CAT)
 }
 
 // The CA descriptors that are put in.

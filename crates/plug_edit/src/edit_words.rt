@@ -1,26 +1,14 @@
 //! Words that editors have in common.
 
-ghost use Rattle.std.specs.Prelude.{◌≡◌, ◌<◌, ◌+◌, IfOk, MatchResult, codes, false, true};
+ghost use Rattle.std.specs.Prelude.{◌≡◌, ◌<◌, ◌+◌, IfOk, MatchResult, false, true};
 ghost use Rattle.std.specs.Option.{ForSome};
-ghost use Rattle.clap.specs.Simple.{app_of, with_rule};
 ghost use Rattle.option_words.specs.Forms.{number};
-ghost use Rattle.option_words.specs.Options.{flag_rule, is_formed, value_rule};
+ghost use Rattle.option_words.specs.Options.{is_formed};
 ghost use Rattle.option_words.specs.Refusal.{IsRefusedBy};
 ghost use Rattle.option_words.specs.declared.words_rule.WordsRule.TheVariants.{Value};
 ghost use Rattle.plug_edit.specs.EditWords.{number_found};
 
-use clap::Command;
-use option_words::{ParsedOptions, Refusal, with_flag, with_value};
-use std::alloc::{AllocError, Global};
-
-/// Adds the two options of the version.
-pub fn with_version<'a>(alloc: Global, command: Command<'a>) -> Result<Command<'a>, AllocError>
-    ensures { IfOk result (λ c. app_of c ≡ with_rule (with_rule (app_of command.entry)
-        (value_rule (codes "new-version"))) (flag_rule (codes "increment-version"))) }
-{
-    let command = with_value(alloc, command, "new-version")?;
-    with_flag(alloc, command, "increment-version")
-}
+use option_words::{ParsedOptions, Refusal};
 
 /// The number of an option, from 0 to a most, where it is given.
 pub fn number_up_to(found: &ParsedOptions, name: &str, most: u64) -> Result<Option<u64>, Refusal>

@@ -5,22 +5,28 @@ ghost use Rattle.option_words.specs.Refusal.{ReadsParsed};
 ghost use Rattle.plug_edit.specs.NitSettings.{IsLawfulNit};
 ghost use Rattle.plug_edit.specs.NitWords.{nit, nit_rows};
 
-use crate::edit_words::{number_up_to, with_version};
+use crate::edit_words::number_up_to;
 use crate::limits::{LAST_ID, LAST_VERSION};
 use crate::nit_conf::EditNitConf;
 use crate::versions::versions_agree;
 use clap::Command;
-use option_words::{ParsedOptions, Refusal, WordsRule, new_command, with_value};
+use option_words::{OptionWord, ParsedOptions, Refusal, WordsRule, command_with};
 use std::alloc::{AllocError, Global};
+
+// The options of `nit`.
+static NIT: [OptionWord; 5] = [
+    OptionWord::Value("remove-ts"),
+    OptionWord::Value("network-id"),
+    OptionWord::Value("network-name"),
+    OptionWord::Value("new-version"),
+    OptionWord::Flag("increment-version"),
+];
 
 /// The command of `nit`, which has its options.
 pub fn nit_command<'a>(alloc: Global) -> Result<Command<'a>, AllocError>
     ensures { IfOk result (λ c. app_of c ≡ command_of nit_rows) }
 {
-    let command = with_value(alloc, new_command(alloc), "remove-ts")?;
-    let command = with_value(alloc, command, "network-id")?;
-    let command = with_value(alloc, command, "network-name")?;
-    with_version(alloc, command)
+    command_with(alloc, &NIT)
 }
 
 /// Reads the settings of `nit` from what its command found in the words.

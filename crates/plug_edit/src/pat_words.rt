@@ -11,24 +11,30 @@ ghost use Rattle.plug_edit.specs.PatSettings.{IsAddedService, IsLawfulPat};
 ghost use Rattle.plug_edit.specs.PatWords.{pat, pat_rows};
 ghost use Rattle.plug_edit.specs.declared.limits.TheConstants.{LAST_ID};
 
-use crate::edit_words::{number_up_to, with_version};
+use crate::edit_words::number_up_to;
 use crate::limits::{LAST_ID, LAST_VERSION};
 use crate::pat_conf::EditPatConf;
 use crate::versions::versions_agree;
 use clap::Command;
-use option_words::{ParsedOptions, Refusal, WordsRule, new_command, with_value};
+use option_words::{OptionWord, ParsedOptions, Refusal, WordsRule, command_with};
 use plug_conf::{LAST_PID, PairList};
 use std::alloc::{AllocError, Global};
+
+// The options of `pat`.
+static PAT: [OptionWord; 6] = [
+    OptionWord::Value("add-service"),
+    OptionWord::Value("remove-service"),
+    OptionWord::Value("ts-id"),
+    OptionWord::Value("nit"),
+    OptionWord::Value("new-version"),
+    OptionWord::Flag("increment-version"),
+];
 
 /// The command of `pat`, which has its options.
 pub fn pat_command<'a>(alloc: Global) -> Result<Command<'a>, AllocError>
     ensures { IfOk result (λ c. app_of c ≡ command_of pat_rows) }
 {
-    let command = with_value(alloc, new_command(alloc), "add-service")?;
-    let command = with_value(alloc, command, "remove-service")?;
-    let command = with_value(alloc, command, "ts-id")?;
-    let command = with_value(alloc, command, "nit")?;
-    with_version(alloc, command)
+    command_with(alloc, &PAT)
 }
 
 // The services that are put in.

@@ -11,25 +11,31 @@ ghost use Rattle.plug_edit.specs.PmtSettings.{IsAddedComponent, IsLawfulPmt, IsM
 ghost use Rattle.plug_edit.specs.PmtWords.{pmt, pmt_rows};
 ghost use Rattle.plug_edit.specs.declared.limits.TheConstants.{LAST_TYPE};
 
-use crate::edit_words::{number_up_to, with_version};
+use crate::edit_words::number_up_to;
 use crate::limits::{LAST_TYPE, LAST_VERSION};
 use crate::pmt_conf::EditPmtConf;
 use crate::versions::versions_agree;
 use clap::Command;
-use option_words::{ParsedOptions, Refusal, WordsRule, new_command, with_value};
+use option_words::{OptionWord, ParsedOptions, Refusal, WordsRule, command_with};
 use plug_conf::{LAST_PID, PairList};
 use std::alloc::{AllocError, Global};
+
+// The options of `pmt`.
+static PMT: [OptionWord; 7] = [
+    OptionWord::Value("pmt-pid"),
+    OptionWord::Value("add-pid"),
+    OptionWord::Value("remove-pid"),
+    OptionWord::Value("move-pid"),
+    OptionWord::Value("pcr-pid"),
+    OptionWord::Value("new-version"),
+    OptionWord::Flag("increment-version"),
+];
 
 /// The command of `pmt`, which has its options.
 pub fn pmt_command<'a>(alloc: Global) -> Result<Command<'a>, AllocError>
     ensures { IfOk result (λ c. app_of c ≡ command_of pmt_rows) }
 {
-    let command = with_value(alloc, new_command(alloc), "pmt-pid")?;
-    let command = with_value(alloc, command, "add-pid")?;
-    let command = with_value(alloc, command, "remove-pid")?;
-    let command = with_value(alloc, command, "move-pid")?;
-    let command = with_value(alloc, command, "pcr-pid")?;
-    with_version(alloc, command)
+    command_with(alloc, &PMT)
 }
 
 // The components that are put in.

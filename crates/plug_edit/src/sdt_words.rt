@@ -3,33 +3,33 @@ ghost use Rattle.clap.specs.Simple.{app_of};
 ghost use Rattle.option_words.specs.Options.{command_of};
 ghost use Rattle.option_words.specs.Refusal.{ReadsParsed};
 ghost use Rattle.plug_edit.specs.SdtSettings.{IsLawfulSdt};
-ghost use Rattle.plug_edit.specs.SdtWords.{sdt, sdt_rows, service_rows};
+ghost use Rattle.plug_edit.specs.SdtWords.{sdt, sdt_rows};
 
-use crate::edit_words::{number_up_to, with_version};
+use crate::edit_words::number_up_to;
 use crate::limits::{LAST_ID, LAST_MODE, LAST_STATUS, LAST_TYPE, LAST_VERSION};
 use crate::sdt_conf::EditSdtConf;
 use clap::Command;
-use option_words::{ParsedOptions, Refusal, WordsRule, new_command, with_value};
+use option_words::{OptionWord, ParsedOptions, Refusal, WordsRule, command_with};
 use std::alloc::{AllocError, Global};
 
-// The command of the options on services and on a service descriptor alone.
-fn service_command<'a>(alloc: Global) -> Result<Command<'a>, AllocError>
-    ensures { IfOk result (λ c. app_of c ≡ command_of service_rows) }
-{
-    let command = with_value(alloc, new_command(alloc), "remove-service")?;
-    let command = with_value(alloc, command, "service")?;
-    let command = with_value(alloc, command, "name")?;
-    let command = with_value(alloc, command, "provider")?;
-    with_value(alloc, command, "type")
-}
+// The options of `sdt`, of which the first five are on services and on a service descriptor.
+static SDT: [OptionWord; 9] = [
+    OptionWord::Value("remove-service"),
+    OptionWord::Value("service"),
+    OptionWord::Value("name"),
+    OptionWord::Value("provider"),
+    OptionWord::Value("type"),
+    OptionWord::Value("running-status"),
+    OptionWord::Value("free-ca-mode"),
+    OptionWord::Value("new-version"),
+    OptionWord::Flag("increment-version"),
+];
 
 /// The command of `sdt`, which has its options.
 pub fn sdt_command<'a>(alloc: Global) -> Result<Command<'a>, AllocError>
     ensures { IfOk result (λ c. app_of c ≡ command_of sdt_rows) }
 {
-    let command = with_value(alloc, service_command(alloc)?, "running-status")?;
-    let command = with_value(alloc, command, "free-ca-mode")?;
-    with_version(alloc, command)
+    command_with(alloc, &SDT)
 }
 
 /// Reads the settings of `sdt` from what its command found in the words.
