@@ -11,15 +11,17 @@ ghost use Rattle.plug_service.specs.declared.limits.TheConstants.{LAST_SERVICE};
 
 use crate::limits::LAST_SERVICE;
 use clap::Command;
-use option_words::{ParsedOptions, Refusal, new_command, with_flag, with_operand};
+use option_words::{OptionWord, ParsedOptions, Refusal, command_with};
 use std::alloc::{AllocError, Global};
+
+// The options of both plugins.
+static SERVICE: [OptionWord; 2] = [OptionWord::Operand("operand"), OptionWord::Flag("stuffing")];
 
 /// The command that has the options of both plugins.
 pub(crate) fn service_command<'a>(alloc: Global) -> Result<Command<'a>, AllocError>
     ensures { IfOk result (λ c. app_of c ≡ command_of service_rows) }
 {
-    let command = with_operand(alloc, new_command(alloc), "operand")?;
-    with_flag(alloc, command, "stuffing")
+    command_with(alloc, &SERVICE)
 }
 
 /// The number of the service.
