@@ -7,17 +7,22 @@ ghost use Rattle.option_words.specs.Refusal.{ReadsParsed};
 
 use crate::remap_conf::RemapConf;
 use clap::Command;
-use option_words::{ParsedOptions, Refusal, WordsRule, new_command, with_flag, with_operands};
+use option_words::{OptionWord, ParsedOptions, Refusal, WordsRule, command_with};
 use plug_conf::LAST_PID;
 use std::alloc::{AllocError, Global};
+
+// The options of `remap`.
+static REMAP: [OptionWord; 3] = [
+    OptionWord::Operands("operand"),
+    OptionWord::Flag("no-psi"),
+    OptionWord::Flag("unchecked"),
+];
 
 /// The command of `remap`, which has its options.
 pub fn remap_command<'a>(alloc: Global) -> Result<Command<'a>, AllocError>
     ensures { IfOk result (λ c. app_of c ≡ command_of remap_rows) }
 {
-    let command = with_operands(alloc, new_command(alloc), "operand")?;
-    let command = with_flag(alloc, command, "no-psi")?;
-    with_flag(alloc, command, "unchecked")
+    command_with(alloc, &REMAP)
 }
 
 /// Reads the settings of `remap` from what its command found in the words.
