@@ -39,10 +39,13 @@ impl<E: TableEdit + Drop> Editor<E> {
         ensures fresh { IfOk result (λ editor. StandsFor (E.change edit) editor pid []) }
         ensures edit { IfOk result (λ editor. edit_of editor ≡ edit) }
     {
+        let cycle = Cycle::new(alloc, pid)?;
+        // The largest value comes last: nothing can fail while it is held.
+        let contents = Contents::new(alloc, pid)?;
         Ok(Editor {
-            contents: Contents::new(alloc, pid)?,
+            contents,
             edit,
-            cycle: Cycle::new(alloc, pid)?,
+            cycle,
             counter: 0,
             changed: true,
             failed: false,

@@ -11,6 +11,7 @@ ghost use Rattle.plug_psi.specs.ForceState.{EntryStands, HasEntry, pmt_seen};
 ghost use Rattle.plug_psi.specs.SameForce.{SameInForce};
 
 use crate::editor::either;
+use crate::handed_over::put;
 use crate::on_pid::OnPid;
 use crate::on_zero::OnZero;
 use indexmap::IndexMap;
@@ -155,7 +156,7 @@ fn fresh_entry(alloc: Global, pids: &mut Pids, pid: u16) -> Result<(), AllocErro
     ensures others { OnOk result ((other : ℕ) → nat_eq pid other ≡ false → get nat_eq pids.new other ≡ get nat_eq pids.old other) }
 {
     let on = OnPid::new(alloc, pid)?;
-    pids.insert(pid, on)?;
+    put(pids, pid, on)?;
     Ok(())
 }
 

@@ -1,5 +1,5 @@
 //! The taken packets of a PID come in; its tables, edited and in cycles, go out in their place. Of packets of any PID,
-//! the PAT and the PMTs in force.
+//! the PAT and the PMTs in force. Large values that are handed over, where memory may be wanting, stand here too.
 //! The layer above rests on `Editor::step`, by which each packet becomes the one of the definition, and on `InForce`.
 #![tactic(auto)]
 
@@ -8,6 +8,7 @@ mod current_pat;
 mod edit;
 mod edited;
 mod editor;
+mod handed_over;
 mod in_force;
 mod laws;
 mod on_pid;
@@ -15,5 +16,6 @@ mod on_zero;
 
 pub use edit::{Edited, TableEdit};
 pub use editor::Editor;
+pub use handed_over::{both, put};
 pub use in_force::InForce;
 pub use laws::{contents_are_last_tables, last_found_is_the_last, later_packets_change_nothing};

@@ -6,8 +6,8 @@ pub returns-clause-fresh : goal.returns-clause-fresh
 returns-clause-fresh g c =
     record {
       working = refl;
-      contents_taken = c.in_ok-new.ensures;
-      same_pid = ap (λ v. v.pid) c.in_ok-new-2.ensures;
-      to_come = λ more. stands-first _ c.in_ok-new-2.field-0.left (ap (λ v. v.left) c.in_ok-new-2.ensures);
+      contents_taken = c.in_ok-contents.ensures;
+      same_pid = ap (λ v. v.pid) c.in_ok-cycle.ensures;
+      to_come = λ more. stands-first _ c.in_ok-cycle.cycle.left (ap (λ v. v.left) c.in_ok-cycle.ensures);
       unchanged = λ e. cc;
     }
