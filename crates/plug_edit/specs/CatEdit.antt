@@ -10,9 +10,9 @@ use Rattle.ts_descr.specs.Descriptors.{Typed, fields_alone, read_typed}
 use Rattle.ts_descr_mpeg.specs.MpegDescrs.{mpeg_pages}
 use Rattle.ts_table_rows.specs.TableValues.{TableHolding}
 use Rattle.plug_conf.specs.NumberSet.{has_number}
-use Rattle.plug_edit.specs.NumbersHeld.{number_at}
+use Rattle.plug_psi.specs.NumbersHeld.{number_at}
 use Rattle.plug_edit.specs.Versions.{edited_version}
-use Rattle.plug_edit.specs.WrittenDescriptor.{written}
+use Rattle.plug_psi.specs.WrittenDescriptor.{written}
 use Rattle.plug_edit.specs.declared.cat_conf.EditCatConf.{EditCatConf}
 
 -- a CA descriptor that has one of the systems, or one of the PIDs

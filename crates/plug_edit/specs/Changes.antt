@@ -9,7 +9,7 @@ use Rattle.ts_psi.specs.CatTables.{read_cat}
 use Rattle.ts_psi.specs.PatTables.{read_pat}
 use Rattle.ts_si.specs.SiPages.{nit_page, sdt_page}
 use Rattle.plug_psi.specs.Edits.{Change}
-use Rattle.plug_edit.specs.TableChange.{changed_by}
+use Rattle.plug_psi.specs.TableChange.{changed_by}
 use Rattle.plug_edit.specs.PatEdit.{edited_pat}
 use Rattle.plug_edit.specs.CatEdit.{edited_cat}
 use Rattle.plug_edit.specs.PmtEdit.{edited_pmt}

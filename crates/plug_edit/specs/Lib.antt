@@ -1,7 +1,7 @@
 pub mod Changing
-pub mod NumbersHeld
+pub use Rattle.plug_psi.specs.NumbersHeld
 pub mod Versions
-pub mod WrittenDescriptor
+pub use Rattle.plug_psi.specs.WrittenDescriptor
 pub mod PatSettings
 pub mod PatEdit
 pub mod CatSettings
@@ -13,7 +13,7 @@ pub mod SdtSettings
 pub mod SdtEdit
 pub mod NitSettings
 pub mod NitEdit
-pub mod TableChange
+pub use Rattle.plug_psi.specs.TableChange
 pub mod Changes
 pub mod EditRule
 pub mod EditWords

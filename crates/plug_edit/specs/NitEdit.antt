@@ -12,9 +12,9 @@ use Rattle.ts_descr_dvb.specs.DvbDescrs.{dvb_pages}
 use Rattle.ts_table_rows.specs.TableValues.{ItemHolding, TableHolding}
 use Rattle.plug_conf.specs.NumberSet.{has_number}
 use Rattle.plug_edit.specs.Changing.{changed_first}
-use Rattle.plug_edit.specs.NumbersHeld.{number_at}
+use Rattle.plug_psi.specs.NumbersHeld.{number_at}
 use Rattle.plug_edit.specs.Versions.{edited_version}
-use Rattle.plug_edit.specs.WrittenDescriptor.{written}
+use Rattle.plug_psi.specs.WrittenDescriptor.{written}
 use Rattle.plug_edit.specs.declared.nit_conf.EditNitConf.{EditNitConf}
 
 -- streams without those that are listed

@@ -8,7 +8,7 @@ use Rattle.ts_psi.specs.PatTables.{entry_item, is_network}
 use Rattle.ts_psi.specs.declared.pat.PatService.{PatService}
 use Rattle.plug_conf.specs.NumberSet.{has_number}
 use Rattle.plug_edit.specs.Changing.{changed_first}
-use Rattle.plug_edit.specs.NumbersHeld.{number_at}
+use Rattle.plug_psi.specs.NumbersHeld.{number_at}
 use Rattle.plug_edit.specs.Versions.{edited_version}
 use Rattle.plug_edit.specs.declared.pat_conf.EditPatConf.{EditPatConf}
 

@@ -7,13 +7,10 @@ use Rattle.ts_table_rows.specs.TableValues.{ItemHolding, TableHolding}
 use Rattle.ts_psi.specs.declared.pmt.Component.{Component}
 use Rattle.plug_conf.specs.NumberSet.{has_number}
 use Rattle.plug_edit.specs.Changing.{changed_first}
-use Rattle.plug_edit.specs.NumbersHeld.{number_at}
+pub use Rattle.plug_psi.specs.NumbersHeld.{component_pid}
+use Rattle.plug_psi.specs.NumbersHeld.{number_at}
 use Rattle.plug_edit.specs.Versions.{edited_version}
 use Rattle.plug_edit.specs.declared.pmt_conf.EditPmtConf.{EditPmtConf}
-
--- the elementary_PID of a component
-abbrev pub component_pid : ItemHolding → ℕ
-component_pid component = number_at component.values 1
 
 -- a component stands on this PID
 abbrev pub is_on : ℕ → Component → Bool

@@ -8,7 +8,7 @@ use Rattle.ts_table_rows.specs.TableValues.{ItemHolding, TableHolding}
 use Rattle.ts_si.specs.declared.services.SdtService.{SdtService}
 use Rattle.plug_conf.specs.NumberSet.{has_number}
 use Rattle.plug_edit.specs.Changing.{changed_first}
-use Rattle.plug_edit.specs.NumbersHeld.{number_at}
+use Rattle.plug_psi.specs.NumbersHeld.{number_at}
 use Rattle.plug_edit.specs.ServiceChange.{changed_service}
 use Rattle.plug_edit.specs.Versions.{edited_version}
 use Rattle.plug_edit.specs.declared.sdt_conf.EditSdtConf.{EditSdtConf}

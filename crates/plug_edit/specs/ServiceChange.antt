@@ -12,8 +12,8 @@ use Rattle.ts_descr.specs.Descriptors.{Typed, fields_alone, read_typed}
 use Rattle.ts_descr_dvb.specs.DvbDescrs.{dvb_pages}
 use Rattle.ts_table_rows.specs.TableValues.{ItemHolding}
 use Rattle.plug_edit.specs.Changing.{changed_first}
-use Rattle.plug_edit.specs.NumbersHeld.{number_at, bytes_at}
-use Rattle.plug_edit.specs.WrittenDescriptor.{written}
+use Rattle.plug_psi.specs.NumbersHeld.{number_at, bytes_at}
+use Rattle.plug_psi.specs.WrittenDescriptor.{written}
 use Rattle.plug_edit.specs.declared.sdt_conf.EditSdtConf.{EditSdtConf}
 
 -- the bytes of a text that is given, or else those that are held

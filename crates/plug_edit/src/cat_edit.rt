@@ -11,7 +11,7 @@ ghost use Rattle.plug_edit.specs.CatSettings.{IsAddedCa, IsLawfulCat};
 
 use crate::cat_conf::EditCatConf;
 use crate::versions::version_after;
-use crate::written::in_room;
+use plug_psi::in_room;
 use std::alloc::{AllocError, Global};
 use ts_bits::{Descriptor, DescriptorList};
 use ts_descr_mpeg::{Ca, MpegDescr};

@@ -11,7 +11,7 @@ ghost use Rattle.plug_edit.specs.SdtSettings.{IsLawfulSdt};
 
 use crate::put_first::put_first;
 use crate::sdt_conf::EditSdtConf;
-use crate::written::in_room;
+use plug_psi::in_room;
 use std::alloc::{AllocError, Global};
 use ts_bits::{Descriptor, DescriptorList};
 use ts_descr_dvb::{DvbDescr, Service, text_bytes};

@@ -3,10 +3,9 @@
 ghost use Rattle.plug_edit.specs.SdtSettings.{IsLawfulSdt};
 
 use crate::edit_pid::EditPid;
-use crate::read_or_same::{sections_or_same, table_or_none};
 use crate::sdt_conf::EditSdtConf;
 use crate::sdt_edit::edit_sdt;
-use plug_psi::{Edited, TableEdit};
+use plug_psi::{Edited, TableEdit, sections_or_same, table_or_none};
 use plugin_trait::Plugin;
 use std::alloc::{AllocError, Global};
 use ts_section::TableRun;

@@ -17,9 +17,9 @@ use Rattle.ts_psi.specs.PsiPages.{cat_page, pat_page, pmt_page}
 use Rattle.ts_psi.specs.CatTables.{read_cat}
 use Rattle.ts_psi.specs.PatTables.{read_pat}
 use Rattle.plug_psi.specs.Edits.{Change}
-use Rattle.plug_edit.specs.NumbersHeld.{bytes_at, number_at}
-use Rattle.plug_edit.specs.TableChange.{changed_by}
-use Rattle.plug_edit.specs.WrittenDescriptor.{written}
+use Rattle.plug_psi.specs.NumbersHeld.{bytes_at, number_at}
+use Rattle.plug_psi.specs.TableChange.{changed_by}
+use Rattle.plug_psi.specs.WrittenDescriptor.{written}
 use Rattle.plug_move.specs.Targets.{mapped}
 
 -- what a CA descriptor holds, with its PID mapped: the system and the private bytes stay

@@ -6,8 +6,7 @@ ghost use Rattle.plug_move.specs.MappedTables.{change_cat, mapped_cat};
 
 use crate::descriptor_pids::map_descriptors;
 use crate::move_table::MoveTable;
-use plug_edit::{sections_or_same, table_or_none};
-use plug_psi::Edited;
+use plug_psi::{Edited, sections_or_same, table_or_none};
 use std::alloc::{AllocError, Global};
 use ts_psi::Cat;
 use ts_section::TableRun;

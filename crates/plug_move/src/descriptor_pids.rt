@@ -6,7 +6,7 @@ ghost use Rattle.ts_descr.specs.Descriptors.{fields_alone};
 ghost use Rattle.plug_move.specs.MappedTables.{mapped_descriptor, mapped_descriptors, mapped_holding};
 
 use crate::move_table::MoveTable;
-use plug_edit::in_room;
+use plug_psi::in_room;
 use std::alloc::{AllocError, Global};
 use ts_bits::{Descriptor, DescriptorList};
 use ts_descr_mpeg::{Ca, MpegDescr};

@@ -7,8 +7,7 @@ ghost use Rattle.ts_psi.specs.PatTables.{network_items, pat_held, service_item};
 ghost use Rattle.plug_move.specs.MappedTables.{change_pat, mapped_item, mapped_items, mapped_pat};
 
 use crate::move_table::MoveTable;
-use plug_edit::{sections_or_same, table_or_none};
-use plug_psi::Edited;
+use plug_psi::{Edited, sections_or_same, table_or_none};
 use std::alloc::{AllocError, Global};
 use ts_psi::{Pat, PatService, PatServiceList};
 use ts_section::TableRun;

@@ -8,3 +8,4 @@ pub mod LastTableLemmas
 pub mod MarkLemmas
 pub mod OrdinalLemmas
 pub mod PatLemmas
+pub mod WrittenLemmas

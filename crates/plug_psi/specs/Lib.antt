@@ -10,5 +10,8 @@ pub mod ForceState
 pub mod InForce
 pub mod LastFound
 pub mod LastTables
+pub mod NumbersHeld
 pub mod PidMarks
 pub mod SameForce
+pub mod TableChange
+pub mod WrittenDescriptor

@@ -1,5 +1,6 @@
 //! The taken packets of a PID come in; its tables, edited and in cycles, go out in their place. Of packets of any PID,
-//! the PAT and the PMTs in force. Large values that are handed over, where memory may be wanting, stand here too.
+//! the PAT and the PMTs in force. What edits share stands here too: tables read and sections written, descriptors with
+//! room, and values that are handed over where memory may be wanting.
 //! The layer above rests on `Editor::step`, by which each packet becomes the one of the definition, and on `InForce`.
 #![tactic(auto)]
 
@@ -13,9 +14,13 @@ mod in_force;
 mod laws;
 mod on_pid;
 mod on_zero;
+mod read_or_same;
+mod written;
 
 pub use edit::{Edited, TableEdit};
 pub use editor::Editor;
 pub use handed_over::{both, put};
 pub use in_force::InForce;
 pub use laws::{contents_are_last_tables, last_found_is_the_last, later_packets_change_nothing};
+pub use read_or_same::{sections_or_same, table_or_none};
+pub use written::in_room;

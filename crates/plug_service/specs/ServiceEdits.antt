@@ -12,8 +12,8 @@ use Rattle.ts_psi.specs.PatTables.{is_network, read_pat}
 use Rattle.ts_si.specs.SiPages.{sdt_page}
 use Rattle.plug_psi.specs.Edits.{Change, same, away}
 use Rattle.plug_psi.specs.InForce.{current_pmt}
-use Rattle.plug_edit.specs.NumbersHeld.{number_at}
-use Rattle.plug_edit.specs.TableChange.{changed_by}
+use Rattle.plug_psi.specs.NumbersHeld.{number_at}
+use Rattle.plug_psi.specs.TableChange.{changed_by}
 use Rattle.plug_service.specs.declared.way.Way.{Way}
 use Rattle.plug_service.specs.declared.way.Way.TheVariants.{Keep, Remove}
 

@@ -9,8 +9,7 @@ use Rattle.ts_packet.specs.declared.numbers.TheConstants.{NULL_PID}
 use Rattle.ts_descr.specs.Descriptors.{Typed, read_typed}
 use Rattle.ts_descr_mpeg.specs.MpegDescrs.{mpeg_pages}
 use Rattle.ts_table_rows.specs.TableValues.{ItemHolding, TableHolding}
-use Rattle.plug_edit.specs.NumbersHeld.{number_at}
-use Rattle.plug_edit.specs.PmtEdit.{component_pid}
+use Rattle.plug_psi.specs.NumbersHeld.{component_pid, number_at}
 
 -- the CA_PID of what a descriptor is, if it is a CA_descriptor
 abbrev pub ca_pid_in : Option Typed → List ℕ

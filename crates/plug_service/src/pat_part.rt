@@ -6,8 +6,7 @@ ghost use Rattle.plug_service.specs.ServiceEdits.{entry_stays, with_items};
 
 use crate::services::stays;
 use crate::way::Way;
-use plug_edit::{sections_or_same, table_or_none};
-use plug_psi::{Edited, TableEdit};
+use plug_psi::{Edited, TableEdit, sections_or_same, table_or_none};
 use std::alloc::{AllocError, Global};
 use ts_psi::{Pat, PatService, PatServiceList};
 use ts_section::TableRun;

@@ -1,7 +1,6 @@
 //! The edit of the PID of a PMT where its service is kept (ISO/IEC 13818-1, 2.4.4.8).
 
-use plug_edit::table_or_none;
-use plug_psi::{Edited, TableEdit};
+use plug_psi::{Edited, TableEdit, table_or_none};
 use std::alloc::{AllocError, Global};
 use ts_psi::Pmt;
 use ts_section::TableRun;

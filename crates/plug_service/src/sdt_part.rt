@@ -7,8 +7,7 @@ ghost use Rattle.plug_service.specs.ServiceEdits.{edited_sdt, service_stays, wit
 
 use crate::services::stays;
 use crate::way::Way;
-use plug_edit::{sections_or_same, table_or_none};
-use plug_psi::{Edited, TableEdit};
+use plug_psi::{Edited, TableEdit, sections_or_same, table_or_none};
 use std::alloc::{AllocError, Global};
 use ts_section::TableRun;
 use ts_si::{Sdt, SdtService, SdtServiceList};

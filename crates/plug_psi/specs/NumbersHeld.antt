@@ -1,6 +1,7 @@
 -- The numbers and bytes that the fields of a table, an item or a descriptor hold, by their places. This project's own rule.
 use Rattle.std.specs.Prelude.{ℕ, List, [], slice_get, Option, Some, None}
 use Rattle.ts_fields.specs.Layout.{Held, number, bytes}
+use Rattle.ts_table_rows.specs.TableValues.{ItemHolding}
 
 -- what a field holds as a number; 0 where it is not there or holds bytes
 abbrev pub number_in : Option Held → ℕ
@@ -21,3 +22,7 @@ bytes_in (Some (bytes b)) = b
 -- the bytes that stand at a place among the values
 abbrev pub bytes_at : List Held → ℕ → List ℕ
 bytes_at values place = bytes_in (slice_get values place)
+
+-- the elementary_PID of a component of a PMT, which stands behind its stream_type (ISO/IEC 13818-1, 2.4.4.8)
+abbrev pub component_pid : ItemHolding → ℕ
+component_pid component = number_at component.values 1

@@ -3,7 +3,7 @@
 ghost use Rattle.std.specs.Prelude.{◌≡◌, IfOk};
 ghost use Rattle.ts_fields.specs.Bodies.{Page, Holding};
 ghost use Rattle.ts_descr.specs.Descriptors.{Writes};
-ghost use Rattle.plug_edit.specs.WrittenDescriptor.{written};
+ghost use Rattle.plug_psi.specs.WrittenDescriptor.{written};
 
 use std::alloc::AllocError;
 use ts_bits::Descriptor;

@@ -6,9 +6,9 @@ ghost use Rattle.ts_table_rows.specs.RunReading.{FirstBroken, Tells};
 ghost use Rattle.ts_table_rows.specs.TableSections.{Writes};
 ghost use Rattle.ts_table_rows.specs.TableValues.{TableHolding};
 ghost use Rattle.ts_table_rows.specs.declared.fault.TableRefusal.{TableRefusal};
-ghost use Rattle.plug_edit.specs.TableChange.{in_place};
+ghost use Rattle.plug_psi.specs.TableChange.{in_place};
 
-use plug_psi::Edited;
+use crate::edit::Edited;
 use std::alloc::AllocError;
 use ts_section::Section;
 use ts_table_rows::{TableFault, TableRefusal};

@@ -9,7 +9,7 @@ use Rattle.ts_fields.specs.Bodies.{Page, Holding, spell_page}
 use Rattle.ts_fields.specs.Fitting.{are_bytes}
 use Rattle.ts_table_rows.specs.BodySpelling.{bytes_of}
 use Rattle.ts_descr.specs.Descriptors.{IsWritten, body_size}
-use Rattle.plug_edit.specs.WrittenDescriptor.{written}
+use Rattle.plug_psi.specs.WrittenDescriptor.{written}
 
 told : (n m : ℕ) → n < m → nat_lt n m ≡ true
 told n m below = grind (arith, below)
