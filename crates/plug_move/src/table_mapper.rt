@@ -20,7 +20,7 @@ use crate::move_table::MoveTable;
 use crate::pid_edit::PidsOnTables;
 use indexmap::IndexMap;
 use plug_conf::PairList;
-use plug_psi::{Editor, InForce};
+use plug_psi::{Editor, InForce, put};
 use std::alloc::{AllocError, Global};
 use std::sync::Arc;
 use ts_packet::{NULL_PID, PID_COUNT, Packet};
@@ -183,7 +183,7 @@ fn fresh_editor(
         pid,
     };
     let editor = Editor::new(alloc, pid, edit)?;
-    editors.insert(pid, editor)?;
+    put(editors, pid, editor)?;
     Ok(())
 }
 
