@@ -14,7 +14,7 @@ use crate::pmt_editors::PmtEditors;
 use crate::sdt_part::SdtPart;
 use crate::step_editor::step_editor;
 use crate::way::Way;
-use plug_psi::Editor;
+use plug_psi::{Editor, both};
 use std::alloc::{AllocError, Global};
 use ts_packet::Packet;
 
@@ -33,9 +33,12 @@ impl Editors {
     pub(crate) fn new(alloc: Global, way: Way, service: u16) -> Result<Editors, AllocError>
         ensures { IfOk result (λ editors. EditorsStand way service editors []) }
     {
+        let pat = Editor::new(alloc, PAT_PID, PatPart { way, service })?;
+        let sdt = Editor::new(alloc, SDT_PID, SdtPart { way, service });
+        let (pat, sdt) = both(pat, sdt)?;
         Ok(Editors {
-            pat: Editor::new(alloc, PAT_PID, PatPart { way, service })?,
-            sdt: Editor::new(alloc, SDT_PID, SdtPart { way, service })?,
+            pat,
+            sdt,
             pmts: PmtEditors::new(alloc, service),
         })
     }

@@ -10,6 +10,7 @@ ghost use Rattle.plug_service.specs.EditorsState.{left_by};
 use crate::editors::Editors;
 use crate::watch::Watch;
 use crate::way::Way;
+use plug_psi::both;
 use plugin_trait::Outcome;
 use std::alloc::{AllocError, Global};
 use ts_packet::{Cell, Packet};
@@ -43,12 +44,15 @@ impl OneService {
         ensures service { IfOk result (λ plugin. plugin.service ≡ service) }
         ensures stuffing { IfOk result (λ plugin. plugin.stuffing ≡ stuffing) }
     {
+        let watch = Watch::new(alloc, way, service)?;
+        let editors = Editors::new(alloc, way, service);
+        let (watch, editors) = both(watch, editors)?;
         Ok(OneService {
             way,
             service,
             stuffing,
-            watch: Watch::new(alloc, way, service)?,
-            editors: Editors::new(alloc, way, service)?,
+            watch,
+            editors,
             failed: false,
             alloc,
         })

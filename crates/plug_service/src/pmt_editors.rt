@@ -9,7 +9,7 @@ ghost use Rattle.plug_service.specs.ServiceEdits.{pmt_change};
 use crate::pmt_alone::PmtAlone;
 use crate::step_editor::step_editor;
 use indexmap::IndexMap;
-use plug_psi::Editor;
+use plug_psi::{Editor, put};
 use std::alloc::{AllocError, Global};
 use ts_packet::{NULL_PID, Packet};
 
@@ -86,7 +86,7 @@ fn fresh_entry(
     ensures others { OnOk result ((other : ℕ) → nat_eq pid other ≡ false → get nat_eq editors.new other ≡ get nat_eq editors.old other) }
 {
     let editor = Editor::new(alloc, pid, PmtAlone { service })?;
-    editors.insert(pid, editor)?;
+    put(editors, pid, editor)?;
     Ok(())
 }
 

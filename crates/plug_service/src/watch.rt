@@ -29,8 +29,8 @@ impl Watch {
     pub(crate) fn new(alloc: Global, way: Way, service: u16) -> Result<Watch, AllocError>
         ensures { IfOk result (λ watch. Watches way service watch []) }
     {
-        let force = InForce::new(alloc)?;
         let mut fates = PidFates::new(alloc, way, service)?;
+        let force = InForce::new(alloc)?;
         fates.renew(alloc, &force)?;
         Ok(Watch { force, fates })
     }

@@ -8,6 +8,6 @@ use Rattle.plug_service.proofs.pmt_editors.fresh_entry.Goals as goal
 pub returns-clause-stands : goal.returns-clause-stands
 returns-clause-stands c = λ taken e.
     let edit : PmtAlone = record { service = c.args.service } in
-    subst (λ o. EntryStands c.args.service o c.args.pid taken) (sym c.in_ok-insert.ensures.updates.1)
+    subst (λ o. EntryStands c.args.service o c.args.pid taken) (sym c.in_ok-put.ensures.at)
     (subst (λ t. Edits edit (pmt_change c.args.service) c.in_ok-editor.editor c.args.pid t) (sym (subst (λ o. EntryStands c.args.service o c.args.pid taken) c.requires.none e))
     (record { same_edit = c.in_ok-editor.ensures.edit; stands = c.in_ok-editor.ensures.fresh }))
