@@ -41,9 +41,12 @@ impl Tables {
         ensures steady { IfOk result (λ plugin. ⟦<Tables as Plugin>⟧.steady plugin ≡ None) }
     {
         let _ = buffer;
+        let tids = NumberSet::of(Vec::from_slice(alloc, conf.tid.as_slice())?);
+        // The largest value comes last: nothing can fail while it is held.
+        let watched = Watched::new(alloc, &conf.pid)?;
         Ok(Tables {
-            watched: Watched::new(alloc, &conf.pid)?,
-            tids: NumberSet::of(Vec::from_slice(alloc, conf.tid.as_slice())?),
+            watched,
+            tids,
             told: VecDeque::new(alloc),
             failed: false,
             alloc,

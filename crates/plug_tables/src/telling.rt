@@ -1,6 +1,10 @@
 //! Tables as lines of a report.
 ghost use Rattle.std.specs.Prelude.{◌≡◌, ◌++◌, ◌∷◌, [], IfOk, OnOk};
 ghost use Rattle.std.specs.String.{string_bytes};
+ghost use Rattle.serde_json.specs.Written.{compact_text};
+ghost use Rattle.ts_json_tables.specs.HeldTables.{table_value};
+ghost use Rattle.ts_json_tables.specs.LawfulTables.{IsTable};
+ghost use Rattle.ts_json_tables.specs.TableElements.{table_shown};
 ghost use Rattle.plugin_trait.specs.PlacedLines.{placed_at};
 ghost use Rattle.plug_tables.specs.TablesRule.{element_text, id_of, is_told, table_text, table_texts};
 
@@ -8,7 +12,7 @@ use plug_conf::NumberSet;
 use plugin_trait::{Line, LineText};
 use std::alloc::{AllocError, Global};
 use std::collections::VecDeque;
-use ts_json_tables::{shown_table_is_plain, table_of, to_json};
+use ts_json_tables::{Table, shown_table_is_plain, table_of, to_json};
 use ts_section::TableRun;
 
 /// Puts the lines of the tables that are told behind others. All are complete with the packet at a position on a PID.
@@ -78,9 +82,18 @@ fn element_of(alloc: Global, run: &TableRun) -> Result<String, AllocError>
     ensures { IfOk result (λ text. string_bytes text ≡ element_text run.now) }
 {
     let table = table_of(alloc, run)?;
+    // One call while the table is held, so that it is dropped in one place.
+    shown_text(alloc, &table)
+}
+
+// The canonical text of the element that shows a table.
+fn shown_text(alloc: Global, table: &Table) -> Result<String, AllocError>
+    requires { IsTable (table_value table.now) }
+    ensures { IfOk result (λ text. string_bytes text ≡ compact_text (table_shown (table_value table.now))) }
+{
     // A law, which runs nothing.
     shown_table_is_plain();
-    let element = to_json(alloc, &table)?;
+    let element = to_json(alloc, table)?;
     let text = element.to_string(alloc)?;
     Ok(text)
 }

@@ -8,7 +8,7 @@ ghost use Rattle.plug_tables.specs.WatchedState.{EntryStands, HasEntry};
 use crate::watcher::Watcher;
 use indexmap::IndexMap;
 use plug_conf::{NumberSet, PidSet};
-use plug_psi::InForce;
+use plug_psi::{InForce, put};
 use std::alloc::{AllocError, Global};
 use ts_packet::{NULL_PID, PID_COUNT, Packet};
 use ts_section::TableRun;
@@ -117,7 +117,7 @@ fn fresh_entry(alloc: Global, watchers: &mut Watchers, pid: u16) -> Result<(), A
     ensures others { OnOk result ((other : ℕ) → nat_eq pid other ≡ false → get nat_eq watchers.new other ≡ get nat_eq watchers.old other) }
 {
     let watcher = Watcher::new(alloc, pid)?;
-    watchers.insert(pid, watcher)?;
+    put(watchers, pid, watcher)?;
     Ok(())
 }
 
