@@ -8,7 +8,7 @@ ghost use Rattle.plug_analyze.specs.AnalyzeRule.{components_in, service_with, se
 use crate::change::Change;
 use crate::service_count::ServiceCount;
 use circular_buffer::HeapCircularBuffer;
-use plug_psi::InForce;
+use plug_psi::{InForce, both};
 use plug_watch::{pop_below, push_note};
 use std::alloc::{AllocError, Global};
 use ts_packet::Packet;
@@ -36,9 +36,10 @@ impl Services {
     pub fn new(alloc: Global, buffer: usize) -> Result<Services, AllocError>
         ensures { IfOk result (λ services. Serves services [] 0) }
     {
-        let force = InForce::new(alloc)?;
-        let services = services_of(alloc, &force)?;
         let changes = HeapCircularBuffer::with_capacity(alloc, buffer)?;
+        let force = InForce::new(alloc)?;
+        let services = services_of(alloc, &force);
+        let (force, services) = both(force, services)?;
         Ok(Services {
             force,
             services,
