@@ -11,7 +11,7 @@ ghost use Rattle.plug_service.specs.FatesState.{FatesStand, IsEditable};
 use crate::fate::Fate;
 use crate::pid_fates::PidFates;
 use crate::way::Way;
-use plug_psi::InForce;
+use plug_psi::{InForce, both};
 use std::alloc::{AllocError, Global};
 use ts_packet::Packet;
 
@@ -31,7 +31,8 @@ impl Watch {
     {
         let mut fates = PidFates::new(alloc, way, service)?;
         let force = InForce::new(alloc)?;
-        fates.renew(alloc, &force)?;
+        let renewed = fates.renew(alloc, &force);
+        let (force, _) = both(force, renewed)?;
         Ok(Watch { force, fates })
     }
 
