@@ -1,5 +1,5 @@
 use Rattle.std.proofs.Common.{◌≡◌, length}
-use Rattle.edit_tests.proofs.services.made_of_stream.Given as goal
+use Rattle.plugin_tests.proofs.services.made_of_stream.Given as goal
 
 -- each packet so far has its cell
 abbrev pub invariant-loop : goal.invariant-loop

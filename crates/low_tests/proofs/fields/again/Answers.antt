@@ -1,5 +1,5 @@
 use Rattle.ts_fields.specs.Bodies.{page, body_held}
-use Rattle.table_tests.proofs.fields.again.Goals as goal
+use Rattle.low_tests.proofs.fields.again.Goals as goal
 
 pub write_body-requires-clause-shaped : goal.write_body-requires-clause-shaped
 write_body-requires-clause-shaped c =

@@ -1,5 +1,5 @@
 use Rattle.std.proofs.Common.{◌≡◌}
-use Rattle.wire_tests.proofs.generated.some_packets.Given as goal
+use Rattle.low_tests.proofs.generated.some_packets.Given as goal
 
 -- each packet so far was given
 abbrev pub invariant-loop-i : goal.invariant-loop-i

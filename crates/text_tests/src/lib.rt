@@ -1,0 +1,14 @@
+//! The tests of the crates of JSON and of the table compiler, in a crate of their own: a crate with tests is proved twice,
+//! and this one takes little time.
+#![tactic(auto)]
+
+#[cfg(test)]
+mod calls;
+#[cfg(test)]
+mod conversions;
+#[cfg(test)]
+mod descriptors;
+#[cfg(test)]
+mod elements;
+#[cfg(test)]
+mod tables;
