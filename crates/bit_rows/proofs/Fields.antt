@@ -2,14 +2,9 @@
 use Rattle.std.proofs.Common.{◌≡◌, ℕ, zero, suc, ◌+◌, ◌-◌, ◌*◌, ◌/◌, ◌%◌, ◌^◌, ◌<◌, ◌≤◌, List, length, set, slice_index, refl, sym, ◌∙◌, ap, arith, inl, inr, add-zero, add-suc, length-set, get_or-set_same, get_or-set_other}
 use Rattle.std.proofs.Math.Nat.{pow-suc}
 use Rattle.std.proofs.lemmas.Nat.{shr-shr, mod-pow-add, shr_split, shr_high, mod_low}
-use Rattle.std.proofs.lemmas.Nat.Bits.{bit_at_cat_low, bit_at-lt}
+use Rattle.std.proofs.lemmas.Nat.Bits.{bit_at_cat_low}
 use Rattle.std.proofs.lemmas.Bool.{cases_eq}
 use Rattle.bit_rows.specs.BitRow.{bit_of, field, SetsField}
-
--- a bit is 0 or 1
-pub bit_of-below : (row : List ℕ) (i : ℕ) → bit_of row i < 2
-unfolding bit_of
-bit_of-below row i = bit_at-lt (slice_index row (i / 8)) (7 - i % 8)
 
 -- a field of no bits, and one of one bit more
 pub field-zero : (row : List ℕ) (at : ℕ) → field row at 0 ≡ 0

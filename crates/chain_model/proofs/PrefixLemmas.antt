@@ -1,30 +1,18 @@
 -- A longer list of cells gives longer lists behind it: what a chain gives for a first part of its
 -- input is a first part of what it gives for the whole.
-use Rattle.std.proofs.Common.{◌≡◌, ℕ, zero, suc, List, [], ◌∷◌, ◌++◌, take, drop, refl, ap, sym, ◌∙◌, append_assoc}
+use Rattle.std.proofs.Common.{ℕ, zero, suc, List, [], ◌∷◌, ◌++◌, take, drop, refl, ap, sym, ◌∙◌, append_assoc}
 use Rattle.std.proofs.lemmas.List.{take-append-drop}
-use Rattle.std.proofs.lemmas.List.Concat.{flat_map-append}
 use Rattle.ts_packet.specs.declared.cell.Cell.{Cell}
 use Rattle.chain_model.specs.Prefix.{IsPrefix}
 use Rattle.chain_model.specs.PluginRule.{PluginRule}
 use Rattle.chain_model.specs.Apply.{StageList, CellOutcome, goes_on, ends_after, ends_before, became, onto, apply_after, apply}
 use Rattle.chain_model.specs.StageLists.{rule_behind, stage_list}
-use Rattle.chain_model.specs.Written.{cell_bytes, written}
-
-pub IsPrefix-refl : {X : Type 0} (xs : List X) → IsPrefix xs xs
-IsPrefix-refl xs = ([], sym (append-nil xs))
-  where
-    append-nil : {X : Type 0} (xs : List X) → xs ++ [] ≡ xs
-    append-nil [] = refl
-    append-nil (x ∷ xs) = ap (λ ys. x ∷ ys) (append-nil xs)
 
 pub IsPrefix-trans : {X : Type 0} (xs ys zs : List X) → IsPrefix xs ys → IsPrefix ys zs → IsPrefix xs zs
 IsPrefix-trans xs ys zs p q = (p.0 ++ q.0, q.1 ∙ ap (λ l. l ++ q.0) p.1 ∙ append_assoc xs p.0 q.0)
 
 pub IsPrefix-take : {X : Type 0} (m : ℕ) (xs : List X) → IsPrefix (take m xs) xs
 IsPrefix-take m xs = (drop m xs, sym (take-append-drop m xs))
-
-pub IsPrefix-written : (xs ys : List Cell) → IsPrefix xs ys → IsPrefix (written xs) (written ys)
-IsPrefix-written xs ys p = (written p.0, ap written p.1 ∙ flat_map-append cell_bytes xs p.0)
 
 onto-prefix : (fate : CellOutcome) (a b : StageList) → IsPrefix a.cells b.cells → IsPrefix (onto fate a).cells (onto fate b).cells
 onto-prefix (goes_on cell) a b p = (p.0, ap (λ cells. cell ∷ cells) p.1)

@@ -17,11 +17,6 @@ agreement_after rule history (cell ∷ cells) =
 abbrev pub agreement_of : PluginRule → List Cell → Option ℕ
 agreement_of rule cells = agreement_after rule [] cells
 
--- the greater of a number and a number that may be wanting
-abbrev pub greater_if : ℕ → Option ℕ → Option ℕ
-greater_if n None = None
-greater_if n (Some m) = Some (max n m)
-
 -- what the numbers behind a first one add to it
 abbrev pub greatest_with : ℕ → List (Option ℕ) → Option ℕ
 greatest_with n [] = Some n

@@ -1,7 +1,6 @@
 -- What a list of cells writes. This project's own rule.
-use Rattle.std.specs.Prelude.{ℕ, List, [], ◌∷◌}
+use Rattle.std.specs.Prelude.{ℕ, List, []}
 use Rattle.std.specs.List.{flat_map}
-use Rattle.ts_packet.specs.Labels.{no_labels}
 use Rattle.ts_packet.specs.declared.cell.Cell.{Cell}
 use Rattle.ts_packet.specs.declared.cell.Cell.TheVariants.{Live, Dropped}
 
@@ -13,8 +12,3 @@ cell_bytes Dropped = []
 -- the bytes of the live packets, in order
 abbrev pub written : List Cell → List ℕ
 written cells = flat_map cell_bytes cells
-
--- live cells from packets, without labels
-abbrev pub live_cells : List (List ℕ) → List Cell
-live_cells [] = []
-live_cells (packet ∷ packets) = Live packet no_labels ∷ live_cells packets

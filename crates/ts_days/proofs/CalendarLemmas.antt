@@ -4,7 +4,7 @@ use Rattle.std.specs.Prelude.{◌&&◌, if◌then◌else◌, Option, Some, None,
 use Rattle.std.proofs.lemmas.Bool.{lt-ltb, ltb-true, ltb-false, le-leb, leb-true, lt-leb, le-ltb}
 use Rattle.std.proofs.lemmas.Int.{by_lt_z}
 use Rattle.std.proofs.Math.Facts.{to_z-of_z}
-use Rattle.jiff_core.specs.Calendar.{days_of_months, day_of_year, day_count, days_from_civil, IsDate, IsCivilDate}
+use Rattle.jiff_core.specs.Calendar.{days_of_months, day_count, days_from_civil, IsDate, IsCivilDate}
 use Rattle.jiff_core.proofs.SignedLemmas.{signed_arith}
 use Rattle.jiff_core.proofs.CalendarLemmas.{day_count-epoch, days_from_civil-day_count, days_of_months-zero, days_of_months_more, days_of_months_all, days_of_months_mono, day_count-day_of_year, day_count-next_year, day_count-lt_year}
 use Rattle.ts_days.specs.declared.calendar.Day.{Day}

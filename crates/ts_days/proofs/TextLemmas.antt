@@ -110,10 +110,6 @@ time_again hours n is =
     rw (c.0, c.1, c.2, written_digits n (six_digits hours n is), is) refl
 
 -- a start is a day and a time of it
-ten_bytes : (n : ℕ) → length (day_text n) ≡ 10
-unfolding day_text
-ten_bytes n = refl
-
 front : (n : ℕ) (rest : List ℕ) → take 10 (day_text n ++ rest) ≡ day_text n
 unfolding day_text
 front n rest = refl

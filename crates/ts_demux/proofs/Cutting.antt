@@ -1,5 +1,5 @@
 -- Pieces cut from the front of a stretch that may still grow.
-use Rattle.std.proofs.Common.{◌≡◌, ℕ, ◌+◌, ◌-◌, ◌*◌, ◌/◌, ◌≤◌, ◌<◌, Bool, true, false, not, ◌&&◌, ◌==◌, nat_le, List, [], ◌∷◌, ◌++◌, length, take, drop, suc, zero, refl, sym, ◌∙◌, ap, arith, append_assoc, length-drop, length-append, ◌%◌, ◌^◌, inl, inr, ◌⊎◌}
+use Rattle.std.proofs.Common.{◌≡◌, ℕ, ◌+◌, ◌-◌, ◌*◌, ◌/◌, ◌≤◌, ◌<◌, true, false, not, ◌&&◌, ◌==◌, nat_le, List, [], ◌∷◌, ◌++◌, length, take, drop, suc, zero, refl, sym, ◌∙◌, ap, arith, append_assoc, length-drop, length-append, ◌%◌, ◌^◌, inl, inr, ◌⊎◌}
 use Rattle.std.specs.Prelude.{slice_index, filter}
 use Rattle.std.proofs.lemmas.List.{get_or_append_left, take-append-le, drop-append-le, drop-drop}
 use Rattle.std.proofs.lemmas.Bool.Decides.{leb_tells}
@@ -8,7 +8,7 @@ use Rattle.std.proofs.lemmas.List.Elements.{filter-append}
 use Rattle.bit_rows.specs.BitRow.{bit_of, field}
 use Rattle.ts_section.specs.SectionFields.{table_id_of, section_length_of}
 use Rattle.ts_section.specs.FirstBroken.{is_section}
-use Rattle.ts_demux.proofs.Choice.{if_true, if_false, true_or_false}
+use Rattle.ts_demux.proofs.Choice.{if_true, if_false, true_or_false, both_true, not_true, not_of_false, and_true}
 use Rattle.ts_demux.specs.Pieces.{IsOver, IsAlive}
 use Rattle.ts_demux.specs.Cut.{size_in_front, is_whole_in_front, cut_at_most, cut}
 use Rattle.ts_demux.specs.SectionsOfParts.{sections_in}
@@ -45,21 +45,6 @@ pub record IsWhole (b : List ℕ) : Type 0 where
 nat_le_cases : (a b : ℕ) → (a ≤ b) ⊎ (b < a)
 nat_le_cases a b = elim (leb_tells a b) as (λ _. (a ≤ b) ⊎ (b < a)) [ inl h ↦ inl h.1 | inr h ↦ inr h.1 ]
 
-both_true : (a b : Bool) → (a && b) ≡ true → (a ≡ true) × (b ≡ true)
-both_true true b e = (refl, e)
-both_true false b e = cc
-
-not_true : (a : Bool) → not a ≡ true → a ≡ false
-not_true true e = cc
-not_true false e = refl
-
-not_false : (a : Bool) → a ≡ false → not a ≡ true
-not_false true e = cc
-not_false false e = refl
-
-and_true : (a b : Bool) → a ≡ true → b ≡ true → (a && b) ≡ true
-and_true a b e f = rw (e, f) refl
-
 pub IsWhole-from : (b : List ℕ) → is_whole_in_front b ≡ true → IsWhole b
 unfolding is_whole_in_front
 IsWhole-from b e =
@@ -77,7 +62,7 @@ pub IsWhole-to : (b : List ℕ) → IsWhole b → is_whole_in_front b ≡ true
 unfolding is_whole_in_front
 IsWhole-to b w =
     and_true (nat_le 3 (length b)) (not (table_id_of b == 255) && (nat_le (section_length_of b) 4093 && nat_le (size_in_front b) (length b))) (le-leb 3 (length b) w.head)
-    (and_true (not (table_id_of b == 255)) (nat_le (section_length_of b) 4093 && nat_le (size_in_front b) (length b)) (not_false (table_id_of b == 255) w.no_stuffing)
+    (and_true (not (table_id_of b == 255)) (nat_le (section_length_of b) 4093 && nat_le (size_in_front b) (length b)) (not_of_false (table_id_of b == 255) w.no_stuffing)
     (and_true (nat_le (section_length_of b) 4093) (nat_le (size_in_front b) (length b)) (le-leb (section_length_of b) 4093 w.in_range) (le-leb (size_in_front b) (length b) w.there)))
 
 -- what is whole in front stays so, whatever comes behind

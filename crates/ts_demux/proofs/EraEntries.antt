@@ -1,10 +1,11 @@
 -- Entries of keys.
-use Rattle.std.proofs.Common.{◌≡◌, ℕ, Bool, true, false, ◌&&◌, ◌==◌, List, [], Option, Some, None, refl, sym, ◌∙◌, ap, Result, Ok, Err, IfOk, subst, true≢false}
+use Rattle.std.proofs.Common.{◌≡◌, ℕ, true, false, ◌==◌, List, [], Option, Some, None, sym, ◌∙◌, ap, Result, Ok, Err, IfOk, subst, true≢false}
 use Rattle.std.specs.declared.alloc.AllocError.{AllocError}
 use Rattle.ts_demux.specs.Tables.{completed}
 use Rattle.std.proofs.lemmas.Bool.{eqb-true}
 use Rattle.ts_demux.specs.Era.{IsEra, EntryStands, HasEra, EraStands, AllBelong, entry_goes_on}
 use Rattle.ts_demux.specs.declared.era.Era.{Era}
+use Rattle.ts_demux.proofs.Choice.{both_true}
 
 pub last_of_entry : (o : Option Era) (era : Era) (version last : ℕ) → o ≡ Some era → HasEra o version last → era.last ≡ last
 last_of_entry None era version last e h = absurd h
@@ -20,10 +21,6 @@ pub table_of_entry :
     IfOk r (λ table. (sections : List (List ℕ)) → EraStands o sections → AllBelong s sections → table ≡ completed sections s)
 table_of_entry o era s (Ok table) e h = λ sections stands belong. h sections (stands_of_entry o era sections e stands) belong
 table_of_entry o era s (Err error) e h = h
-
-both_true : (a b : Bool) → (a && b) ≡ true → (a ≡ true) × (b ≡ true)
-both_true true b e = (refl, e)
-both_true false b e = cc
 
 pub has_of_test : (o : Option Era) (version last : ℕ) → entry_goes_on o version last ≡ true → HasEra o version last
 has_of_test None version last e = absurd (true≢false (sym e))

@@ -1,14 +1,13 @@
 -- The era of a section, as sections come.
-use Rattle.std.proofs.Common.{◌≡◌, ℕ, Bool, true, false, not, ◌&&◌, ◌==◌, List, [], ◌∷◌, ◌++◌, reverse, filter, take_while, All, refl, sym, ◌∙◌, ap, subst, inl, inr, append-nil, arith}
+use Rattle.std.proofs.Common.{◌≡◌, ℕ, Bool, true, false, not, ◌&&◌, ◌==◌, List, [], ◌∷◌, ◌++◌, reverse, filter, take_while, All, refl, sym, ◌∙◌, ap, subst, inl, inr, append-nil}
 use Rattle.std.specs.Bool.{beq}
 use Rattle.std.proofs.lemmas.Bool.{eqb-true}
-use Rattle.std.proofs.lemmas.Bool.Decides.{nat_tests}
 use Rattle.std.proofs.lemmas.List.{reverse-append}
 use Rattle.std.proofs.lemmas.List.Sums.{take_while-cons}
 use Rattle.std.proofs.lemmas.List.Elements.{All-nil, All-cons, All-head, All-tail, All-append, filter-append}
 use Rattle.ts_section.specs.SectionFields.{table_id_of, extension_of, version_of, current_of, last_number_of}
 use Rattle.ts_section.specs.SectionRun.{stands_alone}
-use Rattle.ts_demux.proofs.Choice.{if_true, if_false, true_or_false}
+use Rattle.ts_demux.proofs.Choice.{if_true, if_false, true_or_false, both_true, not_true}
 use Rattle.ts_demux.specs.Tables.{same_key, same_era, last_while, era_of}
 use Rattle.ts_demux.specs.Keys.{key_of, key_eq}
 use Rattle.ts_demux.specs.Era.{Belongs, AllBelong}
@@ -57,26 +56,11 @@ module _ {X : Type 0} where
   All-reverse P (x ∷ xs) all =
       subst (All P) (sym (reverse-append (x ∷ []) xs)) (All-append P (reverse xs) (x ∷ []) (All-reverse P xs (All-tail P x xs all)) (All-cons P x [] (All-head P x xs all) (All-nil P)))
 
-both_true : (a b : Bool) → (a && b) ≡ true → (a ≡ true) × (b ≡ true)
-both_true true b e = (refl, e)
-both_true false b e = cc
-
 same_flags : (a b : Bool) → beq a b ≡ true → a ≡ b
 same_flags true true e = refl
 same_flags true false e = cc
 same_flags false true e = cc
 same_flags false false e = refl
-
-flag_itself : (a : Bool) → beq a a ≡ true
-flag_itself true = refl
-flag_itself false = refl
-
-number_itself : (a : ℕ) → (a == a) ≡ true
-number_itself a = grind (arith, nat_tests)
-
-not_true : (a : Bool) → not a ≡ true → a ≡ false
-not_true true e = cc
-not_true false e = refl
 
 -- what the tests of key and era say
 pub belongs_of_tests : (s x : List ℕ) → same_key s x ≡ true → same_era s x ≡ true → Belongs s x

@@ -21,9 +21,6 @@ first_lead (run ∷ runs) = lead run
 abbrev pub following : ℕ → List Part → List ℕ
 following counter ps = if goes_on counter ps then first_lead (continuous_runs ps) else []
 
-lead-alone : (p : Part) → p.unit_start ≡ false → lead (p ∷ []) ≡ body_of p ++ []
-lead-alone p e = lead-plain p [] e
-
 first_lead-plain : (p : Part) (runs : List (List Part)) → p.unit_start ≡ false → first_lead (with_first p runs) ≡ body_of p ++ first_lead runs
 first_lead-plain p [] e = lead-plain p [] e
 first_lead-plain p (run ∷ runs) e = lead-plain p run e
@@ -45,10 +42,6 @@ stretches_all-unit :
     flat_map stretches (with_first p runs) ≡ (drop (pointer_of p) (body_of p) ++ first_lead runs) ∷ flat_map stretches runs
 stretches_all-unit p [] e h = rw (stretches-unit p [] e h) refl
 stretches_all-unit p (run ∷ runs) e h = rw (stretches-unit p run e h) refl
-
--- the first of some runs, or an empty one
-runs_from : Bool → Part → List (List Part) → List (List Part)
-runs_from b p runs = if b then with_first p runs else (p ∷ []) ∷ runs
 
 -- a lawful part begins the runs or goes before the first of them
 runs-lawful :

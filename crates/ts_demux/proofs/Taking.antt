@@ -3,7 +3,7 @@ use Rattle.std.proofs.Common.{◌≡◌, ℕ, ◌+◌, ◌%◌, ◌≤◌, ◌<�
 use Rattle.std.specs.List.{flat_map}
 use Rattle.std.proofs.lemmas.Bool.Decides.{leb_tells, nat_tests}
 use Rattle.std.specs.Option.{option_map, option_to_list}
-use Rattle.ts_demux.proofs.Choice.{if_true, if_false, true_or_false}
+use Rattle.ts_demux.proofs.Choice.{if_true, if_false, true_or_false, and_true, and_false_first, not_of_false}
 use Rattle.ts_demux.proofs.Runs.{following, all_stretches-lawless, all_stretches-plain, all_stretches-unit, following-plain, following-unit, following-stops}
 use Rattle.ts_demux.proofs.Remembering.{sections_left, others_behind, sections-remembered, sections-first, others-repeat, others-next}
 use Rattle.ts_demux.proofs.Little.{sections_behind-nothing}
@@ -97,18 +97,6 @@ mid_nothing last old_open mid_open old_bytes mid_bytes counter w o b e =
           (ap (λ t. sections_behind t mid_bytes []) (o g) ∙ ap (λ t. sections_behind old_open t []) (b g) ∙ sections_behind-nothing old_open old_bytes w)
       | inr g ↦ if_false mid_open (sections_in (mid_bytes ++ [])) [] (e g)
     ]
-
-and_true : (a b : Bool) → a ≡ true → b ≡ true → (a && b) ≡ true
-and_true true b e f = f
-and_true false b e f = cc
-
-and_false_first : (a b : Bool) → a ≡ false → (a && b) ≡ false
-and_false_first true b e = cc
-and_false_first false b e = refl
-
-not_of_false : (a : Bool) → a ≡ false → not a ≡ true
-not_of_false true e = cc
-not_of_false false e = refl
 
 not_of_true : (a : Bool) → a ≡ true → not a ≡ false
 not_of_true true e = refl

@@ -8,7 +8,7 @@ use Rattle.std.proofs.lemmas.List.Elements.{All-head, All-tail}
 use Rattle.ts_section.specs.SectionFields.{number_of, last_number_of}
 use Rattle.ts_section.specs.SectionRun.{IsTableRun, IsRunFault}
 use Rattle.ts_section.specs.declared.fault.RunFault.{RunFault}
-use Rattle.ts_demux.proofs.Choice.{if_true, if_false, true_or_false}
+use Rattle.ts_demux.proofs.Choice.{if_true, if_false, true_or_false, and_true, and_false_first, not_of_false}
 use Rattle.ts_demux.proofs.FirstsLemmas.{firsts-push, is_complete-push, firsts-nil, is_complete-nil}
 use Rattle.ts_demux.specs.Firsts.{with_first}
 use Rattle.ts_demux.specs.Era.{IsEra, Belongs, AllBelong}
@@ -100,18 +100,6 @@ pub run_accepted :
     IsTableRun t → result_ok r ≡ Some t
 run_accepted (Ok run) t same refused whole = ap Some same
 run_accepted (Err fault) t same refused whole = absurd (refused.not_whole whole)
-
-and_true : (a b : Bool) → a ≡ true → b ≡ true → (a && b) ≡ true
-and_true true b e f = f
-and_true false b e f = cc
-
-and_false_first : (a b : Bool) → a ≡ false → (a && b) ≡ false
-and_false_first true b e = cc
-and_false_first false b e = refl
-
-not_of_false : (a : Bool) → a ≡ false → not a ≡ true
-not_of_false true e = cc
-not_of_false false e = refl
 
 pub completed-yes :
     (era : List (List ℕ)) (s : List ℕ) → is_complete (last_number_of s) (era ++ s ∷ []) ≡ true → is_complete (last_number_of s) era ≡ false →

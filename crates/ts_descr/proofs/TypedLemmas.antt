@@ -1,5 +1,5 @@
 -- Bodies of fields alone and of items alone.
-use Rattle.std.proofs.Common.{◌≡◌, ℕ, true, List, [], ◌∷◌, ◌++◌, refl, sym, ap, ◌∙◌}
+use Rattle.std.proofs.Common.{◌≡◌, ℕ, true, List, [], ◌∷◌, refl, sym, ap, ◌∙◌}
 use Rattle.std.specs.Prelude.{◌&&◌, Option, Some, None, option_map}
 use Rattle.std.specs.List.{list_all}
 use Rattle.std.proofs.lemmas.Option.{same_Some}
@@ -21,18 +21,6 @@ no_values (v ∷ vs) fit = cc
 -- a body of items alone has no fields
 pub no_head : (p : Page) (h : Holding) → p.head ≡ [] → page_fits p h ≡ true → h.head ≡ []
 no_head p h alone fit = no_values h.head (ap (λ rs. fits rs h.head) (sym alone) ∙ (both (fits p.head h.head) (items_fit p.items h.items) fit).0)
-
-items_fit_so : (i : Option (List ℕ × List Row)) (rows : List Row) (items : List (List Held))
-    → option_map (λ x. x.1) i ≡ Some rows → items_fit i items ≡ true → list_all (fits rows) items ≡ true
-items_fit_so None rows items is fit = cc
-items_fit_so (Some x) rows items is fit =
-    let same : x.1 ≡ rows = same_Some _ _ is in ap (λ rs. list_all (fits rs) items) (sym same) ∙ fit
-
--- and its items fit the rows of an item
-pub all_items_fit : (p : Page) (rows : List Row) (h : Holding) → option_map (λ x. x.1) p.items ≡ Some rows
-    → page_fits p h ≡ true → list_all (fits rows) h.items ≡ true
-all_items_fit p rows h is fit =
-    items_fit_so p.items rows h.items is (both (fits p.head h.head) (items_fit p.items h.items) fit).1
 
 items_shaped_so : (i : Option (List ℕ × List Row)) (rows : List Row) (items : List (List Held))
     → option_map (λ x. x.1) i ≡ Some rows → list_all (shaped rows) items ≡ true → items_shaped i items ≡ true
@@ -66,9 +54,3 @@ pub typed_so : {A : Type 0} (o : Option A) (view : A → List (List Held)) (h : 
     → option_map (λ v. items_alone (view v)) o ≡ whole
 typed_so None view h whole is none read = cc
 typed_so (Some v) view h whole is none read = ap Some (held_alone h (view v) none (same_Some _ _ is)) ∙ read
-
-pub all_more : (test : List Held → Bool) (xs : List (List Held)) (x : List Held) → list_all test xs ≡ true → test x ≡ true
-    → list_all test (xs ++ x ∷ []) ≡ true
-all_more test [] x all one = rw one refl
-all_more test (y ∷ ys) x all one =
-    let parts = both (test y) (list_all test ys) all in rw (parts.0, all_more test ys x parts.1 one) refl

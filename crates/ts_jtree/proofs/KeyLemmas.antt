@@ -1,5 +1,5 @@
 -- Keys of elements.
-use Rattle.std.proofs.Common.{◌≡◌, ℕ, ◌+◌, ◌<◌, ◌≤◌, Bool, true, false, List, [], ◌∷◌, ◌++◌, length, take, drop, refl, sym, ap, ◌∙◌, arith, get_or, length-append}
+use Rattle.std.proofs.Common.{◌≡◌, ℕ, ◌+◌, ◌<◌, ◌≤◌, Bool, true, false, List, [], ◌∷◌, ◌++◌, length, take, drop, refl, sym, ap, ◌∙◌, get_or}
 use Rattle.std.specs.Prelude.{bytes_eq, codes, not, String, string_bytes, Ok, Err}
 use Rattle.std.specs.declared.alloc.Global.{Global}
 use Rattle.std.proofs.lemmas.Slice.Eq.{bytes_eq-Decides}
@@ -21,11 +21,6 @@ use Rattle.ts_jtree.proofs.RowLemmas.{rows_left}
 differ_by : (xs ys : List ℕ) (b : Bool) → bytes_eq xs ys ≡ b → (xs ≡ ys → ⊥) → b ≡ false
 differ_by xs ys true e other = absurd (other ((bytes_eq-Decides xs ys).0 e))
 differ_by xs ys false e other = refl
-
--- a key that is too short is no key for bytes
-pub short_key : (key name : List ℕ) → length key < length name → false ≡ bytes_eq key (hex_key name)
-short_key key name short = sym (differ_by key (hex_key name) _ refl (λ same.
-    let e = ap length same ∙ length-append name (codes "_hex") in absurd (omega arith)))
 
 other_front : (key name : List ℕ) → (take (length name) key ≡ name → ⊥) → false ≡ bytes_eq key (hex_key name)
 other_front key name other = sym (differ_by key (hex_key name) _ refl (λ same.

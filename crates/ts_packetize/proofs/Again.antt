@@ -10,7 +10,7 @@ use Rattle.ts_section.specs.SectionFields.{table_id_of}
 use Rattle.ts_section.specs.LawfulSection.{IsSection}
 use Rattle.ts_section.specs.FirstBroken.{is_section}
 use Rattle.ts_section.proofs.RuleLemmas.{none_from_lawful}
-use Rattle.ts_demux.specs.Part.{Part, pointer_of, is_lawless, repeats, without_repeats}
+use Rattle.ts_demux.specs.Part.{Part, is_lawless, repeats, without_repeats}
 use Rattle.ts_demux.specs.ContinuousRuns.{goes_on}
 use Rattle.ts_demux.specs.Cut.{size_in_front, is_whole_in_front}
 use Rattle.ts_demux.specs.SectionsOfParts.{sections_in, sections_of_parts}
@@ -45,14 +45,6 @@ left_from c loads = sections_left (parts_from c loads)
 
 abbrev on_from : ℕ → List Load → List ℕ
 on_from c loads = following c (parts_from ((c + 1) % 16) loads)
-
--- the counter behind some loads
-abbrev counter_behind : ℕ → List Load → ℕ
-counter_behind c [] = c
-counter_behind c (load ∷ loads) = counter_behind ((c + 1) % 16) loads
-
-plain_part_is_lawful : (c : ℕ) (load : Load) → load.unit_start ≡ false → is_lawless (part_with c load) ≡ false
-plain_part_is_lawful c load e = ap (λ b. b && nat_le (length load.payload) (pointer_of (part_with c load))) e
 
 same_counter : (n : ℕ) → (n == n) ≡ true
 same_counter n = grind (arith, nat_tests)

@@ -17,9 +17,6 @@ drop-replicate (suc n) (suc m) x = drop-replicate n m x ∙ ap (λ k. replicate 
 drop_four : (n a b c d : ℕ) (xs : List ℕ) → drop (4 + n) (a ∷ b ∷ c ∷ d ∷ xs) ≡ drop n xs
 drop_four n a b c d xs = ap (λ k. drop k (a ∷ b ∷ c ∷ d ∷ xs)) (let e : 4 + n ≡ suc (suc (suc (suc n))) = omega arith in e)
 
-drop_five : (n a b c d e : ℕ) (xs : List ℕ) → drop (5 + n) (a ∷ b ∷ c ∷ d ∷ e ∷ xs) ≡ drop n xs
-drop_five n a b c d f xs = ap (λ k. drop k (a ∷ b ∷ c ∷ d ∷ f ∷ xs)) (let e : 5 + n ≡ suc (suc (suc (suc (suc n)))) = omega arith in e)
-
 -- few bytes are all there, and then come fill bytes
 pub filled_few : (bytes : List ℕ) → length bytes ≤ 184 → filled bytes ≡ bytes ++ replicate (184 - length bytes) 0xFF
 filled_few bytes h = ap (λ t. t ++ replicate (184 - length bytes) 0xFF) (take_all 184 bytes h)

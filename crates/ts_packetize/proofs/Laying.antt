@@ -176,9 +176,6 @@ pub step-begins : (rest : List ℕ) (ss : List (List ℕ)) → goes_on_alone res
 unfolding next_step
 step-begins rest ss e = if_false (goes_on_alone rest ss) (going_on rest ss) (beginning rest ss) e
 
-pub begun-alone : (rest : List ℕ) (ss : List (List ℕ)) → goes_on_alone rest ss ≡ true → (if goes_on_alone rest ss then [] else begun (183 - length rest) ss) ≡ []
-begun-alone rest ss e = if_true (goes_on_alone rest ss) [] (begun (183 - length rest) ss) e
-
 -- the bytes of a load that begins sections
 pub begins-with : (rest : List ℕ) (ss : List (List ℕ)) (bytes : List ℕ) → length rest < 183 → bytes ≡ (length rest ∷ []) ++ rest ++ take (183 - length rest) (joined ss) → bytes ≡ length rest ∷ take 183 (rest ++ joined ss)
 begins-with rest ss bytes h e =

@@ -63,11 +63,6 @@ fault_wanting (s ∷ rest) together some few members =
       stops = λ more. absurd (omega arith);
     }
 
--- no section at all
-pub fault_none : (ss : List (List ℕ)) → length ss ≡ 0 → IsRunFault ss 0
-fault_none [] none = record { not_whole = λ whole. whole; within = omega arith; begins = tt; stops = λ more. absurd (omega arith) }
-fault_none (s ∷ rest) none = absurd (omega arith)
-
 -- one section more behind one that is a table by itself
 pub fault_behind : (ss : List (List ℕ)) → stands_alone (get_or ss 0 []) ≡ true → 1 < length ss → IsRunFault ss 1
 fault_behind [] alone many = absurd (omega arith)
@@ -85,11 +80,6 @@ fault_behind (s ∷ r ∷ rest) alone many =
         | inr members ↦ false≢true (sym (members 0 (omega arith)).together ∙ alone)
       ];
     }
-
-pub whole_alone : (ss : List (List ℕ)) → stands_alone (get_or ss 0 []) ≡ true → length ss ≡ 1 → IsTableRun ss
-whole_alone [] alone one = absurd (omega arith)
-whole_alone (s ∷ []) alone one = inl (alone, refl)
-whole_alone (s ∷ r ∷ rest) alone one = absurd (omega arith)
 
 pub whole_numbered : (ss : List (List ℕ)) → 0 < length ss → length ss ≡ last_number_of (get_or ss 0 []) + 1 → MembersBelow (get_or ss 0 []) ss (length ss) → IsTableRun ss
 whole_numbered [] some all members = absurd (omega arith)

@@ -1,7 +1,6 @@
 -- Bits, bytes and fields that are spelled are read again.
 use Rattle.std.proofs.Common.{◌≡◌, ℕ, ◌/◌, ◌%◌, ◌^◌, ◌<◌, Bool, true, false, List, [], ◌∷◌, ◌++◌, length, refl, sym, ap, ◌∙◌, arith, append-nil, length-append}
 use Rattle.std.specs.Prelude.{Some, Ok, All, ◌||◌, not, nat_lt, if◌then◌else◌}
-use Rattle.std.specs.List.{flat_map}
 use Rattle.std.proofs.lemmas.Bool.{and_parts, and_from, lt-ltb, false≢true}
 use Rattle.std.proofs.lemmas.List.{nil_from_length}
 use Rattle.std.proofs.lemmas.Grind.{flat_map-append}
@@ -56,11 +55,6 @@ bytes-append [] b one two = two
 bytes-append (x ∷ a) b one two =
     let parts = and_parts (nat_lt x 256) (are_bytes a) one in
     and_from (nat_lt x 256) (are_bytes (a ++ b)) parts.0 (bytes-append a b parts.1 two)
-
-pub bytes-flat_map : {X : Type 0} (f : X → List ℕ) (xs : List X) → All (λ x. are_bytes (f x) ≡ true) xs → are_bytes (flat_map f xs) ≡ true
-bytes-flat_map f [] all = refl
-bytes-flat_map f (x ∷ xs) all =
-    bytes-append (f x) (flat_map f xs) (All-head (λ y. are_bytes (f y) ≡ true) x xs all) (bytes-flat_map f xs (All-tail (λ y. are_bytes (f y) ≡ true) x xs all))
 
 pub bytes-all : (row : List ℕ) → All (λ x. x < 256) row → are_bytes row ≡ true
 bytes-all [] all = refl

@@ -1,7 +1,7 @@
 -- Sections numbered one after another, and what a table puts into them.
 use Rattle.std.proofs.Common.{◌≡◌, ℕ, ◌+◌, ◌<◌, ◌≤◌, Bool, true, false, List, [], ◌∷◌, ◌++◌, length, drop, get_or, map, refl, sym, ap, ◌∙◌, arith, append_assoc, append-nil, Vec, Global}
-use Rattle.std.specs.Prelude.{is_some, Ok, Err, Option, Some, None, nat_le, nat_lt}
-use Rattle.std.proofs.lemmas.Bool.{leb-true, ltb-true, lt-ltb, le-ltb, and_parts}
+use Rattle.std.specs.Prelude.{is_some, Ok, Option, Some, None, nat_le, nat_lt}
+use Rattle.std.proofs.lemmas.Bool.{leb-true, ltb-true, le-ltb, and_parts}
 use Rattle.std.proofs.lemmas.List.{drop_more, drop_all, map-append, length-map, get_or-map}
 use Rattle.std.proofs.lemmas.List.Elements.{All-get_or}
 use Rattle.ts_bits.specs.TaggedBody.{TaggedBody}
@@ -12,7 +12,6 @@ use Rattle.ts_table_rows.specs.TablePages.{ItemPage, TablePage, has_id}
 use Rattle.ts_table_rows.specs.TableValues.{ItemHolding, BodyHolding}
 use Rattle.ts_table_rows.specs.TableFitting.{values_fit, own_fit, items_fit, zeros_from, numbers_fit, head_fits, body_fits}
 use Rattle.ts_table_rows.specs.TableSections.{own_thing, item_thing, things, head_with, numbered, numbers_of, sections_with}
-use Rattle.ts_table_rows.specs.declared.fault.TableRefusal.TheVariants.{TooMany}
 use Rattle.ts_table_rows.specs.FilledRows.{AreSmall, thing_view, own_row, item_kind_row, kind_row}
 
 abbrev pub rows_in : List (Vec ℕ Global) → List (List ℕ)
@@ -78,12 +77,6 @@ sections_made p h bodies first last made few first_is last_is is =
     let count : length (rows_in bodies) ≡ length bodies = length-map bodies (λ (b : Vec ℕ Global). b.items) in
     let test : nat_lt 256 (length bodies) ≡ false = le-ltb 256 (length bodies) few in
     rw (count, test) (ap Ok (ap (λ n. numbered p h n (numbers_of h.numbers (length bodies)).0 (rows_in bodies)) (sym last_is) ∙ ap (λ n. numbered p h last n (rows_in bodies)) (sym first_is) ∙ sym is))
-
-pub sections_many : (p : TablePage) (h : TableHead) (bodies : List (Vec ℕ Global)) → 256 < length bodies → sections_with p h (rows_in bodies) ≡ Err TooMany
-sections_many p h bodies many =
-    let count : length (rows_in bodies) ≡ length bodies = length-map bodies (λ (b : Vec ℕ Global). b.items) in
-    let test : nat_lt 256 (length bodies) ≡ true = lt-ltb 256 (length bodies) many in
-    rw (count, test) refl
 
 pub small_at : (bodies : List (Vec ℕ Global)) (i : ℕ) (v : Vec ℕ Global) → AreSmall (rows_in bodies) → i < length bodies → v ≡ get_or bodies i v → length v.items ≤ 4084
 small_at bodies i v small inside same =

@@ -1,4 +1,4 @@
-use Rattle.std.proofs.Common.{◌+◌, drop, map, true, ap, ◌∙◌, arith}
+use Rattle.std.proofs.Common.{◌+◌, drop, map, ap, ◌∙◌, arith}
 use Rattle.serde_json.specs.View.{members_view}
 use Rattle.ts_fields.specs.Layout.{rows_of, held}
 use Rattle.ts_jtree.specs.Shown.{put_attributes, are_shown}
