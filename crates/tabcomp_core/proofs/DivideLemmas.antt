@@ -341,10 +341,6 @@ pub runs_done : (front : List (List (List ℕ))) (place : ℕ) (whole : Result (
 unfolding runs_from
 runs_done front place whole so_far = sym so_far ∙ ap Ok (append-nil front)
 
-pub runs_begin : (r : Result (List (List (List ℕ))) ℕ) → with_runs [] r ≡ r
-runs_begin (Ok more) = refl
-runs_begin (Err place) = refl
-
 joined_run : (begun run old new : List (List ℕ)) (s : List ℕ) → old ≡ s ∷ new → run ≡ begun ++ s ∷ [] → begun ++ old ≡ run ++ new
 joined_run begun run old new s next grown =
     ap (λ l. begun ++ l) next ∙ sym (append_assoc begun (s ∷ []) new) ∙ sym (ap (λ l. l ++ new) grown)
@@ -379,13 +375,6 @@ pub end_stops : (front : List (List (List ℕ))) (place p : ℕ) (begun rest : L
     → 0 < length begun → length rest ≡ 0 → IsOpen begun → GoesOn front place (begun ++ rest) whole → IsRunFault begun p → whole ≡ Err (place + p)
 end_stops front place p begun rest whole some nothing room so_far fault =
     run_stops front place p begun rest whole fault (open_room begun some room) (inr (none_left rest (omega (arith, nothing)))) so_far
-
-pub end_closes : (front after : List (List (List ℕ))) (place : ℕ) (begun rest : List (List ℕ)) (whole : Result (List (List (List ℕ))) ℕ)
-    → length rest ≡ 0 → IsTableRun begun → after ≡ front ++ begun ∷ [] → GoesOn front place (begun ++ rest) whole → whole ≡ Ok after
-end_closes front after place begun rest whole nothing is pushed so_far =
-    runs_done (front ++ begun ∷ []) (place + length begun) whole
-    (subst (λ l. GoesOn (front ++ begun ∷ []) (place + length begun) l whole) (none_left rest (omega (arith, nothing))) (run_goes_on front place begun rest whole is so_far))
-    ∙ ap Ok (sym pushed)
 
 pub stop_told : {X : Type 0} (view : X → List (List ℕ)) (fault : NoRuns) (place : ℕ) (run : List (List ℕ)) (whole : Result (List (List (List ℕ))) ℕ)
     → ClosesRun place run view (Err fault) → ((p : ℕ) → IsRunFault run p → whole ≡ Err (place + p)) → DividesAt fault whole
