@@ -8,7 +8,7 @@ ghost use Rattle.option_words.specs.Refusal.{Reads, ReadsParsed};
 
 use crate::general_conf::GeneralConf;
 use clap::Command;
-use option_words::{ParsedOptions, Refusal, new_command, with_flag, with_value};
+use option_words::{OptionWord, ParsedOptions, Refusal, command_with};
 use std::alloc::{AllocError, Global};
 
 /// The most packets of one stuffing, of the buffer, and of one turn of a stage.
@@ -17,16 +17,21 @@ const MOST_PACKETS: u64 = 1_000_000;
 /// The most null packets that are put between packets of the input.
 const MOST_BETWEEN: u64 = 1_000;
 
+// The general options.
+static GENERAL: [OptionWord; 7] = [
+    OptionWord::Value("add-start-stuffing"),
+    OptionWord::Value("add-stop-stuffing"),
+    OptionWord::Value("add-input-stuffing"),
+    OptionWord::Value("buffer-packets"),
+    OptionWord::Value("max-flushed-packets"),
+    OptionWord::Value("max-input-packets"),
+    OptionWord::Flag("ignore-joint-termination"),
+];
+
 fn general_command<'a>(alloc: Global) -> Result<Command<'a>, AllocError>
     ensures { IfOk result (λ c. app_of c ≡ command_of general_rows) }
 {
-    let command = with_value(alloc, new_command(alloc), "add-start-stuffing")?;
-    let command = with_value(alloc, command, "add-stop-stuffing")?;
-    let command = with_value(alloc, command, "add-input-stuffing")?;
-    let command = with_value(alloc, command, "buffer-packets")?;
-    let command = with_value(alloc, command, "max-flushed-packets")?;
-    let command = with_value(alloc, command, "max-input-packets")?;
-    with_flag(alloc, command, "ignore-joint-termination")
+    command_with(alloc, &GENERAL)
 }
 
 fn general_settings(found: &ParsedOptions) -> Result<GeneralConf, Refusal>
