@@ -1,5 +1,6 @@
 //! The summary of what was met.
 ghost use Rattle.std.specs.Prelude.{◌≡◌, ◌<◌, ◌++◌, ◌∷◌, [], ℕ, List, IfOk, OnOk, length, map, if◌then◌else◌};
+ghost use Rattle.std.specs.Fmt.{decimal};
 ghost use Rattle.std.specs.List.{All};
 ghost use Rattle.ts_packet.specs.declared.cell.Cell.{Cell as GivenCell};
 ghost use Rattle.ts_packet.specs.Cells.{live_packets};
@@ -68,13 +69,18 @@ fn push_head(
     ensures { OnOk result ((packets : List (List ℕ)) → IsCounted totals.now.packets (map pid_of packets) → pids ≡ length (pids_with packets)
         → lines.new.items ≡ lines.old.items ++ placed_at cut (head_lines packets)) }
 {
+    push_number(lines, cut, "packets ", totals.packets())?;
+    push_number(lines, cut, "pids ", pids as u64)?;
+    push_number(lines, cut, "nulls ", totals.packets_on(NULL_PID))
+}
+
+// Puts a number behind other lines, with these words before it.
+fn push_number(lines: &mut Vec<Line>, cut: u64, words: &str, number: u64) -> Result<(), AllocError>
+    ensures { OnOk result (lines.new.items ≡ lines.old.items ++ placed_at cut ((words.now ++ decimal number) ∷ [])) }
+{
     let alloc = *lines.allocator();
-    let packets = format!(in alloc; "packets {}", totals.packets())?;
-    push_line(lines, cut, LineText::of(packets))?;
-    let pids = format!(in alloc; "pids {pids}")?;
-    push_line(lines, cut, LineText::of(pids))?;
-    let nulls = format!(in alloc; "nulls {}", totals.packets_on(NULL_PID))?;
-    push_line(lines, cut, LineText::of(nulls))
+    let text = format!(in alloc; "{words}{number}")?;
+    push_line(lines, cut, LineText::of(text))
 }
 
 // Puts the lines of PIDs behind other lines.
