@@ -4,6 +4,8 @@ ghost use Rattle.std.specs.Prelude.{◌≡◌, ◌<◌, IfOk, IfSome, Some, find
 ghost use Rattle.std.specs.Int.{from_bool};
 ghost use Rattle.std.specs.List.{position};
 ghost use Rattle.std.specs.Option.{ForSome};
+ghost use Rattle.ts_descr.specs.Descriptors.{read_typed};
+ghost use Rattle.ts_descr_dvb.specs.DvbDescrs.{dvb_pages};
 ghost use Rattle.ts_descr_dvb.specs.DvbFields.{service_fields};
 ghost use Rattle.ts_si.specs.SiTables.{service_item};
 ghost use Rattle.plug_edit.specs.ServiceChange;
@@ -127,9 +129,18 @@ fn is_service(alloc: Global, descriptor: &Descriptor) -> Result<bool, AllocError
     ensures { IfOk result (λ is_service. is_service
         ≡ ServiceChange.is_service_descriptor descriptor.now) }
 {
+    let service = read_service(alloc, descriptor)?;
+    Ok(service.is_some())
+}
+
+/// What a service_descriptor holds; none where a descriptor is none.
+fn read_service(alloc: Global, descriptor: &Descriptor) -> Result<Option<Service>, AllocError>
+    ensures { IfOk result (λ service. option_map service_fields service
+        ≡ ServiceChange.service_values (read_typed dvb_pages descriptor.now)) }
+{
     match DvbDescr::read(alloc, descriptor)? {
-        Some(DvbDescr::Service(_)) => Ok(true),
-        _ => Ok(false),
+        Some(DvbDescr::Service(service)) => Ok(Some(service)),
+        _ => Ok(None),
     }
 }
 
@@ -157,9 +168,9 @@ fn service_in(alloc: Global, descriptor: &Descriptor) -> Result<Service, AllocEr
     ensures { IfOk result (λ service. service_fields service
         ≡ ServiceChange.values_in (Some descriptor.now)) }
 {
-    match DvbDescr::read(alloc, descriptor)? {
-        Some(DvbDescr::Service(service)) => Ok(service),
-        _ => Ok(new_service_descriptor(alloc)),
+    match read_service(alloc, descriptor)? {
+        Some(service) => Ok(service),
+        None => Ok(new_service_descriptor(alloc)),
     }
 }
 
