@@ -1,5 +1,5 @@
 /// One source that a desk closed.
-#[derive(Clone, Copy, Debug, PartialEq, Eq)]
+#[derive(Clone, Copy, PartialEq, Eq)]
 pub struct ClosedInput {
     /// How many bytes it had still to come.
     pub left: usize,
@@ -8,7 +8,7 @@ pub struct ClosedInput {
 }
 
 /// Closed sources, the last one first: each link is made when a source is opened and filled when it is closed.
-#[derive(Debug, Drop)]
+#[derive(Drop)]
 pub(crate) enum ClosedInputs {
     Empty,
     Behind(ClosedInput, Box<ClosedInputs>),

@@ -7,7 +7,7 @@ use std::alloc::Global;
 ///
 /// Calls are numbered from 1: the openings and `read_file` of a desk together, the reads of each source, the writes of
 /// each sink, the reports of a desk, and its `close_out`s.
-#[derive(Debug, Drop)]
+#[derive(Drop)]
 pub struct FailPlan {
     pub opens: NumberList,
     pub reads: NumberList,

@@ -8,7 +8,7 @@ use std::marker::Model;
 /// Files by their names, seen as a list of pairs of a name and its bytes.
 ///
 /// Among the pairs of one name the first counts.
-#[derive(Drop, Debug)]
+#[derive(Drop)]
 pub struct FileList {
     files: Vec<(NameText, FileBytes)>,
 }

@@ -1,6 +1,7 @@
-ghost use Rattle.std.specs.Prelude.{◌≡◌, ◌<◌, ◌≤◌, ◌^◌, ◌-◌, [], ◌∷◌, ◌++◌, Some, true, false, length, min, take, slice_get, is_err, IfOk, OnOk, OnErr, IfSome, MatchOption};
+ghost use Rattle.std.specs.Prelude.{nat_lt, ◌||◌, if◌then◌else◌, ◌≡◌, ◌<◌, ◌≤◌, ◌^◌, ◌-◌, [], ◌∷◌, ◌++◌, Some, true, false, length, min, take, slice_get, is_err, IfOk, OnOk, OnErr, IfSome, MatchOption};
 ghost use Rattle.ts_outside.specs.Count.{raised};
 ghost use Rattle.std.specs.Option.{option_copied, option_map};
+ghost use Rattle.std.specs.Vec.{vec_capacity};
 ghost use Rattle.ts_outside.specs.declared.requests.Purpose.TheVariants.{Input, Output, File};
 ghost use Rattle.ts_outside.specs.OpenFault.{MatchOpen};
 ghost use Rattle.ts_outside.specs.FileFault.{MatchFile};
@@ -18,6 +19,7 @@ use crate::file_list::FileList;
 use crate::memory_sink::MemorySink;
 use crate::memory_source::MemorySource;
 use crate::name_text::NameText;
+use crate::number_list::NumberList;
 use crate::requests::{Asked, Purpose};
 use crate::stream_names::stream;
 use std::alloc::{AllocError, Global};
@@ -43,6 +45,23 @@ pub struct MemoryDesk {
     reports: u64,
     closes: u64,
     plan: FailPlan,
+}
+
+// The memory of a source.
+#[derive(Drop)]
+struct SourceRoom {
+    bytes: Vec<u8>,
+    failing: NumberList,
+    link: Box<ClosedInputs>,
+}
+
+// The memory of a sink.
+#[derive(Drop)]
+struct SinkRoom {
+    bytes: Vec<u8>,
+    name: NameText,
+    failing: NumberList,
+    link: Box<ClosedOutputs>,
 }
 
 impl Model for MemoryDesk {
@@ -140,22 +159,68 @@ impl MemoryDesk {
     }
 
     /// Notes what was asked, and counts the call. `AllocError` changes nothing.
-    fn note(&mut self, asked: Asked) -> Result<(), AllocError>
-        ensures noted { OnOk result (self.new ≡ record self.old { asked = self.old.asked ++ asked ∷ []; opens = raised self.old.opens }) }
+    fn note(&mut self, purpose: Purpose, name: &str, ok: bool) -> Result<(), AllocError>
+        ensures noted { OnOk result (self.new ≡ record self.old {
+          asked = self.old.asked ++ record { purpose = purpose; name = name.now; ok = ok } ∷ [];
+          opens = raised self.old.opens;
+        }) }
         ensures same { OnErr result (self.new ≡ self.old) }
     {
-        self.asked.push(asked)?;
+        let name = NameText::of(String::from_str(self.alloc, name)?);
+        self.asked.push(Asked { purpose, name, ok })?;
         self.opens = one_more(self.opens);
         Ok(())
     }
-}
 
-/// An entry of what was asked.
-fn request(alloc: Global, purpose: Purpose, name: &str, ok: bool) -> Result<Asked, AllocError>
-    ensures { IfOk result (λ a. a ≡ record { purpose = purpose; name = name.now; ok = ok }) }
-{
-    let name = NameText::of(String::from_str(alloc, name)?);
-    Ok(Asked { purpose, name, ok })
+    // The memory of a source over the file of this name.
+    fn source_room(&self, named: &str) -> Result<SourceRoom, AllocError>
+        ensures bytes { IfOk result (λ r. r.bytes.items ≡ file_of self.now.files named.now) }
+        ensures failing { IfOk result (λ r. r.failing ≡ self.now.plan.reads) }
+    {
+        let bytes = Vec::from_slice(self.alloc, self.files.bytes_of(named))?;
+        let failing = self.plan.reads.copy()?;
+        let link = Box::new(self.alloc, ClosedInputs::Empty)?;
+        Ok(SourceRoom {
+            bytes,
+            failing,
+            link,
+        })
+    }
+
+    // The memory of a sink with this name.
+    fn sink_room(&self, named: &str) -> Result<SinkRoom, AllocError>
+        ensures bytes { IfOk result (λ r. r.bytes.items ≡ []) }
+        ensures room { IfOk result (λ r. self.now.plan.room ≤ vec_capacity r.bytes) }
+        ensures name { IfOk result (λ r. r.name ≡ named.now) }
+        ensures failing { IfOk result (λ r. r.failing ≡ self.now.plan.writes) }
+    {
+        let bytes = Vec::with_capacity(self.alloc, self.plan.room)?;
+        let name = NameText::of(String::from_str(self.alloc, named)?);
+        let failing = self.plan.writes.copy()?;
+        let link = Box::new(self.alloc, ClosedOutputs::Empty)?;
+        Ok(SinkRoom {
+            bytes,
+            name,
+            failing,
+            link,
+        })
+    }
+
+    // Counts a closing of a sink with so many faults: whether it fails by the plan.
+    fn count_closing(&mut self, faults: u64) -> bool
+        ensures planned { result ≡ close_fails self.old }
+        ensures counted { self.new ≡ record self.old {
+          write_faults = if nat_lt 0 faults || close_fails self.old then raised self.old.write_faults else self.old.write_faults;
+          closes = raised self.old.closes;
+        } }
+    {
+        let fails = self.plan.closes.has(one_more(self.closes));
+        self.closes = one_more(self.closes);
+        if faults > 0 || fails {
+            self.write_faults = one_more(self.write_faults);
+        }
+        fails
+    }
 }
 
 impl Desk for MemoryDesk {
@@ -182,25 +247,21 @@ impl Desk for MemoryDesk {
             (self.new ≡ self.old) }
     {
         let named = stream(name);
-        let fails = self.next_open_fails();
-        let asked = request(self.alloc, Purpose::Input, named, !fails)?;
-        if fails {
-            self.note(asked)?;
+        if self.next_open_fails() {
+            self.note(Purpose::Input, named, false)?;
             self.read_faults = one_more(self.read_faults);
             return Err(OpenFault::Failed);
         }
-        let bytes = Vec::from_slice(self.alloc, self.files.bytes_of(named))?;
-        let failing = self.plan.reads.copy()?;
-        let link = Box::new(self.alloc, ClosedInputs::Empty)?;
-        self.note(asked)?;
+        let room = self.source_room(named)?;
+        self.note(Purpose::Input, named, true)?;
         Ok(MemorySource {
-            bytes,
+            bytes: room.bytes,
             at: 0,
             faults: 0,
             calls: 0,
-            failing,
+            failing: room.failing,
             piece: self.plan.read_piece,
-            link,
+            link: room.link,
         })
     }
 
@@ -223,27 +284,22 @@ impl Desk for MemoryDesk {
             (self.new ≡ self.old) }
     {
         let named = stream(name);
-        let fails = self.next_open_fails();
-        let asked = request(self.alloc, Purpose::Output, named, !fails)?;
-        if fails {
-            self.note(asked)?;
+        if self.next_open_fails() {
+            self.note(Purpose::Output, named, false)?;
             self.write_faults = one_more(self.write_faults);
             return Err(OpenFault::Failed);
         }
-        let bytes = Vec::with_capacity(self.alloc, self.plan.room)?;
-        let name = NameText::of(String::from_str(self.alloc, named)?);
-        let failing = self.plan.writes.copy()?;
-        let link = Box::new(self.alloc, ClosedOutputs::Empty)?;
-        self.note(asked)?;
+        let room = self.sink_room(named)?;
+        self.note(Purpose::Output, named, true)?;
         Ok(MemorySink {
-            bytes,
-            name,
+            bytes: room.bytes,
+            name: room.name,
             faults: 0,
             calls: 0,
-            failing,
+            failing: room.failing,
             piece: self.plan.write_piece,
             room: self.plan.room,
-            link,
+            link: room.link,
         })
     }
 
@@ -278,21 +334,17 @@ impl Desk for MemoryDesk {
         ensures planned { is_err result ≡ close_fails self.old }
         ensures counted { self.new ≡ closed_a_sink self.old output }
     {
+        let fails = self.count_closing(output.faults);
         let MemorySink {
             bytes,
             name,
-            faults,
+            faults: _,
             calls: _,
             failing: _,
             piece: _,
             room: _,
             mut link,
         } = output;
-        let fails = self.plan.closes.has(one_more(self.closes));
-        self.closes = one_more(self.closes);
-        if faults > 0 || fails {
-            self.write_faults = one_more(self.write_faults);
-        }
         *link = mem::replace(&mut self.outputs, ClosedOutputs::Empty);
         self.outputs = ClosedOutputs::Behind(name, FileBytes::of(bytes), link);
         if fails { Err(Failed) } else { Ok(()) }
@@ -321,20 +373,18 @@ impl Desk for MemoryDesk {
             (self.new ≡ self.old) }
     {
         let named = stream(name);
-        let fails = self.next_open_fails();
-        let asked = request(self.alloc, Purpose::File, named, !fails)?;
-        if fails {
-            self.note(asked)?;
+        if self.next_open_fails() {
+            self.note(Purpose::File, named, false)?;
             self.read_faults = one_more(self.read_faults);
             return Err(FileFault::Failed);
         }
         let file = self.files.bytes_of(named);
         if file.len() > most {
-            self.note(asked)?;
+            self.note(Purpose::File, named, true)?;
             return Err(FileFault::TooMany);
         }
         let bytes = Vec::from_slice(self.alloc, file)?;
-        self.note(asked)?;
+        self.note(Purpose::File, named, true)?;
         Ok(FileBytes::of(bytes))
     }
 

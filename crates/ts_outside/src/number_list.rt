@@ -5,7 +5,7 @@ use std::alloc::AllocError;
 use std::marker::Model;
 
 /// Numbers, seen as the list of them: in a `FailPlan` the calls that fail, counted from 1.
-#[derive(Drop, Debug)]
+#[derive(Drop)]
 pub struct NumberList {
     numbers: Vec<u64>,
 }

@@ -1,7 +1,7 @@
 use crate::name_text::NameText;
 
 /// For what a desk was asked to open a name.
-#[derive(Clone, Copy, Debug, PartialEq, Eq)]
+#[derive(Clone, Copy, PartialEq, Eq)]
 pub enum Purpose {
     /// A source, by `open_in`.
     Input,
@@ -12,7 +12,7 @@ pub enum Purpose {
 }
 
 /// One name that a desk was asked for.
-#[derive(Debug, Drop)]
+#[derive(Drop)]
 pub struct Asked {
     pub purpose: Purpose,
     /// The name; the empty one is the standard stream.

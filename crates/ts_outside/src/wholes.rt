@@ -7,7 +7,7 @@ use crate::faults::Failed;
 use crate::sinks::Sink;
 
 /// A piece was not taken whole: a call failed behind its first bytes.
-#[derive(Clone, Copy, Debug, PartialEq, Eq)]
+#[derive(Clone, Copy, PartialEq, Eq)]
 pub struct CutShort {
     /// How many bytes were taken before the failure.
     pub taken: usize,
