@@ -2,7 +2,7 @@ use crate::{StageEnd, StageWord};
 use chain_model::Cause;
 
 /// What the core knows of a stage.
-#[derive(Debug, Clone, Copy, PartialEq, Eq)]
+#[derive(Clone, Copy, PartialEq, Eq)]
 pub struct Progress {
     /// How many cells the stage has given.
     pub given: u64,

@@ -1,7 +1,7 @@
 use crate::StageEnd;
 
 /// What a stage tells with a visit, beside the cells that it gives.
-#[derive(Debug, Clone, Copy, PartialEq, Eq)]
+#[derive(Clone, Copy, PartialEq, Eq)]
 pub struct StageWord {
     /// The number of cells at which the plugin agrees to end, told with the visit that gives the
     /// last of them.

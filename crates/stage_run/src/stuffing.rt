@@ -1,5 +1,5 @@
 /// The null packets that the input puts in.
-#[derive(Debug, Clone, Copy, PartialEq, Eq)]
+#[derive(Clone, Copy, PartialEq, Eq)]
 pub struct Stuffing {
     /// How many stand before the input's packets.
     pub start: u64,

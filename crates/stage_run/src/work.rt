@@ -3,7 +3,7 @@ ghost use Rattle.std.specs.Prelude.{◌≡◌, None};
 use chain_core::{StageEnd, StageWord};
 
 /// What a stage did with the cells in its hands.
-#[derive(Debug, Clone, Copy, PartialEq, Eq)]
+#[derive(Clone, Copy, PartialEq, Eq)]
 pub struct Work {
     /// So many of the first cells are the next cells of the stage's list; its next visit gives them on.
     pub done: usize,
