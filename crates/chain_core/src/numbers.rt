@@ -5,9 +5,6 @@ use chain_model::POSITION_LIMIT;
 use std::alloc::{AllocError, Global};
 use std::marker::Model;
 
-#[cfg(test)]
-mod tests;
-
 /// The chain's core: how much each stage has given and taken, what it agreed to and how it ended.
 /// It stands for the machine's state with the same numbers, whatever the cells are.
 #[derive(Drop)]

@@ -1,1 +1,3 @@
 pub mod FreshLemmas
+pub mod SeatLemmas
+pub mod DriverLemmas

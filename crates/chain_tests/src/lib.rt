@@ -1,8 +1,24 @@
-//! The tests of `stage_run` and `chain_run`, in a crate of their own: a crate with tests is proved twice, and this one takes
-//! little time.
+//! The tests of the crates of the chain, of the block and the ring and of the outside, in a crate of their own: a crate with
+//! tests is proved twice, and this one takes little time.
 #![tactic(auto)]
 
+#[cfg(test)]
+mod blocks;
+#[cfg(test)]
+mod callers;
+#[cfg(test)]
+mod cores;
+#[cfg(test)]
+mod driver;
+#[cfg(test)]
+mod files;
+#[cfg(test)]
+mod outside;
+#[cfg(test)]
+mod rings;
 #[cfg(test)]
 mod serial_runs;
 #[cfg(test)]
 mod stages;
+#[cfg(test)]
+mod stops_at;

@@ -2,62 +2,19 @@ ghost use Rattle.std.specs.Prelude.{◌≡◌, ◌≤◌, length, IfOk};
 ghost use Rattle.std.specs.List.{All};
 ghost use Rattle.chain_core.specs.CoreNumbers.{IsLawfulPlan};
 
+use crate::stops_at::StopsAt;
 use chain_core::{Cause, Closed, CorePlan, InputEnd, StageSet};
 use chain_run::{RunEnd, Stages, run_serial};
-use plugin_trait::{Line, Outcome, Plugin, silent_report};
 use stage_run::{InputPart, OutputPart, Stuffing};
 use std::alloc::{AllocError, Global};
 use std::test::Fail;
 use ts_outside::{Desk, FailPlan, FileList, MemoryDesk, MemorySink, MemorySource, OpenGate};
-use ts_packet::Cell;
-
-/// Passes the packets before a position, and stops at the first one from there on.
-#[derive(Drop)]
-struct StopsAt {
-    position: u64,
-    alloc: Global,
-}
-
-impl Plugin for StopsAt {
-    ghost use Rattle.std.specs.Prelude.{◌≡◌, ◌≤◌, [], None, false, length, nat_le, if◌then◌else◌, refl};
-    ghost use Rattle.chain_model.specs.PluginRule.{passes, stops};
-    ghost use Rattle.plugin_trait.specs.SilentRule.{silent_rule};
-
-    ghost rule = { λ s. silent_rule
-        (λ history packet. if nat_le s.position (length history) then stops else passes packet) };
-
-    ghost stands_for = { λ s history mark. mark ≤ length history };
-
-    ghost steady = { λ s. None };
-
-    fn step(&mut self, at: u64, cell: &mut Cell) -> Outcome {
-        if let Cell::Live(_, _) = cell {
-            if self.position <= at {
-                return Outcome::Stop;
-            }
-        }
-        Outcome::Pass
-    }
-
-    fn note(&mut self, _written: u64) -> Result<(), AllocError> {
-        Ok(())
-    }
-
-    fn agreed(&self) -> bool {
-        false
-    }
-
-    fn finish(&mut self, _cut: u64) -> Result<Vec<Line>, AllocError> {
-        Ok(silent_report(self.alloc))
-    }
-
-    ghost starts_open = { λ plugin history mark stands. refl };
-}
 
 /// A desk without files, at which no call fails.
-fn desk(alloc: Global) -> Result<MemoryDesk, AllocError> {
+fn desk(alloc: Global) -> Result<Box<MemoryDesk>, AllocError> {
+    let files = FileList::of(Vec::new(alloc));
     let plan = FailPlan::none(alloc, 1000, 1000, 1000);
-    MemoryDesk::new(alloc, FileList::of(Vec::new(alloc)), plan)
+    Ok(Box::new(alloc, MemoryDesk::new(alloc, files, plan)?)?)
 }
 
 /// The cut and the cause; what was opened goes back to the desk.
@@ -101,9 +58,9 @@ fn run(
     requires sizes { All (λ size. 1 ≤ size) sizes.now }
     requires some_size { 1 ≤ length sizes.now }
 {
-    let mut desk = desk(alloc)?;
     let mut plugins = Vec::new(alloc);
     plugins.push(StopsAt { position, alloc })?;
+    let mut desk = desk(alloc)?;
     let input: InputPart<MemorySource> = InputPart::Nulls(packets);
     let output: OutputPart<MemorySink> = OutputPart::Discard;
     let stuffing = Stuffing {
@@ -125,7 +82,7 @@ fn run(
         output,
     };
     let end = run_serial(alloc, stages, &plan, sizes, &OpenGate);
-    closed_of(&mut desk, end)
+    closed_of(&mut *desk, end)
 }
 
 /// The input's end and the plugin's stop, with sizes of several kinds.

@@ -3,8 +3,9 @@ ghost use Rattle.stage_run.specs.Seeing.{seeing};
 ghost use Rattle.stage_run.specs.PartStands.{PartStands, MayWorkOnSome, kind_of, an_input, a_plugin, an_output};
 ghost use Rattle.stage_run.specs.Parts.{IsUnused};
 
+use crate::stops_at::StopsAt;
 use chain_core::{InputEnd, News, StageEnd};
-use plugin_trait::{Line, Outcome, Plugin, silent_report};
+use plugin_trait::Plugin;
 use stage_run::{InputPart, IoBuffer, OutputPart, StagePart, Stuffing, Work};
 use std::alloc::{AllocError, Global};
 use std::process::Abort;
@@ -15,49 +16,6 @@ use ts_outside::{
 };
 use ts_packet::{Cell, Labels, Packet};
 use ts_testgen::TestGen;
-
-/// Passes the packets before a position, and stops at the first one from there on.
-#[derive(Drop)]
-struct StopsAt {
-    position: u64,
-    alloc: Global,
-}
-
-impl Plugin for StopsAt {
-    ghost use Rattle.std.specs.Prelude.{◌≡◌, ◌≤◌, [], None, false, length, nat_le, if◌then◌else◌, refl};
-    ghost use Rattle.chain_model.specs.PluginRule.{passes, stops};
-    ghost use Rattle.plugin_trait.specs.SilentRule.{silent_rule};
-
-    ghost rule = { λ s. silent_rule
-        (λ history packet. if nat_le s.position (length history) then stops else passes packet) };
-
-    ghost stands_for = { λ s history mark. mark ≤ length history };
-
-    ghost steady = { λ s. None };
-
-    fn step(&mut self, at: u64, cell: &mut Cell) -> Outcome {
-        if let Cell::Live(_, _) = cell {
-            if self.position <= at {
-                return Outcome::Stop;
-            }
-        }
-        Outcome::Pass
-    }
-
-    fn note(&mut self, _written: u64) -> Result<(), AllocError> {
-        Ok(())
-    }
-
-    fn agreed(&self) -> bool {
-        false
-    }
-
-    fn finish(&mut self, _cut: u64) -> Result<Vec<Line>, AllocError> {
-        Ok(silent_report(self.alloc))
-    }
-
-    ghost starts_open = { λ plugin history mark stands. refl };
-}
 
 /// A packet on PID 256.
 fn packet() -> Packet {
@@ -82,23 +40,33 @@ fn files(alloc: Global, packets: usize) -> Result<FileList, AllocError> {
 fn plan(alloc: Global, read: u64, write: u64) -> Result<FailPlan, AllocError>
     ensures { IfOk result (λ p. (p.read_piece ≡ 1000) × (p.write_piece ≡ 300)) }
 {
+    let reads = NumberList::of(vec![in alloc; read]?);
+    let writes = NumberList::of(vec![in alloc; write]?);
     let mut plan = FailPlan::none(alloc, 1000, 300, 1000);
-    plan.reads = NumberList::of(vec![in alloc; read]?);
-    plan.writes = NumberList::of(vec![in alloc; write]?);
+    plan.reads = reads;
+    plan.writes = writes;
     Ok(plan)
 }
 
 /// A desk with a file `in` of so many packets, of which one read gives so many bytes.
-fn slow_desk(alloc: Global, packets: usize, piece: usize) -> Result<MemoryDesk, AllocError>
+fn slow_desk(alloc: Global, packets: usize, piece: usize) -> Result<Box<MemoryDesk>, AllocError>
     requires { 0 < piece }
 {
+    let files = files(alloc, packets)?;
     let plan = FailPlan::none(alloc, piece, 300, 1000);
-    MemoryDesk::new(alloc, files(alloc, packets)?, plan)
+    Ok(Box::new(alloc, MemoryDesk::new(alloc, files, plan)?)?)
 }
 
 /// A desk with a file `in` of so many packets. Calls are numbered from 1, so that with 0 none fails.
-fn desk(alloc: Global, packets: usize, read: u64, write: u64) -> Result<MemoryDesk, AllocError> {
-    MemoryDesk::new(alloc, files(alloc, packets)?, plan(alloc, read, write)?)
+fn desk(
+    alloc: Global,
+    packets: usize,
+    read: u64,
+    write: u64,
+) -> Result<Box<MemoryDesk>, AllocError> {
+    let files = files(alloc, packets)?;
+    let plan = plan(alloc, read, write)?;
+    Ok(Box::new(alloc, MemoryDesk::new(alloc, files, plan)?)?)
 }
 
 /// News of ten cells, of which none is written.
@@ -250,7 +218,7 @@ fn gives_and_ends<S: Source, K: Sink, P: Plugin>(
 /// Works on three windows with an input that reads a desk's file `in`.
 fn read_file(
     alloc: Global,
-    mut desk: MemoryDesk,
+    mut desk: Box<MemoryDesk>,
     start: u64,
     first: &mut [Cell; 2],
     second: &mut [Cell; 2],
@@ -269,7 +237,7 @@ fn read_file(
         second,
         third,
     );
-    close_input(&mut desk, part);
+    close_input(&mut *desk, part);
     Ok(gave)
 }
 
@@ -396,8 +364,8 @@ fn an_input_of_null_packets_ends(rt: HostRuntime) -> Result<(), Fail> {
     let mut first = [Cell::Dropped; 2];
     let mut second = [Cell::Dropped; 2];
     let mut third = [Cell::Dropped; 2];
-    let mut desk = desk(rt.alloc(), 0, 0, 0)?;
     let room = IoBuffer::new(rt.alloc(), 1)?;
+    let mut desk = desk(rt.alloc(), 0, 0, 0)?;
     let (part, gave) = gives_and_ends::<MemorySource, MemorySink, StopsAt>(
         InputPart::Nulls(1),
         0,
@@ -406,7 +374,7 @@ fn an_input_of_null_packets_ends(rt: HostRuntime) -> Result<(), Fail> {
         &mut second,
         &mut third,
     );
-    assert_eq!(rt; close_input(&mut desk, part), Some(1));
+    assert_eq!(rt; close_input(&mut *desk, part), Some(1));
     did(&rt, gave.first, 1, Some(PLAIN_END));
     assert!(rt; gave.second.is_none());
     assert_eq!(rt; pid(&first[0]), Some(8191));
@@ -419,8 +387,8 @@ fn an_input_of_generated_packets_ends(rt: HostRuntime) -> Result<(), Fail> {
     let mut first = [Cell::Dropped; 2];
     let mut second = [Cell::Dropped; 2];
     let mut third = [Cell::Dropped; 2];
-    let mut desk = desk(rt.alloc(), 0, 0, 0)?;
     let room = IoBuffer::new(rt.alloc(), 1)?;
+    let mut desk = desk(rt.alloc(), 0, 0, 0)?;
     let generator = TestGen::new(rt.alloc(), 1)?;
     let (part, gave) = gives_and_ends::<MemorySource, MemorySink, StopsAt>(
         InputPart::Generated {
@@ -433,7 +401,7 @@ fn an_input_of_generated_packets_ends(rt: HostRuntime) -> Result<(), Fail> {
         &mut second,
         &mut third,
     );
-    assert_eq!(rt; close_input(&mut desk, part), Some(3));
+    assert_eq!(rt; close_input(&mut *desk, part), Some(3));
     did(&rt, gave.first, 2, None);
     did_then(&rt, gave.second, 1, Some(PLAIN_END));
     assert_eq!(rt; pid(&first[0]), Some(0));
@@ -489,8 +457,8 @@ fn writes<S: Source, K: Sink, P: Plugin>(
 
 /// Writes four cells, and tells how many bytes the sink took. A write of this number fails.
 fn written(alloc: Global, limit: Option<u64>, write: u64) -> Result<(usize, Work), Fail> {
-    let mut desk = desk(alloc, 0, 0, write)?;
     let room = IoBuffer::new(alloc, 4)?;
+    let mut desk = desk(alloc, 0, 0, write)?;
     let sink = match desk.open_out(None) {
         Ok(sink) => sink,
         Err(_) => return Err("no sink".into()),
@@ -500,7 +468,7 @@ fn written(alloc: Global, limit: Option<u64>, write: u64) -> Result<(usize, Work
         room,
         limit,
     );
-    close_output(&mut desk, part);
+    close_output(&mut *desk, part);
     match desk.output(0) {
         Some((_, bytes)) => Ok((bytes.len(), work)),
         None => Err("no output".into()),
@@ -534,10 +502,10 @@ fn a_write_fails_within_a_packet(rt: HostRuntime) -> Result<(), Fail> {
 
 #[test]
 fn a_discarding_output_counts_cells(rt: HostRuntime) -> Result<(), Fail> {
-    let mut desk = desk(rt.alloc(), 0, 0, 0)?;
     let room = IoBuffer::new(rt.alloc(), 1)?;
+    let mut desk = desk(rt.alloc(), 0, 0, 0)?;
     let (part, work) = writes::<MemorySource, MemorySink, StopsAt>(OutputPart::Discard, room, None);
-    assert!(rt; !close_output(&mut desk, part));
+    assert!(rt; !close_output(&mut *desk, part));
     did(&rt, work, 4, None);
     Ok(())
 }

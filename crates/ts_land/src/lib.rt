@@ -5,8 +5,6 @@
 mod owner;
 mod slot;
 mod span;
-#[cfg(test)]
-mod tests;
 mod window;
 
 pub use slot::Slot;

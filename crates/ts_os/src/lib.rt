@@ -11,6 +11,3 @@ mod os_source;
 pub use os_desk::OsDesk;
 pub use os_sink::OsSink;
 pub use os_source::OsSource;
-
-#[cfg(test)]
-mod tests;

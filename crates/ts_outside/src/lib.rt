@@ -47,8 +47,3 @@ pub use steady_desk::SteadyDesk;
 pub use steady_sink::SteadySink;
 pub use steady_source::SteadySource;
 pub use wholes::{CutShort, report_whole, write_whole};
-
-#[cfg(test)]
-mod callers;
-#[cfg(test)]
-mod tests;

@@ -13,8 +13,6 @@ mod rows;
 mod rule;
 mod stage_seat;
 mod state;
-#[cfg(test)]
-mod tests;
 mod view;
 mod visited;
 

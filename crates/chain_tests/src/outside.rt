@@ -1,9 +1,12 @@
 ghost use Rattle.std.specs.Prelude.{◌≡◌, IfOk};
 
-use super::*;
 use crate::callers::{CopyEnd, copy};
 use std::alloc::{AllocError, Global};
 use std::test::Fail;
+use ts_outside::{
+    Desk, FailPlan, FileBytes, FileFault, FileList, Gate, MemoryDesk, NameText, NumberList,
+    OpenGate, SteadyDesk, read_to_end,
+};
 
 // The one call that fails: its kind, and its number.
 #[derive(Clone, Copy)]
@@ -38,24 +41,39 @@ fn files(alloc: Global) -> Result<FileList, AllocError> {
     Ok(FileList::of(files))
 }
 
+// The number of the call that fails, counted from 1; 0 where none does.
+fn number_of(fails: Fails) -> u64 {
+    match fails {
+        Fails::Never => 0,
+        Fails::Open(number) => number,
+        Fails::Read(number) => number,
+        Fails::Write(number) => number,
+        Fails::Report(number) => number,
+        Fails::Close(number) => number,
+    }
+}
+
 // A plan by which a desk reads at most 100 bytes in a call and writes at most 70.
 fn plan(alloc: Global, fails: Fails, room: usize) -> Result<FailPlan, AllocError>
     ensures { IfOk result (λ p. (p.read_piece ≡ 100) × (p.write_piece ≡ 70)) }
 {
+    let list = numbers(alloc, &[number_of(fails)])?;
     let mut plan = FailPlan::none(alloc, 100, 70, room);
     match fails {
         Fails::Never => {}
-        Fails::Open(number) => plan.opens = numbers(alloc, &[number])?,
-        Fails::Read(number) => plan.reads = numbers(alloc, &[number])?,
-        Fails::Write(number) => plan.writes = numbers(alloc, &[number])?,
-        Fails::Report(number) => plan.reports = numbers(alloc, &[number])?,
-        Fails::Close(number) => plan.closes = numbers(alloc, &[number])?,
+        Fails::Open(_) => plan.opens = list,
+        Fails::Read(_) => plan.reads = list,
+        Fails::Write(_) => plan.writes = list,
+        Fails::Report(_) => plan.reports = list,
+        Fails::Close(_) => plan.closes = list,
     }
     Ok(plan)
 }
 
-fn planned(alloc: Global, fails: Fails, room: usize) -> Result<MemoryDesk, AllocError> {
-    MemoryDesk::new(alloc, files(alloc)?, plan(alloc, fails, room)?)
+fn planned(alloc: Global, fails: Fails, room: usize) -> Result<Box<MemoryDesk>, AllocError> {
+    let files = files(alloc)?;
+    let plan = plan(alloc, fails, room)?;
+    Ok(Box::new(alloc, MemoryDesk::new(alloc, files, plan)?)?)
 }
 
 // Copies a file, and says of it no more than its end.
@@ -95,15 +113,15 @@ fn row(fails: Fails, room: usize, end: CopyEnd, outputs: usize, bytes: usize) ->
 // Whether a copy ends as its row says.
 fn holds(alloc: Global, row: &CopyRow) -> Result<bool, AllocError> {
     let mut desk = planned(alloc, row.fails, row.room)?;
-    let end = copied(&mut desk, "long", Some("to"));
+    let end = copied(&mut *desk, "long", Some("to"));
     Ok(end == row.end && desk.output_count() == row.outputs && output_len(&desk, 0) == row.bytes)
 }
 
 #[test]
 fn a_copy_is_told(rt: HostRuntime) -> Result<(), Fail> {
     let mut desk = planned(rt.alloc(), Fails::Never, 1000)?;
-    assert_eq!(rt; copied(&mut desk, "long", None), CopyEnd::Done);
-    assert_eq!(rt; copied(&mut desk, "unknown", Some("to")), CopyEnd::Done);
+    assert_eq!(rt; copied(&mut *desk, "long", None), CopyEnd::Done);
+    assert_eq!(rt; copied(&mut *desk, "unknown", Some("to")), CopyEnd::Done);
     assert_eq!(rt; desk.asked_count(), 4);
     assert_eq!(rt; desk.reported(), b"donedone".as_slice());
     assert_eq!(rt; desk.output_count(), 2);
@@ -116,7 +134,7 @@ fn a_copy_is_told(rt: HostRuntime) -> Result<(), Fail> {
 #[test]
 fn an_output_has_its_name(rt: HostRuntime) -> Result<(), Fail> {
     let mut desk = planned(rt.alloc(), Fails::Never, 1000)?;
-    assert_eq!(rt; copied(&mut desk, "short", Some("to")), CopyEnd::Done);
+    assert_eq!(rt; copied(&mut *desk, "short", Some("to")), CopyEnd::Done);
     let (name, bytes) = desk.output(0).ok_or("no output")?;
     assert_eq!(rt; name, "to");
     assert_eq!(rt; bytes, [7, 7, 7, 7, 7].as_slice());
@@ -152,10 +170,10 @@ fn read<D: Desk>(desk: &mut D, name: Option<&str>, most: usize) -> Result<usize,
 #[test]
 fn files_are_read_whole(rt: HostRuntime) -> Result<(), Fail> {
     let mut desk = planned(rt.alloc(), Fails::Open(3), 1000)?;
-    assert_eq!(rt; read(&mut desk, Some("short"), 5), Ok(5));
-    assert_eq!(rt; read(&mut desk, Some("short"), 4), Err(FileFault::TooMany));
-    assert_eq!(rt; read(&mut desk, Some("short"), 5), Err(FileFault::Failed));
-    assert_eq!(rt; read(&mut desk, None, 0), Ok(0));
+    assert_eq!(rt; read(&mut *desk, Some("short"), 5), Ok(5));
+    assert_eq!(rt; read(&mut *desk, Some("short"), 4), Err(FileFault::TooMany));
+    assert_eq!(rt; read(&mut *desk, Some("short"), 5), Err(FileFault::Failed));
+    assert_eq!(rt; read(&mut *desk, None, 0), Ok(0));
     assert_eq!(rt; desk.asked_count(), 4);
     Ok(())
 }
@@ -202,7 +220,7 @@ fn crossed<D: Desk>(
 fn sources_and_sinks_may_cross_threads(rt: HostRuntime) -> Result<(), Fail> {
     let alloc = rt.alloc();
     let mut desk = planned(alloc, Fails::Never, 1000)?;
-    assert_eq!(rt; crossed(alloc, &mut desk, "short", 5), Ok(5));
+    assert_eq!(rt; crossed(alloc, &mut *desk, "short", 5), Ok(5));
     let mut steady = SteadyDesk::new(alloc, files(alloc)?)?;
     assert_eq!(rt;
         crossed(alloc, &mut steady, "long", 399),

@@ -1,6 +1,6 @@
 use Rattle.std.proofs.Common.{◌-◌, ◌≡◌, ◌≤◌, take}
 use Rattle.ts_outside.specs.Source.{unread}
-use Rattle.ts_outside.proofs.callers.read_packet.Given as goal
+use Rattle.chain_tests.proofs.callers.read_packet.Given as goal
 
 abbrev pub invariant-loop-have : goal.invariant-loop-have
 invariant-loop-have g l = record {

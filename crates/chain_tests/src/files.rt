@@ -1,6 +1,6 @@
-use super::*;
 use std::test::Fail;
 use std::{env, fs, process};
+use ts_os::OsDesk;
 use ts_outside::{Desk, Failed, FileFault, OpenFault, Sink, Source, write_whole};
 
 // Why a name does not open as an input; `None` where it does.

@@ -1,27 +1,13 @@
 //! A plain driver over lists of visits, and rows of joint termination, ends and faults.
 
-ghost use Rattle.std.specs.Prelude.{◌≡◌, ◌⊎◌, ◌≤◌, ◌<◌, ◌+◌, ℕ, [], ◌∷◌, All, IsTrue};
-ghost use Rattle.chain_core.specs.declared.stage_end.StageEnd.TheVariants.{Followed};
+ghost use Rattle.std.specs.Prelude.{◌≡◌, ◌⊎◌, ◌≤◌, ◌<◌, ◌+◌, ℕ, [], ◌∷◌, All, IsTrue, IfOk};
 ghost use Rattle.chain_core.specs.Stages.{stages_of};
-ghost use Rattle.chain_core.specs.Numbers.{IsAgreement, MayVisit};
-ghost use Rattle.chain_core.specs.ChainRun.{AllEnded};
-ghost use Rattle.chain_core.specs.CoreNumbers.{progress_of_core};
 
-use crate::limit::limit_of;
-use crate::{
-    Cause, Closed, Core, CorePlan, InputEnd, News, Progress, Reason, StageEnd, StageSet, StageWord,
-};
+use crate::driver::{Driver, Step};
+use chain_core::{Cause, Closed, CorePlan, InputEnd, News, Reason, StageEnd, StageSet, StageWord};
 use std::alloc::{AllocError, Global};
 use std::process::Abort;
 use std::test::Fail;
-
-/// A visit: so many cells are given, and a word is told.
-#[derive(Clone, Copy)]
-struct Step {
-    stage: usize,
-    done: usize,
-    word: StageWord,
-}
 
 fn gives(stage: usize, done: usize) -> Step {
     let word = StageWord {
@@ -47,81 +33,6 @@ fn ends(stage: usize, done: usize, end: StageEnd) -> Step {
     Step { stage, done, word }
 }
 
-/// Whether the core allows the visit.
-fn allows(core: &Core, step: Step) -> bool
-    ensures { IsTrue result → MayVisit core.now.plan (progress_of_core core.now) core.now.told step.stage step.done step.word }
-{
-    if step.stage > core.plan.plugins + 1 {
-        return false;
-    }
-    let limit = limit_of(core.plan.users, &core.progress);
-    let news = core.news(step.stage, limit);
-    let progress = core.progress[step.stage];
-    if progress.ended.is_some() || !holds(progress, step.done) {
-        return false;
-    }
-    let now = progress.given + step.done as u64;
-    let is_output = step.stage == core.plan.plugins + 1;
-    is_agreement(step.word.agreed, progress.given, now)
-        && is_below(is_output, core.told, step.done, now)
-        && may_follow(step.word.ended, &news, now)
-}
-
-fn holds(progress: Progress, done: usize) -> bool
-    ensures { IsTrue result → progress.given + done ≤ progress.taken }
-{
-    progress.given <= progress.taken && done as u64 <= progress.taken - progress.given
-}
-
-fn is_agreement(agreed: Option<u64>, before: u64, now: u64) -> bool
-    ensures { IsTrue result → (n : ℕ) → agreed ≡ Some n → IsAgreement before now n }
-{
-    match agreed {
-        Some(n) => (before < n && n <= now) || n == now,
-        None => true,
-    }
-}
-
-fn is_below(is_output: bool, told: Option<u64>, done: usize, now: u64) -> bool
-    ensures { IsTrue result → IsTrue is_output → (limit : ℕ) → told ≡ Some limit → 0 < done → now ≤ limit }
-{
-    match told {
-        Some(limit) => !is_output || done == 0 || now <= limit,
-        None => true,
-    }
-}
-
-fn may_follow(ended: Option<StageEnd>, news: &News, now: u64) -> bool
-    ensures { IsTrue result → ended ≡ Some Followed
-        → IsTrue news.now.before_over
-        ⊎ (IsTrue news.now.after_over ⊎ ((limit : ℕ) × (news.now.limit ≡ Some limit) × (limit ≤ now))) }
-{
-    match ended {
-        Some(StageEnd::Followed) => {
-            news.before_over || news.after_over || reaches(news.limit, now)
-        }
-        _ => true,
-    }
-}
-
-fn reaches(limit: Option<u64>, now: u64) -> bool
-    ensures { IsTrue result → (n : ℕ) × (limit ≡ Some n) × (n ≤ now) }
-{
-    match limit {
-        Some(n) => n <= now,
-        None => false,
-    }
-}
-
-fn all_ended(core: &Core) -> bool
-    ensures { IsTrue result → AllEnded core.now.plan (progress_of_core core.now) }
-{
-    let _ = &core.plan;
-    core.progress
-        .iter()
-        .all(|progress| progress.ended.is_some())
-}
-
 /// Runs a core of two plugins over the visits, and compares its close.
 fn row(
     rt: &impl Abort,
@@ -139,13 +50,12 @@ fn row(
         most: 8,
         users,
     };
-    let mut core = Core::new(alloc, &plan)?;
+    let mut driver = Driver::new(alloc, &plan)?;
     for step in steps {
-        assert!(rt; allows(&core, *step), "a visit of stage {}", step.stage);
-        let _ = core.visit(step.stage, step.done, step.word);
+        let _ = told(rt, &mut driver, *step);
     }
-    assert!(rt; all_ended(&core));
-    assert_eq!(rt; core.close(), Closed { cut, cause });
+    assert!(rt; driver.all_ended());
+    assert_eq!(rt; driver.close(), Closed { cut, cause });
     Ok(())
 }
 
@@ -507,32 +417,35 @@ fn news_of_visits(rt: HostRuntime) -> Result<(), Fail> {
         most: 6,
         users: both_plugins(),
     };
-    let mut core = Core::new(rt.alloc(), &plan)?;
+    let mut driver = Driver::new(rt.alloc(), &plan)?;
     // Before anything was written eight cells may be made, six with a visit.
-    assert_eq!(rt; told(&rt, &mut core, gives(0, 0)), news(6, None, 0));
-    assert_eq!(rt; told(&rt, &mut core, gives(0, 6)), news(8, None, 0));
-    assert_eq!(rt; told(&rt, &mut core, gives(1, 0)), news(6, None, 0));
-    assert_eq!(rt; told(&rt, &mut core, agrees(1, 6, 5)), news(6, None, 0));
-    assert_eq!(rt; told(&rt, &mut core, gives(2, 0)), news(6, None, 0));
-    assert_eq!(rt; told(&rt, &mut core, agrees(2, 4, 3)), news(6, Some(5), 0));
-    assert_eq!(rt; told(&rt, &mut core, gives(3, 0)), news(4, Some(5), 0));
-    assert_eq!(rt; told(&rt, &mut core, gives(3, 4)), news(4, Some(5), 4));
-    assert_eq!(rt; told(&rt, &mut core, gives(0, 2)), news(12, Some(5), 4));
+    assert_eq!(rt; told(&rt, &mut driver, gives(0, 0)), news(6, None, 0));
+    assert_eq!(rt; told(&rt, &mut driver, gives(0, 6)), news(8, None, 0));
+    assert_eq!(rt; told(&rt, &mut driver, gives(1, 0)), news(6, None, 0));
+    assert_eq!(rt; told(&rt, &mut driver, agrees(1, 6, 5)), news(6, None, 0));
+    assert_eq!(rt; told(&rt, &mut driver, gives(2, 0)), news(6, None, 0));
+    assert_eq!(rt;
+        told(&rt, &mut driver, agrees(2, 4, 3)),
+        news(6, Some(5), 0)
+    );
+    assert_eq!(rt; told(&rt, &mut driver, gives(3, 0)), news(4, Some(5), 0));
+    assert_eq!(rt; told(&rt, &mut driver, gives(3, 4)), news(4, Some(5), 4));
+    assert_eq!(rt; told(&rt, &mut driver, gives(0, 2)), news(12, Some(5), 4));
     // The output ends; the plugin before it is told.
-    let _ = told(&rt, &mut core, ends(3, 0, StageEnd::WriteFault));
-    let over = told(&rt, &mut core, gives(2, 2));
+    let _ = told(&rt, &mut driver, ends(3, 0, StageEnd::WriteFault));
+    let over = told(&rt, &mut driver, gives(2, 2));
     assert!(rt; over.after_over);
     assert!(rt; !over.before_over);
-    let _ = told(&rt, &mut core, ends(1, 0, FOLLOWED));
-    let over = told(&rt, &mut core, gives(2, 0));
+    let _ = told(&rt, &mut driver, ends(1, 0, FOLLOWED));
+    let over = told(&rt, &mut driver, gives(2, 0));
     assert!(rt; over.before_over);
     Ok(())
 }
 
 /// The news of an allowed visit.
-fn told(rt: &impl Abort, core: &mut Core, step: Step) -> News {
-    assert!(rt; allows(core, step), "a visit of stage {}", step.stage);
-    core.visit(step.stage, step.done, step.word)
+fn told(rt: &impl Abort, driver: &mut Driver, step: Step) -> News {
+    assert!(rt; driver.allows(step), "a visit of stage {}", step.stage);
+    driver.visit(step)
 }
 
 fn news(taken: u64, limit: Option<u64>, written: u64) -> News {

@@ -9,14 +9,10 @@ ghost use Rattle.ts_outside.specs.Told.{grown};
 ghost use Rattle.ts_outside.specs.declared.requests.Purpose.TheVariants.{Input, Output};
 ghost use Rattle.ts_outside.specs.Desk.{file_of, stream_name};
 
-use crate::desks::Desk;
-use crate::faults::{Failed, OpenFault};
-use crate::sinks::Sink;
-use crate::sources::Source;
-use crate::wholes::{CutShort, report_whole, write_whole};
+use ts_outside::{CutShort, Desk, Failed, OpenFault, Sink, Source, report_whole, write_whole};
 
 // Reads one packet in as many calls as the source wants. Fewer than 188 bytes mean that the source has ended.
-#[tactic(auto, using(crate::proofs::Views::views))]
+#[tactic(auto, using(ts_outside::proofs::Views::views))]
 fn read_packet<S: Source>(source: &mut S, packet: &mut [u8; 188]) -> Result<usize, CutShort>
     ensures within { IfOk result (λ n. n ≤ 188) }
     ensures moved { IfOk result (λ n. S.seen source.old ≡ unread (take n packet.new) (S.seen source.new)) }
@@ -45,7 +41,7 @@ pub(crate) enum CopyEnd {
 }
 
 // Copies whole packets until the source ends, and the bytes behind the last one too.
-#[tactic(auto, using(crate::proofs::Views::views))]
+#[tactic(auto, using(ts_outside::proofs::Views::views))]
 fn pump<S: Source, K: Sink>(source: &mut S, sink: &mut K) -> Result<bool, CutShort>
     ensures moved { OnOk result ((bytes : List ℕ)
         × (S.seen source.old ≡ unread bytes (S.seen source.new))
@@ -64,7 +60,7 @@ fn pump<S: Source, K: Sink>(source: &mut S, sink: &mut K) -> Result<bool, CutSho
 }
 
 // Copies a file and reports it.
-#[tactic(auto, using(crate::proofs::Views::views))]
+#[tactic(auto, using(ts_outside::proofs::Views::views))]
 pub(crate) fn copy<D: Desk>(desk: &mut D, from: Option<&str>, to: Option<&str>) -> CopyEnd
     ensures written { let old = D.seen desk.old in
         result ≡ CopyEnd.Done → IfSome old.files (λ files. IfSome old.outputs (λ outputs.

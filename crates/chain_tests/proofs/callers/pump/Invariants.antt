@@ -1,7 +1,7 @@
 use Rattle.std.proofs.Common.{◌≡◌, List, ℕ}
 use Rattle.ts_outside.specs.Source.{unread}
 use Rattle.ts_outside.specs.Sink.{took}
-use Rattle.ts_outside.proofs.callers.pump.Given as goal
+use Rattle.chain_tests.proofs.callers.pump.Given as goal
 
 abbrev pub invariant-loop : goal.invariant-loop
 invariant-loop g l =

@@ -1,4 +1,6 @@
-use crate::land;
+//! A block of values that is cut and joined.
+
+use ts_land::land;
 
 #[test]
 fn cuts_and_joins(rt: HostRuntime) {
