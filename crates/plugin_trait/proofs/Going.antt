@@ -1,6 +1,6 @@
 -- A plugin half way through a list: what was made stands in front of what the rule makes of the rest.
-use Rattle.std.proofs.Common.{◌≡◌, ℕ, ◌+◌, ◌<◌, List, [], ◌∷◌, ◌++◌, length, take, drop, get_or, set, ap, sym, subst, ◌∙◌, ◌⊎◌, inl, inr, append_assoc, append-nil, add-zero, drop-drop, arith, Some}
-use Rattle.std.proofs.lemmas.List.{drop_more, take_more, take_more_set, take-set, get_or-drop, drop-set-lt}
+use Rattle.std.proofs.Common.{◌≡◌, ℕ, ◌+◌, ◌<◌, List, [], ◌∷◌, ◌++◌, length, take, drop, get_or, set, ap, sym, subst, ◌∙◌, ◌⊎◌, inl, inr, append_assoc, append-nil, add-zero, drop-drop, arith, None, Some, ◌≤◌}
+use Rattle.std.proofs.lemmas.List.{drop_all, drop_more, set-get_or, take_more, take_more_set, take-set, get_or-drop, drop-set-lt}
 use Rattle.ts_packet.specs.declared.cell.Cell.{Cell}
 use Rattle.plugin_trait.specs.declared.outcome.Outcome.{Outcome}
 use Rattle.plugin_trait.specs.declared.outcome.Outcome.TheVariants.{Pass, Drop}
@@ -92,3 +92,16 @@ same_behind xs ys i left same =
 -- the cell at a place, read in the one list, is that of the other
 pub read_at : (xs ys : List Cell) (i : ℕ) (d : Cell) → d ≡ get_or xs i d → drop i xs ≡ drop i ys → get_or ys i (get_or xs i d) ≡ get_or xs i d
 read_at xs ys i d is same = ap (λ (e : Cell). get_or ys i e) (sym is) ∙ sym (same_at xs ys i d same)
+
+-- and from that place on nothing is changed where what stood there is put back
+pub left_as_it_was : (xs ys : List Cell) (i : ℕ) (d left : Cell) → left ≡ get_or xs i d → drop i xs ≡ drop i ys → drop i (set xs i left) ≡ drop i ys
+left_as_it_was xs ys i d left back same = ap (λ (x : Cell). drop i (set xs i x)) back ∙ (ap (drop i) (set-get_or xs i d) ∙ same)
+
+-- a list that was gone through to its end
+pub half_through : (rule : PluginRule) (history given made : List Cell) (i : ℕ) (all : StageList) → length given ≤ i → length made ≡ length given → i ≤ length given
+    → all ≡ behind (take i made) (apply_after rule (history ++ take i given) (drop i given))
+    → (take (length made) made ≡ all.cells) × (all.ended ≡ None)
+half_through rule history given made i all past same within half =
+    let known = half ∙ ap (λ (rest : List Cell). behind (take i made) (apply_after rule (history ++ take i given) rest)) (drop_all i given past) in
+    let whole : take (length made) made ≡ take i made = ap (λ (n : ℕ). take n made) (omega arith) in
+    (whole ∙ sym (ap (λ (s : StageList). s.cells) known ∙ append-nil (take i made)), ap (λ (s : StageList). s.ended) known)

@@ -2,13 +2,13 @@ use Rattle.std.proofs.Common.{◌≡◌, ℕ, Bool, ◌<◌, ◌+◌, ◌-◌, L
 use Rattle.std.proofs.lemmas.List.{take-set}
 use Rattle.ts_packet.specs.declared.cell.Cell.{Cell}
 use Rattle.chain_model.specs.PluginRule.{PluginRule}
-use Rattle.chain_model.specs.Apply.{StageList, became, apply_after}
+use Rattle.chain_model.specs.Apply.{StageList, became, apply_after, refused, stopped}
 use Rattle.chain_model.specs.Joint.{agreement_of}
 use Rattle.chain_model.proofs.AgreementLaws.{agreement_of-within}
 use Rattle.plugin_trait.specs.Driving.{AgreesNow}
 use Rattle.plugin_trait.specs.Steps.{StepTells, HasRoom, IsSteadyFor}
-use Rattle.plugin_trait.proofs.Going.{half_goes_on, met-more, met_goes_on, tells_goes_on, read_at, same_behind}
-use Rattle.plugin_trait.proofs.FarLemmas.{far_goes_on, far_ends_after}
+use Rattle.plugin_trait.proofs.Going.{half_ends_after, half_ends_before, half_goes_on, half_through, left_as_it_was, met-more, met_goes_on, tells_goes_on, read_at, same_behind}
+use Rattle.plugin_trait.proofs.FarLemmas.{far_as_before, far_goes_on, far_ends_after}
 use Rattle.plugin_trait.proofs.AgreeingLemmas.{agreed_step, newly_agreed-within}
 use Rattle.plugin_trait.proofs.plugin.Plugin.steps.Goals as goal
 
@@ -147,3 +147,125 @@ returns-in-NoMemory-clause-room g c = λ has.
     let steady = subst (λ (s : Option ℕ). IsSteadyFor s (c.args.at + length cells - has.mark)) (sym c.loop-i.invariant.same_steady) has.within in
     absurd (c.step.ensures.room (room_at (g.Self.Plugin.steady c.loop-i.self) (g.Self.Plugin.stands_for c.loop-i.self) (has.history ++ take i cells) has.mark (c.args.at + i)
     (c.args.at + length cells) stands n (omega (arith, c.loop-i-test.true)) steady) c.in-NoMemory.is)
+
+pub returns-in-Last-clause-makes : goal.returns-in-Last-clause-makes
+returns-in-Last-clause-makes g c = λ history mark holds count.
+    let rule : PluginRule = g.Self.Plugin.rule c.args.self.now in
+    let cells : List Cell = c.args.cells.now in
+    let i : ℕ = c.loop-i.i in
+    let cell : Cell = get_or c.loop-i.cells i c.index-cells-i.result in
+    let is = read_at c.loop-i.cells cells i c.index-cells-i.result c.index-cells-i.is c.loop-i.invariant.rest in
+    let before = history ++ take i cells in
+    let n = met_count history cells i c.args.at count c.loop-i-test.true in
+    let told = c.in-Last.ensures.tells before mark (c.loop-i.invariant.met history mark holds count) n in
+    let fate = ap (λ (r : PluginRule). became r before cell) (sym c.loop-i.invariant.same_rule) ∙ told in
+    half_ends_after rule history cells c.loop-i.cells i cell (apply_after rule history cells) c.loop-i-test.true is
+    (c.loop-i.invariant.made history mark holds count) c.step.new.cell (omega arith) fate
+
+pub returns-in-Stop-clause-makes : goal.returns-in-Stop-clause-makes
+returns-in-Stop-clause-makes g c = λ history mark holds count.
+    let rule : PluginRule = g.Self.Plugin.rule c.args.self.now in
+    let cells : List Cell = c.args.cells.now in
+    let i : ℕ = c.loop-i.i in
+    let cell : Cell = get_or c.loop-i.cells i c.index-cells-i.result in
+    let is = read_at c.loop-i.cells cells i c.index-cells-i.result c.index-cells-i.is c.loop-i.invariant.rest in
+    let before = history ++ take i cells in
+    let n = met_count history cells i c.args.at count c.loop-i-test.true in
+    let told = c.in-Stop.ensures.tells before mark (c.loop-i.invariant.met history mark holds count) n in
+    let fate = ap (λ (r : PluginRule). became r before cell) (sym c.loop-i.invariant.same_rule) ∙ told.0 in
+    half_ends_before rule history cells c.loop-i.cells i cell (apply_after rule history cells) c.loop-i-test.true is
+    (c.loop-i.invariant.made history mark holds count) stopped c.step.new.cell fate
+
+pub returns-in-Refuse-clause-makes : goal.returns-in-Refuse-clause-makes
+returns-in-Refuse-clause-makes g c = λ history mark holds count.
+    let rule : PluginRule = g.Self.Plugin.rule c.args.self.now in
+    let cells : List Cell = c.args.cells.now in
+    let i : ℕ = c.loop-i.i in
+    let cell : Cell = get_or c.loop-i.cells i c.index-cells-i.result in
+    let is = read_at c.loop-i.cells cells i c.index-cells-i.result c.index-cells-i.is c.loop-i.invariant.rest in
+    let before = history ++ take i cells in
+    let n = met_count history cells i c.args.at count c.loop-i-test.true in
+    let told = c.in-Refuse.ensures.tells before mark (c.loop-i.invariant.met history mark holds count) n in
+    let fate = ap (λ (r : PluginRule). became r before cell) (sym c.loop-i.invariant.same_rule) ∙ told.0 in
+    half_ends_before rule history cells c.loop-i.cells i cell (apply_after rule history cells) c.loop-i-test.true is
+    (c.loop-i.invariant.made history mark holds count) (refused c.in-Refuse.reason) c.step.new.cell fate
+
+pub returns-in-Stop-clause-rest : goal.returns-in-Stop-clause-rest
+returns-in-Stop-clause-rest g c =
+    let met = c.requires.met in
+    let n = met_count met.history c.args.cells.now c.loop-i.i c.args.at met.count c.loop-i-test.true in
+    let stands = c.loop-i.invariant.met met.history met.mark met.holds met.count in
+    let told = c.in-Stop.ensures.tells (met.history ++ take c.loop-i.i c.args.cells.now) met.mark stands n in
+    left_as_it_was c.loop-i.cells c.args.cells.now c.loop-i.i c.index-cells-i.result c.step.new.cell told.1 c.loop-i.invariant.rest
+
+pub returns-in-Stop-clause-far : goal.returns-in-Stop-clause-far
+returns-in-Stop-clause-far g c = λ history mark holds count.
+    let rule : PluginRule = g.Self.Plugin.rule c.args.self.now in
+    let cells : List Cell = c.args.cells.now in
+    let i : ℕ = c.loop-i.i in
+    let cell : Cell = get_or c.loop-i.cells i c.index-cells-i.result in
+    far_as_before (g.Self.Plugin.rule c.args.self.now) history cells c.loop-i.cells i cell c.step.new.cell c.loop-i-test.true (omega arith)
+    (read_at c.loop-i.cells cells i c.index-cells-i.result c.index-cells-i.is c.loop-i.invariant.rest) (c.loop-i.invariant.far history mark holds count)
+
+pub returns-in-Stop-clause-met : goal.returns-in-Stop-clause-met
+returns-in-Stop-clause-met g c = λ history mark holds count.
+    c.in-Stop.ensures.meets (history ++ take c.loop-i.i c.args.cells.now) mark (c.loop-i.invariant.met history mark holds count)
+    (met_count history c.args.cells.now c.loop-i.i c.args.at count c.loop-i-test.true)
+
+pub returns-in-Stop-clause-agreed : goal.returns-in-Stop-clause-agreed
+returns-in-Stop-clause-agreed g c = c.loop-i.invariant.agreed
+
+pub returns-in-Refuse-clause-rest : goal.returns-in-Refuse-clause-rest
+returns-in-Refuse-clause-rest g c =
+    let met = c.requires.met in
+    let n = met_count met.history c.args.cells.now c.loop-i.i c.args.at met.count c.loop-i-test.true in
+    let stands = c.loop-i.invariant.met met.history met.mark met.holds met.count in
+    let told = c.in-Refuse.ensures.tells (met.history ++ take c.loop-i.i c.args.cells.now) met.mark stands n in
+    left_as_it_was c.loop-i.cells c.args.cells.now c.loop-i.i c.index-cells-i.result c.step.new.cell told.1 c.loop-i.invariant.rest
+
+pub returns-in-Refuse-clause-far : goal.returns-in-Refuse-clause-far
+returns-in-Refuse-clause-far g c = λ history mark holds count.
+    let rule : PluginRule = g.Self.Plugin.rule c.args.self.now in
+    let cells : List Cell = c.args.cells.now in
+    let i : ℕ = c.loop-i.i in
+    let cell : Cell = get_or c.loop-i.cells i c.index-cells-i.result in
+    far_as_before (g.Self.Plugin.rule c.args.self.now) history cells c.loop-i.cells i cell c.step.new.cell c.loop-i-test.true (omega arith)
+    (read_at c.loop-i.cells cells i c.index-cells-i.result c.index-cells-i.is c.loop-i.invariant.rest) (c.loop-i.invariant.far history mark holds count)
+
+pub returns-in-Refuse-clause-met : goal.returns-in-Refuse-clause-met
+returns-in-Refuse-clause-met g c = λ history mark holds count.
+    c.in-Refuse.ensures.meets (history ++ take c.loop-i.i c.args.cells.now) mark (c.loop-i.invariant.met history mark holds count)
+    (met_count history c.args.cells.now c.loop-i.i c.args.at count c.loop-i-test.true)
+
+pub returns-in-Refuse-clause-agreed : goal.returns-in-Refuse-clause-agreed
+returns-in-Refuse-clause-agreed g c = c.loop-i.invariant.agreed
+
+pub returns-in-NoMemory-clause-rest : goal.returns-in-NoMemory-clause-rest
+returns-in-NoMemory-clause-rest g c =
+    let met = c.requires.met in
+    let n = met_count met.history c.args.cells.now c.loop-i.i c.args.at met.count c.loop-i-test.true in
+    let stands = c.loop-i.invariant.met met.history met.mark met.holds met.count in
+    let told = c.in-NoMemory.ensures.tells (met.history ++ take c.loop-i.i c.args.cells.now) met.mark stands n in
+    left_as_it_was c.loop-i.cells c.args.cells.now c.loop-i.i c.index-cells-i.result c.step.new.cell told c.loop-i.invariant.rest
+
+pub returns-in-NoMemory-clause-far : goal.returns-in-NoMemory-clause-far
+returns-in-NoMemory-clause-far g c = λ history mark holds count.
+    let rule : PluginRule = g.Self.Plugin.rule c.args.self.now in
+    let cells : List Cell = c.args.cells.now in
+    let i : ℕ = c.loop-i.i in
+    let cell : Cell = get_or c.loop-i.cells i c.index-cells-i.result in
+    far_as_before (g.Self.Plugin.rule c.args.self.now) history cells c.loop-i.cells i cell c.step.new.cell c.loop-i-test.true (omega arith)
+    (read_at c.loop-i.cells cells i c.index-cells-i.result c.index-cells-i.is c.loop-i.invariant.rest) (c.loop-i.invariant.far history mark holds count)
+
+pub returns-in-NoMemory-clause-met : goal.returns-in-NoMemory-clause-met
+returns-in-NoMemory-clause-met g c = λ history mark holds count.
+    c.in-NoMemory.ensures.meets (history ++ take c.loop-i.i c.args.cells.now) mark (c.loop-i.invariant.met history mark holds count)
+    (met_count history c.args.cells.now c.loop-i.i c.args.at count c.loop-i-test.true)
+
+pub returns-in-NoMemory-clause-agreed : goal.returns-in-NoMemory-clause-agreed
+returns-in-NoMemory-clause-agreed g c = c.loop-i.invariant.agreed
+
+pub returns-clause-makes : goal.returns-clause-makes
+returns-clause-makes g c = λ history mark holds count.
+    half_through (g.Self.Plugin.rule c.args.self.now) history c.args.cells.now c.loop-i.cells c.loop-i.i (apply_after (g.Self.Plugin.rule c.args.self.now) history c.args.cells.now)
+    c.loop-i-test.false c.loop-i.auto.cells c.loop-i.auto.i-end (c.loop-i.invariant.made history mark holds count)
