@@ -1,101 +1,110 @@
--- Each plugin's own clause, at the plugin that stands there.
+-- Each plugin's own clauses, at the plugin that stands there.
 use Rattle.plug_set.proofs.some_plugin.SomePluginPlugin.step.Goals as goal
 
-pub returns-in-Filter-clause-tells : goal.returns-in-Filter-clause-tells
-returns-in-Filter-clause-tells c = rw c.in-Filter.is c.step.ensures.tells
+pub step-requires : goal.step-requires
+step-requires c = rw c.in-Filter.is at c.requires
 
-pub returns-in-Remap-clause-tells : goal.returns-in-Remap-clause-tells
-returns-in-Remap-clause-tells c = rw c.in-Remap.is c.step-in-Remap.ensures.tells
+pub returns-in-Filter : goal.returns-in-Filter
+returns-in-Filter c = rw c.in-Filter.is c.step.ensures
 
-pub returns-in-Skip-clause-tells : goal.returns-in-Skip-clause-tells
-returns-in-Skip-clause-tells c = rw c.in-Skip.is c.step-in-Skip.ensures.tells
+pub step-requires-in-Skip : goal.step-requires-in-Skip
+step-requires-in-Skip c = rw c.in-Skip.is at c.requires
 
-pub returns-in-Skip-clause-meets : goal.returns-in-Skip-clause-meets
-returns-in-Skip-clause-meets c = rw c.in-Skip.is c.step-in-Skip.ensures.meets
+pub returns-in-Skip : goal.returns-in-Skip
+returns-in-Skip c = rw c.in-Skip.is c.step-in-Skip.ensures
 
-pub returns-in-Slice-clause-tells : goal.returns-in-Slice-clause-tells
-returns-in-Slice-clause-tells c = rw c.in-Slice.is c.step-in-Slice.ensures.tells
+pub step-requires-in-Slice : goal.step-requires-in-Slice
+step-requires-in-Slice c = rw c.in-Slice.is at c.requires
 
-pub returns-in-Slice-clause-meets : goal.returns-in-Slice-clause-meets
-returns-in-Slice-clause-meets c = rw c.in-Slice.is c.step-in-Slice.ensures.meets
+pub returns-in-Slice : goal.returns-in-Slice
+returns-in-Slice c = rw c.in-Slice.is c.step-in-Slice.ensures
 
-pub returns-in-Pattern-clause-tells : goal.returns-in-Pattern-clause-tells
-returns-in-Pattern-clause-tells c = rw c.in-Pattern.is c.step-in-Pattern.ensures.tells
+pub step-requires-in-Pattern : goal.step-requires-in-Pattern
+step-requires-in-Pattern c = rw c.in-Pattern.is at c.requires
 
-pub returns-in-Pattern-clause-meets : goal.returns-in-Pattern-clause-meets
-returns-in-Pattern-clause-meets c = rw c.in-Pattern.is c.step-in-Pattern.ensures.meets
+pub returns-in-Pattern : goal.returns-in-Pattern
+returns-in-Pattern c = rw c.in-Pattern.is c.step-in-Pattern.ensures
 
-pub returns-in-Until-clause-tells : goal.returns-in-Until-clause-tells
-returns-in-Until-clause-tells c = rw c.in-Until.is c.step-in-Until.ensures.tells
+pub step-requires-in-Until : goal.step-requires-in-Until
+step-requires-in-Until c = rw c.in-Until.is at c.requires
 
-pub returns-in-Until-clause-meets : goal.returns-in-Until-clause-meets
-returns-in-Until-clause-meets c = rw c.in-Until.is c.step-in-Until.ensures.meets
+pub returns-in-Until : goal.returns-in-Until
+returns-in-Until c = rw c.in-Until.is c.step-in-Until.ensures
 
-pub returns-in-Continuity-clause-tells : goal.returns-in-Continuity-clause-tells
-returns-in-Continuity-clause-tells c = rw c.in-Continuity.is c.step-in-Continuity.ensures.tells
+pub step-requires-in-Count : goal.step-requires-in-Count
+step-requires-in-Count c = rw c.in-Count.is at c.requires
 
-pub returns-in-Continuity-clause-meets : goal.returns-in-Continuity-clause-meets
-returns-in-Continuity-clause-meets c = rw c.in-Continuity.is c.step-in-Continuity.ensures.meets
+pub returns-in-Count : goal.returns-in-Count
+returns-in-Count c = rw c.in-Count.is c.step-in-Count.ensures
 
-pub returns-in-Pat-clause-tells : goal.returns-in-Pat-clause-tells
-returns-in-Pat-clause-tells c = rw c.in-Pat.is c.step-in-Pat.ensures.tells
+pub step-requires-in-Continuity : goal.step-requires-in-Continuity
+step-requires-in-Continuity c = rw c.in-Continuity.is at c.requires
 
-pub returns-in-Cat-clause-tells : goal.returns-in-Cat-clause-tells
-returns-in-Cat-clause-tells c = rw c.in-Cat.is c.step-in-Cat.ensures.tells
+pub returns-in-Continuity : goal.returns-in-Continuity
+returns-in-Continuity c = rw c.in-Continuity.is c.step-in-Continuity.ensures
 
-pub returns-in-Pmt-clause-tells : goal.returns-in-Pmt-clause-tells
-returns-in-Pmt-clause-tells c = rw c.in-Pmt.is c.step-in-Pmt.ensures.tells
+pub step-requires-in-Remap : goal.step-requires-in-Remap
+step-requires-in-Remap c = rw c.in-Remap.is at c.requires
 
-pub returns-in-Sdt-clause-tells : goal.returns-in-Sdt-clause-tells
-returns-in-Sdt-clause-tells c = rw c.in-Sdt.is c.step-in-Sdt.ensures.tells
+pub returns-in-Remap : goal.returns-in-Remap
+returns-in-Remap c = rw c.in-Remap.is c.step-in-Remap.ensures
 
-pub returns-in-Nit-clause-tells : goal.returns-in-Nit-clause-tells
-returns-in-Nit-clause-tells c = rw c.in-Nit.is c.step-in-Nit.ensures.tells
+pub step-requires-in-Inject : goal.step-requires-in-Inject
+step-requires-in-Inject c = rw c.in-Inject.is at c.requires
 
-pub returns-in-Pat-clause-meets : goal.returns-in-Pat-clause-meets
-returns-in-Pat-clause-meets c = rw c.in-Pat.is c.step-in-Pat.ensures.meets
+pub returns-in-Inject : goal.returns-in-Inject
+returns-in-Inject c = rw c.in-Inject.is c.step-in-Inject.ensures
 
-pub returns-in-Cat-clause-meets : goal.returns-in-Cat-clause-meets
-returns-in-Cat-clause-meets c = rw c.in-Cat.is c.step-in-Cat.ensures.meets
+pub step-requires-in-Pat : goal.step-requires-in-Pat
+step-requires-in-Pat c = rw c.in-Pat.is at c.requires
 
-pub returns-in-Pmt-clause-meets : goal.returns-in-Pmt-clause-meets
-returns-in-Pmt-clause-meets c = rw c.in-Pmt.is c.step-in-Pmt.ensures.meets
+pub returns-in-Pat : goal.returns-in-Pat
+returns-in-Pat c = rw c.in-Pat.is c.step-in-Pat.ensures
 
-pub returns-in-Sdt-clause-meets : goal.returns-in-Sdt-clause-meets
-returns-in-Sdt-clause-meets c = rw c.in-Sdt.is c.step-in-Sdt.ensures.meets
+pub step-requires-in-Cat : goal.step-requires-in-Cat
+step-requires-in-Cat c = rw c.in-Cat.is at c.requires
 
-pub returns-in-Nit-clause-meets : goal.returns-in-Nit-clause-meets
-returns-in-Nit-clause-meets c = rw c.in-Nit.is c.step-in-Nit.ensures.meets
+pub returns-in-Cat : goal.returns-in-Cat
+returns-in-Cat c = rw c.in-Cat.is c.step-in-Cat.ensures
 
-pub returns-in-Zap-clause-tells : goal.returns-in-Zap-clause-tells
-returns-in-Zap-clause-tells c = rw c.in-Zap.is c.step-in-Zap.ensures.tells
+pub step-requires-in-Pmt : goal.step-requires-in-Pmt
+step-requires-in-Pmt c = rw c.in-Pmt.is at c.requires
 
-pub returns-in-Zap-clause-meets : goal.returns-in-Zap-clause-meets
-returns-in-Zap-clause-meets c = rw c.in-Zap.is c.step-in-Zap.ensures.meets
+pub returns-in-Pmt : goal.returns-in-Pmt
+returns-in-Pmt c = rw c.in-Pmt.is c.step-in-Pmt.ensures
 
-pub returns-in-Svremove-clause-tells : goal.returns-in-Svremove-clause-tells
-returns-in-Svremove-clause-tells c = rw c.in-Svremove.is c.step-in-Svremove.ensures.tells
+pub step-requires-in-Sdt : goal.step-requires-in-Sdt
+step-requires-in-Sdt c = rw c.in-Sdt.is at c.requires
 
-pub returns-in-Svremove-clause-meets : goal.returns-in-Svremove-clause-meets
-returns-in-Svremove-clause-meets c = rw c.in-Svremove.is c.step-in-Svremove.ensures.meets
+pub returns-in-Sdt : goal.returns-in-Sdt
+returns-in-Sdt c = rw c.in-Sdt.is c.step-in-Sdt.ensures
 
-pub returns-in-Analyze-clause-tells : goal.returns-in-Analyze-clause-tells
-returns-in-Analyze-clause-tells c = rw c.in-Analyze.is c.step-in-Analyze.ensures.tells
+pub step-requires-in-Nit : goal.step-requires-in-Nit
+step-requires-in-Nit c = rw c.in-Nit.is at c.requires
 
-pub returns-in-Analyze-clause-meets : goal.returns-in-Analyze-clause-meets
-returns-in-Analyze-clause-meets c = rw c.in-Analyze.is c.step-in-Analyze.ensures.meets
+pub returns-in-Nit : goal.returns-in-Nit
+returns-in-Nit c = rw c.in-Nit.is c.step-in-Nit.ensures
 
-pub returns-in-Tables-clause-tells : goal.returns-in-Tables-clause-tells
-returns-in-Tables-clause-tells c = rw c.in-Tables.is c.step-in-Tables.ensures.tells
+pub step-requires-in-Zap : goal.step-requires-in-Zap
+step-requires-in-Zap c = rw c.in-Zap.is at c.requires
 
-pub returns-in-Tables-clause-meets : goal.returns-in-Tables-clause-meets
-returns-in-Tables-clause-meets c = rw c.in-Tables.is c.step-in-Tables.ensures.meets
+pub returns-in-Zap : goal.returns-in-Zap
+returns-in-Zap c = rw c.in-Zap.is c.step-in-Zap.ensures
 
-pub returns-in-Remap-clause-meets : goal.returns-in-Remap-clause-meets
-returns-in-Remap-clause-meets c = rw c.in-Remap.is c.step-in-Remap.ensures.meets
+pub step-requires-in-Svremove : goal.step-requires-in-Svremove
+step-requires-in-Svremove c = rw c.in-Svremove.is at c.requires
 
-pub returns-in-Inject-clause-tells : goal.returns-in-Inject-clause-tells
-returns-in-Inject-clause-tells c = rw c.in-Inject.is c.step-in-Inject.ensures.tells
+pub returns-in-Svremove : goal.returns-in-Svremove
+returns-in-Svremove c = rw c.in-Svremove.is c.step-in-Svremove.ensures
 
-pub returns-in-Inject-clause-meets : goal.returns-in-Inject-clause-meets
-returns-in-Inject-clause-meets c = rw c.in-Inject.is c.step-in-Inject.ensures.meets
+pub step-requires-in-Analyze : goal.step-requires-in-Analyze
+step-requires-in-Analyze c = rw c.in-Analyze.is at c.requires
+
+pub returns-in-Analyze : goal.returns-in-Analyze
+returns-in-Analyze c = rw c.in-Analyze.is c.step-in-Analyze.ensures
+
+pub step-requires-in-Tables : goal.step-requires-in-Tables
+step-requires-in-Tables c = rw c.in-Tables.is at c.requires
+
+pub returns-in-Tables : goal.returns-in-Tables
+returns-in-Tables c = rw c.in-Tables.is c.step-in-Tables.ensures
