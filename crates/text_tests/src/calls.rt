@@ -16,19 +16,21 @@ const CANONICAL: &[u8] =
     br##"{"#name":"tsduck","#nodes":[{"#name":"PAT","#nodes":[{"#name":"service","program_map_PID":4096,"service_id":1}],"current":true,"transport_stream_id":1,"version":0}]}"##;
 
 /// A desk with the text under the name `pat.json`, on which the closing of this number fails.
-fn desk(alloc: Global, failing: u64) -> Result<MemoryDesk, AllocError> {
+fn desk(alloc: Global, failing: u64) -> Result<Box<MemoryDesk>, AllocError> {
+    let plan = plan(alloc, failing)?;
     let mut files = Vec::new(alloc);
     let name = NameText::of(String::from_str(alloc, "pat.json")?);
     files.push((name, FileBytes::of(Vec::from_slice(alloc, PAT)?)))?;
-    MemoryDesk::new(alloc, FileList::of(files), plan(alloc, failing)?)
+    Ok(Box::new(alloc, MemoryDesk::new(alloc, FileList::of(files), plan)?)?)
 }
 
 /// A plan by which that closing fails, and nothing else.
 fn plan(alloc: Global, failing: u64) -> Result<FailPlan, AllocError>
     ensures { IfOk result (λ p. (p.read_piece ≡ 100) × (p.write_piece ≡ 70)) }
 {
+    let closes = NumberList::of(Vec::from_slice(alloc, &[failing])?);
     let mut plan = FailPlan::none(alloc, 100, 70, 1000);
-    plan.closes = NumberList::of(Vec::from_slice(alloc, &[failing])?);
+    plan.closes = closes;
     Ok(plan)
 }
 
@@ -51,7 +53,7 @@ fn calls(
     written: Option<&[u8]>,
 ) -> Result<(), AllocError> {
     let mut desk = desk(rt.alloc(), failing)?;
-    let status = tabcomp_call(rt.alloc(), words, &mut desk);
+    let status = tabcomp_call(rt.alloc(), words, &mut *desk);
     assert_eq!(rt; status.exit_code(), code);
     assert_eq!(rt; desk.reported(), reported);
     assert_eq!(rt; desk.output(0).map(|(_, bytes)| bytes), written);
@@ -81,11 +83,11 @@ fn a_failing_close_is_told(rt: HostRuntime) -> Result<(), Fail> {
 
 #[test]
 fn faulty_words_are_told(rt: HostRuntime) -> Result<(), Fail> {
-    let mut desk = desk(rt.alloc(), 9)?;
-    let none = tabcomp_call(rt.alloc(), &[], &mut desk);
-    assert!(rt; matches!(none, TabStatus::Words { word: 0 }));
     let words = words_of(rt.alloc(), "--compile a b c")?;
-    let four = tabcomp_call(rt.alloc(), &words, &mut desk);
+    let mut desk = desk(rt.alloc(), 9)?;
+    let none = tabcomp_call(rt.alloc(), &[], &mut *desk);
+    assert!(rt; matches!(none, TabStatus::Words { word: 0 }));
+    let four = tabcomp_call(rt.alloc(), &words, &mut *desk);
     assert!(rt; matches!(four, TabStatus::Words { word: 3 }));
     assert_eq!(rt;
         desk.reported(),
