@@ -66,13 +66,13 @@ fn first_packet(alloc: Global, pid: u16, sections: Vec<Section>) -> Result<Packe
 
 #[test]
 fn packets_of_a_pat_are_replaced(rt: HostRuntime) -> Result<(), Fail> {
-    let mut editor = Editor::new(rt.alloc(), 0, Unchanged {})?;
+    let mut first = pat_packet(rt.alloc())?;
+    first.set_counter(7);
+    let mut editor = Box::new(rt.alloc(), Editor::new(rt.alloc(), 0, Unchanged {})?)?;
     let mut early = Packet::null();
     early.set_pid(0);
     editor.step(&mut early)?;
     assert_eq!(rt; early.pid(), NULL_PID);
-    let mut first = pat_packet(rt.alloc())?;
-    first.set_counter(7);
     editor.step(&mut first)?;
     assert_eq!(rt;
         (first.pid(), first.counter(), first.unit_start()),
@@ -87,11 +87,12 @@ fn packets_of_a_pat_are_replaced(rt: HostRuntime) -> Result<(), Fail> {
 
 #[test]
 fn a_pmt_in_force(rt: HostRuntime) -> Result<(), Fail> {
-    let mut force = InForce::new(rt.alloc())?;
-    assert!(rt; force.pat().is_none());
     let pmt = pmt_packet(rt.alloc())?;
+    let pat = pat_packet(rt.alloc())?;
+    let mut force = Box::new(rt.alloc(), InForce::new(rt.alloc())?)?;
+    assert!(rt; force.pat().is_none());
     force.feed(&pmt)?;
-    force.feed(&pat_packet(rt.alloc())?)?;
+    force.feed(&pat)?;
     assert!(rt; force.names(4096));
     assert!(rt; force.pmt(1).is_none());
     force.feed(&pmt)?;
