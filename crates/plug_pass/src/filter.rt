@@ -82,7 +82,8 @@ impl Plugin for Filter {
 
     ghost steady = { λ s. Some s.buffer };
 
-    #[inline]
+    // Else the loop of `steps` has a call for each cell.
+    #[inline(always)]
     fn step(&mut self, _at: u64, cell: &mut Cell) -> Outcome {
         let Cell::Live(packet, labels) = cell else {
             return Outcome::Pass;
