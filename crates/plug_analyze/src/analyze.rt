@@ -105,7 +105,8 @@ impl Plugin for Analyze {
 
     ghost steady = { λ s. None };
 
-    #[inline]
+    // Else the loop of `steps` has a call for each cell.
+    #[inline(always)]
     fn step(&mut self, at: u64, cell: &mut Cell) -> Outcome {
         let Cell::Live(packet, _) = cell else {
             return Outcome::Pass;
