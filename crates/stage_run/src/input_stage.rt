@@ -44,6 +44,9 @@ fn null_count(packets: u64, stuffing: &Stuffing) -> u64
     requires { 1 ≤ stuffing.now.every }
     ensures { result ≡ null_count (stuffing_of stuffing.now) packets }
 {
+    if stuffing.null == 0 {
+        return 0;
+    }
     if packets % u64::from(stuffing.every) == 0 {
         u64::from(stuffing.null)
     } else {
