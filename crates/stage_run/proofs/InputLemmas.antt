@@ -20,7 +20,7 @@ use Rattle.stage_run.specs.declared.input_stage.InputStage.{InputStage}
 use Rattle.stage_run.specs.PartLists.{PartLists}
 use Rattle.stage_run.specs.GeneratedInput.{input_of_generated}
 use Rattle.stage_run.proofs.GeneratedLemmas.{length-generated}
-use Rattle.stage_run.specs.Feeds.{FeedStands, FeedLooks, FeedPuts, SameFeed, StandsAtSource, packets_put, hand_of}
+use Rattle.stage_run.specs.Feeds.{FeedStands, FeedLooks, FeedPuts, FeedPutsAll, SameFeed, StandsAtSource, packets_put, hand_of, live_cells}
 use Rattle.stage_run.specs.InputStands.{InputHolds, FeedGives, MayGive, stuffing_of, stuffed_so_far}
 use Rattle.stage_run.specs.InputSteps.{InputGoes, IsOver, IsFilled, EndsAtLimit, cell_put, with_more, stop_count, null_count}
 
@@ -39,6 +39,28 @@ stuffed_after-push stuffing n (r ∷ rows) row =
 null_cells-if : (b : Bool) (n : ℕ) → null_cells (if b then n else 0) ≡ (if b then null_cells n else [])
 null_cells-if true n = refl
 null_cells-if false n = refl
+
+-- no null packets stand between packets where none are asked for
+no_cells-if : (b : Bool) (n : ℕ) → n ≡ 0 → (if b then null_cells n else []) ≡ []
+no_cells-if true n none = ap null_cells none
+no_cells-if false n none = refl
+
+stuffed_after-plain : (stuffing : model.Stuffing) (n : ℕ) (rows : List (List ℕ)) → stuffing.null ≡ 0 → stuffed_after stuffing n rows ≡ live_cells rows
+stuffed_after-plain stuffing n [] none = refl
+stuffed_after-plain stuffing n (row ∷ rows) none =
+    ap (λ (l : List Cell). Live row no_labels ∷ (l ++ stuffed_after stuffing (n + 1) rows)) (no_cells-if ((n + 1) % stuffing.every == 0) stuffing.null none)
+    ∙ ap (λ (l : List Cell). Live row no_labels ∷ l) (stuffed_after-plain stuffing (n + 1) rows none)
+
+stuffed_after-append : (stuffing : model.Stuffing) (n : ℕ) (rows more : List (List ℕ)) → stuffing.null ≡ 0
+    → stuffed_after stuffing n (rows ++ more) ≡ stuffed_after stuffing n rows ++ live_cells more
+stuffed_after-append stuffing n [] more none = stuffed_after-plain stuffing n more none
+stuffed_after-append stuffing n (row ∷ rows) more none =
+    ap (λ (l : List Cell). Live row no_labels ∷ (nulls_behind stuffing (n + 1) ++ l)) (stuffed_after-append stuffing (n + 1) rows more none)
+    ∙ ap (λ (l : List Cell). Live row no_labels ∷ l) (sym (append_assoc (nulls_behind stuffing (n + 1)) (stuffed_after stuffing (n + 1) rows) (live_cells more)))
+
+length-live_cells : (rows : List (List ℕ)) → length (live_cells rows) ≡ length rows
+length-live_cells [] = refl
+length-live_cells (row ∷ rows) = omega (arith, length-live_cells rows)
 
 -- the null packets that are due behind a packet
 pub null_cells-due : (stuffing : model.Stuffing) (packet : ℕ) → null_cells (null_count stuffing packet) ≡ nulls_behind stuffing packet
@@ -180,6 +202,48 @@ module _ {S : Type 0} (seen : S → SourceView) where
         reads = λ most within fits. subst (λ (r : List ℕ). length r ≤ 188 * most) (sym read_same) within;
       }
 
+  -- packets that were put, with the null packets that are due behind them
+  InputGoes-behind : (old : InputStage S) (feed : PacketFeed S) (nulls : ℕ) (lists : PartLists) (wanted : ℕ) (cells : List Cell) (put : List (List ℕ))
+      → old.nulls ≡ 0 → old.ended ≡ None → (holds : InputHolds seen old lists) → SameFeed old.feed feed
+      → FeedStands seen feed lists.source lists.read (holds.rows ++ put) None
+      → stuffed_after (stuffing_of old.stuffing) 0 (holds.rows ++ put) ≡ stuffed_after (stuffing_of old.stuffing) 0 holds.rows ++ (cells ++ null_cells nulls)
+      → length put ≡ length cells
+      → InputGoes seen old (record { feed = feed; stuffing = old.stuffing; nulls = nulls; ended = old.ended }) lists wanted cells
+  InputGoes-behind old feed nulls lists wanted cells put no_nulls unknown holds same found more_is long =
+      let was : FeedStands seen old.feed lists.source lists.read holds.rows None =
+      subst (λ (e : Option InputEnd). FeedStands seen old.feed lists.source lists.read holds.rows e) unknown holds.feed in
+      let stuffing : model.Stuffing = stuffing_of old.stuffing in
+      let read_same : lists.read ++ [] ≡ lists.read = append-nil lists.read in
+      let rows : List (List ℕ) = holds.rows ++ put in
+      let stands : FeedStands seen feed lists.source (lists.read ++ []) rows None =
+      subst (λ (r : List ℕ). FeedStands seen feed lists.source r rows None) (sym read_same) found in
+      let given_is : lists.given ≡ stuffed_so_far stuffing holds.rows None =
+      sym (append-nil lists.given)
+      ∙ ap (λ (n : ℕ). lists.given ++ null_cells n) (sym no_nulls)
+      ∙ holds.cells
+      ∙ ap (λ (e : Option InputEnd). stuffed_so_far stuffing holds.rows e) unknown in
+      let more : List Cell = cells ++ null_cells nulls in
+      record {
+        same = same;
+        bytes = [];
+        holds = record {
+          rows = rows;
+          feed = subst (λ (e : Option InputEnd). FeedStands seen feed lists.source (lists.read ++ []) rows e) (sym unknown) stands;
+          cells = append_assoc lists.given cells (null_cells nulls)
+              ∙ ap (λ (l : List Cell). l ++ more) given_is
+              ∙ append_assoc (null_cells stuffing.start) (stuffed_after stuffing 0 holds.rows) more
+              ∙ ap (λ (l : List Cell). null_cells stuffing.start ++ l) (sym more_is)
+              ∙ ap (λ (e : Option InputEnd). stuffed_so_far stuffing rows e) (sym unknown);
+          put = let put_before = holds.put in omega (arith, length-append lists.given cells, length-append holds.rows put);
+          every = holds.every;
+        };
+        gives = λ input gives.
+            subst (λ (e : Option InputEnd). FeedGives seen old.feed stuffing lists.read e input) (sym unknown)
+            (FeedGives-before old.feed feed stuffing lists.source lists.read [] holds.rows rows None same was stands input
+            (subst (λ (e : Option InputEnd). FeedGives seen feed stuffing (lists.read ++ []) e input) unknown gives));
+        reads = λ most within fits. subst (λ (r : List ℕ). length r ≤ 188 * most) (sym read_same) within;
+      }
+
   -- one packet, with which the null packets behind it are due
   pub InputGoes-put : (old : InputStage S) (feed : PacketFeed S) (nulls : ℕ) (lists : PartLists) (wanted : ℕ) (cell : Cell)
       → old.nulls ≡ 0 → old.ended ≡ None → nulls ≡ null_count (stuffing_of old.stuffing) (packets_put feed) → InputHolds seen old lists
@@ -190,42 +254,35 @@ module _ {S : Type 0} (seen : S → SourceView) where
       subst (λ (e : Option InputEnd). FeedStands seen old.feed lists.source lists.read holds.rows e) unknown holds.feed in
       let found = puts lists.source lists.read holds.rows was in
       let stuffing : model.Stuffing = stuffing_of old.stuffing in
-      let read_same : lists.read ++ [] ≡ lists.read = append-nil lists.read in
-      let rows : List (List ℕ) = holds.rows ++ found.row ∷ [] in
-      let stands : FeedStands seen feed lists.source (lists.read ++ []) rows None =
-      subst (λ (r : List ℕ). FeedStands seen feed lists.source r rows None) (sym read_same) found.stands in
-      let given_is : lists.given ≡ stuffed_so_far stuffing holds.rows None =
-      sym (append-nil lists.given)
-      ∙ ap (λ (n : ℕ). lists.given ++ null_cells n) (sym no_nulls)
-      ∙ holds.cells
-      ∙ ap (λ (e : Option InputEnd). stuffed_so_far stuffing holds.rows e) unknown in
+      let before : List Cell = stuffed_after stuffing 0 holds.rows in
       let number : packets_put feed ≡ 0 + length holds.rows + 1 =
-      sym (FeedStands-count feed lists.source lists.read rows None found.stands) ∙ length-append holds.rows (found.row ∷ []) ∙ omega arith in
+      sym (FeedStands-count feed lists.source lists.read (holds.rows ++ found.row ∷ []) None found.stands) ∙ length-append holds.rows (found.row ∷ []) ∙ omega arith in
       let behind : null_cells nulls ≡ nulls_behind stuffing (0 + length holds.rows + 1) =
       ap null_cells due ∙ null_cells-due stuffing (packets_put feed) ∙ ap (λ (n : ℕ). nulls_behind stuffing n) number in
-      let more : List Cell = Live found.row no_labels ∷ nulls_behind stuffing (0 + length holds.rows + 1) in
-      record {
-        same = found.same;
-        bytes = [];
-        holds = record {
-          rows = rows;
-          feed = subst (λ (e : Option InputEnd). FeedStands seen feed lists.source (lists.read ++ []) rows e) (sym unknown) stands;
-          cells = append_assoc lists.given (cell ∷ []) (null_cells nulls)
-              ∙ ap (λ (c : Cell). lists.given ++ (c ∷ null_cells nulls)) found.is_put
-              ∙ ap (λ (l : List Cell). lists.given ++ (Live found.row no_labels ∷ l)) behind
-              ∙ ap (λ (l : List Cell). l ++ more) given_is
-              ∙ append_assoc (null_cells stuffing.start) (stuffed_after stuffing 0 holds.rows) more
-              ∙ ap (λ (l : List Cell). null_cells stuffing.start ++ l) (sym (stuffed_after-push stuffing 0 holds.rows found.row))
-              ∙ ap (λ (e : Option InputEnd). stuffed_so_far stuffing rows e) (sym unknown);
-          put = let put = holds.put in omega (arith, length-append lists.given (cell ∷ []), length-append holds.rows (found.row ∷ []));
-          every = holds.every;
-        };
-        gives = λ input gives.
-            subst (λ (e : Option InputEnd). FeedGives seen old.feed stuffing lists.read e input) (sym unknown)
-            (FeedGives-before old.feed feed stuffing lists.source lists.read [] holds.rows rows None found.same was stands input
-            (subst (λ (e : Option InputEnd). FeedGives seen feed stuffing (lists.read ++ []) e input) unknown gives));
-        reads = λ most within fits. subst (λ (r : List ℕ). length r ≤ 188 * most) (sym read_same) within;
-      }
+      let more_is : stuffed_after stuffing 0 (holds.rows ++ found.row ∷ []) ≡ before ++ (cell ∷ null_cells nulls) =
+      stuffed_after-push stuffing 0 holds.rows found.row
+      ∙ ap (λ (l : List Cell). before ++ (Live found.row no_labels ∷ l)) (sym behind)
+      ∙ ap (λ (c : Cell). before ++ (c ∷ null_cells nulls)) (sym found.is_put) in
+      InputGoes-behind old feed nulls lists wanted (cell ∷ []) (found.row ∷ []) no_nulls unknown holds found.same found.stands more_is refl
+
+  -- packets between which no null packets stand
+  pub InputGoes-put_all : (old : InputStage S) (feed : PacketFeed S) (lists : PartLists) (wanted : ℕ) (cells : List Cell)
+      → old.stuffing.null ≡ 0 → old.nulls ≡ 0 → old.ended ≡ None → InputHolds seen old lists
+      → ((first : SourceView) (read : List ℕ) (rows : List (List ℕ)) → FeedStands seen old.feed first read rows None → FeedPutsAll seen old.feed feed first read rows cells)
+      → InputGoes seen old (record { feed = feed; stuffing = old.stuffing; nulls = old.nulls; ended = old.ended }) lists wanted cells
+  InputGoes-put_all old feed lists wanted cells no_null no_nulls unknown holds puts =
+      let was : FeedStands seen old.feed lists.source lists.read holds.rows None =
+      subst (λ (e : Option InputEnd). FeedStands seen old.feed lists.source lists.read holds.rows e) unknown holds.feed in
+      let found = puts lists.source lists.read holds.rows was in
+      let stuffing : model.Stuffing = stuffing_of old.stuffing in
+      let before : List Cell = stuffed_after stuffing 0 holds.rows in
+      let none : cells ++ null_cells old.nulls ≡ cells = ap (λ (n : ℕ). cells ++ null_cells n) no_nulls ∙ append-nil cells in
+      let more_is : stuffed_after stuffing 0 (holds.rows ++ found.put) ≡ before ++ (cells ++ null_cells old.nulls) =
+      stuffed_after-append stuffing 0 holds.rows found.put no_null
+      ∙ ap (λ (l : List Cell). before ++ l) (sym found.are_put)
+      ∙ ap (λ (l : List Cell). before ++ l) (sym none) in
+      InputGoes-behind old feed old.nulls lists wanted cells found.put no_nulls unknown holds found.same found.stands more_is
+      (sym (length-live_cells found.put) ∙ ap length (sym found.are_put))
 
   -- an input as it was
   abbrev pub InputGoes-none : (old : InputStage S) (lists : PartLists) (wanted : ℕ) → InputHolds seen old lists → InputGoes seen old old lists wanted []

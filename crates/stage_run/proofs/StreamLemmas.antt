@@ -9,12 +9,15 @@ use Rattle.std.proofs.lemmas.List.Elements.{All-push, All-head, All-tail}
 use Rattle.std.proofs.lemmas.Grind.{common_steps}
 use borrow.Rule.Slice.PartMut.{put_mid}
 use Rattle.ts_packet.specs.Packet.{IsPacket}
+use Rattle.ts_packet.specs.declared.cell.Cell.{Cell}
+use Rattle.ts_packet.specs.declared.cell.Cell.TheVariants.{Live}
+use Rattle.ts_packet.specs.Labels.{no_labels}
 use Rattle.ts_outside.specs.Source.{SourceView, unread, read_failed}
 use Rattle.ts_outside.proofs.Views.{take-filled, unread-unread, unread-nil}
 use Rattle.chain_model.specs.declared.input_end.InputEnd.TheVariants.{End, Sync, ReadFault}
 use Rattle.stage_run.specs.declared.packet_stream.PacketStream.{PacketStream}
 use Rattle.stage_run.specs.Rows.{IsUnfinished, IsInSync, IsOutOfSync, BeginsPacket}
-use Rattle.stage_run.specs.Feeds.{hand_of, HasRoom, ReadsMore, FailsToRead, StreamStands, StreamLooks}
+use Rattle.stage_run.specs.Feeds.{hand_of, HasRoom, ReadsMore, FailsToRead, StreamStands, StreamLooks, StreamPuts, StreamPutsAll, live_cells}
 
 pub length-put_mid : (have k : ℕ) (old got : List ℕ) → have + k ≤ length old → length got ≡ k → length (put_mid have k old got) ≡ length old
 length-put_mid have k old got fits long = grind (arith, common_steps)
@@ -65,6 +68,32 @@ module _ {S : Type 0} (seen : S → SourceView) where
         ∙ ap (λ (l : List ℕ). (concat rows ++ l) ++ take (stream.have - 188) (drop (stream.from + 188) stream.room.bytes.items)) (sym front)
         ∙ ap (λ (l : List ℕ). l ++ take (stream.have - 188) (drop (stream.from + 188) stream.room.bytes.items)) (sym (concat-push rows row));
     source = stands.source;
+  }
+
+pub live_cells-push : (rows : List (List ℕ)) (row : List ℕ) → live_cells (rows ++ row ∷ []) ≡ live_cells rows ++ Live row no_labels ∷ []
+live_cells-push [] row = refl
+live_cells-push (r ∷ rows) row = ap (λ (l : List Cell). Live r no_labels ∷ l) (live_cells-push rows row)
+
+module _ {S : Type 0} (seen : S → SourceView) where
+  -- no packet was put yet
+  pub StreamPutsAll-none : (stream : PacketStream S) (first : SourceView) (read : List ℕ) (rows : List (List ℕ))
+      → StreamStands seen stream first read rows None → StreamPutsAll seen stream first read rows []
+  StreamPutsAll-none stream first read rows stands = record {
+    put = [];
+    are_put = refl;
+    stands = subst (λ (r : List (List ℕ)). StreamStands seen stream first read r None) (sym (append-nil rows)) stands;
+  }
+
+  -- and one more was put behind those before
+  pub StreamPutsAll-push : (mid new : PacketStream S) (first : SourceView) (read : List ℕ) (rows : List (List ℕ)) (cells : List Cell) (cell : Cell)
+      → (puts : StreamPutsAll seen mid first read rows cells) → StreamPuts seen new first read (rows ++ puts.put) cell
+      → StreamPutsAll seen new first read rows (cells ++ cell ∷ [])
+  StreamPutsAll-push mid new first read rows cells cell puts one = record {
+    put = puts.put ++ one.row ∷ [];
+    are_put = ap (λ (l : List Cell). l ++ cell ∷ []) puts.are_put
+        ∙ ap (λ (c : Cell). live_cells puts.put ++ c ∷ []) one.is_put
+        ∙ sym (live_cells-push puts.put one.row);
+    stands = subst (λ (r : List (List ℕ)). StreamStands seen new first read r None) (append_assoc rows puts.put (one.row ∷ [])) one.stands;
   }
 
 -- packets have 188 bytes each

@@ -86,6 +86,18 @@ pub record StreamPuts {S : Type 0} (seen : S → SourceView) (new : PacketStream
   pub is_put : cell ≡ Live row no_labels
   pub stands : StreamStands seen new first read (rows ++ row ∷ []) None
 
+-- these packets, each in a cell without labels
+abbrev pub live_cells : List (List ℕ) → List Cell
+live_cells [] = []
+live_cells (row ∷ rows) = Live row no_labels ∷ live_cells rows
+
+-- the packets behind them were put into cells, one after another
+pub record StreamPutsAll {S : Type 0} (seen : S → SourceView) (new : PacketStream S) (first : SourceView)
+    (read : List ℕ) (rows : List (List ℕ)) (cells : List Cell) : Type 0 where
+  pub put : List (List ℕ)
+  pub are_put : cells ≡ live_cells put
+  pub stands : StreamStands seen new first read (rows ++ put) None
+
 -- an input of so many packets that are not read ends when it has put them all
 abbrev pub EndsWhenPut : ℕ → ℕ → Option InputEnd → Type 0
 EndsWhenPut all count None = Unit {0}
@@ -171,3 +183,11 @@ pub record FeedPuts {S : Type 0} (seen : S → SourceView) (old new : PacketFeed
   pub row : List ℕ
   pub is_put : cell ≡ Live row no_labels
   pub stands : FeedStands seen new first read (rows ++ row ∷ []) None
+
+-- the packets behind them were put into cells, one after another
+pub record FeedPutsAll {S : Type 0} (seen : S → SourceView) (old new : PacketFeed S) (first : SourceView)
+    (read : List ℕ) (rows : List (List ℕ)) (cells : List Cell) : Type 0 where
+  pub same : SameFeed old new
+  pub put : List (List ℕ)
+  pub are_put : cells ≡ live_cells put
+  pub stands : FeedStands seen new first read (rows ++ put) None

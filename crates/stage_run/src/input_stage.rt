@@ -184,19 +184,47 @@ impl<S: Source> InputStage<S> {
         ensures same_stuffing { self.new.stuffing ≡ self.old.stuffing }
     {
         let len = cells.len();
-        for (done, cell) in cells.iter_mut().enumerate() {
+        let mut done = 0;
+        while done < len {
             if self.hands_on(done) {
                 return Filled { done, over: None };
             }
-            let over = self.next_cell(cell, len - done);
+            let over = self.next_cell(&mut cells[done], len - done);
             if over.is_some() {
                 return Filled { done, over };
             }
+            done += 1;
+            done += self.put_in_hand(&mut cells[done..]);
         }
         Filled {
             done: len,
             over: None,
         }
+    }
+
+    /// Puts the packets that are in hand, where no null packets stand between them, and answers how many.
+    fn put_in_hand(&mut self, cells: &mut [Cell]) -> usize
+        requires fits { InputFits self.old }
+        requires in_range { packets_put self.old.feed + length cells.old ≤ POSITION_LIMIT }
+        ensures fits { InputFits self.new }
+        ensures done { result ≤ length cells.old }
+        ensures rest { drop result cells.new ≡ drop result cells.old }
+        ensures goes { (lists : PartLists) (wanted : ℕ) → InputHolds S.seen self.old lists
+            → InputGoes S.seen self.old self.new lists wanted (take result cells.new) }
+        ensures packets { packets_put self.new.feed ≡ packets_put self.old.feed + result }
+        ensures same_end { self.new.ended ≡ self.old.ended }
+        ensures same_stuffing { self.new.stuffing ≡ self.old.stuffing }
+    {
+        if self.stuffing.null > 0 {
+            return 0;
+        }
+        if self.nulls > 0 {
+            return 0;
+        }
+        if self.ended.is_some() {
+            return 0;
+        }
+        self.feed.put_in_hand(cells)
     }
 
     /// How the list ends at the last position: any cell more would stand at the limit.

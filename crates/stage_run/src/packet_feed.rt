@@ -14,10 +14,10 @@ pub(crate) enum PacketFeed<S> {
 }
 
 impl<S: Source> PacketFeed<S> {
-    ghost use Rattle.std.specs.Prelude.{◌≡◌, ◌+◌, ◌<◌, ◌≤◌, ℕ, List, None, IfNone, true};
+    ghost use Rattle.std.specs.Prelude.{◌≡◌, ◌+◌, ◌<◌, ◌≤◌, ℕ, List, length, take, drop, None, IfNone, true};
     ghost use Rattle.chain_model.specs.declared.positions.TheConstants.{POSITION_LIMIT};
     ghost use Rattle.ts_outside.specs.Source.{SourceView};
-    ghost use Rattle.stage_run.specs.Feeds.{FeedStands, FeedHasRoom, FeedLooks, FeedPuts, IsFeedOf, IsReady, WantsMore, packets_put, part_of_feed};
+    ghost use Rattle.stage_run.specs.Feeds.{FeedStands, FeedHasRoom, FeedLooks, FeedPuts, FeedPutsAll, IsFeedOf, IsReady, WantsMore, packets_put, part_of_feed};
 
     /// The packets of an input of which nothing was read yet; what is read goes into the room.
     pub(crate) fn of(part: InputPart<S>, room: IoBuffer) -> Self
@@ -112,6 +112,24 @@ impl<S: Source> PacketFeed<S> {
                 *cell = Cell::Live(Packet::null(), Labels::none());
             }
             PacketFeed::Generated(generated) => generated.next_packet(cell),
+        }
+    }
+
+    /// Puts the packets in hand into the first cells, and answers how many.
+    pub(crate) fn put_in_hand(&mut self, cells: &mut [Cell]) -> usize
+        requires room { FeedHasRoom self.old }
+        requires in_range { packets_put self.old + length cells.old ≤ POSITION_LIMIT }
+        ensures done { result ≤ length cells.old }
+        ensures rest { drop result cells.new ≡ drop result cells.old }
+        ensures puts { (first : SourceView) (read : List ℕ) (rows : List (List ℕ))
+            → FeedStands S.seen self.old first read rows None
+            → FeedPutsAll S.seen self.old self.new first read rows (take result cells.new) }
+        ensures room { FeedHasRoom self.new }
+        ensures packets { packets_put self.new ≡ packets_put self.old + result }
+    {
+        match self {
+            PacketFeed::Stream(stream) => stream.put_in_hand(cells),
+            PacketFeed::Nulls(_) | PacketFeed::Generated(_) => 0,
         }
     }
 }

@@ -1,8 +1,8 @@
 use crate::IoBuffer;
-use crate::packet_row::packet_at;
+use crate::packet_row::put_packet;
 use chain_core::InputEnd;
 use ts_outside::{Failed, Source};
-use ts_packet::{Cell, Labels, PACKET_SIZE};
+use ts_packet::{Cell, PACKET_SIZE};
 
 const SYNC_BYTE: u8 = ts_packet::SYNC_BYTE;
 
@@ -19,10 +19,10 @@ pub(crate) struct PacketStream<S> {
 }
 
 impl<S: Source> PacketStream<S> {
-    ghost use Rattle.std.specs.Prelude.{◌≡◌, ◌+◌, ◌*◌, ◌^◌, ◌<◌, ◌≤◌, ℕ, List, None, MatchResult, IfNone, true, false};
+    ghost use Rattle.std.specs.Prelude.{◌≡◌, ◌+◌, ◌*◌, ◌^◌, ◌<◌, ◌≤◌, ℕ, List, length, take, drop, None, MatchResult, IfNone, true, false};
     ghost use Rattle.ts_outside.specs.Source.{SourceView};
     ghost use Rattle.stage_run.specs.Rows.{IsUnfinished, IsInSync, IsOutOfSync, BeginsPacket};
-    ghost use Rattle.stage_run.specs.Feeds.{hand_of, HasRoom, ReadsMore, FailsToRead, MovesHand, StreamStands, StreamLooks, StreamPuts};
+    ghost use Rattle.stage_run.specs.Feeds.{hand_of, HasRoom, ReadsMore, FailsToRead, MovesHand, StreamStands, StreamLooks, StreamPuts, StreamPutsAll};
 
     /// Gives the source back.
     pub(crate) fn into_source(self) -> S
@@ -135,9 +135,39 @@ impl<S: Source> PacketStream<S> {
         ensures room { HasRoom self.new }
         ensures packets { self.new.packets ≡ self.old.packets + 1 }
     {
-        *cell = Cell::Live(packet_at(&self.room.bytes, self.from), Labels::none());
+        put_packet(cell, &self.room.bytes, self.from);
         self.from += PACKET_SIZE;
         self.have -= PACKET_SIZE;
         self.packets += 1;
+    }
+
+    /// Whether a whole packet stands in front of the bytes in hand.
+    fn has_packet(&self) -> bool
+        requires { HasRoom self.now }
+        ensures { result ≡ true → BeginsPacket (hand_of self.now) }
+    {
+        self.have >= PACKET_SIZE && !self.is_lost()
+    }
+
+    /// Puts the packets in hand into the first cells, as far as there are cells, and answers how many.
+    pub(crate) fn put_in_hand(&mut self, cells: &mut [Cell]) -> usize
+        requires room { HasRoom self.old }
+        requires in_range { self.old.packets + length cells.old ≤ 2 ^ 62 }
+        ensures done { result ≤ length cells.old }
+        ensures rest { drop result cells.new ≡ drop result cells.old }
+        ensures puts { (first : SourceView) (read : List ℕ) (rows : List (List ℕ))
+            → StreamStands S.seen self.old first read rows None
+            → StreamPutsAll S.seen self.new first read rows (take result cells.new) }
+        ensures room { HasRoom self.new }
+        ensures packets { self.new.packets ≡ self.old.packets + result }
+    {
+        let len = cells.len();
+        for (done, cell) in cells.iter_mut().enumerate() {
+            if !self.has_packet() {
+                return done;
+            }
+            self.next_packet(cell);
+        }
+        len
     }
 }
