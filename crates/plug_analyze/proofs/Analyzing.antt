@@ -7,11 +7,11 @@ use Rattle.ts_packet.specs.Header.{pid_of, has_payload_of}
 use Rattle.chain_model.specs.declared.positions.TheConstants.{POSITION_LIMIT}
 use Rattle.plugin_trait.specs.declared.line.Line.{Line}
 use Rattle.plugin_trait.specs.PlacedLines.{placed_at, placed_of}
-use Rattle.plug_watch.specs.ContinuitySeen.{Remembers}
-use Rattle.plug_watch.specs.NotesKept.{CanFold, Folds, notes_below}
-use Rattle.plug_watch.specs.declared.last_packets.LastPackets.{LastPackets}
-use Rattle.plug_watch.proofs.Keeping as keeping
-use Rattle.plug_watch.proofs.Watching.{remembers_dropped}
+use Rattle.plugin_notes.specs.LastSeen.{Remembers}
+use Rattle.plugin_notes.specs.NotesKept.{CanFold, Folds, notes_below}
+use Rattle.plugin_notes.specs.declared.last_packets.LastPackets.{LastPackets}
+use Rattle.plugin_notes.proofs.Keeping as keeping
+use Rattle.plugin_notes.proofs.Remembering.{remembers_dropped}
 use Rattle.plug_analyze.specs.declared.note.Note.{Note}
 use Rattle.plug_analyze.specs.declared.noted.Noted.{Noted}
 use Rattle.plug_analyze.specs.declared.service_count.ServiceCount.{ServiceCount}

@@ -4,9 +4,9 @@ use Rattle.std.specs.Prelude.{is_some, option_to_list}
 use Rattle.ts_packet.specs.declared.cell.Cell.{Cell}
 use Rattle.ts_packet.specs.declared.numbers.TheConstants.{NULL_PID}
 use Rattle.ts_packet.specs.Header.{pid_of}
-use Rattle.plug_watch.specs.declared.continuity_error.ContinuityError.{ContinuityError}
-use Rattle.plug_watch.specs.ContinuityErrors.{error_behind}
-use Rattle.plug_watch.specs.ContinuityRule.{is_watched, last_of}
+use Rattle.plugin_notes.specs.declared.continuity_error.ContinuityError.{ContinuityError}
+use Rattle.plugin_notes.specs.ContinuityErrors.{error_behind}
+use Rattle.plugin_notes.specs.Counters.{is_watched, last_of}
 use Rattle.plug_analyze.specs.AnalyzeNotes.{is_any, is_fault_at}
 use Rattle.plug_analyze.specs.AnalyzeRule.{all_pids}
 

@@ -3,8 +3,8 @@ use Rattle.std.proofs.Common.{◌<◌, ◌^◌, List, Bool, length, arith}
 use Rattle.std.specs.List.{filter}
 use Rattle.std.proofs.lemmas.List.{length-map}
 use Rattle.std.proofs.lemmas.List.Sums.{count_by-le-length, length-filter}
-use Rattle.plug_watch.specs.Tallies.{HasRoomIn, IsCounted}
-use Rattle.plug_watch.specs.declared.tally.Tally.{Tally}
+use Rattle.plugin_notes.specs.Tallies.{HasRoomIn, IsCounted}
+use Rattle.plugin_notes.specs.declared.tally.Tally.{Tally}
 use Rattle.plug_analyze.specs.declared.note.Note.{Note}
 use Rattle.plug_analyze.specs.declared.totals.Totals.{Totals}
 use Rattle.plug_analyze.specs.TotalsOf.{AreTotals, HasRoom, pids_of}

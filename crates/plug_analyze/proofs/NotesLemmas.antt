@@ -9,12 +9,12 @@ use Rattle.ts_packet.specs.declared.numbers.TheConstants.{NULL_PID, PID_COUNT}
 use Rattle.bit_rows.proofs.Fields.{field-below}
 use Rattle.ts_packet.specs.Header.{pid_of, counter_of, has_payload_of}
 use Rattle.ts_packet.specs.Cells.{live_packets}
-use Rattle.plug_watch.specs.declared.continuity_error.ContinuityError.{ContinuityError}
-use Rattle.plug_watch.specs.ContinuityRule.{is_fault, wanted_behind, last_of}
-use Rattle.plug_watch.specs.ContinuityErrors.{error_behind, error_on}
-use Rattle.plug_watch.specs.Notes.{notes_after}
-use Rattle.plug_watch.specs.Tallies.{IsCounted}
-use Rattle.plug_watch.proofs.Noting.{IsNoteAt}
+use Rattle.plugin_notes.specs.declared.continuity_error.ContinuityError.{ContinuityError}
+use Rattle.plugin_notes.specs.Counters.{is_fault, wanted_behind, last_of}
+use Rattle.plugin_notes.specs.ContinuityErrors.{error_behind, error_on}
+use Rattle.plugin_notes.specs.Notes.{notes_after}
+use Rattle.plugin_notes.specs.Tallies.{IsCounted}
+use Rattle.plugin_notes.proofs.Noting.{IsNoteAt}
 use Rattle.plug_analyze.specs.declared.note.Note.{Note}
 use Rattle.plug_analyze.specs.declared.totals.Totals.{Totals}
 use Rattle.plug_analyze.specs.AnalyzeRule.{all_pids, has_pcr, is_scrambled}

@@ -17,8 +17,8 @@ use Rattle.plug_psi.specs.declared.in_force.InForce.{InForce}
 use Rattle.plug_psi.specs.ForceStands as forcing
 use Rattle.plug_psi.specs.InForce.{pat_of, pmt_of, service_in, services_in}
 use Rattle.plug_psi.specs.SameForce.{SameInForce}
-use Rattle.plug_watch.specs.NotesKept.{StartsFrom}
-use Rattle.plug_watch.proofs.Noting.{is_below, not_below}
+use Rattle.plugin_notes.specs.NotesKept.{StartsFrom}
+use Rattle.plugin_notes.proofs.Noting.{is_below, not_below}
 use Rattle.plug_analyze.specs.declared.change.Change.{Change}
 use Rattle.plug_analyze.specs.declared.service_count.ServiceCount.{ServiceCount}
 use Rattle.plug_analyze.specs.declared.services.Services.{Services}

@@ -9,11 +9,10 @@ use Rattle.ts_packet.specs.declared.numbers.TheConstants.{PID_COUNT}
 use Rattle.ts_packet.specs.Header.{pid_of}
 use Rattle.plugin_trait.specs.declared.line.Line.{Line}
 use Rattle.plugin_trait.specs.PlacedLines.{placed_after, placed_at, placed_of}
-use Rattle.plug_watch.specs.CountRule.{numbers_below, packets_on}
-use Rattle.plug_watch.specs.Tallies.{IsCounted}
-use Rattle.plug_watch.specs.declared.tally.Tally.{Tally}
-use Rattle.plug_watch.proofs.Counting.{packets_on-pids}
-use Rattle.plug_watch.proofs.Summing.{numbers_below_more, placed_at-append}
+use Rattle.plugin_notes.specs.PidPackets.{numbers_below, packets_on}
+use Rattle.plugin_notes.specs.Tallies.{IsCounted}
+use Rattle.plugin_notes.specs.declared.tally.Tally.{Tally}
+use Rattle.plugin_notes.proofs.PidLemmas.{numbers_below_more, packets_on-pids, placed_at-append}
 use Rattle.plug_analyze.specs.AnalyzeRule.{analyze_rule, counts_on, pid_text, summary_on}
 
 -- the number of packets on a PID is the tally's

@@ -2,9 +2,9 @@
 use Rattle.std.specs.Prelude.{ℕ, List, [], ◌∷◌, length, Bool, true, false}
 use Rattle.ts_packet.specs.declared.cell.Cell.{Cell}
 use Rattle.ts_packet.specs.Header.{pid_of, has_payload_of}
-use Rattle.plug_watch.specs.declared.continuity_error.ContinuityError.{ContinuityError}
-use Rattle.plug_watch.specs.ContinuityErrors.{error_on}
-use Rattle.plug_watch.specs.Notes.{notes_after}
+use Rattle.plugin_notes.specs.declared.continuity_error.ContinuityError.{ContinuityError}
+use Rattle.plugin_notes.specs.ContinuityErrors.{error_on}
+use Rattle.plugin_notes.specs.Notes.{notes_after}
 use Rattle.plug_analyze.specs.AnalyzeRule.{all_pids, has_pcr, is_scrambled}
 use Rattle.plug_analyze.specs.declared.note.Note.{Note}
 

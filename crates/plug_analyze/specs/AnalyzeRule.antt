@@ -10,9 +10,9 @@ use Rattle.ts_packet.specs.declared.numbers.TheConstants.{NULL_PID, PID_COUNT}
 use Rattle.ts_table_rows.specs.TableValues.{TableHolding}
 use Rattle.chain_model.specs.PluginRule.{PluginRule, passes}
 use Rattle.plug_psi.specs.InForce.{pat_of, pmt_of, services_in}
-use Rattle.plug_watch.specs.declared.continuity_conf.ContinuityConf.{ContinuityConf}
-use Rattle.plug_watch.specs.ContinuityErrors.{errors_in}
-use Rattle.plug_watch.specs.CountRule.{numbers_below, packets_on}
+use Rattle.plugin_notes.specs.declared.continuity_conf.ContinuityConf.{ContinuityConf}
+use Rattle.plugin_notes.specs.ContinuityErrors.{errors_in}
+use Rattle.plugin_notes.specs.PidPackets.{numbers_below, packets_on}
 use Rattle.plug_analyze.specs.declared.pid_counts.PidCounts.{PidCounts}
 use Rattle.plug_analyze.specs.declared.service_count.ServiceCount.{ServiceCount}
 

@@ -4,9 +4,9 @@ use Rattle.ts_packet.specs.declared.cell.Cell.{Cell}
 use Rattle.ts_packet.specs.Cells.{live_packets}
 use Rattle.chain_model.specs.declared.positions.TheConstants.{POSITION_LIMIT}
 use Rattle.plug_psi.specs.ForceStands as forcing
-use Rattle.plug_watch.specs.ContinuitySeen.{Remembers}
-use Rattle.plug_watch.specs.NotesKept.{KeepsNotes, notes_below}
-use Rattle.plug_watch.specs.declared.last_packets.LastPackets.{LastPackets}
+use Rattle.plugin_notes.specs.LastSeen.{Remembers}
+use Rattle.plugin_notes.specs.NotesKept.{KeepsNotes, notes_below}
+use Rattle.plugin_notes.specs.declared.last_packets.LastPackets.{LastPackets}
 use Rattle.plug_analyze.specs.AnalyzeNotes.{note_on}
 use Rattle.plug_analyze.specs.AnalyzeRule.{all_pids}
 use Rattle.plug_analyze.specs.ServicesKept.{KeepsServices}

@@ -3,7 +3,7 @@ use Rattle.std.specs.Prelude.{ℕ, List, map, filter}
 use Rattle.ts_packet.specs.declared.cell.Cell.{Cell}
 use Rattle.ts_packet.specs.Cells.{live_packets}
 use Rattle.ts_packet.specs.Header.{pid_of, has_payload_of}
-use Rattle.plug_watch.specs.Tallies.{HasRoomIn, IsCounted, IsWhole}
+use Rattle.plugin_notes.specs.Tallies.{HasRoomIn, IsCounted, IsWhole}
 use Rattle.plug_analyze.specs.AnalyzeRule.{fault_pids, has_pcr, is_scrambled}
 use Rattle.plug_analyze.specs.declared.note.Note.{Note}
 use Rattle.plug_analyze.specs.declared.totals.Totals.{Totals}

@@ -7,7 +7,7 @@ use crate::note::Note;
 use crate::noted::Noted;
 use crate::services::Services;
 use crate::summary::push_summary;
-use plug_watch::LastPackets;
+use plugin_notes::LastPackets;
 use plugin_trait::{Line, Outcome, Plugin};
 use std::alloc::{AllocError, Global};
 use ts_packet::{Cell, Packet};

@@ -1,5 +1,5 @@
 use crate::service_count::ServiceCount;
-use plug_watch::PacketNote;
+use plugin_notes::PacketNote;
 
 /// The services in force from a packet on, with which the tables in force changed.
 #[derive(Drop)]

@@ -2,11 +2,11 @@
 ghost use Rattle.std.specs.Prelude.{◌≡◌, ◌∷◌, ◌++◌, [], ℕ, List, length};
 ghost use Rattle.ts_packet.specs.declared.cell.Cell.{Cell as GivenCell};
 ghost use Rattle.ts_packet.specs.declared.cell.Cell.TheVariants.{Live};
-ghost use Rattle.plug_watch.specs.ContinuitySeen.{IsTable, Remembers};
+ghost use Rattle.plugin_notes.specs.LastSeen.{IsTable, Remembers};
 ghost use Rattle.plug_analyze.specs.AnalyzeNotes.{is_fault_at};
 ghost use Rattle.plug_analyze.specs.AnalyzeRule.{all_pids};
 
-use plug_watch::LastPackets;
+use plugin_notes::LastPackets;
 use ts_packet::{NULL_PID, Packet};
 
 /// Meets the packet at a position, of any PID, and answers whether its counter is a fault. Those of null packets never

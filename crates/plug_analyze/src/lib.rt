@@ -8,7 +8,6 @@ mod analyze_conf;
 mod analyze_words;
 mod change;
 mod counters;
-mod lines;
 mod note;
 mod noted;
 mod pid_counts;

@@ -1,4 +1,4 @@
-use plug_watch::PacketNote;
+use plugin_notes::PacketNote;
 
 /// What is kept of a packet for as long as it may still stand behind the cut.
 #[derive(Clone, Copy, PartialEq, Eq)]

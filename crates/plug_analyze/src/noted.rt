@@ -2,7 +2,7 @@
 use crate::note::Note;
 use crate::totals::Totals;
 use circular_buffer::HeapCircularBuffer;
-use plug_watch::{pop_below, push_note};
+use plugin_notes::{pop_below, push_note};
 use std::alloc::{AllocError, Global};
 
 /// Notes of the packets behind the greatest mark, and the numbers of those below it.
@@ -14,7 +14,7 @@ pub struct Noted {
 
 impl Noted {
     ghost use Rattle.std.specs.Prelude.{◌≡◌, ◌++◌, ◌∷◌, [], IfOk, OnOk};
-    ghost use Rattle.plug_watch.specs.NotesKept.{CanFold, Folds};
+    ghost use Rattle.plugin_notes.specs.NotesKept.{CanFold, Folds};
     ghost use Rattle.plug_analyze.specs.AnalyzeNotes.{pid_in, place_of};
     ghost use Rattle.plug_analyze.specs.TotalsOf.{AreTotals};
 

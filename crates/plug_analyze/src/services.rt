@@ -9,7 +9,7 @@ use crate::change::Change;
 use crate::service_count::ServiceCount;
 use circular_buffer::HeapCircularBuffer;
 use plug_psi::{InForce, both};
-use plug_watch::{pop_below, push_note};
+use plugin_notes::{pop_below, push_note};
 use std::alloc::{AllocError, Global};
 use ts_packet::Packet;
 use ts_psi::PatService;

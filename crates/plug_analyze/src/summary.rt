@@ -7,12 +7,12 @@ ghost use Rattle.ts_packet.specs.Cells.{live_packets};
 ghost use Rattle.ts_packet.specs.Header.{pid_of};
 ghost use Rattle.plugin_trait.specs.PlacedLines.{placed_at};
 ghost use Rattle.plug_analyze.specs.AnalyzeRule.{head_lines, pid_text, counts_on, pids_with, service_text, services_in_force, summary_on};
-ghost use Rattle.plug_watch.specs.Tallies.{IsCounted, IsWhole};
+ghost use Rattle.plugin_notes.specs.Tallies.{IsCounted, IsWhole};
 ghost use Rattle.plug_analyze.specs.TotalsOf.{AreCounted, AreWhole};
 
-use crate::lines::push_line;
 use crate::service_count::ServiceCount;
 use crate::totals::Totals;
+use plugin_notes::push_line;
 use plugin_trait::{Line, LineText};
 use std::alloc::{AllocError, Global};
 use ts_packet::{NULL_PID, PID_COUNT};

@@ -4,7 +4,7 @@ ghost use Rattle.ts_packet.specs.declared.numbers.TheConstants.{PID_COUNT};
 
 use crate::note::Note;
 use crate::pid_counts::PidCounts;
-use plug_watch::Tally;
+use plugin_notes::Tally;
 use std::alloc::{AllocError, Global};
 
 /// The packets that were counted, by their PIDs, once for each kind.
@@ -56,9 +56,9 @@ impl Totals {
     ghost use Rattle.ts_packet.specs.declared.numbers.TheConstants.{PID_COUNT};
     ghost use Rattle.ts_packet.specs.declared.cell.Cell.{Cell as GivenCell};
     ghost use Rattle.ts_packet.specs.Header.{pid_of};
-    ghost use Rattle.plug_watch.specs.CountRule.{packets_on};
+    ghost use Rattle.plugin_notes.specs.PidPackets.{packets_on};
     ghost use Rattle.plug_analyze.specs.AnalyzeRule.{counts_on};
-    ghost use Rattle.plug_watch.specs.Tallies.{IsCounted, IsWhole};
+    ghost use Rattle.plugin_notes.specs.Tallies.{IsCounted, IsWhole};
     ghost use Rattle.plug_analyze.specs.TotalsOf.{AreCounted, AreWhole};
 
     /// How many packets were counted in all.

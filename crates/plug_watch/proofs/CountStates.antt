@@ -11,16 +11,16 @@ use Rattle.plugin_trait.specs.declared.line.Line.{Line}
 use Rattle.plugin_trait.specs.PlacedLines.{placed_at, placed_after, placed_of}
 use Rattle.plug_watch.specs.declared.count_conf.CountConf.{CountConf}
 use Rattle.plug_watch.specs.declared.note.Note.{Note}
-use Rattle.plug_watch.specs.declared.tally.Tally.{Tally}
-use Rattle.plug_watch.specs.Notes.{notes_after}
-use Rattle.plug_watch.specs.NotesKept.{CanFold, Folds, notes_below}
+use Rattle.plugin_notes.specs.declared.tally.Tally.{Tally}
+use Rattle.plugin_notes.specs.Notes.{notes_after}
+use Rattle.plugin_notes.specs.NotesKept.{CanFold, Folds, notes_below}
 use Rattle.plug_watch.specs.CountRule.{is_counted, counted, line_on, summary_on, count_rule}
 use Rattle.plug_watch.specs.CountNotes.{IsTallied, line_of_note, note_on, pid_in, place_of, text_on}
 use Rattle.plug_watch.specs.CountState.{Counts}
-use Rattle.plug_watch.specs.Tallies.{HasRoomIn, IsCounted}
-use Rattle.plug_watch.proofs.Noting.{placed_at-notes, placed_after-notes}
+use Rattle.plugin_notes.specs.Tallies.{HasRoomIn, IsCounted}
+use Rattle.plugin_notes.proofs.Noting.{placed_at-notes, placed_after-notes}
 use Rattle.plug_watch.proofs.Counting.{one_note, line_on-notes, on_pids, pids_of-notes}
-use Rattle.plug_watch.proofs.Keeping as keeping
+use Rattle.plugin_notes.proofs.Keeping as keeping
 
 -- one more can be counted
 pub has_room : (tally : Tally) (notes : List Note) → IsTallied tally notes → length notes < 2 ^ 63 → HasRoomIn tally

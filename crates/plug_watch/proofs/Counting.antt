@@ -1,6 +1,6 @@
 -- Notes on packets that are counted, and the numbers that they come to.
-use Rattle.std.proofs.Common.{◌≡◌, ℕ, ◌+◌, ◌<◌, List, [], ◌∷◌, ◌++◌, length, map, filter, ap, inl, inr, refl, true, false, ◌==◌, if◌then◌else◌, arith}
-use Rattle.std.specs.List.{All, count_by, fold}
+use Rattle.std.proofs.Common.{◌≡◌, ℕ, ◌+◌, ◌<◌, List, [], ◌∷◌, ◌++◌, length, map, filter, ap, inl, inr, refl, true, false, if◌then◌else◌, arith}
+use Rattle.std.specs.List.{All}
 use Rattle.std.proofs.lemmas.List.Elements.{All-push}
 use Rattle.ts_packet.specs.declared.cell.Cell.{Cell}
 use Rattle.ts_packet.specs.declared.cell.Cell.TheVariants.{Live, Dropped}
@@ -10,10 +10,10 @@ use Rattle.ts_packet.specs.declared.numbers.TheConstants.{PID_COUNT}
 use Rattle.bit_rows.proofs.Fields.{field-below}
 use Rattle.plug_watch.specs.declared.count_conf.CountConf.{CountConf}
 use Rattle.plug_watch.specs.declared.note.Note.{Note}
-use Rattle.plug_watch.specs.Notes.{notes_after}
-use Rattle.plug_watch.specs.CountRule.{is_counted, counted, line_on, packet_text, packets_on}
+use Rattle.plugin_notes.specs.Notes.{notes_after}
+use Rattle.plug_watch.specs.CountRule.{is_counted, counted, line_on, packet_text}
 use Rattle.plug_watch.specs.CountNotes.{note_on, pid_in, place_of, text_on}
-use Rattle.plug_watch.proofs.Noting.{IsNoteAt}
+use Rattle.plugin_notes.proofs.Noting.{IsNoteAt}
 
 -- one note at most
 pub one_note : (conf : CountConf) (history : List Cell) (packet : List ℕ) → IsNoteAt place_of (length history) (note_on conf history packet)
@@ -59,13 +59,3 @@ pids_of-notes conf history (Live packet labels ∷ cells) =
       | false ↦ ih
     ]
 pids_of-notes conf history (Dropped ∷ cells) = pids_of-notes conf (history ++ Dropped ∷ []) cells
-
--- the packets on a PID, counted by the PIDs alone, behind others
-count_from : (pid n : ℕ) (packets : List (List ℕ))
-    → fold (λ (a : ℕ) (q : ℕ). a + (if q == pid then 1 else 0)) n (map pid_of packets) ≡ fold (λ (a : ℕ) (p : List ℕ). a + (if pid_of p == pid then 1 else 0)) n packets
-count_from pid n [] = refl
-count_from pid n (packet ∷ packets) = count_from pid (n + (if pid_of packet == pid then 1 else 0)) packets
-
--- the packets on a PID, counted by the PIDs alone
-pub packets_on-pids : (pid : ℕ) (packets : List (List ℕ)) → count_by (λ q. q == pid) (map pid_of packets) ≡ packets_on pid packets
-packets_on-pids pid packets = count_from pid 0 packets

@@ -12,10 +12,12 @@ use Rattle.ts_packet.specs.Header.{with_counter}
 use Rattle.chain_model.specs.Apply.{apply}
 use Rattle.chain_model.specs.Reports.{said_of}
 use Rattle.plugin_trait.specs.PlacedLines.{placed_of}
-use Rattle.plug_watch.specs.declared.continuity_conf.ContinuityConf.{ContinuityConf}
+use Rattle.plugin_notes.specs.declared.continuity_conf.ContinuityConf.{ContinuityConf}
 use Rattle.plug_watch.specs.declared.count_conf.CountConf.{CountConf}
-use Rattle.plug_watch.specs.ContinuityRule.{continuity_rule, faults_in, right_counter}
-use Rattle.plug_watch.specs.CountRule.{count_rule, numbers_below, pid_lines}
+use Rattle.plug_watch.specs.ContinuityRule.{continuity_rule, faults_in}
+use Rattle.plugin_notes.specs.Counters.{right_counter}
+use Rattle.plug_watch.specs.CountRule.{count_rule, pid_lines}
+use Rattle.plugin_notes.specs.PidPackets.{numbers_below}
 
 -- packets on the PIDs 1, 3 and 256
 abbrev on_1 : List ℕ

@@ -1,24 +1,15 @@
 -- The lines of a summary, one PID after another.
-use Rattle.std.proofs.Common.{◌≡◌, ℕ, ◌+◌, ◌<◌, List, [], ◌∷◌, ◌++◌, map, ap, sym, ◌∙◌, ◌==◌, if◌then◌else◌, add-one, append_assoc, append-nil, get_or}
+use Rattle.std.proofs.Common.{◌≡◌, ℕ, ◌+◌, ◌<◌, List, [], ◌∷◌, ◌++◌, map, ap, sym, ◌∙◌, ◌==◌, if◌then◌else◌, append_assoc, append-nil, get_or}
 use Rattle.std.specs.List.{flat_map}
 use Rattle.std.proofs.lemmas.Grind.{flat_map-append}
-use Rattle.std.proofs.lemmas.List.{map-append}
 use Rattle.ts_packet.specs.Header.{pid_of}
 use Rattle.plugin_trait.specs.declared.line.Line.{Line}
 use Rattle.plugin_trait.specs.PlacedLines.{placed_at}
 use Rattle.ts_packet.specs.declared.numbers.TheConstants.{PID_COUNT}
-use Rattle.plug_watch.specs.Tallies.{IsTally}
-use Rattle.plug_watch.specs.CountRule.{numbers_below, pid_lines, pid_text, packets_on}
-use Rattle.plug_watch.proofs.Counting.{packets_on-pids}
-
--- one number more
-pub numbers_below_more : (n : ℕ) → numbers_below (n + 1) ≡ numbers_below n ++ n ∷ []
-unfolding numbers_below
-numbers_below_more n = ap numbers_below (add-one n)
-
--- lines at a position behind others there
-pub placed_at-append : (cut : ℕ) (xs ys : List (List ℕ)) → placed_at cut (xs ++ ys) ≡ placed_at cut xs ++ placed_at cut ys
-placed_at-append cut xs ys = map-append (λ (text : List ℕ). let line : Line = record { at = cut; text = text } in line) xs ys
+use Rattle.plugin_notes.specs.Tallies.{IsTally}
+use Rattle.plugin_notes.specs.PidPackets.{numbers_below, packets_on}
+use Rattle.plug_watch.specs.CountRule.{pid_lines, pid_text}
+use Rattle.plugin_notes.proofs.PidLemmas.{numbers_below_more, packets_on-pids, placed_at-append}
 
 -- the lines with those of one PID more
 pub pid_lines_more : (packets : List (List ℕ)) (counts : List ℕ) (total cut pid count : ℕ) (before lines lines_new : List Line)

@@ -2,7 +2,7 @@
 use Rattle.std.specs.Prelude.{ℕ, List}
 use Rattle.ts_packet.specs.declared.cell.Cell.{Cell}
 use Rattle.plug_watch.specs.ContinuitySeen.{Watches}
-use Rattle.plug_watch.specs.declared.continuity_conf.ContinuityConf.{ContinuityConf}
+use Rattle.plugin_notes.specs.declared.continuity_conf.ContinuityConf.{ContinuityConf}
 use Rattle.plug_watch.specs.declared.continuity.Continuity.{Continuity}
 
 -- the settings of the plugin

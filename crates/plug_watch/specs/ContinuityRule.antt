@@ -1,42 +1,12 @@
 -- The rule of `continuity`. This project's own rule, over the continuity_counter of ISO/IEC 13818-1, 2.4.3.3.
-use Rattle.std.specs.Prelude.{ℕ, ◌+◌, ◌%◌, List, [], ◌∷◌, ◌++◌, length, filter, Bool, false, not, ◌==◌, ◌&&◌, Option, None, Some, codes, if◌then◌else◌}
+use Rattle.std.specs.Prelude.{ℕ, List, [], ◌∷◌, ◌++◌, length, false, ◌&&◌, Option, None, Some, codes, if◌then◌else◌}
 use Rattle.std.specs.Fmt.{decimal}
 use Rattle.ts_packet.specs.declared.cell.Cell.{Cell}
-use Rattle.ts_packet.specs.Cells.{live_packets}
-use Rattle.ts_packet.specs.Header.{pid_of, counter_of, has_payload_of, with_counter}
-use Rattle.ts_packet.specs.Adaptation.{discontinuity_of}
+use Rattle.ts_packet.specs.Header.{pid_of, counter_of, with_counter}
 use Rattle.chain_model.specs.PluginRule.{PluginRule, passes}
-use Rattle.ts_packet.specs.declared.numbers.TheConstants.{NULL_PID}
-use Rattle.plug_watch.specs.declared.continuity_conf.ContinuityConf.{ContinuityConf}
-use Rattle.plug_conf.specs.Selection.{is_selected}
-use Rattle.plug_watch.specs.Notes.{notes_after}
-
--- the packets of the PID are looked at; those of 8191 never are
-abbrev pub is_watched : ContinuityConf → ℕ → Bool
-is_watched conf pid = is_selected conf.pid false pid && not (pid == NULL_PID)
-
--- the packets on a PID, of a list of cells
-abbrev pub packets_of : ℕ → List Cell → List (List ℕ)
-packets_of pid cells = filter (λ packet. pid_of packet == pid) (live_packets cells)
-
--- a packet repeats the one before it on its PID: both have payload and the same counter
-abbrev pub is_duplicate : List ℕ → List ℕ → Bool
-is_duplicate before packet = has_payload_of before && (has_payload_of packet
-    && (counter_of packet == counter_of before && not (discontinuity_of packet)))
-
--- the counter that is to follow: one more for a packet with payload
-abbrev pub wanted_behind : List ℕ → List ℕ → ℕ
-wanted_behind before packet = if has_payload_of packet then (counter_of before + 1) % 16 else counter_of before
-
--- a counter that is not the wanted one, without a flag that it may be so and without being repeated
-abbrev pub is_fault : List ℕ → List ℕ → Bool
-is_fault before packet = not (counter_of packet == wanted_behind before packet)
-    && (not (is_duplicate before packet) && not (discontinuity_of packet))
-
--- `packet <position> pid <pid> counter <c> wanted <w>`
-abbrev pub fault_text : ℕ → ℕ → ℕ → ℕ → List ℕ
-fault_text at pid counter wanted = codes "packet " ++ (decimal at ++ (codes " pid " ++ (decimal pid
-    ++ (codes " counter " ++ (decimal counter ++ (codes " wanted " ++ decimal wanted))))))
+use Rattle.plugin_notes.specs.declared.continuity_conf.ContinuityConf.{ContinuityConf}
+use Rattle.plugin_notes.specs.Notes.{notes_after}
+pub use Rattle.plugin_notes.specs.Counters.{is_watched, packets_of, is_duplicate, wanted_behind, is_fault, fault_text, last_behind, last_in, last_of, step_behind, steps_behind, right_counter}
 
 -- the line of a packet at a position, behind the packet before it on its PID: where it is a fault
 abbrev pub fault_behind : ℕ → Option (List ℕ) → List ℕ → List (List ℕ)
@@ -45,20 +15,6 @@ fault_behind at (Some before) packet =
     if is_fault before packet
     then fault_text at (pid_of packet) (counter_of packet) (wanted_behind before packet) ∷ []
     else []
-
--- the last of a packet and those that follow it
-abbrev pub last_behind : List ℕ → List (List ℕ) → List ℕ
-last_behind first [] = first
-last_behind first (packet ∷ packets) = last_behind packet packets
-
--- the last packet, where there is one
-abbrev pub last_in : List (List ℕ) → Option (List ℕ)
-last_in [] = None
-last_in (first ∷ rest) = Some (last_behind first rest)
-
--- the last packet on a PID
-abbrev pub last_of : ℕ → List Cell → Option (List ℕ)
-last_of pid history = last_in (packets_of pid history)
 
 -- the line of a packet behind a history, where its PID is looked at
 abbrev pub fault_on : ContinuityConf → List Cell → List ℕ → List (List ℕ)
@@ -70,20 +26,6 @@ fault_on conf history packet =
 -- the lines of the faults in a list of cells
 abbrev pub faults_in : ContinuityConf → List Cell → List (List ℕ)
 faults_in conf cells = notes_after (fault_on conf) [] cells
-
--- 1 for a packet whose counter goes on: one with payload that repeats none
-abbrev pub step_behind : List ℕ → List ℕ → ℕ
-step_behind before packet = if has_payload_of packet && not (is_duplicate before packet) then 1 else 0
-
--- how many packets go on, of those that follow a packet on its PID
-abbrev pub steps_behind : List ℕ → List (List ℕ) → ℕ
-steps_behind before [] = 0
-steps_behind before (packet ∷ packets) = step_behind before packet + steps_behind packet packets
-
--- the counter that the last of the packets on a PID is to have: the first one's, gone on
-abbrev pub right_counter : List (List ℕ) → ℕ
-right_counter [] = 0
-right_counter (first ∷ rest) = (counter_of first + steps_behind first rest) % 16
 
 -- the packet with its counter put right: that field is set, and nothing else (`with_counter-sets` of `ts_packet`)
 abbrev pub fixed : List Cell → List ℕ → List ℕ

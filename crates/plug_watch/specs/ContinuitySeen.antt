@@ -1,78 +1,13 @@
 -- What `continuity` keeps of the packets on a PID. This project's own rule.
-use Rattle.std.specs.Prelude.{◌≡◌, ◌<◌, ℕ, ◌+◌, ◌%◌, List, [], ◌∷◌, length, map, Bool, true, not, ◌==◌, ◌&&◌, Option, None, Some, if◌then◌else◌}
-use Rattle.std.specs.List.{slice_index_or}
+use Rattle.std.specs.Prelude.{◌≡◌, ℕ, List, map}
 use Rattle.ts_packet.specs.declared.cell.Cell.{Cell}
 use Rattle.plugin_trait.specs.declared.line.Line.{Line}
-use Rattle.ts_packet.specs.Header.{pid_of, counter_of, has_payload_of}
-use Rattle.ts_packet.specs.Adaptation.{discontinuity_of}
-use Rattle.ts_packet.specs.declared.numbers.TheConstants.{PID_COUNT}
-use Rattle.plug_watch.specs.declared.continuity_conf.ContinuityConf.{ContinuityConf}
-use Rattle.plug_watch.specs.ContinuityRule.{is_watched, packets_of, last_behind, right_counter}
-use Rattle.plug_watch.specs.ContinuityErrors.{error_on, line_of_error}
-use Rattle.plug_watch.specs.NotesKept.{KeepsNotes, notes_below}
-use Rattle.plug_watch.specs.declared.continuity_error.ContinuityError.{ContinuityError}
-use Rattle.plug_watch.specs.declared.last_packet.LastPacket.{LastPacket}
-use Rattle.plug_watch.specs.declared.last_packets.LastPackets.{LastPackets}
-
--- of the packets on a PID the last one's counter and payload, and the counter that it was to have
-abbrev pub seen_in : List (List ℕ) → Option LastPacket
-seen_in [] = None
-seen_in (first ∷ rest) = Some (record {
-  counter = counter_of (last_behind first rest);
-  has_payload = has_payload_of (last_behind first rest);
-  right = right_counter (first ∷ rest);
-})
-
--- a packet repeats the one that was seen
-abbrev pub repeats : LastPacket → List ℕ → Bool
-repeats seen packet = seen.has_payload && (has_payload_of packet
-    && (counter_of packet == seen.counter && not (discontinuity_of packet)))
-
--- the counter that is to follow
-abbrev pub wanted_after : LastPacket → List ℕ → ℕ
-wanted_after seen packet = if has_payload_of packet then (seen.counter + 1) % 16 else seen.counter
-
--- the packet's counter is a fault
-abbrev pub is_wrong : LastPacket → List ℕ → Bool
-is_wrong seen packet = not (counter_of packet == wanted_after seen packet)
-    && (not (repeats seen packet) && not (discontinuity_of packet))
-
--- the fault of a packet at a position
-abbrev pub fault_after : ℕ → Option LastPacket → List ℕ → List ContinuityError
-fault_after at None packet = []
-fault_after at (Some seen) packet =
-    if is_wrong seen packet
-    then record { at = at; pid = pid_of packet; counter = counter_of packet; wanted = wanted_after seen packet } ∷ []
-    else []
-
--- the counter that the packet is to have
-abbrev pub right_after : Option LastPacket → List ℕ → ℕ
-right_after None packet = counter_of packet
-right_after (Some seen) packet =
-    if has_payload_of packet && not (repeats seen packet) then (seen.right + 1) % 16 else seen.right
-
--- what is kept with one packet more
-abbrev pub seen_with : Option LastPacket → List ℕ → LastPacket
-seen_with seen packet = record {
-  counter = counter_of packet;
-  has_payload = has_payload_of packet;
-  right = right_after seen packet;
-}
-
--- counters are below 16
-abbrev pub HasCounters : Option LastPacket → Type 0
-HasCounters None = Unit {0}
-HasCounters (Some seen) = (seen.counter < 16) × (seen.right < 16)
-
--- there is a place for each PID, and counters are below 16
-pub record IsTable (last : LastPackets) : Type 0 where
-  pub whole : length last.seen.items ≡ PID_COUNT
-  pub small : (pid : ℕ) → HasCounters (slice_index_or last.seen.items pid None)
-
--- what is kept of each PID that is looked at is that of the packets on it
-pub record Remembers (conf : ContinuityConf) (last : LastPackets) (history : List Cell) : Type 0 where
-  pub table : IsTable last
-  pub each : (pid : ℕ) → pid < PID_COUNT → is_watched conf pid ≡ true → slice_index_or last.seen.items pid None ≡ seen_in (packets_of pid history)
+use Rattle.plugin_notes.specs.declared.continuity_conf.ContinuityConf.{ContinuityConf}
+use Rattle.plugin_notes.specs.ContinuityErrors.{error_on, line_of_error}
+use Rattle.plugin_notes.specs.NotesKept.{KeepsNotes, notes_below}
+use Rattle.plugin_notes.specs.declared.continuity_error.ContinuityError.{ContinuityError}
+use Rattle.plugin_notes.specs.declared.last_packets.LastPackets.{LastPackets}
+pub use Rattle.plugin_notes.specs.LastSeen.{seen_in, repeats, wanted_after, is_wrong, fault_after, right_after, seen_with, HasCounters, IsTable, Remembers}
 
 -- the last packets are remembered; the faults before the mark are in the lines, and those behind it in the notes
 pub record Watches (conf : ContinuityConf) (last : LastPackets) (notes : List ContinuityError) (lines : List Line) (history : List Cell) (mark : ℕ) : Type 0 where

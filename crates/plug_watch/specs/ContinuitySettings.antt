@@ -2,7 +2,7 @@
 -- This project's own rule.
 use Rattle.ts_packet.specs.declared.numbers.TheConstants.{PID_COUNT}
 use Rattle.plug_conf.specs.NumberSet.{AllBelow}
-use Rattle.plug_watch.specs.declared.continuity_conf.ContinuityConf.{ContinuityConf}
+use Rattle.plugin_notes.specs.declared.continuity_conf.ContinuityConf.{ContinuityConf}
 
 -- the settings have what `continuity` needs, each number in its range, and no two that exclude each other
 pub record IsLawfulContinuity (c : ContinuityConf) : Type 0 where

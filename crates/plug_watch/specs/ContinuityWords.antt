@@ -1,7 +1,7 @@
 -- The words of `continuity`.
 -- This project's own rule.
 use Rattle.std.specs.Prelude.{List, [], ◌∷◌, codes, true, unwrap_or}
-use Rattle.plug_watch.specs.declared.continuity_conf.ContinuityConf.{ContinuityConf}
+use Rattle.plugin_notes.specs.declared.continuity_conf.ContinuityConf.{ContinuityConf}
 use Rattle.plug_conf.specs.declared.limits.TheConstants.{LAST_PID}
 use Rattle.option_words.specs.Forms.{ranges}
 use Rattle.option_words.specs.Options.{OptionRow, flag, has_flag, read_value, value}

@@ -4,10 +4,10 @@ use Rattle.ts_packet.specs.declared.cell.Cell.{Cell}
 use Rattle.ts_packet.specs.Header.{pid_of}
 use Rattle.plugin_trait.specs.declared.line.Line.{Line}
 use Rattle.plug_watch.specs.CountRule.{is_counted, packet_text}
-use Rattle.plug_watch.specs.Tallies.{IsCounted}
+use Rattle.plugin_notes.specs.Tallies.{IsCounted}
 use Rattle.plug_watch.specs.declared.count_conf.CountConf.{CountConf}
 use Rattle.plug_watch.specs.declared.note.Note.{Note}
-use Rattle.plug_watch.specs.declared.tally.Tally.{Tally}
+use Rattle.plugin_notes.specs.declared.tally.Tally.{Tally}
 
 -- a packet that is counted is noted with its position and its PID
 abbrev pub note_on : CountConf → List Cell → List ℕ → List Note

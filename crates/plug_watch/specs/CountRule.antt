@@ -1,5 +1,5 @@
 -- The rule of `count`. This project's own rule, over the PID of ISO/IEC 13818-1, 2.4.3.2.
-use Rattle.std.specs.Prelude.{ℕ, zero, suc, List, [], ◌∷◌, ◌++◌, length, filter, count_by, Bool, false, ◌==◌, codes, if◌then◌else◌}
+use Rattle.std.specs.Prelude.{ℕ, List, [], ◌∷◌, ◌++◌, length, filter, Bool, false, ◌==◌, codes, if◌then◌else◌}
 use Rattle.std.specs.List.{flat_map}
 use Rattle.std.specs.Fmt.{decimal}
 use Rattle.ts_packet.specs.declared.cell.Cell.{Cell}
@@ -9,6 +9,8 @@ use Rattle.chain_model.specs.PluginRule.{PluginRule, passes}
 use Rattle.ts_packet.specs.declared.numbers.TheConstants.{PID_COUNT}
 use Rattle.plug_watch.specs.declared.count_conf.CountConf.{CountConf}
 use Rattle.plug_conf.specs.Selection.{is_selected}
+pub use Rattle.plugin_notes.specs.PidPackets.{packets_on}
+unfoldable pub use Rattle.plugin_notes.specs.PidPackets.{numbers_below}
 
 -- the packet is one of those that are counted
 abbrev pub is_counted : CountConf → List ℕ → Bool
@@ -17,10 +19,6 @@ is_counted conf packet = is_selected conf.pid conf.negate (pid_of packet)
 -- the packets that are counted, of a list of cells
 abbrev pub counted : CountConf → List Cell → List (List ℕ)
 counted conf cells = filter (is_counted conf) (live_packets cells)
-
--- how many of the packets are on the PID
-abbrev pub packets_on : ℕ → List (List ℕ) → ℕ
-packets_on pid packets = count_by (λ packet. pid_of packet == pid) packets
 
 -- the line on a packet: `packet <position> pid <pid>`
 abbrev pub packet_text : ℕ → ℕ → List ℕ
@@ -37,11 +35,6 @@ total_text n = codes "total " ++ decimal n
 -- a PID that has packets has its line
 abbrev pub pid_lines : List (List ℕ) → ℕ → List (List ℕ)
 pid_lines packets pid = if packets_on pid packets == 0 then [] else pid_text pid (packets_on pid packets) ∷ []
-
--- the numbers below a bound, ascending
-unfoldable pub numbers_below : ℕ → List ℕ
-numbers_below zero = []
-numbers_below (suc n) = numbers_below n ++ n ∷ []
 
 -- the PIDs with their packets, ascending, and then the total; with `total` that alone
 abbrev pub summary_on : Bool → List (List ℕ) → List (List ℕ)

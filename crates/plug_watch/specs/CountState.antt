@@ -5,9 +5,9 @@ use Rattle.chain_model.specs.declared.positions.TheConstants.{POSITION_LIMIT}
 use Rattle.plugin_trait.specs.declared.line.Line.{Line}
 use Rattle.plug_watch.specs.declared.count_conf.CountConf.{CountConf}
 use Rattle.plug_watch.specs.CountNotes.{IsTallied, line_of_note, note_on}
-use Rattle.plug_watch.specs.NotesKept.{KeepsNotes, notes_below}
+use Rattle.plugin_notes.specs.NotesKept.{KeepsNotes, notes_below}
 use Rattle.plug_watch.specs.declared.note.Note.{Note}
-use Rattle.plug_watch.specs.declared.tally.Tally.{Tally}
+use Rattle.plugin_notes.specs.declared.tally.Tally.{Tally}
 
 -- the packets before the mark are in the numbers and, with `all`, in the lines; those behind it are in the notes
 pub record Counts (conf : CountConf) (notes : List Note) (tally : Tally) (lines : List Line) (history : List Cell) (mark : ℕ) : Type 0 where

@@ -1,11 +1,11 @@
-pub mod Notes
+pub use Rattle.plugin_notes.specs.Notes
 pub mod CountRule
 pub mod CountNotes
-pub mod ContinuityErrors
+pub use Rattle.plugin_notes.specs.ContinuityErrors
 pub mod CountState
 pub mod CountConfOf
-pub mod NotesKept
-pub mod Tallies
+pub use Rattle.plugin_notes.specs.NotesKept
+pub use Rattle.plugin_notes.specs.Tallies
 pub mod ContinuityRule
 pub mod ContinuitySeen
 pub mod ContinuityConfOf

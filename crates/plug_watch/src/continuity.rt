@@ -1,14 +1,13 @@
 ghost use Rattle.std.specs.Prelude.{◌≡◌, IfOk, [], None};
 ghost use Rattle.plug_watch.specs.ContinuityRule.{continuity_rule};
 
-use crate::continuity_conf::ContinuityConf;
-use crate::continuity_error::ContinuityError;
-use crate::last_packets::LastPackets;
-use crate::lines::push_line;
-use crate::note_row::{drop_below, push_if_any, push_lines_below};
 use circular_buffer::HeapCircularBuffer;
 use plug_conf::PidSet;
-use plugin_trait::{Line, Outcome, Plugin};
+use plugin_notes::{
+    ContinuityConf, ContinuityError, LastPackets, drop_below, push_if_any, push_line,
+    push_lines_below,
+};
+use plugin_trait::{Line, LineText, Outcome, Plugin};
 use std::alloc::{AllocError, Global};
 use std::mem;
 use ts_packet::{Cell, NULL_PID, PID_COUNT, Packet};
@@ -34,7 +33,8 @@ impl Continuity {
     ghost use Rattle.plugin_trait.specs.Marks.{AllowsMark, Notes};
     ghost use Rattle.plugin_trait.specs.Steps.{MeetsCells};
     ghost use Rattle.plug_watch.specs.ContinuitySettings.{IsLawfulContinuity};
-    ghost use Rattle.plug_watch.specs.ContinuityRule.{continuity_rule, is_watched, fixed};
+    ghost use Rattle.plug_watch.specs.ContinuityRule.{continuity_rule, fixed};
+    ghost use Rattle.plugin_notes.specs.Counters.{is_watched};
     ghost use Rattle.plug_watch.specs.ContinuityConfOf.{StandsFor, conf_of};
 
     /// A plugin that met no cell yet. It takes room for its tables, and for notes on as many packets as the buffer
@@ -137,7 +137,7 @@ impl Plugin for Continuity {
         self.fold(cut)?;
         let mut lines = mem::replace(&mut self.lines, Vec::new(self.alloc));
         let text = format!(in self.alloc; "faults {}", lines.len())?;
-        push_line(&mut lines, cut, text)?;
+        push_line(&mut lines, cut, LineText::of(text))?;
         Ok(lines)
     }
 

@@ -5,10 +5,10 @@ ghost use Rattle.plug_watch.specs.ContinuityWords.{continuity, continuity_rows};
 ghost use Rattle.option_words.specs.Options.{command_of};
 ghost use Rattle.option_words.specs.Refusal.{ReadsParsed};
 
-use crate::continuity_conf::ContinuityConf;
 use clap::Command;
 use option_words::{OptionWord, ParsedOptions, Refusal, command_with};
 use plug_conf::LAST_PID;
+use plugin_notes::ContinuityConf;
 use std::alloc::{AllocError, Global};
 
 // The options of `continuity`.

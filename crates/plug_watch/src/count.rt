@@ -2,15 +2,14 @@ ghost use Rattle.std.specs.Prelude.{◌≡◌, ◌++◌, IfOk, OnOk, OnErr, IsOk
 ghost use Rattle.std.specs.List.{take_while};
 ghost use Rattle.plug_watch.specs.CountNotes.{IsTallied, line_of_note, pid_in, place_of};
 ghost use Rattle.plug_watch.specs.CountRule.{count_rule};
-ghost use Rattle.plug_watch.specs.NotesKept.{CanFold, Folds};
+ghost use Rattle.plugin_notes.specs.NotesKept.{CanFold, Folds};
 
 use crate::count_conf::CountConf;
 use crate::note::Note;
-use crate::note_row::{pop_below, push_lines_below, push_note};
 use crate::summary::push_summary;
-use crate::tally::Tally;
 use circular_buffer::HeapCircularBuffer;
 use plug_conf::PidSet;
+use plugin_notes::{Tally, pop_below, push_lines_below, push_note};
 use plugin_trait::{Line, Outcome, Plugin};
 use std::alloc::{AllocError, Global};
 use std::mem;

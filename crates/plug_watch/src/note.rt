@@ -1,4 +1,4 @@
-use crate::note_row::{LineNote, PacketNote};
+use plugin_notes::{LineNote, PacketNote};
 use plugin_trait::{Line, LineText};
 use std::alloc::{AllocError, Global};
 

@@ -3,12 +3,12 @@ ghost use Rattle.std.specs.Prelude.{◌≡◌, ◌==◌, ◌++◌, ◌∷◌, []
 ghost use Rattle.std.specs.List.{flat_map};
 ghost use Rattle.ts_packet.specs.Header.{pid_of};
 ghost use Rattle.plugin_trait.specs.PlacedLines.{placed_at};
-ghost use Rattle.plug_watch.specs.Tallies.{IsCounted, IsWhole};
-ghost use Rattle.plug_watch.specs.CountRule.{numbers_below, pid_lines, pid_text, summary_on};
+ghost use Rattle.plugin_notes.specs.Tallies.{IsCounted, IsWhole};
+ghost use Rattle.plugin_notes.specs.PidPackets.{numbers_below};
+ghost use Rattle.plug_watch.specs.CountRule.{pid_lines, pid_text, summary_on};
 
-use crate::lines::push_line;
-use crate::tally::Tally;
-use plugin_trait::Line;
+use plugin_notes::{Tally, push_line};
+use plugin_trait::{Line, LineText};
 use std::alloc::AllocError;
 use ts_packet::PID_COUNT;
 
@@ -28,7 +28,7 @@ pub fn push_summary(
         push_pid_lines(lines, cut, tally)?;
     }
     let text = format!(in *lines.allocator(); "total {}", tally.total())?;
-    push_line(lines, cut, text)
+    push_line(lines, cut, LineText::of(text))
 }
 
 // Puts a line for each PID that has packets behind other lines.
@@ -51,5 +51,5 @@ fn push_pid_line(lines: &mut Vec<Line>, cut: u64, pid: u16, count: u64) -> Resul
         return Ok(());
     }
     let text = format!(in *lines.allocator(); "pid {pid} packets {count}")?;
-    push_line(lines, cut, text)
+    push_line(lines, cut, LineText::of(text))
 }

@@ -2,7 +2,7 @@ use Rattle.std.proofs.Common.{eq-eqb, sym, ◌∙◌}
 use Rattle.std.proofs.lemmas.Bool.{ne_eqb}
 use Rattle.ts_packet.specs.Header.{pid_of}
 use Rattle.ts_packet.specs.declared.numbers.TheConstants.{NULL_PID}
-use Rattle.plug_watch.proofs.Watching.{remembers_other}
+use Rattle.plugin_notes.proofs.Remembering.{remembers_other}
 use Rattle.plug_analyze.specs.AnalyzeRule.{all_pids}
 use Rattle.plug_analyze.proofs.CountersLemmas.{any_is, no_fault, unwatched, watched}
 use Rattle.plug_analyze.proofs.counters.meet_counter.Goals as goal

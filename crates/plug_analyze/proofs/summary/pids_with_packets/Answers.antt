@@ -1,5 +1,5 @@
 use Rattle.std.proofs.Common.{ap, arith, length}
-use Rattle.plug_watch.specs.CountRule.{numbers_below}
+use Rattle.plugin_notes.specs.PidPackets.{numbers_below}
 use Rattle.plug_analyze.proofs.SummaryLemmas.{all_pids_more, pids_more}
 use Rattle.plug_analyze.proofs.summary.pids_with_packets.Goals as goal
 

@@ -2,8 +2,8 @@ use Rattle.std.proofs.Common.{◌≡◌, ◌<◌, ◌==◌, ℕ, List, filter, m
 use Rattle.std.specs.List.{All}
 use Rattle.ts_packet.specs.declared.numbers.TheConstants.{PID_COUNT}
 use Rattle.ts_packet.specs.Header.{pid_of}
-use Rattle.plug_watch.specs.CountRule.{numbers_below, packets_on}
-use Rattle.plug_watch.specs.Tallies.{IsCounted}
+use Rattle.plugin_notes.specs.PidPackets.{numbers_below, packets_on}
+use Rattle.plugin_notes.specs.Tallies.{IsCounted}
 use Rattle.plug_analyze.proofs.summary.pids_with_packets.Given as goal
 
 abbrev pub invariant-loop-pid : goal.invariant-loop-pid

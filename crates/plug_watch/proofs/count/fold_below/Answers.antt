@@ -1,9 +1,9 @@
 use Rattle.std.proofs.Common.{[], ◌∷◌, map, refl, subst, sym, ◌∙◌}
 use Rattle.std.proofs.lemmas.List.{map-append}
 use Rattle.plug_watch.specs.CountNotes.{IsTallied, pid_in, place_of}
-use Rattle.plug_watch.specs.Tallies.{IsCounted}
+use Rattle.plugin_notes.specs.Tallies.{IsCounted}
 use Rattle.plug_watch.proofs.CountStates.{has_room}
-use Rattle.plug_watch.proofs.FoldingSteps as folding
+use Rattle.plugin_notes.proofs.FoldingSteps as folding
 use Rattle.plug_watch.proofs.count.fold_below.Goals as goal
 
 pub loop-note-init : goal.loop-note-init

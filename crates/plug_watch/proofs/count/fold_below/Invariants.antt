@@ -1,6 +1,6 @@
 use Rattle.std.proofs.Common.{◌≡◌, length}
 use Rattle.plug_watch.specs.CountNotes.{IsTallied, place_of}
-use Rattle.plug_watch.proofs.FoldingSteps.{IsFolding}
+use Rattle.plugin_notes.proofs.FoldingSteps.{IsFolding}
 use Rattle.plug_watch.proofs.count.fold_below.Given as goal
 
 abbrev pub invariant-loop-note : goal.invariant-loop-note

@@ -1,5 +1,5 @@
 use Rattle.std.proofs.Common.{sym, append-nil}
-use Rattle.plug_watch.specs.CountRule.{numbers_below}
+use Rattle.plugin_notes.specs.PidPackets.{numbers_below}
 use Rattle.plug_watch.proofs.Summing.{pid_lines_more}
 use Rattle.plug_watch.proofs.summary.push_pid_lines.Goals as goal
 

@@ -2,8 +2,9 @@ use Rattle.std.proofs.Common.{◌≡◌, ℕ, List, ◌++◌, map}
 use Rattle.std.specs.List.{flat_map}
 use Rattle.ts_packet.specs.Header.{pid_of}
 use Rattle.plugin_trait.specs.PlacedLines.{placed_at}
-use Rattle.plug_watch.specs.Tallies.{IsTally}
-use Rattle.plug_watch.specs.CountRule.{numbers_below, pid_lines}
+use Rattle.plugin_notes.specs.Tallies.{IsTally}
+use Rattle.plugin_notes.specs.PidPackets.{numbers_below}
+use Rattle.plug_watch.specs.CountRule.{pid_lines}
 use Rattle.plug_watch.proofs.summary.push_pid_lines.Given as goal
 
 abbrev pub invariant-loop-pid : goal.invariant-loop-pid

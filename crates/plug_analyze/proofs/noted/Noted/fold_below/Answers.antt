@@ -1,4 +1,4 @@
-use Rattle.plug_watch.proofs.FoldingSteps as folding
+use Rattle.plugin_notes.proofs.FoldingSteps as folding
 use Rattle.plug_analyze.specs.AnalyzeNotes.{pid_in, place_of}
 use Rattle.plug_analyze.specs.TotalsOf.{AreTotals}
 use Rattle.plug_analyze.proofs.NotesKeeping.{has_room}

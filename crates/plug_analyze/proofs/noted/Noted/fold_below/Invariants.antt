@@ -1,5 +1,5 @@
 use Rattle.std.proofs.Common.{length}
-use Rattle.plug_watch.proofs.FoldingSteps.{IsFolding}
+use Rattle.plugin_notes.proofs.FoldingSteps.{IsFolding}
 use Rattle.plug_analyze.specs.AnalyzeNotes.{place_of}
 use Rattle.plug_analyze.specs.TotalsOf.{AreTotals}
 use Rattle.plug_analyze.proofs.noted.Noted.fold_below.Given as goal

@@ -1,6 +1,6 @@
 use Rattle.std.proofs.Common.{sym, subst, filter}
 use Rattle.plug_analyze.specs.declared.note.Note.{Note}
-use Rattle.plug_watch.specs.Tallies.{IsCounted}
+use Rattle.plugin_notes.specs.Tallies.{IsCounted}
 use Rattle.plug_analyze.specs.TotalsOf.{pids_of}
 use Rattle.plug_analyze.proofs.NotesLemmas.{pids_of-more, pids_where-more}
 use Rattle.plug_analyze.proofs.totals.Totals.add.Goals as goal

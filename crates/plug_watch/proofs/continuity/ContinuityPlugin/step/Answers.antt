@@ -5,7 +5,8 @@ use Rattle.ts_packet.specs.declared.cell.Cell.TheVariants.{Live}
 use Rattle.ts_packet.specs.Header.{pid_of}
 use Rattle.chain_model.specs.Apply.{became, goes_on}
 use Rattle.plugin_trait.specs.Steps.{SameKind}
-use Rattle.plug_watch.specs.ContinuityRule.{continuity_rule, fixed, is_watched}
+use Rattle.plug_watch.specs.ContinuityRule.{continuity_rule, fixed}
+use Rattle.plugin_notes.specs.Counters.{is_watched}
 use Rattle.plug_watch.specs.ContinuityConfOf.{StandsFor, conf_of}
 use Rattle.plug_watch.proofs.Watching.{watches_dropped, watches_other}
 use Rattle.plug_watch.proofs.continuity.ContinuityPlugin.step.Goals as goal

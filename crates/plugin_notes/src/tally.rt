@@ -1,0 +1,66 @@
+ghost use Rattle.std.specs.Prelude.{◌≡◌, ◌<◌, ◌++◌, ◌∷◌, [], ℕ, List, IfOk, slice_index, if◌then◌else◌};
+
+use std::alloc::{AllocError, Global};
+use ts_packet::PID_COUNT;
+
+/// How many packets were counted on each PID, and in all.
+#[derive(Drop)]
+pub struct Tally {
+    counts: Vec<u64>,
+    total: u64,
+}
+
+impl Tally {
+    ghost use Rattle.std.specs.Prelude.{◌≡◌, ◌<◌, ◌++◌, ◌∷◌, [], ℕ, List, IfOk, slice_index, if◌then◌else◌};
+    ghost use Rattle.plugin_notes.specs.Tallies.{IsCounted, HasRoomIn, IsWhole};
+
+    /// Nothing counted yet. It takes 64 KiB.
+    pub fn new(alloc: Global) -> Result<Tally, AllocError>
+        ensures { IfOk result (λ tally. IsCounted tally []) }
+    {
+        let mut counts = Vec::with_capacity(alloc, usize::from(PID_COUNT))?;
+        for _ in 0..PID_COUNT {
+            counts.push(0)?;
+        }
+        Ok(Tally { counts, total: 0 })
+    }
+
+    /// Counts one packet more on a PID.
+    #[inline]
+    pub fn add(&mut self, pid: u16)
+        requires on_pid { pid < PID_COUNT }
+        requires room { HasRoomIn self.old }
+        ensures { (pids : List ℕ) → IsCounted self.old pids → IsCounted self.new (pids ++ pid ∷ []) }
+    {
+        self.counts[usize::from(pid)] += 1;
+        self.total += 1;
+    }
+
+    /// Counts one packet more on a PID, if it is one of those that are counted.
+    #[inline]
+    pub fn add_if(&mut self, is_one: bool, pid: u16)
+        requires on_pid { pid < PID_COUNT }
+        requires room { HasRoomIn self.old }
+        ensures { (pids : List ℕ) → IsCounted self.old pids → IsCounted self.new (pids ++ (if is_one then pid ∷ [] else [])) }
+    {
+        if is_one {
+            self.add(pid);
+        }
+    }
+
+    /// How many packets were counted on a PID.
+    pub fn count_on(&self, pid: u16) -> u64
+        requires on_pid { pid < PID_COUNT }
+        requires whole { IsWhole self.now }
+        ensures { result ≡ slice_index self.now.counts.items pid }
+    {
+        self.counts[usize::from(pid)]
+    }
+
+    /// How many packets were counted in all.
+    pub fn total(&self) -> u64
+        ensures { result ≡ self.now.total }
+    {
+        self.total
+    }
+}
