@@ -3,4 +3,5 @@ pub mod Bytes
 pub mod Clocks
 pub mod HeaderLaws
 pub mod LabelLemmas
+pub mod RowLemmas
 mod Rows

@@ -1,10 +1,14 @@
 -- Worked rows: the definitions computed on heads of packets of other makers.
 use Rattle.std.proofs.Common.{◌≡◌, ℕ, List, [], ◌∷◌, true, Some, None, refl}
 use Rattle.bit_rows.specs.BitRow.{bit_of, field}
+use Rattle.ts_packet.specs.declared.cell.Cell.{Cell}
+use Rattle.ts_packet.specs.declared.cell.Cell.TheVariants.{Live, Dropped}
 use Rattle.ts_packet.specs.Packet.{null_packet}
 use Rattle.ts_packet.specs.Header.{pid_of, counter_of, unit_start_of, with_pid, with_counter}
 use Rattle.ts_packet.specs.Adaptation.{adaptation_length_of, discontinuity_of}
 use Rattle.ts_packet.specs.Payload.{payload_start_of, payload_of}
+use Rattle.ts_packet.specs.LiveRows.{labelled, live_rows}
+use Rattle.ts_packet.specs.MetRows.{met_rows}
 use Rattle.ts_packet.specs.Pcr.{pcr_of, has_pcr_of, clock_of, with_pcr}
 
 -- the first PCR of a muxer's stream, with its discontinuity flag, and two payload bytes
@@ -68,3 +72,13 @@ null-pid-written = refl
 counter-written : with_counter (0x47 ∷ 0x41 ∷ 0x20 ∷ 0x3F ∷ []) 2 ≡ 0x47 ∷ 0x41 ∷ 0x20 ∷ 0x32 ∷ []
 unfolding with_counter
 counter-written = refl
+
+-- two packets with their labels, and between them a dropped cell, which has no row and keeps its position
+abbrev cells : List Cell
+cells = Live unlawful 5 ∷ Dropped ∷ Live clocked 0 ∷ []
+
+rows-of-cells : live_rows cells ≡ labelled unlawful 5 ∷ labelled clocked 0 ∷ []
+rows-of-cells = refl
+
+met-of-cells : met_rows cells ≡ record { at = 0; packet = unlawful; labels = 5 } ∷ record { at = 2; packet = clocked; labels = 0 } ∷ []
+met-of-cells = refl

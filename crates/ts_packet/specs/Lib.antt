@@ -5,3 +5,5 @@ pub mod Pcr
 pub mod Payload
 pub mod Labels
 pub mod Cells
+pub mod LiveRows
+pub mod MetRows

@@ -4,14 +4,18 @@
 
 mod cell;
 mod label_laws;
+mod labelled;
 mod labels;
 mod no_sync;
 mod numbers;
 mod packet;
+mod row_laws;
 
 pub use cell::Cell;
 pub use label_laws::labels_are_a_set;
+pub use labelled::Labelled;
 pub use labels::{LABEL_COUNT, Labels};
 pub use no_sync::NoSync;
 pub use numbers::{NULL_PID, PACKET_SIZE, PAYLOAD_SIZE, PID_COUNT, SYNC_BYTE};
 pub use packet::Packet;
+pub use row_laws::{met_rows_are_live_rows, rows_are_live_packets};

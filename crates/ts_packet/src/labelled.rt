@@ -1,0 +1,11 @@
+use crate::labels::Labels;
+use crate::packet::Packet;
+
+/// The packet of a live cell with its labels, as a plugin that gives it later keeps it.
+#[derive(Clone, Copy, Debug, PartialEq, Eq)]
+pub struct Labelled {
+    /// The packet.
+    pub packet: Packet,
+    /// Its labels.
+    pub labels: Labels,
+}
