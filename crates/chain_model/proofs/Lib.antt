@@ -1,5 +1,6 @@
 pub mod PrefixLemmas
 pub mod ApplyLaws
+pub mod PositionLaws
 pub mod AgreementLaws
 pub mod GreatestLaws
 pub mod JointLaws

@@ -3,6 +3,7 @@ pub mod Written
 pub mod PluginRule
 pub mod SeenCells
 pub mod Apply
+pub mod NeverEnds
 pub mod StageLists
 pub mod Joint
 pub mod Cut

@@ -1,9 +1,11 @@
 //! Laws of the run without faults, each a fact and no code.
 
-ghost use Rattle.std.specs.Prelude.{◌≡◌, ℕ, List, Some, IsSome};
+ghost use Rattle.std.specs.Prelude.{◌≡◌, ◌<◌, ◌++◌, ℕ, List, Some, None, IsSome, length, slice_index_or, take};
+ghost use Rattle.ts_packet.specs.declared.cell.Cell.{Cell};
 ghost use Rattle.chain_model.specs.declared.cause.Cause.TheVariants.{Joint};
 ghost use Rattle.chain_model.specs.PluginRule.{PluginRule};
-ghost use Rattle.chain_model.specs.Apply.{StageList};
+ghost use Rattle.chain_model.specs.Apply.{StageList, apply, apply_after, became, goes_on};
+ghost use Rattle.chain_model.specs.NeverEnds.{NeverEnds};
 ghost use Rattle.chain_model.specs.Joint.{joint_position};
 ghost use Rattle.chain_model.specs.Cut.{cut_of, cause_of};
 
@@ -15,4 +17,17 @@ pub fn joint_is_at_the_cut()
         → joint_position rules input users ≡ Some (cut_of rules input users) }
     ensures always { (rules : List PluginRule) (input : StageList) (users : List ℕ)
         → joint_position rules input users ≡ Some (cut_of rules input users) → cause_of rules input users ≡ Joint }
+{}
+
+/// A rule that never ends its list gives one cell for each, in its place: what it makes of that cell behind those before
+/// it. So what it gives for a list behind another stands behind what it gives for that other.
+pub fn each_position_by_itself()
+    ensures ended { (rule : PluginRule) (cells : List Cell) → NeverEnds rule → (apply rule cells).ended ≡ None }
+    ensures count { (rule : PluginRule) (cells : List Cell) → NeverEnds rule
+        → length (apply rule cells).cells ≡ length cells }
+    ensures cell { (rule : PluginRule) (cells : List Cell) (p : ℕ) (default : Cell) → NeverEnds rule → p < length cells
+        → became rule (take p cells) (slice_index_or cells p default)
+        ≡ goes_on (slice_index_or (apply rule cells).cells p default) }
+    ensures behind { (rule : PluginRule) (first second : List Cell) → NeverEnds rule
+        → (apply rule (first ++ second)).cells ≡ (apply rule first).cells ++ (apply_after rule first second).cells }
 {}

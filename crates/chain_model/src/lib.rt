@@ -11,6 +11,6 @@ mod reason;
 
 pub use cause::Cause;
 pub use input_end::InputEnd;
-pub use laws::joint_is_at_the_cut;
+pub use laws::{each_position_by_itself, joint_is_at_the_cut};
 pub use positions::POSITION_LIMIT;
 pub use reason::Reason;
