@@ -1,11 +1,11 @@
 -- The rule of `filter`. This project's own rule, over the fields of ISO/IEC 13818-1, 2.4.3.2 to 2.4.3.5.
-use Rattle.std.specs.Prelude.{ℕ, List, Bool, not, is_some, ◌==◌, ◌&&◌, ◌||◌, if◌then◌else◌}
+use Rattle.std.specs.Prelude.{ℕ, List, Bool, None, not, is_some, ◌==◌, ◌&&◌, ◌||◌, if◌then◌else◌}
 use Rattle.ts_packet.specs.Labels.{joined, shares_label}
-use Rattle.ts_packet.specs.Packet.{null_packet}
 use Rattle.ts_packet.specs.Header.{pid_of, unit_start_of, scrambling_of}
 use Rattle.ts_packet.specs.Pcr.{pcr_of}
-use Rattle.plugin_trait.specs.SilentRule.{silent_rule}
-use Rattle.chain_model.specs.PluginRule.{PluginRule, RuleOutcome, passes, drops}
+use Rattle.plugin_trait.specs.Fates.{fate}
+use Rattle.plugin_trait.specs.SilentRule.{silent_rule_with}
+use Rattle.chain_model.specs.PluginRule.{PluginRule, RuleOutcome, passes}
 use Rattle.plug_conf.specs.LabelSet.{label_set}
 use Rattle.plug_conf.specs.NumberSet.{has_number}
 use Rattle.plug_pass.specs.declared.filter_conf.FilterConf.{FilterConf}
@@ -24,15 +24,12 @@ abbrev pub selects : FilterConf → List ℕ → ℕ → Bool
 selects conf packet labels =
     if conf.negate then not (meets_condition conf packet labels) else meets_condition conf packet labels
 
--- what becomes of a packet that does not pass: it is dropped, or becomes a null packet
-abbrev pub left_out : Bool → RuleOutcome
-left_out stuffing = if stuffing then passes null_packet else drops
-
--- what becomes of a packet: where labels are set every one passes; else the selected ones, and the others are left out
+-- what becomes of a packet: where labels are set every one passes; else the selected ones do, and the others are dropped,
+-- or become null packets
 abbrev pub filtered : FilterConf → List ℕ → ℕ → RuleOutcome
 filtered conf packet labels =
     if sets_labels conf then passes packet
-    else if selects conf packet labels then passes packet else left_out conf.stuffing
+    else if selects conf packet labels then passes packet else fate conf.stuffing None
 
 -- the labels of a packet then: where labels are set, a selected one has these besides its own
 abbrev pub labelled : FilterConf → List ℕ → ℕ → ℕ
@@ -41,7 +38,6 @@ labelled conf packet labels =
 
 -- what becomes of a packet and of its labels does not depend on the cells before
 abbrev pub filter_rule : FilterConf → PluginRule
-filter_rule conf = record (silent_rule (λ _ packet. passes packet)) {
-  outcome_of = λ _ packet labels. filtered conf packet labels;
-  labels_of = λ _ packet labels. labelled conf packet labels;
-}
+filter_rule conf = silent_rule_with
+    (λ _ packet labels. filtered conf packet labels)
+    (λ _ packet labels. labelled conf packet labels)

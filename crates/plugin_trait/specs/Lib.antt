@@ -4,3 +4,4 @@ pub mod PlacedLines
 pub mod Driving
 pub mod LiveCount
 pub mod SilentRule
+pub mod Fates
