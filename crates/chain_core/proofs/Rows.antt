@@ -1,7 +1,7 @@
 -- Worked rows of the machine, computed on the definitions: two plugins between the input and the output.
 use Rattle.std.proofs.Common.{◌≡◌, ℕ, List, [], ◌∷◌, ◌++◌, false, Some, None, replicate, refl}
 use Rattle.std.specs.Prelude.{reverse}
-use Rattle.ts_packet.specs.declared.cell.Cell.TheVariants.{Dropped}
+use Rattle.ts_packet.specs.Cells.{Dropped}
 use Rattle.chain_model.specs.declared.cause.Cause.TheVariants as cause
 use Rattle.chain_core.specs.declared.core_plan.CorePlan.{CorePlan}
 use Rattle.chain_core.specs.declared.stage_end.StageEnd.{StageEnd}

@@ -1,7 +1,7 @@
 -- What a plugin makes of a first part of its cells, against what it makes of all of them.
 use Rattle.std.proofs.Common.{◌≡◌, ◌≢◌, ℕ, suc, ◌<◌, ◌≤◌, List, [], ◌∷◌, ◌++◌, length, Some, None, refl, ap, arith}
 use Rattle.ts_packet.specs.declared.cell.Cell.{Cell}
-use Rattle.ts_packet.specs.declared.cell.Cell.TheVariants.{Live, Dropped}
+use Rattle.ts_packet.specs.Cells.{Live, Dropped}
 use Rattle.chain_model.specs.PluginRule.{PluginRule, RuleOutcome, passes, drops, lasts, stops, refuses, passing_rule}
 use Rattle.chain_model.specs.Apply.{OwnEnd, last_passed, StageList, CellOutcome, goes_on, ends_after, ends_before, outcome_of_live, became, onto, apply_after, apply}
 

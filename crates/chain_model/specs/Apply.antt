@@ -1,7 +1,7 @@
 -- What a plugin makes of a list of cells, position by position. This project's own rule.
 use Rattle.std.specs.Prelude.{ℕ, List, [], ◌∷◌, ◌++◌, Option, None, Some}
 use Rattle.ts_packet.specs.declared.cell.Cell.{Cell}
-use Rattle.ts_packet.specs.declared.cell.Cell.TheVariants.{Live, Dropped}
+use Rattle.ts_packet.specs.Cells.{Live, Dropped}
 use Rattle.chain_model.specs.declared.reason.Reason.{Reason}
 use Rattle.chain_model.specs.declared.input_end.InputEnd.{InputEnd}
 use Rattle.chain_model.specs.PluginRule.{PluginRule, RuleOutcome, passes, drops, lasts, stops, refuses}

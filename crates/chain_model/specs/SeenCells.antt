@@ -2,7 +2,7 @@
 -- This project's own rule.
 use Rattle.std.specs.Prelude.{ℕ, List, [], map, if◌then◌else◌}
 use Rattle.ts_packet.specs.declared.cell.Cell.{Cell}
-use Rattle.ts_packet.specs.declared.cell.Cell.TheVariants.{Live, Dropped}
+use Rattle.ts_packet.specs.Cells.{Live, Dropped}
 use Rattle.ts_packet.specs.Labels.{shares_label}
 use Rattle.chain_model.specs.PluginRule.{PluginRule, passes}
 

@@ -10,7 +10,7 @@ use Rattle.std.proofs.Math.Seq.{drop-cons}
 use Rattle.std.proofs.Math.Nat.{div-add-mod, mul-le-mul_left, mul-suc}
 use Rattle.std.proofs.lemmas.Nat.{mod-mul-add}
 use Rattle.ts_packet.specs.declared.cell.Cell.{Cell}
-use Rattle.ts_packet.specs.declared.cell.Cell.TheVariants.{Dropped}
+use Rattle.ts_packet.specs.Cells.{Dropped}
 use Rattle.chain_run.specs.Slots.{slot, HoldsFrom}
 
 -- ---- rows of cells

@@ -1,7 +1,7 @@
 -- The slots of the buffer. This project's own rule.
 use Rattle.std.specs.Prelude.{◌≡◌, ℕ, suc, ◌%◌, List, [], ◌∷◌, length, slice_index_or}
 use Rattle.ts_packet.specs.declared.cell.Cell.{Cell}
-use Rattle.ts_packet.specs.declared.cell.Cell.TheVariants.{Dropped}
+use Rattle.ts_packet.specs.Cells.{Dropped}
 
 -- the cell at a position: it stands in the slot of that number modulo the number of slots
 abbrev pub slot : List Cell → ℕ → Cell

@@ -44,7 +44,7 @@ impl<S, K, P> RunMemory<S, K, P> {
     {
         let window = plan.most.min(plan.buffer);
         let core = Core::new(alloc, plan)?;
-        let cells = vec![in alloc; Cell::Dropped; plan.buffer]?;
+        let cells = vec![in alloc; Cell::dropped(); plan.buffer]?;
         let input = IoBuffer::new(alloc, window)?;
         let output = IoBuffer::new(alloc, window)?;
         let row = Vec::with_capacity(alloc, plan.plugins + 2)?;

@@ -241,12 +241,14 @@ fn read_file(
     Ok(gave)
 }
 
+/// Two cells without packets.
+fn two() -> [Cell; 2] {
+    [Cell::dropped(), Cell::dropped()]
+}
+
 /// The PID of a cell's packet, and none of a dropped cell.
 fn pid(cell: &Cell) -> Option<u16> {
-    match cell {
-        Cell::Live(packet, _) => Some(packet.pid()),
-        Cell::Dropped => None,
-    }
+    cell.live().map(|live| live.packet.pid())
 }
 
 /// Looks at what was done with a window.
@@ -268,9 +270,9 @@ const PLAIN_END: StageEnd = StageEnd::Input(InputEnd::End { left: 0 });
 
 #[test]
 fn a_file_is_read_in_full_windows(rt: HostRuntime) -> Result<(), Fail> {
-    let mut first = [Cell::Dropped; 2];
-    let mut second = [Cell::Dropped; 2];
-    let mut third = [Cell::Dropped; 2];
+    let mut first = two();
+    let mut second = two();
+    let mut third = two();
     let desk = desk(rt.alloc(), 4, 0, 0)?;
     let gave = read_file(rt.alloc(), desk, 0, &mut first, &mut second, &mut third)?;
     did(&rt, gave.first, 2, None);
@@ -284,9 +286,9 @@ fn a_file_is_read_in_full_windows(rt: HostRuntime) -> Result<(), Fail> {
 
 #[test]
 fn what_one_read_gave_is_handed_on(rt: HostRuntime) -> Result<(), Fail> {
-    let mut first = [Cell::Dropped; 2];
-    let mut second = [Cell::Dropped; 2];
-    let mut third = [Cell::Dropped; 2];
+    let mut first = two();
+    let mut second = two();
+    let mut third = two();
     let desk = slow_desk(rt.alloc(), 4, 188)?;
     let gave = read_file(rt.alloc(), desk, 0, &mut first, &mut second, &mut third)?;
     did(&rt, gave.first, 1, None);
@@ -300,9 +302,9 @@ fn what_one_read_gave_is_handed_on(rt: HostRuntime) -> Result<(), Fail> {
 // A packet is whole after two reads.
 #[test]
 fn half_a_packet_is_not_handed_on(rt: HostRuntime) -> Result<(), Fail> {
-    let mut first = [Cell::Dropped; 2];
-    let mut second = [Cell::Dropped; 2];
-    let mut third = [Cell::Dropped; 2];
+    let mut first = two();
+    let mut second = two();
+    let mut third = two();
     let desk = slow_desk(rt.alloc(), 2, 94)?;
     let gave = read_file(rt.alloc(), desk, 0, &mut first, &mut second, &mut third)?;
     did(&rt, gave.first, 1, None);
@@ -314,9 +316,9 @@ fn half_a_packet_is_not_handed_on(rt: HostRuntime) -> Result<(), Fail> {
 // The first read gives one packet and half of the next one, the second read the rest of that and one more.
 #[test]
 fn half_a_packet_waits_for_the_rest(rt: HostRuntime) -> Result<(), Fail> {
-    let mut first = [Cell::Dropped; 2];
-    let mut second = [Cell::Dropped; 2];
-    let mut third = [Cell::Dropped; 2];
+    let mut first = two();
+    let mut second = two();
+    let mut third = two();
     let desk = slow_desk(rt.alloc(), 3, 282)?;
     let gave = read_file(rt.alloc(), desk, 0, &mut first, &mut second, &mut third)?;
     did(&rt, gave.first, 1, None);
@@ -327,9 +329,9 @@ fn half_a_packet_waits_for_the_rest(rt: HostRuntime) -> Result<(), Fail> {
 
 #[test]
 fn stuffing_comes_first(rt: HostRuntime) -> Result<(), Fail> {
-    let mut first = [Cell::Dropped; 2];
-    let mut second = [Cell::Dropped; 2];
-    let mut third = [Cell::Dropped; 2];
+    let mut first = two();
+    let mut second = two();
+    let mut third = two();
     let desk = desk(rt.alloc(), 2, 0, 0)?;
     let gave = read_file(rt.alloc(), desk, 1, &mut first, &mut second, &mut third)?;
     did(&rt, gave.first, 1, None);
@@ -343,9 +345,9 @@ fn stuffing_comes_first(rt: HostRuntime) -> Result<(), Fail> {
 
 #[test]
 fn a_read_fails_behind_the_first_window(rt: HostRuntime) -> Result<(), Fail> {
-    let mut first = [Cell::Dropped; 2];
-    let mut second = [Cell::Dropped; 2];
-    let mut third = [Cell::Dropped; 2];
+    let mut first = two();
+    let mut second = two();
+    let mut third = two();
     let desk = desk(rt.alloc(), 3, 2, 0)?;
     let gave = read_file(rt.alloc(), desk, 0, &mut first, &mut second, &mut third)?;
     did(&rt, gave.first, 2, None);
@@ -361,9 +363,9 @@ fn a_read_fails_behind_the_first_window(rt: HostRuntime) -> Result<(), Fail> {
 
 #[test]
 fn an_input_of_null_packets_ends(rt: HostRuntime) -> Result<(), Fail> {
-    let mut first = [Cell::Dropped; 2];
-    let mut second = [Cell::Dropped; 2];
-    let mut third = [Cell::Dropped; 2];
+    let mut first = two();
+    let mut second = two();
+    let mut third = two();
     let room = IoBuffer::new(rt.alloc(), 1)?;
     let mut desk = desk(rt.alloc(), 0, 0, 0)?;
     let (part, gave) = gives_and_ends::<MemorySource, MemorySink, StopsAt>(
@@ -384,9 +386,9 @@ fn an_input_of_null_packets_ends(rt: HostRuntime) -> Result<(), Fail> {
 
 #[test]
 fn an_input_of_generated_packets_ends(rt: HostRuntime) -> Result<(), Fail> {
-    let mut first = [Cell::Dropped; 2];
-    let mut second = [Cell::Dropped; 2];
-    let mut third = [Cell::Dropped; 2];
+    let mut first = two();
+    let mut second = two();
+    let mut third = two();
     let room = IoBuffer::new(rt.alloc(), 1)?;
     let mut desk = desk(rt.alloc(), 0, 0, 0)?;
     let generator = TestGen::new(rt.alloc(), 1)?;
@@ -422,10 +424,10 @@ fn edits<S: Source, K: Sink, P: Plugin>(stage: P, cells: &mut [Cell; 4]) -> (P, 
 /// Four cells, of which the second is a dropped one.
 fn four() -> [Cell; 4] {
     [
-        Cell::Live(packet(), Labels::none()),
-        Cell::Dropped,
-        Cell::Live(packet(), Labels::none()),
-        Cell::Live(packet(), Labels::none()),
+        Cell::of(packet(), Labels::none()),
+        Cell::dropped(),
+        Cell::of(packet(), Labels::none()),
+        Cell::of(packet(), Labels::none()),
     ]
 }
 

@@ -22,7 +22,7 @@ impl Plugin for StopsAt {
     ghost steady = { λ s. None };
 
     fn step(&mut self, at: u64, cell: &mut Cell) -> Outcome {
-        if let Cell::Live(_, _) = cell {
+        if let Some(_) = cell.live() {
             if self.position <= at {
                 return Outcome::Stop;
             }

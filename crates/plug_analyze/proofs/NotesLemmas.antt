@@ -4,11 +4,10 @@ use Rattle.std.specs.List.{All}
 use Rattle.std.proofs.lemmas.List.{map-append}
 use Rattle.std.proofs.lemmas.List.Elements.{All-push, filter-append}
 use Rattle.ts_packet.specs.declared.cell.Cell.{Cell}
-use Rattle.ts_packet.specs.declared.cell.Cell.TheVariants.{Live, Dropped}
+use Rattle.ts_packet.specs.Cells.{Live, Dropped, live_packets}
 use Rattle.ts_packet.specs.declared.numbers.TheConstants.{NULL_PID, PID_COUNT}
 use Rattle.bit_rows.proofs.Fields.{field-below}
 use Rattle.ts_packet.specs.Header.{pid_of, counter_of, has_payload_of}
-use Rattle.ts_packet.specs.Cells.{live_packets}
 use Rattle.plugin_notes.specs.declared.continuity_error.ContinuityError.{ContinuityError}
 use Rattle.plugin_notes.specs.Counters.{is_fault, wanted_behind, last_of}
 use Rattle.plugin_notes.specs.ContinuityErrors.{error_behind, error_on}

@@ -3,7 +3,7 @@ use Rattle.std.proofs.Common.{◌≡◌, ℕ, ◌+◌, List, [], ◌∷◌, code
 use Rattle.std.specs.Fmt.{digits}
 use Rattle.bit_rows.specs.BitRow.{bit_of, field}
 use Rattle.ts_packet.specs.declared.cell.Cell.{Cell}
-use Rattle.ts_packet.specs.declared.cell.Cell.TheVariants.{Live, Dropped}
+use Rattle.ts_packet.specs.Cells.{Live, Dropped}
 use Rattle.ts_packet.specs.Adaptation.{adaptation_length_of, discontinuity_of}
 use Rattle.ts_packet.specs.Pcr.{has_pcr_of, pcr_of}
 use Rattle.plug_analyze.specs.AnalyzeRule.{counts_on, pid_text, service_text}

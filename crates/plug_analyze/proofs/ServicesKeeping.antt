@@ -7,8 +7,7 @@ use Rattle.std.proofs.lemmas.Grind.{flat_map-append}
 use Rattle.std.proofs.lemmas.List.{map-append, take_all, take-append-le, take_more}
 use Rattle.std.proofs.lemmas.List.Elements.{All-head, All-push, All-tail, All-weaker, filter_map-append}
 use Rattle.ts_packet.specs.declared.cell.Cell.{Cell}
-use Rattle.ts_packet.specs.declared.cell.Cell.TheVariants.{Live, Dropped}
-use Rattle.ts_packet.specs.Cells.{live_packets, packet_in}
+use Rattle.ts_packet.specs.Cells.{Live, Dropped, live_packets, packet_in}
 use Rattle.ts_table_rows.specs.TableValues.{ItemHolding, TableHolding}
 use Rattle.ts_psi.specs.PatTables.{network_items, pat_held, service_item}
 use Rattle.ts_psi.specs.declared.pat.Pat.{Pat}

@@ -27,7 +27,7 @@ pub struct Analyze {
 impl Analyze {
     ghost use Rattle.std.specs.Prelude.{◌≡◌, ◌<◌, ◌∷◌, ◌++◌, IfOk, OnOk, OnErr, IsErr, [], None, ℕ, List, length, true, false};
     ghost use Rattle.ts_packet.specs.declared.cell.Cell.{Cell as GivenCell};
-    ghost use Rattle.ts_packet.specs.declared.cell.Cell.TheVariants.{Live};
+    ghost use Rattle.ts_packet.specs.Cells.{Live};
     ghost use Rattle.chain_model.specs.declared.positions.TheConstants.{POSITION_LIMIT};
     ghost use Rattle.plug_analyze.specs.AnalyzeRule.{analyze_rule};
     ghost use Rattle.plug_analyze.specs.AnalyzeSettings.{IsLawfulAnalyze};
@@ -108,10 +108,10 @@ impl Plugin for Analyze {
     // Else the loop of `steps` has a call for each cell.
     #[inline(always)]
     fn step(&mut self, at: u64, cell: &mut Cell) -> Outcome {
-        let Cell::Live(packet, _) = cell else {
+        let Some(live) = cell.live() else {
             return Outcome::Pass;
         };
-        match self.meet(at, packet) {
+        match self.meet(at, &live.packet) {
             Ok(()) => Outcome::Pass,
             Err(_) => Outcome::NoMemory,
         }

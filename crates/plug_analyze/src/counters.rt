@@ -1,7 +1,7 @@
 //! The continuity counters of all PIDs.
 ghost use Rattle.std.specs.Prelude.{◌≡◌, ◌∷◌, ◌++◌, [], ℕ, List, length};
 ghost use Rattle.ts_packet.specs.declared.cell.Cell.{Cell as GivenCell};
-ghost use Rattle.ts_packet.specs.declared.cell.Cell.TheVariants.{Live};
+ghost use Rattle.ts_packet.specs.Cells.{Live};
 ghost use Rattle.plugin_notes.specs.LastSeen.{IsTable, Remembers};
 ghost use Rattle.plug_analyze.specs.AnalyzeNotes.{is_fault_at};
 ghost use Rattle.plug_analyze.specs.AnalyzeRule.{all_pids};

@@ -28,7 +28,7 @@ pub struct Services {
 impl Services {
     ghost use Rattle.std.specs.Prelude.{◌≡◌, ◌∷◌, ◌++◌, [], ℕ, List, IfOk, OnOk, length};
     ghost use Rattle.ts_packet.specs.declared.cell.Cell.{Cell as GivenCell};
-    ghost use Rattle.ts_packet.specs.declared.cell.Cell.TheVariants.{Live};
+    ghost use Rattle.ts_packet.specs.Cells.{Live};
     ghost use Rattle.plug_analyze.specs.AnalyzeState.{Serves};
     ghost use Rattle.plug_analyze.specs.ServicesKept.{DropsChanges};
 

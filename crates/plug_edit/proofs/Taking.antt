@@ -4,9 +4,8 @@ use Rattle.std.specs.Prelude.{◌&&◌, if◌then◌else◌, nat_eq, nat_lt}
 use Rattle.std.proofs.lemmas.Grind.{flat_map-append}
 use Rattle.std.proofs.lemmas.List.Elements.{filter-append}
 use Rattle.ts_packet.specs.declared.cell.Cell.{Cell}
-use Rattle.ts_packet.specs.declared.cell.Cell.TheVariants.{Live}
+use Rattle.ts_packet.specs.Cells.{Live, live_packets, packet_in}
 use Rattle.ts_packet.specs.declared.numbers.TheConstants.{NULL_PID}
-use Rattle.ts_packet.specs.Cells.{live_packets, packet_in}
 use Rattle.ts_packet.specs.Header.{pid_of}
 use Rattle.plug_psi.specs.Edits.{Change}
 use Rattle.plug_psi.specs.EditorStands.{StandsFor, has_failed}

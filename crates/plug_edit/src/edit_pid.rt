@@ -50,16 +50,16 @@ impl<E: TableEdit + Drop> Plugin for EditPid<E> {
     ghost steady = { λ s. None };
 
     fn step(&mut self, _at: u64, cell: &mut Cell) -> Outcome {
-        let Cell::Live(packet, _) = cell else {
+        let Some(live) = cell.live_mut() else {
             return Outcome::Pass;
         };
-        if packet.pid() != self.pid {
+        if live.packet.pid() != self.pid {
             return Outcome::Pass;
         }
         if self.pid >= NULL_PID {
             return Outcome::Pass;
         }
-        match self.editor.step(packet) {
+        match self.editor.step(&mut live.packet) {
             Ok(()) => Outcome::Pass,
             Err(_) => Outcome::NoMemory,
         }

@@ -2,7 +2,7 @@
 use Rattle.std.proofs.Common.{◌≡◌, ℕ, List, [], ◌∷◌, None, Some, true, false, refl}
 use Rattle.bit_rows.specs.BitRow.{bit_of, field}
 use Rattle.ts_packet.specs.declared.cell.Cell.{Cell}
-use Rattle.ts_packet.specs.declared.cell.Cell.TheVariants.{Live, Dropped}
+use Rattle.ts_packet.specs.Cells.{Live, Dropped}
 use Rattle.chain_model.specs.Apply.{apply, last_passed, stopped}
 use Rattle.chain_model.specs.Joint.{agreement_of}
 use Rattle.plug_end.specs.declared.until_conf.UntilConf.{UntilConf}

@@ -1,9 +1,8 @@
 -- The rule of `until`. This project's own rule, over the header of ISO/IEC 13818-1, 2.4.3.2.
 use Rattle.std.specs.Prelude.{ℕ, ◌*◌, List, [], ◌∷◌, ◌++◌, Bool, false, Option, None, Some, ◌&&◌, ◌||◌, nat_le, count_by, if◌then◌else◌}
 use Rattle.ts_packet.specs.declared.cell.Cell.{Cell}
-use Rattle.ts_packet.specs.declared.cell.Cell.TheVariants.{Live}
+use Rattle.ts_packet.specs.Cells.{Live, live_packets}
 use Rattle.ts_packet.specs.declared.numbers.TheConstants.{PACKET_SIZE}
-use Rattle.ts_packet.specs.Cells.{live_packets}
 use Rattle.ts_packet.specs.Header.{unit_start_of}
 use Rattle.chain_model.specs.PluginRule.{PluginRule, RuleOutcome, passes, lasts, stops}
 use Rattle.plugin_trait.specs.LiveCount.{live_count}

@@ -83,11 +83,11 @@ impl Plugin for Until {
 
     #[inline]
     fn step(&mut self, _at: u64, cell: &mut Cell) -> Outcome {
-        let Cell::Live(packet, _) = cell else {
+        let Some(live) = cell.live() else {
             return Outcome::Pass;
         };
         let met = self.met + 1;
-        let starts = self.starts + u64::from(packet.unit_start());
+        let starts = self.starts + u64::from(live.packet.unit_start());
         let ends = !self.joint_termination && self.is_reached(met, starts);
         if ends && self.exclude_last {
             return Outcome::Stop;

@@ -1,7 +1,7 @@
 -- Worked rows of `inject`, computed on the definitions. Packets of four bytes do as well as whole ones here.
 use Rattle.std.proofs.Common.{◌≡◌, ℕ, List, [], ◌∷◌, None, refl}
 use Rattle.bit_rows.specs.BitRow.{bit_of, field}
-use Rattle.ts_packet.specs.declared.cell.Cell.TheVariants.{Live, Dropped}
+use Rattle.ts_packet.specs.Cells.{Live, Dropped}
 use Rattle.ts_packet.specs.Header.{with_counter}
 use Rattle.ts_packetize.specs.Packets.{packets_of}
 use Rattle.ts_packetize.specs.Packing.{pack}

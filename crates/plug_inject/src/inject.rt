@@ -109,10 +109,10 @@ impl Plugin for Inject {
 
     #[inline]
     fn step(&mut self, _at: u64, cell: &mut Cell) -> Outcome {
-        let Cell::Live(packet, _) = cell else {
+        let Some(live) = cell.live_mut() else {
             return Outcome::Pass;
         };
-        self.meet(packet);
+        self.meet(&mut live.packet);
         Outcome::Pass
     }
 

@@ -1,7 +1,7 @@
 -- Worked rows of `remap`, computed on the definitions. Packets of three bytes do as well as whole ones here.
 use Rattle.std.proofs.Common.{◌≡◌, ℕ, List, [], ◌∷◌, None, Some, true, false, refl}
 use Rattle.bit_rows.specs.BitRow.{bit_of, field}
-use Rattle.ts_packet.specs.declared.cell.Cell.TheVariants.{Live, Dropped}
+use Rattle.ts_packet.specs.Cells.{Live, Dropped}
 use Rattle.ts_packet.specs.Header.{with_pid}
 use Rattle.chain_model.specs.declared.reason.Reason.TheVariants.{Pid}
 use Rattle.chain_model.specs.Apply.{apply, refused}

@@ -56,9 +56,10 @@ impl Plugin for Remap {
 
     #[inline]
     fn step(&mut self, _at: u64, cell: &mut Cell) -> Outcome {
-        let Cell::Live(packet, _) = cell else {
+        let Some(live) = cell.live_mut() else {
             return Outcome::Pass;
         };
+        let packet = &mut live.packet;
         let pid = packet.pid();
         match self.table.look_up(pid) {
             Move::Keep => go_on(&mut self.tables, packet, None),

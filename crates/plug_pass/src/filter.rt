@@ -85,13 +85,13 @@ impl Plugin for Filter {
     // Else the loop of `steps` has a call for each cell.
     #[inline(always)]
     fn step(&mut self, _at: u64, cell: &mut Cell) -> Outcome {
-        let Cell::Live(packet, labels) = cell else {
+        let Some(live) = cell.live_mut() else {
             return Outcome::Pass;
         };
-        let is_selected = self.selects(packet, *labels);
+        let is_selected = self.selects(&live.packet, live.labels);
         if !self.set_label.is_empty() {
             if is_selected {
-                *labels = labels.union(self.set_label.labels());
+                live.labels = live.labels.union(self.set_label.labels());
             }
             return Outcome::Pass;
         }
@@ -99,10 +99,10 @@ impl Plugin for Filter {
             return Outcome::Pass;
         }
         if self.stuffing {
-            *packet = Packet::null();
+            live.packet = Packet::null();
             return Outcome::Pass;
         }
-        *cell = Cell::Dropped;
+        cell.drop_packet();
         Outcome::Drop
     }
 

@@ -105,10 +105,10 @@ impl Plugin for Pattern {
 
     #[inline]
     fn step(&mut self, _at: u64, cell: &mut Cell) -> Outcome {
-        let Cell::Live(packet, _) = cell else {
+        let Some(live) = cell.live_mut() else {
             return Outcome::Pass;
         };
-        self.edit(packet);
+        self.edit(&mut live.packet);
         Outcome::Pass
     }
 

@@ -50,14 +50,15 @@ impl Plugin for Skip {
 
     #[inline]
     fn step(&mut self, _at: u64, cell: &mut Cell) -> Outcome {
-        if let Cell::Live(..) = cell {
-            if self.left > 0 {
-                self.left -= 1;
-                *cell = Cell::Dropped;
-                return Outcome::Drop;
-            }
+        let Some(_) = cell.live() else {
+            return Outcome::Pass;
+        };
+        if self.left == 0 {
+            return Outcome::Pass;
         }
-        Outcome::Pass
+        self.left -= 1;
+        cell.drop_packet();
+        Outcome::Drop
     }
 
     fn note(&mut self, _written: u64) -> Result<(), AllocError> {

@@ -90,17 +90,17 @@ impl Plugin for Slice {
     // Else the loop of `steps` has a call for each cell.
     #[inline(always)]
     fn step(&mut self, _at: u64, cell: &mut Cell) -> Outcome {
-        let Cell::Live(packet, _) = cell else {
+        let Some(live) = cell.live_mut() else {
             return Outcome::Pass;
         };
         if self.decides(self.drop) {
             self.met += 1;
-            *cell = Cell::Dropped;
+            cell.drop_packet();
             return Outcome::Drop;
         }
         if self.decides(self.null) {
             self.met += 1;
-            *packet = Packet::null();
+            live.packet = Packet::null();
             return Outcome::Pass;
         }
         if self.decides(self.stop) {

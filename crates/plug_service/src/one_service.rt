@@ -2,7 +2,7 @@
 
 ghost use Rattle.std.specs.Prelude.{◌≡◌, ℕ, ◌++◌, ◌∷◌, [], List, true, false, IfOk, OnOk, OnErr, IsErr};
 ghost use Rattle.ts_packet.specs.declared.cell.Cell.{Cell as PlacedCell};
-ghost use Rattle.ts_packet.specs.Cells.{live_packets};
+ghost use Rattle.ts_packet.specs.Cells.{Dropped, live_packets};
 ghost use Rattle.plugin_trait.specs.Steps.{StepTells, met_after};
 ghost use Rattle.plug_service.specs.ServiceRule.{made_of};
 ghost use Rattle.plug_service.specs.EditorsState.{left_by};
@@ -65,22 +65,22 @@ impl OneService {
             → StepTells (rule_of self.old) history cell.old result cell.new }
         ensures meets { (history : List PlacedCell) → StandsFor self.old (live_packets history)
             → StandsFor self.new (live_packets (met_after result history cell.old)) }
-        ensures dropped { cell.old ≡ Cell.Dropped → result ≡ Outcome.Pass }
+        ensures dropped { cell.old ≡ Dropped → result ≡ Outcome.Pass }
         ensures way { self.new.way ≡ self.old.way }
         ensures service { self.new.service ≡ self.old.service }
         ensures stuffing { self.new.stuffing ≡ self.old.stuffing }
     {
-        let Cell::Live(packet, _) = cell else {
+        let Some(live) = cell.live_mut() else {
             return Outcome::Pass;
         };
-        match self.take(packet) {
+        match self.take(&mut live.packet) {
             Ok(true) => Outcome::Pass,
             Ok(false) => {
                 if self.stuffing {
-                    *packet = Packet::null();
+                    live.packet = Packet::null();
                     return Outcome::Pass;
                 }
-                *cell = Cell::Dropped;
+                cell.drop_packet();
                 Outcome::Drop
             }
             Err(_) => Outcome::NoMemory,

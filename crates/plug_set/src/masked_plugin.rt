@@ -22,9 +22,9 @@ impl MaskedPlugin {
         ensures { result ≡ shows self.now.only cell.now }
     {
         match self.only {
-            Some(only) => match cell {
-                Cell::Live(_, labels) => labels.shares(only),
-                Cell::Dropped => true,
+            Some(only) => match cell.live() {
+                Some(live) => live.labels.shares(only),
+                None => true,
             },
             None => true,
         }
@@ -46,7 +46,7 @@ impl Plugin for MaskedPlugin {
         if self.shows(cell) {
             return self.plugin.step(at, cell);
         }
-        let mut unseen = Cell::Dropped;
+        let mut unseen = Cell::dropped();
         self.plugin.step(at, &mut unseen)
     }
 

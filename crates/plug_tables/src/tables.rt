@@ -28,7 +28,7 @@ pub struct Tables {
 impl Tables {
     ghost use Rattle.std.specs.Prelude.{◌≡◌, ◌<◌, ◌∷◌, ◌++◌, IfOk, OnOk, OnErr, IsErr, [], None, ℕ, List, length, true};
     ghost use Rattle.ts_packet.specs.declared.cell.Cell.{Cell as GivenCell};
-    ghost use Rattle.ts_packet.specs.declared.cell.Cell.TheVariants.{Live};
+    ghost use Rattle.ts_packet.specs.Cells.{Live};
     ghost use Rattle.plug_tables.specs.TablesRule.{tables_rule};
     ghost use Rattle.plug_tables.specs.TablesSettings.{IsLawfulTables};
     ghost use Rattle.plug_tables.specs.TablesStands.{StandsFor, has_failed, rule_in};
@@ -120,10 +120,10 @@ impl Plugin for Tables {
 
     #[inline]
     fn step(&mut self, at: u64, cell: &mut Cell) -> Outcome {
-        let Cell::Live(packet, _) = cell else {
+        let Some(live) = cell.live() else {
             return Outcome::Pass;
         };
-        match self.meet(at, packet) {
+        match self.meet(at, &live.packet) {
             Ok(()) => Outcome::Pass,
             Err(_) => Outcome::NoMemory,
         }

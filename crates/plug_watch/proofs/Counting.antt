@@ -3,9 +3,8 @@ use Rattle.std.proofs.Common.{◌≡◌, ℕ, ◌+◌, ◌<◌, List, [], ◌∷
 use Rattle.std.specs.List.{All}
 use Rattle.std.proofs.lemmas.List.Elements.{All-push}
 use Rattle.ts_packet.specs.declared.cell.Cell.{Cell}
-use Rattle.ts_packet.specs.declared.cell.Cell.TheVariants.{Live, Dropped}
+use Rattle.ts_packet.specs.Cells.{Live, Dropped, live_packets}
 use Rattle.ts_packet.specs.Header.{pid_of}
-use Rattle.ts_packet.specs.Cells.{live_packets}
 use Rattle.ts_packet.specs.declared.numbers.TheConstants.{PID_COUNT}
 use Rattle.bit_rows.proofs.Fields.{field-below}
 use Rattle.plug_watch.specs.declared.count_conf.CountConf.{CountConf}

@@ -28,7 +28,7 @@ pub struct Continuity {
 impl Continuity {
     ghost use Rattle.std.specs.Prelude.{◌≡◌, ◌<◌, true, IfOk, OnOk, OnErr, [], ◌++◌, ◌∷◌, None, length, ℕ, List, if◌then◌else◌};
     ghost use Rattle.ts_packet.specs.declared.cell.Cell.{Cell as GivenCell};
-    ghost use Rattle.ts_packet.specs.declared.cell.Cell.TheVariants.{Live};
+    ghost use Rattle.ts_packet.specs.Cells.{Live};
     ghost use Rattle.ts_packet.specs.Header.{pid_of};
     ghost use Rattle.plugin_trait.specs.Marks.{AllowsMark, Notes};
     ghost use Rattle.plugin_trait.specs.Steps.{MeetsCells};
@@ -113,13 +113,13 @@ impl Plugin for Continuity {
     // Else the loop of `steps` has a call for each cell.
     #[inline(always)]
     fn step(&mut self, at: u64, cell: &mut Cell) -> Outcome {
-        let Cell::Live(packet, _) = cell else {
+        let Some(live) = cell.live_mut() else {
             return Outcome::Pass;
         };
-        if !self.watches(packet.pid()) {
+        if !self.watches(live.packet.pid()) {
             return Outcome::Pass;
         }
-        match self.watch(at, packet) {
+        match self.watch(at, &mut live.packet) {
             Ok(()) => Outcome::Pass,
             Err(_) => Outcome::NoMemory,
         }

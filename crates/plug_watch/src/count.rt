@@ -114,10 +114,10 @@ impl Plugin for Count {
 
     #[inline]
     fn step(&mut self, at: u64, cell: &mut Cell) -> Outcome {
-        let Cell::Live(packet, _) = cell else {
+        let Some(live) = cell.live() else {
             return Outcome::Pass;
         };
-        let pid = packet.pid();
+        let pid = live.packet.pid();
         if !self.pids.selects(self.negate, pid) {
             return Outcome::Pass;
         }

@@ -5,7 +5,7 @@ use Rattle.std.proofs.Math.Seq.{take-add}
 use Rattle.std.proofs.lemmas.List.{append_cancel_left, drop-append-le, map-append, take-append-drop, take-append-le}
 use Rattle.std.proofs.lemmas.List.Elements.{All-append}
 use Rattle.ts_packet.specs.declared.cell.Cell.{Cell}
-use Rattle.ts_packet.specs.declared.cell.Cell.TheVariants.{Live, Dropped}
+use Rattle.ts_packet.specs.Cells.{Live, Dropped}
 use Rattle.ts_packet.specs.declared.numbers.TheConstants.{PID_COUNT}
 use Rattle.chain_model.specs.declared.positions.TheConstants.{POSITION_LIMIT}
 use Rattle.plugin_trait.specs.declared.line.Line.{Line}

@@ -6,9 +6,8 @@ use Rattle.std.proofs.lemmas.Bool.{cases_eq, ne_eqb, false≢true}
 use Rattle.ts_packet.specs.declared.numbers.TheConstants.{PID_COUNT}
 use Rattle.plugin_notes.proofs.Noting.{IsNoteAt}
 use Rattle.ts_packet.specs.declared.cell.Cell.{Cell}
-use Rattle.ts_packet.specs.declared.cell.Cell.TheVariants.{Live, Dropped}
+use Rattle.ts_packet.specs.Cells.{Live, Dropped, live_packets, packet_in}
 use Rattle.ts_packet.specs.Header.{pid_of, counter_of, has_payload_of}
-use Rattle.ts_packet.specs.Cells.{live_packets, packet_in}
 use Rattle.plugin_notes.specs.declared.continuity_conf.ContinuityConf.{ContinuityConf}
 use Rattle.plugin_notes.specs.declared.continuity_error.ContinuityError.{ContinuityError}
 use Rattle.plugin_notes.specs.declared.last_packet.LastPacket.{LastPacket}

@@ -17,7 +17,7 @@ impl LastPackets {
     ghost use Rattle.std.specs.Prelude.{◌≡◌, ◌<◌, ◌∷◌, ◌++◌, [], ℕ, List, IfOk, None, true, length, option_to_list};
     ghost use Rattle.std.specs.List.{slice_index_or};
     ghost use Rattle.ts_packet.specs.declared.cell.Cell.{Cell as GivenCell};
-    ghost use Rattle.ts_packet.specs.declared.cell.Cell.TheVariants.{Live};
+    ghost use Rattle.ts_packet.specs.Cells.{Live};
     ghost use Rattle.ts_packet.specs.Header.{pid_of};
     ghost use Rattle.plugin_notes.specs.declared.continuity_conf.ContinuityConf.{ContinuityConf as GivenConf};
     ghost use Rattle.plugin_notes.specs.ContinuityErrors.{error_on};

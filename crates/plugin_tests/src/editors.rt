@@ -38,17 +38,17 @@ fn edited<P: Plugin + Drop>(alloc: Global, mut plugin: P, packet: Packet) -> Res
     let mut second = packet;
     second.set_counter(6);
     let mut cells = Vec::new(alloc);
-    cells.push(Cell::Live(first, Labels::none()))?;
-    cells.push(Cell::Live(second, Labels::none()))?;
+    cells.push(Cell::of(first, Labels::none()))?;
+    cells.push(Cell::of(second, Labels::none()))?;
     let _end = apply_plugin(&mut plugin, &mut cells);
     Ok(cells)
 }
 
 /// The bytes of a packet from its pointer on, and its counter.
 fn bytes_behind_header(cell: &Cell) -> (&[u8], u8) {
-    match cell {
-        Cell::Live(packet, _) => (&packet.bytes()[4..], packet.counter()),
-        Cell::Dropped => (&[], 16),
+    match cell.live() {
+        Some(live) => (&live.packet.bytes()[4..], live.packet.counter()),
+        None => (&[], 16),
     }
 }
 
@@ -132,9 +132,9 @@ fn no_contents_give_null_packets(rt: HostRuntime) -> Result<(), Fail> {
     packet.set_pid(0);
     let cells = edited(alloc, EditPat::new(alloc, &conf, 1)?, packet)?;
     for cell in &cells {
-        if let Cell::Live(packet, _) = cell {
+        if let Some(live) = cell.live() {
             assert_eq!(rt;
-                packet.bytes().as_slice(),
+                live.packet.bytes().as_slice(),
                 Packet::null().bytes().as_slice()
             );
         } else {

@@ -12,13 +12,13 @@ const NONE: Option<u64> = None;
 fn packet(unit_start: bool) -> Cell {
     let mut packet = Packet::null();
     packet.set_unit_start(unit_start);
-    Cell::Live(packet, Labels::none())
+    Cell::of(packet, Labels::none())
 }
 
 /// A dropped cell, and behind it nine packets of which every third has its unit start indicator.
 fn ten_cells(alloc: Global) -> Result<Vec<Cell>, Fail> {
     let cells = vec![in alloc;
-        Cell::Dropped,
+        Cell::dropped(),
         packet(false),
         packet(false),
         packet(true),
@@ -65,7 +65,7 @@ fn until_ends_the_list(rt: HostRuntime) -> Result<(), Fail> {
         assert_eq!(rt; end, wanted);
         assert!(rt; !agreed);
         assert_eq!(rt; cells.len(), left);
-        assert!(rt; matches!(cells.last(), Some(Cell::Live(..))));
+        assert!(rt; cells.last().is_some_and(Cell::is_live));
     }
     Ok(())
 }

@@ -30,15 +30,15 @@ fn shape<P: Plugin + Drop>(
 {
     let mut cells = Vec::new(alloc);
     for pid in pids {
-        cells.push(Cell::Live(packet(*pid), Labels::none()))?;
+        cells.push(Cell::of(packet(*pid), Labels::none()))?;
     }
     let end = apply_plugin(&mut plugin, &mut cells);
     let mut shape = String::new(alloc);
     for cell in &cells {
-        shape.push(match cell {
-            Cell::Live(packet, _) if packet.pid() == 8191 => 'n',
-            Cell::Live(..) => 'p',
-            Cell::Dropped => '.',
+        shape.push(match cell.live() {
+            Some(live) if live.packet.pid() == 8191 => 'n',
+            Some(_) => 'p',
+            None => '.',
         })?;
     }
     Ok((shape, end))
@@ -106,12 +106,12 @@ fn pattern_is_written_to_the_end(rt: HostRuntime) -> Result<(), Fail> {
         offset_non_pusi: Some(181),
     };
     let mut pattern = Pattern::new(rt.alloc(), &conf, 1)?;
-    let mut cells = vec![in rt.alloc(); Cell::Live(packet(256), Labels::none())]?;
+    let mut cells = vec![in rt.alloc(); Cell::of(packet(256), Labels::none())]?;
     let end = apply_plugin(&mut pattern, &mut cells);
     assert_eq!(rt; end, ListEnd::Through);
     assert_eq!(rt; cells.len(), 1);
-    if let Cell::Live(packet, _) = &cells[0] {
-        assert_eq!(rt; &packet.bytes()[184..], [0xFF, 0xAB, 0xCD, 0xAB].as_slice());
+    if let Some(live) = cells[0].live() {
+        assert_eq!(rt; &live.packet.bytes()[184..], [0xFF, 0xAB, 0xCD, 0xAB].as_slice());
     } else {
         assert!(rt; false, "the packet was dropped");
     }

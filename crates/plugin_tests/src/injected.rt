@@ -29,7 +29,7 @@ fn pat_sections(alloc: Global) -> Result<Vec<Section>, Fail> {
 
 /// A null packet.
 fn null() -> Cell {
-    Cell::Live(Packet::null(), Labels::none())
+    Cell::of(Packet::null(), Labels::none())
 }
 
 /// Seven null packets, taken through the plugin.
@@ -53,10 +53,10 @@ fn injected(alloc: Global, mode: InjectMode, sections: Vec<Section>) -> Result<V
 fn counters(alloc: Global, cells: &[Cell]) -> Result<Vec<(usize, u8)>, Fail> {
     let mut found = Vec::new(alloc);
     for (at, cell) in cells.iter().enumerate() {
-        if let Cell::Live(packet, _) = cell
-            && packet.pid() == 0
+        if let Some(live) = cell.live()
+            && live.packet.pid() == 0
         {
-            found.push((at, packet.counter()))?;
+            found.push((at, live.packet.counter()))?;
         }
     }
     Ok(found)

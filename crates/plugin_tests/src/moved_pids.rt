@@ -19,7 +19,12 @@ fn packet(pid: u16) -> Cell
 {
     let mut packet = Packet::null();
     packet.set_pid(pid);
-    Cell::Live(packet, Labels::none())
+    Cell::of(packet, Labels::none())
+}
+
+/// The PID of a cell's packet.
+fn pid_of(cell: &Cell) -> Option<u16> {
+    cell.live().map(|live| live.packet.pid())
 }
 
 #[test]
@@ -37,7 +42,7 @@ fn remap_moves_and_refuses(rt: HostRuntime) -> Result<(), Fail> {
         assert_eq!(rt; end, wanted);
         assert_eq!(rt; cells.len(), left);
         for (cell, pid) in cells.iter().zip([512, 256, 258, 512]) {
-            assert!(rt; matches!(cell, Cell::Live(packet, _) if packet.pid() == pid));
+            assert!(rt; pid_of(cell) == Some(pid));
         }
     }
     Ok(())
@@ -49,8 +54,8 @@ fn cell_of(alloc: Global, pid: u16, sections: &[Section]) -> Result<Cell, Fail>
 {
     let list = packets(alloc, pid, sections)?;
     match list.as_slice().first() {
-        Some(packet) => Ok(Cell::Live(*packet, Labels::none())),
-        None => Ok(Cell::Dropped),
+        Some(packet) => Ok(Cell::of(*packet, Labels::none())),
+        None => Ok(Cell::dropped()),
     }
 }
 
@@ -120,11 +125,12 @@ fn moved(alloc: Global, cells: Vec<Cell>) -> Result<Vec<Cell>, Fail> {
 
 /// Whether a cell has a packet on this PID, and the body of its section begins so.
 fn shows(cell: Option<&Cell>, pid: u16, body: &[u8]) -> bool {
-    match cell {
-        Some(Cell::Live(packet, _)) => {
-            packet.pid() == pid && packet.bytes()[13..].starts_with(body)
-        }
-        _ => false,
+    let Some(cell) = cell else {
+        return false;
+    };
+    match cell.live() {
+        Some(live) => live.packet.pid() == pid && live.packet.bytes()[13..].starts_with(body),
+        None => false,
     }
 }
 

@@ -17,7 +17,7 @@ fn made_of_stream<P: Plugin + Drop>(alloc: Global, mut plugin: P) -> Result<Vec<
     let mut cells = Vec::new(alloc);
     let mut generator = TestGen::new(alloc, 7)?;
     for _ in 0..100_usize {
-        cells.push(Cell::Live(generator.next_packet(), Labels::none()))?;
+        cells.push(Cell::of(generator.next_packet(), Labels::none()))?;
     }
     let _end = apply_plugin(&mut plugin, &mut cells);
     Ok(cells)
@@ -27,8 +27,8 @@ fn made_of_stream<P: Plugin + Drop>(alloc: Global, mut plugin: P) -> Result<Vec<
 fn count_of(cells: &[Cell], pid: u16) -> usize {
     let mut count = 0usize;
     for cell in cells {
-        if let Cell::Live(packet, _) = cell {
-            if packet.pid() == pid {
+        if let Some(live) = cell.live() {
+            if live.packet.pid() == pid {
                 count = count.saturating_add(1);
             }
         }
@@ -38,9 +38,12 @@ fn count_of(cells: &[Cell], pid: u16) -> usize {
 
 /// The bytes of the first packet behind its header and its pointer.
 fn first_bytes(cells: &[Cell]) -> &[u8] {
-    match cells.first() {
-        Some(Cell::Live(packet, _)) => &packet.bytes()[5..],
-        _ => &[],
+    let Some(cell) = cells.first() else {
+        return &[];
+    };
+    match cell.live() {
+        Some(live) => &live.packet.bytes()[5..],
+        None => &[],
     }
 }
 

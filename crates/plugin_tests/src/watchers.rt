@@ -15,7 +15,12 @@ fn packet(pid: u16, counter: u8) -> Cell
     let mut packet = Packet::null();
     packet.set_pid(pid);
     packet.set_counter(counter);
-    Cell::Live(packet, Labels::none())
+    Cell::of(packet, Labels::none())
+}
+
+/// The counter of a cell's packet.
+fn counter_of(cell: &Cell) -> Option<u8> {
+    cell.live().map(|live| live.packet.counter())
 }
 
 /// How a plugin leaves a list of cells, and what it reports of the first of those that it met.
@@ -67,7 +72,7 @@ fn count_counts_to_the_cut(rt: HostRuntime) -> Result<(), Fail> {
         let mut cells = vec![in rt.alloc();
             packet(256, 0),
             packet(257, 0),
-            Cell::Dropped,
+            Cell::dropped(),
             packet(256, 1),
             packet(258, 0),
         ]?;
@@ -128,7 +133,7 @@ fn continuity_reports_and_fixes(rt: HostRuntime) -> Result<(), Fail> {
         assert_eq!(rt; line.text.as_str(), text);
     }
     for (cell, counter) in cells.iter().zip([5, 6, 7, 7]) {
-        assert!(rt; matches!(cell, Cell::Live(packet, _) if packet.counter() == counter));
+        assert!(rt; counter_of(cell) == Some(counter));
     }
     Ok(())
 }

@@ -11,6 +11,7 @@ use ts_packet::Cell;
 pub trait Plugin {
     ghost use Rattle.std.specs.Prelude.{◌≡◌, ◌≢◌, ◌<◌, ◌+◌, ◌≤◌, ℕ, List, [], ◌++◌, Bool, true, false, Option, Some, IsOk, IfOk, IsSome, is_some, take, drop, length};
     ghost use Rattle.ts_packet.specs.declared.cell.Cell.{Cell};
+    ghost use Rattle.ts_packet.specs.Cells.{Dropped};
     ghost use Rattle.chain_model.specs.declared.positions.TheConstants.{POSITION_LIMIT};
     ghost use Rattle.chain_model.specs.Apply.{apply_after};
     ghost use Rattle.chain_model.specs.Joint.{agreement_of};
@@ -38,7 +39,7 @@ pub trait Plugin {
         requires met { MeetsCells (stands_for self.old) at }
         requires in_range { at < POSITION_LIMIT }
         ensures tells { Tells (rule self.old) (stands_for self.old) at cell.old result cell.new }
-        ensures dropped { cell.old ≡ Cell.Dropped → result ≡ Outcome.Pass }
+        ensures dropped { cell.old ≡ Dropped → result ≡ Outcome.Pass }
         ensures meets { Meets (stands_for self.old) (stands_for self.new) at cell.old result }
         ensures same_rule { rule self.new ≡ rule self.old }
         ensures same_steady { steady self.new ≡ steady self.old }

@@ -4,7 +4,7 @@ use Rattle.std.proofs.lemmas.List.{drop_more, take_more, drop-append-le, take-ap
 use Rattle.std.proofs.Math.Seq.{take-append-add}
 use Rattle.std.proofs.lemmas.List.Concat.{flat_map-append}
 use Rattle.ts_packet.specs.declared.cell.Cell.{Cell}
-use Rattle.ts_packet.specs.declared.cell.Cell.TheVariants.{Live, Dropped}
+use Rattle.ts_packet.specs.Cells.{Live, Dropped}
 use Rattle.ts_outside.specs.Sink.{SinkView, took, write_failed}
 use Rattle.ts_outside.proofs.Views.{took-took}
 use Rattle.chain_model.specs.Written.{cell_bytes, written}

@@ -4,7 +4,7 @@ use Rattle.std.specs.List.{All, concat}
 use Rattle.ts_packet.specs.declared.numbers.TheConstants.{PACKET_SIZE}
 use Rattle.ts_packet.specs.Packet.{IsPacket, null_packet}
 use Rattle.ts_packet.specs.declared.cell.Cell.{Cell}
-use Rattle.ts_packet.specs.declared.cell.Cell.TheVariants.{Live}
+use Rattle.ts_packet.specs.Cells.{Live}
 use Rattle.ts_packet.specs.Labels.{no_labels}
 use Rattle.ts_outside.specs.Source.{SourceView, unread, read_failed}
 use Rattle.chain_model.specs.declared.input_end.InputEnd.{InputEnd}

@@ -1,7 +1,7 @@
 -- What an output stands for. This project's own rule.
 use Rattle.std.specs.Prelude.{◌≡◌, ◌≢◌, ℕ, ◌<◌, List, [], ◌∷◌, ◌++◌, length, Option, Some}
 use Rattle.ts_packet.specs.declared.cell.Cell.{Cell}
-use Rattle.ts_packet.specs.declared.cell.Cell.TheVariants.{Live, Dropped}
+use Rattle.ts_packet.specs.Cells.{Live, Dropped}
 use Rattle.ts_outside.specs.Sink.{SinkView, took, write_failed}
 use Rattle.chain_model.specs.Written.{written}
 use Rattle.chain_core.specs.declared.stage_end.StageEnd.{StageEnd}

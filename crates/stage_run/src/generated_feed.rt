@@ -1,5 +1,5 @@
 use chain_core::InputEnd;
-use ts_packet::{Cell, Labels};
+use ts_packet::Cell;
 use ts_testgen::TestGen;
 
 /// The packets of the generated stream of an input that has nothing else.
@@ -16,7 +16,7 @@ impl GeneratedFeed {
     ghost use Rattle.std.specs.Prelude.{◌≡◌, ◌+◌, ◌<◌, None, Some, nat_lt, if◌then◌else◌};
     ghost use Rattle.chain_model.specs.declared.input_end.InputEnd.TheVariants.{End};
     ghost use Rattle.chain_model.specs.declared.positions.TheConstants.{POSITION_LIMIT};
-    ghost use Rattle.ts_packet.specs.declared.cell.Cell.TheVariants.{Live};
+    ghost use Rattle.ts_packet.specs.Cells.{Live};
     ghost use Rattle.ts_packet.specs.Labels.{no_labels};
     ghost use Rattle.ts_testgen.specs.Generated.{generated};
     ghost use Rattle.stage_run.specs.Feeds.{IsCounted};
@@ -43,7 +43,7 @@ impl GeneratedFeed {
         ensures packets { self.new.packets ≡ self.old.packets + 1 }
         ensures counted { IsCounted self.new }
     {
-        *cell = Cell::Live(self.generator.next_packet(), Labels::none());
+        cell.put(self.generator.next_packet());
         self.packets += 1;
     }
 }

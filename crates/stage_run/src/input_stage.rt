@@ -8,7 +8,7 @@ use crate::{InputPart, IoBuffer, Stuffing, Work};
 use chain_core::{InputEnd, News, StageEnd};
 use chain_model::POSITION_LIMIT;
 use ts_outside::Source;
-use ts_packet::{Cell, Labels, Packet};
+use ts_packet::{Cell, Packet};
 
 /// An input with its stuffing.
 pub struct InputStage<S> {
@@ -145,7 +145,7 @@ impl<S: Source> InputStage<S> {
         self.ensure_packet(wanted);
         if self.nulls > 0 {
             self.nulls -= 1;
-            *cell = Cell::Live(Packet::null(), Labels::none());
+            cell.put(Packet::null());
             return None;
         }
         if self.ended.is_some() {

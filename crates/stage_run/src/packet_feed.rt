@@ -4,7 +4,7 @@ use crate::packet_stream::PacketStream;
 use crate::{InputPart, IoBuffer};
 use chain_core::InputEnd;
 use ts_outside::Source;
-use ts_packet::{Cell, Labels, Packet};
+use ts_packet::{Cell, Packet};
 
 /// The packets of an input, one after another.
 pub(crate) enum PacketFeed<S> {
@@ -109,7 +109,7 @@ impl<S: Source> PacketFeed<S> {
             PacketFeed::Stream(stream) => stream.next_packet(cell),
             PacketFeed::Nulls(nulls) => {
                 nulls.packets += 1;
-                *cell = Cell::Live(Packet::null(), Labels::none());
+                cell.put(Packet::null());
             }
             PacketFeed::Generated(generated) => generated.next_packet(cell),
         }

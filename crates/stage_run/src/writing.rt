@@ -25,11 +25,11 @@ fn gather(room: &mut [u8], cells: &[Cell]) -> Gathered
 {
     let mut bytes = 0;
     for (i, cell) in cells.iter().enumerate() {
-        if let Cell::Live(packet, _) = cell {
+        if let Some(live) = cell.live() {
             if room.len() - bytes < PACKET_SIZE {
                 return Gathered { cells: i, bytes };
             }
-            room[bytes..bytes + PACKET_SIZE].copy_from_slice(packet.bytes());
+            room[bytes..bytes + PACKET_SIZE].copy_from_slice(live.packet.bytes());
             bytes += PACKET_SIZE;
         }
     }
@@ -47,8 +47,8 @@ fn cell_of_byte(cells: &[Cell], byte: usize) -> usize
 {
     let mut left = byte;
     for (place, cell) in cells.iter().enumerate() {
-        if let Cell::Live(packet, _) = cell {
-            let size = packet.bytes().len();
+        if let Some(live) = cell.live() {
+            let size = live.packet.bytes().len();
             if left < size {
                 return place;
             }

@@ -195,7 +195,7 @@ fn either<T>(
 /// One block of `n` values, in one window. Only this call takes memory; `AllocError` where there was none.
 ///
 /// A copy of the value has to be the value itself, since each slot gets one.
-pub fn land<T: Slot + Copy>(alloc: Global, n: usize, value: T) -> Result<Window<T>, AllocError>
+pub fn land<T: Slot + Clone>(alloc: Global, n: usize, value: T) -> Result<Window<T>, AllocError>
     requires some { 0 < n }
     requires plain { (y : T) → T.is_clone value y → y ≡ value }
     ensures { IfOk result (λ w. (w.start ≡ 0) × (w.cells ≡ replicate n value) × (w.land.count ≡ n)) }

@@ -47,6 +47,16 @@ impl Packet {
         }
     }
 
+    /// Takes over these bytes, which begin with the sync byte.
+    #[inline]
+    pub(crate) fn set_bytes(&mut self, bytes: &[u8; PACKET_SIZE])
+        requires sync { slice_index bytes.now 0 ≡ SYNC_BYTE }
+        ensures bytes { self.new ≡ bytes.now }
+        ensures packet { IsPacket self.new }
+    {
+        self.row.copy_from_slice(bytes);
+    }
+
     /// The null packet: PID 8191, counter 0, and 184 payload bytes 0xFF.
     pub fn null() -> Self
         ensures bytes { result ≡ null_packet }

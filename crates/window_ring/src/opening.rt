@@ -119,7 +119,7 @@ fn set_up(alloc: Global, plan: &CorePlan, rows: usize) -> Result<Ready, AllocErr
         seats.destroy_empty();
         return Err(AllocError);
     };
-    let Ok(window) = land(alloc, plan.buffer, Cell::Dropped) else {
+    let Ok(window) = land(alloc, plan.buffer, Cell::dropped()) else {
         links.destroy_empty();
         seats.destroy_empty();
         slots.destroy_empty();

@@ -1,6 +1,6 @@
 use Rattle.std.proofs.Common.{◌≡◌, [], ◌∷◌, ◌++◌, length, replicate, sym, ap, ◌∙◌, arith, refl}
 use Rattle.std.proofs.lemmas.List.{length-replicate}
-use Rattle.ts_packet.specs.declared.cell.Cell.TheVariants.{Dropped}
+use Rattle.ts_packet.specs.Cells.{Dropped}
 use Rattle.window_ring.specs.Hands.{Row, row_of}
 use Rattle.window_ring.specs.Views.{land_of}
 use Rattle.window_ring.specs.declared.view.Key.{Key}

@@ -1,7 +1,7 @@
 use Rattle.std.proofs.Common.{◌≡◌, ℕ, List, [], ◌∷◌, ◌++◌, Bool, true, ◌&&◌, if◌then◌else◌, ap, sym, subst, ◌∙◌}
 use Rattle.std.proofs.Math.Bool.{and-true}
 use Rattle.ts_packet.specs.declared.cell.Cell.{Cell}
-use Rattle.ts_packet.specs.declared.cell.Cell.TheVariants.{Live}
+use Rattle.ts_packet.specs.Cells.{Live}
 use Rattle.ts_packet.specs.Header.{pid_of}
 use Rattle.chain_model.specs.Apply.{became, goes_on}
 use Rattle.plugin_trait.specs.Steps.{SameKind}

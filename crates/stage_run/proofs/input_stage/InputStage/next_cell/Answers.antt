@@ -1,6 +1,6 @@
 use Rattle.std.proofs.Common.{◌≡◌, ℕ, ◌-◌, List, [], ◌∷◌, ◌∙◌, refl, sym, ap, subst, arith}
 use Rattle.ts_packet.specs.declared.cell.Cell.{Cell}
-use Rattle.ts_packet.specs.declared.cell.Cell.TheVariants.{Live}
+use Rattle.ts_packet.specs.Cells.{Live}
 use Rattle.ts_packet.specs.Labels.{no_labels}
 use Rattle.ts_packet.specs.Packet.{null_packet}
 use Rattle.stage_run.specs.declared.input_stage.InputStage.{InputStage}

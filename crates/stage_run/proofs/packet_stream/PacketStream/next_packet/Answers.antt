@@ -1,6 +1,6 @@
 use Rattle.std.proofs.Common.{ℕ, ◌≤◌, List, take, drop, ap, refl, subst, ◌∙◌, arith, length-take}
 use Rattle.ts_packet.specs.Packet.{IsPacket}
-use Rattle.ts_packet.specs.declared.cell.Cell.TheVariants.{Live}
+use Rattle.ts_packet.specs.Cells.{Live}
 use Rattle.ts_packet.specs.Labels.{no_labels}
 use Rattle.stage_run.proofs.StreamLemmas.{StreamStands-put}
 use Rattle.stage_run.proofs.packet_stream.PacketStream.next_packet.Goals as goal

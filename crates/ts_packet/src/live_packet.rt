@@ -1,0 +1,11 @@
+use crate::labels::Labels;
+use crate::packet::Packet;
+
+/// A packet that no plugin dropped, and its labels.
+#[derive(Clone, Copy)]
+pub struct LivePacket {
+    /// The packet as the plugins before left it.
+    pub packet: Packet,
+    /// Its labels.
+    pub labels: Labels,
+}
