@@ -41,7 +41,7 @@ abbrev pub found_with : {X : Type 0} → (List (List ℕ) → Option X) → Opti
 found_with found old None = old
 found_with found old (Some table) = newer old (found table)
 
-found-section :
+pub found-section :
     {X : Type 0} (found : List (List ℕ) → Option X) (given : List (List ℕ)) (s : List ℕ) (table : Option (List (List ℕ))) →
     tables_of (given ++ s ∷ []) ≡ tables_of given ++ option_to_list table →
     found_with found (last_found found (tables_of given)) table ≡ last_found found (tables_of (given ++ s ∷ []))

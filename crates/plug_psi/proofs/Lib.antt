@@ -1,11 +1,17 @@
+pub mod CatLemmas
 pub mod Choice
 pub mod ContentsLemmas
 pub mod EditedLemmas
 pub mod EditorLemmas
+pub mod FlagLemmas
 pub mod ForceLemmas
 pub mod FoundLemmas
 pub mod LastTableLemmas
 pub mod MarkLemmas
+pub mod NamedLemmas
 pub mod OrdinalLemmas
 pub mod PatLemmas
+pub mod PidLemmas
+pub mod RowTables
 pub mod WrittenLemmas
+mod Rows

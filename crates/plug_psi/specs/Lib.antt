@@ -1,3 +1,4 @@
+pub mod CatInForce
 pub mod Contents
 pub mod ContentsState
 pub mod Edits
@@ -11,7 +12,12 @@ pub mod InForce
 pub mod LastFound
 pub mod LastTables
 pub mod NumbersHeld
+pub mod PidFlags
 pub mod PidMarks
+pub mod Referred
+pub mod ReferredStands
+pub mod ReferredState
 pub mod SameForce
+pub mod ServicePids
 pub mod TableChange
 pub mod WrittenDescriptor

@@ -6,8 +6,8 @@ ghost use Rattle.std.specs.Map.{lookup};
 ghost use Rattle.std.specs.Option.{option_copied};
 ghost use Rattle.ts_psi.specs.PatTables.{pat_held, service_item};
 ghost use Rattle.plug_psi.specs.InForce.{names, pid_for, service_in};
-ghost use Rattle.plug_psi.specs.PidMarks.{IsMarked};
 
+use crate::pid_flags::{flag_of, no_flags};
 use std::alloc::{AllocError, Global};
 use std::marker::Model;
 use ts_packet::PID_COUNT;
@@ -41,7 +41,7 @@ impl CurrentPat {
     {
         Ok(CurrentPat {
             pat: None,
-            marks: no_marks(alloc)?,
+            marks: no_flags(alloc)?,
         })
     }
 
@@ -77,28 +77,6 @@ impl CurrentPat {
         mark(&mut self.marks, pat.services.as_slice());
         self.pat = Some(pat);
     }
-}
-
-/// The flag of a PID.
-#[inline]
-fn flag_of(marks: &[bool], pid: u16) -> bool
-    ensures { result ≡ slice_index_or marks.now pid false }
-{
-    match marks.get(usize::from(pid)) {
-        Some(flag) => *flag,
-        None => false,
-    }
-}
-
-/// A flag for each PID, none of which is set.
-fn no_marks(alloc: Global) -> Result<Vec<bool>, AllocError>
-    ensures { IfOk result (λ marks. IsMarked marks.items None) }
-{
-    let mut marks = Vec::with_capacity(alloc, usize::from(PID_COUNT))?;
-    for _ in 0..PID_COUNT {
-        marks.push(false)?;
-    }
-    Ok(marks)
 }
 
 /// Sets the flags of the PIDs of services, and no others.
@@ -146,7 +124,7 @@ fn pid_among(services: &[PatService], id: u16) -> Option<u16>
 }
 
 /// The number and the PID of a service.
-fn parts(service: &PatService) -> (u16, u16)
+pub(crate) fn parts(service: &PatService) -> (u16, u16)
     ensures pair { service_in (service_item service.now) ≡ Some (result.0, result.1) }
     ensures in_range { result.1 < PID_COUNT }
 {

@@ -1,7 +1,8 @@
 //! The taken packets of a PID come in; its tables, edited and in cycles, go out in their place. Of packets of any PID,
-//! the PAT and the PMTs in force. What edits share stands here too: tables read and sections written, descriptors with
-//! room, and values that are handed over where memory may be wanting.
-//! The layer above rests on `Editor::step`, by which each packet becomes the one of the definition, and on `InForce`.
+//! the PAT, the PMTs and the CAT in force, and the PIDs that they refer to. What edits share stands here too: tables read
+//! and sections written, descriptors with room, and values that are handed over where memory may be wanting.
+//! The layer above rests on `Editor::step`, by which each packet becomes the one of the definition, on `InForce`, and on
+//! `Referred`.
 #![tactic(auto)]
 
 mod contents;
@@ -12,9 +13,14 @@ mod editor;
 mod handed_over;
 mod in_force;
 mod laws;
+mod on_one;
 mod on_pid;
 mod on_zero;
+mod pid_flags;
+mod pids_in_force;
+mod pids_of_pmt;
 mod read_or_same;
+mod referred;
 mod written;
 
 pub use edit::{Edited, TableEdit};
@@ -22,5 +28,8 @@ pub use editor::Editor;
 pub use handed_over::{both, put};
 pub use in_force::InForce;
 pub use laws::{contents_are_last_tables, last_found_is_the_last, later_packets_change_nothing};
+pub use pid_flags::{flag_of, no_flags, tell};
+pub use pids_of_pmt::add_pids;
 pub use read_or_same::{sections_or_same, table_or_none};
+pub use referred::Referred;
 pub use written::in_room;

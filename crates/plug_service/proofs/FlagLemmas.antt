@@ -1,28 +1,12 @@
--- Flags by PID.
-use Rattle.std.proofs.Common.{◌≡◌, ℕ, ◌&&◌, not, Bool, true, false, List, [], ◌∷◌, ◌++◌, length, take, refl, ap, ap₂, ◌∙◌}
+-- What is told by the flags of PIDs.
+use Rattle.std.proofs.Common.{◌≡◌, ℕ, ◌&&◌, not, List, ap, ap₂, ◌∙◌}
 use Rattle.std.specs.Prelude.{Option}
 use Rattle.ts_table_rows.specs.TableValues.{TableHolding}
 use Rattle.plug_service.specs.FatesState.{spared_pids, told_flag}
-use Rattle.plug_service.specs.PidFlags.{AreFlags}
-use Rattle.plug_service.specs.ServicePids.{has_pid, pids_of}
+use Rattle.plug_psi.specs.ServicePids.{has_pid, pids_of}
 use Rattle.plug_service.specs.declared.way.Way.{Way}
 use Rattle.plug_service.specs.declared.way.Way.TheVariants.{Keep, Remove}
-
--- a vector that was lent as a slice
-pub take-whole : {A : Type 0} (xs ys : List A) → take (length xs) (xs ++ ys) ≡ xs
-take-whole [] ys = refl
-take-whole (x ∷ xs) ys = ap (λ l. x ∷ l) (take-whole xs ys)
-
-pub lent-whole : {A : Type 0} (n : ℕ) (xs ys : List A) → n ≡ length xs → take n (xs ++ ys) ≡ xs
-lent-whole n xs ys e = ap (λ k. take k (xs ++ ys)) e ∙ take-whole xs ys
-
--- flags that tell another thing that is the same
-pub flags-as : (flags : List Bool) (told told' : ℕ → Bool) → ((pid : ℕ) → told pid ≡ told' pid) → AreFlags flags told → AreFlags flags told'
-flags-as flags told told' same h = record { whole = h.whole; tells = λ pid below. h.tells pid below ∙ same pid }
-
-and_true : (b : Bool) → (b && true) ≡ b
-and_true true = refl
-and_true false = refl
+use Rattle.plug_psi.proofs.FlagLemmas.{and_true}
 
 -- what is told by the PIDs of the service's PMT and those that are spared
 pub told-by :

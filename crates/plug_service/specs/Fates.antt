@@ -6,7 +6,7 @@ use Rattle.std.specs.List.{flat_map}
 use Rattle.ts_packet.specs.declared.numbers.TheConstants.{NULL_PID}
 use Rattle.ts_table_rows.specs.TableValues.{TableHolding}
 use Rattle.plug_psi.specs.InForce.{pat_of, pid_for, pmt_of, services_in}
-use Rattle.plug_service.specs.ServicePids.{has_pid, pids_of}
+use Rattle.plug_psi.specs.ServicePids.{has_pid, pids_of}
 use Rattle.plug_service.specs.declared.way.Way.{Way}
 use Rattle.plug_service.specs.declared.way.Way.TheVariants.{Keep, Remove}
 use Rattle.plug_service.specs.declared.fate.Fate.{Fate}

@@ -5,8 +5,8 @@ use Rattle.ts_packet.specs.declared.numbers.TheConstants.{NULL_PID}
 use Rattle.ts_table_rows.specs.TableValues.{TableHolding}
 use Rattle.plug_psi.specs.InForce.{pat_of, pid_for, pmt_of}
 use Rattle.plug_psi.specs.ForceStands as forcing
-use Rattle.plug_service.specs.ServicePids.{has_pid, pids_of}
-use Rattle.plug_service.specs.PidFlags.{AreFlags}
+use Rattle.plug_psi.specs.ServicePids.{has_pid, pids_of}
+use Rattle.plug_psi.specs.PidFlags.{AreFlags}
 use Rattle.plug_service.specs.Fates.{is_in_pmt_alone, is_shared, other_pids}
 use Rattle.plug_service.specs.declared.way.Way.{Way}
 use Rattle.plug_service.specs.declared.way.Way.TheVariants.{Keep, Remove}

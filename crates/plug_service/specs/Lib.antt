@@ -1,5 +1,5 @@
-pub mod ServicePids
-pub mod PidFlags
+pub use Rattle.plug_psi.specs.ServicePids
+pub use Rattle.plug_psi.specs.PidFlags
 pub mod Fates
 pub mod ServiceEdits
 pub mod ServiceRule

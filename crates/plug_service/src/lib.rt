@@ -9,8 +9,6 @@ mod limits;
 mod one_service;
 mod pat_part;
 mod pid_fates;
-mod pid_flags;
-mod pids_of_pmt;
 mod pmt_alone;
 mod pmt_editors;
 mod sdt_part;

@@ -9,15 +9,13 @@ ghost use Rattle.plug_psi.specs.ForceStands.{StandsFor as Forced};
 ghost use Rattle.plug_service.specs.Fates;
 ghost use Rattle.plug_service.specs.Fates.{fate_of, other_pids, pids_besides};
 ghost use Rattle.plug_service.specs.FatesState.{IsEditable, spared_pids};
-ghost use Rattle.plug_service.specs.ServicePids.{pids_of};
+ghost use Rattle.plug_psi.specs.ServicePids.{pids_of};
 
 use crate::fate::Fate;
 use crate::limits::{LAST_FIXED_PID, PAT_PID, SDT_PID};
-use crate::pid_flags::{flag_of, no_flags, tell};
-use crate::pids_of_pmt::add_pids;
 use crate::services::{is_at, is_shared, parts, pid_of_service};
 use crate::way::Way;
-use plug_psi::InForce;
+use plug_psi::{InForce, add_pids, flag_of, no_flags, tell};
 use std::alloc::{AllocError, Global};
 use ts_packet::{NULL_PID, PID_COUNT};
 use ts_psi::PatService;

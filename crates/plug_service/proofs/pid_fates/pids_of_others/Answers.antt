@@ -2,7 +2,7 @@ use Rattle.std.proofs.Common.{ap, sym, ◌∙◌}
 use Rattle.ts_psi.specs.PatTables.{service_item}
 use Rattle.plug_psi.specs.InForce.{pmt_of, service_in}
 use Rattle.plug_service.specs.Fates.{pids_besides}
-use Rattle.plug_service.proofs.PidLemmas.{added-next, added-all}
+use Rattle.plug_psi.proofs.PidLemmas.{added-next, added-all}
 use Rattle.plug_service.proofs.pid_fates.pids_of_others.Goals as goal
 
 pub loop-entry-preserved : goal.loop-entry-preserved

@@ -3,7 +3,7 @@ use Rattle.std.specs.List.{flat_map}
 use Rattle.plug_psi.specs.InForce.{pmt_of}
 use Rattle.plug_psi.specs.ForceStands.{StandsFor}
 use Rattle.plug_service.specs.Fates.{pids_besides}
-use Rattle.plug_service.proofs.PidLemmas.{pairs_of}
+use Rattle.plug_psi.proofs.PatLemmas.{pairs_of}
 use Rattle.plug_service.proofs.pid_fates.pids_of_others.Given as goal
 
 -- the PIDs so far and those of the services that are left

@@ -1,6 +1,6 @@
 use Rattle.std.proofs.Common.{◌≡◌, ◌==◌, ◌+◌, ◌≤◌, drop}
 use Rattle.std.specs.Prelude.{count_by}
-use Rattle.plug_service.proofs.PidLemmas.{pairs_of}
+use Rattle.plug_psi.proofs.PatLemmas.{pairs_of}
 use Rattle.plug_service.proofs.services.entries_on.Given as goal
 
 -- the count so far and that of the services that are left

@@ -1,6 +1,6 @@
 use Rattle.std.proofs.Common.{◌≡◌, ◌==◌, drop}
 use Rattle.std.specs.Map.{lookup}
-use Rattle.plug_service.proofs.PidLemmas.{pairs_of}
+use Rattle.plug_psi.proofs.PatLemmas.{pairs_of}
 use Rattle.plug_service.proofs.services.pid_among.Given as goal
 
 -- the services that are left tell it

@@ -2,8 +2,9 @@ use Rattle.std.proofs.Common.{length, ap, ap₂, sym, ◌∙◌, subst, arith}
 use Rattle.plug_psi.specs.InForce.{pat_of, pid_for, pmt_of}
 use Rattle.plug_service.specs.Fates.{is_shared_at}
 use Rattle.plug_service.specs.FatesState.{told_flag}
-use Rattle.plug_service.specs.PidFlags.{AreFlags}
-use Rattle.plug_service.proofs.FlagLemmas.{flags-as, lent-whole, told-by}
+use Rattle.plug_psi.specs.PidFlags.{AreFlags}
+use Rattle.plug_psi.proofs.FlagLemmas.{flags-as, lent-whole}
+use Rattle.plug_service.proofs.FlagLemmas.{told-by}
 use Rattle.plug_service.proofs.pid_fates.PidFates.renew.Goals as goal
 
 pub returns-clause-stands : goal.returns-clause-stands

@@ -1,5 +1,5 @@
 use Rattle.std.proofs.Common.{◌≡◌, ℕ, length, get_or, false}
-use Rattle.plug_service.proofs.pid_flags.no_flags.Given as goal
+use Rattle.plug_psi.proofs.pid_flags.no_flags.Given as goal
 
 -- none so far is set
 abbrev pub invariant-loop : goal.invariant-loop

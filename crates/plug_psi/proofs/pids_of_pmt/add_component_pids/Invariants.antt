@@ -1,8 +1,8 @@
 use Rattle.std.proofs.Common.{◌≡◌, ◌++◌, drop, map}
 use Rattle.std.specs.List.{flat_map}
 use Rattle.ts_psi.specs.PsiTables.{component_item}
-use Rattle.plug_service.specs.ServicePids.{component_pids}
-use Rattle.plug_service.proofs.pids_of_pmt.add_component_pids.Given as goal
+use Rattle.plug_psi.specs.ServicePids.{component_pids}
+use Rattle.plug_psi.proofs.pids_of_pmt.add_component_pids.Given as goal
 
 -- the PIDs so far and those of the components that are left
 abbrev pub invariant-loop-component : goal.invariant-loop-component

@@ -1,6 +1,6 @@
 use Rattle.std.proofs.Common.{◌≡◌, ◌++◌, drop}
-use Rattle.plug_service.specs.ServicePids.{ca_pids}
-use Rattle.plug_service.proofs.pids_of_pmt.add_ca_pids.Given as goal
+use Rattle.plug_psi.specs.ServicePids.{ca_pids}
+use Rattle.plug_psi.proofs.pids_of_pmt.add_ca_pids.Given as goal
 
 -- the PIDs so far and those of the descriptors that are left
 abbrev pub invariant-loop-descriptor : goal.invariant-loop-descriptor

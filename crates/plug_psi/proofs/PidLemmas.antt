@@ -1,15 +1,12 @@
 -- The PIDs of PMTs, told one after another.
-use Rattle.std.proofs.Common.{◌≡◌, ℕ, ◌+◌, ◌<◌, ◌≤◌, List, ◌∷◌, ◌++◌, length, drop, get_or, map, sym, ap, ◌∙◌, append-nil, append_assoc}
+use Rattle.std.proofs.Common.{◌≡◌, ℕ, ◌+◌, ◌<◌, ◌≤◌, List, ◌∷◌, ◌++◌, length, drop, get_or, sym, ap, ◌∙◌, append-nil, append_assoc}
 use Rattle.std.specs.Prelude.{Some}
-use Rattle.std.specs.List.{cons_option, filter_map, flat_map}
+use Rattle.std.specs.List.{cons_option, flat_map}
 use Rattle.std.proofs.lemmas.List.{drop_more, drop_all}
 use Rattle.ts_psi.specs.declared.pat.PatService.{PatService}
 use Rattle.ts_psi.specs.PatTables.{service_item}
 use Rattle.plug_psi.specs.InForce.{service_in}
-
--- services as their numbers and PIDs
-abbrev pub pairs_of : List PatService → List (ℕ × ℕ)
-pairs_of services = filter_map service_in (map service_item services)
+use Rattle.plug_psi.proofs.PatLemmas.{pairs_of}
 
 -- the next service
 pairs-next :

@@ -5,7 +5,7 @@ ghost use Rattle.std.specs.List.{flat_map};
 ghost use Rattle.ts_descr.specs.Descriptors.{read_typed};
 ghost use Rattle.ts_descr_mpeg.specs.MpegDescrs.{mpeg_pages};
 ghost use Rattle.ts_psi.specs.PsiTables.{component_item, pmt_held};
-ghost use Rattle.plug_service.specs.ServicePids.{ca_pid_of, ca_pids, component_pids, pcr_pids, pids_in};
+ghost use Rattle.plug_psi.specs.ServicePids.{ca_pid_of, ca_pids, component_pids, pcr_pids, pids_in};
 
 use std::alloc::{AllocError, Global};
 use ts_bits::Descriptor;
@@ -13,8 +13,9 @@ use ts_descr_mpeg::MpegDescr;
 use ts_packet::NULL_PID;
 use ts_psi::{Component, Pmt};
 
-/// Adds the PIDs of a PMT.
-pub(crate) fn add_pids(alloc: Global, pids: &mut Vec<u16>, pmt: &Pmt) -> Result<(), AllocError>
+/// Adds the PIDs of a PMT: its PCR_PID, unless that is 8191, the CA_PIDs of its CA descriptors, and of each component the
+/// PID and the CA_PIDs.
+pub fn add_pids(alloc: Global, pids: &mut Vec<u16>, pmt: &Pmt) -> Result<(), AllocError>
     ensures { OnOk result (pids.new.items ≡ pids.old.items ++ pids_in (pmt_held pmt.now)) }
 {
     add_pcr_pid(pids, pmt.pcr_pid)?;
@@ -60,7 +61,7 @@ fn add_component_pid(
 }
 
 /// Adds the CA_PIDs of descriptors.
-fn add_ca_pids(
+pub(crate) fn add_ca_pids(
     alloc: Global,
     pids: &mut Vec<u16>,
     descriptors: &[Descriptor],

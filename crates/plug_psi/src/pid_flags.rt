@@ -1,15 +1,16 @@
 //! A flag for each PID.
 
 ghost use Rattle.std.specs.Prelude.{◌≡◌, ℕ, ◌==◌, ◌&&◌, ◌<◌, false, not, length, replicate, slice_index_or, IfOk, if◌then◌else◌};
-ghost use Rattle.plug_service.specs.PidFlags.{AreFlags};
-ghost use Rattle.plug_service.specs.ServicePids.{has_pid};
+ghost use Rattle.plug_psi.specs.PidFlags.{AreFlags};
+ghost use Rattle.plug_psi.specs.ServicePids.{has_pid};
 
 use std::alloc::{AllocError, Global};
 use ts_packet::PID_COUNT;
 
 /// A flag for each PID, none of which is set. It takes 8 KiB.
-pub(crate) fn no_flags(alloc: Global) -> Result<Vec<bool>, AllocError>
-    ensures { IfOk result (λ flags. AreFlags flags.items (λ pid. false)) }
+pub fn no_flags(alloc: Global) -> Result<Vec<bool>, AllocError>
+    ensures told { IfOk result (λ flags. AreFlags flags.items (λ pid. false)) }
+    ensures none { IfOk result (λ flags. (pid : ℕ) → slice_index_or flags.items pid false ≡ false) }
 {
     let mut flags = Vec::with_capacity(alloc, usize::from(PID_COUNT))?;
     for _ in 0..PID_COUNT {
@@ -18,9 +19,9 @@ pub(crate) fn no_flags(alloc: Global) -> Result<Vec<bool>, AllocError>
     Ok(flags)
 }
 
-/// The flag of a PID.
+/// The flag of a PID; it is not set where there is none.
 #[inline]
-pub(crate) fn flag_of(flags: &[bool], pid: u16) -> bool
+pub fn flag_of(flags: &[bool], pid: u16) -> bool
     ensures { result ≡ slice_index_or flags.now pid false }
 {
     match flags.get(usize::from(pid)) {
@@ -30,7 +31,7 @@ pub(crate) fn flag_of(flags: &[bool], pid: u16) -> bool
 }
 
 /// Sets the flags of some PIDs that are not among others, and no more. There is a flag for each PID.
-pub(crate) fn tell(flags: &mut [bool], pids: &[u16], others: &[u16])
+pub fn tell(flags: &mut [bool], pids: &[u16], others: &[u16])
     ensures { length flags.old ≡ PID_COUNT → AreFlags flags.new (λ pid. has_pid pids.now pid && not (has_pid others.now pid)) }
 {
     clear(flags);

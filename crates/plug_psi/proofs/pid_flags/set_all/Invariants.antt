@@ -1,7 +1,7 @@
 use Rattle.std.proofs.Common.{◌≡◌, ℕ, ◌<◌, length, get_or, drop, false}
 use Rattle.std.specs.Prelude.{if◌then◌else◌}
-use Rattle.plug_service.specs.ServicePids.{has_pid}
-use Rattle.plug_service.proofs.pid_flags.set_all.Given as goal
+use Rattle.plug_psi.specs.ServicePids.{has_pid}
+use Rattle.plug_psi.proofs.pid_flags.set_all.Given as goal
 
 -- the flags are those at first but for the PIDs so far
 abbrev pub invariant-loop-pid : goal.invariant-loop-pid

@@ -1,0 +1,159 @@
+//! The PIDs that are referred to.
+
+ghost use Rattle.std.specs.Prelude.{◌≡◌, ℕ, ◌<◌, ◌++◌, ◌∷◌, [], List, length, true, false, IfOk, OnOk, OnErr, IsErr, option_map};
+ghost use Rattle.std.specs.Option.{option_copied};
+ghost use Rattle.ts_psi.specs.CatTables.{cat_held};
+ghost use Rattle.plug_psi.specs.CatInForce.{cat_of};
+ghost use Rattle.plug_psi.specs.ForceStands.{StandsFor as Forced};
+ghost use Rattle.plug_psi.specs.PidFlags.{AreFlags};
+ghost use Rattle.plug_psi.specs.Referred.{is_fixed, named_in, refers};
+ghost use Rattle.plug_psi.specs.ReferredState.{HasFedCat};
+
+use crate::editor::either;
+use crate::handed_over::both;
+use crate::in_force::InForce;
+use crate::on_one::OnOne;
+use crate::pid_flags::{flag_of, no_flags, tell};
+use crate::pids_in_force::named_pids;
+use std::alloc::{AllocError, Global};
+use ts_packet::{NULL_PID, PID_COUNT, Packet};
+use ts_psi::Cat;
+
+/// The greatest of the PIDs that are referred to whatever tables are in force, PID 8191 apart
+/// (ETSI EN 300 468, 5.1.3).
+const LAST_FIXED_PID: u16 = 31;
+
+/// Of each PID, whether it is referred to after all packets that were fed.
+///
+/// These PIDs are: 0 to 31, and 8191; those of the entries of the PAT in force, the network PID too; of the PMT in force
+/// of each of its services the PIDs of the components, the PCR_PID and the CA_PIDs of the CA descriptors of the program
+/// and of the components; and the CA_PIDs of the CAT in force, which is the last complete table on PID 1 that is current
+/// and reads as a CAT. `InForce` says which PAT and PMTs are in force.
+#[derive(Drop)]
+pub struct Referred {
+    force: InForce,
+    one: OnOne,
+    /// The PIDs that tables name. They are made anew where another table comes into force.
+    flags: Vec<bool>,
+    failed: bool,
+    alloc: Global,
+}
+
+impl Referred {
+    ghost use Rattle.plug_psi.specs.ReferredStands.{StandsFor, has_failed};
+
+    /// No table is in force before a packet was fed.
+    pub fn new(alloc: Global) -> Result<Referred, AllocError>
+        ensures { IfOk result (λ referred. StandsFor referred []) }
+    {
+        let flags = no_flags(alloc)?;
+        let one = OnOne::new(alloc)?;
+        let force = InForce::new(alloc);
+        let (one, force) = both(one, force)?;
+        Ok(Referred {
+            force,
+            one,
+            flags,
+            failed: false,
+            alloc,
+        })
+    }
+
+    /// Takes the next packet, of any PID. After `AllocError` every later call answers `AllocError`.
+    #[inline]
+    pub fn feed(&mut self, packet: &Packet) -> Result<(), AllocError>
+        ensures stands { OnOk result ((fed : List (List ℕ)) → StandsFor self.old fed → StandsFor self.new (fed ++ packet.now ∷ [])) }
+        ensures spent { OnErr result (has_failed self.new ≡ true) }
+        ensures stays_spent { has_failed self.old ≡ true → IsErr result }
+    {
+        if self.failed {
+            return Err(AllocError);
+        }
+        match self.take(packet) {
+            Ok(()) => Ok(()),
+            Err(error) => {
+                self.failed = true;
+                Err(error)
+            }
+        }
+    }
+
+    /// Whether a PID, below 8192, is referred to.
+    #[inline]
+    pub fn has(&self, pid: u16) -> bool
+        requires { pid < PID_COUNT }
+        ensures { (fed : List (List ℕ)) → StandsFor self.now fed → result ≡ refers fed pid }
+    {
+        is_fixed(pid) || flag_of(&self.flags, pid)
+    }
+
+    /// The PAT and the PMTs in force.
+    pub fn in_force(&self) -> &InForce
+        ensures { (fed : List (List ℕ)) → StandsFor self.now fed → Forced result.now fed }
+    {
+        &self.force
+    }
+
+    /// The CAT in force, if there is one.
+    pub fn cat(&self) -> Option<&Cat>
+        ensures { (fed : List (List ℕ)) → StandsFor self.now fed → option_map cat_held (option_copied result) ≡ cat_of fed }
+    {
+        self.one.cat.as_ref()
+    }
+
+    /// Takes the next packet as long as memory was there.
+    #[inline]
+    fn take(&mut self, packet: &Packet) -> Result<(), AllocError>
+        ensures stands { OnOk result ((fed : List (List ℕ)) → StandsFor self.old fed → StandsFor self.new (fed ++ packet.now ∷ [])) }
+        ensures same_failed { has_failed self.new ≡ has_failed self.old }
+    {
+        let psi_came = self.force.update(packet)?;
+        let cat_came = self.one.take(self.alloc, packet)?;
+        let came = either(psi_came, cat_came);
+        renew_where(self.alloc, &self.force, &self.one, &mut self.flags, came)?;
+        Ok(())
+    }
+}
+
+/// Whether a PID is referred to, whatever tables are in force.
+#[inline]
+fn is_fixed(pid: u16) -> bool
+    ensures { result ≡ is_fixed pid }
+{
+    pid <= LAST_FIXED_PID || pid == NULL_PID
+}
+
+/// Makes the flags anew where a table came into force.
+#[inline]
+fn renew_where(
+    alloc: Global,
+    force: &InForce,
+    one: &OnOne,
+    flags: &mut Vec<bool>,
+    came: bool,
+) -> Result<(), AllocError>
+    ensures { OnOk result ((fed : List (List ℕ)) (packet : List ℕ) → Forced force.now (fed ++ packet ∷ []) → HasFedCat one.now (fed ++ packet ∷ [])
+        → (came ≡ false → named_in (fed ++ packet ∷ []) ≡ named_in fed)
+        → AreFlags flags.old.items (named_in fed) → AreFlags flags.new.items (named_in (fed ++ packet ∷ []))) }
+{
+    if !came {
+        return Ok(());
+    }
+    renew(alloc, force, one, flags)
+}
+
+/// Makes the flags anew. It takes memory as it goes, and keeps none.
+#[inline(never)]
+fn renew(
+    alloc: Global,
+    force: &InForce,
+    one: &OnOne,
+    flags: &mut Vec<bool>,
+) -> Result<(), AllocError>
+    ensures { OnOk result (length flags.old.items ≡ PID_COUNT → (fed : List (List ℕ)) → Forced force.now fed → HasFedCat one.now fed
+        → AreFlags flags.new.items (named_in fed)) }
+{
+    let pids = named_pids(alloc, force, one.cat.as_ref())?;
+    tell(flags, &pids, &[]);
+    Ok(())
+}
