@@ -10,7 +10,7 @@ ghost use Rattle.chain_tests.specs.Going.{GoesOn};
 
 use chain_core::{CorePlan, StageEnd, StageSet, StageWord, news_promises, one_visit};
 use std::process::Abort;
-use window_ring::{NewRing, Ring, Rows, StageSeat, Visited, new_ring, seat_laws};
+use window_ring::{NewRing, Ring, StageSeat, Visited, new_ring, seat_laws};
 
 /// A seat of a new ring goes on. There is nothing to run.
 fn begins(ring: &Ring, seat: &StageSeat)
@@ -160,7 +160,7 @@ fn wraps(rt: HostRuntime) {
         ring,
         root,
         mut seats,
-    } = new_ring(rt.alloc(), &plan, Rows::of(2, 2)).expect(&rt, "memory");
+    } = new_ring(rt.alloc(), &plan).expect(&rt, "memory");
     begins(&ring, &seats[0]);
     begins(&ring, &seats[1]);
     // Positions 0 to 6 in seven slots: five cells are given, and the first two of them are free again, as 7 and 8.
@@ -192,7 +192,7 @@ fn opens_and_closes(rt: HostRuntime) {
         ring,
         root,
         mut seats,
-    } = new_ring(rt.alloc(), &plan, Rows::of(2, 2)).expect(&rt, "memory");
+    } = new_ring(rt.alloc(), &plan).expect(&rt, "memory");
     shared(&ring);
     sent(&seats[0]);
     begins(&ring, &seats[0]);

@@ -1,6 +1,5 @@
 -- Stages that are driven in parts.
-use Rattle.std.proofs.Common.{◌≡◌, ℕ, zero, suc, ◌<◌, List, [], ◌∷◌, ◌++◌, length, set, take, drop, slice_index_or, refl, ◌∙◌, sym, subst, arith, Bool, true, false}
-use Rattle.std.proofs.lemmas.List.{take-append-drop}
+use Rattle.std.proofs.Common.{◌≡◌, ℕ, zero, suc, ◌<◌, List, [], ◌∷◌, ◌++◌, length, set, slice_index_or, refl, ◌∙◌, subst, arith, Bool, true, false}
 use Rattle.std.specs.Prelude.{◌&&◌}
 use denote.RawPtr.{Ptr}
 use Rattle.stage_run.specs.Seeing.{Seeing}
@@ -32,12 +31,6 @@ module _ {X : Type 0} (F : X → Type 0) where
 
   pub each_rest : (all xs ys : List X) → all ≡ xs ++ ys → Each F all → Each F ys
   each_rest all xs ys is e = each-back xs ys (subst (Each F) is e)
-
-  -- and of so many behind a place
-  pub each_part : (xs part : List X) (size start : ℕ) → part ≡ take size (drop start xs) → Each F xs → Each F part
-  each_part xs part size start is all =
-      let behind = each-back (take start xs) (drop start xs) (subst (Each F) (sym (take-append-drop start xs)) all) in
-      subst (Each F) (sym is) (each-front (take size (drop start xs)) (drop size (drop start xs)) (subst (Each F) (sym (take-append-drop size (drop start xs))) behind))
 
   pub each_one : (xs : List X) (d : X) → length xs ≡ 1 → Each F xs → F (slice_index_or xs 0 d)
   each_one [] d e all = absurd (omega (arith, e))
@@ -80,13 +73,6 @@ module _ {X : Type 0} (F : X → X → Type 0) where
   beside_one [] d new e k = absurd (omega (arith, e))
   beside_one (x ∷ []) d new e k = (k, tt)
   beside_one (x ∷ y ∷ ys) d new e k = absurd (omega (arith, e))
-
-  pub beside_at : (xs ys : List X) → AreBeside F xs ys → (i : ℕ) (d : X) → i < length xs → F (slice_index_or xs i d) (slice_index_or ys i d)
-  unfolding AreBeside
-  beside_at [] ys b i d lt = absurd (omega (arith, lt))
-  beside_at (x ∷ xs) [] b i d lt = absurd b
-  beside_at (x ∷ xs) (y ∷ ys) b zero d lt = b.0
-  beside_at (x ∷ xs) (y ∷ ys) b (suc i) d lt = beside_at xs ys b.1 i d (omega (arith, lt))
 
 -- ---- all have ended
 
@@ -165,11 +151,16 @@ module _ {S K P : Type 0} (see : Seeing S K P) (ring : Ring) where
   pub first_carried : (stages : List (Stage S K P)) (d new : Stage S K P) → length stages ≡ 1 → Keeps see ring (slice_index_or stages 0 d) new → Carried see ring stages (set stages 0 new)
   first_carried stages d new e k = beside_one (Keeps see ring) stages d new e k
 
-  -- ---- so many stages behind a place
+  -- ---- each is ready by itself
 
-  pub ready_part : (stages part : List (Stage S K P)) (size start : ℕ) → part ≡ take size (drop start stages) → AreReady see ring stages → AreReady see ring part
+  each-ready : (stages : List (Stage S K P)) (begun : RunStart S K) (base : Ptr) → key_of ring ≡ key_at begun base → Each (Holds see begun base (table_of ring)) stages → Each (IsReady see ring) stages
+  unfolding IsReady
+  each-ready [] begun base e all = tt
+  each-ready (x ∷ xs) begun base e all = ((begun, base, e, all.0), each-ready xs begun base e all.1)
+
+  pub each_ready : (stages : List (Stage S K P)) → AreReady see ring stages → Each (IsReady see ring) stages
   unfolding AreReady
-  ready_part stages part size start is r = (r.0, r.1, r.2, each_part (Holds see r.0 r.1 (table_of ring)) stages part size start is r.3)
+  each_ready stages r = each-ready stages r.0 r.1 r.2 r.3
 
 module _ {X : Type 0} (F : X → X → Type 0) where
   -- rows of one length are beside each other where they are at each place

@@ -2,11 +2,11 @@
 //! of the chain. The layer above uses the clauses of `run_threads`, which are those of `run_serial` in `chain_run`.
 #![tactic(auto)]
 
-mod at_once;
 mod driving;
 mod laws;
 mod stage;
 mod start_line;
+mod starting;
 mod threaded_run;
 mod threads;
 mod turn;

@@ -166,8 +166,8 @@ impl<S: Source, K: Sink, P: Plugin> Stage<S, K, P> {
         turn
     }
 
-    /// A turn, and where it worked another one, which gives on what was worked on: the stages behind it in its row find it
-    /// at their next turn. What the last one came to.
+    /// A turn, and where it worked another one, which gives on what was worked on: the stage behind it finds it at its next
+    /// turn. What the last one came to.
     #[tactic(auto, using(crate::proofs::Carries::kept_then))]
     pub(crate) fn serve<G: Gate>(&mut self, ring: &Ring, gate: &G) -> Turn
         requires { IsReady (seeing S.seen K.seen P.rule P.stands_for P.steady) ring.now self.old }

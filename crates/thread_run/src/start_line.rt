@@ -1,72 +1,68 @@
+use std::sync::Wait;
 use std::sync::atomic::AtomicU64;
 use std::sync::atomic::Ordering::SeqCst;
-use std::thread::yield_now;
+use std::time::Duration;
 
-/// What the count is once the wait was given up, or more; there are fewer rows.
-const GIVEN_UP: u64 = 1 << 32;
+/// Nothing is decided yet.
+const OPEN: u64 = 0;
 
-/// How often a thread lets others go first before it gives up.
-const PATIENCE: u32 = 100_000;
+/// All are here.
+const MET: u64 = 1;
 
-/// Where the threads of all rows meet before any begins.
+/// The wait was given up.
+const GIVEN_UP: u64 = 2;
+
+/// Where the threads of all stages meet before any of them begins.
 ///
-/// A row may sleep until another one wakes it, so none begins before all have a thread of their own. One word
-/// decides, so either every thread is told that all are here, or every one that the wait was given up. No clause
-/// speaks of it.
+/// A stage may sleep until another one wakes it, so none begins before all have a thread of their own. One word
+/// decides, and who writes it first: so either every thread is told that all are here, or every one that the wait was
+/// given up. No clause speaks of it.
 #[derive(Drop)]
 pub(crate) struct StartLine {
+    stages: u64,
+    /// How long one of them waits for the others, in milliseconds.
+    patience: u64,
     here: AtomicU64,
-    rows: u64,
+    decision: AtomicU64,
 }
 
 impl StartLine {
-    /// For so many rows.
-    pub(crate) fn new(rows: u64) -> StartLine {
+    /// For so many stages, each of which waits so many milliseconds for the others. Where there are none, all are here.
+    pub(crate) fn new(stages: usize, patience: u64) -> StartLine {
         StartLine {
+            stages: stages as u64,
+            patience,
             here: AtomicU64::new(0),
-            rows,
+            decision: AtomicU64::new(if stages == 0 { MET } else { OPEN }),
         }
     }
 
-    /// Waits a while until the threads of all rows have called this. Whether they have.
-    pub(crate) fn all_here(&self) -> bool {
-        self.here.fetch_add(1, SeqCst);
-        for _ in 0..PATIENCE {
-            if let Some(all) = self.decided(self.here.load(SeqCst)) {
-                return all;
-            }
-            yield_now();
+    /// Waits a while until the threads of all stages have called this. Whether they have.
+    pub(crate) fn all_here<R: Wait>(&self, rt: &R) -> bool {
+        let before = self.here.fetch_add(1, SeqCst);
+        if before.wrapping_add(1) == self.stages {
+            self.decide(MET);
         }
-        self.give_up()
+        // It returns at once where that is decided.
+        self.decision
+            .park_timeout(rt, OPEN as u32, Duration::from_millis(self.patience));
+        self.decide(GIVEN_UP);
+        self.has_met()
     }
 
-    /// Gives up, unless the others come at the last moment. Whether they came.
-    fn give_up(&self) -> bool {
-        for _ in 0..=self.rows {
-            let here = self.here.load(SeqCst);
-            if let Some(all) = self.decided(here) {
-                return all;
-            }
-            // It fails only where one more has come.
-            if self
-                .here
-                .compare_exchange(here, GIVEN_UP, SeqCst, SeqCst)
-                .is_ok()
-            {
-                return false;
-            }
-        }
-        false
+    /// Whether all were here before the wait was given up.
+    pub(crate) fn has_met(&self) -> bool {
+        self.decision.load(SeqCst) == MET
     }
 
-    /// What a count says, where it says it.
-    fn decided(&self, here: u64) -> Option<bool> {
-        if here == self.rows {
-            return Some(true);
+    /// Decides, unless that was done.
+    fn decide(&self, decision: u64) {
+        if self
+            .decision
+            .compare_exchange(OPEN, decision, SeqCst, SeqCst)
+            .is_ok()
+        {
+            self.decision.wake_all();
         }
-        if here >= GIVEN_UP {
-            return Some(false);
-        }
-        None
     }
 }

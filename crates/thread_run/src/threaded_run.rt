@@ -30,7 +30,7 @@ use std::marker::{Send, Sync};
 use std::sync::Wait;
 use std::thread::Threads;
 use ts_outside::{Gate, Sink, Source};
-use window_ring::{NewRing, Ring, Rows, StageSeat, State, View, new_ring};
+use window_ring::{NewRing, Ring, StageSeat, State, View, new_ring};
 
 /// The memory of a run, but for that of the plugins: the rooms of its stages, an empty row with room for the stages with
 /// their seats, and a new ring.
@@ -41,9 +41,8 @@ struct RunMemory<S, K, P> {
 }
 
 impl<S, K, P> RunMemory<S, K, P> {
-    /// Takes the memory for a chain with this plan, whose stages are served in at most so many threads. After an
-    /// `AllocError` nothing is taken.
-    fn new(alloc: Global, plan: &CorePlan, threads: usize) -> Result<RunMemory<S, K, P>, AllocError>
+    /// Takes the memory for a chain with this plan. After an `AllocError` nothing is taken.
+    fn new(alloc: Global, plan: &CorePlan) -> Result<RunMemory<S, K, P>, AllocError>
         requires { IsLawfulPlan plan.now }
         ensures ring { IfOk result (λ memory. IsNew plan.now memory.ring) }
         ensures none { IfOk result (λ memory. memory.rooms.row.items ≡ []) }
@@ -60,8 +59,7 @@ impl<S, K, P> RunMemory<S, K, P> {
             return Err(AllocError);
         };
         // The last of what may fail: its seats can be given back only when their stages have ended.
-        let rows = Rows::of(plan.plugins + 2, threads);
-        let Ok(ring) = new_ring(alloc, plan, rows) else {
+        let Ok(ring) = new_ring(alloc, plan) else {
             stages.destroy_empty();
             row.destroy_empty();
             return Err(AllocError);
@@ -226,9 +224,8 @@ fn run_laid<R: Threads + Wait + Sync, S: Source + Send, K: Sink + Send, P: Plugi
     end_run(ring, root, seats, parts, plugins)
 }
 
-/// Runs a chain in at most so many threads, but no fewer than two, and gives its parts back: the input has one, and each of
-/// the others serves some stages that stand beside each other. Where a thread cannot be started, all stages run in the
-/// caller's.
+/// Runs a chain with a thread for each stage, the caller's among them, and gives its parts back. Where so many threads
+/// cannot be started, all stages run in the caller's.
 ///
 /// All memory but that of the plugins' steps is taken before the first read; where it is wanting, `closed` is
 /// `AllocError` and nothing was done. It may wait, and owes no return.
@@ -243,7 +240,6 @@ pub fn run_threads<
     alloc: Global,
     stages: Stages<S, K, P>,
     plan: &CorePlan,
-    threads: usize,
     gate: &G,
 ) -> RunEnd<S, K, P>
     requires every { 1 ≤ stages.stuffing.every }
@@ -269,7 +265,7 @@ pub fn run_threads<
             stages,
             ring,
         },
-    ) = RunMemory::new(alloc, plan, threads)
+    ) = RunMemory::new(alloc, plan)
     else {
         return RunEnd {
             input,

@@ -1,38 +1,42 @@
 ghost use Rattle.std.specs.Prelude.{◌≡◌, ◌<◌, true, length};
 ghost use Rattle.std.specs.Thread.{IsSync};
 ghost use Rattle.stage_run.specs.Seeing.{seeing};
-ghost use Rattle.thread_run.specs.Driving.{AreReady, Carried, HaveEnded};
+ghost use Rattle.thread_run.specs.Driving.{IsReady, Keeps, AreReady, Carried, HaveEnded};
 
 use crate::Stage;
-use crate::at_once::on_both;
 use crate::driving::{drive, finish};
 use crate::start_line::StartLine;
+use crate::starting::can_start;
 use plugin_trait::Plugin;
 use std::marker::{Send, Sync};
 use std::sync::Wait;
-use std::thread::{Threads, for_each_chunk_mut};
+use std::thread::{Threads, for_each_mut};
 use ts_outside::{Gate, Sink, Source};
 use window_ring::Ring;
 
-/// Drives a row until its stages have ended, once the threads of all are at the line; where the wait was given up, it stays
-/// as it is.
-#[tactic(auto, using(crate::proofs::Carries::same))]
+/// How long the threads of the stages wait for one another at first, in milliseconds. It is twice as long each time after
+/// that.
+const FIRST_PATIENCE: u64 = 50;
+
+/// Drives a stage until it has ended, once the threads of all are at the line; where the wait was given up, it stays as it
+/// is.
+#[tactic(auto, using(crate::proofs::Carries::kept_same))]
 fn drive_from<R: Wait, S: Source, K: Sink, P: Plugin, G: Gate>(
     rt: &R,
     ring: &Ring,
     gate: &G,
     line: &StartLine,
-    stages: &mut [Stage<S, K, P>],
+    stage: &mut Stage<S, K, P>,
 )
-    requires ready { AreReady (seeing S.seen K.seen P.rule P.stands_for P.steady) ring.now stages.old }
-    ensures carried { Carried (seeing S.seen K.seen P.rule P.stands_for P.steady) ring.now stages.old stages.new }
+    requires ready { IsReady (seeing S.seen K.seen P.rule P.stands_for P.steady) ring.now stage.old }
+    ensures keeps { Keeps (seeing S.seen K.seen P.rule P.stands_for P.steady) ring.now stage.old stage.new }
 {
-    if line.all_here() {
-        drive(rt, ring, gate, stages);
+    if line.all_here(rt) {
+        drive(rt, ring, gate, stage);
     }
 }
 
-/// Drives the rows behind the input, each in a thread of its own where one can be started.
+/// Drives the stages from a line, each in a thread of its own where one can be started.
 fn spread<R: Threads + Wait + Sync, S: Source + Send, K: Sink + Send, P: Plugin + Send, G: Gate>(
     rt: &R,
     ring: &Ring,
@@ -43,37 +47,24 @@ fn spread<R: Threads + Wait + Sync, S: Source + Send, K: Sink + Send, P: Plugin 
     requires ready { AreReady (seeing S.seen K.seen P.rule P.stands_for P.steady) ring.now stages.old }
     ensures carried { Carried (seeing S.seen K.seen P.rule P.stands_for P.steady) ring.now stages.old stages.new }
 {
-    for_each_chunk_mut(
+    let threads = stages.len();
+    if threads == 0 {
+        return;
+    }
+    for_each_mut(
         rt,
         stages,
-        ring.rows().length(),
-        &|_: usize, row: &mut [Stage<S, K, P>]|
-            requires { IsSync G.row × AreReady (seeing S.seen K.seen P.rule P.stands_for P.steady) ring.now row.now }
-            ensures { Carried (seeing S.seen K.seen P.rule P.stands_for P.steady) ring.entry.now row.entry.now row.exit.now }
-        { drive_from(rt, ring, gate, line, row) },
+        threads,
+        &|_: usize, stage: &mut Stage<S, K, P>|
+            requires { IsSync G.row × IsReady (seeing S.seen K.seen P.rule P.stands_for P.steady) ring.now stage.now }
+            ensures { Keeps (seeing S.seen K.seen P.rule P.stands_for P.steady) ring.entry.now stage.entry.now stage.exit.now }
+        { drive_from(rt, ring, gate, line, stage) },
     );
 }
 
-/// Drives the input, which is side 0, or else the rows behind it.
-fn drive_side<
-    R: Threads + Wait + Sync,
-    S: Source + Send,
-    K: Sink + Send,
-    P: Plugin + Send,
-    G: Gate,
->(rt: &R, ring: &Ring, gate: &G, line: &StartLine, side: usize, stages: &mut [Stage<S, K, P>])
-    requires ready { AreReady (seeing S.seen K.seen P.rule P.stands_for P.steady) ring.now stages.old }
-    ensures carried { Carried (seeing S.seen K.seen P.rule P.stands_for P.steady) ring.now stages.old stages.new }
-{
-    if side == 0 {
-        drive_from(rt, ring, gate, line, stages);
-        return;
-    }
-    spread(rt, ring, gate, line, stages);
-}
-
-/// Drives the input beside the rows behind it.
-fn drive_both<
+/// Drives the stages, each in a thread of its own, where all of these threads have come before the patience is over. Whether
+/// they have; the stages stay as they are where not, and each thread that was started has come by then.
+fn try_threads<
     R: Threads + Wait + Sync,
     S: Source + Send,
     K: Sink + Send,
@@ -83,29 +74,24 @@ fn drive_both<
     rt: &R,
     ring: &Ring,
     gate: &G,
-    line: &StartLine,
-    input: &mut [Stage<S, K, P>],
-    others: &mut [Stage<S, K, P>],
-)
-    requires input { AreReady (seeing S.seen K.seen P.rule P.stands_for P.steady) ring.now input.old }
-    requires others { AreReady (seeing S.seen K.seen P.rule P.stands_for P.steady) ring.now others.old }
-    ensures input { Carried (seeing S.seen K.seen P.rule P.stands_for P.steady) ring.now input.old input.new }
-    ensures others { Carried (seeing S.seen K.seen P.rule P.stands_for P.steady) ring.now others.old others.new }
+    patience: u64,
+    stages: &mut [Stage<S, K, P>],
+) -> bool
+    requires ready { AreReady (seeing S.seen K.seen P.rule P.stands_for P.steady) ring.now stages.old }
+    ensures carried { Carried (seeing S.seen K.seen P.rule P.stands_for P.steady) ring.now stages.old stages.new }
 {
-    on_both(
-        rt,
-        &|side: usize, stages: &mut [Stage<S, K, P>]|
-            requires { IsSync R.row × IsSync G.row × AreReady (seeing S.seen K.seen P.rule P.stands_for P.steady) ring.now stages.now }
-            ensures { Carried (seeing S.seen K.seen P.rule P.stands_for P.steady) ring.entry.now stages.entry.now stages.exit.now }
-        { drive_side(rt, ring, gate, line, side, stages) },
-        input,
-        others,
-    );
+    let line = StartLine::new(stages.len(), patience);
+    spread(rt, ring, gate, &line, stages);
+    line.has_met()
 }
 
-/// Drives the stages of all rows, each row in a thread of its own where one can be started.
-#[tactic(auto, using(crate::proofs::Carries::both, crate::proofs::Carries::same))]
-fn drive_rows<
+/// Drives the stages, each in a thread of its own, until they have ended. Where so many threads cannot be started, they stay
+/// as they are.
+///
+/// Threads that come late are waited for, longer and longer. Only where the wait was too short is it asked whether so many
+/// can be started at all.
+#[tactic(auto, using(crate::proofs::Carries::same, crate::proofs::Carries::then_, crate::proofs::Carries::still_ready))]
+fn drive_apart<
     R: Threads + Wait + Sync,
     S: Source + Send,
     K: Sink + Send,
@@ -115,16 +101,20 @@ fn drive_rows<
     requires ready { AreReady (seeing S.seen K.seen P.rule P.stands_for P.steady) ring.now stages.old }
     ensures carried { Carried (seeing S.seen K.seen P.rule P.stands_for P.steady) ring.now stages.old stages.new }
 {
-    if stages.len() == 0 {
-        return;
+    let mut patience = FIRST_PATIENCE;
+    for _ in rt.forever() {
+        if try_threads(rt, ring, gate, patience, stages) {
+            return;
+        }
+        if !can_start(rt, stages.len().saturating_sub(1)) {
+            return;
+        }
+        patience = patience.saturating_mul(2);
     }
-    let line = StartLine::new(ring.rows().count() as u64);
-    let (input, others) = stages.split_at_mut(1);
-    drive_both(rt, ring, gate, &line, input, others);
 }
 
-/// Drives all stages of a ring until they have ended, each row of the ring in a thread of its own; where one could not be
-/// started, all of them from the caller's.
+/// Drives all stages of a ring until they have ended, each in a thread of its own, the caller's among them; where so many
+/// threads cannot be started, all of them from the caller's.
 ///
 /// It may wait, and owes no return.
 #[tactic(auto, using(crate::proofs::Carries::then_, crate::proofs::Carries::still_ready))]
@@ -139,6 +129,6 @@ pub fn drive_all<
     ensures carried { Carried (seeing S.seen K.seen P.rule P.stands_for P.steady) ring.now stages.old stages.new }
     ensures ended { HaveEnded true stages.new }
 {
-    drive_rows(rt, ring, gate, stages);
+    drive_apart(rt, ring, gate, stages);
     finish(rt, ring, gate, stages);
 }

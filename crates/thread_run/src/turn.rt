@@ -1,10 +1,10 @@
-ghost use Rattle.std.specs.Prelude.{◌≡◌, ◌&&◌, is_some};
+ghost use Rattle.std.specs.Prelude.{◌≡◌, is_some};
 ghost use Rattle.thread_run.specs.Turning.{answer_of};
 ghost use Rattle.thread_run.specs.Driving.{is_ended};
 
 use chain_core::StageWord;
 
-/// What a turn of a stage comes to, and what the turns of a row of stages come to.
+/// What a turn of a stage comes to.
 #[derive(Debug, Clone, Copy, PartialEq, Eq)]
 pub enum Turn {
     /// Another stage had the turn of the ring. Nothing was given, told or worked on.
@@ -28,21 +28,6 @@ impl Turn {
             }
         }
         Turn::Worked
-    }
-
-    /// What this turn and another one come to: that something was worked on, else that the turn of the ring was held, else
-    /// that there was nothing to do, and an end only where both have ended.
-    pub(crate) fn with(&self, other: Turn) -> Turn
-        ensures { is_ended result ≡ (is_ended self.now && is_ended other) }
-    {
-        match (*self, other) {
-            (Turn::Ended, _) => other,
-            (Turn::Worked, _) => Turn::Worked,
-            (Turn::Busy, Turn::Worked) => Turn::Worked,
-            (Turn::Busy, _) => Turn::Busy,
-            (Turn::Idle, Turn::Ended) => Turn::Idle,
-            (Turn::Idle, _) => other,
-        }
     }
 
     /// Whether the stage has ended.

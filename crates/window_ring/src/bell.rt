@@ -2,7 +2,7 @@ use std::sync::Wait;
 use std::sync::atomic::AtomicU64;
 use std::sync::atomic::Ordering::SeqCst;
 
-/// Rings when there may be news for a stage of a row. No clause speaks of it.
+/// Rings when there may be news for a stage. No clause speaks of it.
 #[derive(Drop)]
 pub(crate) struct Bell {
     // How often it rang.

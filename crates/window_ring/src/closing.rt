@@ -31,11 +31,7 @@ impl Ring {
         ensures { (made : ℕ) (held : List Holding) → root.me ≡ (root_view (key_of self) made held, [])
             → CoversAll (key_of self) held → Opened (key_of self) held result }
     {
-        let Ring {
-            table,
-            rows: _,
-            bells: _,
-        } = self;
+        let Ring { table, bells: _ } = self;
         let mut closed = table.close_with(root);
         let value = closed.take(0);
         closed.free();

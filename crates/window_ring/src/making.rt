@@ -8,7 +8,6 @@ ghost use Rattle.window_ring.specs.Seats.{key_of, table_of};
 
 use crate::bell::Bell;
 use crate::ring::Ring;
-use crate::rows::Rows;
 use crate::rule::{Returning, Seating};
 use crate::state::State;
 use crate::view::{Key, View};
@@ -21,7 +20,6 @@ impl Ring {
         alloc: Global,
         about: &Key,
         slots: Vec<State>,
-        rows: Rows,
         bells: Vec<Bell>,
     ) -> Result<(Ring, Seat<State, View>), Refused<State, Global>>
         requires { (value : State) × (slots.items ≡ value ∷ []) × Stands about.now value [] }
@@ -31,7 +29,7 @@ impl Ring {
         ensures err { IfErr result (λ r. r.slots.items ≡ slots.items) }
     {
         let (table, seat) = Table::new(alloc, &[0], slots, about)?;
-        Ok((Ring { table, rows, bells }, seat))
+        Ok((Ring { table, bells }, seat))
     }
 
     /// The seat of the next stage.

@@ -12,7 +12,6 @@ ghost use Rattle.window_ring.specs.Opening.{AreFresh, IsReady, IsNew};
 use crate::bell::Bell;
 use crate::hand::Hand;
 use crate::ring::Ring;
-use crate::rows::Rows;
 use crate::stage_seat::StageSeat;
 use crate::state::{Last, State};
 use crate::view::{Key, View};
@@ -40,10 +39,10 @@ struct Ready {
     bells: Vec<Bell>,
 }
 
-// A bell for each row.
-fn bells_of(alloc: Global, rows: usize) -> Result<Vec<Bell>, AllocError> {
+// A bell for each stage.
+fn bells_of(alloc: Global, stages: usize) -> Result<Vec<Bell>, AllocError> {
     let mut bells = Vec::new(alloc);
-    for _ in 0..rows {
+    for _ in 0..stages {
         bells.push(Bell::new())?;
     }
     Ok(bells)
@@ -101,13 +100,13 @@ fn fill_seats(
 }
 
 // All memory of a ring but that of its table.
-fn set_up(alloc: Global, plan: &CorePlan, rows: usize) -> Result<Ready, AllocError>
+fn set_up(alloc: Global, plan: &CorePlan) -> Result<Ready, AllocError>
     requires { IsLawfulPlan plan.now }
     ensures { IfOk result (λ r. IsReady plan.now r.key r.slots.items
         × (vec_len r.seats ≡ 0) × (plan.now.plugins + 2 ≤ vec_capacity r.seats)) }
 {
     let stages = plan.plugins + 2;
-    let bells = bells_of(alloc, rows)?;
+    let bells = bells_of(alloc, stages)?;
     let core = Core::new(alloc, plan)?;
     let mut links = Vec::with_capacity(alloc, stages)?;
     let Ok(seats) = Vec::with_capacity(alloc, stages) else {
@@ -176,8 +175,8 @@ fn discard(mut slots: Vec<State>)
     end_all(links);
 }
 
-/// A ring of this plan, whose stages are served in these rows, or there was no memory for it. Only this call takes memory.
-pub fn new_ring(alloc: Global, plan: &CorePlan, rows: Rows) -> Result<NewRing, AllocError>
+/// A ring of this plan, or there was no memory for it. Only this call takes memory.
+pub fn new_ring(alloc: Global, plan: &CorePlan) -> Result<NewRing, AllocError>
     requires { IsLawfulPlan plan.now }
     ensures { IfOk result (λ r. IsNew plan.now r) }
 {
@@ -186,8 +185,8 @@ pub fn new_ring(alloc: Global, plan: &CorePlan, rows: Rows) -> Result<NewRing, A
         slots,
         mut seats,
         bells,
-    } = set_up(alloc, plan, rows.count())?;
-    match Ring::open(alloc, &key, slots, rows, bells) {
+    } = set_up(alloc, plan)?;
+    match Ring::open(alloc, &key, slots, bells) {
         Ok((ring, mut root)) => {
             fill_seats(
                 &ring,

@@ -2,7 +2,6 @@ ghost use Rattle.std.specs.Prelude.{◌≡◌, ◌+◌, [], ◌∷◌, length};
 ghost use Rattle.window_ring.specs.Seats.{key_of, table_of, IsAt, HasVisited};
 
 use crate::bell::Bell;
-use crate::rows::Rows;
 use crate::rule::{Leaving, RingRule, Taking};
 use crate::stage_seat::StageSeat;
 use crate::state::State;
@@ -16,8 +15,7 @@ use std::sync::Wait;
 /// The ring, which the threads of all stages share.
 pub struct Ring {
     pub(crate) table: Table<State, View, Key, RingRule, Global>,
-    pub(crate) rows: Rows,
-    // One for each row.
+    // One for each stage.
     pub(crate) bells: Vec<Bell>,
 }
 
@@ -52,27 +50,22 @@ impl Ring {
         Visited::Given(news)
     }
 
-    /// How the stages are put into rows.
-    pub fn rows(&self) -> Rows {
-        self.rows
-    }
-
-    /// Waits until there may be news for a stage of this row since so many rings were heard, or returns at once. It
-    /// changes no list.
+    /// Waits until there may be news for this stage since so many rings were heard, or returns at once. It changes no
+    /// list.
     ///
-    /// Nothing is missed where the rings were counted before the row's stages made their visits. What may be news for a
-    /// stage, as cells, free slots, an end beside it or the limit, another stage's visit makes within its turn, and it
-    /// rings behind that turn. So either the stage's own visit came later and found the news, or the ring comes behind
-    /// the count, also where it is from a stage of the same row, and this returns.
-    pub fn wait_news<R: Wait>(&self, rt: &R, row: usize, heard: u64) {
-        if let Some(bell) = self.bells.get(row) {
+    /// Nothing is missed where the rings were counted before the stage made its visit. What may be news for a stage, as
+    /// cells, free slots, an end beside it or the limit, another stage's visit makes within its turn, and it rings
+    /// behind that turn. So either the stage's own visit came later and found the news, or the ring comes behind the
+    /// count, and this returns.
+    pub fn wait_news<R: Wait>(&self, rt: &R, stage: usize, heard: u64) {
+        if let Some(bell) = self.bells.get(stage) {
             bell.wait(rt, heard);
         }
     }
 
-    /// How often the bell of a row rang.
-    pub fn heard(&self, row: usize) -> u64 {
-        match self.bells.get(row) {
+    /// How often the bell of a stage rang.
+    pub fn heard(&self, stage: usize) -> u64 {
+        match self.bells.get(stage) {
             Some(bell) => bell.heard(),
             None => 0,
         }
@@ -89,15 +82,21 @@ impl Ring {
         }
         let ended = word.ended.is_some();
         if done > 0 || ended {
-            self.ring_at(self.rows.next_of(stage));
+            self.ring_at(self.next_of(stage));
         }
         if ended && stage > 0 {
             self.ring_at(stage - 1);
         }
     }
 
+    // The stage behind this one; behind the last one comes the input, for which the free slots are.
+    fn next_of(&self, stage: usize) -> usize {
+        let next = stage.saturating_add(1);
+        if next < self.bells.len() { next } else { 0 }
+    }
+
     fn ring_at(&self, stage: usize) {
-        if let Some(bell) = self.bells.get(self.rows.row_of(stage)) {
+        if let Some(bell) = self.bells.get(stage) {
             bell.ring();
         }
     }

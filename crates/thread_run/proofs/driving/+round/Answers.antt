@@ -3,12 +3,12 @@ use Rattle.stage_run.specs.Seeing.{seeing}
 use Rattle.thread_run.proofs.Carries.{ready_first, ready_rest, over_empty}
 use Rattle.thread_run.proofs.driving.+round.Goals as goal
 
-pub serve_first-one-requires-clause-ready : goal.serve_first-one-requires-clause-ready
-serve_first-one-requires-clause-ready g t c = λ κs within.
+pub serve_first-first_ended-requires-clause-ready : goal.serve_first-first_ended-requires-clause-ready
+serve_first-first_ended-requires-clause-ready g t c = λ κs within.
     ready_first (seeing g.S.Source.seen g.K.Sink.seen g.P.Plugin.rule g.P.Plugin.stands_for g.P.Plugin.steady) c.args.ring.now c.args.stages.now c.split_at_mut-first.result.0.now c.split_at_mut-first.result.1.now c.split_at_mut-first.ensures.value c.requires.ready
 
-pub round-others-requires-clause-ready : goal.round-others-requires-clause-ready
-round-others-requires-clause-ready g t c = λ κs within.
+pub round-rest_ended-requires-clause-ready : goal.round-rest_ended-requires-clause-ready
+round-rest_ended-requires-clause-ready g t c = λ κs within.
     ready_rest (seeing g.S.Source.seen g.K.Sink.seen g.P.Plugin.rule g.P.Plugin.stands_for g.P.Plugin.steady) c.args.ring.now c.args.stages.now c.split_at_mut-first.result.0.now c.split_at_mut-first.result.1.now c.split_at_mut-first.ensures.value c.requires.ready
 
 pub returns-then-stages-eq0-clause-ended : goal.returns-then-stages-eq0-clause-ended

@@ -1,4 +1,4 @@
-use Rattle.std.proofs.Common.{subst}
+use Rattle.std.proofs.Common.{subst, sym, ◌∙◌}
 use Rattle.std.specs.Prelude.{slice_set}
 use Rattle.stage_run.specs.Seeing.{seeing}
 use Rattle.thread_run.specs.Driving.{HaveEnded}
@@ -15,5 +15,5 @@ returns-clause-carried g c =
 
 pub returns-clause-ended : goal.returns-clause-ended
 returns-clause-ended g c =
-    subst (λ b. HaveEnded b (slice_set c.args.stages.now 0 c.serve.new.self)) c.serve.ensures.over
+    subst (λ b. HaveEnded b (slice_set c.args.stages.now 0 c.serve.new.self)) (c.serve.ensures.over ∙ sym c.ends.ensures)
     (over_one c.args.stages.now c.serve.new.self c.requires.one)
