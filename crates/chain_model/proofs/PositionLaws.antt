@@ -1,7 +1,7 @@
 -- What a rule that never ends its list makes of one, position by position.
 use Rattle.std.proofs.Common.{◌≡◌, ℕ, zero, suc, ◌<◌, List, [], ◌∷◌, ◌++◌, length, take, get_or, None, refl, ap, sym, ◌∙◌, arith, append_assoc, append-nil}
 use Rattle.ts_packet.specs.declared.cell.Cell.{Cell}
-use Rattle.ts_packet.specs.declared.cell.Cell.TheVariants.{Live, Dropped}
+use Rattle.ts_packet.specs.Cells.{Live, Dropped}
 use Rattle.chain_model.specs.PluginRule.{PluginRule, RuleOutcome, passes, drops, lasts, stops, refuses}
 use Rattle.chain_model.specs.Apply.{StageList, CellOutcome, goes_on, outcome_of_live, became, onto, apply_after, apply}
 use Rattle.chain_model.specs.NeverEnds.{GoesOn, NeverEnds}

@@ -1,9 +1,8 @@
 -- The packets that a plugin met: without their labels, with one cell more, and without their positions.
 use Rattle.std.proofs.Common.{◌≡◌, ℕ, ◌+◌, List, [], ◌∷◌, ◌++◌, length, map, refl, ap, ◌∙◌, arith}
 use Rattle.ts_packet.specs.declared.cell.Cell.{Cell}
-use Rattle.ts_packet.specs.declared.cell.Cell.TheVariants.{Live, Dropped}
 use Rattle.ts_packet.specs.declared.labelled.Labelled.{Labelled}
-use Rattle.ts_packet.specs.Cells.{live_packets}
+use Rattle.ts_packet.specs.Cells.{Live, Dropped, live_packets}
 use Rattle.ts_packet.specs.LiveRows.{labelled, live_rows, packets_in}
 use Rattle.ts_packet.specs.MetRows.{Met, met_from, met_rows}
 

@@ -2,7 +2,7 @@
 use Rattle.std.proofs.Common.{◌≡◌, ℕ, List, [], ◌∷◌, true, Some, None, refl}
 use Rattle.bit_rows.specs.BitRow.{bit_of, field}
 use Rattle.ts_packet.specs.declared.cell.Cell.{Cell}
-use Rattle.ts_packet.specs.declared.cell.Cell.TheVariants.{Live, Dropped}
+use Rattle.ts_packet.specs.Cells.{Live, Dropped}
 use Rattle.ts_packet.specs.Packet.{null_packet}
 use Rattle.ts_packet.specs.Header.{pid_of, counter_of, unit_start_of, with_pid, with_counter}
 use Rattle.ts_packet.specs.Adaptation.{adaptation_length_of, discontinuity_of}

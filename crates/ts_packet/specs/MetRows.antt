@@ -1,7 +1,7 @@
 -- The packets that a plugin met, each with its position and its labels. This project's own rule.
 use Rattle.std.specs.Prelude.{ℕ, ◌+◌, List, [], ◌∷◌}
 use Rattle.ts_packet.specs.declared.cell.Cell.{Cell}
-use Rattle.ts_packet.specs.declared.cell.Cell.TheVariants.{Live, Dropped}
+use Rattle.ts_packet.specs.Cells.{Live, Dropped}
 
 -- a packet that was met: its position, the packet as it was then, and its labels
 pub record Met : Type 0 where
