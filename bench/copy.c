@@ -4,7 +4,7 @@
  *
  *     copy < stream > stream
  *
- * It reads and writes in pieces of 1,024 packets, as tsp does.
+ * It reads and writes in pieces of 1,024 packets.
  */
 #include <unistd.h>
 
