@@ -8,7 +8,7 @@ use Rattle.plug_inject.specs.InjectRule.{Injection, has_packets, injected, is_re
 use Rattle.plug_inject.specs.InjectState.{Counts, Stands, wait_among}
 
 -- one packet fewer has to be met
-wait-less : (kept : ℕ) (marks : List Bool) → wait_among (kept - 1) marks ≡ wait_among kept marks - 1
+pub wait-less : (kept : ℕ) (marks : List Bool) → wait_among (kept - 1) marks ≡ wait_among kept marks - 1
 unfolding wait_among
 wait-less kept [] = refl
 wait-less kept (true ∷ older) = refl
@@ -21,7 +21,7 @@ wait-none (true ∷ older) = refl
 wait-none (false ∷ older) = wait-none older
 
 -- one of the packets next before was replaced exactly where some have yet to be met
-some-waits : (kept : ℕ) (marks : List Bool) → some_replaced (take kept marks) ≡ nat_lt 0 (wait_among kept marks)
+pub some-waits : (kept : ℕ) (marks : List Bool) → some_replaced (take kept marks) ≡ nat_lt 0 (wait_among kept marks)
 unfolding wait_among
 some-waits zero marks = ap (nat_lt 0) (sym (wait-none marks))
 some-waits (suc kept) [] = refl

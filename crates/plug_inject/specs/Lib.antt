@@ -2,3 +2,4 @@ pub mod InjectRule
 pub mod InjectState
 pub mod InjectSettings
 pub mod InjectWords
+pub mod InjectedPlaces

@@ -6,7 +6,9 @@
 mod inject;
 mod inject_conf;
 mod inject_words;
+mod laws;
 
 pub use inject::Inject;
 pub use inject_conf::{InjectConf, InjectMode, LAST_CARRIER};
 pub use inject_words::{inject_command, inject_settings};
+pub use laws::cycles_are_put_in;

@@ -1,0 +1,24 @@
+-- Where `inject` puts packets in. This project's own rule.
+-- The packets that the plugin met are numbered from 0; those that were dropped before have no number.
+use Rattle.std.specs.Prelude.{ℕ, List, [], ◌∷◌, length, if◌then◌else◌}
+use Rattle.ts_packet.specs.declared.cell.Cell.{Cell}
+use Rattle.ts_packet.specs.Cells.{live_packets}
+use Rattle.chain_model.specs.Apply.{apply}
+use Rattle.plug_inject.specs.InjectRule.{Injection, inject_rule, injection_of, is_replaced, replaced_among}
+use Rattle.plug_inject.specs.declared.inject_conf.InjectConf.{InjectConf}
+
+-- the numbers of the packets that are replaced, among those that follow others, of which the newest stands first
+abbrev pub places_behind : Injection → List (List ℕ) → List (List ℕ) → List ℕ
+places_behind how older [] = []
+places_behind how older (packet ∷ packets) =
+    if is_replaced how (replaced_among how older) packet
+    then length older ∷ places_behind how (packet ∷ older) packets
+    else places_behind how (packet ∷ older) packets
+
+-- the numbers of the packets that are replaced in a list of cells
+abbrev pub places_in : InjectConf → List (List ℕ) → List Cell → List ℕ
+places_in conf sections cells = places_behind (injection_of conf sections) [] (live_packets cells)
+
+-- the packets that the plugin gives for a list of cells
+abbrev pub injected_packets : InjectConf → List (List ℕ) → List Cell → List (List ℕ)
+injected_packets conf sections cells = live_packets (apply (inject_rule conf sections) cells).cells

@@ -1,0 +1,30 @@
+//! Which packets `inject` puts in, and how far apart: laws on a whole list of cells, and no code.
+ghost use Rattle.std.specs.Prelude.{◌≡◌, ◌≢◌, ◌<◌, ◌≤◌, ◌+◌, ◌%◌, ℕ, List, [], Some, length, slice_get, slice_index, slice_index_or};
+ghost use Rattle.ts_packet.specs.declared.cell.Cell.{Cell};
+ghost use Rattle.ts_packet.specs.Cells.{live_packets};
+ghost use Rattle.ts_packet.specs.Header.{with_counter};
+ghost use Rattle.ts_packetize.specs.Packets.{packets_of};
+ghost use Rattle.plug_inject.specs.InjectedPlaces.{injected_packets, places_in};
+ghost use Rattle.plug_inject.specs.declared.inject_conf.InjectConf.{InjectConf};
+ghost use Rattle.plug_inject.specs.declared.inject_conf.InjectMode.TheVariants.{InterPacket};
+
+/// The packets of the sections are put in one after another, over and over again. Number k of those that are put in,
+/// counted from 0, is packet k modulo n of the n packets of a cycle, with counter k modulo 16. In all other places the
+/// packets stay as they were. With a distance two that are put in are at least so many packets apart.
+pub fn cycles_are_put_in()
+    ensures put_in { (conf : InjectConf) (sections : List (List ℕ)) (cells : List Cell) (k : ℕ)
+        → k < length (places_in conf sections cells)
+        → slice_get (injected_packets conf sections cells) (slice_index (places_in conf sections cells) k)
+        ≡ Some (with_counter
+        (slice_index_or (packets_of conf.pid sections) (k % length (packets_of conf.pid sections)) [])
+        (k % 16)) }
+    ensures others { (conf : InjectConf) (sections : List (List ℕ)) (cells : List Cell) (i : ℕ)
+        → ((k : ℕ) → k < length (places_in conf sections cells) → slice_index (places_in conf sections cells) k ≢ i)
+        → slice_get (injected_packets conf sections cells) i ≡ slice_get (live_packets cells) i }
+    ensures rising { (conf : InjectConf) (sections : List (List ℕ)) (cells : List Cell) (j k : ℕ)
+        → j < k → k < length (places_in conf sections cells)
+        → slice_index (places_in conf sections cells) j < slice_index (places_in conf sections cells) k }
+    ensures apart { (conf : InjectConf) (sections : List (List ℕ)) (cells : List Cell) (distance j k : ℕ)
+        → conf.mode ≡ InterPacket distance → j < k → k < length (places_in conf sections cells)
+        → slice_index (places_in conf sections cells) j + distance ≤ slice_index (places_in conf sections cells) k }
+{}
