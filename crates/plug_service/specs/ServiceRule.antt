@@ -4,8 +4,8 @@
 use Rattle.std.specs.Prelude.{ℕ, ◌==◌, ◌&&◌, Bool, List, [], ◌∷◌, ◌++◌, filter, Option, Some, None, if◌then◌else◌}
 use Rattle.ts_packet.specs.Cells.{live_packets}
 use Rattle.ts_packet.specs.Header.{pid_of}
-use Rattle.ts_packet.specs.Packet.{null_packet}
-use Rattle.chain_model.specs.PluginRule.{PluginRule, RuleOutcome, passes, drops}
+use Rattle.chain_model.specs.PluginRule.{PluginRule}
+use Rattle.plugin_trait.specs.Fates.{fate}
 use Rattle.plugin_trait.specs.SilentRule.{silent_rule}
 use Rattle.plug_psi.specs.EditedCycles.{replaced}
 use Rattle.plug_service.specs.Fates.{edits_pmt, fate_after}
@@ -52,15 +52,10 @@ abbrev pub made_of : Way → ℕ → List (List ℕ) → List ℕ → Option (Li
 made_of way service before packet =
     made_by way service (fate_after way service (before ++ packet ∷ []) (pid_of packet)) before packet
 
--- what does not pass is dropped, or becomes a null packet
-abbrev pub outcome_by : Bool → Option (List ℕ) → RuleOutcome
-outcome_by stuffing None = if stuffing then passes null_packet else drops
-outcome_by stuffing (Some packet) = passes packet
-
--- a service is kept alone, or removed
+-- a service is kept alone, or removed; what does not pass is dropped, or becomes a null packet
 abbrev pub service_rule : Way → ℕ → Bool → PluginRule
 service_rule way service stuffing = silent_rule (λ history packet.
-    outcome_by stuffing (made_of way service (live_packets history) packet))
+    fate stuffing (made_of way service (live_packets history) packet))
 
 -- the rule of `zap`
 abbrev pub zap_rule : ZapConf → PluginRule
