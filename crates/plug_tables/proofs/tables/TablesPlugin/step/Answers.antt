@@ -14,14 +14,14 @@ not_true false h = refl
 
 pub returns-in_default-clause-meets : goal.returns-in_default-clause-meets
 returns-in_default-clause-meets c = λ history mark s count. (
-  λ works. at_cell c.args.cell.now (λ cell. StandsFor c.args.self.now (history ++ cell ∷ []) mark) c.in_default.is
+  λ works. at_cell c.args.cell.now (λ cell. StandsFor c.args.self.now (history ++ cell ∷ []) mark) c.in_default.ensures
       (tells_dropped _ _ _ history mark (s.0 works)),
   omega (arith, s.1, length-append history (c.args.cell.now ∷ [])),
 )
 
 pub returns-in-Ok-clause-meets : goal.returns-in-Ok-clause-meets
 returns-in-Ok-clause-meets c = λ history mark s count. (
-  λ _. at_cell c.args.cell.now (λ cell. StandsFor c.meet.new.self (history ++ cell ∷ []) mark) c.in-Live.is
-      (c.in-Ok.ensures.met history mark (s.0 (not_true (has_failed c.args.self.now) (λ e. c.in-Ok.ensures.stays_spent e))) count c.in-Live.field-1),
+  λ _. at_cell c.args.cell.now (λ cell. StandsFor c.meet.new.self (history ++ cell ∷ []) mark) c.in-Some.ensures
+      (c.in-Ok.ensures.met history mark (s.0 (not_true (has_failed c.args.self.now) (λ e. c.in-Ok.ensures.stays_spent e))) count c.in-Some.live.now.labels),
   omega (arith, s.1, length-append history (c.args.cell.now ∷ [])),
 )

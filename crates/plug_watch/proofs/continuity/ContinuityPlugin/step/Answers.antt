@@ -18,26 +18,26 @@ at_cell g P same holds = subst P (sym same) holds
 pub returns-in_default-clause-meets : goal.returns-in_default-clause-meets
 returns-in_default-clause-meets c = λ history mark w count.
     at_cell c.args.cell.now (λ cell. StandsFor c.args.self.now (history ++ cell ∷ []) mark)
-    c.in_default.is (watches_dropped (conf_of c.args.self.now) _ _ _ history mark w)
+    c.in_default.ensures.value (watches_dropped (conf_of c.args.self.now) _ _ _ history mark w)
 
 pub returns-then-not-watches-clause-meets : goal.returns-then-not-watches-clause-meets
 returns-then-not-watches-clause-meets c = λ history mark w count.
     at_cell c.args.cell.now (λ cell. StandsFor c.args.self.now (history ++ cell ∷ []) mark)
-    c.in-Live.is
-    (watches_other (conf_of c.args.self.now) _ _ _ history mark w c.in-Live.packet c.in-Live.field-1 (ap (is_watched (conf_of c.args.self.now)) (sym c.pid.ensures.field) ∙ sym c.if-not-watches.ensures))
+    c.in-Some.ensures.value
+    (watches_other (conf_of c.args.self.now) _ _ _ history mark w c.in-Some.live.now.packet c.in-Some.live.now.labels (ap (is_watched (conf_of c.args.self.now)) (sym c.pid.ensures.field) ∙ sym c.if-not-watches.ensures))
 
 pub returns-in-Ok-clause-tells : goal.returns-in-Ok-clause-tells
 returns-in-Ok-clause-tells c = λ history mark w count.
-    let watched : is_watched (conf_of c.args.self.now) (pid_of c.in-Live.packet) ≡ true =
+    let watched : is_watched (conf_of c.args.self.now) (pid_of c.in-Some.live.now.packet) ≡ true =
     ap (is_watched (conf_of c.args.self.now)) (sym c.pid.ensures.field) ∙ (sym c.watches.ensures ∙ c.if-not-watches.false) in
-    at_cell c.args.cell.now (λ cell. (became (continuity_rule (conf_of c.args.self.now)) history cell ≡ goes_on (Live c.watch.new.packet c.in-Live.field-1)) × SameKind cell (Live c.watch.new.packet c.in-Live.field-1))
-    c.in-Live.is (
-      ap (λ (b : Bool). goes_on (Live (if c.args.self.now.fix && b then fixed history c.in-Live.packet else c.in-Live.packet) c.in-Live.field-1)) watched
-          ∙ (ap (λ (b : Bool). goes_on (Live (if b then fixed history c.in-Live.packet else c.in-Live.packet) c.in-Live.field-1)) (and-true c.args.self.now.fix)
-          ∙ ap (λ (p : List ℕ). goes_on (Live p c.in-Live.field-1)) (sym (c.in-Ok.ensures.edited history mark w))),
+    at_cell c.args.cell.now (λ cell. (became (continuity_rule (conf_of c.args.self.now)) history cell ≡ goes_on (Live c.watch.new.packet c.in-Some.live.now.labels)) × SameKind cell (Live c.watch.new.packet c.in-Some.live.now.labels))
+    c.in-Some.ensures.value (
+      ap (λ (b : Bool). goes_on (Live (if c.args.self.now.fix && b then fixed history c.in-Some.live.now.packet else c.in-Some.live.now.packet) c.in-Some.live.now.labels)) watched
+          ∙ (ap (λ (b : Bool). goes_on (Live (if b then fixed history c.in-Some.live.now.packet else c.in-Some.live.now.packet) c.in-Some.live.now.labels)) (and-true c.args.self.now.fix)
+          ∙ ap (λ (p : List ℕ). goes_on (Live p c.in-Some.live.now.labels)) (sym (c.in-Ok.ensures.edited history mark w))),
       tt,
     )
 
 pub returns-in-Ok-clause-meets : goal.returns-in-Ok-clause-meets
 returns-in-Ok-clause-meets c = λ history mark w count.
-    at_cell c.args.cell.now (λ cell. StandsFor c.watch.new.self (history ++ cell ∷ []) mark) c.in-Live.is (c.in-Ok.ensures.met history mark w count c.in-Live.field-1)
+    at_cell c.args.cell.now (λ cell. StandsFor c.watch.new.self (history ++ cell ∷ []) mark) c.in-Some.ensures.value (c.in-Ok.ensures.met history mark w count c.in-Some.live.now.labels)

@@ -14,20 +14,20 @@ at_cell g P same holds = subst P (sym same) holds
 pub returns-in_default-clause-meets : goal.returns-in_default-clause-meets
 returns-in_default-clause-meets c = λ history mark w count.
     at_cell c.args.cell.now (λ cell. Counts (conf_of c.args.self.now) c.args.self.now.notes.items c.args.self.now.tally c.args.self.now.lines.items (history ++ cell ∷ []) mark)
-    c.in_default.is (counts_dropped (conf_of c.args.self.now) _ _ _ history mark w (omega (arith, count, c.requires.in_range)))
+    c.in_default.ensures (counts_dropped (conf_of c.args.self.now) _ _ _ history mark w (omega (arith, count, c.requires.in_range)))
 
 pub returns-then-not-selects-clause-meets : goal.returns-then-not-selects-clause-meets
 returns-then-not-selects-clause-meets c = λ history mark w count.
     at_cell c.args.cell.now (λ cell. Counts (conf_of c.args.self.now) c.args.self.now.notes.items c.args.self.now.tally c.args.self.now.lines.items (history ++ cell ∷ []) mark)
-    c.in-Live.is
-    (counts_other (conf_of c.args.self.now) _ _ _ history mark w c.in-Live.packet c.in-Live.field-1 (omega (arith, count, c.requires.in_range))
+    c.in-Some.ensures
+    (counts_other (conf_of c.args.self.now) _ _ _ history mark w c.in-Some.live.now.packet c.in-Some.live.now.labels (omega (arith, count, c.requires.in_range))
     (ap (is_selected c.args.self.now.pids c.args.self.now.negate) (sym c.pid-pid.ensures.field) ∙ sym c.if-not-selects.ensures))
 
 pub returns-in-Ok-clause-meets : goal.returns-in-Ok-clause-meets
 returns-in-Ok-clause-meets c = λ history mark w count.
     at_cell c.args.cell.now (λ cell. Counts (conf_of c.args.self.now) c.push_note.new.notes.items c.args.self.now.tally c.args.self.now.lines.items (history ++ cell ∷ []) mark)
-    c.in-Live.is
-    (counts_live (conf_of c.args.self.now) _ _ _ history mark w c.in-Live.packet c.in-Live.field-1 (omega (arith, count, c.requires.in_range))
+    c.in-Some.ensures
+    (counts_live (conf_of c.args.self.now) _ _ _ history mark w c.in-Some.live.now.packet c.in-Some.live.now.labels (omega (arith, count, c.requires.in_range))
     (record { at = c.args.at; pid = c.pid-pid.result }) c.push_note.new.notes.items
     (ap (is_selected c.args.self.now.pids c.args.self.now.negate) (sym c.pid-pid.ensures.field) ∙ (sym c.selects.ensures ∙ c.if-not-selects.false))
     (ap (λ (n : ℕ). let note : Note = record { at = n; pid = c.pid-pid.result } in note) (sym count) ∙ ap (λ (n : ℕ). let note : Note = record { at = length history; pid = n } in note) c.pid-pid.ensures.field)

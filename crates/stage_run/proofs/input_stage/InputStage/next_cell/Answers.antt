@@ -16,8 +16,8 @@ returns-then-self-gt0-clause-goes g c = λ lists holds.
     let one = c.ensure_packet.ensures.goes lists holds in
     let new : InputStage g.row.S.Denot = record { feed = mid.feed; stuffing = mid.stuffing; nulls = mid.nulls - 1; ended = mid.ended } in
     let two = InputGoes-null seen mid (mid.nulls - 1) (with_more lists one.bytes []) c.args.wanted (omega arith) one.holds in
-    let put : Live null_packet no_labels ≡ Live c.null.result c.none.result =
-    ap (λ (p : List ℕ). Live p no_labels) (sym c.null.ensures.bytes) ∙ ap (Live c.null.result) (sym c.none.ensures) in
+    let put : Live null_packet no_labels ≡ c.put.new.self =
+    ap (λ (p : List ℕ). Live p no_labels) (sym c.null.ensures.bytes) ∙ sym c.put.ensures in
     subst (λ (cell : Cell). InputGoes seen c.args.self.now new lists c.args.wanted (cell ∷ [])) put
     (InputGoes-trans seen c.args.self.now mid new lists c.args.wanted c.args.wanted c.args.wanted [] (Live _ no_labels ∷ []) (omega arith) (omega arith) one two)
 
