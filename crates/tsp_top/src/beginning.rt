@@ -10,6 +10,7 @@ ghost use Rattle.tsp_top.specs.Ran.{IsReady, IsOpened, OpensPlan};
 ghost use Rattle.tsp_top.specs.StreamTheorem.{StreamTheorem};
 ghost use Rattle.tsp_top.specs.TspCall.{CallsPlan, CallsTsp, IsOverBefore};
 
+use crate::driver::Driver;
 use crate::opened_call::OpenedCall;
 use crate::opening::{close_input, open_input, open_output};
 use crate::ready::{ReadyChain, ready_chain};
@@ -26,12 +27,13 @@ use std::alloc::{AllocError, Global};
 use ts_outside::{Desk, OpenFault};
 use ts_section::Section;
 
-/// Reads the words, reads and opens what they name. The answer is the call that is open, or the status of one that is
-/// over.
+/// Reads the words, reads and opens what they name. The answer is the call that is open, ready for this driver, or the
+/// status of one that is over.
 pub(crate) fn begin<D: Desk>(
     alloc: Global,
     words: &[String],
     desk: &mut D,
+    driver: Driver,
 ) -> Result<OpenedCall<D::In, D::Out, AnyPlugin>, Status>
     ensures { MatchResult result
         (λ call. (plan_of (map string_bytes words.now) ≡ Some call.plan)
@@ -43,7 +45,7 @@ pub(crate) fn begin<D: Desk>(
         (λ status. CallsTsp (map string_bytes words.now) (D.seen desk.old) (D.seen desk.new) status) }
 {
     match plan(alloc, words) {
-        Ok(plan) => begin_plan(alloc, desk, plan),
+        Ok(plan) => begin_plan(alloc, desk, plan, driver),
         Err(WordsFault::At { word, rule }) => Err(refuse_words(alloc, desk, word, rule)),
         Err(WordsFault::NoMemory) => Err(Status::NoMemory),
     }
@@ -54,6 +56,7 @@ fn begin_plan<D: Desk>(
     alloc: Global,
     desk: &mut D,
     plan: Plan,
+    driver: Driver,
 ) -> Result<OpenedCall<D::In, D::Out, AnyPlugin>, Status>
     requires { IsLawfulPlan plan }
     ensures { MatchResult result
@@ -66,7 +69,7 @@ fn begin_plan<D: Desk>(
         (λ status. CallsPlan plan (D.seen desk.old) (D.seen desk.new) status) }
 {
     match read_tables(alloc, desk, &plan) {
-        Ok(tables) => begin_chain(alloc, desk, plan, tables),
+        Ok(tables) => begin_chain(alloc, desk, plan, tables, driver),
         Err(status) => Err(status),
     }
 }
@@ -77,6 +80,7 @@ fn begin_chain<D: Desk>(
     desk: &mut D,
     plan: Plan,
     tables: Vec<Vec<Section>>,
+    driver: Driver,
 ) -> Result<OpenedCall<D::In, D::Out, AnyPlugin>, Status>
     requires { IsLawfulPlan plan }
     ensures { MatchResult result
@@ -89,7 +93,7 @@ fn begin_chain<D: Desk>(
         (λ status. IsOverBefore plan (map (λ table. table.items) tables.items)
         (D.seen desk.old) (D.seen desk.new) status) }
 {
-    match ready_chain(alloc, &plan, tables) {
+    match ready_chain(alloc, &plan, tables, driver) {
         Ok(ready) => open_ends(alloc, desk, plan, ready),
         Err(AllocError) => Err(Status::NoMemory),
     }

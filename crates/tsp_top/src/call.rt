@@ -5,7 +5,8 @@ ghost use Rattle.tsp_top.specs.TspCall.{CallsTsp};
 
 use crate::beginning::begin;
 use crate::finishing::finish;
-use crate::in_threads::run_in_threads_or_one;
+use crate::driver::Driver;
+use crate::in_threads::run_in_threads;
 use crate::one_thread::run_in_one_thread;
 use crate::opened_call::OpenedCall;
 use crate::status::Status;
@@ -31,8 +32,8 @@ use ts_outside::{Desk, Gate};
 /// - `Sync`, `Refused` and `TooLong` where that ended the run;
 /// - `Done` in all other cases.
 ///
-/// The chain runs in threads, each for one stage or some neighbours, where there are processors for more than one; the
-/// runtime is there to wait and to start them with. `serial_call` does the same without it.
+/// Each stage of the chain has a thread of its own where the program may use two processors; the runtime is there to wait
+/// and to start them with. It is `threaded_call` then, and else `serial_call`.
 pub fn tsp_call<R: Threads + Wait + Sync, D: Desk, G: Gate>(
     rt: &R,
     alloc: Global,
@@ -42,9 +43,25 @@ pub fn tsp_call<R: Threads + Wait + Sync, D: Desk, G: Gate>(
 ) -> Status
     ensures { CallsTsp (map string_bytes words.now) (D.seen desk.old) (D.seen desk.new) result }
 {
-    match begin(alloc, words, desk) {
+    match Driver::of_machine(rt) {
+        Driver::InThreads => threaded_call(rt, alloc, words, desk, gate),
+        Driver::InOneThread => serial_call(alloc, words, desk, gate),
+    }
+}
+
+/// Does what `tsp_call` does, with a thread for each stage, on however many processors.
+pub fn threaded_call<R: Threads + Wait + Sync, D: Desk, G: Gate>(
+    rt: &R,
+    alloc: Global,
+    words: &[String],
+    desk: &mut D,
+    gate: &G,
+) -> Status
+    ensures { CallsTsp (map string_bytes words.now) (D.seen desk.old) (D.seen desk.new) result }
+{
+    match begin(alloc, words, desk, Driver::InThreads) {
         Ok(OpenedCall { plan, core, stages }) => {
-            let end = run_in_threads_or_one(rt, alloc, stages, &core, gate);
+            let end = run_in_threads(rt, alloc, stages, &core, gate);
             finish(alloc, desk, &plan, end)
         }
         Err(status) => status,
@@ -60,7 +77,7 @@ pub fn serial_call<D: Desk, G: Gate>(
 ) -> Status
     ensures { CallsTsp (map string_bytes words.now) (D.seen desk.old) (D.seen desk.new) result }
 {
-    match begin(alloc, words, desk) {
+    match begin(alloc, words, desk, Driver::InOneThread) {
         Ok(OpenedCall { plan, core, stages }) => {
             let end = run_in_one_thread(alloc, stages, &core, gate);
             finish(alloc, desk, &plan, end)

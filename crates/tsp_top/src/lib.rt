@@ -4,6 +4,7 @@
 
 mod beginning;
 mod call;
+mod driver;
 mod end_line;
 mod finishing;
 mod in_threads;
@@ -21,7 +22,7 @@ mod stream_law;
 mod tables;
 mod words;
 
-pub use call::{serial_call, tsp_call};
+pub use call::{serial_call, threaded_call, tsp_call};
 pub use chain_args::{WordsFault, WordsRule};
 pub use status::Status;
 pub use steady::steady_call;

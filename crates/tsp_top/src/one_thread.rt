@@ -14,7 +14,7 @@ use ts_outside::{Gate, Sink, Source};
 
 /// A stage takes no more packets at a time than this, however many the options allow: so many stay in the processor's
 /// cache from the input to the output, and each call of the outside still moves 188 KiB.
-const MOST_AT_A_TIME: usize = 1024;
+pub(crate) const MOST_AT_A_TIME: usize = 1024;
 
 /// Runs a chain, its stages in turn in the caller's thread, and gives its parts back.
 ///

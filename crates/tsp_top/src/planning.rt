@@ -7,6 +7,7 @@ ghost use Rattle.stage_run.specs.InputStands as stage;
 ghost use Rattle.tsp_top.specs.PlannedChain.{stuffing_of, user_at, users_from, users_of};
 ghost use Rattle.tsp_top.specs.Sizes.{default_buffer, default_batch, IsSize, lesser_batch, IsPlannedCore};
 
+use crate::driver::Driver;
 use chain_args::{GeneralConf, Plan};
 use chain_core::{CorePlan, StageSet};
 use plug_set::PluginItem;
@@ -27,19 +28,11 @@ pub(crate) fn planned_stuffing(general: &GeneralConf) -> Stuffing
     }
 }
 
-/// How many packets a stage takes at a time where the words do not say: so many stay in the processor's cache on their
-/// way.
-const CHOSEN_BATCH: u64 = 1024;
-
-/// How many packets the buffer has where the words do not say: four batches, so that the stages have some to work on at
-/// once, and few enough to stay in the cache.
-const CHOSEN_BUFFER: u64 = 4 * CHOSEN_BATCH;
-
 /// How many packets a stage takes at a time by an option that is not given, where the other one is.
 const DEFAULT_BATCH: u64 = 10_000;
 
 /// How many packets the buffer has.
-fn planned_buffer(general: &GeneralConf) -> u64
+fn planned_buffer(general: &GeneralConf, driver: Driver) -> u64
     requires { IsLawfulGeneral general.now }
     ensures size { IsSize general.now.buffer_packets default_buffer result }
     ensures some { 1 ≤ result }
@@ -47,12 +40,12 @@ fn planned_buffer(general: &GeneralConf) -> u64
 {
     match general.buffer_packets {
         Some(given) => given,
-        None => CHOSEN_BUFFER,
+        None => driver.buffer(),
     }
 }
 
 /// How many packets a stage takes at a time: no more than either option allows.
-fn planned_batch(general: &GeneralConf) -> u64
+fn planned_batch(general: &GeneralConf, driver: Driver) -> u64
     requires { IsLawfulGeneral general.now }
     ensures size { IsSize (lesser_batch general.now.max_input_packets general.now.max_flushed_packets)
         default_batch result }
@@ -60,7 +53,7 @@ fn planned_batch(general: &GeneralConf) -> u64
     ensures bound { result ≤ 1000000 }
 {
     match (general.max_input_packets, general.max_flushed_packets) {
-        (None, None) => CHOSEN_BATCH,
+        (None, None) => driver.batch(),
         (Some(input), None) => input.min(DEFAULT_BATCH),
         (None, Some(flushed)) => DEFAULT_BATCH.min(flushed),
         (Some(input), Some(flushed)) => input.min(flushed),
@@ -105,15 +98,15 @@ fn planned_users(plan: &Plan) -> StageSet
     }
 }
 
-/// The numbers of the chain's core: each size is the one that the words give, or chosen where they give none.
-pub(crate) fn planned_core(plan: &Plan) -> CorePlan
+/// The numbers of the chain's core: each size is the one that the words give, or the driver's where they give none.
+pub(crate) fn planned_core(plan: &Plan, driver: Driver) -> CorePlan
     requires { args.IsLawfulPlan plan.now }
     ensures { IsPlannedCore plan.now result }
 {
     CorePlan {
         plugins: plan.plugins.as_slice().len(),
-        buffer: planned_buffer(&plan.general) as usize,
-        most: planned_batch(&plan.general) as usize,
+        buffer: planned_buffer(&plan.general, driver) as usize,
+        most: planned_batch(&plan.general, driver) as usize,
         users: planned_users(plan),
     }
 }

@@ -9,6 +9,7 @@ ghost use Rattle.chain_run.specs.Fresh.{AreFresh};
 ghost use Rattle.tsp_top.specs.PlannedChain.{first_table, later_tables, named_rules};
 ghost use Rattle.tsp_top.specs.Ran.{IsReady};
 
+use crate::driver::Driver;
 use crate::planning::{planned_core, planned_stuffing};
 use chain_args::Plan;
 use chain_core::CorePlan;
@@ -67,11 +68,12 @@ fn add_plugins(
     add_plugins(alloc, plugins, rest, tables, buffer)
 }
 
-/// Makes ready what a plan asks for, with the tables of its plugins.
+/// Makes ready what a plan asks for, with the tables of its plugins, for this driver.
 pub(crate) fn ready_chain(
     alloc: Global,
     plan: &Plan,
     tables: Vec<Vec<Section>>,
+    driver: Driver,
 ) -> Result<ReadyChain<AnyPlugin>, AllocError>
     requires { IsLawfulPlan plan.now }
     ensures { IfOk result (λ ready. IsReady
@@ -79,7 +81,7 @@ pub(crate) fn ready_chain(
         plan.now (map (λ table. table.items) tables.items) ready.stuffing ready.core ready.plugins.items) }
 {
     let mut tables = tables;
-    let core = planned_core(plan);
+    let core = planned_core(plan, driver);
     let mut plugins: Vec<AnyPlugin> = Vec::new(alloc);
     add_plugins(
         alloc,

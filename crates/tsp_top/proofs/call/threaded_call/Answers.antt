@@ -4,13 +4,13 @@ use Rattle.plug_set.specs.contracts.any_plugin.AnyPluginPlugin.TheImpl.{ghosts a
 use Rattle.tsp_top.specs.PlannedTables.{tables_asked}
 use Rattle.tsp_top.proofs.RunLemmas.{ends-few, ends-reach, ends-rules}
 use Rattle.tsp_top.proofs.RanTheorem.{ran-theorem}
-use Rattle.tsp_top.proofs.call.tsp_call.Goals as goal
+use Rattle.tsp_top.proofs.call.threaded_call.Goals as goal
 
 pub finish-requires-clause-reach : goal.finish-requires-clause-reach
-finish-requires-clause-reach g c κs within = ends-reach _ _ _ _ _ _ _ _ _ _ c.run_in_threads_or_one-end.ensures
+finish-requires-clause-reach g c κs within = ends-reach _ _ _ _ _ _ _ _ _ _ c.run_in_threads-end.ensures
 
 pub finish-requires-clause-few : goal.finish-requires-clause-few
-finish-requires-clause-few g c κs within = ends-few _ _ _ _ _ _ _ _ _ _ c.in-Ok.field-0.plan c.in-Ok.ensures.1.0 c.run_in_threads_or_one-end.ensures c.in-Ok.ensures.1.2.ready
+finish-requires-clause-few g c κs within = ends-few _ _ _ _ _ _ _ _ _ _ c.in-Ok.field-0.plan c.in-Ok.ensures.1.0 c.run_in_threads-end.ensures c.in-Ok.ensures.1.2.ready
 
 pub returns-in-Ok : goal.returns-in-Ok
 returns-in-Ok g c =
@@ -28,7 +28,7 @@ returns-in-Ok g c =
             opened.asked opened.input opened.output opened.ready
             (c.finish.ensures tables c.in-Ok.field-0.stages.stuffing c.in-Ok.field-0.core c.in-Ok.field-0.stages.input c.in-Ok.field-0.stages.plugins.items
             c.in-Ok.field-0.stages.output
-            (ends-rules _ _ _ _ _ _ _ _ _ _ _ c.run_in_threads_or_one-end.ensures opened.ready.rules)
-            c.run_in_threads_or_one-end.ensures);
+            (ends-rules _ _ _ _ _ _ _ _ _ _ _ c.run_in_threads-end.ensures opened.ready.rules)
+            c.run_in_threads-end.ensures);
       }),
     )

@@ -1,0 +1,65 @@
+//! Who serves the stages of a chain.
+ghost use Rattle.std.specs.Prelude.{◌≤◌};
+ghost use Rattle.tsp_top.specs.Sizes.{default_buffer, default_batch};
+
+use crate::one_thread::MOST_AT_A_TIME;
+use std::thread::{Threads, available_parallelism};
+
+/// Who serves the stages of a chain.
+#[derive(Clone, Copy)]
+pub(crate) enum Driver {
+    /// A thread for each stage.
+    InThreads,
+    /// The caller's thread, all of them.
+    InOneThread,
+}
+
+/// On fewer processors every chain runs in one thread: there the stages do nothing at once.
+const LEAST_PROCESSORS: usize = 2;
+
+/// How many packets a stage with a thread of its own takes at a time. A batch that is handed on wakes a thread, which
+/// costs as much as some thousand steps of a small plugin; greater ones leave the processors' caches on their way.
+const BATCH_IN_THREADS: u64 = 2048;
+
+/// How many batches the buffer has where each stage has a thread, so that they have some to work on at once.
+const BATCHES_IN_THREADS: u64 = 4;
+
+impl Driver {
+    /// The driver for the processors on which the program may run. Where the system does not say how many they are, there
+    /// are enough for threads.
+    pub(crate) fn of_machine<R: Threads>(rt: &R) -> Driver {
+        match available_parallelism(rt) {
+            Ok(processors) => {
+                if processors.get() < LEAST_PROCESSORS {
+                    Driver::InOneThread
+                } else {
+                    Driver::InThreads
+                }
+            }
+            Err(_) => Driver::InThreads,
+        }
+    }
+
+    /// How many packets a stage takes at a time where the words do not say.
+    pub(crate) fn batch(&self) -> u64
+        ensures some { 1 ≤ result }
+        ensures bound { result ≤ default_batch }
+    {
+        match self {
+            Driver::InThreads => BATCH_IN_THREADS,
+            Driver::InOneThread => MOST_AT_A_TIME as u64,
+        }
+    }
+
+    /// How many packets the buffer has where the words do not say. One thread needs no more than a batch: the whole of it is
+    /// through the chain before the next is read.
+    pub(crate) fn buffer(&self) -> u64
+        ensures some { 1 ≤ result }
+        ensures bound { result ≤ default_buffer }
+    {
+        match self {
+            Driver::InThreads => BATCHES_IN_THREADS * BATCH_IN_THREADS,
+            Driver::InOneThread => MOST_AT_A_TIME as u64,
+        }
+    }
+}
