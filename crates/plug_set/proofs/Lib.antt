@@ -1,2 +1,3 @@
+pub mod ArmLemmas
 pub mod ItemLemmas
 pub mod ShownLemmas

@@ -8,11 +8,33 @@ use Rattle.chain_model.specs.PluginRule.{PluginRule}
 use Rattle.chain_model.specs.SeenCells.{only_rule, seen, sees}
 use Rattle.plugin_trait.specs.declared.line.Line.{Line}
 use Rattle.plugin_trait.specs.PlacedLines.{placed_at, placed_after, placed_of}
+use Rattle.plugin_trait.specs.Steps.{HasRoom, MeetsCells}
 use Rattle.plug_set.specs.OnlyLabels.{rule_for, shown}
 
 pub length-shown : (only : Option ℕ) (cells : List Cell) → length (shown only cells) ≡ length cells
 length-shown None cells = refl
 length-shown (Some only) cells = length-map cells (sees only)
+
+-- a plugin that is shown so many cells met as many
+pub met-shown : (stands : List Cell → ℕ → Type 0) (only : Option ℕ) (at : ℕ) → MeetsCells (λ history. stands (shown only history)) at → MeetsCells stands at
+met-shown stands only at met = record {
+  history = shown only met.history;
+  mark = met.mark;
+  holds = met.holds;
+  count = length-shown only met.history ∙ met.count;
+}
+
+pub room-shown : (steady : Option ℕ) (stands : List Cell → ℕ → Type 0) (only : Option ℕ) (at : ℕ)
+    → HasRoom steady (λ history. stands (shown only history)) at → HasRoom steady stands at
+room-shown steady stands only at has = record {
+  room = has.room;
+  is_steady = has.is_steady;
+  history = shown only has.history;
+  mark = has.mark;
+  holds = has.holds;
+  count = length-shown only has.history ∙ has.count;
+  within = has.within;
+}
 
 take-shown : (only : Option ℕ) (n : ℕ) (cells : List Cell) → shown only (take n cells) ≡ take n (shown only cells)
 take-shown None n cells = refl

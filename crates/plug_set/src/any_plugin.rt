@@ -13,7 +13,7 @@ use ts_section::Section;
 /// A plugin of the chain, which sees every packet, or those alone that have one of its labels.
 #[derive(Drop)]
 pub struct AnyPlugin {
-    masked: MaskedPlugin,
+    masked: MaskedPlugin<SomePlugin>,
 }
 
 impl AnyPlugin {
@@ -43,13 +43,14 @@ impl AnyPlugin {
 }
 
 impl Plugin for AnyPlugin {
-    ghost use Rattle.plug_set.specs.contracts.masked_plugin.MaskedPluginPlugin.TheImpl.Laws.{lawful as masked_laws};
+    ghost use Rattle.plug_set.specs.contracts.some_plugin.SomePluginPlugin.TheImpl.Laws.{lawful as some_laws};
+    ghost use Rattle.plug_set.specs.OnlyLabels.{shown, starts_open_for};
 
-    ghost rule = { λ s. ⟦<MaskedPlugin as Plugin>⟧.rule s.masked };
+    ghost rule = { λ s. ⟦<MaskedPlugin<SomePlugin> as Plugin>⟧.rule s.masked };
 
-    ghost stands_for = { λ s. ⟦<MaskedPlugin as Plugin>⟧.stands_for s.masked };
+    ghost stands_for = { λ s. ⟦<MaskedPlugin<SomePlugin> as Plugin>⟧.stands_for s.masked };
 
-    ghost steady = { λ s. ⟦<MaskedPlugin as Plugin>⟧.steady s.masked };
+    ghost steady = { λ s. ⟦<MaskedPlugin<SomePlugin> as Plugin>⟧.steady s.masked };
 
     fn step(&mut self, at: u64, cell: &mut Cell) -> Outcome {
         self.masked.step(at, cell)
@@ -75,5 +76,7 @@ impl Plugin for AnyPlugin {
         self.masked.finish(cut)
     }
 
-    ghost starts_open = { λ plugin. masked_laws.starts_open plugin.masked };
+    ghost starts_open = { λ plugin history mark stands. starts_open_for plugin.masked.only
+        (⟦<SomePlugin as Plugin>⟧.rule plugin.masked.plugin)
+        (some_laws.starts_open plugin.masked.plugin (shown plugin.masked.only history) mark stands) };
 }

@@ -1,6 +1,5 @@
 ghost use Rattle.std.specs.Prelude.{◌≡◌};
 
-use crate::some_plugin::SomePlugin;
 use plugin_trait::{Line, Outcome, Plugin};
 use std::alloc::AllocError;
 use ts_packet::{Cell, Labels};
@@ -8,12 +7,12 @@ use ts_packet::{Cell, Labels};
 /// A plugin that is shown every cell as it is, or, where it has labels, a packet with none of them as a dropped one,
 /// which stays as it is.
 #[derive(Drop)]
-pub(crate) struct MaskedPlugin {
-    pub(crate) plugin: SomePlugin,
+pub(crate) struct MaskedPlugin<P> {
+    pub(crate) plugin: P,
     pub(crate) only: Option<Labels>,
 }
 
-impl MaskedPlugin {
+impl<P> MaskedPlugin<P> {
     ghost use Rattle.plug_set.specs.OnlyLabels.{shows};
 
     // Whether the plugin is shown the cell as it is.
@@ -31,15 +30,14 @@ impl MaskedPlugin {
     }
 }
 
-impl Plugin for MaskedPlugin {
-    ghost use Rattle.plug_set.specs.contracts.some_plugin.SomePluginPlugin.TheImpl.Laws.{lawful as some_laws};
+impl<P: Plugin + Drop> Plugin for MaskedPlugin<P> {
     ghost use Rattle.plug_set.specs.OnlyLabels.{rule_for, shown, starts_open_for};
 
-    ghost rule = { λ s. rule_for s.only (⟦<SomePlugin as Plugin>⟧.rule s.plugin) };
+    ghost rule = { λ s. rule_for s.only (P.rule s.plugin) };
 
-    ghost stands_for = { λ s history mark. ⟦<SomePlugin as Plugin>⟧.stands_for s.plugin (shown s.only history) mark };
+    ghost stands_for = { λ s history mark. P.stands_for s.plugin (shown s.only history) mark };
 
-    ghost steady = { λ s. ⟦<SomePlugin as Plugin>⟧.steady s.plugin };
+    ghost steady = { λ s. P.steady s.plugin };
 
     #[inline]
     fn step(&mut self, at: u64, cell: &mut Cell) -> Outcome {
@@ -63,6 +61,6 @@ impl Plugin for MaskedPlugin {
     }
 
     ghost starts_open = { λ plugin history mark stands. starts_open_for plugin.only
-        (⟦<SomePlugin as Plugin>⟧.rule plugin.plugin)
-        (some_laws.starts_open plugin.plugin (shown plugin.only history) mark stands) };
+        (P.rule plugin.plugin)
+        (P.starts_open plugin.plugin (shown plugin.only history) mark stands) };
 }

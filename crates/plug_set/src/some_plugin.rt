@@ -59,28 +59,34 @@ impl SomePlugin {
         ensures fresh { IfOk result (λ plugin. ⟦<SomePlugin as Plugin>⟧.stands_for plugin [] 0) }
         ensures steady { IfOk result (λ plugin. ⟦<SomePlugin as Plugin>⟧.steady plugin ≡ steady_of conf.now buffer) }
     {
-        Ok(match conf {
-            PluginConf::Filter(conf) => SomePlugin::Filter(Filter::new(alloc, conf, buffer)?),
-            PluginConf::Skip(conf) => SomePlugin::Skip(Skip::new(alloc, conf, buffer)?),
-            PluginConf::Slice(conf) => SomePlugin::Slice(Slice::new(alloc, conf, buffer)?),
-            PluginConf::Pattern(conf) => SomePlugin::Pattern(Pattern::new(alloc, conf, buffer)?),
-            PluginConf::Until(conf) => SomePlugin::Until(Until::new(alloc, conf, buffer)?),
-            PluginConf::Count(conf) => SomePlugin::Count(Count::new(alloc, conf, buffer)?),
-            PluginConf::Continuity(conf) => {
-                SomePlugin::Continuity(Continuity::new(alloc, conf, buffer)?)
+        match conf {
+            PluginConf::Filter(conf) => Ok(SomePlugin::Filter(Filter::new(alloc, conf, buffer)?)),
+            PluginConf::Skip(conf) => Ok(SomePlugin::Skip(Skip::new(alloc, conf, buffer)?)),
+            PluginConf::Slice(conf) => Ok(SomePlugin::Slice(Slice::new(alloc, conf, buffer)?)),
+            PluginConf::Pattern(conf) => {
+                Ok(SomePlugin::Pattern(Pattern::new(alloc, conf, buffer)?))
             }
-            PluginConf::Remap(conf) => SomePlugin::Remap(Remap::new(alloc, conf, buffer)?),
-            PluginConf::Inject(conf) => SomePlugin::Inject(Inject::new(alloc, conf, sections)?),
-            PluginConf::Pat(conf) => SomePlugin::Pat(EditPat::new(alloc, conf, buffer)?),
-            PluginConf::Cat(conf) => SomePlugin::Cat(EditCat::new(alloc, conf, buffer)?),
-            PluginConf::Pmt(conf) => SomePlugin::Pmt(EditPmt::new(alloc, conf, buffer)?),
-            PluginConf::Sdt(conf) => SomePlugin::Sdt(EditSdt::new(alloc, conf, buffer)?),
-            PluginConf::Nit(conf) => SomePlugin::Nit(EditNit::new(alloc, conf, buffer)?),
-            PluginConf::Zap(conf) => SomePlugin::Zap(Zap::new(alloc, conf, buffer)?),
-            PluginConf::Svremove(conf) => SomePlugin::Svremove(Svremove::new(alloc, conf, buffer)?),
-            PluginConf::Analyze(conf) => SomePlugin::Analyze(Analyze::new(alloc, conf, buffer)?),
-            PluginConf::Tables(conf) => SomePlugin::Tables(Tables::new(alloc, conf, buffer)?),
-        })
+            PluginConf::Until(conf) => Ok(SomePlugin::Until(Until::new(alloc, conf, buffer)?)),
+            PluginConf::Count(conf) => Ok(SomePlugin::Count(Count::new(alloc, conf, buffer)?)),
+            PluginConf::Continuity(conf) => {
+                Ok(SomePlugin::Continuity(Continuity::new(alloc, conf, buffer)?))
+            }
+            PluginConf::Remap(conf) => Ok(SomePlugin::Remap(Remap::new(alloc, conf, buffer)?)),
+            PluginConf::Inject(conf) => Ok(SomePlugin::Inject(Inject::new(alloc, conf, sections)?)),
+            PluginConf::Pat(conf) => Ok(SomePlugin::Pat(EditPat::new(alloc, conf, buffer)?)),
+            PluginConf::Cat(conf) => Ok(SomePlugin::Cat(EditCat::new(alloc, conf, buffer)?)),
+            PluginConf::Pmt(conf) => Ok(SomePlugin::Pmt(EditPmt::new(alloc, conf, buffer)?)),
+            PluginConf::Sdt(conf) => Ok(SomePlugin::Sdt(EditSdt::new(alloc, conf, buffer)?)),
+            PluginConf::Nit(conf) => Ok(SomePlugin::Nit(EditNit::new(alloc, conf, buffer)?)),
+            PluginConf::Zap(conf) => Ok(SomePlugin::Zap(Zap::new(alloc, conf, buffer)?)),
+            PluginConf::Svremove(conf) => {
+                Ok(SomePlugin::Svremove(Svremove::new(alloc, conf, buffer)?))
+            }
+            PluginConf::Analyze(conf) => {
+                Ok(SomePlugin::Analyze(Analyze::new(alloc, conf, buffer)?))
+            }
+            PluginConf::Tables(conf) => Ok(SomePlugin::Tables(Tables::new(alloc, conf, buffer)?)),
+        }
     }
 }
 

@@ -1,14 +1,13 @@
 use Rattle.std.proofs.Common.{◌≡◌, ℕ, ◌≤◌, List, length, IfOk, sym, subst}
 use Rattle.plugin_trait.specs.declared.line.Line.{Line}
-use Rattle.plug_set.specs.contracts.some_plugin.SomePluginPlugin.TheImpl.{ghosts as some}
 use Rattle.plug_set.specs.OnlyLabels.{shown}
 use Rattle.plug_set.proofs.ShownLemmas.{length-shown, placed-first}
 use Rattle.plug_set.proofs.masked_plugin.MaskedPluginPlugin.finish.Goals as goal
 
 pub returns : goal.returns
-returns c = λ history mark stands below met.
+returns g c = λ history mark stands below met.
     let met_shown : c.args.cut ≤ length (shown c.args.self.now.only history) =
     subst (λ (n : ℕ). c.args.cut ≤ n) (sym (length-shown c.args.self.now.only history)) met in
     subst (λ (said : List Line). IfOk c.finish.result (λ lines. lines.items ≡ said))
-    (sym (placed-first c.args.self.now.only (some.rule c.args.self.now.plugin) c.args.cut history))
+    (sym (placed-first c.args.self.now.only (g.P.Plugin.rule c.args.self.now.plugin) c.args.cut history))
     (c.finish.ensures (shown c.args.self.now.only history) mark stands below met_shown)

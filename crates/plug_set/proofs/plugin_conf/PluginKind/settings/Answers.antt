@@ -1,0 +1,131 @@
+-- Each kind's own settings, as settings of any kind.
+use Rattle.plug_pass.specs.FilterWords.{filter}
+use Rattle.plug_pass.specs.SkipWords.{skip}
+use Rattle.plug_pass.specs.SliceWords.{slice}
+use Rattle.plug_pass.specs.PatternWords.{pattern}
+use Rattle.plug_end.specs.UntilWords.{until}
+use Rattle.plug_watch.specs.CountWords.{count}
+use Rattle.plug_watch.specs.ContinuityWords.{continuity}
+use Rattle.plug_move.specs.RemapWords.{remap}
+use Rattle.plug_inject.specs.InjectWords.{inject}
+use Rattle.plug_edit.specs.PatWords.{pat}
+use Rattle.plug_edit.specs.CatWords.{cat}
+use Rattle.plug_edit.specs.PmtWords.{pmt}
+use Rattle.plug_edit.specs.SdtWords.{sdt}
+use Rattle.plug_edit.specs.NitWords.{nit}
+use Rattle.plug_service.specs.ZapWords.{zap}
+use Rattle.plug_service.specs.SvremoveWords.{svremove}
+use Rattle.plug_analyze.specs.AnalyzeWords.{analyze}
+use Rattle.plug_tables.specs.TablesWords.{tables}
+use Rattle.plug_set.specs.Plugins.{IsLawful}
+use Rattle.plug_set.specs.declared.plugin_conf.PluginConf.TheVariants as conf
+use Rattle.plug_set.proofs.ArmLemmas.{made, read_into}
+use Rattle.plug_set.proofs.plugin_conf.PluginKind.settings.Goals as goal
+
+pub returns-in-Filter-clause-reads : goal.returns-in-Filter-clause-reads
+returns-in-Filter-clause-reads c = rw c.in-Filter.is (read_into conf.Filter filter c.args.found.now _ _ c.map.ensures.cases c.filter_settings.ensures.reads)
+
+pub returns-in-Filter-clause-lawful : goal.returns-in-Filter-clause-lawful
+returns-in-Filter-clause-lawful c = made conf.Filter _ IsLawful _ _ c.map.ensures.cases (λ _ p. p) c.filter_settings.ensures.lawful
+
+pub returns-in-Skip-clause-reads : goal.returns-in-Skip-clause-reads
+returns-in-Skip-clause-reads c = rw c.in-Skip.is (read_into conf.Skip skip c.args.found.now _ _ c.map-in-Skip.ensures.cases c.skip_settings.ensures.reads)
+
+pub returns-in-Skip-clause-lawful : goal.returns-in-Skip-clause-lawful
+returns-in-Skip-clause-lawful c = made conf.Skip _ IsLawful _ _ c.map-in-Skip.ensures.cases (λ _ p. p) c.skip_settings.ensures.lawful
+
+pub returns-in-Slice-clause-reads : goal.returns-in-Slice-clause-reads
+returns-in-Slice-clause-reads c = rw c.in-Slice.is (read_into conf.Slice slice c.args.found.now _ _ c.map-in-Slice.ensures.cases c.slice_settings.ensures.reads)
+
+pub returns-in-Slice-clause-lawful : goal.returns-in-Slice-clause-lawful
+returns-in-Slice-clause-lawful c = made conf.Slice _ IsLawful _ _ c.map-in-Slice.ensures.cases (λ _ p. p) c.slice_settings.ensures.lawful
+
+pub returns-in-Pattern-clause-reads : goal.returns-in-Pattern-clause-reads
+returns-in-Pattern-clause-reads c = rw c.in-Pattern.is (read_into conf.Pattern pattern c.args.found.now _ _ c.map-in-Pattern.ensures.cases c.pattern_settings.ensures.reads)
+
+pub returns-in-Pattern-clause-lawful : goal.returns-in-Pattern-clause-lawful
+returns-in-Pattern-clause-lawful c = made conf.Pattern _ IsLawful _ _ c.map-in-Pattern.ensures.cases (λ _ p. p) c.pattern_settings.ensures.lawful
+
+pub returns-in-Until-clause-reads : goal.returns-in-Until-clause-reads
+returns-in-Until-clause-reads c = rw c.in-Until.is (read_into conf.Until until c.args.found.now _ _ c.map-in-Until.ensures.cases c.until_settings.ensures.reads)
+
+pub returns-in-Until-clause-lawful : goal.returns-in-Until-clause-lawful
+returns-in-Until-clause-lawful c = made conf.Until _ IsLawful _ _ c.map-in-Until.ensures.cases (λ _ p. p) c.until_settings.ensures.lawful
+
+pub returns-in-Count-clause-reads : goal.returns-in-Count-clause-reads
+returns-in-Count-clause-reads c = rw c.in-Count.is (read_into conf.Count count c.args.found.now _ _ c.map-in-Count.ensures.cases c.count_settings.ensures.reads)
+
+pub returns-in-Count-clause-lawful : goal.returns-in-Count-clause-lawful
+returns-in-Count-clause-lawful c = made conf.Count _ IsLawful _ _ c.map-in-Count.ensures.cases (λ _ p. p) c.count_settings.ensures.lawful
+
+pub returns-in-Continuity-clause-reads : goal.returns-in-Continuity-clause-reads
+returns-in-Continuity-clause-reads c = rw c.in-Continuity.is (read_into conf.Continuity continuity c.args.found.now _ _ c.map-in-Continuity.ensures.cases c.continuity_settings.ensures.reads)
+
+pub returns-in-Continuity-clause-lawful : goal.returns-in-Continuity-clause-lawful
+returns-in-Continuity-clause-lawful c = made conf.Continuity _ IsLawful _ _ c.map-in-Continuity.ensures.cases (λ _ p. p) c.continuity_settings.ensures.lawful
+
+pub returns-in-Remap-clause-reads : goal.returns-in-Remap-clause-reads
+returns-in-Remap-clause-reads c = rw c.in-Remap.is (read_into conf.Remap remap c.args.found.now _ _ c.map-in-Remap.ensures.cases c.remap_settings.ensures.reads)
+
+pub returns-in-Remap-clause-lawful : goal.returns-in-Remap-clause-lawful
+returns-in-Remap-clause-lawful c = made conf.Remap _ IsLawful _ _ c.map-in-Remap.ensures.cases (λ _ p. p) c.remap_settings.ensures.lawful
+
+pub returns-in-Inject-clause-reads : goal.returns-in-Inject-clause-reads
+returns-in-Inject-clause-reads c = rw c.in-Inject.is (read_into conf.Inject inject c.args.found.now _ _ c.map-in-Inject.ensures.cases c.inject_settings.ensures.reads)
+
+pub returns-in-Inject-clause-lawful : goal.returns-in-Inject-clause-lawful
+returns-in-Inject-clause-lawful c = made conf.Inject _ IsLawful _ _ c.map-in-Inject.ensures.cases (λ _ p. p) c.inject_settings.ensures.lawful
+
+pub returns-in-Pat-clause-reads : goal.returns-in-Pat-clause-reads
+returns-in-Pat-clause-reads c = rw c.in-Pat.is (read_into conf.Pat pat c.args.found.now _ _ c.map-in-Pat.ensures.cases c.pat_settings.ensures.reads)
+
+pub returns-in-Pat-clause-lawful : goal.returns-in-Pat-clause-lawful
+returns-in-Pat-clause-lawful c = made conf.Pat _ IsLawful _ _ c.map-in-Pat.ensures.cases (λ _ p. p) c.pat_settings.ensures.lawful
+
+pub returns-in-Cat-clause-reads : goal.returns-in-Cat-clause-reads
+returns-in-Cat-clause-reads c = rw c.in-Cat.is (read_into conf.Cat cat c.args.found.now _ _ c.map-in-Cat.ensures.cases c.cat_settings.ensures.reads)
+
+pub returns-in-Cat-clause-lawful : goal.returns-in-Cat-clause-lawful
+returns-in-Cat-clause-lawful c = made conf.Cat _ IsLawful _ _ c.map-in-Cat.ensures.cases (λ _ p. p) c.cat_settings.ensures.lawful
+
+pub returns-in-Pmt-clause-reads : goal.returns-in-Pmt-clause-reads
+returns-in-Pmt-clause-reads c = rw c.in-Pmt.is (read_into conf.Pmt pmt c.args.found.now _ _ c.map-in-Pmt.ensures.cases c.pmt_settings.ensures.reads)
+
+pub returns-in-Pmt-clause-lawful : goal.returns-in-Pmt-clause-lawful
+returns-in-Pmt-clause-lawful c = made conf.Pmt _ IsLawful _ _ c.map-in-Pmt.ensures.cases (λ _ p. p) c.pmt_settings.ensures.lawful
+
+pub returns-in-Sdt-clause-reads : goal.returns-in-Sdt-clause-reads
+returns-in-Sdt-clause-reads c = rw c.in-Sdt.is (read_into conf.Sdt sdt c.args.found.now _ _ c.map-in-Sdt.ensures.cases c.sdt_settings.ensures.reads)
+
+pub returns-in-Sdt-clause-lawful : goal.returns-in-Sdt-clause-lawful
+returns-in-Sdt-clause-lawful c = made conf.Sdt _ IsLawful _ _ c.map-in-Sdt.ensures.cases (λ _ p. p) c.sdt_settings.ensures.lawful
+
+pub returns-in-Nit-clause-reads : goal.returns-in-Nit-clause-reads
+returns-in-Nit-clause-reads c = rw c.in-Nit.is (read_into conf.Nit nit c.args.found.now _ _ c.map-in-Nit.ensures.cases c.nit_settings.ensures.reads)
+
+pub returns-in-Nit-clause-lawful : goal.returns-in-Nit-clause-lawful
+returns-in-Nit-clause-lawful c = made conf.Nit _ IsLawful _ _ c.map-in-Nit.ensures.cases (λ _ p. p) c.nit_settings.ensures.lawful
+
+pub returns-in-Zap-clause-reads : goal.returns-in-Zap-clause-reads
+returns-in-Zap-clause-reads c = rw c.in-Zap.is (read_into conf.Zap zap c.args.found.now _ _ c.map-in-Zap.ensures.cases c.zap_settings.ensures.reads)
+
+pub returns-in-Zap-clause-lawful : goal.returns-in-Zap-clause-lawful
+returns-in-Zap-clause-lawful c = made conf.Zap _ IsLawful _ _ c.map-in-Zap.ensures.cases (λ _ p. p) c.zap_settings.ensures.lawful
+
+pub returns-in-Svremove-clause-reads : goal.returns-in-Svremove-clause-reads
+returns-in-Svremove-clause-reads c = rw c.in-Svremove.is (read_into conf.Svremove svremove c.args.found.now _ _ c.map-in-Svremove.ensures.cases c.svremove_settings.ensures.reads)
+
+pub returns-in-Svremove-clause-lawful : goal.returns-in-Svremove-clause-lawful
+returns-in-Svremove-clause-lawful c = made conf.Svremove _ IsLawful _ _ c.map-in-Svremove.ensures.cases (λ _ p. p) c.svremove_settings.ensures.lawful
+
+pub returns-in-Analyze-clause-reads : goal.returns-in-Analyze-clause-reads
+returns-in-Analyze-clause-reads c = rw c.in-Analyze.is (read_into conf.Analyze analyze c.args.found.now _ _ c.map-in-Analyze.ensures.cases c.analyze_settings.ensures.reads)
+
+pub returns-in-Analyze-clause-lawful : goal.returns-in-Analyze-clause-lawful
+returns-in-Analyze-clause-lawful c = made conf.Analyze _ IsLawful _ _ c.map-in-Analyze.ensures.cases (λ _ p. p) c.analyze_settings.ensures.lawful
+
+pub returns-in-Tables-clause-reads : goal.returns-in-Tables-clause-reads
+returns-in-Tables-clause-reads c = rw c.in-Tables.is (read_into conf.Tables tables c.args.found.now _ _ c.map-in-Tables.ensures.cases c.tables_settings.ensures.reads)
+
+pub returns-in-Tables-clause-lawful : goal.returns-in-Tables-clause-lawful
+returns-in-Tables-clause-lawful c = made conf.Tables _ IsLawful _ _ c.map-in-Tables.ensures.cases (λ _ p. p) c.tables_settings.ensures.lawful

@@ -1,0 +1,110 @@
+-- Each plugin's own clauses, at the settings that it is made of.
+use Rattle.plug_set.proofs.some_plugin.SomePlugin.of.Goals as goal
+
+pub new-requires : goal.new-requires
+new-requires c = rw c.in-Filter.is at c.requires
+
+pub returns-in_ok-new-in-Filter : goal.returns-in_ok-new-in-Filter
+returns-in_ok-new-in-Filter c = rw c.in-Filter.is c.in_ok-new-in-Filter.ensures
+
+pub new-requires-in-Skip : goal.new-requires-in-Skip
+new-requires-in-Skip c = rw c.in-Skip.is at c.requires
+
+pub returns-in_ok-new-in-Skip : goal.returns-in_ok-new-in-Skip
+returns-in_ok-new-in-Skip c = rw c.in-Skip.is c.in_ok-new-in-Skip.ensures
+
+pub new-requires-in-Slice : goal.new-requires-in-Slice
+new-requires-in-Slice c = rw c.in-Slice.is at c.requires
+
+pub returns-in_ok-new-in-Slice : goal.returns-in_ok-new-in-Slice
+returns-in_ok-new-in-Slice c = rw c.in-Slice.is c.in_ok-new-in-Slice.ensures
+
+pub new-requires-in-Pattern : goal.new-requires-in-Pattern
+new-requires-in-Pattern c = rw c.in-Pattern.is at c.requires
+
+pub returns-in_ok-new-in-Pattern : goal.returns-in_ok-new-in-Pattern
+returns-in_ok-new-in-Pattern c = rw c.in-Pattern.is c.in_ok-new-in-Pattern.ensures
+
+pub new-requires-in-Until : goal.new-requires-in-Until
+new-requires-in-Until c = rw c.in-Until.is at c.requires
+
+pub returns-in_ok-new-in-Until : goal.returns-in_ok-new-in-Until
+returns-in_ok-new-in-Until c = rw c.in-Until.is c.in_ok-new-in-Until.ensures
+
+pub new-requires-in-Count : goal.new-requires-in-Count
+new-requires-in-Count c = rw c.in-Count.is at c.requires
+
+pub returns-in_ok-new-in-Count : goal.returns-in_ok-new-in-Count
+returns-in_ok-new-in-Count c = rw c.in-Count.is c.in_ok-new-in-Count.ensures
+
+pub new-requires-in-Continuity : goal.new-requires-in-Continuity
+new-requires-in-Continuity c = rw c.in-Continuity.is at c.requires
+
+pub returns-in_ok-new-in-Continuity : goal.returns-in_ok-new-in-Continuity
+returns-in_ok-new-in-Continuity c = rw c.in-Continuity.is c.in_ok-new-in-Continuity.ensures
+
+pub new-requires-in-Remap : goal.new-requires-in-Remap
+new-requires-in-Remap c = rw c.in-Remap.is at c.requires
+
+pub returns-in_ok-new-in-Remap : goal.returns-in_ok-new-in-Remap
+returns-in_ok-new-in-Remap c = rw c.in-Remap.is c.in_ok-new-in-Remap.ensures
+
+pub new-requires-in-Inject : goal.new-requires-in-Inject
+new-requires-in-Inject c = rw c.in-Inject.is at c.requires
+
+pub returns-in_ok-new-in-Inject : goal.returns-in_ok-new-in-Inject
+returns-in_ok-new-in-Inject c = rw c.in-Inject.is c.in_ok-new-in-Inject.ensures
+
+pub new-requires-in-Pat : goal.new-requires-in-Pat
+new-requires-in-Pat c = rw c.in-Pat.is at c.requires
+
+pub returns-in_ok-new-in-Pat : goal.returns-in_ok-new-in-Pat
+returns-in_ok-new-in-Pat c = rw c.in-Pat.is c.in_ok-new-in-Pat.ensures
+
+pub new-requires-in-Cat : goal.new-requires-in-Cat
+new-requires-in-Cat c = rw c.in-Cat.is at c.requires
+
+pub returns-in_ok-new-in-Cat : goal.returns-in_ok-new-in-Cat
+returns-in_ok-new-in-Cat c = rw c.in-Cat.is c.in_ok-new-in-Cat.ensures
+
+pub new-requires-in-Pmt : goal.new-requires-in-Pmt
+new-requires-in-Pmt c = rw c.in-Pmt.is at c.requires
+
+pub returns-in_ok-new-in-Pmt : goal.returns-in_ok-new-in-Pmt
+returns-in_ok-new-in-Pmt c = rw c.in-Pmt.is c.in_ok-new-in-Pmt.ensures
+
+pub new-requires-in-Sdt : goal.new-requires-in-Sdt
+new-requires-in-Sdt c = rw c.in-Sdt.is at c.requires
+
+pub returns-in_ok-new-in-Sdt : goal.returns-in_ok-new-in-Sdt
+returns-in_ok-new-in-Sdt c = rw c.in-Sdt.is c.in_ok-new-in-Sdt.ensures
+
+pub new-requires-in-Nit : goal.new-requires-in-Nit
+new-requires-in-Nit c = rw c.in-Nit.is at c.requires
+
+pub returns-in_ok-new-in-Nit : goal.returns-in_ok-new-in-Nit
+returns-in_ok-new-in-Nit c = rw c.in-Nit.is c.in_ok-new-in-Nit.ensures
+
+pub new-requires-in-Zap : goal.new-requires-in-Zap
+new-requires-in-Zap c = rw c.in-Zap.is at c.requires
+
+pub returns-in_ok-new-in-Zap : goal.returns-in_ok-new-in-Zap
+returns-in_ok-new-in-Zap c = rw c.in-Zap.is c.in_ok-new-in-Zap.ensures
+
+pub new-requires-in-Svremove : goal.new-requires-in-Svremove
+new-requires-in-Svremove c = rw c.in-Svremove.is at c.requires
+
+pub returns-in_ok-new-in-Svremove : goal.returns-in_ok-new-in-Svremove
+returns-in_ok-new-in-Svremove c = rw c.in-Svremove.is c.in_ok-new-in-Svremove.ensures
+
+pub new-requires-in-Analyze : goal.new-requires-in-Analyze
+new-requires-in-Analyze c = rw c.in-Analyze.is at c.requires
+
+pub returns-in_ok-new-in-Analyze : goal.returns-in_ok-new-in-Analyze
+returns-in_ok-new-in-Analyze c = rw c.in-Analyze.is c.in_ok-new-in-Analyze.ensures
+
+pub new-requires-in-Tables : goal.new-requires-in-Tables
+new-requires-in-Tables c = rw c.in-Tables.is at c.requires
+
+pub returns-in_ok-new-in-Tables : goal.returns-in_ok-new-in-Tables
+returns-in_ok-new-in-Tables c = rw c.in-Tables.is c.in_ok-new-in-Tables.ensures
