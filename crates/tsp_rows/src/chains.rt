@@ -3,7 +3,7 @@ use crate::chain_table::{CHAINS, Chain};
 use crate::inputs::Input;
 use crate::outcome::print_outcome;
 use crate::tally::Tally;
-use crate::trial::{Case, by_serial_call, by_tsp_call, push_words};
+use crate::trial::{Case, Trial, by_serial_call, by_tsp_call, push_words};
 use crate::trial_desk::Fails;
 use anyhow::Result;
 use std::alloc::{AllocError, Global};
@@ -35,21 +35,54 @@ fn print_chain<R: Threads + Wait + Sync + Print + AllocGlobal>(
     rt: &R,
     chain: &Chain,
 ) -> Result<()> {
-    let words = sized_words(rt.alloc(), chain, "", "")?;
-    let first = by_serial_call(rt.alloc(), case_of(words.as_slice()), &OpenGate)?;
-    let mut tally = Tally::empty();
-    for buffer in BUFFERS {
-        for batch in BATCHES {
-            let words = sized_words(rt.alloc(), chain, buffer, batch)?;
-            let other = by_tsp_call(rt, case_of(words.as_slice()), &OpenGate)?;
-            tally = tally.with(first.is_like(rt.alloc(), &other)?);
-        }
-    }
+    let first = first_run(rt.alloc(), chain)?;
+    print_runs(rt, chain, &first)
+}
+
+/// Prints how many of the other runs agree, and what the first one came to.
+fn print_runs<R: Threads + Wait + Sync + Print + AllocGlobal>(
+    rt: &R,
+    chain: &Chain,
+    first: &Trial,
+) -> Result<()> {
+    let tally = tally_of(rt, chain, first)?;
     println!(rt;
         "{}: {} of {} runs agree",
         chain.name, tally.alike, tally.runs
     )?;
-    print_outcome(rt, &first)
+    print_outcome(rt, first)
+}
+
+/// The run with the sizes by default in one thread.
+fn first_run(alloc: Global, chain: &Chain) -> Result<Trial, AllocError> {
+    let words = sized_words(alloc, chain, "", "")?;
+    by_serial_call(alloc, case_of(words.as_slice()), &OpenGate)
+}
+
+/// How many runs, one for each buffer and each batch, come to what the first one came to.
+fn tally_of<R: Threads + Wait + Sync + AllocGlobal>(
+    rt: &R,
+    chain: &Chain,
+    first: &Trial,
+) -> Result<Tally, AllocError> {
+    let mut tally = Tally::empty();
+    for buffer in BUFFERS {
+        for batch in BATCHES {
+            let words = sized_words(rt.alloc(), chain, buffer, batch)?;
+            tally = tally.with(is_like(rt, words.as_slice(), first)?);
+        }
+    }
+    Ok(tally)
+}
+
+/// Whether the run of these words comes to what the first one came to.
+fn is_like<R: Threads + Wait + Sync + AllocGlobal>(
+    rt: &R,
+    words: &[String],
+    first: &Trial,
+) -> Result<bool, AllocError> {
+    let other = by_tsp_call(rt, case_of(words), &OpenGate)?;
+    first.is_like(rt.alloc(), &other)
 }
 
 /// The mixed stream with these words.

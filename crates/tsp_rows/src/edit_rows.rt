@@ -5,7 +5,11 @@ use crate::row::Row;
 use crate::trial_desk::Fails;
 
 /// Each editor, and two in one chain.
-pub(crate) static EDIT_ROWS: [Row; 6] = [
+pub(crate) fn rows() -> &'static [Row] {
+    &EDIT_ROWS
+}
+
+static EDIT_ROWS: [Row; 6] = [
     Row {
         name: "cat puts in a system",
         words: "-I file in -P cat --add-ca 0x1800/256 --increment-version -O file out",
@@ -45,7 +49,11 @@ pub(crate) static EDIT_ROWS: [Row; 6] = [
 ];
 
 /// Words of editors that are no command line.
-pub(crate) static EDIT_WORD_ROWS: [Row; 4] = [
+pub(crate) fn of_words() -> &'static [Row] {
+    &EDIT_WORD_ROWS
+}
+
+static EDIT_WORD_ROWS: [Row; 4] = [
     Row {
         name: "no PID of PMTs",
         words: "-I file in -P pmt --move-pid 257/300 -O file out",

@@ -7,7 +7,11 @@ use crate::trial_desk::Fails;
 const THREE: [u16; 3] = [256, 257, 256];
 
 /// No plugin, or one: the frame of a run.
-pub(crate) static END_ROWS: [Row; 16] = [
+pub(crate) fn rows() -> &'static [Row] {
+    &END_ROWS
+}
+
+static END_ROWS: [Row; 16] = [
     Row {
         name: "filter keeps one PID",
         words: "-I file in -P filter --pid 256 -O file out",

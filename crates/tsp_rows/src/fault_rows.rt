@@ -10,7 +10,11 @@ const THREE: [u16; 3] = [256, 257, 256];
 const FIVE: [u16; 5] = [256; 5];
 
 /// Openings that fail: there is no run.
-pub(crate) static OPENING_ROWS: [Row; 2] = [
+pub(crate) fn at_openings() -> &'static [Row] {
+    &OPENING_ROWS
+}
+
+static OPENING_ROWS: [Row; 2] = [
     Row {
         name: "input not there",
         words: "-I file in -O file out",
@@ -26,7 +30,11 @@ pub(crate) static OPENING_ROWS: [Row; 2] = [
 ];
 
 /// Reads and writes that fail in the run.
-pub(crate) static RUN_ROWS: [Row; 6] = [
+pub(crate) fn in_runs() -> &'static [Row] {
+    &RUN_ROWS
+}
+
+static RUN_ROWS: [Row; 6] = [
     Row {
         name: "a failing third read",
         words: "-I file in -O file out",
@@ -66,7 +74,11 @@ pub(crate) static RUN_ROWS: [Row; 6] = [
 ];
 
 /// What fails behind the run.
-pub(crate) static LATE_ROWS: [Row; 3] = [
+pub(crate) fn behind_runs() -> &'static [Row] {
+    &LATE_ROWS
+}
+
+static LATE_ROWS: [Row; 3] = [
     Row {
         name: "a failing closing",
         words: "-I file in -O file out",

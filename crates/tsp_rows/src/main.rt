@@ -28,38 +28,43 @@ mod windows;
 mod word_rows;
 
 use anyhow::Result;
-use edit_rows::{EDIT_ROWS, EDIT_WORD_ROWS};
-use end_rows::END_ROWS;
-use fault_rows::{LATE_ROWS, OPENING_ROWS, RUN_ROWS};
-use plugin_rows::{JOINT_ROWS, LABEL_ROWS, PLUGIN_ROWS, WATCH_ROWS};
-use row::print_rows;
-use service_rows::{SERVICE_ROWS, SERVICE_WORD_ROWS};
-use stream_rows::{STREAM_ROWS, STREAM_WORD_ROWS};
-use table_rows::{TABLE_FAULT_ROWS, TABLE_ROWS};
+use row::{Row, print_rows};
+use std::sync::Wait;
+use std::thread::Threads;
 use tally::Tally;
-use word_rows::WORD_ROWS;
 
 fn main(rt: HostRuntime) -> Result<()> {
-    let mut tally = Tally::empty();
-    print_rows(&rt, &END_ROWS, &mut tally)?;
-    print_rows(&rt, &PLUGIN_ROWS, &mut tally)?;
-    print_rows(&rt, &WATCH_ROWS, &mut tally)?;
-    print_rows(&rt, &JOINT_ROWS, &mut tally)?;
-    print_rows(&rt, &LABEL_ROWS, &mut tally)?;
-    print_rows(&rt, &EDIT_ROWS, &mut tally)?;
-    print_rows(&rt, &SERVICE_ROWS, &mut tally)?;
-    print_rows(&rt, &STREAM_ROWS, &mut tally)?;
-    print_rows(&rt, &TABLE_ROWS, &mut tally)?;
-    print_rows(&rt, &TABLE_FAULT_ROWS, &mut tally)?;
-    print_rows(&rt, &OPENING_ROWS, &mut tally)?;
-    print_rows(&rt, &RUN_ROWS, &mut tally)?;
-    print_rows(&rt, &LATE_ROWS, &mut tally)?;
-    print_rows(&rt, &WORD_ROWS, &mut tally)?;
-    print_rows(&rt, &EDIT_WORD_ROWS, &mut tally)?;
-    print_rows(&rt, &SERVICE_WORD_ROWS, &mut tally)?;
-    print_rows(&rt, &STREAM_WORD_ROWS, &mut tally)?;
-    println!(rt; "both calls agree: {} of {} rows", tally.alike, tally.runs)?;
+    print_tables(&rt)?;
     windows::print_windows(&rt)?;
     threads::print_threads(&rt)?;
     chains::print_chains(&rt)
+}
+
+/// Prints the rows of all tables, and how many of them come to the same by both calls.
+fn print_tables<R: Threads + Wait + Sync + Print + AllocGlobal>(rt: &R) -> Result<()> {
+    let tables: [&[Row]; 17] = [
+        end_rows::rows(),
+        plugin_rows::rows(),
+        plugin_rows::of_watchers(),
+        plugin_rows::of_joint_ends(),
+        plugin_rows::of_labels(),
+        edit_rows::rows(),
+        service_rows::rows(),
+        stream_rows::rows(),
+        table_rows::rows(),
+        table_rows::of_faults(),
+        fault_rows::at_openings(),
+        fault_rows::in_runs(),
+        fault_rows::behind_runs(),
+        word_rows::rows(),
+        edit_rows::of_words(),
+        service_rows::of_words(),
+        stream_rows::of_words(),
+    ];
+    let mut tally = Tally::empty();
+    for rows in tables {
+        print_rows(rt, rows, &mut tally)?;
+    }
+    println!(rt; "both calls agree: {} of {} rows", tally.alike, tally.runs)?;
+    Ok(())
 }

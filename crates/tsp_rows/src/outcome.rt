@@ -1,6 +1,7 @@
 //! What a call came to, as text.
 use crate::trial::Trial;
 use anyhow::Result;
+use ts_outside::MemoryDesk;
 
 /// The PID of null packets.
 const NULL_PID: u16 = 8191;
@@ -15,8 +16,13 @@ pub(crate) fn print_outcome(rt: &impl Print, trial: &Trial) -> Result<()> {
     let asked = trial.desk.asked_count();
     println!(rt; "  {status:?}, exit {exit}, names asked for: {asked}")?;
     print_report(rt, trial.desk.reported())?;
-    for i in 0..trial.desk.output_count() {
-        if let Some((name, bytes)) = trial.desk.output(i) {
+    print_outputs(rt, &*trial.desk)
+}
+
+/// Prints each output.
+fn print_outputs(rt: &impl Print, desk: &MemoryDesk) -> Result<()> {
+    for i in 0..desk.output_count() {
+        if let Some((name, bytes)) = desk.output(i) {
             print_output(rt, name, bytes)?;
         }
     }
@@ -35,34 +41,45 @@ fn print_report(rt: &impl Print, bytes: &[u8]) -> Result<()> {
 
 /// Prints how many bytes were written under a name, the packets, and the last four bytes; and sections.
 fn print_output(rt: &impl Print, name: &str, bytes: &[u8]) -> Result<()> {
-    let count = bytes.len();
-    print!(rt; "  output {name:?}: {count} bytes")?;
-    if 188 <= count && count <= SHORT {
-        print!(rt; ",")?;
+    print!(rt; "  output {name:?}: {} bytes", bytes.len())?;
+    let is_short = bytes.len() <= SHORT;
+    if is_short && 188 <= bytes.len() {
         print_packets(rt, bytes)?;
     }
-    if let [.., a, b, c, d] = bytes {
-        print!(rt; ", ends {a:02x}{b:02x}{c:02x}{d:02x}")?;
-    }
-    println!(rt; "")?;
-    if count <= SHORT {
+    print_end(rt, bytes)?;
+    if is_short {
         print_sections(rt, bytes)?;
     }
     Ok(())
 }
 
-/// Prints each whole packet by its PID and its counter, and a null packet as `N`.
+/// Prints the last four bytes, and ends the line.
+fn print_end(rt: &impl Print, bytes: &[u8]) -> Result<()> {
+    if let [.., a, b, c, d] = bytes {
+        print!(rt; ", ends {a:02x}{b:02x}{c:02x}{d:02x}")?;
+    }
+    println!(rt; "")?;
+    Ok(())
+}
+
+/// Prints whole packets behind a comma.
 fn print_packets(rt: &impl Print, bytes: &[u8]) -> Result<()> {
+    print!(rt; ",")?;
     let mut left = bytes;
     while let Some((row, rest)) = left.split_first_chunk::<188>() {
-        let pid = u16::from_be_bytes([row[1] & 0x1F, row[2]]);
-        if pid == NULL_PID {
-            print!(rt; " N")?;
-        } else {
-            let counter = row[3] & 0x0F;
-            print!(rt; " {pid}/{counter}")?;
-        }
+        print_packet(rt, row)?;
         left = rest;
+    }
+    Ok(())
+}
+
+/// Prints a packet by its PID and its counter, and a null packet as `N`.
+fn print_packet(rt: &impl Print, row: &[u8; 188]) -> Result<()> {
+    let pid = u16::from_be_bytes([row[1] & 0x1F, row[2]]);
+    if pid == NULL_PID {
+        print!(rt; " N")?;
+    } else {
+        print!(rt; " {pid}/{}", row[3] & 0x0F)?;
     }
     Ok(())
 }
@@ -84,12 +101,18 @@ fn print_section(rt: &impl Print, bytes: &[u8]) -> Result<()> {
     if let [_, high, low, ..] = bytes {
         let length = u16::from_be_bytes([*high & 0x0F, *low]);
         if let Some(section) = bytes.get(..usize::from(length) + 3) {
-            print!(rt; "  section")?;
-            for byte in section {
-                print!(rt; " {byte:02x}")?;
-            }
-            println!(rt; "")?;
+            print_bytes(rt, section)?;
         }
     }
+    Ok(())
+}
+
+/// Prints bytes as a line.
+fn print_bytes(rt: &impl Print, section: &[u8]) -> Result<()> {
+    print!(rt; "  section")?;
+    for byte in section {
+        print!(rt; " {byte:02x}")?;
+    }
+    println!(rt; "")?;
     Ok(())
 }

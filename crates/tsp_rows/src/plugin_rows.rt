@@ -16,7 +16,11 @@ const SAME: [u16; 10] = [256; 10];
 const REFUSED: [u16; 10] = [256, 256, 256, 256, 256, 256, 256, 256, 256, 512];
 
 /// Plugins that change packets or end their list.
-pub(crate) static PLUGIN_ROWS: [Row; 6] = [
+pub(crate) fn rows() -> &'static [Row] {
+    &PLUGIN_ROWS
+}
+
+static PLUGIN_ROWS: [Row; 6] = [
     Row {
         name: "slice drops, passes and stops",
         words: "-I file in -P slice --drop 1 --pass 3 --stop 4 -O file out",
@@ -56,7 +60,11 @@ pub(crate) static PLUGIN_ROWS: [Row; 6] = [
 ];
 
 /// Plugins that report, with sizes that may not change what they say.
-pub(crate) static WATCH_ROWS: [Row; 6] = [
+pub(crate) fn of_watchers() -> &'static [Row] {
+    &WATCH_ROWS
+}
+
+static WATCH_ROWS: [Row; 6] = [
     Row {
         name: "count of all behind skip",
         words: "-I file in -P skip 1 -P count --all -O file out",
@@ -96,7 +104,11 @@ pub(crate) static WATCH_ROWS: [Row; 6] = [
 ];
 
 /// Plugins that agree to a common end, or would.
-pub(crate) static JOINT_ROWS: [Row; 6] = [
+pub(crate) fn of_joint_ends() -> &'static [Row] {
+    &JOINT_ROWS
+}
+
+static JOINT_ROWS: [Row; 6] = [
     Row {
         name: "joint termination at 5 and 3",
         words: "-I file in -P until --packets 5 --joint-termination -P skip 2 -P until --packets 1 --joint-termination -O file out",
@@ -136,7 +148,11 @@ pub(crate) static JOINT_ROWS: [Row; 6] = [
 ];
 
 /// Plugins that see marked packets alone.
-pub(crate) static LABEL_ROWS: [Row; 3] = [
+pub(crate) fn of_labels() -> &'static [Row] {
+    &LABEL_ROWS
+}
+
+static LABEL_ROWS: [Row; 3] = [
     Row {
         name: "count of the marked packets",
         words: "-I file in -P filter --pid 256 --set-label 3 -P count --only-label 3 -O file out",

@@ -50,8 +50,13 @@ fn print_row<R: Threads + Wait + Sync + Print + AllocGlobal>(rt: &R, row: &Row) 
 
 fn print_case<R: Threads + Wait + Sync + Print + AllocGlobal>(rt: &R, case: Case) -> Result<bool> {
     let outcome = by_tsp_call(rt, case, &OpenGate)?;
-    print_outcome(rt, &outcome)?;
-    Ok(is_serial_like(rt.alloc(), case, &outcome)?)
+    print_trial(rt, case, &outcome)
+}
+
+/// Prints what a call came to; whether `serial_call` comes to the same.
+fn print_trial(rt: &(impl Print + AllocGlobal), case: Case, outcome: &Trial) -> Result<bool> {
+    print_outcome(rt, outcome)?;
+    Ok(is_serial_like(rt.alloc(), case, outcome)?)
 }
 
 fn is_serial_like(alloc: Global, case: Case, outcome: &Trial) -> Result<bool, AllocError> {

@@ -4,7 +4,11 @@ use crate::row::Row;
 use crate::trial_desk::Fails;
 
 /// A service kept alone, and one taken out, of the generated stream.
-pub(crate) static SERVICE_ROWS: [Row; 5] = [
+pub(crate) fn rows() -> &'static [Row] {
+    &SERVICE_ROWS
+}
+
+static SERVICE_ROWS: [Row; 5] = [
     Row {
         name: "zap leaves nothing of the other service",
         words: "-I testgen 1 1000 -P zap 1 -P count --pid 258-259,4097,8191 -O drop",
@@ -38,7 +42,11 @@ pub(crate) static SERVICE_ROWS: [Row; 5] = [
 ];
 
 /// Words of these plugins that are no command line.
-pub(crate) static SERVICE_WORD_ROWS: [Row; 3] = [
+pub(crate) fn of_words() -> &'static [Row] {
+    &SERVICE_WORD_ROWS
+}
+
+static SERVICE_WORD_ROWS: [Row; 3] = [
     Row {
         name: "zap of no service",
         words: "-I null 2 -P zap -O drop",

@@ -4,7 +4,11 @@ use crate::row::Row;
 use crate::trial_desk::Fails;
 
 /// What `analyze` and `tables` report of null packets and of the generated stream.
-pub(crate) static STREAM_ROWS: [Row; 5] = [
+pub(crate) fn rows() -> &'static [Row] {
+    &STREAM_ROWS
+}
+
+static STREAM_ROWS: [Row; 5] = [
     Row {
         name: "null packets alone",
         words: "-I null 2 -P analyze -O drop",
@@ -38,7 +42,11 @@ pub(crate) static STREAM_ROWS: [Row; 5] = [
 ];
 
 /// Words of these plugins that are no command line.
-pub(crate) static STREAM_WORD_ROWS: [Row; 1] = [Row {
+pub(crate) fn of_words() -> &'static [Row] {
+    &STREAM_WORD_ROWS
+}
+
+static STREAM_WORD_ROWS: [Row; 1] = [Row {
     name: "a table_id above 255",
     words: "-I null 2 -P tables --tid 256 -O drop",
     input: Input::Pids(&[]),

@@ -4,7 +4,11 @@ use crate::row::Row;
 use crate::trial_desk::Fails;
 
 /// What a file of tables puts into the stream.
-pub(crate) static TABLE_ROWS: [Row; 2] = [
+pub(crate) fn rows() -> &'static [Row] {
+    &TABLE_ROWS
+}
+
+static TABLE_ROWS: [Row; 2] = [
     Row {
         name: "a table put in every three packets",
         words: "-I null 7 -P inject t.json --pid 0 --inter-packet 3 -O file out",
@@ -20,7 +24,11 @@ pub(crate) static TABLE_ROWS: [Row; 2] = [
 ];
 
 /// Files of tables that end the call: there is no run.
-pub(crate) static TABLE_FAULT_ROWS: [Row; 5] = [
+pub(crate) fn of_faults() -> &'static [Row] {
+    &TABLE_FAULT_ROWS
+}
+
+static TABLE_FAULT_ROWS: [Row; 5] = [
     Row {
         name: "a file of tables that is no JSON",
         words: "-I null 2 -P inject bad.json --pid 0 --replace -O file out",

@@ -28,7 +28,10 @@ fn print_meeting<R: Threads + Wait + Sync + Print + AllocGlobal>(rt: &R) -> Resu
     println!(rt; "two stages meet")?;
     let gate = MeetingGate::new();
     print_call(rt, MEETING_WORDS, &gate)?;
-    let have_met = gate.have_met();
+    print_met(rt, gate.have_met())
+}
+
+fn print_met(rt: &impl Print, have_met: bool) -> Result<()> {
     println!(rt; "  each was inside a window at once with the other: {have_met}")?;
     Ok(())
 }
@@ -38,6 +41,11 @@ fn print_following<R: Threads + Wait + Sync + Print + AllocGlobal>(rt: &R) -> Re
     println!(rt; "windows follow one another")?;
     let gate = FollowingGate::new(BUFFER);
     print_call(rt, FOLLOWING_WORDS, &gate)?;
+    print_stages(rt, &gate)
+}
+
+/// Prints what the gate saw of each stage.
+fn print_stages(rt: &impl Print, gate: &FollowingGate) -> Result<()> {
     for stage in gate.stages() {
         let end = stage.end();
         let wrong = stage.wrong();

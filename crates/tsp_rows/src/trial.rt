@@ -15,10 +15,10 @@ pub(crate) struct Case<'a> {
     pub(crate) fails: Fails,
 }
 
-/// What a call came to: its desk and its status.
+/// What a call came to: its desk and its status. The desk is large, and so in a box.
 #[derive(Drop)]
 pub(crate) struct Trial {
-    pub(crate) desk: MemoryDesk,
+    pub(crate) desk: Box<MemoryDesk>,
     pub(crate) status: Status,
 }
 
@@ -58,7 +58,7 @@ pub(crate) fn by_tsp_call<R: Threads + Wait + Sync + AllocGlobal, G: Gate>(
     gate: &G,
 ) -> Result<Trial, AllocError> {
     let mut desk = filled_desk(rt.alloc(), case.input, case.fails)?;
-    let status = tsp_call(rt, rt.alloc(), case.words, &mut desk, gate);
+    let status = tsp_call(rt, rt.alloc(), case.words, &mut *desk, gate);
     Ok(Trial { desk, status })
 }
 
@@ -69,7 +69,7 @@ pub(crate) fn by_serial_call<G: Gate>(
     gate: &G,
 ) -> Result<Trial, AllocError> {
     let mut desk = filled_desk(alloc, case.input, case.fails)?;
-    let status = serial_call(alloc, case.words, &mut desk, gate);
+    let status = serial_call(alloc, case.words, &mut *desk, gate);
     Ok(Trial { desk, status })
 }
 

@@ -31,52 +31,75 @@ pub(crate) fn filled_desk(
     alloc: Global,
     input: Input,
     fails: Fails,
-) -> Result<MemoryDesk, AllocError> {
-    MemoryDesk::new(alloc, files(alloc, input)?, fail_plan(alloc, fails)?)
+) -> Result<Box<MemoryDesk>, AllocError> {
+    let plan = fail_plan(alloc, fails)?;
+    let files = files(alloc, input)?;
+    Ok(Box::new(alloc, MemoryDesk::new(alloc, files, plan)?)?)
 }
 
-/// The input under its name and under the empty one, a text of tables, one that is no JSON, and a file of no section.
+/// The texts beside the input: one of tables, one that is no JSON, and none, which is no section.
+static TEXTS: [(&str, &str); 3] = [("t.json", TABLES), ("bad.json", "{"), ("e.bin", "")];
+
+/// The input under its name and under the empty one, and the texts.
 fn files(alloc: Global, input: Input) -> Result<FileList, AllocError> {
     let mut files = Vec::new(alloc);
-    files.push(input_file(alloc, FILE_NAME, input)?)?;
-    files.push(input_file(alloc, "", input)?)?;
-    files.push(text_file(alloc, "t.json", TABLES)?)?;
-    files.push(text_file(alloc, "bad.json", "{")?)?;
-    files.push(text_file(alloc, "e.bin", "")?)?;
+    push_input(alloc, &mut files, FILE_NAME, input)?;
+    push_input(alloc, &mut files, "", input)?;
+    for (name, text) in &TEXTS {
+        push_file(alloc, &mut files, name, text.as_bytes())?;
+    }
     Ok(FileList::of(files))
 }
 
-fn input_file(
+/// Puts the input behind other files, under this name.
+fn push_input(
     alloc: Global,
+    files: &mut Vec<(NameText, FileBytes)>,
     name: &str,
     input: Input,
-) -> Result<(NameText, FileBytes), AllocError> {
-    let name = NameText::of(String::from_str(alloc, name)?);
-    Ok((name, FileBytes::of(input_bytes(alloc, input)?)))
+) -> Result<(), AllocError> {
+    let bytes = input_bytes(alloc, input)?;
+    push_file(alloc, files, name, bytes.as_slice())
 }
 
-fn text_file(alloc: Global, name: &str, text: &str) -> Result<(NameText, FileBytes), AllocError> {
-    let name = NameText::of(String::from_str(alloc, name)?);
-    let bytes = Vec::from_slice(alloc, text.as_bytes())?;
-    Ok((name, FileBytes::of(bytes)))
+/// Puts a file with these bytes behind others.
+fn push_file(
+    alloc: Global,
+    files: &mut Vec<(NameText, FileBytes)>,
+    name: &str,
+    bytes: &[u8],
+) -> Result<(), AllocError> {
+    let bytes = Vec::from_slice(alloc, bytes)?;
+    let name = String::from_str(alloc, name)?;
+    files.push((NameText::of(name), FileBytes::of(bytes)))?;
+    Ok(())
 }
 
-fn number(alloc: Global, number: u64) -> Result<NumberList, AllocError> {
-    Ok(NumberList::of(Vec::from_slice(alloc, &[number])?))
+/// The number of the call that fails, from 1 on; 0 where none does.
+fn number_of(fails: Fails) -> u64 {
+    match fails {
+        Fails::Never => 0,
+        Fails::Open(call)
+        | Fails::Read(call)
+        | Fails::Write(call)
+        | Fails::Report(call)
+        | Fails::Close(call) => call,
+    }
 }
 
 /// A plan by which one packet is read in a call and 100 bytes are written, and this call fails.
 fn fail_plan(alloc: Global, fails: Fails) -> Result<FailPlan, AllocError>
     ensures { IfOk result (λ p. (p.read_piece ≡ 188) × (p.write_piece ≡ 100)) }
 {
+    let call = NumberList::of(Vec::from_slice(alloc, &[number_of(fails)])?);
     let mut plan = FailPlan::none(alloc, 188, 100, ROOM);
     match fails {
         Fails::Never => {}
-        Fails::Open(call) => plan.opens = number(alloc, call)?,
-        Fails::Read(call) => plan.reads = number(alloc, call)?,
-        Fails::Write(call) => plan.writes = number(alloc, call)?,
-        Fails::Report(call) => plan.reports = number(alloc, call)?,
-        Fails::Close(call) => plan.closes = number(alloc, call)?,
+        Fails::Open(_) => plan.opens = call,
+        Fails::Read(_) => plan.reads = call,
+        Fails::Write(_) => plan.writes = call,
+        Fails::Report(_) => plan.reports = call,
+        Fails::Close(_) => plan.closes = call,
     }
     Ok(plan)
 }

@@ -36,6 +36,10 @@ fn print_serial(rt: &(impl Print + AllocGlobal), case: Case) -> Result<()> {
     println!(rt; "the windows of two plugins")?;
     let gate = KeepingGate::new(rt.alloc(), PLUGINS)?;
     print_serial_end(rt, case, &gate)?;
+    print_plugins(rt, &gate)
+}
+
+fn print_plugins(rt: &impl Print, gate: &KeepingGate) -> Result<()> {
     for windows in gate.plugins() {
         print_plugin(rt, windows)?;
     }
@@ -66,6 +70,11 @@ fn print_by_tsp_call<R: Threads + Wait + Sync + Print + AllocGlobal>(
     println!(rt; "the same by tsp_call")?;
     let gate = KeepingGate::new(rt.alloc(), PLUGINS)?;
     print_end(rt, case, &gate)?;
+    print_rows(rt, &gate)
+}
+
+/// Whether the windows of each plugin are one row.
+fn print_rows(rt: &impl Print, gate: &KeepingGate) -> Result<()> {
     for windows in gate.plugins() {
         let is_row = windows.is_one_row();
         let is_whole = windows.is_whole();

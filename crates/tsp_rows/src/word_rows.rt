@@ -4,7 +4,11 @@ use crate::row::Row;
 use crate::trial_desk::Fails;
 
 /// A row or two for each broken rule but that of too many plugins.
-pub(crate) static WORD_ROWS: [Row; 9] = [
+pub(crate) fn rows() -> &'static [Row] {
+    &WORD_ROWS
+}
+
+static WORD_ROWS: [Row; 9] = [
     Row {
         name: "missing option",
         words: "-I null 2 -P filter -O drop",
