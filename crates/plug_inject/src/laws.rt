@@ -14,10 +14,9 @@ ghost use Rattle.plug_inject.specs.declared.inject_conf.InjectMode.TheVariants.{
 pub fn cycles_are_put_in()
     ensures put_in { (conf : InjectConf) (sections : List (List ℕ)) (cells : List Cell) (k : ℕ)
         → k < length (places_in conf sections cells)
-        → slice_get (injected_packets conf sections cells) (slice_index (places_in conf sections cells) k)
-        ≡ Some (with_counter
-        (slice_index_or (packets_of conf.pid sections) (k % length (packets_of conf.pid sections)) [])
-        (k % 16)) }
+        → let contents = packets_of conf.pid sections in
+        slice_get (injected_packets conf sections cells) (slice_index (places_in conf sections cells) k)
+        ≡ Some (with_counter (slice_index_or contents (k % length contents) []) (k % 16)) }
     ensures others { (conf : InjectConf) (sections : List (List ℕ)) (cells : List Cell) (i : ℕ)
         → ((k : ℕ) → k < length (places_in conf sections cells) → slice_index (places_in conf sections cells) k ≢ i)
         → slice_get (injected_packets conf sections cells) i ≡ slice_get (live_packets cells) i }
