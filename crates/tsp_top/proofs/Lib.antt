@@ -8,6 +8,8 @@ pub mod CutLemmas
 pub mod StreamLemmas
 pub mod RanTheorem
 pub mod CallLemmas
+pub mod CalledLemmas
+pub mod ReadyLemmas
 pub mod BeginLemmas
 pub mod TableLemmas
 pub mod TableFacts

@@ -1,5 +1,5 @@
 //! A chain that is ready to run: its numbers and its plugins, before anything is opened.
-ghost use Rattle.std.specs.Prelude.{◌≡◌, ◌++◌, map, IfOk, OnOk};
+ghost use Rattle.std.specs.Prelude.{◌≡◌, ◌++◌, ◌∷◌, [], map, IfOk, IsOkAnd, OnOk};
 ghost use Rattle.std.specs.List.{All};
 ghost use Rattle.plug_set.specs.Items.{IsLawfulItem};
 ghost use Rattle.plug_set.specs.Plugins.{steady_of};
@@ -40,8 +40,15 @@ fn take_table(alloc: Global, tables: &mut Vec<Vec<Section>>) -> Vec<Section>
     }
 }
 
+/// Puts what was made behind others.
+fn push_made<P: Drop>(plugins: &mut Vec<P>, made: Result<P, AllocError>) -> Result<(), AllocError>
+    ensures { OnOk result (IsOkAnd made (λ plugin. plugins.new.items ≡ plugins.old.items ++ plugin ∷ [])) }
+{
+    plugins.push(made?)?;
+    Ok(())
+}
+
 /// Puts the plugins of these settings and tables, which met no cell yet, behind others.
-#[tactic(auto, using(crate::proofs::CallLemmas::fresh_push))]
 fn add_plugins(
     alloc: Global,
     plugins: &mut Vec<AnyPlugin>,
@@ -64,7 +71,7 @@ fn add_plugins(
         return Ok(());
     };
     let table = take_table(alloc, tables);
-    plugins.push(AnyPlugin::of(alloc, item, table, buffer)?)?;
+    push_made(plugins, AnyPlugin::of(alloc, item, table, buffer))?;
     add_plugins(alloc, plugins, rest, tables, buffer)
 }
 

@@ -1,5 +1,5 @@
 //! The report of a run that was closed, and the status that tells it.
-ghost use Rattle.std.specs.Prelude.{◌≡◌, ◌<◌, ◌^◌, ℕ, List, length, map, IfOk};
+ghost use Rattle.std.specs.Prelude.{◌≡◌, ◌<◌, ◌^◌, ◌||◌, ℕ, List, length, map, IfOk};
 ghost use Rattle.std.specs.String.{string_bytes};
 ghost use Rattle.chain_model.specs.Apply.{StageList};
 ghost use Rattle.chain_model.specs.Reports.{reports, rules_of};
@@ -39,6 +39,13 @@ fn report_text<P: Plugin>(
     Ok(text)
 }
 
+/// Whether the closing of the output or the report failed.
+fn one_failed(closing_failed: bool, report_failed: bool) -> bool
+    ensures { result ≡ (closing_failed || report_failed) }
+{
+    closing_failed || report_failed
+}
+
 /// Reports a run, and answers its status.
 pub(crate) fn report_run<P: Plugin, D: Desk>(
     alloc: Global,
@@ -59,7 +66,8 @@ pub(crate) fn report_run<P: Plugin, D: Desk>(
     match report_text(alloc, plugins, items, closed) {
         Ok(text) => {
             let failed = say(desk, text.as_str());
-            status_if_late(status_of_cause(closed.cause), closing_failed || failed)
+            let late = one_failed(closing_failed, failed);
+            status_if_late(status_of_cause(closed.cause), late)
         }
         Err(AllocError) => Status::NoMemory,
     }

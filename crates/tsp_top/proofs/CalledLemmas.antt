@@ -1,0 +1,67 @@
+-- A call whose chain ran, whoever served the stages.
+use Rattle.std.proofs.Common.{◌≡◌, ℕ, ◌≤◌, List, length, map, Option, Result, IfOk, Some, inl, ap, sym, ◌∙◌}
+use Rattle.std.proofs.lemmas.List.{length-map}
+use Rattle.std.specs.declared.alloc.AllocError.{AllocError}
+use Rattle.ts_packet.specs.declared.cell.Cell.{Cell}
+use Rattle.chain_args.specs.PlanOf.{plan_of}
+use Rattle.chain_args.specs.declared.plan_type.Plan.{Plan}
+use Rattle.chain_core.specs.declared.closed.Closed.{Closed}
+use Rattle.chain_core.specs.declared.core_plan.CorePlan.{CorePlan}
+use Rattle.chain_model.specs.PluginRule.{PluginRule}
+use Rattle.chain_model.specs.Reports.{rules_of}
+use Rattle.plug_set.specs.Plugins.{steady_of}
+use Rattle.stage_run.specs.declared.input_part.InputPart.{InputPart}
+use Rattle.stage_run.specs.declared.output_part.OutputPart.{OutputPart}
+use Rattle.stage_run.specs.declared.stuffing.Stuffing.{Stuffing}
+use Rattle.stage_run.specs.Seeing.{Seeing}
+use Rattle.ts_outside.specs.Desk.{DeskView}
+use Rattle.tsp_top.specs.PlannedChain.{named_rules}
+use Rattle.tsp_top.specs.PlannedTables.{tables_asked}
+use Rattle.tsp_top.specs.Ran.{EndsRun, IsReady, OpensPlan, RanOpened}
+use Rattle.tsp_top.specs.Reported.{ReachesCut}
+use Rattle.tsp_top.specs.TspCall.{CallsTsp}
+use Rattle.tsp_top.specs.declared.status.Status.{Status}
+use Rattle.tsp_top.proofs.RanTheorem.{ran-theorem}
+use Rattle.tsp_top.proofs.RunLemmas.{ends-few, ends-reach, ends-rules}
+
+-- a chain that is ready has as many plugins as its numbers say
+pub ready-plugins : {P : Type 0} (rule : P → PluginRule) (stands : P → List Cell → ℕ → Type 0) (steady : P → Option ℕ)
+    (plan : Plan) (tables : List (List (List ℕ))) (stuffing : Stuffing) (numbers : CorePlan) (plugins : List P)
+    → IsReady rule stands steady plan tables stuffing numbers plugins → numbers.plugins ≡ length plugins
+ready-plugins rule stands steady plan tables stuffing numbers plugins ready =
+    ready.numbers_are.plugins
+    ∙ sym (length-map plan.plugins (λ item. steady_of item.conf numbers.buffer))
+    ∙ ap (λ (l : List (Option ℕ)). length l) (sym ready.rooms)
+    ∙ length-map plugins steady
+
+module _ {S K P : Type 0} (see : Seeing S K P) (plan : Plan) (core : CorePlan) (old made : DeskView)
+    (from made_from : InputPart S) (stuffing : Stuffing) (plugins back : List P) (to made_to : OutputPart K)
+    (closed : Result Closed AllocError)
+    (opens : OpensPlan see plan core old made from stuffing plugins to)
+    (ends : EndsRun see stuffing core from made_from plugins back to made_to closed) where
+  -- the plugins that the run gives back can be asked for their reports
+  pub called-reach : IfOk closed (λ c. ReachesCut see.stands back c.cut 0)
+  called-reach = ends-reach see stuffing core from made_from plugins back to made_to closed ends
+
+  pub called-few : length back ≤ 62
+  called-few = ends-few see stuffing core from made_from plugins back to made_to closed plan opens.0 ends opens.2.ready
+
+  -- and what is reported of the run is what the call owes
+  pub called : (words : List (List ℕ)) (new : DeskView) (status : Status) → plan_of words ≡ Some plan
+      → ((tables : List (List (List ℕ))) (s : Stuffing) (numbers : CorePlan) (f : InputPart S) (ps : List P) (t : OutputPart K)
+      → map see.rule back ≡ rules_of (named_rules plan.plugins tables)
+      → EndsRun see s numbers f made_from ps back t made_to closed
+      → RanOpened see plan tables s numbers made new f ps t status)
+      → CallsTsp words old new status
+  called words new status is reported = inl (
+    plan,
+    is,
+    inl (record {
+      tables = opens.0;
+      tables_are = opens.1;
+      theorem = ran-theorem see plan opens.0 stuffing core (tables_asked old plan) made new from plugins to status
+          opens.2.asked opens.2.input opens.2.output opens.2.ready
+          (reported opens.0 stuffing core from plugins to
+          (ends-rules see stuffing core from made_from plugins back to made_to closed (rules_of (named_rules plan.plugins opens.0)) ends opens.2.ready.rules) ends);
+    }),
+  )

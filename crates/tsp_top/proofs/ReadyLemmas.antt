@@ -1,0 +1,61 @@
+-- Plugins that are made one after another.
+use Rattle.std.proofs.Common.{◌≡◌, ℕ, List, [], ◌∷◌, ◌++◌, map, Option, Result, Ok, Err, IfOk, ap, sym, ◌∙◌, append_assoc}
+use Rattle.std.specs.Prelude.{IsOkAnd}
+use Rattle.std.proofs.lemmas.List.{map-append}
+use Rattle.ts_packet.specs.declared.cell.Cell.{Cell}
+use Rattle.chain_model.specs.PluginRule.{PluginRule}
+use Rattle.chain_model.specs.Reports.{rules_of}
+use Rattle.chain_run.specs.Fresh.{AreFresh}
+use Rattle.plug_set.specs.Items.{rule_of_item}
+use Rattle.plug_set.specs.Plugins.{steady_of}
+use Rattle.plug_set.specs.declared.plugin_item.PluginItem.{PluginItem}
+use Rattle.tsp_top.specs.PlannedChain.{first_table, later_tables, named_rules}
+use Rattle.tsp_top.proofs.CallLemmas.{fresh_push}
+
+-- one more plugin that met no cell
+pub record OneMore {P : Type 0} (rule : P → PluginRule) (stands : P → List Cell → ℕ → Type 0) (steady : P → Option ℕ)
+    (plugins more : List P) (r : PluginRule) (room : Option ℕ) : Type 0 where
+  pub rules : map rule more ≡ map rule plugins ++ r ∷ []
+  pub rooms : map steady more ≡ map steady plugins ++ room ∷ []
+  pub fresh : AreFresh stands more
+
+pub one_more : {P E : Type 0} (rule : P → PluginRule) (stands : P → List Cell → ℕ → Type 0) (steady : P → Option ℕ)
+    (plugins more : List P) (r : PluginRule) (room : Option ℕ) (made : Result P E)
+    → AreFresh stands plugins → IsOkAnd made (λ plugin. more ≡ plugins ++ plugin ∷ [])
+    → IfOk made (λ plugin. rule plugin ≡ r) → IfOk made (λ plugin. stands plugin [] 0) → IfOk made (λ plugin. steady plugin ≡ room)
+    → OneMore rule stands steady plugins more r room
+one_more {P} rule stands steady plugins more r room (Ok plugin) before is has_rule fresh has_room = record {
+  rules = ap (λ (l : List P). map rule l) is ∙ map-append rule plugins (plugin ∷ []) ∙ ap (λ (q : PluginRule). map rule plugins ++ q ∷ []) has_rule;
+  rooms = ap (λ (l : List P). map steady l) is ∙ map-append steady plugins (plugin ∷ []) ∙ ap (λ (q : Option ℕ). map steady plugins ++ q ∷ []) has_room;
+  fresh = rw is (fresh_push stands plugins plugin before fresh);
+}
+one_more rule stands steady plugins more r room (Err e) before is has_rule fresh has_room = absurd is
+
+-- the rules and the rooms of the plugins behind it come behind its own
+pub rules_behind : {P : Type 0} (rule : P → PluginRule) (plugins more all : List P) (items rest : List PluginItem) (item : PluginItem)
+    (tables later : List (List (List ℕ))) (table : List (List ℕ))
+    → items ≡ item ∷ rest → table ≡ first_table tables → later ≡ later_tables tables
+    → map rule more ≡ map rule plugins ++ rule_of_item item table ∷ []
+    → map rule all ≡ map rule more ++ rules_of (named_rules rest later)
+    → map rule all ≡ map rule plugins ++ rules_of (named_rules items tables)
+rules_behind rule plugins more all items rest item tables later table split first behind one those =
+    let own : List PluginRule = map rule plugins in
+    those
+    ∙ ap (λ (l : List PluginRule). l ++ rules_of (named_rules rest later)) one
+    ∙ append_assoc own (rule_of_item item table ∷ []) (rules_of (named_rules rest later))
+    ∙ ap (λ (t : List (List ℕ)). own ++ rule_of_item item t ∷ rules_of (named_rules rest later)) first
+    ∙ ap (λ (ts : List (List (List ℕ))). own ++ rule_of_item item (first_table tables) ∷ rules_of (named_rules rest ts)) behind
+    ∙ ap (λ (l : List PluginItem). own ++ rules_of (named_rules l tables)) (sym split)
+
+pub rooms_behind : {P : Type 0} (steady : P → Option ℕ) (buffer : ℕ) (plugins more all : List P) (items rest : List PluginItem) (item : PluginItem)
+    → items ≡ item ∷ rest
+    → map steady more ≡ map steady plugins ++ steady_of item.conf buffer ∷ []
+    → map steady all ≡ map steady more ++ map (λ i. steady_of i.conf buffer) rest
+    → map steady all ≡ map steady plugins ++ map (λ i. steady_of i.conf buffer) items
+rooms_behind steady buffer plugins more all items rest item split one those =
+    let own : List (Option ℕ) = map steady plugins in
+    let room : PluginItem → Option ℕ = λ i. steady_of i.conf buffer in
+    those
+    ∙ ap (λ (l : List (Option ℕ)). l ++ map room rest) one
+    ∙ append_assoc own (room item ∷ []) (map room rest)
+    ∙ ap (λ (l : List PluginItem). own ++ map room l) (sym split)
