@@ -235,13 +235,7 @@ pub fn run_threads<
     K: Sink + Send,
     P: Plugin + Send,
     G: Gate,
->(
-    rt: &R,
-    alloc: Global,
-    stages: Stages<S, K, P>,
-    plan: &CorePlan,
-    gate: &G,
-) -> RunEnd<S, K, P>
+>(rt: &R, alloc: Global, stages: Stages<S, K, P>, plan: &CorePlan, gate: &G) -> RunEnd<S, K, P>
     requires every { 1 ≤ stages.stuffing.every }
     requires unused { IsUnused stages.input }
     requires lawful { IsLawfulPlan plan.now }

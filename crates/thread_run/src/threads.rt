@@ -70,13 +70,7 @@ fn try_threads<
     K: Sink + Send,
     P: Plugin + Send,
     G: Gate,
->(
-    rt: &R,
-    ring: &Ring,
-    gate: &G,
-    patience: u64,
-    stages: &mut [Stage<S, K, P>],
-) -> bool
+>(rt: &R, ring: &Ring, gate: &G, patience: u64, stages: &mut [Stage<S, K, P>]) -> bool
     requires ready { AreReady (seeing S.seen K.seen P.rule P.stands_for P.steady) ring.now stages.old }
     ensures carried { Carried (seeing S.seen K.seen P.rule P.stands_for P.steady) ring.now stages.old stages.new }
 {

@@ -4,8 +4,8 @@ ghost use Rattle.std.specs.String.{string_bytes};
 ghost use Rattle.tsp_top.specs.TspCall.{CallsTsp};
 
 use crate::beginning::begin;
-use crate::finishing::finish;
 use crate::driver::Driver;
+use crate::finishing::finish;
 use crate::in_threads::run_in_threads;
 use crate::one_thread::run_in_one_thread;
 use crate::opened_call::OpenedCall;
