@@ -12,3 +12,5 @@ pub mod WholeEra
 pub mod EraEntries
 pub mod ErasLemmas
 pub mod Assembling
+pub mod TablesBehind
+pub mod UncountedPackets

@@ -14,3 +14,5 @@ pub mod AssemblyState
 pub mod Counters
 pub mod Pieces
 pub mod Reader
+pub mod TablesOn
+pub mod PidTables

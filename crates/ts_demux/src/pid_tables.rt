@@ -1,0 +1,110 @@
+//! The tables of one PID.
+
+ghost use Rattle.std.specs.Prelude.{◌≡◌, ◌∷◌, ◌++◌, ℕ, [], List, true, IfOk, OnOk, OnErr, IsErr};
+ghost use Rattle.std.specs.Option.{option_to_list};
+ghost use Rattle.ts_demux.specs.SectionsOfPid.{sections_of_pid};
+ghost use Rattle.ts_demux.specs.Tables.{tables_of};
+ghost use Rattle.ts_demux.specs.PidTables.{Holds};
+
+use crate::assembly::Assembly;
+use crate::demux::Demux;
+use std::alloc::{AllocError, Global};
+use ts_packet::{PID_COUNT, Packet};
+use ts_section::TableRun;
+
+/// Gives the tables of one PID, each with the packet that completes it.
+///
+/// It holds one unfinished section at most, and of each key the sections of a table that is not complete.
+#[derive(Drop)]
+pub struct PidTables {
+    demux: Demux,
+    assembly: Assembly,
+    failed: bool,
+    alloc: Global,
+}
+
+impl PidTables {
+    ghost use Rattle.std.specs.Prelude.{◌≡◌, ◌<◌, ◌∷◌, ◌++◌, ℕ, [], List, true, IfOk, OnOk, OnErr, IsErr};
+    ghost use Rattle.ts_demux.specs.TablesOn.{Completes};
+    ghost use Rattle.ts_demux.specs.PidTables.{StandsFor, has_failed};
+
+    /// No packet was taken.
+    pub fn new(alloc: Global, pid: u16) -> Result<PidTables, AllocError>
+        requires { pid < PID_COUNT }
+        ensures { IfOk result (λ tables. StandsFor tables pid []) }
+    {
+        let assembly = Assembly::new(alloc)?;
+        // The largest value comes last: nothing can fail while it is held.
+        let demux = Demux::new(alloc, pid)?;
+        Ok(PidTables {
+            demux,
+            assembly,
+            failed: false,
+            alloc,
+        })
+    }
+
+    /// Takes the next packet, of any PID, and gives the tables that it completes, in their order. After `AllocError`
+    /// every later call answers `AllocError`.
+    pub fn take(&mut self, packet: &Packet) -> Result<Vec<TableRun>, AllocError>
+        ensures stands { OnOk result ((pid : ℕ) (taken : List (List ℕ)) → StandsFor self.old pid taken
+            → StandsFor self.new pid (taken ++ packet.now ∷ [])) }
+        ensures completes { IfOk result (λ tables. (pid : ℕ) (taken : List (List ℕ)) → StandsFor self.old pid taken
+            → Completes pid taken packet.now tables.items) }
+        ensures spent { OnErr result (has_failed self.new ≡ true) }
+        ensures stays_spent { has_failed self.old ≡ true → IsErr result }
+    {
+        if self.failed {
+            return Err(AllocError);
+        }
+        match self.advance(packet) {
+            Ok(tables) => Ok(tables),
+            Err(error) => {
+                self.failed = true;
+                Err(error)
+            }
+        }
+    }
+
+    /// Takes the next packet as long as memory was there.
+    fn advance(&mut self, packet: &Packet) -> Result<Vec<TableRun>, AllocError>
+        ensures stands { OnOk result ((pid : ℕ) (taken : List (List ℕ)) → StandsFor self.old pid taken
+            → StandsFor self.new pid (taken ++ packet.now ∷ [])) }
+        ensures completes { IfOk result (λ tables. (pid : ℕ) (taken : List (List ℕ)) → StandsFor self.old pid taken
+            → Completes pid taken packet.now tables.items) }
+        ensures same_failed { has_failed self.new ≡ has_failed self.old }
+    {
+        self.demux.feed(packet)?;
+        let tables = take_waiting(self.alloc, &mut self.demux, &mut self.assembly)?;
+        Ok(tables)
+    }
+}
+
+/// Takes the sections that wait, and gives the tables that they complete.
+fn take_waiting(
+    alloc: Global,
+    demux: &mut Demux,
+    assembly: &mut Assembly,
+) -> Result<Vec<TableRun>, AllocError>
+    ensures stands { OnOk result ((pid : ℕ) (taken given : List (List ℕ)) → Holds demux.old assembly.old pid taken given
+        → Holds demux.new assembly.new pid taken (sections_of_pid pid taken)) }
+    ensures tables { IfOk result (λ tables. (pid : ℕ) (taken given : List (List ℕ)) → Holds demux.old assembly.old pid taken given
+        → tables_of (sections_of_pid pid taken) ≡ tables_of given ++ tables.items) }
+{
+    let mut tables = Vec::new(alloc);
+    while let Some(section) = demux.next_section() {
+        let table = assembly.add(section)?;
+        push_table(&mut tables, table)?;
+    }
+    Ok(tables)
+}
+
+/// Puts a table behind others, where there is one.
+fn push_table(tables: &mut Vec<TableRun>, table: Option<TableRun>) -> Result<(), AllocError>
+    ensures { OnOk result (tables.new.items ≡ tables.old.items ++ option_to_list table) }
+{
+    if let Some(table) = table {
+        tables.push(table)?;
+    }
+    Ok(())
+}
