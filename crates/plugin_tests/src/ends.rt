@@ -1,4 +1,5 @@
 ghost use Rattle.std.specs.Prelude.{[], ◌≤◌, ◌^◌, vec_len};
+ghost use Rattle.plug_end.specs.UntilSettings.{IsLawfulUntil};
 
 use plug_end::{Until, UntilConf};
 use plugin_trait::{ListEnd, Plugin, apply_plugin};
@@ -41,6 +42,18 @@ fn end_and_agreement(until: &mut Until, cells: &mut Vec<Cell>) -> (ListEnd, bool
     (end, until.agreed())
 }
 
+/// How a new plugin with these settings leaves the first so many of ten cells, whether it agrees behind them, and the
+/// cells that are left.
+fn left_by(alloc: Global, conf: &UntilConf, met: usize) -> Result<(ListEnd, bool, Vec<Cell>), Fail>
+    requires { IsLawfulUntil conf.now }
+{
+    let mut cells = ten_cells(alloc)?;
+    cells.truncate(met);
+    let mut until = Until::new(alloc, conf, 1)?;
+    let (end, agreed) = end_and_agreement(&mut until, &mut cells);
+    Ok((end, agreed, cells))
+}
+
 #[test]
 fn until_ends_the_list(rt: HostRuntime) -> Result<(), Fail> {
     let rows = [
@@ -59,9 +72,7 @@ fn until_ends_the_list(rt: HostRuntime) -> Result<(), Fail> {
             exclude_last,
             joint_termination: false,
         };
-        let mut until = Until::new(rt.alloc(), &conf, 1)?;
-        let mut cells = ten_cells(rt.alloc())?;
-        let (end, agreed) = end_and_agreement(&mut until, &mut cells);
+        let (end, agreed, cells) = left_by(rt.alloc(), &conf, 10)?;
         assert_eq!(rt; end, wanted);
         assert!(rt; !agreed);
         assert_eq!(rt; cells.len(), left);
@@ -90,10 +101,7 @@ fn joint_until_agrees_and_passes_all(rt: HostRuntime) -> Result<(), Fail> {
             exclude_last: false,
             joint_termination: true,
         };
-        let mut until = Until::new(rt.alloc(), &conf, 1)?;
-        let mut cells = ten_cells(rt.alloc())?;
-        cells.truncate(met);
-        let (end, agreed) = end_and_agreement(&mut until, &mut cells);
+        let (end, agreed, cells) = left_by(rt.alloc(), &conf, met)?;
         assert_eq!(rt; end, ListEnd::Through);
         assert_eq!(rt; cells.len(), met);
         assert_eq!(rt; agreed, wanted);

@@ -1,24 +1,41 @@
 ghost use Rattle.std.specs.Prelude.{◌<◌, ℕ, [], length, slice_index};
 
+use crate::cells::{each_shows, live, packet};
 use plug_conf::NumberSet;
 use plug_pass::{Filter, FilterConf, Pattern, PatternConf, Skip, SkipConf, Slice, SliceConf};
 use plugin_trait::{ListEnd, Plugin, apply_plugin};
 use std::alloc::{AllocError, Global};
 use std::test::Fail;
 use ts_outside::FileBytes;
-use ts_packet::{Cell, Labels, Packet};
+use ts_packet::Cell;
 
-/// A packet on a PID, with counter 0 and a payload of bytes 0xFF.
-fn packet(pid: u16) -> Packet
-    requires { pid < 8192 }
+/// Cells with packets on these PIDs.
+fn cells_on(alloc: Global, pids: &[u16]) -> Result<Vec<Cell>, AllocError>
+    requires pids { (k : ℕ) → slice_index pids.now k < 8192 }
+    requires short { length pids.now < 1000 }
 {
-    let mut packet = Packet::null();
-    packet.set_pid(pid);
-    packet
+    let mut cells = Vec::new(alloc);
+    for pid in pids {
+        cells.push(live(packet(*pid)))?;
+    }
+    Ok(cells)
 }
 
-/// What a plugin makes of packets on these PIDs: `p` for one that passes, `n` for a null packet that
-/// stands in its place, and `.` for one that is dropped.
+/// A letter for each cell: `p` for a packet that passed, `n` for a null packet that stands in the place of one, and
+/// `.` for one that was dropped.
+fn letters(alloc: Global, cells: &[Cell]) -> Result<String, AllocError> {
+    let mut letters = String::new(alloc);
+    for cell in cells {
+        letters.push(match cell.live() {
+            Some(live) if live.packet.pid() == 8191 => 'n',
+            Some(_) => 'p',
+            None => '.',
+        })?;
+    }
+    Ok(letters)
+}
+
+/// What a plugin makes of packets on these PIDs, as letters.
 fn shape<P: Plugin + Drop>(
     alloc: Global,
     mut plugin: P,
@@ -28,23 +45,28 @@ fn shape<P: Plugin + Drop>(
     requires pids { (k : ℕ) → slice_index pids.now k < 8192 }
     requires short { length pids.now < 1000 }
 {
-    let mut cells = Vec::new(alloc);
-    for pid in pids {
-        cells.push(Cell::of(packet(*pid), Labels::none()))?;
-    }
+    let mut cells = cells_on(alloc, pids)?;
     let end = apply_plugin(&mut plugin, &mut cells);
-    let mut shape = String::new(alloc);
-    for cell in &cells {
-        shape.push(match cell.live() {
-            Some(live) if live.packet.pid() == 8191 => 'n',
-            Some(_) => 'p',
-            None => '.',
-        })?;
-    }
-    Ok((shape, end))
+    Ok((letters(alloc, &cells)?, end))
 }
 
 const THREE: [u16; 3] = [256, 257, 256];
+
+/// What the filter of PID 256 makes of three packets.
+fn filtered(alloc: Global, negate: bool, stuffing: bool) -> Result<(String, ListEnd), Fail> {
+    let pids = vec![in alloc; (256, 256)]?;
+    let conf = FilterConf {
+        pid: NumberSet::of(pids),
+        pcr: false,
+        unit_start: false,
+        scrambled: false,
+        label: NumberSet::of(Vec::new(alloc)),
+        negate,
+        stuffing,
+        set_label: NumberSet::of(Vec::new(alloc)),
+    };
+    Ok(shape(alloc, Filter::new(alloc, &conf, 1)?, &THREE)?)
+}
 
 #[test]
 fn filter_passes_a_pid(rt: HostRuntime) -> Result<(), Fail> {
@@ -54,18 +76,7 @@ fn filter_passes_a_pid(rt: HostRuntime) -> Result<(), Fail> {
         (false, true, "pnp"),
     ];
     for (negate, stuffing, wanted) in rows {
-        let conf = FilterConf {
-            pid: NumberSet::of(vec![in rt.alloc(); (256, 256)]?),
-            pcr: false,
-            unit_start: false,
-            scrambled: false,
-            label: NumberSet::of(Vec::new(rt.alloc())),
-            negate,
-            stuffing,
-            set_label: NumberSet::of(Vec::new(rt.alloc())),
-        };
-        let filter = Filter::new(rt.alloc(), &conf, 1)?;
-        let (shape, end) = shape(rt.alloc(), filter, &THREE)?;
+        let (shape, end) = filtered(rt.alloc(), negate, stuffing)?;
         assert_eq!(rt; shape.as_str(), wanted);
         assert_eq!(rt; end, ListEnd::Through);
     }
@@ -96,24 +107,27 @@ fn slice_goes_by_starts(rt: HostRuntime) -> Result<(), Fail> {
     Ok(())
 }
 
-#[test]
-fn pattern_is_written_to_the_end(rt: HostRuntime) -> Result<(), Fail> {
+/// A packet on PID 256 with a pattern behind it up to its end.
+fn patterned(alloc: Global) -> Result<(ListEnd, Vec<Cell>), Fail> {
+    let bytes = vec![in alloc; 0xAB, 0xCD]?;
+    let mut cells = vec![in alloc; live(packet(256))]?;
     let conf = PatternConf {
-        operand: FileBytes::of(vec![in rt.alloc(); 0xAB, 0xCD]?),
-        pid: NumberSet::of(Vec::new(rt.alloc())),
+        operand: FileBytes::of(bytes),
+        pid: NumberSet::of(Vec::new(alloc)),
         negate: true,
         offset_pusi: None,
         offset_non_pusi: Some(181),
     };
-    let mut pattern = Pattern::new(rt.alloc(), &conf, 1)?;
-    let mut cells = vec![in rt.alloc(); Cell::of(packet(256), Labels::none())]?;
+    let mut pattern = Pattern::new(alloc, &conf, 1)?;
     let end = apply_plugin(&mut pattern, &mut cells);
+    Ok((end, cells))
+}
+
+#[test]
+fn pattern_is_written_to_the_end(rt: HostRuntime) -> Result<(), Fail> {
+    let (end, cells) = patterned(rt.alloc())?;
     assert_eq!(rt; end, ListEnd::Through);
     assert_eq!(rt; cells.len(), 1);
-    if let Some(live) = cells[0].live() {
-        assert_eq!(rt; &live.packet.bytes()[184..], [0xFF, 0xAB, 0xCD, 0xAB].as_slice());
-    } else {
-        assert!(rt; false, "the packet was dropped");
-    }
+    each_shows(&rt, &cells, 184, &[0xFF, 0xAB, 0xCD, 0xAB]);
     Ok(())
 }

@@ -2,29 +2,18 @@
 
 ghost use Rattle.plug_inject.specs.InjectSettings.{IsLawfulMode};
 
+use crate::cells::one_service;
 use plug_inject::{Inject, InjectConf, InjectMode};
 use plugin_trait::{ListEnd, apply_plugin};
 use std::alloc::Global;
 use std::test::Fail;
 use ts_outside::NameText;
 use ts_packet::{Cell, Labels, Packet};
-use ts_psi::{Pat, PatService, PatServiceList};
 use ts_section::Section;
 
 /// The PAT of service 1.
 fn pat_sections(alloc: Global) -> Result<Vec<Section>, Fail> {
-    let service = PatService {
-        service_id: 1,
-        pid: 4096,
-    };
-    let pat = Pat {
-        version: 0,
-        current: true,
-        stream_id: 1,
-        network_pid: None,
-        services: PatServiceList::of(vec![in alloc; service]?),
-    };
-    Ok(pat.sections(alloc)?)
+    Ok(one_service(alloc, None)?.sections(alloc)?)
 }
 
 /// A null packet.
@@ -36,13 +25,13 @@ fn null() -> Cell {
 fn injected(alloc: Global, mode: InjectMode, sections: Vec<Section>) -> Result<Vec<Cell>, Fail>
     requires { IsLawfulMode mode }
 {
+    let mut cells = vec![in alloc; null(), null(), null(), null(), null(), null(), null()]?;
     let conf = InjectConf {
         file: NameText::of(String::new(alloc)),
         pid: 0,
         mode,
     };
     let mut inject = Inject::new(alloc, &conf, sections)?;
-    let mut cells = vec![in alloc; null(), null(), null(), null(), null(), null(), null()]?;
     match apply_plugin(&mut inject, &mut cells) {
         ListEnd::Through => Ok(cells),
         _ => Err("the plugin ended its list".into()),

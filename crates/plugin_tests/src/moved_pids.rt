@@ -1,25 +1,37 @@
 //! Worked rows: what the plugin makes of packets, and each call that takes memory once with enough of it.
 
-ghost use Rattle.std.specs.Prelude.{◌<◌};
+ghost use Rattle.std.specs.Prelude.{◌<◌, [], IfOk};
 
+use crate::cells::{live, one_component, one_service, packet, packet_of};
 use plug_conf::PairList;
 use plug_move::{Remap, RemapConf};
-use plugin_trait::{ListEnd, Reason, apply_plugin};
+use plugin_trait::{ListEnd, Plugin, Reason, apply_plugin};
 use std::alloc::Global;
+use std::process::Abort;
 use std::test::Fail;
 use ts_bits::{Descriptor, DescriptorList};
-use ts_packet::{Cell, Labels, NULL_PID, Packet};
-use ts_packetize::packets;
-use ts_psi::{Cat, Component, ComponentList, Pat, PatService, PatServiceList, Pmt};
-use ts_section::Section;
+use ts_packet::{Cell, NULL_PID};
+use ts_psi::{Cat, Component};
 
-/// A packet on a PID.
-fn packet(pid: u16) -> Cell
+/// What the plugin makes of four packets where PIDs 256 and 257 are moved, and how it ends.
+fn remapped(alloc: Global, unchecked: bool) -> Result<(ListEnd, Vec<Cell>), Fail> {
+    let pairs = vec![in alloc; (256, 512), (257, 256)]?;
+    let mut cells = vec![in alloc; cell(256), cell(257), cell(258), cell(512)]?;
+    let conf = RemapConf {
+        operand: PairList::of(pairs),
+        no_psi: true,
+        unchecked,
+    };
+    let mut remap = Remap::new(alloc, &conf, 1)?;
+    let end = apply_plugin(&mut remap, &mut cells);
+    Ok((end, cells))
+}
+
+/// A cell with a packet on a PID.
+fn cell(pid: u16) -> Cell
     requires { pid < 8192 }
 {
-    let mut packet = Packet::null();
-    packet.set_pid(pid);
-    Cell::of(packet, Labels::none())
+    live(packet(pid))
 }
 
 /// The PID of a cell's packet.
@@ -27,52 +39,29 @@ fn pid_of(cell: &Cell) -> Option<u16> {
     cell.live().map(|live| live.packet.pid())
 }
 
+/// Looks whether the cells have packets on these PIDs.
+fn are_on(rt: &impl Abort, cells: &[Cell], pids: &[u16]) {
+    assert_eq!(rt; cells.len(), pids.len());
+    for (cell, pid) in cells.iter().zip(pids) {
+        assert!(rt; pid_of(cell) == Some(*pid));
+    }
+}
+
 #[test]
 fn remap_moves_and_refuses(rt: HostRuntime) -> Result<(), Fail> {
-    let refused = ListEnd::Refuse(Reason::Pid(512));
-    for (unchecked, left, wanted) in [(false, 3, refused), (true, 4, ListEnd::Through)] {
-        let conf = RemapConf {
-            operand: PairList::of(vec![in rt.alloc(); (256, 512), (257, 256)]?),
-            no_psi: true,
-            unchecked,
-        };
-        let mut remap = Remap::new(rt.alloc(), &conf, 1)?;
-        let mut cells = vec![in rt.alloc(); packet(256), packet(257), packet(258), packet(512)]?;
-        let end = apply_plugin(&mut remap, &mut cells);
-        assert_eq!(rt; end, wanted);
-        assert_eq!(rt; cells.len(), left);
-        for (cell, pid) in cells.iter().zip([512, 256, 258, 512]) {
-            assert!(rt; pid_of(cell) == Some(pid));
-        }
-    }
+    let (end, cells) = remapped(rt.alloc(), false)?;
+    assert_eq!(rt; end, ListEnd::Refuse(Reason::Pid(512)));
+    are_on(&rt, &cells, &[512, 256, 258]);
+    let (end, cells) = remapped(rt.alloc(), true)?;
+    assert_eq!(rt; end, ListEnd::Through);
+    are_on(&rt, &cells, &[512, 256, 258, 512]);
     Ok(())
 }
 
-/// The first packet that carries the sections.
-fn cell_of(alloc: Global, pid: u16, sections: &[Section]) -> Result<Cell, Fail>
-    requires { pid < 8191 }
-{
-    let list = packets(alloc, pid, sections)?;
-    match list.as_slice().first() {
-        Some(packet) => Ok(Cell::of(*packet, Labels::none())),
-        None => Ok(Cell::dropped()),
-    }
-}
-
-/// A PAT with service 1 on PID 4096 and the network PID 256.
+/// A cell with a PAT of service 1 on PID 4096 and the network PID 256.
 fn pat_cell(alloc: Global) -> Result<Cell, Fail> {
-    let service = PatService {
-        service_id: 1,
-        pid: 4096,
-    };
-    let pat = Pat {
-        version: 0,
-        current: true,
-        stream_id: 1,
-        network_pid: Some(256),
-        services: PatServiceList::of(vec![in alloc; service]?),
-    };
-    cell_of(alloc, 0, &pat.sections(alloc)?)
+    let pat = one_service(alloc, Some(256))?;
+    Ok(live(packet_of(alloc, 0, pat.sections(alloc))?))
 }
 
 /// The CA descriptor of PID 256 with two private bytes, which is told with reserved bits as zeros, or not.
@@ -89,36 +78,37 @@ fn cat_cell(alloc: Global) -> Result<Cell, Fail> {
         current: true,
         descriptors: descriptors(alloc)?,
     };
-    cell_of(alloc, 1, &cat.sections(alloc)?)
+    Ok(live(packet_of(alloc, 1, cat.sections(alloc))?))
 }
 
-/// A PMT on PID 4096 of service 1 with the clock of PID 256 and a component on it.
+/// A cell with a PMT of service 1 with the clock of PID 256 and a component on it.
 fn pmt_cell(alloc: Global) -> Result<Cell, Fail> {
     let component = Component {
         stream_type: 2,
         pid: 256,
         descriptors: descriptors(alloc)?,
     };
-    let pmt = Pmt {
-        version: 0,
-        current: true,
-        service_id: 1,
-        pcr_pid: 256,
-        descriptors: DescriptorList::of(Vec::new(alloc)),
-        components: ComponentList::of(vec![in alloc; component]?),
-    };
-    cell_of(alloc, 4096, &pmt.sections(alloc)?)
+    let pmt = one_component(alloc, 0, component)?;
+    Ok(live(packet_of(alloc, 4096, pmt.sections(alloc))?))
 }
 
-/// What the plugin makes of cells, with some PIDs mapped, that of the PAT too.
-fn moved(alloc: Global, cells: Vec<Cell>) -> Result<Vec<Cell>, Fail> {
+/// The plugin that moves some PIDs, that of the PAT too.
+fn remap(alloc: Global) -> Result<Remap, Fail>
+    ensures { IfOk result (λ plugin. ⟦<Remap as Plugin>⟧.stands_for plugin [] 0) }
+{
+    let pairs = vec![in alloc; (0, 301), (256, 512), (4096, 300)]?;
     let conf = RemapConf {
-        operand: PairList::of(vec![in alloc; (0, 301), (256, 512), (4096, 300)]?),
+        operand: PairList::of(pairs),
         no_psi: false,
         unchecked: false,
     };
-    let mut remap = Remap::new(alloc, &conf, 1)?;
+    Ok(Remap::new(alloc, &conf, 1)?)
+}
+
+/// What it makes of cells.
+fn moved(alloc: Global, cells: Vec<Cell>) -> Result<Vec<Cell>, Fail> {
     let mut cells = cells;
+    let mut remap = remap(alloc)?;
     let _end = apply_plugin(&mut remap, &mut cells);
     Ok(cells)
 }
@@ -176,7 +166,7 @@ fn a_pmt_follows_once_it_is_named(rt: HostRuntime) -> Result<(), Fail> {
 #[test]
 fn a_null_packet_that_is_put_in_stays(rt: HostRuntime) -> Result<(), Fail> {
     let alloc = rt.alloc();
-    let cells = moved(alloc, vec![in alloc; packet(0)]?)?;
+    let cells = moved(alloc, vec![in alloc; cell(0)]?)?;
     assert!(rt; shows(cells.first(), NULL_PID, &[0xFF]));
     Ok(())
 }

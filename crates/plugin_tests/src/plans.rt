@@ -1,107 +1,139 @@
 use chain_args::{InputConf, OutputConf, Plan, WordsFault, WordsRule, plan};
 use plug_set::PluginConf;
 use std::alloc::Global;
+use std::process::Abort;
 use std::test::Fail;
 
-// The words of a line, cut at each blank. No line at all is no word.
-fn words_of(alloc: Global, line: &str) -> Result<Vec<String>, Fail> {
-    let mut words = Vec::new(alloc);
-    if !line.is_empty() {
-        for word in line.split(' ') {
-            words.push(String::from_str(alloc, word)?)?;
-        }
-    }
-    Ok(words)
-}
-
-fn plan_of_line(alloc: Global, line: &str) -> Result<Result<Plan, WordsFault>, Fail> {
-    let words = words_of(alloc, line)?;
-    Ok(plan(alloc, words.as_slice()))
-}
-
-#[test]
-fn first_broken_rules(rt: HostRuntime) -> Result<(), Fail> {
-    let rows = [
-        ("-I null 2 -P filter -O drop", 3, WordsRule::Missing),
-        ("-I null 2 -I null 3", 3, WordsRule::Twice),
-        ("-I null 2 -P", 3, WordsRule::NoName),
-        ("-I null 2 -P filter --pid 8192", 3, WordsRule::Value),
-        ("-I null 2 -P filter --pid 1 --pid 2", 3, WordsRule::Shape),
-        (
-            "-I null 1 -P filter --pid 1 --set-label 32 -O drop",
-            3,
-            WordsRule::Value,
-        ),
-        ("-I file A -P nosuch -O drop", 3, WordsRule::UnknownPlugin),
-        ("--buffer-packets 0", 0, WordsRule::Value),
-        ("-I null 1 -I", 3, WordsRule::Twice),
-        ("-P filter --pcr -I -O drop", 3, WordsRule::NoName),
-        ("-P -x", 0, WordsRule::UnknownPlugin),
-        ("-P ", 0, WordsRule::UnknownPlugin),
-        ("-P nosuch -I null", 0, WordsRule::UnknownPlugin),
-        ("-I null -P nosuch", 0, WordsRule::Missing),
-        ("-I testgen 1", 0, WordsRule::Missing),
-        ("-I testgen 1 2 3", 0, WordsRule::Shape),
-        ("filter", 0, WordsRule::Shape),
-        ("--help", 0, WordsRule::Shape),
-        ("-O drop x", 0, WordsRule::Shape),
-        ("-I null 2 3", 0, WordsRule::Shape),
-    ];
-    for (line, word, rule) in rows {
-        let fault = plan_of_line(rt.alloc(), line)?.err();
-        assert!(rt; fault == Some(WordsFault::At { word, rule }), "{line}");
+/// Puts the words of a line, cut at each blank, behind others.
+fn push_words(alloc: Global, words: &mut Vec<String>, line: &str) -> Result<(), Fail> {
+    for word in line.split(' ') {
+        words.push(String::from_str(alloc, word)?)?;
     }
     Ok(())
 }
 
+/// The words of a line. No line at all is no word.
+fn words_of(alloc: Global, line: &str) -> Result<Vec<String>, Fail> {
+    let mut words = Vec::new(alloc);
+    if !line.is_empty() {
+        push_words(alloc, &mut words, line)?;
+    }
+    Ok(words)
+}
+
+/// The plan of a line that has one, in a box: it is large.
+fn plan_of_line(alloc: Global, line: &str) -> Result<Box<Plan>, Fail> {
+    let words = words_of(alloc, line)?;
+    match plan(alloc, &words) {
+        Ok(plan) => Ok(Box::new(alloc, plan)?),
+        Err(_) => Err("a plan".into()),
+    }
+}
+
+/// Why words have no plan.
+fn fault_of(alloc: Global, words: &[String]) -> Option<WordsFault> {
+    plan(alloc, words).err()
+}
+
+/// Why a line has no plan.
+fn fault_of_line(alloc: Global, line: &str) -> Result<Option<WordsFault>, Fail> {
+    let words = words_of(alloc, line)?;
+    Ok(fault_of(alloc, &words))
+}
+
+/// Lines, the first word of the segment that breaks a rule, and the rule.
+static FIRST_BROKEN: [(&str, usize, WordsRule); 20] = [
+    ("-I null 2 -P filter -O drop", 3, WordsRule::Missing),
+    ("-I null 2 -I null 3", 3, WordsRule::Twice),
+    ("-I null 2 -P", 3, WordsRule::NoName),
+    ("-I null 2 -P filter --pid 8192", 3, WordsRule::Value),
+    ("-I null 2 -P filter --pid 1 --pid 2", 3, WordsRule::Shape),
+    (
+        "-I null 1 -P filter --pid 1 --set-label 32 -O drop",
+        3,
+        WordsRule::Value,
+    ),
+    ("-I file A -P nosuch -O drop", 3, WordsRule::UnknownPlugin),
+    ("--buffer-packets 0", 0, WordsRule::Value),
+    ("-I null 1 -I", 3, WordsRule::Twice),
+    ("-P filter --pcr -I -O drop", 3, WordsRule::NoName),
+    ("-P -x", 0, WordsRule::UnknownPlugin),
+    ("-P ", 0, WordsRule::UnknownPlugin),
+    ("-P nosuch -I null", 0, WordsRule::UnknownPlugin),
+    ("-I null -P nosuch", 0, WordsRule::Missing),
+    ("-I testgen 1", 0, WordsRule::Missing),
+    ("-I testgen 1 2 3", 0, WordsRule::Shape),
+    ("filter", 0, WordsRule::Shape),
+    ("--help", 0, WordsRule::Shape),
+    ("-O drop x", 0, WordsRule::Shape),
+    ("-I null 2 3", 0, WordsRule::Shape),
+];
+
 #[test]
-fn forms_of_values(rt: HostRuntime) -> Result<(), Fail> {
-    let rows = [
-        ("-P filter --pid -x", Some(WordsRule::Shape)),
-        ("-P filter --pid --", Some(WordsRule::Shape)),
-        ("-P filter --pc", Some(WordsRule::Shape)),
-        ("-P filter --pcr=", Some(WordsRule::Shape)),
-        ("-P filter -- --pcr", Some(WordsRule::Shape)),
-        ("-P filter --pid=-1", Some(WordsRule::Value)),
-        ("-P filter --pid -", Some(WordsRule::Value)),
-        ("-P filter --pid=", Some(WordsRule::Value)),
-        ("-P filter --pid ", Some(WordsRule::Value)),
-        ("-P filter --pid +1", Some(WordsRule::Value)),
-        ("-P filter --pid 0X10", Some(WordsRule::Value)),
-        ("-P filter --pid 0x", Some(WordsRule::Value)),
-        ("-P filter --pid 5-3", Some(WordsRule::Value)),
-        ("-P filter --pid 1,,2", Some(WordsRule::Value)),
-        ("-P filter --pid 1-2-3", Some(WordsRule::Value)),
-        ("-I null 1099511627777", Some(WordsRule::Value)),
-        ("-I null 99999999999999999999", Some(WordsRule::Value)),
-        ("--add-input-stuffing 1=2", Some(WordsRule::Value)),
-        ("--add-input-stuffing 1/0", Some(WordsRule::Value)),
-        ("--", None),
-        ("", None),
-        ("-P filter --pcr --", None),
-        ("-P filter --pid 0x1fFf,0-3,0007", None),
-        ("-I null 0x10000000000", None),
-        ("-I testgen 1 1099511627777", Some(WordsRule::Value)),
-        ("-I testgen 18446744073709551616 1", Some(WordsRule::Value)),
-        ("-I testgen 18446744073709551615 0x10000000000", None),
-        ("-I file ", None),
-        ("-I file -", None),
-    ];
+fn first_broken_rules(rt: HostRuntime) -> Result<(), Fail> {
+    for (line, word, rule) in &FIRST_BROKEN {
+        let fault = fault_of_line(rt.alloc(), line)?;
+        let wanted = WordsFault::At {
+            word: *word,
+            rule: *rule,
+        };
+        assert!(rt; fault == Some(wanted), "{line}");
+    }
+    Ok(())
+}
+
+/// Looks which rule the only segment of each line breaks, if it does.
+fn break_rules(
+    rt: &(impl Abort + AllocGlobal),
+    rows: &[(&str, Option<WordsRule>)],
+) -> Result<(), Fail> {
     for (line, rule) in rows {
-        let fault = plan_of_line(rt.alloc(), line)?.err();
+        let fault = fault_of_line(rt.alloc(), line)?;
         let wanted = rule.map(|rule| WordsFault::At { word: 0, rule });
         assert!(rt; fault == wanted, "{line}");
     }
     Ok(())
 }
 
+static FORMS: [(&str, Option<WordsRule>); 29] = [
+    ("-P filter --pid -x", Some(WordsRule::Shape)),
+    ("-P filter --pid --", Some(WordsRule::Shape)),
+    ("-P filter --pc", Some(WordsRule::Shape)),
+    ("-P filter --pcr=", Some(WordsRule::Shape)),
+    ("-P filter -- --pcr", Some(WordsRule::Shape)),
+    ("-P filter --pid=-1", Some(WordsRule::Value)),
+    ("-P filter --pid -", Some(WordsRule::Value)),
+    ("-P filter --pid=", Some(WordsRule::Value)),
+    ("-P filter --pid ", Some(WordsRule::Value)),
+    ("-P filter --pid +1", Some(WordsRule::Value)),
+    ("-P filter --pid 0X10", Some(WordsRule::Value)),
+    ("-P filter --pid 0x", Some(WordsRule::Value)),
+    ("-P filter --pid 5-3", Some(WordsRule::Value)),
+    ("-P filter --pid 1,,2", Some(WordsRule::Value)),
+    ("-P filter --pid 1-2-3", Some(WordsRule::Value)),
+    ("-I null 1099511627777", Some(WordsRule::Value)),
+    ("-I null 99999999999999999999", Some(WordsRule::Value)),
+    ("--add-input-stuffing 1=2", Some(WordsRule::Value)),
+    ("--add-input-stuffing 1/0", Some(WordsRule::Value)),
+    ("--", None),
+    ("", None),
+    ("-P filter --pcr --", None),
+    ("-P filter --pid 0x1fFf,0-3,0007", None),
+    ("-I null 0x10000000000", None),
+    ("-I testgen 1 1099511627777", Some(WordsRule::Value)),
+    ("-I testgen 18446744073709551616 1", Some(WordsRule::Value)),
+    ("-I testgen 18446744073709551615 0x10000000000", None),
+    ("-I file ", None),
+    ("-I file -", None),
+];
+
 #[test]
-fn a_whole_plan(rt: HostRuntime) -> Result<(), Fail> {
-    let line =
-        "--add-input-stuffing 1/2 --buffer-packets=7 --ignore-joint-termination -I null 4 -P filter --pid 0x1FFF,5-7 --negate --only-label 0-3 -O drop";
-    let Ok(plan) = plan_of_line(rt.alloc(), line)? else {
-        return Err(Fail::from("a plan"));
-    };
+fn forms_of_values(rt: HostRuntime) -> Result<(), Fail> {
+    break_rules(&rt, &FORMS)
+}
+
+/// Looks at the plan of the line below.
+fn is_whole(rt: &impl Abort, plan: &Plan) -> Result<(), Fail> {
     assert!(rt; plan.general.add_input_stuffing == (1, 2));
     assert!(rt; plan.general.buffer_packets == Some(7) && plan.general.ignore_joint_termination);
     assert!(rt; matches!(plan.input, InputConf::Null(4)));
@@ -122,10 +154,15 @@ fn a_whole_plan(rt: HostRuntime) -> Result<(), Fail> {
 }
 
 #[test]
-fn what_holds_without_words(rt: HostRuntime) -> Result<(), Fail> {
-    let Ok(plan) = plan_of_line(rt.alloc(), "")? else {
-        return Err(Fail::from("a plan"));
-    };
+fn a_whole_plan(rt: HostRuntime) -> Result<(), Fail> {
+    let line =
+        "--add-input-stuffing 1/2 --buffer-packets=7 --ignore-joint-termination -I null 4 -P filter --pid 0x1FFF,5-7 --negate --only-label 0-3 -O drop";
+    let plan = plan_of_line(rt.alloc(), line)?;
+    is_whole(&rt, &*plan)
+}
+
+/// Looks at the plan of no words.
+fn is_plain(rt: &impl Abort, plan: &Plan) {
     assert!(rt; plan.general.buffer_packets.is_none());
     assert!(rt; plan.general.max_flushed_packets.is_none());
     assert!(rt; plan.general.max_input_packets.is_none());
@@ -133,113 +170,114 @@ fn what_holds_without_words(rt: HostRuntime) -> Result<(), Fail> {
     assert!(rt; matches!(&plan.input, InputConf::File(name) if name.as_str().is_empty()));
     assert!(rt; matches!(&plan.output, OutputConf::File(name) if name.as_str().is_empty()));
     assert!(rt; plan.plugins.as_slice().is_empty());
+}
+
+#[test]
+fn what_holds_without_words(rt: HostRuntime) -> Result<(), Fail> {
+    let plan = plan_of_line(rt.alloc(), "")?;
+    is_plain(&rt, &*plan);
     Ok(())
+}
+
+/// The words of so many plugins.
+fn many_plugins(alloc: Global, count: usize) -> Result<Vec<String>, Fail> {
+    let mut words = Vec::new(alloc);
+    for _ in 0..count {
+        push_words(alloc, &mut words, "-P filter --pcr")?;
+    }
+    Ok(words)
+}
+
+/// Why so many plugins have no plan.
+fn fault_of_plugins(alloc: Global, count: usize) -> Result<Option<WordsFault>, Fail> {
+    let words = many_plugins(alloc, count)?;
+    Ok(fault_of(alloc, &words))
 }
 
 #[test]
 fn the_63rd_plugin(rt: HostRuntime) -> Result<(), Fail> {
-    let mut words = Vec::new(rt.alloc());
-    for _ in 0..63 {
-        for word in ["-P", "filter", "--pcr"] {
-            words.push(String::from_str(rt.alloc(), word)?)?;
-        }
-    }
     let fault = WordsFault::At {
         word: 186,
         rule: WordsRule::TooMany,
     };
-    assert!(rt; plan(rt.alloc(), words.as_slice()).err() == Some(fault));
-    words.truncate(186);
-    assert!(rt; plan(rt.alloc(), words.as_slice()).is_ok());
+    assert!(rt; fault_of_plugins(rt.alloc(), 63)? == Some(fault));
+    assert!(rt; fault_of_plugins(rt.alloc(), 62)?.is_none());
     Ok(())
 }
+
+static OF_PLUGINS: [(&str, Option<WordsRule>); 35] = [
+    ("-P skip", Some(WordsRule::Missing)),
+    ("-P skip 1 2", Some(WordsRule::Shape)),
+    ("-P skip 1099511627777", Some(WordsRule::Value)),
+    ("-P skip 0x10000000000", None),
+    ("-P slice", Some(WordsRule::Missing)),
+    ("-P slice --drop 1 --pass x", Some(WordsRule::Value)),
+    ("-P slice --drop 1 --pass 0x1", Some(WordsRule::Conflict)),
+    ("-P slice --drop 1 --pass 3 --stop 4", None),
+    ("-P pattern", Some(WordsRule::Missing)),
+    ("-P pattern --pid x", Some(WordsRule::Missing)),
+    ("-P pattern ", Some(WordsRule::Value)),
+    ("-P pattern ABC", Some(WordsRule::Value)),
+    ("-P pattern 0xAB", Some(WordsRule::Value)),
+    ("-P pattern abCD --offset-pusi 184", Some(WordsRule::Value)),
+    ("-P pattern abCD --offset-non-pusi 182", None),
+    ("-P until", Some(WordsRule::Missing)),
+    ("-P until --packets 0", Some(WordsRule::Value)),
+    ("-P until --packets 1 --bytes 1", Some(WordsRule::Conflict)),
+    ("-P until --packets 1 --joint-termination", None),
+    (
+        "-P until --packets 1 --joint-termination --exclude-last",
+        Some(WordsRule::Conflict),
+    ),
+    (
+        "-P until --packets 1 --joint-termination=1",
+        Some(WordsRule::Shape),
+    ),
+    ("-P until --unit-start-count 2 --exclude-last", None),
+    ("-P count x", Some(WordsRule::Shape)),
+    ("-P count --all --total --negate", None),
+    ("-P continuity --fix --pid 0-8192", Some(WordsRule::Value)),
+    ("-P continuity --fix", None),
+    ("-P remap --no-psi", Some(WordsRule::Missing)),
+    ("-P remap 1=2", None),
+    ("-P remap 1/2 --no-psi", Some(WordsRule::Value)),
+    ("-P remap 1=8192 --no-psi", Some(WordsRule::Value)),
+    ("-P remap 1=2 1=3 --no-psi", Some(WordsRule::Conflict)),
+    ("-P remap 8191=1 --no-psi", Some(WordsRule::Conflict)),
+    ("-P remap 1=3 2=3 --no-psi", Some(WordsRule::Conflict)),
+    ("-P remap 1=3 2=3 --no-psi --unchecked", None),
+    ("-P remap 1=2 --no-psi 3=8191", None),
+];
 
 #[test]
 fn words_of_plugins(rt: HostRuntime) -> Result<(), Fail> {
-    let rows = [
-        ("-P skip", Some(WordsRule::Missing)),
-        ("-P skip 1 2", Some(WordsRule::Shape)),
-        ("-P skip 1099511627777", Some(WordsRule::Value)),
-        ("-P skip 0x10000000000", None),
-        ("-P slice", Some(WordsRule::Missing)),
-        ("-P slice --drop 1 --pass x", Some(WordsRule::Value)),
-        ("-P slice --drop 1 --pass 0x1", Some(WordsRule::Conflict)),
-        ("-P slice --drop 1 --pass 3 --stop 4", None),
-        ("-P pattern", Some(WordsRule::Missing)),
-        ("-P pattern --pid x", Some(WordsRule::Missing)),
-        ("-P pattern ", Some(WordsRule::Value)),
-        ("-P pattern ABC", Some(WordsRule::Value)),
-        ("-P pattern 0xAB", Some(WordsRule::Value)),
-        ("-P pattern abCD --offset-pusi 184", Some(WordsRule::Value)),
-        ("-P pattern abCD --offset-non-pusi 182", None),
-        ("-P until", Some(WordsRule::Missing)),
-        ("-P until --packets 0", Some(WordsRule::Value)),
-        ("-P until --packets 1 --bytes 1", Some(WordsRule::Conflict)),
-        ("-P until --packets 1 --joint-termination", None),
-        (
-            "-P until --packets 1 --joint-termination --exclude-last",
-            Some(WordsRule::Conflict),
-        ),
-        (
-            "-P until --packets 1 --joint-termination=1",
-            Some(WordsRule::Shape),
-        ),
-        ("-P until --unit-start-count 2 --exclude-last", None),
-        ("-P count x", Some(WordsRule::Shape)),
-        ("-P count --all --total --negate", None),
-        ("-P continuity --fix --pid 0-8192", Some(WordsRule::Value)),
-        ("-P continuity --fix", None),
-        ("-P remap --no-psi", Some(WordsRule::Missing)),
-        ("-P remap 1=2", None),
-        ("-P remap 1/2 --no-psi", Some(WordsRule::Value)),
-        ("-P remap 1=8192 --no-psi", Some(WordsRule::Value)),
-        ("-P remap 1=2 1=3 --no-psi", Some(WordsRule::Conflict)),
-        ("-P remap 8191=1 --no-psi", Some(WordsRule::Conflict)),
-        ("-P remap 1=3 2=3 --no-psi", Some(WordsRule::Conflict)),
-        ("-P remap 1=3 2=3 --no-psi --unchecked", None),
-        ("-P remap 1=2 --no-psi 3=8191", None),
-    ];
-    for (line, rule) in rows {
-        let fault = plan_of_line(rt.alloc(), line)?.err();
-        let wanted = rule.map(|rule| WordsFault::At { word: 0, rule });
-        assert!(rt; fault == wanted, "{line}");
-    }
-    Ok(())
+    break_rules(&rt, &OF_PLUGINS)
 }
+
+static OF_LABELS: [(&str, Option<WordsRule>); 8] = [
+    ("-P filter --set-label 3", Some(WordsRule::Missing)),
+    ("-P filter --label 32", Some(WordsRule::Value)),
+    ("-P filter --label 0-31 --set-label 3", None),
+    (
+        "-P filter --pid 1 --set-label 3 --stuffing",
+        Some(WordsRule::Conflict),
+    ),
+    (
+        "-P filter --pid 1 --set-label 3 --stuffing --only-label 32",
+        Some(WordsRule::Value),
+    ),
+    ("-P skip --only-label 32", Some(WordsRule::Missing)),
+    ("-P skip 1 --only-label 31", None),
+    ("-P count --only-label", Some(WordsRule::Shape)),
+];
 
 #[test]
 fn words_of_labels(rt: HostRuntime) -> Result<(), Fail> {
-    let rows = [
-        ("-P filter --set-label 3", Some(WordsRule::Missing)),
-        ("-P filter --label 32", Some(WordsRule::Value)),
-        ("-P filter --label 0-31 --set-label 3", None),
-        (
-            "-P filter --pid 1 --set-label 3 --stuffing",
-            Some(WordsRule::Conflict),
-        ),
-        (
-            "-P filter --pid 1 --set-label 3 --stuffing --only-label 32",
-            Some(WordsRule::Value),
-        ),
-        ("-P skip --only-label 32", Some(WordsRule::Missing)),
-        ("-P skip 1 --only-label 31", None),
-        ("-P count --only-label", Some(WordsRule::Shape)),
-    ];
-    for (line, rule) in rows {
-        let fault = plan_of_line(rt.alloc(), line)?.err();
-        let wanted = rule.map(|rule| WordsFault::At { word: 0, rule });
-        assert!(rt; fault == wanted, "{line}");
-    }
-    Ok(())
+    break_rules(&rt, &OF_LABELS)
 }
 
-#[test]
-fn settings_of_plugins(rt: HostRuntime) -> Result<(), Fail> {
-    let line =
-        "-P pattern abCD --offset-non-pusi 182 -P slice --drop 1 --stop 4 -P remap 1=2 --no-psi 3=4";
-    let Ok(plan) = plan_of_line(rt.alloc(), line)? else {
-        return Err(Fail::from("a plan"));
-    };
+/// Looks at the plan of the line below.
+fn has_settings(rt: &impl Abort, plan: &Plan) -> Result<(), Fail> {
     let [first, second, third] = plan.plugins.as_slice() else {
         return Err(Fail::from("three plugins"));
     };
@@ -260,17 +298,35 @@ fn settings_of_plugins(rt: HostRuntime) -> Result<(), Fail> {
 }
 
 #[test]
-fn many_pairs(rt: HostRuntime) -> Result<(), Fail> {
-    let mut words = words_of(rt.alloc(), "-P remap --no-psi --unchecked")?;
-    for source in 0..1001 {
-        words.push(format!(in rt.alloc(); "{source}=8191")?)?;
+fn settings_of_plugins(rt: HostRuntime) -> Result<(), Fail> {
+    let line =
+        "-P pattern abCD --offset-non-pusi 182 -P slice --drop 1 --stop 4 -P remap 1=2 --no-psi 3=4";
+    let plan = plan_of_line(rt.alloc(), line)?;
+    has_settings(&rt, &*plan)
+}
+
+/// The words of a `remap` with so many pairs of one target.
+fn pairs_of_one_target(alloc: Global, count: u32) -> Result<Vec<String>, Fail> {
+    let mut words = words_of(alloc, "-P remap --no-psi --unchecked")?;
+    for source in 0..count {
+        words.push(format!(in alloc; "{source}=8191")?)?;
     }
+    Ok(words)
+}
+
+/// Why so many have no plan.
+fn fault_of_pairs(alloc: Global, count: u32) -> Result<Option<WordsFault>, Fail> {
+    let words = pairs_of_one_target(alloc, count)?;
+    Ok(fault_of(alloc, &words))
+}
+
+#[test]
+fn many_pairs(rt: HostRuntime) -> Result<(), Fail> {
     let fault = WordsFault::At {
         word: 0,
         rule: WordsRule::Conflict,
     };
-    assert!(rt; plan(rt.alloc(), words.as_slice()).err() == Some(fault));
-    words.pop();
-    assert!(rt; plan(rt.alloc(), words.as_slice()).is_ok());
+    assert!(rt; fault_of_pairs(rt.alloc(), 1001)? == Some(fault));
+    assert!(rt; fault_of_pairs(rt.alloc(), 1000)?.is_none());
     Ok(())
 }

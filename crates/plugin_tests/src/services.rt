@@ -3,22 +3,30 @@
 
 ghost use Rattle.std.specs.Prelude.{[]};
 
+use crate::cells::{bytes_from, live};
 use plug_service::{Svremove, SvremoveConf, Zap, ZapConf};
 use plugin_trait::{Plugin, apply_plugin};
 use std::alloc::Global;
+use std::process::Abort;
 use std::test::Fail;
-use ts_packet::{Cell, Labels};
+use ts_packet::Cell;
 use ts_testgen::TestGen;
 
-/// What a plugin makes of the first hundred packets.
-fn made_of_stream<P: Plugin + Drop>(alloc: Global, mut plugin: P) -> Result<Vec<Cell>, Fail>
-    requires { P.stands_for plugin [] 0 }
-{
+/// The first hundred packets.
+fn stream(alloc: Global) -> Result<Vec<Cell>, Fail> {
     let mut cells = Vec::new(alloc);
     let mut generator = TestGen::new(alloc, 7)?;
     for _ in 0..100_usize {
-        cells.push(Cell::of(generator.next_packet(), Labels::none()))?;
+        cells.push(live(generator.next_packet()))?;
     }
+    Ok(cells)
+}
+
+/// What a plugin makes of them.
+fn made_of_stream<P: Plugin + Drop>(alloc: Global, mut plugin: P) -> Result<Vec<Cell>, Fail>
+    requires { P.stands_for plugin [] 0 }
+{
+    let mut cells = stream(alloc)?;
     let _end = apply_plugin(&mut plugin, &mut cells);
     Ok(cells)
 }
@@ -36,59 +44,62 @@ fn count_of(cells: &[Cell], pid: u16) -> usize {
     count
 }
 
-/// The bytes of the first packet behind its header and its pointer.
-fn first_bytes(cells: &[Cell]) -> &[u8] {
-    let Some(cell) = cells.first() else {
-        return &[];
-    };
-    match cell.live() {
-        Some(live) => &live.packet.bytes()[5..],
-        None => &[],
+/// Looks whether so many packets have each of these PIDs.
+fn has_each(rt: &impl Abort, cells: &[Cell], pids: &[u16], count: usize) {
+    for pid in pids {
+        assert_eq!(rt; count_of(cells, *pid), count);
     }
 }
 
-#[test]
-fn a_service_is_kept(rt: HostRuntime) -> Result<(), Fail> {
+/// Looks at the bytes of the first packet behind its header and its pointer.
+fn begins(rt: &impl Abort, cells: &[Cell], wanted: &[u8]) {
+    assert!(rt; matches!(cells.first(), Some(cell) if bytes_from(cell, 5).starts_with(wanted)));
+}
+
+/// What is left where service 1 is kept.
+fn kept(alloc: Global) -> Result<Vec<Cell>, Fail> {
     let conf = ZapConf {
         service: 1,
         stuffing: false,
     };
-    let cells = made_of_stream(rt.alloc(), Zap::new(rt.alloc(), &conf, 1)?)?;
+    made_of_stream(alloc, Zap::new(alloc, &conf, 1)?)
+}
+
+#[test]
+fn a_service_is_kept(rt: HostRuntime) -> Result<(), Fail> {
+    let cells = kept(rt.alloc())?;
     assert_eq!(rt; cells.len(), 100);
-    for pid in [258, 259, 4097, 8191] {
-        assert_eq!(rt; count_of(&cells, pid), 0);
-    }
-    for pid in [0, 17, 4096] {
-        assert_eq!(rt; count_of(&cells, pid), 2);
-    }
+    has_each(&rt, &cells, &[258, 259, 4097, 8191], 0);
+    has_each(&rt, &cells, &[0, 17, 4096], 2);
     assert!(rt; count_of(&cells, 256) > 2);
     assert!(rt; count_of(&cells, 257) > 2);
     let wanted = [
         0x00, 0xB0, 0x0D, 0x00, 0x01, 0xC1, 0x00, 0x00, 0x00, 0x01, 0xF0, 0x00,
     ];
-    assert_eq!(rt; first_bytes(&cells).get(..12), Some(wanted.as_slice()));
+    begins(&rt, &cells, &wanted);
     Ok(())
 }
 
-#[test]
-fn a_service_is_removed(rt: HostRuntime) -> Result<(), Fail> {
+/// What is left where service 1 is taken out.
+fn without_it(alloc: Global) -> Result<Vec<Cell>, Fail> {
     let conf = SvremoveConf {
         service: 1,
         stuffing: true,
     };
-    let cells = made_of_stream(rt.alloc(), Svremove::new(rt.alloc(), &conf, 1)?)?;
+    made_of_stream(alloc, Svremove::new(alloc, &conf, 1)?)
+}
+
+#[test]
+fn a_service_is_removed(rt: HostRuntime) -> Result<(), Fail> {
+    let cells = without_it(rt.alloc())?;
     assert_eq!(rt; cells.len(), 100);
-    for pid in [257, 4096] {
-        assert_eq!(rt; count_of(&cells, pid), 0);
-    }
-    for pid in [0, 17, 4097] {
-        assert_eq!(rt; count_of(&cells, pid), 2);
-    }
+    has_each(&rt, &cells, &[257, 4096], 0);
+    has_each(&rt, &cells, &[0, 17, 4097], 2);
     assert!(rt; count_of(&cells, 256) > 2);
     assert!(rt; count_of(&cells, 8191) > 12);
     let wanted = [
         0x00, 0xB0, 0x0D, 0x00, 0x01, 0xC1, 0x00, 0x00, 0x00, 0x02, 0xF0, 0x01,
     ];
-    assert_eq!(rt; first_bytes(&cells).get(..12), Some(wanted.as_slice()));
+    begins(&rt, &cells, &wanted);
     Ok(())
 }

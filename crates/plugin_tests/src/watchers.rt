@@ -1,9 +1,11 @@
 ghost use Rattle.std.specs.Prelude.{◌<◌, ◌≤◌, ◌^◌, [], IfOk, vec_len};
 
+use crate::cells::counter_of;
 use plug_conf::NumberSet;
 use plug_watch::{Continuity, ContinuityConf, Count, CountConf};
 use plugin_trait::{Line, ListEnd, Plugin, apply_plugin, report};
 use std::alloc::{AllocError, Global};
+use std::process::Abort;
 use std::test::Fail;
 use ts_packet::{Cell, Labels, Packet};
 
@@ -16,11 +18,6 @@ fn packet(pid: u16, counter: u8) -> Cell
     packet.set_pid(pid);
     packet.set_counter(counter);
     Cell::of(packet, Labels::none())
-}
-
-/// The counter of a cell's packet.
-fn counter_of(cell: &Cell) -> Option<u8> {
-    cell.live().map(|live| live.packet.counter())
 }
 
 /// How a plugin leaves a list of cells, and what it reports of the first of those that it met.
@@ -38,52 +35,67 @@ fn run<P: Plugin + Drop>(
     Ok((end, lines))
 }
 
+/// Looks at the texts of lines.
+fn are_lines(rt: &impl Abort, lines: &[Line], wanted: &[&str]) {
+    assert_eq!(rt; lines.len(), wanted.len());
+    for (line, text) in lines.iter().zip(wanted) {
+        assert_eq!(rt; line.text.as_str(), *text);
+    }
+}
+
+/// What is counted of four packets and a dropped cell, up to a cut.
+fn counted(alloc: Global, all: bool, total: bool, cut: u64) -> Result<Vec<Line>, Fail> {
+    let mut cells = vec![in alloc;
+        packet(256, 0),
+        packet(257, 0),
+        Cell::dropped(),
+        packet(256, 1),
+        packet(258, 0),
+    ]?;
+    let conf = CountConf {
+        pid: NumberSet::of(Vec::new(alloc)),
+        negate: true,
+        all,
+        total,
+    };
+    let (_, lines) = run(Count::new(alloc, &conf, 4)?, &mut cells, cut)?;
+    Ok(lines)
+}
+
 #[test]
 fn count_counts_to_the_cut(rt: HostRuntime) -> Result<(), Fail> {
-    let rows = [
-        (
-            true,
-            false,
-            3,
-            [
-                "packet 0 pid 256",
-                "packet 1 pid 257",
-                "pid 256 packets 1",
-                "pid 257 packets 1",
-                "total 2",
-            ]
-            .as_slice(),
-        ),
-        (
-            false,
-            false,
-            4,
-            ["pid 256 packets 2", "pid 257 packets 1", "total 3"].as_slice(),
-        ),
-        (false, true, 4, ["total 3"].as_slice()),
-    ];
-    for (all, total, cut, wanted) in rows {
-        let conf = CountConf {
-            pid: NumberSet::of(Vec::new(rt.alloc())),
-            negate: true,
-            all,
-            total,
-        };
-        let mut cells = vec![in rt.alloc();
-            packet(256, 0),
-            packet(257, 0),
-            Cell::dropped(),
-            packet(256, 1),
-            packet(258, 0),
-        ]?;
-        let count = Count::new(rt.alloc(), &conf, 4)?;
-        let (_, lines) = run(count, &mut cells, cut)?;
-        assert_eq!(rt; lines.len(), wanted.len());
-        for (line, text) in lines.iter().zip(wanted) {
-            assert_eq!(rt; line.text.as_str(), *text);
-        }
-    }
+    are_lines(
+        &rt,
+        &counted(rt.alloc(), true, false, 3)?,
+        &[
+            "packet 0 pid 256",
+            "packet 1 pid 257",
+            "pid 256 packets 1",
+            "pid 257 packets 1",
+            "total 2",
+        ],
+    );
+    are_lines(
+        &rt,
+        &counted(rt.alloc(), false, false, 4)?,
+        &["pid 256 packets 2", "pid 257 packets 1", "total 3"],
+    );
+    are_lines(&rt, &counted(rt.alloc(), false, true, 4)?, &["total 3"]);
     Ok(())
+}
+
+/// How the counting of three packets ends with room for so many in its buffer, how many cells are left, and what it
+/// says.
+fn counted_in(alloc: Global, buffer: usize) -> Result<(ListEnd, usize, Vec<Line>), Fail> {
+    let mut cells = vec![in alloc; packet(256, 0), packet(256, 1), packet(257, 0)]?;
+    let conf = CountConf {
+        pid: NumberSet::of(Vec::new(alloc)),
+        negate: false,
+        all: false,
+        total: true,
+    };
+    let (end, lines) = run(Count::new(alloc, &conf, buffer)?, &mut cells, 3)?;
+    Ok((end, cells.len(), lines))
 }
 
 #[test]
@@ -94,44 +106,35 @@ fn count_ends_where_its_buffer_is_full(rt: HostRuntime) -> Result<(), Fail> {
         (3, ListEnd::Through, 3, "total 3"),
     ];
     for (buffer, wanted_end, wanted_cells, text) in rows {
-        let conf = CountConf {
-            pid: NumberSet::of(Vec::new(rt.alloc())),
-            negate: false,
-            all: false,
-            total: true,
-        };
-        let mut cells = vec![in rt.alloc(); packet(256, 0), packet(256, 1), packet(257, 0)]?;
-        let count = Count::new(rt.alloc(), &conf, buffer)?;
-        let (end, lines) = run(count, &mut cells, 3)?;
+        let (end, cells, lines) = counted_in(rt.alloc(), buffer)?;
         assert_eq!(rt; end, wanted_end);
-        assert_eq!(rt; cells.len(), wanted_cells);
-        assert_eq!(rt; lines.len(), 1);
-        for line in &lines {
-            assert_eq!(rt; line.text.as_str(), text);
-        }
+        assert_eq!(rt; cells, wanted_cells);
+        are_lines(&rt, &lines, &[text]);
     }
     Ok(())
 }
 
-#[test]
-fn continuity_reports_and_fixes(rt: HostRuntime) -> Result<(), Fail> {
-    let conf = ContinuityConf {
-        pid: NumberSet::of(Vec::new(rt.alloc())),
-        fix: true,
-    };
-    let mut cells = vec![in rt.alloc();
+/// What the plugin says of four packets of which the third jumps and the last stays, and what it makes of them.
+fn fixed(alloc: Global) -> Result<(Vec<Cell>, Vec<Line>), Fail> {
+    let mut cells = vec![in alloc;
         packet(256, 5),
         packet(256, 6),
         packet(256, 8),
         packet(256, 8),
     ]?;
-    let continuity = Continuity::new(rt.alloc(), &conf, 1)?;
-    let (_, lines) = run(continuity, &mut cells, 4)?;
+    let conf = ContinuityConf {
+        pid: NumberSet::of(Vec::new(alloc)),
+        fix: true,
+    };
+    let (_, lines) = run(Continuity::new(alloc, &conf, 1)?, &mut cells, 4)?;
+    Ok((cells, lines))
+}
+
+#[test]
+fn continuity_reports_and_fixes(rt: HostRuntime) -> Result<(), Fail> {
+    let (cells, lines) = fixed(rt.alloc())?;
     let wanted = ["packet 2 pid 256 counter 8 wanted 7", "faults 1"];
-    assert_eq!(rt; lines.len(), wanted.len());
-    for (line, text) in lines.iter().zip(wanted) {
-        assert_eq!(rt; line.text.as_str(), text);
-    }
+    are_lines(&rt, &lines, &wanted);
     for (cell, counter) in cells.iter().zip([5, 6, 7, 7]) {
         assert!(rt; counter_of(cell) == Some(counter));
     }

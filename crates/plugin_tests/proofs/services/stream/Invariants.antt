@@ -1,9 +1,9 @@
 use Rattle.std.proofs.Common.{◌≡◌, length}
-use Rattle.plugin_tests.proofs.services.made_of_stream.Given as goal
+use Rattle.plugin_tests.proofs.services.stream.Given as goal
 
 -- each packet so far has its cell
 abbrev pub invariant-loop : goal.invariant-loop
-invariant-loop g l = record {
+invariant-loop l = record {
   so_far : length l.cells.items ≡ l.counter;
   given : l.generator.given ≡ l.counter;
 }
