@@ -34,11 +34,6 @@ pub written-drop-more : (cells : List Cell) (place : ℕ) (cell : Cell) → plac
 written-drop-more cells place cell within here =
     ap written (drop_more cells place cell within ∙ ap (λ (x : Cell). x ∷ drop (place + 1) cells) (sym here))
 
--- a cell that is not live writes nothing
-pub no-bytes : (cell : Cell) → ((packet : List ℕ) (labels : ℕ) → cell ≡ Live packet labels → ⊥) → cell_bytes cell ≡ []
-no-bytes (Live packet labels) not = absurd (not packet labels refl)
-no-bytes Dropped not = refl
-
 -- a byte inside the packet of a live cell
 pub StandsAt-live : (cells : List Cell) (place left byte : ℕ) (cell : Cell) (packet : List ℕ) (labels : ℕ) → place < length cells
     → cell ≡ get_or cells place cell → cell ≡ Live packet labels → left < length packet → byte ≡ length (written (take place cells)) + left

@@ -1,4 +1,4 @@
-use Rattle.std.proofs.Common.{◌≡◌, ◌+◌, ◌-◌, ℕ, List, drop, get_or, ap, ◌∙◌, arith, add-zero}
+use Rattle.std.proofs.Common.{◌+◌, ◌-◌, ℕ, List, drop, get_or, ap, ◌∙◌, arith, add-zero}
 use Rattle.std.proofs.lemmas.List.{get_or-take, get_or-drop}
 use Rattle.stage_run.proofs.packet_row.put_packet.Goals as goal
 

@@ -1,6 +1,5 @@
 use Rattle.std.proofs.Common.{◌≡◌, [], ◌∷◌, ◌++◌, length, replicate, sym, ap, ◌∙◌, arith, refl}
 use Rattle.std.proofs.lemmas.List.{length-replicate}
-use Rattle.ts_packet.specs.Cells.{Dropped}
 use Rattle.window_ring.specs.Hands.{Row, row_of}
 use Rattle.window_ring.specs.Views.{land_of}
 use Rattle.window_ring.specs.declared.view.Key.{Key}
@@ -22,7 +21,7 @@ returns c =
         value = value;
         one = c.push_reserved-2.ensures.items ∙ ap (λ l. l ++ value ∷ []) c.in-Ok-with_capacity.ensures.items;
         stands = starts key value c.whole.result n c.in_ok-core.ensures.plan c.in_ok-core.ensures.stands links (ap (λ (r : Row). r.at) c.whole.ensures) (ap (λ (r : Row). r.land) c.whole.ensures ∙ land)
-            (ap (λ (r : Row). length r.cells) c.whole.ensures ∙ (ap length c.in-Ok-land.ensures.1 ∙ length-replicate plan.buffer Dropped)) (let l = c.fill_links.ensures.2 in omega (arith, l));
+            (ap (λ (r : Row). length r.cells) c.whole.ensures ∙ (ap length c.in-Ok-land.ensures.1 ∙ length-replicate plan.buffer c.dropped.result)) (let l = c.fill_links.ensures.2 in omega (arith, l));
       },
       (let a = c.in-Ok.ensures.len in omega (arith, a)),
       (let a = c.in-Ok.ensures.capacity in omega (arith, a)),
