@@ -19,8 +19,9 @@ use std::marker::Model;
 /// sees it, so that a drop writes one byte.
 #[derive(Drop)]
 pub struct Cell {
-    held: LivePacket,
+    // In front of the packet, so that it lies beside the packet's header.
     is_live: bool,
+    held: LivePacket,
 }
 
 impl Model for Cell {
