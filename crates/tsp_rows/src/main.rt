@@ -1,6 +1,6 @@
 //! Runs worked examples of the whole tool over a desk in memory, by `tsp_call` and by `serial_call`, and prints what each
-//! came to. Then it runs two chains whose gates look at how the
-//! stages work beside one another, and chains with sizes of many kinds, which have to agree in bytes, report and status.
+//! came to. Then it runs chains by `threaded_call` whose gates look at how the stages work beside one another, and chains
+//! with sizes of many kinds, which have to agree in bytes, report and status.
 #![tactic(auto)]
 
 mod carried;
@@ -13,6 +13,7 @@ mod following_gate;
 mod inputs;
 mod keeping_gate;
 mod meeting_gate;
+mod meeting_pairs;
 mod mixed_stream;
 mod outcome;
 mod plugin_rows;
@@ -37,6 +38,7 @@ fn main(rt: HostRuntime) -> Result<()> {
     print_tables(&rt)?;
     windows::print_windows(&rt)?;
     threads::print_threads(&rt)?;
+    meeting_pairs::print_meeting_pairs(&rt)?;
     chains::print_chains(&rt)
 }
 

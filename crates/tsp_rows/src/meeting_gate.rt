@@ -60,8 +60,8 @@ impl Guest {
     }
 }
 
-/// A gate that holds stage 1 inside its second window until stage 2 is inside its first, and stage 2 inside its first
-/// until stage 1 is inside its second. In one thread neither can be inside while the other one enters.
+/// A gate that holds a stage inside its second window until one behind it is inside its first, and that one inside its
+/// first until the other is inside its second. In one thread neither can be inside while the other one enters.
 #[derive(Drop)]
 pub(crate) struct MeetingGate {
     first: Guest,
@@ -69,10 +69,11 @@ pub(crate) struct MeetingGate {
 }
 
 impl MeetingGate {
-    pub(crate) fn new() -> MeetingGate {
+    /// For a stage, and one that stands somewhere behind it.
+    pub(crate) fn between(stage: usize, behind: usize) -> MeetingGate {
         MeetingGate {
-            first: Guest::new(1, 2),
-            second: Guest::new(2, 1),
+            first: Guest::new(stage, 2),
+            second: Guest::new(behind, 1),
         }
     }
 

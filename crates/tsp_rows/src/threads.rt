@@ -1,9 +1,9 @@
-//! Chains by `tsp_call` whose gate looks at how its stages work beside one another.
+//! Chains by `threaded_call` whose gate looks at how its stages work beside one another.
 use crate::following_gate::FollowingGate;
 use crate::inputs::Input;
 use crate::meeting_gate::MeetingGate;
 use crate::outcome::print_outcome;
-use crate::trial::{Case, by_tsp_call, push_words};
+use crate::trial::{Case, by_threaded_call, push_words};
 use crate::trial_desk::Fails;
 use anyhow::Result;
 use std::sync::Wait;
@@ -26,7 +26,7 @@ pub(crate) fn print_threads<R: Threads + Wait + Sync + Print + AllocGlobal>(rt: 
 /// Two stages that are held until they meet: in one thread they never do.
 fn print_meeting<R: Threads + Wait + Sync + Print + AllocGlobal>(rt: &R) -> Result<()> {
     println!(rt; "two stages meet")?;
-    let gate = MeetingGate::new();
+    let gate = MeetingGate::between(1, 2);
     print_call(rt, MEETING_WORDS, &gate)?;
     print_met(rt, gate.have_met())
 }
@@ -66,6 +66,6 @@ fn print_call<R: Threads + Wait + Sync + Print + AllocGlobal, G: Gate>(
         input: Input::Pids(&[]),
         fails: Fails::Never,
     };
-    let trial = by_tsp_call(rt, case, gate)?;
+    let trial = by_threaded_call(rt, case, gate)?;
     print_outcome(rt, &trial)
 }

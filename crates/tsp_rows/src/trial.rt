@@ -5,7 +5,7 @@ use std::alloc::{AllocError, Global};
 use std::sync::Wait;
 use std::thread::Threads;
 use ts_outside::{Gate, MemoryDesk, OpenGate};
-use tsp_top::{Status, serial_call, tsp_call};
+use tsp_top::{Status, serial_call, threaded_call, tsp_call};
 
 /// What is called: the words, what comes in, and which call of the desk fails.
 #[derive(Clone, Copy)]
@@ -59,6 +59,17 @@ pub(crate) fn by_tsp_call<R: Threads + Wait + Sync + AllocGlobal, G: Gate>(
 ) -> Result<Trial, AllocError> {
     let mut desk = filled_desk(rt.alloc(), case.input, case.fails)?;
     let status = tsp_call(rt, rt.alloc(), case.words, &mut *desk, gate);
+    Ok(Trial { desk, status })
+}
+
+/// Calls the tool by `threaded_call`, on a desk of its own: on one processor too each stage has a thread.
+pub(crate) fn by_threaded_call<R: Threads + Wait + Sync + AllocGlobal, G: Gate>(
+    rt: &R,
+    case: Case,
+    gate: &G,
+) -> Result<Trial, AllocError> {
+    let mut desk = filled_desk(rt.alloc(), case.input, case.fails)?;
+    let status = threaded_call(rt, rt.alloc(), case.words, &mut desk, gate);
     Ok(Trial { desk, status })
 }
 
