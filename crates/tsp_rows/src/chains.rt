@@ -1,10 +1,10 @@
 //! Chains with sizes of many kinds: each run has to come to what the run with the sizes by default comes to in one thread.
 use crate::chain_table::{CHAINS, Chain};
+use crate::desk_plan::ORDINARY;
 use crate::inputs::Input;
 use crate::outcome::print_outcome;
 use crate::tally::Tally;
 use crate::trial::{Case, Trial, by_serial_call, by_tsp_call, push_words};
-use crate::trial_desk::Fails;
 use anyhow::Result;
 use std::alloc::{AllocError, Global};
 use std::sync::Wait;
@@ -90,7 +90,7 @@ fn case_of(words: &[String]) -> Case<'_> {
     Case {
         words,
         input: Input::Mixed,
-        fails: Fails::Never,
+        plan: ORDINARY,
     }
 }
 

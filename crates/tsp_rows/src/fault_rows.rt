@@ -1,7 +1,7 @@
 //! Rows on faults of the outside.
+use crate::desk_plan::{DeskPlan, ORDINARY};
 use crate::inputs::Input;
 use crate::row::Row;
-use crate::trial_desk::Fails;
 
 /// Three packets on two PIDs.
 const THREE: [u16; 3] = [256, 257, 256];
@@ -19,13 +19,19 @@ static OPENING_ROWS: [Row; 2] = [
         name: "input not there",
         words: "-I file in -O file out",
         input: Input::Pids(&THREE),
-        fails: Fails::Open(1),
+        plan: DeskPlan {
+            opens: &[1],
+            ..ORDINARY
+        },
     },
     Row {
         name: "output not to be opened",
         words: "-I file in -O file out",
         input: Input::Pids(&THREE),
-        fails: Fails::Open(2),
+        plan: DeskPlan {
+            opens: &[2],
+            ..ORDINARY
+        },
     },
 ];
 
@@ -39,37 +45,55 @@ static RUN_ROWS: [Row; 6] = [
         name: "a failing third read",
         words: "-I file in -O file out",
         input: Input::Pids(&FIVE),
-        fails: Fails::Read(3),
+        plan: DeskPlan {
+            reads: &[3],
+            ..ORDINARY
+        },
     },
     Row {
         name: "until before a failing read",
         words: "-I file in -P until --packets 2 -O file out",
         input: Input::Pids(&FIVE),
-        fails: Fails::Read(3),
+        plan: DeskPlan {
+            reads: &[3],
+            ..ORDINARY
+        },
     },
     Row {
         name: "no stop nulls behind a failing read",
         words: "--add-stop-stuffing 3 -I file in -O file out",
         input: Input::Pids(&FIVE),
-        fails: Fails::Read(3),
+        plan: DeskPlan {
+            reads: &[3],
+            ..ORDINARY
+        },
     },
     Row {
         name: "joint termination before a failing read",
         words: "-I file in -P until --packets 2 --joint-termination -O file out",
         input: Input::Pids(&FIVE),
-        fails: Fails::Read(3),
+        plan: DeskPlan {
+            reads: &[3],
+            ..ORDINARY
+        },
     },
     Row {
         name: "a failing second write",
         words: "-I file in -O file out",
         input: Input::Pids(&[256]),
-        fails: Fails::Write(2),
+        plan: DeskPlan {
+            writes: &[2],
+            ..ORDINARY
+        },
     },
     Row {
         name: "a failing write behind a plugin",
         words: "-I file in -P count -O file out",
         input: Input::Pids(&FIVE),
-        fails: Fails::Write(1),
+        plan: DeskPlan {
+            writes: &[1],
+            ..ORDINARY
+        },
     },
 ];
 
@@ -83,18 +107,27 @@ static LATE_ROWS: [Row; 3] = [
         name: "a failing closing",
         words: "-I file in -O file out",
         input: Input::Pids(&THREE),
-        fails: Fails::Close(1),
+        plan: DeskPlan {
+            closes: &[1],
+            ..ORDINARY
+        },
     },
     Row {
         name: "a failing report",
         words: "-I file in -O file out",
         input: Input::Pids(&THREE),
-        fails: Fails::Report(1),
+        plan: DeskPlan {
+            reports: &[1],
+            ..ORDINARY
+        },
     },
     Row {
         name: "a failing report behind lost sync",
         words: "-I file in -O file out",
         input: Input::Lost(&[256, 256, 256], 376),
-        fails: Fails::Report(1),
+        plan: DeskPlan {
+            reports: &[1],
+            ..ORDINARY
+        },
     },
 ];

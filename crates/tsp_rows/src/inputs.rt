@@ -5,6 +5,9 @@ use std::alloc::{AllocError, Global};
 
 const OTHER_BYTE: u8 = 0x46;
 
+/// The two flags of `Input::Headed`.
+const FLAGS_BYTE: u8 = 0x90;
+
 /// What is in the file that a row reads.
 #[derive(Clone, Copy)]
 pub(crate) enum Input {
@@ -20,6 +23,9 @@ pub(crate) enum Input {
     Mixed,
     /// A packet for each of these tables, with counters from 5 on.
     Tables(&'static [Carried]),
+    /// Packets with these first five bytes. Their other bytes are 0x90: as the flags of an adaptation field, a
+    /// discontinuity and a PCR.
+    Headed(&'static [[u8; 5]]),
 }
 
 /// The bytes of the file.
@@ -40,6 +46,7 @@ pub(crate) fn input_bytes(alloc: Global, input: Input) -> Result<Vec<u8>, AllocE
         }
         Input::Mixed => push_mixed(&mut bytes)?,
         Input::Tables(carried) => push_tables(&mut bytes, carried)?,
+        Input::Headed(heads) => push_headed(&mut bytes, heads)?,
     }
     Ok(bytes)
 }
@@ -79,6 +86,17 @@ fn push_tables(bytes: &mut Vec<u8>, carried: &[Carried]) -> Result<(), AllocErro
         bytes.extend_from_slice(table.section())?;
         for _ in table.section().len()..183 {
             bytes.push(0xFF)?;
+        }
+    }
+    Ok(())
+}
+
+/// A packet for each of these heads, filled up with one byte.
+fn push_headed(bytes: &mut Vec<u8>, heads: &[[u8; 5]]) -> Result<(), AllocError> {
+    for head in heads {
+        bytes.extend_from_slice(head)?;
+        for _ in head.len()..188 {
+            bytes.push(FLAGS_BYTE)?;
         }
     }
     Ok(())

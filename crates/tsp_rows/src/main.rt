@@ -6,12 +6,17 @@
 mod carried;
 mod chain_table;
 mod chains;
+mod desk_plan;
 mod edit_rows;
 mod end_rows;
+mod failing_ends;
+mod failing_reads;
+mod failing_writes;
 mod fault_rows;
 mod following_gate;
 mod inputs;
 mod keeping_gate;
+mod lawless_packets;
 mod meeting_gate;
 mod meeting_pairs;
 mod mixed_stream;
@@ -19,6 +24,7 @@ mod outcome;
 mod plugin_rows;
 mod row;
 mod service_rows;
+mod small_pieces;
 mod stream_rows;
 mod table_rows;
 mod tally;
@@ -36,6 +42,7 @@ use tally::Tally;
 
 fn main(rt: HostRuntime) -> Result<()> {
     print_tables(&rt)?;
+    lawless_packets::print_unchanged(&rt)?;
     windows::print_windows(&rt)?;
     threads::print_threads(&rt)?;
     meeting_pairs::print_meeting_pairs(&rt)?;
@@ -44,7 +51,7 @@ fn main(rt: HostRuntime) -> Result<()> {
 
 /// Prints the rows of all tables, and how many of them come to the same by both calls.
 fn print_tables<R: Threads + Wait + Sync + Print + AllocGlobal>(rt: &R) -> Result<()> {
-    let tables: [&[Row]; 17] = [
+    let tables: [&[Row]; 22] = [
         end_rows::rows(),
         plugin_rows::rows(),
         plugin_rows::of_watchers(),
@@ -58,6 +65,11 @@ fn print_tables<R: Threads + Wait + Sync + Print + AllocGlobal>(rt: &R) -> Resul
         fault_rows::at_openings(),
         fault_rows::in_runs(),
         fault_rows::behind_runs(),
+        failing_reads::rows(),
+        failing_writes::rows(),
+        failing_ends::rows(),
+        small_pieces::rows(),
+        lawless_packets::rows(),
         word_rows::rows(),
         edit_rows::of_words(),
         service_rows::of_words(),

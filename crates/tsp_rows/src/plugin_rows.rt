@@ -1,7 +1,7 @@
 //! Rows on the plugins, one or a few at a time.
+use crate::desk_plan::ORDINARY;
 use crate::inputs::Input;
 use crate::row::Row;
-use crate::trial_desk::Fails;
 
 /// Three packets on two PIDs.
 const THREE: [u16; 3] = [256, 257, 256];
@@ -25,37 +25,37 @@ static PLUGIN_ROWS: [Row; 6] = [
         name: "slice drops, passes and stops",
         words: "-I file in -P slice --drop 1 --pass 3 --stop 4 -O file out",
         input: Input::Pids(&TEN),
-        fails: Fails::Never,
+        plan: ORDINARY,
     },
     Row {
         name: "pattern at the end of a packet",
         words: "-I file in -P pattern ABCD --offset-non-pusi 182 -O file out",
         input: Input::Pids(&[256]),
-        fails: Fails::Never,
+        plan: ORDINARY,
     },
     Row {
         name: "until without its last packet",
         words: "-I file in -P until --packets 3 --exclude-last -O file out",
         input: Input::Pids(&TEN),
-        fails: Fails::Never,
+        plan: ORDINARY,
     },
     Row {
         name: "remap and until",
         words: "-I file in -P remap --no-psi 256=512 -P until --packets 5 -O file out",
         input: Input::Pids(&[256, 256, 256, 256, 256, 512, 256, 256, 256, 256]),
-        fails: Fails::Never,
+        plan: ORDINARY,
     },
     Row {
         name: "remap refuses a target that comes in",
         words: "-I file in -P remap --no-psi 256=512 -O file out",
         input: Input::Pids(&REFUSED),
-        fails: Fails::Never,
+        plan: ORDINARY,
     },
     Row {
         name: "remap unchecked",
         words: "-I file in -P remap --no-psi 256=512 --unchecked -O file out",
         input: Input::Pids(&REFUSED),
-        fails: Fails::Never,
+        plan: ORDINARY,
     },
 ];
 
@@ -69,37 +69,37 @@ static WATCH_ROWS: [Row; 6] = [
         name: "count of all behind skip",
         words: "-I file in -P skip 1 -P count --all -O file out",
         input: Input::Pids(&THREE),
-        fails: Fails::Never,
+        plan: ORDINARY,
     },
     Row {
         name: "continuity puts counters right",
         words: "-I file in -P continuity --fix -O file out",
         input: Input::Counters(&[5, 6, 8, 8]),
-        fails: Fails::Never,
+        plan: ORDINARY,
     },
     Row {
         name: "count and until, a buffer of 1",
         words: "--buffer-packets 1 -I file in -P count -P until --packets 5 -O file out",
         input: Input::Pids(&SAME),
-        fails: Fails::Never,
+        plan: ORDINARY,
     },
     Row {
         name: "count and until, a buffer of 1000",
         words: "--buffer-packets 1000 -I file in -P count -P until --packets 5 -O file out",
         input: Input::Pids(&SAME),
-        fails: Fails::Never,
+        plan: ORDINARY,
     },
     Row {
         name: "skip, filter and count, one by one",
         words: "--buffer-packets 1 --max-flushed-packets 1 -I file in -P skip 1 -P filter --pid 256 -P count --total -O file out",
         input: Input::Pids(&THREE),
-        fails: Fails::Never,
+        plan: ORDINARY,
     },
     Row {
         name: "skip, filter and count, sizes by default",
         words: "-I file in -P skip 1 -P filter --pid 256 -P count --total -O file out",
         input: Input::Pids(&THREE),
-        fails: Fails::Never,
+        plan: ORDINARY,
     },
 ];
 
@@ -113,37 +113,37 @@ static JOINT_ROWS: [Row; 6] = [
         name: "joint termination at 5 and 3",
         words: "-I file in -P until --packets 5 --joint-termination -P skip 2 -P until --packets 1 --joint-termination -O file out",
         input: Input::Pids(&TEN),
-        fails: Fails::Never,
+        plan: ORDINARY,
     },
     Row {
         name: "joint termination, one by one",
         words: "--buffer-packets 1 -I file in -P until --packets 5 --joint-termination -P skip 2 -P until --packets 1 --joint-termination -O file out",
         input: Input::Pids(&TEN),
-        fails: Fails::Never,
+        plan: ORDINARY,
     },
     Row {
         name: "joint termination ignored",
         words: "--ignore-joint-termination -I file in -P until --packets 5 --joint-termination -P skip 2 -P until --packets 1 --joint-termination -O file out",
         input: Input::Pids(&TEN),
-        fails: Fails::Never,
+        plan: ORDINARY,
     },
     Row {
         name: "joint termination that is never reached",
         words: "-I file in -P until --packets 5 --joint-termination -P until --packets 11 --joint-termination -O file out",
         input: Input::Pids(&TEN),
-        fails: Fails::Never,
+        plan: ORDINARY,
     },
     Row {
         name: "plain until before joint termination",
         words: "-I file in -P until --packets 4 -P until --packets 5 --joint-termination -O file out",
         input: Input::Pids(&TEN),
-        fails: Fails::Never,
+        plan: ORDINARY,
     },
     Row {
         name: "joint termination before a plain until",
         words: "-I file in -P until --packets 4 --joint-termination -P until --packets 4 -O file out",
         input: Input::Pids(&TEN),
-        fails: Fails::Never,
+        plan: ORDINARY,
     },
 ];
 
@@ -157,18 +157,18 @@ static LABEL_ROWS: [Row; 3] = [
         name: "count of the marked packets",
         words: "-I file in -P filter --pid 256 --set-label 3 -P count --only-label 3 -O file out",
         input: Input::Pids(&[256, 257, 256, 257]),
-        fails: Fails::Never,
+        plan: ORDINARY,
     },
     Row {
         name: "skip drops the first marked packet",
         words: "-I file in -P filter --pid 256 --set-label 3 -P skip 1 --only-label 3 -O file out",
         input: Input::Pids(&[256, 257, 256, 257]),
-        fails: Fails::Never,
+        plan: ORDINARY,
     },
     Row {
         name: "joint termination at the first marked packet",
         words: "-I file in -P filter --pid 256 --set-label 3 -P until --packets 1 --joint-termination --only-label 3 -O file out",
         input: Input::Pids(&[257, 256, 257]),
-        fails: Fails::Never,
+        plan: ORDINARY,
     },
 ];

@@ -1,9 +1,9 @@
-//! A worked example: its words, what comes in, and which call fails.
+//! A worked example: its words, what comes in, and what it says of the calls of its desk.
+use crate::desk_plan::DeskPlan;
 use crate::inputs::Input;
 use crate::outcome::print_outcome;
 use crate::tally::Tally;
 use crate::trial::{Case, Trial, by_serial_call, by_tsp_call, push_words};
-use crate::trial_desk::Fails;
 use anyhow::Result;
 use std::alloc::{AllocError, Global};
 use std::sync::Wait;
@@ -16,7 +16,7 @@ pub(crate) struct Row {
     pub(crate) name: &'static str,
     pub(crate) words: &'static str,
     pub(crate) input: Input,
-    pub(crate) fails: Fails,
+    pub(crate) plan: DeskPlan,
 }
 
 /// Runs rows by both calls, and prints what they came to. The tally has them too, then.
@@ -43,7 +43,7 @@ fn print_row<R: Threads + Wait + Sync + Print + AllocGlobal>(rt: &R, row: &Row) 
     let case = Case {
         words: words.as_slice(),
         input: row.input,
-        fails: row.fails,
+        plan: row.plan,
     };
     print_case(rt, case)
 }

@@ -1,7 +1,7 @@
 //! Rows on whole services, and on PIDs that tables name.
+use crate::desk_plan::ORDINARY;
 use crate::inputs::Input;
 use crate::row::Row;
-use crate::trial_desk::Fails;
 
 /// A service kept alone, and one taken out, of the generated stream.
 pub(crate) fn rows() -> &'static [Row] {
@@ -13,31 +13,31 @@ static SERVICE_ROWS: [Row; 5] = [
         name: "zap leaves nothing of the other service",
         words: "-I testgen 1 1000 -P zap 1 -P count --pid 258-259,4097,8191 -O drop",
         input: Input::Pids(&[]),
-        fails: Fails::Never,
+        plan: ORDINARY,
     },
     Row {
         name: "zap keeps one service",
         words: "-I testgen 1 1000 -P zap 1 -P count -O drop",
         input: Input::Pids(&[]),
-        fails: Fails::Never,
+        plan: ORDINARY,
     },
     Row {
         name: "the tables that zap writes",
         words: "-I testgen 1 10 -P zap 2 -O file out",
         input: Input::Pids(&[]),
-        fails: Fails::Never,
+        plan: ORDINARY,
     },
     Row {
         name: "svremove leaves what both services use",
         words: "-I testgen 1 1000 -P svremove 1 -P count -O drop",
         input: Input::Pids(&[]),
-        fails: Fails::Never,
+        plan: ORDINARY,
     },
     Row {
         name: "svremove with null packets in place",
         words: "-I testgen 1 100 -P svremove 2 --stuffing -P count -O drop",
         input: Input::Pids(&[]),
-        fails: Fails::Never,
+        plan: ORDINARY,
     },
 ];
 
@@ -51,18 +51,18 @@ static SERVICE_WORD_ROWS: [Row; 3] = [
         name: "zap of no service",
         words: "-I null 2 -P zap -O drop",
         input: Input::Pids(&[]),
-        fails: Fails::Never,
+        plan: ORDINARY,
     },
     Row {
         name: "service 0 to keep",
         words: "-I null 2 -P zap 0 -O drop",
         input: Input::Pids(&[]),
-        fails: Fails::Never,
+        plan: ORDINARY,
     },
     Row {
         name: "two services to take out",
         words: "-I null 2 -P svremove 1 2 -O drop",
         input: Input::Pids(&[]),
-        fails: Fails::Never,
+        plan: ORDINARY,
     },
 ];

@@ -1,7 +1,7 @@
 //! Rows on what a stream has: its PIDs, its services and its tables.
+use crate::desk_plan::ORDINARY;
 use crate::inputs::Input;
 use crate::row::Row;
-use crate::trial_desk::Fails;
 
 /// What `analyze` and `tables` report of null packets and of the generated stream.
 pub(crate) fn rows() -> &'static [Row] {
@@ -13,31 +13,31 @@ static STREAM_ROWS: [Row; 5] = [
         name: "null packets alone",
         words: "-I null 2 -P analyze -O drop",
         input: Input::Pids(&[]),
-        fails: Fails::Never,
+        plan: ORDINARY,
     },
     Row {
         name: "one service, its counters as they should be",
         words: "-I testgen 1 1000 -P zap 1 -P continuity --fix -P analyze -O drop",
         input: Input::Pids(&[]),
-        fails: Fails::Never,
+        plan: ORDINARY,
     },
     Row {
         name: "the services of the PAT at the cut",
         words: "-I testgen 1 1000 -P analyze -P until --packets 2 -O drop",
         input: Input::Pids(&[]),
-        fails: Fails::Never,
+        plan: ORDINARY,
     },
     Row {
         name: "tables of two PIDs",
         words: "-I testgen 1 1000 -P tables --pid 0,4096 -O drop",
         input: Input::Pids(&[]),
-        fails: Fails::Never,
+        plan: ORDINARY,
     },
     Row {
         name: "tables below the cut",
         words: "-I testgen 1 1000 -P tables --tid 2 -P until --packets 2 -O drop",
         input: Input::Pids(&[]),
-        fails: Fails::Never,
+        plan: ORDINARY,
     },
 ];
 
@@ -50,5 +50,5 @@ static STREAM_WORD_ROWS: [Row; 1] = [Row {
     name: "a table_id above 255",
     words: "-I null 2 -P tables --tid 256 -O drop",
     input: Input::Pids(&[]),
-    fails: Fails::Never,
+    plan: ORDINARY,
 }];

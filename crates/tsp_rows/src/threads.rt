@@ -1,10 +1,10 @@
 //! Chains by `threaded_call` whose gate looks at how its stages work beside one another.
+use crate::desk_plan::ORDINARY;
 use crate::following_gate::FollowingGate;
 use crate::inputs::Input;
 use crate::meeting_gate::MeetingGate;
 use crate::outcome::print_outcome;
 use crate::trial::{Case, by_threaded_call, push_words};
-use crate::trial_desk::Fails;
 use anyhow::Result;
 use std::sync::Wait;
 use std::thread::Threads;
@@ -64,7 +64,7 @@ fn print_call<R: Threads + Wait + Sync + Print + AllocGlobal, G: Gate>(
     let case = Case {
         words: words.as_slice(),
         input: Input::Pids(&[]),
-        fails: Fails::Never,
+        plan: ORDINARY,
     };
     let trial = by_threaded_call(rt, case, gate)?;
     print_outcome(rt, &trial)

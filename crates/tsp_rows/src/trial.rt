@@ -1,18 +1,19 @@
 //! One call of the tool over a desk in memory.
+use crate::desk_plan::DeskPlan;
 use crate::inputs::Input;
-use crate::trial_desk::{Fails, filled_desk};
+use crate::trial_desk::filled_desk;
 use std::alloc::{AllocError, Global};
 use std::sync::Wait;
 use std::thread::Threads;
 use ts_outside::{Gate, MemoryDesk, OpenGate};
 use tsp_top::{Status, serial_call, threaded_call, tsp_call};
 
-/// What is called: the words, what comes in, and which call of the desk fails.
+/// What is called: the words, what comes in, and which calls of the desk fail.
 #[derive(Clone, Copy)]
 pub(crate) struct Case<'a> {
     pub(crate) words: &'a [String],
     pub(crate) input: Input,
-    pub(crate) fails: Fails,
+    pub(crate) plan: DeskPlan,
 }
 
 /// What a call came to: its desk and its status. The desk is large, and so in a box.
@@ -23,7 +24,7 @@ pub(crate) struct Trial {
 }
 
 impl Trial {
-    /// Whether two calls came to the same status, the same report, the same names asked for and the same first output.
+    /// Whether two calls came to the same status, the same report, the same names asked for and the same first output under its name.
     /// No row has a second output.
     pub(crate) fn is_like(&self, alloc: Global, other: &Trial) -> Result<bool, AllocError> {
         let same_status = self.status_text(alloc)? == other.status_text(alloc)?;
@@ -32,6 +33,7 @@ impl Trial {
                 && self.desk.reported() == other.desk.reported()
                 && self.desk.asked_count() == other.desk.asked_count()
                 && self.desk.output_count() == other.desk.output_count()
+                && self.written_name() == other.written_name()
                 && self.written() == other.written(),
         )
     }
@@ -42,8 +44,16 @@ impl Trial {
         format!(in alloc; "{status:?}")
     }
 
+    /// The name of the first output.
+    fn written_name(&self) -> &str {
+        match self.desk.output(0) {
+            Some((name, _)) => name,
+            None => "",
+        }
+    }
+
     /// The bytes of the first output.
-    fn written(&self) -> &[u8] {
+    pub(crate) fn written(&self) -> &[u8] {
         match self.desk.output(0) {
             Some((_, bytes)) => bytes,
             None => &[],
@@ -57,7 +67,7 @@ pub(crate) fn by_tsp_call<R: Threads + Wait + Sync + AllocGlobal, G: Gate>(
     case: Case,
     gate: &G,
 ) -> Result<Trial, AllocError> {
-    let mut desk = filled_desk(rt.alloc(), case.input, case.fails)?;
+    let mut desk = filled_desk(rt.alloc(), case.input, case.plan)?;
     let status = tsp_call(rt, rt.alloc(), case.words, &mut *desk, gate);
     Ok(Trial { desk, status })
 }
@@ -79,7 +89,7 @@ pub(crate) fn by_serial_call<G: Gate>(
     case: Case,
     gate: &G,
 ) -> Result<Trial, AllocError> {
-    let mut desk = filled_desk(alloc, case.input, case.fails)?;
+    let mut desk = filled_desk(alloc, case.input, case.plan)?;
     let status = serial_call(alloc, case.words, &mut *desk, gate);
     Ok(Trial { desk, status })
 }

@@ -1,9 +1,8 @@
-//! The desk of a trial: its input under two names, files of tables, and the calls that fail.
-ghost use Rattle.std.specs.Prelude.{◌≡◌, IfOk};
-
+//! The desk of a trial: its input under two names, and files of tables.
+use crate::desk_plan::DeskPlan;
 use crate::inputs::{Input, input_bytes};
 use std::alloc::{AllocError, Global};
-use ts_outside::{FailPlan, FileBytes, FileList, MemoryDesk, NameText, NumberList};
+use ts_outside::{FileBytes, FileList, MemoryDesk, NameText};
 
 /// The name of the file; it stands under the empty name, too, as the standard input.
 const FILE_NAME: &str = "in";
@@ -12,27 +11,13 @@ const FILE_NAME: &str = "in";
 const TABLES: &str =
     r##"{"#name":"tsduck","#nodes":[{"#name":"PAT","transport_stream_id":1,"#nodes":[{"#name":"service","service_id":1,"program_map_PID":"0x1000"}]}]}"##;
 
-/// The most bytes that an output or the reports hold.
-const ROOM: usize = 20_000;
-
-/// Which call fails, by its number from 1 on.
-#[derive(Clone, Copy)]
-pub(crate) enum Fails {
-    Never,
-    Open(u64),
-    Read(u64),
-    Write(u64),
-    Report(u64),
-    Close(u64),
-}
-
-/// A desk with this file, on which this call fails.
+/// A desk with this file and this plan.
 pub(crate) fn filled_desk(
     alloc: Global,
     input: Input,
-    fails: Fails,
+    plan: DeskPlan,
 ) -> Result<Box<MemoryDesk>, AllocError> {
-    let plan = fail_plan(alloc, fails)?;
+    let plan = plan.fail_plan(alloc)?;
     let files = files(alloc, input)?;
     Ok(Box::new(alloc, MemoryDesk::new(alloc, files, plan)?)?)
 }
@@ -73,33 +58,4 @@ fn push_file(
     let name = String::from_str(alloc, name)?;
     files.push((NameText::of(name), FileBytes::of(bytes)))?;
     Ok(())
-}
-
-/// The number of the call that fails, from 1 on; 0 where none does.
-fn number_of(fails: Fails) -> u64 {
-    match fails {
-        Fails::Never => 0,
-        Fails::Open(call)
-        | Fails::Read(call)
-        | Fails::Write(call)
-        | Fails::Report(call)
-        | Fails::Close(call) => call,
-    }
-}
-
-/// A plan by which one packet is read in a call and 100 bytes are written, and this call fails.
-fn fail_plan(alloc: Global, fails: Fails) -> Result<FailPlan, AllocError>
-    ensures { IfOk result (λ p. (p.read_piece ≡ 188) × (p.write_piece ≡ 100)) }
-{
-    let call = NumberList::of(Vec::from_slice(alloc, &[number_of(fails)])?);
-    let mut plan = FailPlan::none(alloc, 188, 100, ROOM);
-    match fails {
-        Fails::Never => {}
-        Fails::Open(_) => plan.opens = call,
-        Fails::Read(_) => plan.reads = call,
-        Fails::Write(_) => plan.writes = call,
-        Fails::Report(_) => plan.reports = call,
-        Fails::Close(_) => plan.closes = call,
-    }
-    Ok(plan)
 }

@@ -1,9 +1,9 @@
 //! A chain whose gate keeps what it is told: the windows that each plugin works on.
+use crate::desk_plan::ORDINARY;
 use crate::inputs::Input;
 use crate::keeping_gate::{KeepingGate, ROOM, Windows};
 use crate::outcome::print_outcome;
 use crate::trial::{Case, by_serial_call, by_tsp_call, push_words};
-use crate::trial_desk::Fails;
 use anyhow::Result;
 use std::sync::Wait;
 use std::thread::Threads;
@@ -25,7 +25,7 @@ pub(crate) fn print_windows<R: Threads + Wait + Sync + Print + AllocGlobal>(rt: 
     let case = Case {
         words: words.as_slice(),
         input: Input::Pids(&PIDS),
-        fails: Fails::Never,
+        plan: ORDINARY,
     };
     print_serial(rt, case)?;
     print_by_tsp_call(rt, case)
