@@ -21,6 +21,10 @@ mod fields;
 #[cfg(test)]
 mod generated;
 #[cfg(test)]
+mod lawless_pointers;
+#[cfg(test)]
+mod lengths_beyond_the_end;
+#[cfg(test)]
 mod mpeg_descriptors;
 #[cfg(test)]
 mod packets_of_bytes;

@@ -7,8 +7,12 @@ mod calls;
 #[cfg(test)]
 mod conversions;
 #[cfg(test)]
+mod cut_sections;
+#[cfg(test)]
 mod descriptors;
 #[cfg(test)]
 mod elements;
+#[cfg(test)]
+mod nested_arrays;
 #[cfg(test)]
 mod tables;

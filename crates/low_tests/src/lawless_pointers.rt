@@ -1,0 +1,25 @@
+//! Pointers of packets that begin a section: those within the payload, and those beyond it.
+use std::alloc::{AllocError, Global};
+use std::test::Fail;
+use ts_demux::Demux;
+use ts_packet::Packet;
+
+/// How many sections a packet of PID 0 completes by itself that has unit start and this pointer, a section of five bytes
+/// behind it, and then 0xFF.
+fn completed(alloc: Global, pointer: u8) -> Result<usize, AllocError> {
+    let mut packet = Packet::null();
+    packet.set_pid(0);
+    packet.set_unit_start(true);
+    packet.put_payload(4, &[pointer, 0x70, 0x30, 0x02, 0xAA, 0xBB]);
+    let mut demux = Demux::new(alloc, 0)?;
+    demux.feed(&packet)
+}
+
+/// The payload has 184 bytes, the pointer among them.
+#[test]
+fn pointers_beyond_the_payload(rt: HostRuntime) -> Result<(), Fail> {
+    for (pointer, want) in [(0, 1), (183, 0), (184, 0), (255, 0)] {
+        assert_eq!(rt; completed(rt.alloc(), pointer)?, want, "of {pointer}");
+    }
+    Ok(())
+}

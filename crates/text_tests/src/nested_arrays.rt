@@ -1,0 +1,42 @@
+//! Texts of nested arrays: JSON is read to a depth of 127.
+use std::alloc::{AllocError, Global};
+use std::test::Fail;
+use tabcomp_core::{CompileFault, compile};
+use ts_jtree::{JsonFault, JsonKind};
+
+/// So many arrays, each in the one before.
+fn nested(alloc: Global, depth: usize) -> Result<Vec<u8>, AllocError> {
+    let mut text = Vec::new(alloc);
+    for _ in 0..depth {
+        text.push(b'[')?;
+    }
+    for _ in 0..depth {
+        text.push(b']')?;
+    }
+    Ok(text)
+}
+
+/// Whether the value that was read is no element.
+fn is_of_root(fault: &JsonFault) -> bool {
+    fault.path.as_slice().is_empty()
+        && fault.key.as_str() == "#name"
+        && fault.kind == JsonKind::WrongKind
+}
+
+/// Whether so many nested arrays are read as JSON, which then is no element.
+fn is_json(alloc: Global, depth: usize) -> Result<bool, Fail> {
+    let text = nested(alloc, depth)?;
+    match compile(alloc, &text) {
+        Err(CompileFault::NotJson) => Ok(false),
+        Err(CompileFault::Json(fault)) if is_of_root(&fault) => Ok(true),
+        _ => Err(Fail::from("another end")),
+    }
+}
+
+#[test]
+fn nested_arrays(rt: HostRuntime) -> Result<(), Fail> {
+    for (depth, want) in [(1, true), (127, true), (128, false), (1000, false)] {
+        assert_eq!(rt; is_json(rt.alloc(), depth)?, want, "of {depth}");
+    }
+    Ok(())
+}
