@@ -1,9 +1,9 @@
 //! A chain of six plugins, each two of which have to meet.
+use crate::desk_plan::ORDINARY;
 use crate::inputs::Input;
 use crate::meeting_gate::MeetingGate;
 use crate::tally::Tally;
 use crate::trial::{Case, by_threaded_call, push_words};
-use crate::trial_desk::Fails;
 use anyhow::Result;
 use std::alloc::AllocError;
 use std::sync::Wait;
@@ -56,7 +56,7 @@ fn have_met<R: Threads + Wait + Sync + AllocGlobal>(
     let case = Case {
         words: words.as_slice(),
         input: Input::Pids(&[]),
-        fails: Fails::Never,
+        plan: ORDINARY,
     };
     by_threaded_call(rt, case, &gate)?;
     Ok(gate.have_met())

@@ -78,8 +78,8 @@ pub(crate) fn by_threaded_call<R: Threads + Wait + Sync + AllocGlobal, G: Gate>(
     case: Case,
     gate: &G,
 ) -> Result<Trial, AllocError> {
-    let mut desk = filled_desk(rt.alloc(), case.input, case.fails)?;
-    let status = threaded_call(rt, rt.alloc(), case.words, &mut desk, gate);
+    let mut desk = filled_desk(rt.alloc(), case.input, case.plan)?;
+    let status = threaded_call(rt, rt.alloc(), case.words, &mut *desk, gate);
     Ok(Trial { desk, status })
 }
 
