@@ -26,10 +26,19 @@ fn is_of_root(fault: &JsonFault) -> bool {
 /// Whether so many nested arrays are read as JSON, which then is no element.
 fn is_json(alloc: Global, depth: usize) -> Result<bool, Fail> {
     let text = nested(alloc, depth)?;
-    match compile(alloc, &text) {
-        Err(CompileFault::NotJson) => Ok(false),
-        Err(CompileFault::Json(fault)) if is_of_root(&fault) => Ok(true),
-        _ => Err(Fail::from("another end")),
+    let Err(fault) = compile(alloc, &text) else {
+        return Err(Fail::from("it has tables"));
+    };
+    match fault {
+        CompileFault::NotJson => Ok(false),
+        CompileFault::Json(fault) => {
+            if is_of_root(&fault) {
+                Ok(true)
+            } else {
+                Err(Fail::from("another place"))
+            }
+        }
+        _ => Err(Fail::from("another fault")),
     }
 }
 
