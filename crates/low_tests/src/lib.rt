@@ -23,8 +23,6 @@ mod generated;
 #[cfg(test)]
 mod lawless_pointers;
 #[cfg(test)]
-mod lengths_beyond_the_end;
-#[cfg(test)]
 mod mpeg_descriptors;
 #[cfg(test)]
 mod packets_of_bytes;
