@@ -5,6 +5,8 @@ ghost use Rattle.thread_run.specs.Driving.{IsReady, AreReady, Keeps, Carried, Ha
 use crate::{Stage, Turn};
 use plugin_trait::Plugin;
 use std::sync::Wait;
+use std::sync::atomic::AtomicBool;
+use std::sync::atomic::Ordering::SeqCst;
 use std::thread::yield_now;
 use ts_outside::{Gate, Sink, Source};
 use window_ring::Ring;
@@ -99,6 +101,47 @@ pub(crate) fn drive<R: Wait, S: Source, K: Sink, P: Plugin, G: Gate>(
             Turn::Worked => tries = 0,
         }
     }
+}
+
+/// Drives one stage as far as it gets by itself: until it has ended, there is nothing for it to do, or it is told to stop.
+#[tactic(auto, using(crate::proofs::Carries::kept_same, crate::proofs::Carries::kept_then, crate::proofs::Carries::one_still_ready))]
+fn go_ahead<S: Source, K: Sink, P: Plugin, G: Gate>(
+    ring: &Ring,
+    gate: &G,
+    stop: &AtomicBool,
+    stage: &mut Stage<S, K, P>,
+)
+    requires ready { IsReady (seeing S.seen K.seen P.rule P.stands_for P.steady) ring.now stage.old }
+    ensures keeps { Keeps (seeing S.seen K.seen P.rule P.stands_for P.steady) ring.now stage.old stage.new }
+{
+    for _ in 0..u64::MAX {
+        if stop.load(SeqCst) {
+            return;
+        }
+        match stage.step(ring, gate) {
+            Turn::Ended => return,
+            Turn::Idle => return,
+            Turn::Busy => {}
+            Turn::Worked => {}
+        }
+    }
+}
+
+/// Drives the only stage of a row as far as it gets by itself: until it has ended, there is nothing for it to do, or it is
+/// told to stop.
+///
+/// It waits for no other stage of the ring, and needs none to be driven meanwhile: an input fills the ring and is back.
+pub fn drive_ahead<S: Source, K: Sink, P: Plugin, G: Gate>(
+    ring: &Ring,
+    gate: &G,
+    stop: &AtomicBool,
+    stages: &mut [Stage<S, K, P>],
+)
+    requires one { length stages.old ≡ 1 }
+    requires ready { AreReady (seeing S.seen K.seen P.rule P.stands_for P.steady) ring.now stages.old }
+    ensures carried { Carried (seeing S.seen K.seen P.rule P.stands_for P.steady) ring.now stages.old stages.new }
+{
+    go_ahead(ring, gate, stop, &mut stages[0]);
 }
 
 /// One more try; after so many of them others go first.

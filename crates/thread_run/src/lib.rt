@@ -11,9 +11,9 @@ mod threaded_run;
 mod threads;
 mod turn;
 
-pub use driving::finish;
+pub use driving::{drive_ahead, finish};
 pub use laws::together;
 pub use stage::Stage;
-pub use threaded_run::run_threads;
+pub use threaded_run::{end_run, run_threads, unseat_all};
 pub use threads::drive_all;
 pub use turn::Turn;

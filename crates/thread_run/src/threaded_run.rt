@@ -96,7 +96,7 @@ fn seat_all<S: Source, K: Sink, P: Plugin>(
 }
 
 /// Moves the part and the seat of each stage behind the others, for which there is room.
-fn unseat_all<S, K, P>(
+pub fn unseat_all<S, K, P>(
     mut stages: Vec<Stage<S, K, P>>,
     parts: &mut Vec<StagePart<S, K, P>>,
     seats: &mut Vec<StageSeat>,
@@ -148,7 +148,7 @@ fn drive_parts<
 
 /// Closes the ring of stages that have ended, and takes the chain apart. The plugins go into the row, which has room for
 /// them.
-fn end_run<S: Source, K: Sink, P: Plugin>(
+pub fn end_run<S: Source, K: Sink, P: Plugin>(
     ring: Ring,
     root: Seat<State, View>,
     seats: Vec<StageSeat>,

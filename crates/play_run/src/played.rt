@@ -1,0 +1,97 @@
+//! What a play came to, in its own words: there is no plugin in it that could end it or want memory.
+ghost use Rattle.std.specs.Prelude.{◌≡◌, [], IfOk, OnErr};
+ghost use Rattle.chain_core.specs.declared.core_plan.CorePlan.{CorePlan};
+ghost use Rattle.chain_core.specs.CoreNumbers.{IsLawfulPlan};
+ghost use Rattle.stage_run.specs.Seeing.{seeing};
+ghost use Rattle.stage_run.specs.declared.output_part.OutputPart.{OutputPart};
+ghost use Rattle.play_run.specs.Played.{cause_of, EndsPlay, HasPlayedOut, CutsPlay};
+
+use chain_core::{Cause, Closed, InputEnd};
+use chain_run::RunEnd;
+use plugin_trait::Plugin;
+use stage_run::{InputPart, OutputPart};
+use std::alloc::AllocError;
+use ts_outside::{Sink, Source};
+
+/// Why a play ended: its input's list did, or the output did not take a packet whole.
+#[derive(Debug, Clone, Copy, PartialEq, Eq)]
+pub enum PlayEnd {
+    /// The list of the file ended so, or a read failed; all packets before that were given.
+    Input(InputEnd),
+    /// The output failed behind the packets that were counted.
+    WriteFault,
+}
+
+/// How many packets of a play were written whole or counted, and why it ended behind them.
+#[derive(Debug, Clone, Copy, PartialEq, Eq)]
+pub struct PlayCut {
+    /// At most 2^60.
+    pub count: u64,
+    pub end: PlayEnd,
+}
+
+/// A play that was played, or for which there was no memory: its source and the output are given back.
+pub struct PlayedOut<S, K> {
+    /// Behind what was read of it.
+    pub source: S,
+    /// Behind what was written to it.
+    pub output: OutputPart<K>,
+    /// After an `AllocError` nothing was read or written.
+    pub cut: Result<PlayCut, AllocError>,
+}
+
+/// The end of a play in its own words.
+fn end_of(cause: Cause) -> PlayEnd
+    requires { (end : PlayEnd) × (cause ≡ cause_of end) }
+    ensures { cause_of result ≡ cause }
+{
+    match cause {
+        Cause::Input(how) => PlayEnd::Input(how),
+        Cause::WriteFault => PlayEnd::WriteFault,
+        _ => unreachable!(),
+    }
+}
+
+/// The cut of a play in its own words.
+fn cut_of(closed: Closed) -> PlayCut
+    requires { (end : PlayEnd) × (closed.cause ≡ cause_of end) }
+    ensures { CutsPlay closed result }
+{
+    PlayCut {
+        count: closed.cut,
+        end: end_of(closed.cause),
+    }
+}
+
+/// What a run of a play, which has no plugins, came to.
+pub(crate) fn played_out<S: Source, K: Sink, P: Plugin + Drop>(
+    end: RunEnd<S, K, P>,
+) -> PlayedOut<S, K>
+    requires { (plan : CorePlan) × (source : S) × (to : OutputPart K)
+        × EndsPlay (seeing S.seen K.seen P.rule P.stands_for P.steady) plan source to end }
+    ensures { (plan : CorePlan) (source : S) (to : OutputPart K)
+        → EndsPlay (seeing S.seen K.seen P.rule P.stands_for P.steady) plan source to end
+        → HasPlayedOut S.seen K.seen plan.buffer source to result }
+{
+    let RunEnd {
+        input,
+        plugins: _,
+        output,
+        closed,
+    } = end;
+    let InputPart::Stream(source) = input else {
+        unreachable!();
+    };
+    match closed {
+        Ok(closed) => PlayedOut {
+            source,
+            output,
+            cut: Ok(cut_of(closed)),
+        },
+        Err(AllocError) => PlayedOut {
+            source,
+            output,
+            cut: Err(AllocError),
+        },
+    }
+}
