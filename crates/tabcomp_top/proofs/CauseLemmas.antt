@@ -8,12 +8,13 @@ use Rattle.tabcomp_core.specs.Decompiling.{decompiled}
 use Rattle.ts_outside.specs.Count.{HasCause, IsQuiet, raised}
 use Rattle.ts_outside.specs.Desk.{DeskView, content}
 use Rattle.ts_outside.proofs.Views.{HasCause-raised}
+use Rattle.ts_outside.specs.Faultless.{NothingFails}
 use Rattle.tabcomp_top.specs.TabWords.{Job, job_of}
 use Rattle.tabcomp_top.specs.Telling.{Tells}
 use Rattle.tabcomp_top.specs.Conversion.{converted, of_compiled, of_decompiled, canonical}
 use Rattle.tabcomp_top.specs.Putting.{PutEnd, not_opened, cut_short, written, out_of_memory, status_of_put, CanPut}
 use Rattle.tabcomp_top.specs.TabCall.{TabEnd, not_read, too_long, refused, put, no_memory_to_read, no_memory_to_convert, status_of, desk_after, CanEnd, IsRead, TabTheorem, RefusesWords, CallsTab, most_bytes}
-use Rattle.tabcomp_top.specs.Causes.{TellsCause, ComesOf, ComesExactly, HasCauses, NothingFails}
+use Rattle.tabcomp_top.specs.Causes.{TellsCause, ComesOf, ComesExactly, HasCauses}
 use Rattle.tabcomp_top.specs.declared.task.Task.{Task}
 use Rattle.tabcomp_top.specs.declared.task.Task.TheVariants as task
 use Rattle.tabcomp_top.specs.declared.status.TabStatus.{TabStatus}

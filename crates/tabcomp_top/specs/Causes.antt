@@ -1,6 +1,6 @@
 -- The table of causes of `tstabcomp`: what each status tells, and when it comes. This project's own rule.
 use Rattle.std.specs.Prelude.{◌≡◌, ◌⊎◌, ℕ, ◌<◌, ◌≤◌, List, [], ◌∷◌, length, take, IfSome, Result, Ok, Err}
-use Rattle.ts_outside.specs.Count.{HasCause, IsQuiet}
+use Rattle.ts_outside.specs.Count.{HasCause}
 use Rattle.ts_outside.specs.Told.{grown}
 use Rattle.ts_outside.specs.Desk.{DeskView, content}
 use Rattle.tabcomp_top.specs.TabWords.{Job}
@@ -64,9 +64,3 @@ pub record ComesExactly (job : Job) (file : List ℕ) (status : TabStatus) : Typ
 pub record HasCauses (job : Job) (old new : DeskView) (status : TabStatus) : Type 0 where
   pub tells : TellsCause job old new status
   pub exactly : IfSome (content old job.input) (λ file. ComesExactly job file status)
-
--- nothing failed outside: no count of faults rose, and none stood at its end
-pub record NothingFails (old new : DeskView) : Type 0 where
-  pub reads : IsQuiet old.read_faults new.read_faults
-  pub writes : IsQuiet old.write_faults new.write_faults
-  pub reports : IsQuiet old.report_faults new.report_faults

@@ -1,10 +1,11 @@
 //! What follows from the clause of `tabcomp_call`, as laws: facts and no code.
 ghost use Rattle.std.specs.Prelude.{◌≡◌, ◌⊎◌, ◌≤◌, ℕ, List, Ok, Err, Some, length};
 ghost use Rattle.ts_outside.specs.Desk.{DeskView, content};
+ghost use Rattle.ts_outside.specs.Faultless.{NothingFails};
 ghost use Rattle.tabcomp_top.specs.TabWords.{Job, job_of};
 ghost use Rattle.tabcomp_top.specs.Conversion.{converted};
 ghost use Rattle.tabcomp_top.specs.TabCall.{CallsTab, most_bytes};
-ghost use Rattle.tabcomp_top.specs.Causes.{HasCauses, NothingFails};
+ghost use Rattle.tabcomp_top.specs.Causes.{HasCauses};
 ghost use Rattle.tabcomp_top.specs.declared.status.TabStatus.{TabStatus};
 ghost use Rattle.tabcomp_top.specs.declared.status.TabStatus.TheVariants.{Done, NoMemory, Words};
 

@@ -5,6 +5,9 @@ pub mod Sink
 pub mod OpenFault
 pub mod FileFault
 pub mod Desk
+pub mod Saying
+pub mod Entries
+pub mod Faultless
 pub mod Memory
 pub mod Found
 pub mod Steady

@@ -15,10 +15,10 @@ use Rattle.ts_outside.specs.Sink.{SinkView}
 use Rattle.ts_outside.specs.Told.{grown}
 use Rattle.ts_outside.specs.Desk.{DeskView, reports, report_failed}
 use Rattle.ts_outside.proofs.Views.{grown-nil, grown-grown}
-use Rattle.tsp_top.specs.Saying.{Says}
+use Rattle.ts_outside.specs.Saying.{Says}
+use Rattle.ts_outside.specs.Entries.{asked_for}
 use Rattle.tsp_top.specs.PlannedChain.{input_name, output_name}
 use Rattle.tsp_top.specs.Openings.{asked_input, asked_output, input_closed_as, output_closed_as}
-use Rattle.tsp_top.specs.StreamTheorem.{asked_for}
 
 -- two desks that differ at most in what was asked, and in counts of faults
 pub record SameOutside (old new : DeskView) : Type 0 where

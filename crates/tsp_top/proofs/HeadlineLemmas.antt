@@ -22,14 +22,16 @@ use Rattle.chain_args.specs.declared.words_fault.WordsFault.TheVariants.{At}
 use Rattle.ts_outside.specs.Count.{HasCause, IsQuiet}
 use Rattle.ts_outside.specs.Told.{grown}
 use Rattle.ts_outside.specs.Desk.{DeskView, file_of}
+use Rattle.ts_outside.specs.Entries.{outputs_with}
+use Rattle.ts_outside.specs.Faultless.{NothingFails}
 use Rattle.tsp_top.specs.CallEnd.{CallEnd, no_input, no_output, ran, unreported, out_of_memory, status_of, status_when_late, FaultRose, StatusTellsCause}
 use Rattle.tsp_top.specs.CanEnd.{CanEnd, CanEndBy}
 use Rattle.tsp_top.specs.MemoryFirst.{IsSteady, AreSteady, NoStageWants, TakesLater}
 use Rattle.tsp_top.specs.PlannedChain.{chain_of, input_of, named_rules, output_name, stuffing_of, users_from, users_of}
 use Rattle.tsp_top.specs.PlannedTables.{AreTables, tables_asked}
-use Rattle.tsp_top.specs.StreamTheorem.{EndsRight, IsWrittenTo, outputs_with, Writes, Reports}
+use Rattle.tsp_top.specs.StreamTheorem.{EndsRight, IsWrittenTo, Writes, Reports}
 use Rattle.tsp_top.specs.TspCall.{CallsPlan, CallsTsp}
-use Rattle.tsp_top.specs.Headline.{TellsInput, TellsTables, NothingFails, IsPureOrWants, IsPureOrEnds, EndsWell, SameButSizes}
+use Rattle.tsp_top.specs.Headline.{TellsInput, TellsTables, IsPureOrWants, IsPureOrEnds, EndsWell, SameButSizes}
 use Rattle.tsp_top.specs.WantsMemory.{WantsMemoryFirst}
 use Rattle.tsp_top.specs.declared.status.Status.{Status}
 use Rattle.tsp_top.specs.declared.status.Status.TheVariants as status

@@ -36,6 +36,8 @@ use Rattle.ts_outside.specs.Source.{SourceView}
 use Rattle.ts_outside.specs.Sink.{SinkView}
 use Rattle.ts_outside.specs.Told.{grown}
 use Rattle.ts_outside.specs.Desk.{DeskView}
+use Rattle.ts_outside.specs.Saying.{Says}
+use Rattle.ts_outside.specs.Entries.{asked_for, outputs_with}
 use Rattle.chain_run.specs.RunOf.{LeftInput, LeftOutput, RunOf}
 use Rattle.plug_set.specs.Plugins.{steady_of}
 use Rattle.tsp_top.specs.CallEnd.{ran, unreported, out_of_memory, status_of, status_when_late, FaultRose, LateRose}
@@ -46,9 +48,8 @@ use Rattle.tsp_top.specs.PlannedChain.{chain_of, input_of, stuffing_of, users_of
 use Rattle.tsp_top.specs.Ran.{IsReady, RanEnds, RanOpened, closed_desk}
 use Rattle.tsp_top.specs.Readings.{ReadsTo}
 use Rattle.tsp_top.specs.Reported.{ReportsRun}
-use Rattle.tsp_top.specs.Saying.{Says}
 use Rattle.tsp_top.specs.Sizes.{default_buffer}
-use Rattle.tsp_top.specs.StreamTheorem.{StreamTheorem, IsPureOrFault, IsCutPart, WritesTo, outputs_with, asked_for}
+use Rattle.tsp_top.specs.StreamTheorem.{StreamTheorem, IsPureOrFault, IsCutPart, WritesTo}
 use Rattle.tsp_top.specs.declared.status.Status.{Status}
 use Rattle.tsp_top.specs.declared.status.Status.TheVariants.{Done, NoMemory}
 use Rattle.tsp_top.specs.declared.status.Status.TheVariants as status

@@ -16,9 +16,10 @@ use Rattle.ts_outside.specs.Told.{grown}
 use Rattle.ts_outside.specs.Sink.{SinkView, took, write_failed}
 use Rattle.ts_outside.specs.Desk.{DeskView, with_output}
 use Rattle.ts_outside.proofs.Views.{HasCause-raised, grown-nil}
+use Rattle.ts_outside.specs.Entries.{outputs_with}
 use Rattle.tsp_top.specs.PlannedChain.{output_name}
 use Rattle.tsp_top.specs.Openings.{OpensOutput, output_closed_as, WasOpened}
-use Rattle.tsp_top.specs.StreamTheorem.{outputs_with, IsCutPart}
+use Rattle.tsp_top.specs.StreamTheorem.{IsCutPart}
 
 -- the closed outputs with one more
 with_output-is : (o : Option (List (List ℕ × List ℕ))) (s : SinkView) (name bytes : List ℕ)

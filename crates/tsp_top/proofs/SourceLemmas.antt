@@ -25,10 +25,11 @@ use Rattle.ts_outside.specs.Source.{SourceView, unread, read_failed}
 use Rattle.ts_outside.specs.Desk.{DeskView, with_input, file_of, content}
 use Rattle.ts_outside.specs.declared.closed_inputs.ClosedInput.{ClosedInput}
 use Rattle.ts_outside.proofs.Views.{HasCause-raised}
+use Rattle.ts_outside.specs.Entries.{closed_with}
 use Rattle.tsp_top.specs.PlannedChain.{stuffing_of, input_of, input_name}
 use Rattle.tsp_top.specs.Sizes.{IsSize, most_buffer}
 use Rattle.tsp_top.specs.Openings.{OpensInput, input_closed_as}
-use Rattle.tsp_top.specs.Readings.{ReadsNothing, CutsAtRead, ReadsFile, ReadsTo, closed_with}
+use Rattle.tsp_top.specs.Readings.{ReadsNothing, CutsAtRead, ReadsFile, ReadsTo}
 
 -- a source whose read failed counts one fault
 one-fault : (old new : SourceView) (read : List ℕ) → old.faults ≡ 0 → read_failed old ≡ unread read new → new.faults ≡ 1

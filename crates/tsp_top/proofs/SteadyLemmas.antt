@@ -2,11 +2,12 @@
 use Rattle.std.proofs.Common.{ℕ, List, [], ◌∷◌, Option, None, Some, refl, arith}
 use Rattle.ts_outside.specs.Count.{IsQuiet}
 use Rattle.ts_outside.specs.Steady.{SteadyDeskView, steady_desk}
+use Rattle.ts_outside.specs.Faultless.{NothingFails}
 use Rattle.chain_args.specs.declared.input_conf.InputConf.{InputConf}
 use Rattle.chain_args.specs.declared.input_conf.InputConf.TheVariants as input
 use Rattle.plug_set.specs.declared.plugin_item.PluginItem.{PluginItem}
 use Rattle.plug_set.specs.Plugins.{table_file_of}
-use Rattle.tsp_top.specs.Headline.{TellsInput, TellsTable, TellsTables, NothingFails}
+use Rattle.tsp_top.specs.Headline.{TellsInput, TellsTable, TellsTables}
 
 quiet : IsQuiet 0 0
 quiet = record { same = refl; below = omega arith }

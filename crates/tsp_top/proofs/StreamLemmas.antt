@@ -6,14 +6,13 @@ use Rattle.ts_outside.specs.Count.{HasCause}
 use Rattle.ts_outside.specs.Told.{grown}
 use Rattle.ts_outside.specs.Desk.{DeskView}
 use Rattle.ts_outside.proofs.Views.{HasCause-raised}
+use Rattle.ts_outside.specs.Saying.{Says, ReportsText}
 use Rattle.chain_model.specs.declared.input_end.InputEnd.TheVariants as ending
 use Rattle.chain_model.specs.declared.cause.Cause.{Cause}
 use Rattle.chain_model.specs.declared.cause.Cause.TheVariants.{Input, Joint, Until, Stop, Refuse, WriteFault, NoMemory}
-use Rattle.tsp_top.specs.Saying.{Says}
 use Rattle.tsp_top.specs.CallEnd.{status_of, FaultRose, LateRose}
 use Rattle.tsp_top.specs.CanEnd.{CanEndBy}
 use Rattle.tsp_top.specs.PlannedChain.{input_name, output_name}
-use Rattle.tsp_top.specs.StreamTheorem.{ReportsText}
 use Rattle.tsp_top.specs.declared.status.Status.TheVariants.{Done}
 
 -- a text that was said

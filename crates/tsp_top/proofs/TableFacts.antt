@@ -9,9 +9,9 @@ use Rattle.ts_outside.specs.Count.{HasCause}
 use Rattle.ts_outside.specs.declared.requests.Purpose.TheVariants.{File}
 use Rattle.ts_outside.specs.Desk.{DeskView, asked_in_vain, content, file_of}
 use Rattle.ts_outside.proofs.Views.{HasCause-raised}
+use Rattle.ts_outside.specs.Saying.{Says}
 use Rattle.tsp_top.specs.PlannedTables.{HasSections, IsTable, AreTables, table_files, files_asked}
 use Rattle.tsp_top.specs.Headline.{TellsTable, TellsTables}
-use Rattle.tsp_top.specs.Saying.{Says}
 use Rattle.tsp_top.specs.TableEnds.{TableEnd, unread, refused, status_of_table, table_line, desk_after_table, CanEndByTable, EndsAtTables}
 use Rattle.tsp_top.specs.declared.status.Status.{Status}
 use Rattle.tsp_top.specs.declared.status.Status.TheVariants.{NoMemory}

@@ -16,8 +16,8 @@ use Rattle.ts_outside.specs.Told.{grown}
 use Rattle.ts_outside.specs.declared.requests.Asked.{Asked}
 use Rattle.ts_outside.specs.Desk.{DeskView, asked_in_vain, content}
 use Rattle.ts_outside.proofs.Views.{grown-nil, grown-grown}
+use Rattle.ts_outside.specs.Saying.{Says}
 use Rattle.tsp_top.specs.PlannedTables.{HasSections, IsTable, AreTables, ReadsTables, file_asked, files_asked, name_if_any, table_files}
-use Rattle.tsp_top.specs.Saying.{Says}
 use Rattle.tsp_top.specs.TableEnds.{unread, refused, table_line, EndsAtPlugin, WantsAtTables, IsOverAtTable, IsOverAtPlugin, IsOverAtTables, RefusesTable}
 use Rattle.tsp_top.specs.declared.status.Status.{Status}
 use Rattle.tsp_top.specs.declared.status.Status.TheVariants.{NoMemory, ReadFault}

@@ -9,13 +9,12 @@ use Rattle.plug_set.specs.Plugins.{table_file_of}
 use Rattle.chain_args.specs.declared.input_conf.InputConf.{InputConf}
 use Rattle.chain_args.specs.declared.input_conf.InputConf.TheVariants as input
 use Rattle.chain_args.specs.declared.plan_type.Plan.{Plan}
-use Rattle.ts_outside.specs.Count.{IsQuiet}
 use Rattle.ts_outside.specs.Told.{grown}
 use Rattle.ts_outside.specs.Desk.{DeskView}
+use Rattle.ts_outside.specs.Entries.{outputs_with}
 use Rattle.tsp_top.specs.CallEnd.{status_of}
 use Rattle.tsp_top.specs.PlannedChain.{chain_of, output_name}
 use Rattle.tsp_top.specs.PlannedTables.{AreTables}
-use Rattle.tsp_top.specs.StreamTheorem.{outputs_with}
 use Rattle.tsp_top.specs.TableEnds.{EndsAtTables}
 use Rattle.tsp_top.specs.declared.status.Status.{Status}
 use Rattle.tsp_top.specs.declared.status.Status.TheVariants.{NoMemory}
@@ -34,12 +33,6 @@ TellsTable (Some name) desk files = desk.files ≡ Some files
 abbrev pub TellsTables : List PluginItem → DeskView → List (List ℕ × List ℕ) → Type 0
 TellsTables [] desk files = Unit {0}
 TellsTables (item ∷ items) desk files = TellsTable (table_file_of item.conf) desk files × TellsTables items desk files
-
--- nothing failed outside: no count of faults rose, and none stood at its end
-pub record NothingFails (old new : DeskView) : Type 0 where
-  pub reads : IsQuiet old.read_faults new.read_faults
-  pub writes : IsQuiet old.write_faults new.write_faults
-  pub reports : IsQuiet old.report_faults new.report_faults
 
 -- the call wrote, reported and answered what applying the plugins one after another to the whole list of packets gives
 pub record IsPureCall (plan : Plan) (tables : List (List (List ℕ))) (files : List (List ℕ × List ℕ))

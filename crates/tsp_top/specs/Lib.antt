@@ -9,7 +9,6 @@ pub mod Ran
 pub mod Readings
 pub mod Refusals
 pub mod Reported
-pub mod Saying
 pub mod Sizes
 pub mod StreamTheorem
 pub mod TableEnds

@@ -1,5 +1,5 @@
 -- What a call reads of its input. This project's own rule.
-use Rattle.std.specs.Prelude.{◌≡◌, ℕ, List, [], ◌∷◌, ◌++◌, length, Bool, true, false, Option, None, Some, IfSome}
+use Rattle.std.specs.Prelude.{◌≡◌, ℕ, List, ◌++◌, length, Bool, true, false, IfSome}
 use Rattle.chain_args.specs.declared.general_conf.GeneralConf.{GeneralConf}
 use Rattle.chain_args.specs.declared.input_conf.InputConf.{InputConf}
 use Rattle.chain_args.specs.declared.input_conf.InputConf.TheVariants as input
@@ -7,20 +7,12 @@ use Rattle.chain_model.specs.declared.input_end.InputEnd.TheVariants.{ReadFault}
 use Rattle.chain_model.specs.declared.cause.Cause.{Cause}
 use Rattle.chain_model.specs.declared.cause.Cause.TheVariants.{Input}
 use Rattle.chain_model.specs.Stuffed.{Stuffing}
-use Rattle.ts_outside.specs.Told.{grown}
-use Rattle.ts_outside.specs.declared.closed_inputs.ClosedInput.{ClosedInput}
 use Rattle.ts_outside.specs.Desk.{DeskView, file_of}
+use Rattle.ts_outside.specs.Entries.{closed_with}
 use Rattle.stage_run.specs.Parts.{IsInSyncSoFar, list_at_fault}
 use Rattle.chain_run.specs.RunOf.{MayRead}
 use Rattle.tsp_top.specs.PlannedChain.{stuffing_of}
 use Rattle.tsp_top.specs.Sizes.{most_buffer}
-
--- the closed inputs with one more: its bytes are told where the files are, and where they are not the closed inputs are
--- told no more
-abbrev pub closed_with : Option (List (List ℕ × List ℕ)) → Option (List ClosedInput)
-    → ClosedInput → Option (List ClosedInput)
-closed_with None closed entry = None
-closed_with (Some files) closed entry = grown closed (entry ∷ [])
 
 -- nothing was read of the input: its file was closed with all its bytes still to come, and no read of it failed
 abbrev pub ReadsNothing : InputConf → List (List ℕ × List ℕ) → DeskView → DeskView → Type 0

@@ -5,7 +5,7 @@ use Rattle.option_words.specs.declared.words_rule.WordsRule.{WordsRule}
 use Rattle.chain_args.specs.declared.words_fault.WordsFault.TheVariants.{At}
 use Rattle.option_words.specs.RuleText.{rule_text}
 use Rattle.ts_outside.specs.Desk.{DeskView}
-use Rattle.tsp_top.specs.Saying.{Says}
+use Rattle.ts_outside.specs.Saying.{Says}
 use Rattle.tsp_top.specs.declared.status.Status.{Status}
 use Rattle.tsp_top.specs.declared.status.Status.TheVariants.{Words, NoMemory}
 

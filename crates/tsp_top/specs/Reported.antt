@@ -2,7 +2,7 @@
 use Rattle.std.specs.Prelude.{◌≡◌, ◌⊎◌, ◌||◌, Bool, ℕ, List, if◌then◌else◌}
 use Rattle.chain_model.specs.declared.cause.Cause.{Cause}
 use Rattle.ts_outside.specs.Desk.{DeskView}
-use Rattle.tsp_top.specs.Saying.{Says}
+use Rattle.ts_outside.specs.Saying.{Says}
 use Rattle.tsp_top.specs.CallEnd.{status_of, status_when_late}
 use Rattle.tsp_top.specs.declared.status.Status.{Status}
 use Rattle.tsp_top.specs.declared.status.Status.TheVariants.{NoMemory}

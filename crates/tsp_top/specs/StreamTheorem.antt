@@ -1,5 +1,5 @@
 -- The stream theorem: what a call of `tsp` reads, writes, reports, opens and answers. This project's own rule.
-use Rattle.std.specs.Prelude.{◌≡◌, ◌⊎◌, ℕ, ◌<◌, List, [], ◌∷◌, ◌++◌, length, take, drop, codes, Bool, true, false, Option, None, Some, IfSome}
+use Rattle.std.specs.Prelude.{◌≡◌, ◌⊎◌, ℕ, List, [], ◌∷◌, ◌++◌, take, drop, codes, true, false, IfSome}
 use Rattle.chain_model.specs.Prefix.{IsPrefix}
 use Rattle.chain_model.specs.StageLists.{end_list}
 use Rattle.chain_model.specs.Cut.{IsLawfulFault}
@@ -9,12 +9,11 @@ use Rattle.chain_model.specs.declared.cause.Cause.TheVariants.{WriteFault}
 use Rattle.chain_args.specs.declared.plan_type.Plan.{Plan}
 use Rattle.chain_core.specs.EveryOrder.{IsPureClose}
 use Rattle.ts_packet.specs.declared.cell.Cell.{Cell}
-use Rattle.ts_outside.specs.Count.{HasCause}
 use Rattle.ts_outside.specs.Told.{grown}
-use Rattle.ts_outside.specs.declared.requests.Asked.{Asked}
-use Rattle.ts_outside.specs.declared.requests.Purpose.{Purpose}
 use Rattle.ts_outside.specs.declared.requests.Purpose.TheVariants.{Input, Output}
 use Rattle.ts_outside.specs.Desk.{DeskView}
+use Rattle.ts_outside.specs.Saying.{ReportsText, ReportsNothing}
+use Rattle.ts_outside.specs.Entries.{asked_for, outputs_with}
 use Rattle.stage_run.specs.OutputStands.{IsPartOfFirst}
 use Rattle.tsp_top.specs.CallEnd.{CallEnd, no_input, no_output, ran, unreported, out_of_memory, StatusTellsCause}
 use Rattle.tsp_top.specs.CanEnd.{CanEnd}
@@ -44,12 +43,6 @@ IsWrittenTo chain cut why bytes =
     (part : List ℕ) × (bytes ≡ written_to chain cut ++ part)
     × IsCutPart (end_list (chain_rules chain) chain.input).cells cut why part
 
--- the closed outputs with one more, unless packets are dropped
-abbrev pub outputs_with : Option (List ℕ) → Option (List (List ℕ × List ℕ)) → List ℕ
-    → Option (List (List ℕ × List ℕ))
-outputs_with None outputs bytes = outputs
-outputs_with (Some name) outputs bytes = grown outputs ((name, bytes) ∷ [])
-
 -- an output was closed with exactly these bytes, which are a first part of what the run without faults writes
 abbrev pub WritesTo : Plan → Chain → DeskView → DeskView → ℕ → Cause → Type 0
 WritesTo plan chain old new cut why =
@@ -74,17 +67,6 @@ Reads plan files old new (ran cut why late) = ReadsTo plan.general plan.input fi
 Reads plan files old new (unreported cut why) = ReadsTo plan.general plan.input files old new cut why
 Reads plan files old new out_of_memory = ReadsNothing plan.input files old new
 
--- a text was reported, whole, or a first part of it where a report failed
-abbrev pub ReportsText : DeskView → DeskView → List ℕ → Type 0
-ReportsText old new text =
-    ((new.reported ≡ grown old.reported text) × (new.report_faults ≡ old.report_faults))
-    ⊎ ((n : ℕ) × (n < length text) × (new.reported ≡ grown old.reported (take n text))
-    × HasCause old.report_faults new.report_faults)
-
--- nothing was reported, and no report failed
-abbrev pub ReportsNothing : DeskView → DeskView → Type 0
-ReportsNothing old new = (new.reported ≡ old.reported) × (new.report_faults ≡ old.report_faults)
-
 -- what is reported
 abbrev pub Reports : Chain → DeskView → DeskView → CallEnd → Type 0
 Reports chain old new no_input = ReportsText old new (codes "tsp: cannot open input" ++ 10 ∷ [])
@@ -92,11 +74,6 @@ Reports chain old new no_output = ReportsText old new (codes "tsp: cannot open o
 Reports chain old new (ran cut why late) = ReportsText old new (reported_at chain cut why)
 Reports chain old new (unreported cut why) = ReportsNothing old new
 Reports chain old new out_of_memory = ReportsNothing old new
-
--- an opening that was asked for, unless there is nothing to open
-abbrev pub asked_for : Purpose → Option (List ℕ) → Bool → List Asked
-asked_for purpose None ok = []
-asked_for purpose (Some name) ok = record { purpose = purpose; name = name; ok = ok } ∷ []
 
 -- what is opened: first the input, then the output, and each went well but the last where the call says so
 abbrev pub Opens : Plan → DeskView → DeskView → CallEnd → Type 0

@@ -6,8 +6,8 @@ use Rattle.plug_set.specs.Plugins.{table_file_of}
 use Rattle.table_file.specs.declared.fault.TableFileFault.{TableFileFault}
 use Rattle.ts_outside.specs.declared.requests.Purpose.TheVariants.{File}
 use Rattle.ts_outside.specs.Desk.{DeskView, asked_well, asked_in_vain}
+use Rattle.ts_outside.specs.Saying.{Says}
 use Rattle.tsp_top.specs.PlannedTables.{HasSections, AreTables, name_if_any, table_files, files_asked}
-use Rattle.tsp_top.specs.Saying.{Says}
 use Rattle.tsp_top.specs.declared.status.Status.{Status}
 use Rattle.tsp_top.specs.declared.status.Status.TheVariants.{NoMemory, ReadFault, TableFile}
 

@@ -3,10 +3,12 @@ use Rattle.std.specs.Prelude.{◌≡◌, ◌⊎◌, ℕ, List, [], IfSome}
 use Rattle.chain_model.specs.declared.cause.Cause.{Cause}
 use Rattle.chain_args.specs.declared.plan_type.Plan.{Plan}
 use Rattle.ts_outside.specs.Desk.{DeskView}
+use Rattle.ts_outside.specs.Saying.{ReportsNothing}
+use Rattle.ts_outside.specs.Entries.{outputs_with}
 use Rattle.tsp_top.specs.MemoryFirst.{NoStageWants}
 use Rattle.tsp_top.specs.PlannedChain.{chain_of, output_name}
 use Rattle.tsp_top.specs.PlannedTables.{AreTables}
-use Rattle.tsp_top.specs.StreamTheorem.{IsPureOrFault, WritesTo, ReportsNothing, outputs_with}
+use Rattle.tsp_top.specs.StreamTheorem.{IsPureOrFault, WritesTo}
 
 -- the run wrote all that its cut and cause say, and no stage wanted memory: only the report did
 pub record WroteUnreported (plan : Plan) (old new : DeskView) : Type 0 where

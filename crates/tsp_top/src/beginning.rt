@@ -14,7 +14,6 @@ use crate::driver::Driver;
 use crate::opened_call::OpenedCall;
 use crate::opening::{close_input, open_input, open_output};
 use crate::ready::{ReadyChain, ready_chain};
-use crate::saying::say;
 use crate::status::Status;
 use crate::tables::read_tables;
 use crate::words::refuse_words;
@@ -24,7 +23,7 @@ use plug_set::AnyPlugin;
 use plugin_trait::Plugin;
 use stage_run::InputPart;
 use std::alloc::{AllocError, Global};
-use ts_outside::{Desk, OpenFault};
+use ts_outside::{Desk, OpenFault, say};
 use ts_section::Section;
 
 /// Reads the words, reads and opens what they name. The answer is the call that is open, ready for this driver, or the

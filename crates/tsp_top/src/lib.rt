@@ -15,7 +15,6 @@ mod planning;
 mod ready;
 mod report;
 mod reporting;
-mod saying;
 mod status;
 mod steady;
 mod stream_law;

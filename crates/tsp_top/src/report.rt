@@ -9,13 +9,12 @@ ghost use Rattle.tsp_top.specs.Reported.{ReachesCut, ReportsRun};
 
 use crate::end_line::end_line_text;
 use crate::reporting::push_reports;
-use crate::saying::say;
 use crate::status::{Status, status_if_late, status_of_cause};
 use chain_core::Closed;
 use plug_set::PluginItem;
 use plugin_trait::Plugin;
 use std::alloc::{AllocError, Global};
-use ts_outside::Desk;
+use ts_outside::{Desk, say};
 
 /// All that is reported of a run: what the plugins say of the cells before the cut, then the end line.
 fn report_text<P: Plugin>(

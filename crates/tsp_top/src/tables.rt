@@ -9,13 +9,12 @@ ghost use Rattle.ts_outside.specs.Desk.{DeskView, content};
 ghost use Rattle.tsp_top.specs.PlannedTables.{HasSections, IsTable, ReadsTables, files_asked, name_if_any};
 ghost use Rattle.tsp_top.specs.TableEnds.{IsOverAtPlugin, IsOverAtTable, IsOverAtTables, RefusesTable};
 
-use crate::saying::say;
 use crate::status::Status;
 use chain_args::Plan;
 use plug_set::PluginItem;
 use std::alloc::{AllocError, Global};
 use table_file::{MOST_BYTES, NoTables, TableFileFault, table_sections};
-use ts_outside::{Desk, FileFault};
+use ts_outside::{Desk, FileFault, say};
 use ts_section::Section;
 
 /// A line about the file of the plugin of this number.

@@ -3,11 +3,10 @@ ghost use Rattle.std.specs.Prelude.{◌≡◌, IfOk};
 ghost use Rattle.std.specs.String.{string_bytes};
 ghost use Rattle.tsp_top.specs.Refusals.{words_line, RefusesWords};
 
-use crate::saying::say;
 use crate::status::Status;
 use chain_args::{WordsFault, WordsRule};
 use std::alloc::{AllocError, Global};
-use ts_outside::Desk;
+use ts_outside::{Desk, say};
 
 /// The line that is reported of a broken rule.
 fn words_line_text(alloc: Global, word: usize, rule: WordsRule) -> Result<String, AllocError>

@@ -1,6 +1,6 @@
 use Rattle.std.proofs.Common.{ℕ, List, inl, refl, subst, ◌∙◌}
-use Rattle.tsp_top.specs.Saying.{Says}
 use Rattle.tsp_top.proofs.tables.refuse_table.Goals as goal
+use Rattle.ts_outside.specs.Saying.{Says}
 
 pub returns-in-Ok : goal.returns-in-Ok
 returns-in-Ok g c = inl (
