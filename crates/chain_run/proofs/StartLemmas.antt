@@ -6,7 +6,7 @@ use Rattle.std.specs.List.{All}
 use Rattle.std.proofs.lemmas.List.{length-map}
 use Rattle.std.proofs.Math.Seq.{get_or-append_seam}
 use Rattle.ts_packet.specs.declared.cell.Cell.{Cell}
-use Rattle.ts_outside.specs.Source.{SourceView}
+use Rattle.ts_outside.specs.Source.{SourceView, own_bytes}
 use Rattle.ts_outside.specs.Sink.{SinkView}
 use Rattle.chain_model.specs.PluginRule.{PluginRule}
 use Rattle.chain_model.specs.Apply.{StageList, last_passed}
@@ -48,8 +48,8 @@ any-default (x ∷ xs) (suc k) d e lt = any-default xs k d e (omega arith)
 -- some view of the source of an input, and of the sink of an output
 view-of-source : {S : Type 0} (seen : S → SourceView) (part : InputPart S) → (view : SourceView) × IsSourceOf seen part view
 view-of-source seen (input.Stream source) = (seen source, refl)
-view-of-source seen (input.Nulls count) = (record { left = None; faults = 0 }, tt)
-view-of-source seen (input.Generated generator count) = (record { left = None; faults = 0 }, tt)
+view-of-source seen (input.Nulls count) = (record { left = None; faults = 0; origin = own_bytes }, tt)
+view-of-source seen (input.Generated generator count) = (record { left = None; faults = 0; origin = own_bytes }, tt)
 
 view-of-sink : {K : Type 0} (seen : K → SinkView) (part : OutputPart K) → (view : SinkView) × IsSinkOf seen part view
 view-of-sink seen (output.Stream sink) = (seen sink, refl)

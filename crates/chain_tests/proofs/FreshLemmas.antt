@@ -2,7 +2,7 @@
 use Rattle.std.proofs.Common.{◌≡◌, ℕ, ◌+◌, ◌≤◌, List, length, ap, subst, Option, None, refl, arith, length-append}
 use Rattle.std.proofs.lemmas.List.{length-take-le}
 use Rattle.ts_packet.specs.declared.cell.Cell.{Cell}
-use Rattle.ts_outside.specs.Source.{SourceView}
+use Rattle.ts_outside.specs.Source.{SourceView, own_bytes}
 use Rattle.ts_outside.specs.Sink.{SinkView}
 use Rattle.chain_core.specs.declared.stage_end.StageEnd.{StageEnd}
 use Rattle.stage_run.specs.declared.input_part.InputPart.{InputPart}
@@ -17,7 +17,7 @@ use Rattle.stage_run.specs.Works.{Works}
 
 -- some source, and some sink
 pub any-source : SourceView
-any-source = record { left = None; faults = 0 }
+any-source = record { left = None; faults = 0; origin = own_bytes }
 
 pub any-sink : SinkView
 any-sink = record { taken = None; name = None; faults = 0 }

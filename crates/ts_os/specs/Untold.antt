@@ -1,7 +1,7 @@
 -- This project's own rule: what real files and standard streams tell. No clause can say which bytes the system holds,
 -- gives or takes, so everything but the counts of faults is left untold.
 use Rattle.std.specs.Prelude.{ℕ, Bool, None}
-use Rattle.ts_outside.specs.Source.{SourceView}
+use Rattle.ts_outside.specs.Source.{SourceView, own_bytes}
 use Rattle.ts_outside.specs.Sink.{SinkView}
 use Rattle.ts_outside.specs.Desk.{DeskView}
 
@@ -14,7 +14,7 @@ pub record OsDeskView : Type 0 where
 
 -- a real source tells the count of its faults alone
 abbrev pub untold_source : ℕ → SourceView
-untold_source faults = record { left = None; faults = faults }
+untold_source faults = record { left = None; faults = faults; origin = own_bytes }
 
 -- a real sink tells the count of its faults alone
 abbrev pub untold_sink : ℕ → SinkView

@@ -2,6 +2,7 @@ ghost use Rattle.std.specs.Prelude.{◌≡◌, ◌<◌, ◌≤◌, ◌||◌, [],
 ghost use Rattle.std.specs.Option.{option_copied, option_map};
 ghost use Rattle.std.specs.Str.{bytes_eq};
 ghost use Rattle.ts_outside.specs.declared.requests.Purpose.TheVariants.{Input, Output, File as Whole};
+ghost use Rattle.ts_outside.specs.Source.{own_bytes};
 ghost use Rattle.ts_outside.specs.OpenFault.{MatchOpen};
 ghost use Rattle.ts_outside.specs.FileFault.{MatchFile};
 ghost use Rattle.ts_outside.specs.Desk.{stream_name, content, asked_well, asked_in_vain, input_closed, output_closed, report_failed, reports};
@@ -137,7 +138,7 @@ impl Desk for OsDesk {
             (untold_desk self.new ≡ asked_in_vain (untold_desk self.old) Input named)
             (untold_desk self.new ≡ untold_desk self.old) }
         ensures source { let named = stream_name (option_copied name.entry) in
-            IfOk result (λ s. untold_source s ≡ record { left = content (untold_desk self.old) named; faults = 0 }) }
+            IfOk result (λ s. untold_source s ≡ record { left = content (untold_desk self.old) named; faults = 0; origin = own_bytes }) }
         ensures aside { self.new.aside ≡ self.old.aside }
     {
         if self.inputs.reserve(1).is_err() {

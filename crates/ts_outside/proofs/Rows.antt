@@ -1,6 +1,7 @@
 -- Rows that the definitions compute.
 use Rattle.std.proofs.Common.{◌≡◌, ℕ, List, [], ◌∷◌, None, Some, true, false, refl}
 use Rattle.ts_outside.specs.Count.{raised}
+use Rattle.ts_outside.specs.Source.{own_bytes}
 use Rattle.ts_outside.specs.Told.{before, grown}
 use Rattle.ts_outside.specs.Desk.{file_of, stream_name, with_input, with_output}
 use Rattle.ts_outside.specs.Memory.{fails_next, read_count}
@@ -22,7 +23,7 @@ unfolding files
 names = (refl, refl, refl, refl)
 
 -- a source that failed and had two bytes to come, and an output, closed where all is told and where it is not
-closings : (with_input (Some []) (record { left = Some (5 ∷ 6 ∷ []); faults = 1 }) ≡ Some (record { left = 2; failed = true } ∷ [])) × (with_input (Some []) (record { left = None; faults = 0 }) ≡ None) × (with_output (Some []) (record { taken = Some (5 ∷ []); name = Some (97 ∷ []); faults = 0 }) ≡ Some ((97 ∷ [], 5 ∷ []) ∷ []))
+closings : (with_input (Some []) (record { left = Some (5 ∷ 6 ∷ []); faults = 1; origin = own_bytes }) ≡ Some (record { left = 2; failed = true } ∷ [])) × (with_input (Some []) (record { left = None; faults = 0; origin = own_bytes }) ≡ None) × (with_output (Some []) (record { taken = Some (5 ∷ []); name = Some (97 ∷ []); faults = 0 }) ≡ Some ((97 ∷ [], 5 ∷ []) ∷ []))
 closings = (refl, refl, refl)
 
 -- the second call fails where 2 stands in the list; a read of four places moves a piece of three, or what is left

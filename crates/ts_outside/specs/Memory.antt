@@ -11,7 +11,7 @@ use Rattle.ts_outside.specs.declared.requests.Asked.{Asked}
 use Rattle.ts_outside.specs.declared.requests.Purpose.{Purpose}
 use Rattle.ts_outside.specs.declared.requests.Purpose.TheVariants.{Output}
 use Rattle.ts_outside.specs.Count.{raised}
-use Rattle.ts_outside.specs.Source.{SourceView}
+use Rattle.ts_outside.specs.Source.{SourceView, own_bytes}
 use Rattle.ts_outside.specs.Sink.{SinkView}
 use Rattle.ts_outside.specs.Desk.{DeskView, file_of}
 
@@ -29,7 +29,7 @@ pub record MemorySourceView : Type 0 where
 
 -- a source in memory tells everything
 abbrev pub source_seen : MemorySourceView → SourceView
-source_seen s = record { left = Some s.left; faults = s.faults }
+source_seen s = record { left = Some s.left; faults = s.faults; origin = own_bytes }
 
 -- how many bytes the next read moves into so many places: at most a piece, and what is there
 abbrev pub read_count : MemorySourceView → ℕ → ℕ

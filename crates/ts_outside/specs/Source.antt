@@ -1,12 +1,24 @@
 -- This project's own rule: where bytes come from.
-use Rattle.std.specs.Prelude.{ℕ, ◌≡◌, ◌≤◌, List, Option}
+use Rattle.std.specs.Prelude.{ℕ, ◌≡◌, ◌≤◌, List, Option, None}
 use Rattle.ts_outside.specs.Count.{raised}
 use Rattle.ts_outside.specs.Told.{before}
 
--- what contracts see of a source: the bytes still to come, told or not, and the count of its faults
+-- where a source has its bytes from, where it leaves out some of what another source gives: the length of the units of
+-- which it leaves some out, and the bytes that the other source had to come when it was taken, told or not
+pub record Origin : Type 0 where
+  pub unit : ℕ
+  pub bytes : Option (List ℕ)
+
+-- a source that leaves out none
+abbrev pub own_bytes : Origin
+own_bytes = record { unit = 0; bytes = None }
+
+-- what contracts see of a source: the bytes still to come, told or not, the count of its faults, and where its bytes are
+-- from, which no call changes
 pub record SourceView : Type 0 where
   pub left : Option (List ℕ)
   pub faults : ℕ
+  pub origin : Origin
 
 -- the source as it was before it gave these bytes
 abbrev pub unread : List ℕ → SourceView → SourceView

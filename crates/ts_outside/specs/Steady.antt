@@ -1,12 +1,12 @@
 -- This project's own rule: the outside in memory that never fails, and keeps of what goes out the number of bytes alone.
 use Rattle.std.specs.Prelude.{ℕ, ◌+◌, ◌-◌, ◌^◌, List, None, Some, min}
-use Rattle.ts_outside.specs.Source.{SourceView}
+use Rattle.ts_outside.specs.Source.{SourceView, own_bytes}
 use Rattle.ts_outside.specs.Sink.{SinkView}
 use Rattle.ts_outside.specs.Desk.{DeskView}
 
 -- a source is its bytes still to come, and tells them
 abbrev pub steady_source : List ℕ → SourceView
-steady_source left = record { left = Some left; faults = 0 }
+steady_source left = record { left = Some left; faults = 0; origin = own_bytes }
 
 -- a sink is the number of bytes that it took, and tells neither bytes nor name
 abbrev pub steady_sink : ℕ → SinkView

@@ -1,5 +1,6 @@
 ghost use Rattle.std.specs.Prelude.{◌≡◌, ◌<◌, ◌≤◌, [], Some, length, take, is_err, IfOk, OnErr, IfSome};
 ghost use Rattle.std.specs.Option.{option_copied, option_map};
+ghost use Rattle.ts_outside.specs.Source.{own_bytes};
 ghost use Rattle.ts_outside.specs.OpenFault.{MatchOpen};
 ghost use Rattle.ts_outside.specs.FileFault.{MatchFile};
 ghost use Rattle.ts_outside.specs.declared.requests.Purpose.TheVariants.{Input, Output, File};
@@ -32,7 +33,7 @@ pub trait Desk {
             (seen self.new ≡ asked_in_vain (seen self.old) Input named)
             (seen self.new ≡ seen self.old) }
         ensures source { let named = stream_name (option_copied name.entry) in
-            IfOk result (λ s. Self.In.seen s ≡ record { left = content (seen self.old) named; faults = 0 }) };
+            IfOk result (λ s. Self.In.seen s ≡ record { left = content (seen self.old) named; faults = 0; origin = own_bytes }) };
 
     /// Opens a sink of a name, with nothing taken.
     ///

@@ -3,6 +3,7 @@ ghost use Rattle.ts_outside.specs.Count.{raised};
 ghost use Rattle.std.specs.Option.{option_copied, option_map};
 ghost use Rattle.std.specs.Vec.{vec_capacity};
 ghost use Rattle.ts_outside.specs.declared.requests.Purpose.TheVariants.{Input, Output, File};
+ghost use Rattle.ts_outside.specs.Source.{own_bytes};
 ghost use Rattle.ts_outside.specs.OpenFault.{MatchOpen};
 ghost use Rattle.ts_outside.specs.FileFault.{MatchFile};
 ghost use Rattle.ts_outside.specs.Desk.{stream_name, file_of, content, asked_well, asked_in_vain, input_closed, output_closed, report_failed, reports};
@@ -237,7 +238,7 @@ impl Desk for MemoryDesk {
             (desk_seen self.new ≡ asked_in_vain (desk_seen self.old) Input named)
             (desk_seen self.new ≡ desk_seen self.old) }
         ensures source { let named = stream_name (option_copied name.entry) in
-            IfOk result (λ s. source_seen s ≡ record { left = content (desk_seen self.old) named; faults = 0 }) }
+            IfOk result (λ s. source_seen s ≡ record { left = content (desk_seen self.old) named; faults = 0; origin = own_bytes }) }
 
         // Exactly where the plan says so, but for want of memory.
         ensures planned { let named = stream_name (option_copied name.entry) in

@@ -7,7 +7,7 @@ use crate::faults::Failed;
 ///
 /// A source is no `Drop`: it has to be handed to `Desk::close_in`.
 pub trait Source {
-    // What contracts see: the bytes still to come, told or not, and the count of faults.
+    // What contracts see: the bytes still to come, told or not, the count of faults, and where the bytes are from.
     ghost seen: { Self → SourceView };
 
     /// Moves the next bytes into the front of `into` and answers how many they are. What stands behind them there may

@@ -1,6 +1,7 @@
 ghost use Rattle.std.specs.Prelude.{◌≡◌, ◌<◌, ◌≤◌, [], length, take, is_err, IsOk, IfOk, OnErr, IfSome};
 ghost use Rattle.std.specs.Option.{option_copied, option_map};
 ghost use Rattle.ts_outside.specs.declared.requests.Purpose.TheVariants.{Input, Output, File};
+ghost use Rattle.ts_outside.specs.Source.{own_bytes};
 ghost use Rattle.ts_outside.specs.OpenFault.{MatchOpen};
 ghost use Rattle.ts_outside.specs.FileFault.{MatchFile};
 ghost use Rattle.ts_outside.specs.Desk.{stream_name, file_of, content, asked_well, asked_in_vain, input_closed, output_closed, report_failed, reports};
@@ -78,7 +79,7 @@ impl Desk for SteadyDesk {
             (steady_desk self.new ≡ asked_in_vain (steady_desk self.old) Input named)
             (steady_desk self.new ≡ steady_desk self.old) }
         ensures source { let named = stream_name (option_copied name.entry) in
-            IfOk result (λ s. steady_source s ≡ record { left = content (steady_desk self.old) named; faults = 0 }) }
+            IfOk result (λ s. steady_source s ≡ record { left = content (steady_desk self.old) named; faults = 0; origin = own_bytes }) }
 
         // It never fails.
         ensures steady { let named = stream_name (option_copied name.entry) in

@@ -21,7 +21,7 @@ use Rattle.stage_run.specs.Parts.{IsListOf, IsUnused, list_at_fault}
 use Rattle.chain_run.specs.RunOf.{MayRead, CutsAtFault, ReadsSource, LeftInput}
 use Rattle.ts_outside.specs.Count.{raised, HasCause}
 use Rattle.ts_outside.specs.Told.{before}
-use Rattle.ts_outside.specs.Source.{SourceView, unread, read_failed}
+use Rattle.ts_outside.specs.Source.{SourceView, own_bytes, unread, read_failed}
 use Rattle.ts_outside.specs.Desk.{DeskView, with_input, file_of, content}
 use Rattle.ts_outside.specs.declared.closed_inputs.ClosedInput.{ClosedInput}
 use Rattle.ts_outside.proofs.Views.{HasCause-raised}
@@ -69,7 +69,7 @@ opened-left None files name s same e = e
 opened-left (Some t) files name s same e = e ∙ ap (λ (fs : List (List ℕ × List ℕ)). Some (file_of fs name)) (sym same)
 
 opens-left : (s : SourceView) (d : DeskView) (files : List (List ℕ × List ℕ)) (name : List ℕ)
-    → IfSome d.files (λ t. files ≡ t) → s ≡ record { left = content d name; faults = 0 } → LeftTold d.files s (file_of files name)
+    → IfSome d.files (λ t. files ≡ t) → s ≡ record { left = content d name; faults = 0; origin = own_bytes } → LeftTold d.files s (file_of files name)
 opens-left s d files name same opens = opened-left d.files files name s same (ap (λ (v : SourceView). v.left) opens)
 
 -- a name stands for its own bytes where it stands first

@@ -10,7 +10,7 @@ use Rattle.stage_run.specs.declared.input_part.InputPart.TheVariants.{Stream, Nu
 use Rattle.stage_run.specs.declared.output_part.OutputPart.{OutputPart}
 use Rattle.stage_run.specs.declared.output_part.OutputPart.TheVariants as out
 use Rattle.ts_outside.specs.declared.requests.Purpose.TheVariants.{Input, Output}
-use Rattle.ts_outside.specs.Source.{SourceView}
+use Rattle.ts_outside.specs.Source.{SourceView, own_bytes}
 use Rattle.ts_outside.specs.Sink.{SinkView}
 use Rattle.ts_outside.specs.Desk.{DeskView, asked_well, asked_in_vain, content, input_closed, output_closed}
 
@@ -53,7 +53,7 @@ IsGenerated seed count _ = ⊥
 -- the part of an input that was opened: a source of all the file's bytes, the null packets, or the generated stream
 abbrev pub OpensInput : {S : Type 0} → (S → SourceView) → DeskView → InputConf → InputPart S → Type 0
 OpensInput seen desk (input.File name) (Stream source) =
-    seen source ≡ record { left = content desk name; faults = 0 }
+    seen source ≡ record { left = content desk name; faults = 0; origin = own_bytes }
 OpensInput seen desk (input.Null count) (Nulls packets) = packets ≡ count
 OpensInput seen desk (input.TestGen seed count) part = IsGenerated seed count part
 OpensInput seen desk _ _ = ⊥
