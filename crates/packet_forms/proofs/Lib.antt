@@ -1,0 +1,2 @@
+pub mod Strips
+mod Rows
