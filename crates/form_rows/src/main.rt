@@ -1,0 +1,113 @@
+//! Reads files in memory through each form of packets, with as many places a read as a row says, and prints how many bytes
+//! of packets came, and a sum of them. Further rows have a read that fails, what is left of the file itself, and reads that
+//! bring every number of bytes from 1 to 1,000.
+#![tactic(auto)]
+
+ghost use Rattle.std.specs.Prelude.{◌<◌};
+
+mod drains;
+mod files;
+
+use anyhow::Result;
+use drains::{Came, read_once, read_twice};
+use files::{slow_desk, steady_desk};
+use packet_forms::Form;
+
+/// A file of so many bytes that is read as one of a form.
+#[derive(Clone, Copy)]
+struct Row {
+    form: Form,
+    size: usize,
+}
+
+impl Row {
+    fn of(form: Form, size: usize) -> Row {
+        Row { form, size }
+    }
+}
+
+/// Two packets with their sixteen bytes, of which the last are wanting; two units and fourteen bytes; two and three; two
+/// packets and sixteen bytes.
+fn rows() -> [Row; 4] {
+    [
+        Row::of(Form::Rs204, 392),
+        Row::of(Form::M2ts, 398),
+        Row::of(Form::M2ts, 387),
+        Row::of(Form::Ts, 392),
+    ]
+}
+
+/// Prints what came of a file that was read to its end or a fault, and then once more.
+fn print_twice(rt: &HostRuntime, row: Row, most: usize, came: Option<(Came, Came)>) -> Result<()> {
+    let Row { form, size } = row;
+    match came {
+        Some((first, second)) => {
+            println!(rt; "{form:?} {size} by {most}: {first:?}, then {second:?}")?;
+        }
+        None => println!(rt; "{form:?} {size}: not opened")?,
+    }
+    Ok(())
+}
+
+/// What comes of a row's file with so many places a read.
+fn steady_twice(rt: &HostRuntime, row: Row, most: usize) -> Result<Option<(Came, Came)>> {
+    let mut room = vec![in rt.alloc(); 0u8; most]?;
+    let mut desk = steady_desk(rt.alloc(), row.size)?;
+    Ok(read_twice(&mut desk, row.form, &mut room))
+}
+
+/// What comes of a row's file where a read brings so many bytes at most and reads of these numbers fail.
+fn slow_twice(
+    rt: &HostRuntime,
+    row: Row,
+    piece: usize,
+    failing: &[u64],
+) -> Result<Option<(Came, Came)>>
+    requires { 0 < piece }
+{
+    let mut room = vec![in rt.alloc(); 0u8; 188]?;
+    let mut desk = slow_desk(rt.alloc(), row.size, piece, failing)?;
+    Ok(read_twice(&mut *desk, row.form, &mut room))
+}
+
+/// What comes of one read of a row's file, and then of the file itself.
+fn steady_once(rt: &HostRuntime, row: Row) -> Result<Option<(usize, Came)>> {
+    let mut room = vec![in rt.alloc(); 0u8; 188]?;
+    let mut desk = steady_desk(rt.alloc(), row.size)?;
+    Ok(read_once(&mut desk, row.form, &mut room))
+}
+
+/// How many of the reads that bring at most 1 to 1,000 bytes at a time come to this.
+fn sizes_alike(rt: &HostRuntime, row: Row, wanted: Option<(Came, Came)>) -> Result<u32> {
+    let mut alike: u32 = 0;
+    for less in 0..1000usize {
+        if slow_twice(rt, row, less + 1, &[])? == wanted {
+            alike = alike.saturating_add(1);
+        }
+    }
+    Ok(alike)
+}
+
+/// Prints all of a row.
+fn print_row(rt: &HostRuntime, row: Row) -> Result<()> {
+    for most in [1, 3, 187, 1000] {
+        let came = steady_twice(rt, row, most)?;
+        print_twice(rt, row, most, came)?;
+    }
+    let failed = slow_twice(rt, row, 4, &[2])?;
+    print_twice(rt, row, 188, failed)?;
+    if let Some((count, rest)) = steady_once(rt, row)? {
+        println!(rt; "  one read: {count} bytes, left {rest:?}")?;
+    }
+    let whole = steady_twice(rt, row, 188)?;
+    let alike = sizes_alike(rt, row, whole)?;
+    println!(rt; "  {alike} sizes of a read alike")?;
+    Ok(())
+}
+
+fn main(rt: HostRuntime) -> Result<()> {
+    for row in rows() {
+        print_row(&rt, row)?;
+    }
+    Ok(())
+}
