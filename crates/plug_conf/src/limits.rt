@@ -16,5 +16,8 @@ pub const MOST_NUMBER: u64 = 1 << 60;
 /// The greatest count of packets: as many as `skip` drops, and as the input `null` gives. It is 2^40.
 pub const MOST_PACKETS: u64 = 1 << 40;
 
+/// The most packets of a window: as many as `compact` and `rmorphan` keep before they give one.
+pub const MOST_WINDOW: u64 = 100_000;
+
 /// The most pairs of `remap`.
 pub const MOST_PAIRS: usize = 1000;

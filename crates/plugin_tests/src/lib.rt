@@ -26,3 +26,5 @@ mod services;
 mod tables_in_force;
 #[cfg(test)]
 mod watchers;
+#[cfg(test)]
+mod windows;

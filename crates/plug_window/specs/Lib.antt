@@ -1,0 +1,10 @@
+pub mod DelayRule
+pub mod Slots
+pub mod CompactRule
+pub mod CompactState
+pub mod BlockState
+pub mod RmorphanRule
+pub mod RmorphanState
+pub mod LateState
+pub mod WindowSettings
+pub mod WindowWords

@@ -1,0 +1,111 @@
+//! The delay line of `compact`: a block of packets is collected while the block before it is given.
+ghost use Rattle.std.specs.Prelude.{◌≡◌, IfOk, []};
+ghost use Rattle.plug_window.specs.BlockState.{StandsFor};
+
+use circular_buffer::HeapCircularBuffer;
+use std::alloc::{AllocError, Global};
+use ts_packet::{Labelled, NULL_PID};
+
+/// The packets of the block that is given and of the one that is collected, those on the null PID apart.
+///
+/// Each packet that came leaves as many behind it as a block has, so either row has places for one block.
+#[derive(Drop)]
+pub struct BlockLine {
+    /// Those on other PIDs, of the block that is given first.
+    packets: HeapCircularBuffer<Labelled>,
+    /// Those on the null PID, of the block that is given first.
+    nulls: HeapCircularBuffer<Labelled>,
+    /// How many packets a block has.
+    window: usize,
+    /// How many packets of the next block are collected.
+    collected: usize,
+    /// How many of `packets` belong to the block that is given.
+    left: usize,
+    /// Whether a block is whole, so that with each packet that comes one is given.
+    gives: bool,
+}
+
+impl BlockLine {
+    ghost use Rattle.std.specs.Prelude.{◌≡◌, ◌<◌, ◌≤◌, List, [], ◌∷◌, ◌++◌, IfOk, length};
+    ghost use Rattle.ts_packet.specs.declared.labelled.Labelled.{Labelled as Row};
+    ghost use Rattle.plug_window.specs.CompactRule.{is_null, compacted};
+    ghost use Rattle.plug_window.specs.BlockState.{StandsFor, StandsForSome, HasSize, state_of, first_of, shifted, filled, counted};
+
+    /// A line to which no packet came. All its memory is taken here.
+    pub fn new(alloc: Global, window: usize) -> Result<BlockLine, AllocError>
+        requires { 1 ≤ window }
+        ensures fresh { IfOk result (λ line. StandsFor line []) }
+        ensures window { IfOk result (λ line. line.window ≡ window) }
+    {
+        Ok(BlockLine {
+            packets: HeapCircularBuffer::with_capacity(alloc, window)?,
+            nulls: HeapCircularBuffer::with_capacity(alloc, window)?,
+            window,
+            collected: 0,
+            left: 0,
+            gives: false,
+        })
+    }
+
+    /// Takes a packet in, and gives the one that takes its place, where a block was whole before it. No memory is
+    /// wanted.
+    #[inline]
+    pub fn turn(&mut self, came: Labelled) -> Option<Labelled>
+        requires { StandsForSome self.old }
+        ensures given { (rows : List Row) → StandsFor self.old rows → result ≡ compacted is_null self.old.window rows came }
+        ensures stands { (rows : List Row) → StandsFor self.old rows → StandsFor self.new (rows ++ came ∷ []) }
+        ensures window { self.new.window ≡ self.old.window }
+    {
+        let given = self.give();
+        self.put(came);
+        self.count();
+        given
+    }
+
+    // Takes the next packet of the block that is given out: while it has packets on other PIDs one of these.
+    #[inline]
+    fn give(&mut self) -> Option<Labelled>
+        ensures given { result ≡ first_of (state_of self.old) }
+        ensures state { state_of self.new ≡ shifted (state_of self.old) }
+        ensures size { HasSize self.old self.new }
+    {
+        if !self.gives {
+            return None;
+        }
+        if self.left > 0 {
+            self.left -= 1;
+            return self.packets.pop_front();
+        }
+        self.nulls.pop_front()
+    }
+
+    // Puts a packet behind those of its kind.
+    #[inline]
+    fn put(&mut self, came: Labelled)
+        requires packets { length self.old.packets.items < self.old.packets.capacity }
+        requires nulls { length self.old.nulls.items < self.old.nulls.capacity }
+        ensures state { state_of self.new ≡ filled is_null came (state_of self.old) }
+        ensures size { HasSize self.old self.new }
+    {
+        if came.packet.pid() == NULL_PID {
+            self.nulls.push_back(came);
+        } else {
+            self.packets.push_back(came);
+        }
+    }
+
+    // Counts a packet of the block that is collected. A block that is whole is the next one to be given.
+    #[inline]
+    fn count(&mut self)
+        requires { self.old.collected < self.old.window }
+        ensures state { state_of self.new ≡ counted self.old.window (state_of self.old) }
+        ensures size { HasSize self.old self.new }
+    {
+        self.collected += 1;
+        if self.collected == self.window {
+            self.collected = 0;
+            self.left = self.packets.len();
+            self.gives = true;
+        }
+    }
+}

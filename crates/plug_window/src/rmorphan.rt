@@ -1,0 +1,78 @@
+ghost use Rattle.std.specs.Prelude.{◌≡◌, IfOk, [], None};
+ghost use Rattle.plug_window.specs.RmorphanRule.{rmorphan_rule};
+
+use crate::late_line::LateLine;
+use crate::slot::fill_slot;
+use crate::window_conf::WindowConf;
+use plugin_trait::{Line, Outcome, Plugin, silent_report};
+use std::alloc::{AllocError, Global};
+use ts_packet::{Cell, Labelled};
+
+/// Gives each packet a window of packets later, and drops those on PIDs that nothing refers to by then. A packet is given
+/// with the labels that it had when it came.
+#[derive(Drop)]
+pub struct Rmorphan {
+    line: LateLine,
+    /// Where no packet is given a null packet stands, and none is dropped.
+    stuffing: bool,
+    alloc: Global,
+}
+
+impl Rmorphan {
+    ghost use Rattle.plug_window.specs.WindowSettings.{IsLawfulWindow};
+
+    /// A plugin that met no cell yet. The room of the window is taken here; its steps take memory for tables alone.
+    pub fn new(alloc: Global, conf: &WindowConf) -> Result<Rmorphan, AllocError>
+        requires { IsLawfulWindow conf.now }
+        ensures rule { IfOk result (λ plugin. ⟦<Rmorphan as Plugin>⟧.rule plugin ≡ rmorphan_rule conf.now) }
+        ensures fresh { IfOk result (λ plugin. ⟦<Rmorphan as Plugin>⟧.stands_for plugin [] 0) }
+        ensures steady { IfOk result (λ plugin. ⟦<Rmorphan as Plugin>⟧.steady plugin ≡ None) }
+    {
+        Ok(Rmorphan {
+            line: LateLine::new(alloc, conf.window as usize)?,
+            stuffing: conf.stuffing,
+            alloc,
+        })
+    }
+}
+
+impl Plugin for Rmorphan {
+    ghost use Rattle.std.specs.Prelude.{None, refl};
+    ghost use Rattle.plug_window.specs.RmorphanRule.{rmorphan_rule};
+    ghost use Rattle.plug_window.specs.RmorphanState.{conf_of, MeetsHistory};
+
+    ghost rule = { λ s. rmorphan_rule (conf_of s) };
+
+    ghost stands_for = { λ s history mark. MeetsHistory s history mark };
+
+    ghost steady = { λ s. None };
+
+    #[inline]
+    fn step(&mut self, _at: u64, cell: &mut Cell) -> Outcome {
+        let Some(live) = cell.live() else {
+            return Outcome::Pass;
+        };
+        let came = Labelled {
+            packet: live.packet,
+            labels: live.labels,
+        };
+        match self.line.turn(came) {
+            Ok(given) => fill_slot(cell, given, self.stuffing),
+            Err(_) => Outcome::NoMemory,
+        }
+    }
+
+    fn note(&mut self, _written: u64) -> Result<(), AllocError> {
+        Ok(())
+    }
+
+    fn agreed(&self) -> bool {
+        false
+    }
+
+    fn finish(&mut self, _cut: u64) -> Result<Vec<Line>, AllocError> {
+        Ok(silent_report(self.alloc))
+    }
+
+    ghost starts_open = { λ plugin history mark stands. refl };
+}

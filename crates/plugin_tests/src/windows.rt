@@ -1,0 +1,166 @@
+//! The plugins that see further packets, on a few packets, with enough memory.
+
+ghost use Rattle.std.specs.Prelude.{[], ◌<◌, ◌≤◌, ℕ, length, slice_index, vec_len};
+ghost use Rattle.chain_model.specs.declared.positions.TheConstants.{POSITION_LIMIT};
+
+use crate::cells::{live, one_component, one_service, packet, packet_of};
+use plug_psi::Referred;
+use plug_window::{Compact, Rmorphan, WindowConf};
+use plugin_trait::{Plugin, apply_plugin};
+use std::alloc::{AllocError, Global};
+use std::process::Abort;
+use std::test::Fail;
+use ts_bits::DescriptorList;
+use ts_packet::{Cell, Labels, NULL_PID, Packet};
+use ts_psi::Component;
+
+/// Cells with packets on these PIDs, each with its number as its label.
+fn cells_on(alloc: Global, pids: &[u16]) -> Result<Vec<Cell>, AllocError>
+    requires pids { (k : ℕ) → slice_index pids.now k < 8192 }
+    requires few { length pids.now < 32 }
+{
+    let mut cells = Vec::new(alloc);
+    for (i, pid) in pids.iter().enumerate() {
+        cells.push(Cell::of(packet(*pid), Labels::none().with(i as u32)))?;
+    }
+    Ok(cells)
+}
+
+/// Looks whether the cells have packets on these PIDs, or none.
+fn are_on(rt: &impl Abort, cells: &[Cell], pids: &[Option<u16>]) {
+    assert_eq!(rt; cells.len(), pids.len());
+    for (cell, pid) in cells.iter().zip(pids) {
+        assert!(rt; cell.live().map(|live| live.packet.pid()) == *pid);
+    }
+}
+
+/// Looks whether a cell has a packet with this label.
+fn has_label(rt: &impl Abort, cells: &[Cell], at: usize, label: u32)
+    requires { label < 32 }
+{
+    match cells.get(at).and_then(Cell::live) {
+        Some(live) => assert!(rt; live.labels.has(label)),
+        None => assert!(rt; false),
+    }
+}
+
+/// What a plugin gives of these cells.
+fn given<P: Plugin + Drop>(mut plugin: P, mut cells: Vec<Cell>) -> Vec<Cell>
+    requires fresh { P.stands_for plugin [] 0 }
+    requires short { vec_len cells ≤ POSITION_LIMIT }
+{
+    let _end = apply_plugin(&mut plugin, &mut cells);
+    cells
+}
+
+/// What `compact` gives of packets in two blocks of three, with three null packets behind them.
+fn compacted(alloc: Global) -> Result<Vec<Cell>, Fail> {
+    let conf = WindowConf {
+        window: 3,
+        stuffing: false,
+    };
+    let compact = Compact::new(alloc, &conf, 1)?;
+    let cells = cells_on(
+        alloc,
+        &[256, 8191, 257, 8191, 8191, 256, 8191, 8191, 8191],
+    )?;
+    Ok(given(compact, cells))
+}
+
+#[test]
+fn null_packets_come_last_in_each_block(rt: HostRuntime) -> Result<(), Fail> {
+    let cells = compacted(rt.alloc())?;
+    let null = Some(NULL_PID);
+    let first = [None, None, None, Some(256), Some(257), null];
+    are_on(&rt, cells.get(..6).unwrap_or(&[]), &first);
+    are_on(&rt, cells.get(6..).unwrap_or(&[]), &[Some(256), null, null]);
+    has_label(&rt, &cells, 4, 2);
+    has_label(&rt, &cells, 6, 5);
+    Ok(())
+}
+
+/// A packet on PID 0 that carries a PAT of service 1 on PID 4096.
+fn pat_packet(alloc: Global) -> Result<Packet, Fail> {
+    packet_of(alloc, 0, one_service(alloc, None)?.sections(alloc))
+}
+
+/// A packet on PID 4096 that carries a PMT of service 1, whose component is on PID 300.
+fn pmt_packet(alloc: Global) -> Result<Packet, Fail> {
+    let component = Component {
+        stream_type: 0x1B,
+        pid: 300,
+        descriptors: DescriptorList::of(Vec::new(alloc)),
+    };
+    let pmt = one_component(alloc, 0, component)?;
+    packet_of(alloc, 4096, pmt.sections(alloc))
+}
+
+/// A packet on a PID that a table behind it names, the tables, one behind them, one on a PID that none names, and three
+/// null packets.
+fn late_tables(alloc: Global) -> Result<Vec<Cell>, Fail> {
+    let mut cells = Vec::new(alloc);
+    cells.push(live(packet(300)))?;
+    cells.push(live(pat_packet(alloc)?))?;
+    cells.push(live(pmt_packet(alloc)?))?;
+    cells.push(live(packet(300)))?;
+    cells.push(live(packet(301)))?;
+    for _ in 0..3_usize {
+        cells.push(live(Packet::null()))?;
+    }
+    Ok(cells)
+}
+
+/// What `rmorphan` gives of them.
+fn kept(alloc: Global, window: u64, stuffing: bool) -> Result<Vec<Cell>, Fail>
+    requires least { 1 ≤ window }
+    requires most { window ≤ 100000 }
+{
+    let conf = WindowConf { window, stuffing };
+    let cells = late_tables(alloc)?;
+    let rmorphan = Rmorphan::new(alloc, &conf)?;
+    Ok(given(rmorphan, cells))
+}
+
+#[test]
+fn a_table_in_the_window_counts(rt: HostRuntime) -> Result<(), Fail> {
+    let cells = kept(rt.alloc(), 3, false)?;
+    let first = [None, None, None, Some(300), Some(0)];
+    are_on(&rt, cells.get(..5).unwrap_or(&[]), &first);
+    are_on(&rt, cells.get(5..).unwrap_or(&[]), &[Some(4096), Some(300), None]);
+    Ok(())
+}
+
+#[test]
+fn a_table_behind_the_window_comes_too_late(rt: HostRuntime) -> Result<(), Fail> {
+    let cells = kept(rt.alloc(), 1, true)?;
+    let null = Some(NULL_PID);
+    are_on(&rt, cells.get(..3).unwrap_or(&[]), &[null, null, Some(0)]);
+    let others = [Some(4096), Some(300), null, null, null];
+    are_on(&rt, cells.get(3..).unwrap_or(&[]), &others);
+    Ok(())
+}
+
+/// What a PAT of service 1 refers to.
+fn referred(alloc: Global) -> Result<Referred, Fail> {
+    let pat = pat_packet(alloc)?;
+    let mut referred = Referred::new(alloc)?;
+    referred.feed(&pat)?;
+    Ok(referred)
+}
+
+/// Looks whether these PIDs are referred to, or are not.
+fn are_told(rt: &impl Abort, referred: &Referred, pids: &[u16], wanted: bool)
+    requires { (k : ℕ) → slice_index pids.now k < 8192 }
+{
+    for pid in pids {
+        assert!(rt; referred.has(*pid) == wanted);
+    }
+}
+
+#[test]
+fn a_pat_refers_to_its_services(rt: HostRuntime) -> Result<(), Fail> {
+    let referred = referred(rt.alloc())?;
+    are_told(&rt, &referred, &[0, 31, 4096, 8191], true);
+    are_told(&rt, &referred, &[32, 300, 8190], false);
+    Ok(())
+}
