@@ -1,8 +1,7 @@
 -- Worked rows of the rules, computed on the definitions. Where labels do not matter the items are numbers, of which 0 is
 -- a null packet; packets of four bytes do as well as whole ones here.
-use Rattle.std.proofs.Common.{◌≡◌, ℕ, ◌==◌, nat_le, ◌||◌, List, [], ◌∷◌, Bool, true, false, refl, lit≤}
+use Rattle.std.proofs.Common.{◌≡◌, ℕ, ◌==◌, nat_le, ◌||◌, List, [], ◌∷◌, Bool, true, refl, lit≤}
 use Rattle.bit_rows.specs.BitRow.{bit_of, field}
-use Rattle.ts_packet.specs.declared.cell.Cell.{Cell}
 use Rattle.ts_packet.specs.Cells.{Live, Dropped}
 use Rattle.ts_packet.specs.Packet.{null_packet}
 use Rattle.chain_model.specs.Apply.{apply}
@@ -10,7 +9,6 @@ use Rattle.plug_window.specs.DelayRule.{all_given}
 use Rattle.plug_window.specs.CompactRule.{compacted, blocks_parted, compact_rule}
 use Rattle.plug_window.specs.RmorphanRule.{delayed, rmorphan_rule}
 use Rattle.plug_window.specs.WindowSettings.{IsLawfulWindow, plain_window}
-use Rattle.plug_window.specs.declared.window_conf.WindowConf.{WindowConf}
 
 abbrev null : ℕ → Bool
 null x = x == 0

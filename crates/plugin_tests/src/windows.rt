@@ -60,10 +60,7 @@ fn compacted(alloc: Global) -> Result<Vec<Cell>, Fail> {
         stuffing: false,
     };
     let compact = Compact::new(alloc, &conf, 1)?;
-    let cells = cells_on(
-        alloc,
-        &[256, 8191, 257, 8191, 8191, 256, 8191, 8191, 8191],
-    )?;
+    let cells = cells_on(alloc, &[256, 8191, 257, 8191, 8191, 256, 8191, 8191, 8191])?;
     Ok(given(compact, cells))
 }
 
@@ -126,7 +123,11 @@ fn a_table_in_the_window_counts(rt: HostRuntime) -> Result<(), Fail> {
     let cells = kept(rt.alloc(), 3, false)?;
     let first = [None, None, None, Some(300), Some(0)];
     are_on(&rt, cells.get(..5).unwrap_or(&[]), &first);
-    are_on(&rt, cells.get(5..).unwrap_or(&[]), &[Some(4096), Some(300), None]);
+    are_on(
+        &rt,
+        cells.get(5..).unwrap_or(&[]),
+        &[Some(4096), Some(300), None],
+    );
     Ok(())
 }
 
