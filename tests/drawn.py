@@ -28,6 +28,8 @@ PLUGINS = {
     "nit": ["nit --network-name net"],
     "zap": ["zap {service}", "zap {service} --stuffing"],
     "svremove": ["svremove {service}", "svremove {service} --stuffing"],
+    "compact": ["compact --window {few}", "compact --window {many} --stuffing", "compact --window {few} --only-label 3"],
+    "rmorphan": ["rmorphan --window {few}", "rmorphan --window {many} --stuffing", "rmorphan --window {few} --only-label 3"],
     "analyze": ["analyze", "analyze --only-label 3"],
     "tables": ["tables", "tables --pid {source} --tid 0-2"],
 }
