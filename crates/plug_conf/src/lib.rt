@@ -9,7 +9,9 @@ mod pair_list;
 mod pid_set;
 
 pub use label_list::LabelList;
-pub use limits::{LAST_LABEL, LAST_OFFSET, LAST_PID, MOST_NUMBER, MOST_PACKETS, MOST_PAIRS, MOST_WINDOW};
+pub use limits::{
+    LAST_LABEL, LAST_OFFSET, LAST_PID, MOST_NUMBER, MOST_PACKETS, MOST_PAIRS, MOST_WINDOW,
+};
 pub use number_set::NumberSet;
 pub use pair_list::PairList;
 pub use pid_set::PidSet;
