@@ -1,3 +1,4 @@
 pub mod ArmLemmas
 pub mod ItemLemmas
 pub mod ShownLemmas
+pub mod ListLemmas

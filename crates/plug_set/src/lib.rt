@@ -3,11 +3,13 @@
 #![tactic(auto)]
 
 mod any_plugin;
+mod laws;
 mod masked_plugin;
 mod plugin_conf;
 mod plugin_item;
 mod some_plugin;
 
 pub use any_plugin::AnyPlugin;
+pub use laws::{only_joint_agrees, only_named_sections_count};
 pub use plugin_conf::{PluginConf, PluginKind};
 pub use plugin_item::PluginItem;
