@@ -1,0 +1,4 @@
+pub mod LastKept
+pub mod Faulting
+pub mod Verifying
+mod Rows

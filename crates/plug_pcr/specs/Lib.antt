@@ -1,0 +1,9 @@
+pub mod ClockFaults
+pub mod ClockJitter
+pub mod ClockNotes
+pub mod LastClocks
+pub mod PcrverifyConfOf
+pub mod PcrverifyRule
+pub mod PcrverifySettings
+pub mod PcrverifyState
+pub mod PcrverifyWords

@@ -1,0 +1,19 @@
+//! Laws of the jitter, each a fact and no code.
+
+ghost use Rattle.std.specs.Prelude.{◌≡◌, ◌≤◌, ◌+◌, ◌%◌, ◌⊎◌, ℕ};
+ghost use Rattle.plug_pcr.specs.ClockJitter.{jitter_of, units_taken};
+ghost use Rattle.plug_pcr.specs.declared.limits.TheConstants.{CLOCK_PERIOD};
+
+/// The jitter is the least number of units by which the PCR or the wanted one has to go on for both to be the same value
+/// of the clock, which begins again at its period.
+pub fn jitter_is_the_least_change()
+    ensures moves { (bitrate packets before clock : ℕ)
+        → (((before + units_taken bitrate packets) + jitter_of bitrate packets before clock) % CLOCK_PERIOD ≡ clock % CLOCK_PERIOD)
+        ⊎ ((clock + jitter_of bitrate packets before clock) % CLOCK_PERIOD ≡ (before + units_taken bitrate packets) % CLOCK_PERIOD) }
+    ensures least_on { (bitrate packets before clock units : ℕ)
+        → ((before + units_taken bitrate packets) + units) % CLOCK_PERIOD ≡ clock % CLOCK_PERIOD
+        → jitter_of bitrate packets before clock ≤ units }
+    ensures least_back { (bitrate packets before clock units : ℕ)
+        → (clock + units) % CLOCK_PERIOD ≡ (before + units_taken bitrate packets) % CLOCK_PERIOD
+        → jitter_of bitrate packets before clock ≤ units }
+{}

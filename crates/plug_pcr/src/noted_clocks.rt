@@ -1,0 +1,70 @@
+//! Packets with a PCR that are still to be counted, and the faults among them.
+use crate::clock_fault::ClockFault;
+use crate::clock_note::ClockNote;
+use circular_buffer::HeapCircularBuffer;
+use plugin_notes::{drop_below, push_lines_below, push_note};
+use plugin_trait::Line;
+use std::alloc::{AllocError, Global};
+
+/// Notes of the packets with a PCR from the greatest mark on, and of the faults among them.
+#[derive(Drop)]
+pub struct NotedClocks {
+    met: HeapCircularBuffer<ClockNote>,
+    faults: HeapCircularBuffer<ClockFault>,
+}
+
+impl NotedClocks {
+    ghost use Rattle.std.specs.Prelude.{◌≡◌, ◌+◌, ◌++◌, ◌∷◌, [], IfOk, OnOk, OnErr, length, map, nat_lt, option_to_list};
+    ghost use Rattle.std.specs.List.{take_while};
+    ghost use Rattle.plugin_notes.specs.NotesKept.{TakesBelow};
+    ghost use Rattle.plug_pcr.specs.ClockFaults.{line_of_fault, place_of_fault};
+    ghost use Rattle.plug_pcr.specs.ClockNotes.{place_of_note};
+
+    /// Nothing was noted. It takes room for notes on as many packets as the buffer holds.
+    pub fn new(alloc: Global, buffer: usize) -> Result<NotedClocks, AllocError>
+        ensures met { IfOk result (λ noted. noted.met.items ≡ []) }
+        ensures faults { IfOk result (λ noted. noted.faults.items ≡ []) }
+    {
+        Ok(NotedClocks {
+            met: HeapCircularBuffer::with_capacity(alloc, buffer)?,
+            faults: HeapCircularBuffer::with_capacity(alloc, buffer)?,
+        })
+    }
+
+    /// Notes a packet with a PCR, and its fault, if it is one. Where the room is used up it answers `AllocError`, and
+    /// the notes are as they were.
+    pub fn push(&mut self, note: ClockNote, fault: Option<ClockFault>) -> Result<(), AllocError>
+        ensures met { OnOk result (self.new.met.items ≡ self.old.met.items ++ note ∷ []) }
+        ensures faults { OnOk result (self.new.faults.items ≡ self.old.faults.items ++ option_to_list fault) }
+        ensures err { OnErr result ((self.new.met.items ≡ self.old.met.items) × (self.new.faults.items ≡ self.old.faults.items)) }
+    {
+        if self.faults.len() >= self.faults.capacity() {
+            return Err(AllocError);
+        }
+        push_note(&mut self.met, note)?;
+        if let Some(fault) = fault {
+            self.faults.push_back(fault);
+        }
+        Ok(())
+    }
+
+    /// Puts the lines of the faults below a position behind others. Where memory is wanted the lines are as they were.
+    pub fn push_lines_below(&self, lines: &mut Vec<Line>, mark: u64) -> Result<(), AllocError>
+        ensures ok { OnOk result (lines.new.items ≡ lines.old.items ++ map line_of_fault (take_while (λ fault. nat_lt (place_of_fault fault) mark) self.now.faults.items)) }
+        ensures err { OnErr result (lines.new.items ≡ lines.old.items) }
+    {
+        push_lines_below(lines, &self.faults, mark)
+    }
+
+    /// Takes the notes below a position off, and answers on how many packets they were.
+    pub fn drop_below(&mut self, mark: u64) -> u64
+        ensures met { TakesBelow place_of_note mark self.old.met.items self.new.met.items }
+        ensures faults { TakesBelow place_of_fault mark self.old.faults.items self.new.faults.items }
+        ensures count { result + length self.new.met.items ≡ length self.old.met.items }
+    {
+        let before = self.met.len();
+        drop_below(&mut self.met, mark);
+        drop_below(&mut self.faults, mark);
+        (before - self.met.len()) as u64
+    }
+}

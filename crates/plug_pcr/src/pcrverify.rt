@@ -1,0 +1,157 @@
+ghost use Rattle.std.specs.Prelude.{◌≡◌, IfOk, [], None};
+ghost use Rattle.plug_pcr.specs.PcrverifyRule.{pcrverify_rule};
+
+use crate::clock_note::ClockNote;
+use crate::last_clock::{LastClock, fault_behind};
+use crate::last_clocks::LastClocks;
+use crate::noted_clocks::NotedClocks;
+use crate::pcrverify_conf::PcrverifyConf;
+use plug_conf::PidSet;
+use plugin_notes::push_line;
+use plugin_trait::{Line, LineText, Outcome, Plugin};
+use std::alloc::{AllocError, Global};
+use std::mem;
+use ts_packet::{Cell, Packet};
+
+/// Reports packets whose PCR is too far from the one that a constant bit rate wants.
+#[derive(Drop)]
+pub struct Pcrverify {
+    bitrate: u64,
+    jitter_max: u64,
+    pids: PidSet,
+    last: LastClocks,
+    /// The packets with a PCR from the greatest mark on, and the faults among them.
+    noted: NotedClocks,
+    /// How many packets with a PCR stand below it.
+    count: u64,
+    /// The lines of the faults below it.
+    lines: Vec<Line>,
+    alloc: Global,
+}
+
+impl Pcrverify {
+    ghost use Rattle.std.specs.Prelude.{◌≡◌, ◌<◌, IfOk, OnOk, OnErr, [], ◌++◌, ◌∷◌, None, Some, true, false, length, ℕ, List};
+    ghost use Rattle.ts_packet.specs.declared.cell.Cell.{Cell as GivenCell};
+    ghost use Rattle.ts_packet.specs.Cells.{Live};
+    ghost use Rattle.ts_packet.specs.Header.{pid_of};
+    ghost use Rattle.ts_packet.specs.Pcr.{pcr_of};
+    ghost use Rattle.plug_conf.specs.Selection.{is_selected};
+    ghost use Rattle.chain_model.specs.declared.positions.TheConstants.{POSITION_LIMIT};
+    ghost use Rattle.plugin_trait.specs.Marks.{AllowsMark, Notes};
+    ghost use Rattle.plugin_trait.specs.Steps.{MeetsCells};
+    ghost use Rattle.plug_pcr.specs.PcrverifySettings.{IsLawfulPcrverify};
+    ghost use Rattle.plug_pcr.specs.PcrverifyRule.{pcrverify_rule};
+    ghost use Rattle.plug_pcr.specs.PcrverifyConfOf.{StandsFor, conf_of};
+
+    /// A plugin that met no cell yet. It takes room for its tables, and for notes on as many packets as the buffer
+    /// holds; the lines of its faults grow with the stream.
+    pub fn new(alloc: Global, conf: &PcrverifyConf, buffer: usize) -> Result<Pcrverify, AllocError>
+        requires { IsLawfulPcrverify conf.now }
+        ensures rule { IfOk result (λ plugin. ⟦<Pcrverify as Plugin>⟧.rule plugin ≡ pcrverify_rule conf.now) }
+        ensures fresh { IfOk result (λ plugin. ⟦<Pcrverify as Plugin>⟧.stands_for plugin [] 0) }
+        ensures steady { IfOk result (λ plugin. ⟦<Pcrverify as Plugin>⟧.steady plugin ≡ None) }
+    {
+        Ok(Pcrverify {
+            bitrate: conf.bitrate,
+            jitter_max: conf.jitter_max,
+            pids: PidSet::of(alloc, &conf.pid)?,
+            last: LastClocks::new(alloc)?,
+            noted: NotedClocks::new(alloc, buffer)?,
+            count: 0,
+            lines: Vec::new(alloc),
+            alloc,
+        })
+    }
+
+    // Looks at the packet at a position.
+    #[inline(always)]
+    fn look(&mut self, at: u64, packet: &Packet) -> Result<(), AllocError>
+        requires met { MeetsCells (StandsFor self.old) at }
+        requires in_range { at < POSITION_LIMIT }
+        ensures met { OnOk result ((history : List GivenCell) (mark : ℕ) → StandsFor self.old history mark
+            → length history ≡ at → (labels : ℕ) → StandsFor self.new (history ++ Live packet.now labels ∷ []) mark) }
+        ensures same { conf_of self.new ≡ conf_of self.old }
+        ensures err { OnErr result ((self.new.last ≡ self.old.last) × (self.new.noted.met.items ≡ self.old.noted.met.items) × (self.new.noted.faults.items ≡ self.old.noted.faults.items) × (self.new.count ≡ self.old.count) × (self.new.lines.items ≡ self.old.lines.items)) }
+    {
+        if !self.pids.selects(false, packet.pid()) {
+            return Ok(());
+        }
+        match packet.pcr() {
+            Some(clock) => self.meet(at, packet, clock),
+            None => Ok(()),
+        }
+    }
+
+    // Meets the packet at a position, which has this PCR and is on a PID that is looked at.
+    fn meet(&mut self, at: u64, packet: &Packet, clock: u64) -> Result<(), AllocError>
+        requires met { MeetsCells (StandsFor self.old) at }
+        requires in_range { at < POSITION_LIMIT }
+        requires clocked { pcr_of packet.now ≡ Some clock }
+        requires selected { is_selected self.old.pids false (pid_of packet.now) ≡ true }
+        ensures met { OnOk result ((history : List GivenCell) (mark : ℕ) → StandsFor self.old history mark
+            → length history ≡ at → (labels : ℕ) → StandsFor self.new (history ++ Live packet.now labels ∷ []) mark) }
+        ensures same { conf_of self.new ≡ conf_of self.old }
+        ensures err { OnErr result ((self.new.last ≡ self.old.last) × (self.new.noted.met.items ≡ self.old.noted.met.items) × (self.new.noted.faults.items ≡ self.old.noted.faults.items) × (self.new.count ≡ self.old.count) × (self.new.lines.items ≡ self.old.lines.items)) }
+    {
+        let pid = packet.pid();
+        let last = self.last.on(pid);
+        let fault = fault_behind(self.bitrate, self.jitter_max, at, last, packet, clock);
+        self.noted.push(ClockNote { at }, fault)?;
+        self.last.keep(pid, LastClock { at, clock });
+        Ok(())
+    }
+
+    // Takes the notes below a position off, counts them, and puts the lines of their faults behind the others. Where
+    // memory was wanted all is as it was.
+    fn fold(&mut self, mark: u64) -> Result<(), AllocError>
+        requires { AllowsMark (StandsFor self.old) mark }
+        ensures notes { Notes (StandsFor self.old) (StandsFor self.new) mark result }
+        ensures same { conf_of self.new ≡ conf_of self.old }
+    {
+        self.noted.push_lines_below(&mut self.lines, mark)?;
+        self.count += self.noted.drop_below(mark);
+        Ok(())
+    }
+}
+
+impl Plugin for Pcrverify {
+    ghost use Rattle.std.specs.Prelude.{None, refl};
+    ghost use Rattle.plug_pcr.specs.PcrverifyRule.{pcrverify_rule};
+    ghost use Rattle.plug_pcr.specs.PcrverifyConfOf.{StandsFor, conf_of};
+
+    ghost rule = { λ s. pcrverify_rule (conf_of s) };
+
+    ghost stands_for = { λ s history mark. StandsFor s history mark };
+
+    ghost steady = { λ s. None };
+
+    // Else the loop of `steps` has a call for each cell.
+    #[inline(always)]
+    fn step(&mut self, at: u64, cell: &mut Cell) -> Outcome {
+        let Some(live) = cell.live() else {
+            return Outcome::Pass;
+        };
+        match self.look(at, &live.packet) {
+            Ok(()) => Outcome::Pass,
+            Err(_) => Outcome::NoMemory,
+        }
+    }
+
+    fn note(&mut self, written: u64) -> Result<(), AllocError> {
+        self.fold(written)
+    }
+
+    fn agreed(&self) -> bool {
+        false
+    }
+
+    fn finish(&mut self, cut: u64) -> Result<Vec<Line>, AllocError> {
+        self.fold(cut)?;
+        let mut lines = mem::replace(&mut self.lines, Vec::new(self.alloc));
+        let text = format!(in self.alloc; "pcr {} faults {}", self.count, lines.len())?;
+        push_line(&mut lines, cut, LineText::of(text))?;
+        Ok(lines)
+    }
+
+    ghost starts_open = { λ plugin history mark stands. refl };
+}
