@@ -1,5 +1,5 @@
 -- Worked rows of `pcrverify`, computed on the definitions. Packets of twelve bytes do as well as whole ones here.
-use Rattle.std.proofs.Common.{◌≡◌, ℕ, ◌+◌, ◌-◌, ◌/◌, ◌%◌, List, [], ◌∷◌, codes, refl}
+use Rattle.std.proofs.Common.{◌≡◌, ℕ, ◌+◌, ◌-◌, ◌*◌, ◌^◌, ◌/◌, ◌%◌, List, [], ◌∷◌, codes, refl}
 use Rattle.std.specs.Fmt.{digits}
 use Rattle.bit_rows.specs.BitRow.{bit_of, field}
 use Rattle.ts_packet.specs.declared.cell.Cell.{Cell}
@@ -10,7 +10,7 @@ use Rattle.chain_model.specs.Reports.{said_of}
 use Rattle.plugin_trait.specs.PlacedLines.{placed_of}
 use Rattle.plug_pcr.specs.ClockJitter.{jitter_of, units_taken}
 use Rattle.plug_pcr.specs.PcrverifyRule.{pcrverify_rule}
-use Rattle.plug_pcr.specs.declared.limits.TheConstants.{CLOCK_PERIOD}
+use Rattle.plug_pcr.specs.declared.limits.TheConstants.{CLOCK_PERIOD, DEFAULT_JITTER, MOST_BITRATE, MOST_JITTER, PACKET_UNITS}
 use Rattle.plug_pcr.specs.declared.pcrverify_conf.PcrverifyConf.{PcrverifyConf}
 
 -- a packet on PID 256 whose adaptation field has these flags and this PCR
@@ -31,6 +31,16 @@ bare = Live (0x47 ∷ 0x01 ∷ 0x00 ∷ 0x10 ∷ []) 0
 -- at 13,536,000 bits per second a packet takes 3000 units; a jitter of 1000 is no fault
 abbrev checks : PcrverifyConf
 checks = record { bitrate = 13536000; jitter_max = 1000; pid = [] }
+
+-- the numbers of the clock and of the options
+period : CLOCK_PERIOD ≡ 2 ^ 33 * 300
+period = refl
+
+packet-units : PACKET_UNITS ≡ 188 * 8 * 27000000
+packet-units = refl
+
+limits : (MOST_BITRATE ∷ MOST_JITTER ∷ DEFAULT_JITTER ∷ []) ≡ 10000000000 ∷ 2576980377599 ∷ 27000 ∷ []
+limits = refl
 
 one-packet : units_taken 13536000 1 ≡ 3000
 one-packet = refl
