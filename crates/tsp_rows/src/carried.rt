@@ -16,6 +16,12 @@ static PMT: [u8; 21] = [
     0x00, 0x8D, 0xFF, 0x34, 0x11,
 ];
 
+/// A PMT of service 1 without a PCR, and with a component of type 3 on PID 300.
+static PMT_OF_300: [u8; 21] = [
+    0x02, 0xB0, 0x12, 0x00, 0x01, 0xC1, 0x00, 0x00, 0xFF, 0xFF, 0xF0, 0x00, 0x03, 0xE1, 0x2C, 0xF0,
+    0x00, 0x31, 0xD2, 0x0E, 0x2E,
+];
+
 /// An SDT of version 31 without services.
 static SDT: [u8; 15] = [
     0x42, 0xF0, 0x0C, 0x00, 0x01, 0xFF, 0x00, 0x00, 0x00, 0x01, 0xFF, 0x59, 0xC2, 0xAC, 0xFD,
@@ -32,6 +38,7 @@ pub(crate) enum Carried {
     Pat,
     Cat,
     Pmt,
+    PmtOf300,
     Sdt,
     Nit,
 }
@@ -42,7 +49,7 @@ impl Carried {
         match self {
             Carried::Pat => 0,
             Carried::Cat => 1,
-            Carried::Pmt => 4096,
+            Carried::Pmt | Carried::PmtOf300 => 4096,
             Carried::Sdt => 17,
             Carried::Nit => 16,
         }
@@ -54,6 +61,7 @@ impl Carried {
             Carried::Pat => &PAT,
             Carried::Cat => &CAT,
             Carried::Pmt => &PMT,
+            Carried::PmtOf300 => &PMT_OF_300,
             Carried::Sdt => &SDT,
             Carried::Nit => &NIT,
         }

@@ -23,6 +23,8 @@ pub(crate) enum Input {
     Mixed,
     /// A packet for each of these tables, with counters from 5 on.
     Tables(&'static [Carried]),
+    /// Packets on these PIDs, a packet for each of these tables as above, and packets on these PIDs.
+    Around(&'static [u16], &'static [Carried], &'static [u16]),
     /// Packets with these first five bytes. Their other bytes are 0x90: as the flags of an adaptation field, a
     /// discontinuity and a PCR.
     Headed(&'static [[u8; 5]]),
@@ -46,6 +48,11 @@ pub(crate) fn input_bytes(alloc: Global, input: Input) -> Result<Vec<u8>, AllocE
         }
         Input::Mixed => push_mixed(&mut bytes)?,
         Input::Tables(carried) => push_tables(&mut bytes, carried)?,
+        Input::Around(before, carried, behind) => {
+            push_packets(&mut bytes, before)?;
+            push_tables(&mut bytes, carried)?;
+            push_packets(&mut bytes, behind)?;
+        }
         Input::Headed(heads) => push_headed(&mut bytes, heads)?,
     }
     Ok(bytes)

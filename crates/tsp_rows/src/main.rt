@@ -31,6 +31,7 @@ mod tally;
 mod threads;
 mod trial;
 mod trial_desk;
+mod window_rows;
 mod windows;
 mod word_rows;
 
@@ -51,7 +52,7 @@ fn main(rt: HostRuntime) -> Result<()> {
 
 /// Prints the rows of all tables, and how many of them come to the same by both calls.
 fn print_tables<R: Threads + Wait + Sync + Print + AllocGlobal>(rt: &R) -> Result<()> {
-    let tables: [&[Row]; 22] = [
+    let tables: [&[Row]; 24] = [
         end_rows::rows(),
         plugin_rows::rows(),
         plugin_rows::of_watchers(),
@@ -59,6 +60,7 @@ fn print_tables<R: Threads + Wait + Sync + Print + AllocGlobal>(rt: &R) -> Resul
         plugin_rows::of_labels(),
         edit_rows::rows(),
         service_rows::rows(),
+        window_rows::rows(),
         stream_rows::rows(),
         table_rows::rows(),
         table_rows::of_faults(),
@@ -73,6 +75,7 @@ fn print_tables<R: Threads + Wait + Sync + Print + AllocGlobal>(rt: &R) -> Resul
         word_rows::rows(),
         edit_rows::of_words(),
         service_rows::of_words(),
+        window_rows::of_words(),
         stream_rows::of_words(),
     ];
     let mut tally = Tally::empty();
