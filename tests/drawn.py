@@ -18,6 +18,8 @@ PLUGINS = {
               "until --packets {few} --joint-termination", "until --unit-start-count {few} --joint-termination"],
     "count": ["count", "count --total", "count --all --pid {pid}", "count --only-label 3"],
     "continuity": ["continuity", "continuity --fix"],
+    "pcrverify": ["pcrverify --bitrate 13536000", "pcrverify --bitrate {many} --jitter-max {few}",
+                  "pcrverify --bitrate 2600000 --jitter-max 0 --pid {pid}"],
     "remap": ["remap --no-psi --unchecked {source}=33", "remap --no-psi 7777=7778", "remap --unchecked {source}=33",
               "remap {source}=257"],
     "inject": ["inject {table} --pid {source} --replace", "inject {table} --pid 4000 --inter-packet {few}"],
