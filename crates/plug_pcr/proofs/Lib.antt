@@ -1,3 +1,4 @@
+pub mod ConstantRate
 pub mod LastKept
 pub mod Faulting
 pub mod Verifying

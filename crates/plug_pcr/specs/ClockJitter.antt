@@ -18,3 +18,7 @@ least_way units = if nat_le units (CLOCK_PERIOD - units) then units else CLOCK_P
 -- the jitter of a PCR so many packets behind another: how far it is from that one with the units of these packets
 abbrev pub jitter_of : ℕ → ℕ → ℕ → ℕ → ℕ
 jitter_of bitrate packets before clock = least_way (units_behind (before + units_taken bitrate packets) clock)
+
+-- the clock at a position of a stream with a constant bit rate, whose first packet has this one
+abbrev pub clock_at : ℕ → ℕ → ℕ → ℕ
+clock_at bitrate start position = (start + units_taken bitrate position) % CLOCK_PERIOD

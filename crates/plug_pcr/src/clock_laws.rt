@@ -1,7 +1,7 @@
 //! Laws of the jitter, each a fact and no code.
 
 ghost use Rattle.std.specs.Prelude.{◌≡◌, ◌≤◌, ◌+◌, ◌%◌, ◌⊎◌, ℕ};
-ghost use Rattle.plug_pcr.specs.ClockJitter.{jitter_of, units_taken};
+ghost use Rattle.plug_pcr.specs.ClockJitter.{clock_at, jitter_of, units_taken};
 ghost use Rattle.plug_pcr.specs.declared.limits.TheConstants.{CLOCK_PERIOD};
 
 /// The jitter is the least number of units by which the PCR or the wanted one has to go on for both to be the same value
@@ -17,3 +17,12 @@ pub fn jitter_is_the_least_change()
         → (clock + units) % CLOCK_PERIOD ≡ (before + units_taken bitrate packets) % CLOCK_PERIOD
         → jitter_of bitrate packets before clock ≤ units }
 {}
+
+/// PCRs of a constant bit rate, each with the whole units that all packets before it take, are at most one unit from those
+/// that are wanted at that rate, wherever the clock begins again.
+pub fn constant_rate_is_exact_to_a_unit()
+    ensures { (bitrate start before packets : ℕ) → 1 ≤ bitrate
+        → jitter_of bitrate packets (clock_at bitrate start before) (clock_at bitrate start (before + packets)) ≤ 1 }
+{
+    jitter_is_the_least_change();
+}
