@@ -5,6 +5,8 @@
 #[cfg(test)]
 mod cells;
 #[cfg(test)]
+mod clocks;
+#[cfg(test)]
 mod editors;
 #[cfg(test)]
 mod ends;

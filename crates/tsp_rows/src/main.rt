@@ -6,6 +6,7 @@
 mod carried;
 mod chain_table;
 mod chains;
+mod clock_rows;
 mod desk_plan;
 mod edit_rows;
 mod end_rows;
@@ -62,6 +63,7 @@ fn print_tables<R: Threads + Wait + Sync + Print + AllocGlobal>(rt: &R) -> Resul
         service_rows::rows(),
         window_rows::rows(),
         stream_rows::rows(),
+        clock_rows::rows(),
         table_rows::rows(),
         table_rows::of_faults(),
         fault_rows::at_openings(),
@@ -77,6 +79,7 @@ fn print_tables<R: Threads + Wait + Sync + Print + AllocGlobal>(rt: &R) -> Resul
         service_rows::of_words(),
         window_rows::of_words(),
         stream_rows::of_words(),
+        clock_rows::of_words(),
     ];
     let mut tally = Tally::empty();
     for rows in tables {
