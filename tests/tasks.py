@@ -10,8 +10,16 @@ LIMIT, LINGER = 60, 2
 
 PACKET = bytes([0x47, 0x01, 0x00, 0x10]) + bytes(range(184))
 
-# A user who has no process, since root is exempt from the limit.
+# A user who has no process, since root is exempt from limits and may do all.
 NOBODY = 54_321
+
+
+def become_nobody():
+    """What a child of root does to be an ordinary user; others stay who they are."""
+    if os.geteuid() == 0:
+        os.setgroups([])
+        os.setgid(NOBODY)
+        os.setuid(NOBODY)
 
 
 def held_to(processors, tasks=None):
@@ -20,10 +28,7 @@ def held_to(processors, tasks=None):
         os.sched_setaffinity(0, processors)
         if tasks is not None:
             resource.setrlimit(resource.RLIMIT_NPROC, (tasks, tasks))
-            if os.geteuid() == 0:
-                os.setgroups([])
-                os.setgid(NOBODY)
-                os.setuid(NOBODY)
+            become_nobody()
     return prepare
 
 
