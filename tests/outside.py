@@ -1,7 +1,7 @@
 """What goes wrong outside of the programs, for tests/edges: disks, pipes, files, rights and limits, on the real system.
 
 Each function yields what a case is called, what was found, and what docs/behaviour.md says of it. No run may take longer than
-LIMIT seconds.
+LIMIT seconds, and no function longer than two such.
 """
 import contextlib
 import os
@@ -35,8 +35,9 @@ HELD = ["--buffer-packets", "100", "-I", "file", "held.ts"]
 
 
 def run(words, folder, **more):
-    """The exit number of a run, and what it said on both standard streams."""
-    done = subprocess.run(words, cwd=folder, capture_output=True, check=False, timeout=LIMIT, **more)
+    """The exit number of a run, and what it said on both standard streams; None of one that goes elsewhere."""
+    streams = {"stdout": subprocess.PIPE, "stderr": subprocess.PIPE, **more}
+    done = subprocess.run(words, cwd=folder, check=False, timeout=LIMIT, **streams)
     return done.returncode, done.stdout, done.stderr
 
 
@@ -202,12 +203,15 @@ def put(path, place, data):
 def folders(tsp, tstabcomp, folder):
     """A folder where a file is wanted; one as the input is among the cases of tests/edges."""
     yield "a folder as the output", run([tsp, "-I", "null", "1", "-O", "file", "."], folder), (4, b"tsp: cannot open output\n", b"")
-    yield "a file as a folder", run([tsp, "-I", "file", "long.ts/a.ts", "-O", "drop"], folder), (3, b"tsp: cannot open input\n", b"")
+    yield "a file as a folder", run([tsp, "-I", "file", "long.ts/a.ts", "-O", "drop"], folder), \
+        (3, b"tsp: cannot open input\n", b"")
     yield "a folder as a file of tables", \
         run([tsp, "-I", "null", "1", "-P", "inject", ".", "--pid", "0", "--replace", "-O", "drop"], folder), \
         (3, b"tsp: cannot read table file of plugin 1\n", b"")
-    yield "a folder as a text of tables", run([tstabcomp, "--compile", ".", "no.bin"], folder), (3, b"tstabcomp: cannot read\n", b"")
-    yield "a folder as the compiler's output", run([tstabcomp, "--compile", TEXT, "."], folder), (4, b"tstabcomp: cannot write\n", b"")
+    yield "a folder as a text of tables", run([tstabcomp, "--compile", ".", "no.bin"], folder), \
+        (3, b"tstabcomp: cannot read\n", b"")
+    yield "a folder as the compiler's output", run([tstabcomp, "--compile", TEXT, "."], folder), \
+        (4, b"tstabcomp: cannot write\n", b"")
 
 
 def rights(tsp, tstabcomp, folder):
@@ -224,7 +228,8 @@ def rights(tsp, tstabcomp, folder):
             ("no right to read a file of tables",
              [tsp, "-I", "null", "1", "-P", "inject", "secret.json", "--pid", "0", "--replace", "-O", "drop"],
              (3, b"tsp: cannot read table file of plugin 1\n")),
-            ("no right to read a text of tables", [tstabcomp, "--compile", "secret.json", "no.bin"], (3, b"tstabcomp: cannot read\n")),
+            ("no right to read a text of tables", [tstabcomp, "--compile", "secret.json", "no.bin"],
+             (3, b"tstabcomp: cannot read\n")),
             ("no right to write sections", [tstabcomp, "--compile", "text.json", "kept.ts"], (4, b"tstabcomp: cannot write\n"))]:
         yield name, run(words, folder, preexec_fn=tasks.become_nobody), (*wanted, b"")
     yield "what may not be written", content(folder / "kept.ts"), LONG[:SIZE]
@@ -236,19 +241,23 @@ def compiler_outputs(_tsp, tstabcomp, folder):
     yield "a full device for sections", run([tstabcomp, "--compile", TEXT, "/dev/full"], folder), (4, line, b"")
     read, write = os.pipe()
     os.close(read)
-    done = subprocess.run([tstabcomp, "--compile", TEXT], stdout=write, stderr=subprocess.PIPE, check=False, timeout=LIMIT)
+    found = run([tstabcomp, "--compile", TEXT], folder, stdout=write)
     os.close(write)
-    yield "a closed pipe for sections", (done.returncode, done.stderr), (4, line)
+    yield "a closed pipe for sections", found, (4, None, line)
 
 
 # ---- limits
+
+def limit(kind, most):
+    """What a child does that may have no more of this kind."""
+    return lambda: resource.setrlimit(kind, (most, most))
+
 
 def limited_files(tsp, _tstabcomp, folder):
     """How many files a program may have open, its three standard streams among them."""
     words = [tsp, "-I", "file", "long.ts", "-O", "file", "few.ts"]
     for most, wanted in [(4, (4, b"tsp: cannot open output\n", b"")), (5, (0, WHOLE, b""))]:
-        yield f"a limit of {most} open files", \
-            run(words, folder, preexec_fn=lambda most=most: resource.setrlimit(resource.RLIMIT_NOFILE, (most, most))), wanted
+        yield f"a limit of {most} open files", run(words, folder, preexec_fn=limit(resource.RLIMIT_NOFILE, most)), wanted
     # The limit comes once the program waits for a file of tables: before, nothing could be loaded.
     words = [tsp, "-I", "file", "long.ts", "-P", "inject", "", "--pid", "0", "--replace", "-O", "file", "few.ts"]
     with begun(words, folder, stdin=subprocess.PIPE) as running:
@@ -258,17 +267,16 @@ def limited_files(tsp, _tstabcomp, folder):
 
 
 def limited_memory(tsp, _tstabcomp, folder):
-    """From almost no memory on, twice as much each time: a run is as without the limit, or tells no more than that memory ran out."""
+    """From almost no memory on, twice as much each time: a run is as without the limit, or ends as one that ran out of memory."""
     words = [tsp, "-I", "file", "long.ts", *"-P count -P continuity -P analyze -P tables -O file scant.ts".split()]
     whole = (*run(words, folder), LONG)
     statuses, faults = set(), []
-    for kilobytes in (256 << n for n in range(10)):
+    for most in (1 << n for n in range(18, 28)):
         (folder / "scant.ts").unlink(missing_ok=True)
-        found = (*run(words, folder, preexec_fn=lambda most=kilobytes << 10: resource.setrlimit(resource.RLIMIT_DATA, (most, most))),
-                 content(folder / "scant.ts"))
+        found = (*run(words, folder, preexec_fn=limit(resource.RLIMIT_DATA, most)), content(folder / "scant.ts"))
         statuses.add(found[0])
         if found != whole and not is_without_memory(*found):
-            faults.append((kilobytes, found[:3]))
+            faults.append((most, found[:3]))
     yield "limits on memory", (statuses, faults), ({0, 1}, [])
 
 
@@ -329,6 +337,10 @@ CASES = [full_disk, limited_size, left_pipe, late_pipes, single_bytes, changed_f
          limited_files, limited_memory, no_threads, stops]
 
 
+def give_up(_number, _frame):
+    raise TimeoutError("no end was waited for any longer")
+
+
 def cases(programs_found, folder):
     """All cases, in a folder that each user may read, with copies of the programs that each user may run."""
     folder = pathlib.Path(folder)
@@ -338,8 +350,13 @@ def cases(programs_found, folder):
         copies.append(pathlib.Path(shutil.copy(program, folder)))
         copies[-1].chmod(0o755)
     (folder / "long.ts").write_bytes(LONG)
+    signal.signal(signal.SIGALRM, give_up)
     for case in CASES:
+        # Pipes and sockets have no limits of their own.
+        signal.alarm(2 * LIMIT)
         try:
             yield from case(*copies, folder)
-        except subprocess.TimeoutExpired as hung:
-            yield case.__name__, f"hangs: {hung.cmd}", "an end"
+        except (OSError, subprocess.TimeoutExpired) as fault:
+            yield case.__name__, f"{type(fault).__name__}: {fault}", "an end"
+        finally:
+            signal.alarm(0)
