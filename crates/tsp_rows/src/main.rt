@@ -1,6 +1,8 @@
 //! Runs worked examples of the whole tool over a desk in memory, by `tsp_call` and by `serial_call`, and prints what each
 //! came to. Then it runs chains by `threaded_call` whose gates look at how the stages work beside one another, and chains
 //! with sizes of many kinds, which have to agree in bytes, report and status.
+//!
+//! Where a word is given, it names a list of calls, and these alone are made (`tests/calls`).
 #![tactic(auto)]
 
 mod carried;
@@ -18,6 +20,8 @@ mod following_gate;
 mod inputs;
 mod keeping_gate;
 mod lawless_packets;
+mod listed_calls;
+mod listed_desk;
 mod meeting_gate;
 mod meeting_pairs;
 mod mixed_stream;
@@ -38,17 +42,28 @@ mod word_rows;
 
 use anyhow::Result;
 use row::{Row, print_rows};
+use std::env;
 use std::sync::Wait;
 use std::thread::Threads;
 use tally::Tally;
 
 fn main(rt: HostRuntime) -> Result<()> {
-    print_tables(&rt)?;
-    lawless_packets::print_unchanged(&rt)?;
-    windows::print_windows(&rt)?;
-    threads::print_threads(&rt)?;
-    meeting_pairs::print_meeting_pairs(&rt)?;
-    chains::print_chains(&rt)
+    let mut words = env::args(&rt)?;
+    let _name = words.next();
+    match words.next() {
+        Some(list) => listed_calls::print_listed(&rt, list.as_str()),
+        None => print_worked(&rt),
+    }
+}
+
+/// Prints the worked examples.
+fn print_worked<R: Threads + Wait + Sync + Print + AllocGlobal>(rt: &R) -> Result<()> {
+    print_tables(rt)?;
+    lawless_packets::print_unchanged(rt)?;
+    windows::print_windows(rt)?;
+    threads::print_threads(rt)?;
+    meeting_pairs::print_meeting_pairs(rt)?;
+    chains::print_chains(rt)
 }
 
 /// Prints the rows of all tables, and how many of them come to the same by both calls.

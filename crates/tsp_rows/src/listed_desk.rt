@@ -1,0 +1,93 @@
+//! The words and the desk of a call that stands as a line in a list.
+//!
+//! Blanks part the fields of a line. The first five are the numbers of the calls that fail, joined by commas: of the openings,
+//! reads, writes, reports and closings. Then come the most bytes that a read and a write move, the room of an output, and the
+//! files. All behind these are words.
+ghost use Rattle.std.specs.Prelude.{◌<◌, IfOk};
+
+use anyhow::Result;
+use std::alloc::{AllocError, Global};
+use std::fs;
+use std::fs::Files;
+use ts_outside::{FailPlan, FileBytes, FileList, MemoryDesk, NameText, NumberList};
+
+/// How many fields stand before the words.
+const FIELDS: usize = 9;
+
+/// The words of a line's call.
+pub(crate) fn words_of(alloc: Global, line: &str) -> Result<Vec<String>, AllocError> {
+    let mut words = Vec::new(alloc);
+    for (number, word) in line.split(' ').enumerate() {
+        if FIELDS <= number {
+            words.push(String::from_str(alloc, word)?)?;
+        }
+    }
+    Ok(words)
+}
+
+/// The desk of a line's call, with its plan and its files.
+pub(crate) fn desk_of(rt: &(impl AllocGlobal + Files), line: &str) -> Result<Box<MemoryDesk>> {
+    let files = files_of(rt, field(line, 8))?;
+    Ok(boxed_desk(rt.alloc(), files, line)?)
+}
+
+/// A desk with these files and a line's plan.
+fn boxed_desk(alloc: Global, files: FileList, line: &str) -> Result<Box<MemoryDesk>, AllocError> {
+    let plan = plan_of(alloc, line)?;
+    Ok(Box::new(alloc, MemoryDesk::new(alloc, files, plan)?)?)
+}
+
+/// The field of this number, the empty one where there are not so many.
+fn field(line: &str, number: usize) -> &str {
+    line.split(' ').nth(number).unwrap_or("")
+}
+
+/// The plan of a line. A desk knows no pieces of 0 bytes: they have one byte.
+fn plan_of(alloc: Global, line: &str) -> Result<FailPlan, AllocError>
+    ensures { IfOk result (λ p. (0 < p.read_piece) × (0 < p.write_piece)) }
+{
+    let opens = numbers_of(alloc, field(line, 0))?;
+    let reads = numbers_of(alloc, field(line, 1))?;
+    let writes = numbers_of(alloc, field(line, 2))?;
+    let reports = numbers_of(alloc, field(line, 3))?;
+    let closes = numbers_of(alloc, field(line, 4))?;
+    Ok(FailPlan {
+        opens,
+        reads,
+        writes,
+        reports,
+        closes,
+        read_piece: size_of(field(line, 5)).max(1),
+        write_piece: size_of(field(line, 6)).max(1),
+        room: size_of(field(line, 7)),
+    })
+}
+
+/// The numbers that commas join; what is none is left out.
+fn numbers_of(alloc: Global, field: &str) -> Result<NumberList, AllocError> {
+    let mut numbers = Vec::new(alloc);
+    for text in field.split(',') {
+        if let Ok(number) = text.parse::<u64>() {
+            numbers.push(number)?;
+        }
+    }
+    Ok(NumberList::of(numbers))
+}
+
+/// A number of bytes, 0 for what is none.
+fn size_of(field: &str) -> usize {
+    field.parse::<usize>().unwrap_or(0)
+}
+
+/// The files that commas join, each by its name on the desk, a colon and the path of its bytes.
+fn files_of(rt: &(impl AllocGlobal + Files), field: &str) -> Result<FileList> {
+    let mut files = Vec::new(rt.alloc());
+    for text in field.split(',') {
+        if let Some((name, path)) = text.split_once(':') {
+            let bytes = fs::read(rt, path)?;
+            let name = String::from_str(rt.alloc(), name)?;
+            files.push((NameText::of(name), FileBytes::of(bytes)))?;
+        }
+    }
+    Ok(FileList::of(files))
+}
