@@ -36,7 +36,8 @@ impl Count {
     ghost use Rattle.plug_watch.specs.CountSettings.{IsLawfulCount};
     ghost use Rattle.plug_watch.specs.CountRule.{count_rule};
     ghost use Rattle.plug_watch.specs.CountConfOf.{StandsFor, conf_of};
-    ghost use Rattle.plugin_trait.specs.Marks.{AllowsMark, Notes};
+    ghost use Rattle.plugin_trait.specs.Marks.{Notes};
+    ghost use Rattle.plugin_trait.specs.Steps.{MeetsSome};
 
     /// A plugin that met no cell yet. It takes room for its tables, and for notes on as many packets as the buffer
     /// holds; with `all` its lines grow with the stream.
@@ -61,7 +62,7 @@ impl Count {
     // Counts the notes below a position and takes them off; with `all` their lines come behind the others. Where
     // memory was wanted for the lines, all is as it was.
     fn fold(&mut self, mark: u64) -> Result<(), AllocError>
-        requires { AllowsMark (StandsFor self.old) mark }
+        requires { MeetsSome (StandsFor self.old) }
         ensures notes { Notes (StandsFor self.old) (StandsFor self.new) mark result }
         ensures same { conf_of self.new ≡ conf_of self.old }
         ensures capacity { self.new.notes.capacity ≡ self.old.notes.capacity }

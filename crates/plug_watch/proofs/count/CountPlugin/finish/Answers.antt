@@ -8,6 +8,9 @@ use Rattle.plug_watch.specs.CountRule.{count_rule}
 use Rattle.plug_watch.proofs.CountStates.{report_is}
 use Rattle.plug_watch.proofs.count.CountPlugin.finish.Goals as goal
 
+pub fold-requires : goal.fold-requires
+fold-requires c = record { history = c.requires.history; mark = c.requires.mark; holds = c.requires.holds }
+
 pub returns : goal.returns
 returns c = λ history mark w le within.
     let same : c.replace-lines.result.items ≡ c.fold.new.self.lines.items = ap (λ v. v.items) c.replace-lines.ensures.value in
