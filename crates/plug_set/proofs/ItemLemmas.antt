@@ -45,6 +45,9 @@ simple kind.Analyze = refl
 simple kind.Tables = refl
 simple kind.Zap = refl
 simple kind.Svremove = refl
+simple kind.Compact = refl
+simple kind.Rmorphan = refl
+simple kind.Pcrverify = refl
 
 module _ {C : Type 0} (p : OptionTable C) (app : App) (words : List (List ℕ)) (same : app ≡ command_of p.rows) where
   -- words that the command does not take

@@ -1,10 +1,10 @@
 -- Each plugin that is in none of the lists of some alone, as it is in its rule.
-use Rattle.std.proofs.Common.{◌≡◌, ℕ, List, Bool, false, ◌&&◌, None, refl, ap, absurd}
+use Rattle.std.proofs.Common.{◌≡◌, ℕ, List, Bool, false, ◌&&◌, None, refl, ap}
 use Rattle.ts_packet.specs.declared.cell.Cell.{Cell}
 use Rattle.plug_end.specs.UntilRule.{is_reached}
 use Rattle.plug_set.specs.Plugins.{rule_of, table_file_of, uses_joint}
 use Rattle.plug_set.specs.declared.plugin_conf.PluginConf.{PluginConf}
-use Rattle.plug_set.specs.declared.plugin_conf.PluginConf.TheVariants.{Filter, Skip, Slice, Pattern, Until, Count, Continuity, Remap, Inject, Pat, Cat, Pmt, Sdt, Nit, Zap, Svremove, Analyze, Tables}
+use Rattle.plug_set.specs.declared.plugin_conf.PluginConf.TheVariants.{Filter, Skip, Slice, Pattern, Until, Count, Continuity, Remap, Inject, Pat, Cat, Pmt, Sdt, Nit, Zap, Svremove, Analyze, Tables, Compact, Rmorphan, Pcrverify}
 
 pub never_agrees : (conf : PluginConf) (sections : List (List ℕ)) (history : List Cell) → uses_joint conf ≡ false → (rule_of conf sections).agrees history ≡ false
 never_agrees (Filter conf) sections history alone = refl
@@ -25,6 +25,9 @@ never_agrees (Zap conf) sections history alone = refl
 never_agrees (Svremove conf) sections history alone = refl
 never_agrees (Analyze conf) sections history alone = refl
 never_agrees (Tables conf) sections history alone = refl
+never_agrees (Compact conf) sections history alone = refl
+never_agrees (Rmorphan conf) sections history alone = refl
+never_agrees (Pcrverify conf) sections history alone = refl
 
 pub same_rule : (conf : PluginConf) (one other : List (List ℕ)) → table_file_of conf ≡ None → rule_of conf one ≡ rule_of conf other
 same_rule (Filter conf) one other none = refl
@@ -45,3 +48,6 @@ same_rule (Zap conf) one other none = refl
 same_rule (Svremove conf) one other none = refl
 same_rule (Analyze conf) one other none = refl
 same_rule (Tables conf) one other none = refl
+same_rule (Compact conf) one other none = refl
+same_rule (Rmorphan conf) one other none = refl
+same_rule (Pcrverify conf) one other none = refl

@@ -55,15 +55,23 @@ use Rattle.plug_analyze.specs.AnalyzeWords.{analyze}
 use Rattle.plug_tables.specs.TablesRule.{tables_rule}
 use Rattle.plug_tables.specs.TablesSettings.{IsLawfulTables}
 use Rattle.plug_tables.specs.TablesWords.{tables}
+use Rattle.plug_window.specs.CompactRule.{compact_rule}
+use Rattle.plug_window.specs.RmorphanRule.{rmorphan_rule}
+use Rattle.plug_window.specs.WindowSettings.{IsLawfulWindow}
+use Rattle.plug_window.specs.WindowWords.{window}
+use Rattle.plug_pcr.specs.PcrverifyRule.{pcrverify_rule}
+use Rattle.plug_pcr.specs.PcrverifySettings.{IsLawfulPcrverify}
+use Rattle.plug_pcr.specs.PcrverifyWords.{pcrverify}
 use Rattle.plug_set.specs.declared.plugin_conf.PluginConf.{PluginConf}
-use Rattle.plug_set.specs.declared.plugin_conf.PluginConf.TheVariants.{Filter, Skip, Slice, Pattern, Until, Count, Continuity, Remap, Inject, Pat, Cat, Pmt, Sdt, Nit, Zap, Svremove, Analyze, Tables}
+use Rattle.plug_set.specs.declared.plugin_conf.PluginConf.TheVariants.{Filter, Skip, Slice, Pattern, Until, Count, Continuity, Remap, Inject, Pat, Cat, Pmt, Sdt, Nit, Zap, Svremove, Analyze, Tables, Compact, Rmorphan, Pcrverify}
 use Rattle.plug_set.specs.declared.plugin_conf.PluginKind.{PluginKind}
 use Rattle.plug_set.specs.declared.plugin_conf.PluginKind.TheVariants as kind
 
 -- the plugins
 abbrev pub kinds : List PluginKind
 kinds = kind.Filter ∷ kind.Skip ∷ kind.Slice ∷ kind.Pattern ∷ kind.Until ∷ kind.Count ∷ kind.Continuity ∷ kind.Remap
-    ∷ kind.Inject ∷ kind.Pat ∷ kind.Cat ∷ kind.Pmt ∷ kind.Sdt ∷ kind.Nit ∷ kind.Zap ∷ kind.Svremove ∷ kind.Analyze ∷ kind.Tables ∷ []
+    ∷ kind.Inject ∷ kind.Pat ∷ kind.Cat ∷ kind.Pmt ∷ kind.Sdt ∷ kind.Nit ∷ kind.Zap ∷ kind.Svremove ∷ kind.Analyze ∷ kind.Tables
+    ∷ kind.Compact ∷ kind.Rmorphan ∷ kind.Pcrverify ∷ []
 
 -- their names, as the command line and the reports have them
 abbrev pub name_of_kind : PluginKind → List ℕ
@@ -85,6 +93,9 @@ name_of_kind kind.Zap = codes "zap"
 name_of_kind kind.Svremove = codes "svremove"
 name_of_kind kind.Analyze = codes "analyze"
 name_of_kind kind.Tables = codes "tables"
+name_of_kind kind.Compact = codes "compact"
+name_of_kind kind.Rmorphan = codes "rmorphan"
+name_of_kind kind.Pcrverify = codes "pcrverify"
 
 -- the plugin of a name; one that is not built yet has no kind
 abbrev pub plugin_kind_named : List ℕ → Option PluginKind
@@ -110,6 +121,9 @@ options_of_plugin kind.Zap = made_into Zap zap
 options_of_plugin kind.Svremove = made_into Svremove svremove
 options_of_plugin kind.Analyze = made_into Analyze analyze
 options_of_plugin kind.Tables = made_into Tables tables
+options_of_plugin kind.Compact = made_into Compact window
+options_of_plugin kind.Rmorphan = made_into Rmorphan window
+options_of_plugin kind.Pcrverify = made_into Pcrverify pcrverify
 
 -- the plugin that settings are of
 abbrev pub kind_of : PluginConf → PluginKind
@@ -131,6 +145,9 @@ kind_of (Zap conf) = kind.Zap
 kind_of (Svremove conf) = kind.Svremove
 kind_of (Analyze conf) = kind.Analyze
 kind_of (Tables conf) = kind.Tables
+kind_of (Compact conf) = kind.Compact
+kind_of (Rmorphan conf) = kind.Rmorphan
+kind_of (Pcrverify conf) = kind.Pcrverify
 
 -- its name
 abbrev pub name_of : PluginConf → List ℕ
@@ -157,6 +174,9 @@ IsLawful (Zap conf) = IsLawfulZap conf
 IsLawful (Svremove conf) = IsLawfulSvremove conf
 IsLawful (Analyze conf) = IsLawfulAnalyze conf
 IsLawful (Tables conf) = IsLawfulTables conf
+IsLawful (Compact conf) = IsLawfulWindow conf
+IsLawful (Rmorphan conf) = IsLawfulWindow conf
+IsLawful (Pcrverify conf) = IsLawfulPcrverify conf
 
 -- the file whose sections a plugin takes, where its settings name one; the empty name is standard input
 abbrev pub table_file_of : PluginConf → Option (List ℕ)
@@ -183,6 +203,9 @@ rule_of (Zap conf) sections = zap_rule conf
 rule_of (Svremove conf) sections = svremove_rule conf
 rule_of (Analyze conf) sections = analyze_rule
 rule_of (Tables conf) sections = tables_rule conf
+rule_of (Compact conf) sections = compact_rule conf
+rule_of (Rmorphan conf) sections = rmorphan_rule conf
+rule_of (Pcrverify conf) sections = pcrverify_rule conf
 
 -- for how many positions behind the last mark a plugin takes its room before the run, where it says so: all of them do
 -- but those whose lines grow with the stream, those that edit tables, which keep the tables that come, and the one that
@@ -201,6 +224,8 @@ steady_of (Zap conf) buffer = None
 steady_of (Svremove conf) buffer = None
 steady_of (Analyze conf) buffer = None
 steady_of (Tables conf) buffer = None
+steady_of (Rmorphan conf) buffer = None
+steady_of (Pcrverify conf) buffer = None
 steady_of _ buffer = Some buffer
 
 -- the plugin agrees to a common end, and does not end the chain by itself

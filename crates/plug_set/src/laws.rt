@@ -8,12 +8,10 @@ ghost use Rattle.plug_set.specs.Plugins.{rule_of, table_file_of, uses_joint};
 pub fn only_joint_agrees()
     ensures { (conf : PluginConf) (sections : List (List ℕ)) (history : List Cell)
         → uses_joint conf ≡ false → (rule_of conf sections).agrees history ≡ false }
-{
-}
+{}
 
 /// A plugin whose settings name no file means one rule, whatever sections it is given. It is a law and runs nothing.
 pub fn only_named_sections_count()
     ensures { (conf : PluginConf) (one other : List (List ℕ))
         → table_file_of conf ≡ None → rule_of conf one ≡ rule_of conf other }
-{
-}
+{}

@@ -30,6 +30,7 @@ use plug_pass::{
     FilterConf, PatternConf, SkipConf, SliceConf, filter_command, filter_settings, pattern_command,
     pattern_settings, skip_command, skip_settings, slice_command, slice_settings,
 };
+use plug_pcr::{PcrverifyConf, pcrverify_command, pcrverify_settings};
 use plug_service::{
     SvremoveConf, ZapConf, svremove_command, svremove_settings, zap_command, zap_settings,
 };
@@ -38,6 +39,7 @@ use plug_watch::{
     ContinuityConf, CountConf, continuity_command, continuity_settings, count_command,
     count_settings,
 };
+use plug_window::{WindowConf, window_command, window_settings};
 use std::alloc::{AllocError, Global};
 use ts_packet::LABEL_COUNT;
 
@@ -62,6 +64,9 @@ pub enum PluginConf {
     Svremove(SvremoveConf),
     Analyze(AnalyzeConf),
     Tables(TablesConf),
+    Compact(WindowConf),
+    Rmorphan(WindowConf),
+    Pcrverify(PcrverifyConf),
 }
 
 /// A kind of plugin.
@@ -85,6 +90,9 @@ pub enum PluginKind {
     Svremove,
     Analyze,
     Tables,
+    Compact,
+    Rmorphan,
+    Pcrverify,
 }
 
 impl PluginKind {
@@ -111,6 +119,9 @@ impl PluginKind {
             "svremove" => Some(PluginKind::Svremove),
             "analyze" => Some(PluginKind::Analyze),
             "tables" => Some(PluginKind::Tables),
+            "compact" => Some(PluginKind::Compact),
+            "rmorphan" => Some(PluginKind::Rmorphan),
+            "pcrverify" => Some(PluginKind::Pcrverify),
             _ => None,
         }
     }
@@ -138,6 +149,9 @@ impl PluginKind {
             PluginKind::Svremove => "svremove",
             PluginKind::Analyze => "analyze",
             PluginKind::Tables => "tables",
+            PluginKind::Compact => "compact",
+            PluginKind::Rmorphan => "rmorphan",
+            PluginKind::Pcrverify => "pcrverify",
         }
     }
 
@@ -164,6 +178,9 @@ impl PluginKind {
             PluginKind::Svremove => svremove_command(alloc),
             PluginKind::Analyze => analyze_command(alloc),
             PluginKind::Tables => tables_command(alloc),
+            PluginKind::Compact => window_command(alloc),
+            PluginKind::Rmorphan => window_command(alloc),
+            PluginKind::Pcrverify => pcrverify_command(alloc),
         }
     }
 
@@ -193,6 +210,9 @@ impl PluginKind {
             PluginKind::Svremove => svremove_settings(found).map(PluginConf::Svremove),
             PluginKind::Analyze => analyze_settings(alloc, found).map(PluginConf::Analyze),
             PluginKind::Tables => tables_settings(alloc, found).map(PluginConf::Tables),
+            PluginKind::Compact => window_settings(found).map(PluginConf::Compact),
+            PluginKind::Rmorphan => window_settings(found).map(PluginConf::Rmorphan),
+            PluginKind::Pcrverify => pcrverify_settings(alloc, found).map(PluginConf::Pcrverify),
         }
     }
 
@@ -271,6 +291,9 @@ impl PluginConf {
             PluginConf::Svremove(_) => PluginKind::Svremove,
             PluginConf::Analyze(_) => PluginKind::Analyze,
             PluginConf::Tables(_) => PluginKind::Tables,
+            PluginConf::Compact(_) => PluginKind::Compact,
+            PluginConf::Rmorphan(_) => PluginKind::Rmorphan,
+            PluginConf::Pcrverify(_) => PluginKind::Pcrverify,
         }
     }
 

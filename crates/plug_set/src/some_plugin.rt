@@ -11,9 +11,11 @@ use plug_end::Until;
 use plug_inject::Inject;
 use plug_move::Remap;
 use plug_pass::{Filter, Pattern, Skip, Slice};
+use plug_pcr::Pcrverify;
 use plug_service::{Svremove, Zap};
 use plug_tables::Tables;
 use plug_watch::{Continuity, Count};
+use plug_window::{Compact, Rmorphan};
 use plugin_trait::{Applied, Line, Outcome, Plugin};
 use std::alloc::{AllocError, Global};
 use ts_packet::Cell;
@@ -40,6 +42,9 @@ pub(crate) enum SomePlugin {
     Svremove(Svremove),
     Analyze(Analyze),
     Tables(Tables),
+    Compact(Compact),
+    Rmorphan(Rmorphan),
+    Pcrverify(Pcrverify),
 }
 
 impl SomePlugin {
@@ -86,13 +91,20 @@ impl SomePlugin {
                 Ok(SomePlugin::Analyze(Analyze::new(alloc, conf, buffer)?))
             }
             PluginConf::Tables(conf) => Ok(SomePlugin::Tables(Tables::new(alloc, conf, buffer)?)),
+            PluginConf::Compact(conf) => {
+                Ok(SomePlugin::Compact(Compact::new(alloc, conf, buffer)?))
+            }
+            PluginConf::Rmorphan(conf) => Ok(SomePlugin::Rmorphan(Rmorphan::new(alloc, conf)?)),
+            PluginConf::Pcrverify(conf) => {
+                Ok(SomePlugin::Pcrverify(Pcrverify::new(alloc, conf, buffer)?))
+            }
         }
     }
 }
 
 impl Plugin for SomePlugin {
     ghost use Rattle.std.specs.Prelude.{refl};
-    ghost use Rattle.plug_set.specs.declared.some_plugin.SomePlugin.TheVariants.{Filter as MadeFilter, Skip as MadeSkip, Slice as MadeSlice, Pattern as MadePattern, Until as MadeUntil, Count as MadeCount, Continuity as MadeContinuity, Remap as MadeRemap, Inject as MadeInject, Pat as MadePat, Cat as MadeCat, Pmt as MadePmt, Sdt as MadeSdt, Nit as MadeNit, Zap as MadeZap, Svremove as MadeSvremove, Analyze as MadeAnalyze, Tables as MadeTables};
+    ghost use Rattle.plug_set.specs.declared.some_plugin.SomePlugin.TheVariants.{Filter as MadeFilter, Skip as MadeSkip, Slice as MadeSlice, Pattern as MadePattern, Until as MadeUntil, Count as MadeCount, Continuity as MadeContinuity, Remap as MadeRemap, Inject as MadeInject, Pat as MadePat, Cat as MadeCat, Pmt as MadePmt, Sdt as MadeSdt, Nit as MadeNit, Zap as MadeZap, Svremove as MadeSvremove, Analyze as MadeAnalyze, Tables as MadeTables, Compact as MadeCompact, Rmorphan as MadeRmorphan, Pcrverify as MadePcrverify};
 
     ghost rule = { elim [
       | MadeFilter p ↦ ⟦<Filter as Plugin>⟧.rule p
@@ -113,6 +125,9 @@ impl Plugin for SomePlugin {
       | MadeSvremove p ↦ ⟦<Svremove as Plugin>⟧.rule p
       | MadeAnalyze p ↦ ⟦<Analyze as Plugin>⟧.rule p
       | MadeTables p ↦ ⟦<Tables as Plugin>⟧.rule p
+      | MadeCompact p ↦ ⟦<Compact as Plugin>⟧.rule p
+      | MadeRmorphan p ↦ ⟦<Rmorphan as Plugin>⟧.rule p
+      | MadePcrverify p ↦ ⟦<Pcrverify as Plugin>⟧.rule p
     ] };
 
     ghost stands_for = { elim [
@@ -134,6 +149,9 @@ impl Plugin for SomePlugin {
       | MadeSvremove p ↦ ⟦<Svremove as Plugin>⟧.stands_for p
       | MadeAnalyze p ↦ ⟦<Analyze as Plugin>⟧.stands_for p
       | MadeTables p ↦ ⟦<Tables as Plugin>⟧.stands_for p
+      | MadeCompact p ↦ ⟦<Compact as Plugin>⟧.stands_for p
+      | MadeRmorphan p ↦ ⟦<Rmorphan as Plugin>⟧.stands_for p
+      | MadePcrverify p ↦ ⟦<Pcrverify as Plugin>⟧.stands_for p
     ] };
 
     ghost steady = { elim [
@@ -155,6 +173,9 @@ impl Plugin for SomePlugin {
       | MadeSvremove p ↦ ⟦<Svremove as Plugin>⟧.steady p
       | MadeAnalyze p ↦ ⟦<Analyze as Plugin>⟧.steady p
       | MadeTables p ↦ ⟦<Tables as Plugin>⟧.steady p
+      | MadeCompact p ↦ ⟦<Compact as Plugin>⟧.steady p
+      | MadeRmorphan p ↦ ⟦<Rmorphan as Plugin>⟧.steady p
+      | MadePcrverify p ↦ ⟦<Pcrverify as Plugin>⟧.steady p
     ] };
 
     fn step(&mut self, at: u64, cell: &mut Cell) -> Outcome {
@@ -177,6 +198,9 @@ impl Plugin for SomePlugin {
             SomePlugin::Svremove(plugin) => plugin.step(at, cell),
             SomePlugin::Analyze(plugin) => plugin.step(at, cell),
             SomePlugin::Tables(plugin) => plugin.step(at, cell),
+            SomePlugin::Compact(plugin) => plugin.step(at, cell),
+            SomePlugin::Rmorphan(plugin) => plugin.step(at, cell),
+            SomePlugin::Pcrverify(plugin) => plugin.step(at, cell),
         }
     }
 
@@ -200,6 +224,9 @@ impl Plugin for SomePlugin {
             SomePlugin::Svremove(plugin) => plugin.steps(at, cells, noted),
             SomePlugin::Analyze(plugin) => plugin.steps(at, cells, noted),
             SomePlugin::Tables(plugin) => plugin.steps(at, cells, noted),
+            SomePlugin::Compact(plugin) => plugin.steps(at, cells, noted),
+            SomePlugin::Rmorphan(plugin) => plugin.steps(at, cells, noted),
+            SomePlugin::Pcrverify(plugin) => plugin.steps(at, cells, noted),
         }
     }
 
@@ -223,6 +250,9 @@ impl Plugin for SomePlugin {
             SomePlugin::Svremove(plugin) => plugin.note(written),
             SomePlugin::Analyze(plugin) => plugin.note(written),
             SomePlugin::Tables(plugin) => plugin.note(written),
+            SomePlugin::Compact(plugin) => plugin.note(written),
+            SomePlugin::Rmorphan(plugin) => plugin.note(written),
+            SomePlugin::Pcrverify(plugin) => plugin.note(written),
         }
     }
 
@@ -246,6 +276,9 @@ impl Plugin for SomePlugin {
             SomePlugin::Svremove(plugin) => plugin.agreed(),
             SomePlugin::Analyze(plugin) => plugin.agreed(),
             SomePlugin::Tables(plugin) => plugin.agreed(),
+            SomePlugin::Compact(plugin) => plugin.agreed(),
+            SomePlugin::Rmorphan(plugin) => plugin.agreed(),
+            SomePlugin::Pcrverify(plugin) => plugin.agreed(),
         }
     }
 
@@ -269,6 +302,9 @@ impl Plugin for SomePlugin {
             SomePlugin::Svremove(plugin) => plugin.finish(cut),
             SomePlugin::Analyze(plugin) => plugin.finish(cut),
             SomePlugin::Tables(plugin) => plugin.finish(cut),
+            SomePlugin::Compact(plugin) => plugin.finish(cut),
+            SomePlugin::Rmorphan(plugin) => plugin.finish(cut),
+            SomePlugin::Pcrverify(plugin) => plugin.finish(cut),
         }
     }
 
@@ -291,5 +327,8 @@ impl Plugin for SomePlugin {
       | MadeSvremove p ↦ λ history mark stands. refl
       | MadeAnalyze p ↦ λ history mark stands. refl
       | MadeTables p ↦ λ history mark stands. refl
+      | MadeCompact p ↦ λ history mark stands. refl
+      | MadeRmorphan p ↦ λ history mark stands. refl
+      | MadePcrverify p ↦ λ history mark stands. refl
     ] };
 }

@@ -54,3 +54,12 @@ returns-in-Analyze c = rw c.in-Analyze.is c.analyze_command.ensures
 
 pub returns-in-Tables : goal.returns-in-Tables
 returns-in-Tables c = rw c.in-Tables.is c.tables_command.ensures
+
+pub returns-in-Compact : goal.returns-in-Compact
+returns-in-Compact c = rw c.in-Compact.is c.window_command.ensures
+
+pub returns-in-Rmorphan : goal.returns-in-Rmorphan
+returns-in-Rmorphan c = rw c.in-Rmorphan.is c.window_command-in-Rmorphan.ensures
+
+pub returns-in-Pcrverify : goal.returns-in-Pcrverify
+returns-in-Pcrverify c = rw c.in-Pcrverify.is c.pcrverify_command.ensures

@@ -17,6 +17,8 @@ use Rattle.plug_service.specs.ZapWords.{zap}
 use Rattle.plug_service.specs.SvremoveWords.{svremove}
 use Rattle.plug_analyze.specs.AnalyzeWords.{analyze}
 use Rattle.plug_tables.specs.TablesWords.{tables}
+use Rattle.plug_window.specs.WindowWords.{window}
+use Rattle.plug_pcr.specs.PcrverifyWords.{pcrverify}
 use Rattle.plug_set.specs.Plugins.{IsLawful}
 use Rattle.plug_set.specs.declared.plugin_conf.PluginConf.TheVariants as conf
 use Rattle.plug_set.proofs.ArmLemmas.{made, read_into}
@@ -129,3 +131,21 @@ returns-in-Tables-clause-reads c = rw c.in-Tables.is (read_into conf.Tables tabl
 
 pub returns-in-Tables-clause-lawful : goal.returns-in-Tables-clause-lawful
 returns-in-Tables-clause-lawful c = made conf.Tables _ IsLawful _ _ c.map-in-Tables.ensures.cases (λ _ p. p) c.tables_settings.ensures.lawful
+
+pub returns-in-Compact-clause-reads : goal.returns-in-Compact-clause-reads
+returns-in-Compact-clause-reads c = rw c.in-Compact.is (read_into conf.Compact window c.args.found.now _ _ c.map-in-Compact.ensures.cases c.window_settings.ensures.reads)
+
+pub returns-in-Compact-clause-lawful : goal.returns-in-Compact-clause-lawful
+returns-in-Compact-clause-lawful c = made conf.Compact _ IsLawful _ _ c.map-in-Compact.ensures.cases (λ _ p. p) c.window_settings.ensures.lawful
+
+pub returns-in-Rmorphan-clause-reads : goal.returns-in-Rmorphan-clause-reads
+returns-in-Rmorphan-clause-reads c = rw c.in-Rmorphan.is (read_into conf.Rmorphan window c.args.found.now _ _ c.map-in-Rmorphan.ensures.cases c.window_settings-in-Rmorphan.ensures.reads)
+
+pub returns-in-Rmorphan-clause-lawful : goal.returns-in-Rmorphan-clause-lawful
+returns-in-Rmorphan-clause-lawful c = made conf.Rmorphan _ IsLawful _ _ c.map-in-Rmorphan.ensures.cases (λ _ p. p) c.window_settings-in-Rmorphan.ensures.lawful
+
+pub returns-in-Pcrverify-clause-reads : goal.returns-in-Pcrverify-clause-reads
+returns-in-Pcrverify-clause-reads c = rw c.in-Pcrverify.is (read_into conf.Pcrverify pcrverify c.args.found.now _ _ c.map-in-Pcrverify.ensures.cases c.pcrverify_settings.ensures.reads)
+
+pub returns-in-Pcrverify-clause-lawful : goal.returns-in-Pcrverify-clause-lawful
+returns-in-Pcrverify-clause-lawful c = made conf.Pcrverify _ IsLawful _ _ c.map-in-Pcrverify.ensures.cases (λ _ p. p) c.pcrverify_settings.ensures.lawful

@@ -108,3 +108,21 @@ new-requires-in-Tables c = rw c.in-Tables.is at c.requires
 
 pub returns-in_ok-new-in-Tables : goal.returns-in_ok-new-in-Tables
 returns-in_ok-new-in-Tables c = rw c.in-Tables.is c.in_ok-new-in-Tables.ensures
+
+pub new-requires-in-Compact : goal.new-requires-in-Compact
+new-requires-in-Compact c = rw c.in-Compact.is at c.requires
+
+pub returns-in_ok-new-in-Compact : goal.returns-in_ok-new-in-Compact
+returns-in_ok-new-in-Compact c = rw c.in-Compact.is c.in_ok-new-in-Compact.ensures
+
+pub new-requires-in-Rmorphan : goal.new-requires-in-Rmorphan
+new-requires-in-Rmorphan c = rw c.in-Rmorphan.is at c.requires
+
+pub returns-in_ok-new-in-Rmorphan : goal.returns-in_ok-new-in-Rmorphan
+returns-in_ok-new-in-Rmorphan c = rw c.in-Rmorphan.is c.in_ok-new-in-Rmorphan.ensures
+
+pub new-requires-in-Pcrverify : goal.new-requires-in-Pcrverify
+new-requires-in-Pcrverify c = rw c.in-Pcrverify.is at c.requires
+
+pub returns-in_ok-new-in-Pcrverify : goal.returns-in_ok-new-in-Pcrverify
+returns-in_ok-new-in-Pcrverify c = rw c.in-Pcrverify.is c.in_ok-new-in-Pcrverify.ensures

@@ -108,3 +108,21 @@ agreed-requires-in-Tables c = rw c.in-Tables.is at c.requires
 
 pub returns-in-Tables : goal.returns-in-Tables
 returns-in-Tables c = rw c.in-Tables.is c.agreed-in-Tables.ensures
+
+pub agreed-requires-in-Compact : goal.agreed-requires-in-Compact
+agreed-requires-in-Compact c = rw c.in-Compact.is at c.requires
+
+pub returns-in-Compact : goal.returns-in-Compact
+returns-in-Compact c = rw c.in-Compact.is c.agreed-in-Compact.ensures
+
+pub agreed-requires-in-Rmorphan : goal.agreed-requires-in-Rmorphan
+agreed-requires-in-Rmorphan c = rw c.in-Rmorphan.is at c.requires
+
+pub returns-in-Rmorphan : goal.returns-in-Rmorphan
+returns-in-Rmorphan c = rw c.in-Rmorphan.is c.agreed-in-Rmorphan.ensures
+
+pub agreed-requires-in-Pcrverify : goal.agreed-requires-in-Pcrverify
+agreed-requires-in-Pcrverify c = rw c.in-Pcrverify.is at c.requires
+
+pub returns-in-Pcrverify : goal.returns-in-Pcrverify
+returns-in-Pcrverify c = rw c.in-Pcrverify.is c.agreed-in-Pcrverify.ensures

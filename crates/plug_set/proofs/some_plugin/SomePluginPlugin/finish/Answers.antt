@@ -108,3 +108,21 @@ finish-requires-in-Tables c = rw c.in-Tables.is at c.requires
 
 pub returns-in-Tables : goal.returns-in-Tables
 returns-in-Tables c = rw c.in-Tables.is c.finish-in-Tables.ensures
+
+pub finish-requires-in-Compact : goal.finish-requires-in-Compact
+finish-requires-in-Compact c = rw c.in-Compact.is at c.requires
+
+pub returns-in-Compact : goal.returns-in-Compact
+returns-in-Compact c = rw c.in-Compact.is c.finish-in-Compact.ensures
+
+pub finish-requires-in-Rmorphan : goal.finish-requires-in-Rmorphan
+finish-requires-in-Rmorphan c = rw c.in-Rmorphan.is at c.requires
+
+pub returns-in-Rmorphan : goal.returns-in-Rmorphan
+returns-in-Rmorphan c = rw c.in-Rmorphan.is c.finish-in-Rmorphan.ensures
+
+pub finish-requires-in-Pcrverify : goal.finish-requires-in-Pcrverify
+finish-requires-in-Pcrverify c = rw c.in-Pcrverify.is at c.requires
+
+pub returns-in-Pcrverify : goal.returns-in-Pcrverify
+returns-in-Pcrverify c = rw c.in-Pcrverify.is c.finish-in-Pcrverify.ensures

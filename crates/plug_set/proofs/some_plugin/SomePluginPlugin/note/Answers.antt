@@ -108,3 +108,21 @@ note-requires-in-Tables c = rw c.in-Tables.is at c.requires
 
 pub returns-in-Tables : goal.returns-in-Tables
 returns-in-Tables c = rw c.in-Tables.is c.note-in-Tables.ensures
+
+pub note-requires-in-Compact : goal.note-requires-in-Compact
+note-requires-in-Compact c = rw c.in-Compact.is at c.requires
+
+pub returns-in-Compact : goal.returns-in-Compact
+returns-in-Compact c = rw c.in-Compact.is c.note-in-Compact.ensures
+
+pub note-requires-in-Rmorphan : goal.note-requires-in-Rmorphan
+note-requires-in-Rmorphan c = rw c.in-Rmorphan.is at c.requires
+
+pub returns-in-Rmorphan : goal.returns-in-Rmorphan
+returns-in-Rmorphan c = rw c.in-Rmorphan.is c.note-in-Rmorphan.ensures
+
+pub note-requires-in-Pcrverify : goal.note-requires-in-Pcrverify
+note-requires-in-Pcrverify c = rw c.in-Pcrverify.is at c.requires
+
+pub returns-in-Pcrverify : goal.returns-in-Pcrverify
+returns-in-Pcrverify c = rw c.in-Pcrverify.is c.note-in-Pcrverify.ensures

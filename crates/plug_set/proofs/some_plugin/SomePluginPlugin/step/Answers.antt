@@ -108,3 +108,21 @@ step-requires-in-Tables c = rw c.in-Tables.is at c.requires
 
 pub returns-in-Tables : goal.returns-in-Tables
 returns-in-Tables c = rw c.in-Tables.is c.step-in-Tables.ensures
+
+pub step-requires-in-Compact : goal.step-requires-in-Compact
+step-requires-in-Compact c = rw c.in-Compact.is at c.requires
+
+pub returns-in-Compact : goal.returns-in-Compact
+returns-in-Compact c = rw c.in-Compact.is c.step-in-Compact.ensures
+
+pub step-requires-in-Rmorphan : goal.step-requires-in-Rmorphan
+step-requires-in-Rmorphan c = rw c.in-Rmorphan.is at c.requires
+
+pub returns-in-Rmorphan : goal.returns-in-Rmorphan
+returns-in-Rmorphan c = rw c.in-Rmorphan.is c.step-in-Rmorphan.ensures
+
+pub step-requires-in-Pcrverify : goal.step-requires-in-Pcrverify
+step-requires-in-Pcrverify c = rw c.in-Pcrverify.is at c.requires
+
+pub returns-in-Pcrverify : goal.returns-in-Pcrverify
+returns-in-Pcrverify c = rw c.in-Pcrverify.is c.step-in-Pcrverify.ensures

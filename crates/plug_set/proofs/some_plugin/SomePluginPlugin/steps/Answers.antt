@@ -108,3 +108,21 @@ steps-requires-in-Tables c = rw c.in-Tables.is at c.requires
 
 pub returns-in-Tables : goal.returns-in-Tables
 returns-in-Tables c = rw c.in-Tables.is c.steps-in-Tables.ensures
+
+pub steps-requires-in-Compact : goal.steps-requires-in-Compact
+steps-requires-in-Compact c = rw c.in-Compact.is at c.requires
+
+pub returns-in-Compact : goal.returns-in-Compact
+returns-in-Compact c = rw c.in-Compact.is c.steps-in-Compact.ensures
+
+pub steps-requires-in-Rmorphan : goal.steps-requires-in-Rmorphan
+steps-requires-in-Rmorphan c = rw c.in-Rmorphan.is at c.requires
+
+pub returns-in-Rmorphan : goal.returns-in-Rmorphan
+returns-in-Rmorphan c = rw c.in-Rmorphan.is c.steps-in-Rmorphan.ensures
+
+pub steps-requires-in-Pcrverify : goal.steps-requires-in-Pcrverify
+steps-requires-in-Pcrverify c = rw c.in-Pcrverify.is at c.requires
+
+pub returns-in-Pcrverify : goal.returns-in-Pcrverify
+returns-in-Pcrverify c = rw c.in-Pcrverify.is c.steps-in-Pcrverify.ensures
