@@ -1,5 +1,6 @@
 //! The file that comes in: packets with payload, made from their PIDs and counters.
 use crate::carried::Carried;
+use crate::long_pat::PatPart;
 use crate::mixed_stream::push_mixed;
 use std::alloc::{AllocError, Global};
 
@@ -28,6 +29,8 @@ pub(crate) enum Input {
     /// Packets with these first five bytes. Their other bytes are 0x90: as the flags of an adaptation field, a
     /// discontinuity and a PCR.
     Headed(&'static [[u8; 5]]),
+    /// These packets of PATs, with counters from 0 on.
+    LongPats(&'static [PatPart]),
 }
 
 /// The bytes of the file.
@@ -54,6 +57,7 @@ pub(crate) fn input_bytes(alloc: Global, input: Input) -> Result<Vec<u8>, AllocE
             push_packets(&mut bytes, behind)?;
         }
         Input::Headed(heads) => push_headed(&mut bytes, heads)?,
+        Input::LongPats(parts) => push_parts(&mut bytes, parts)?,
     }
     Ok(bytes)
 }
@@ -105,6 +109,14 @@ fn push_headed(bytes: &mut Vec<u8>, heads: &[[u8; 5]]) -> Result<(), AllocError>
         for _ in head.len()..188 {
             bytes.push(FLAGS_BYTE)?;
         }
+    }
+    Ok(())
+}
+
+/// The packets of these parts of PATs.
+fn push_parts(bytes: &mut Vec<u8>, parts: &[PatPart]) -> Result<(), AllocError> {
+    for (i, part) in parts.iter().enumerate() {
+        part.push(bytes, (i % 16) as u8)?;
     }
     Ok(())
 }

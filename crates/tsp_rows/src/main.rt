@@ -9,6 +9,7 @@ mod carried;
 mod chain_table;
 mod chains;
 mod clock_rows;
+mod cycle_rows;
 mod desk_plan;
 mod edit_rows;
 mod end_rows;
@@ -17,14 +18,17 @@ mod failing_reads;
 mod failing_writes;
 mod fault_rows;
 mod following_gate;
+mod generated_rows;
 mod inputs;
 mod keeping_gate;
 mod lawless_packets;
 mod listed_calls;
 mod listed_desk;
+mod long_pat;
 mod meeting_gate;
 mod meeting_pairs;
 mod mixed_stream;
+mod note_rows;
 mod outcome;
 mod plugin_rows;
 mod row;
@@ -68,7 +72,7 @@ fn print_worked<R: Threads + Wait + Sync + Print + AllocGlobal>(rt: &R) -> Resul
 
 /// Prints the rows of all tables, and how many of them come to the same by both calls.
 fn print_tables<R: Threads + Wait + Sync + Print + AllocGlobal>(rt: &R) -> Result<()> {
-    let tables: [&[Row]; 24] = [
+    let tables: [&[Row]; 29] = [
         end_rows::rows(),
         plugin_rows::rows(),
         plugin_rows::of_watchers(),
@@ -79,6 +83,9 @@ fn print_tables<R: Threads + Wait + Sync + Print + AllocGlobal>(rt: &R) -> Resul
         window_rows::rows(),
         stream_rows::rows(),
         clock_rows::rows(),
+        generated_rows::rows(),
+        cycle_rows::rows(),
+        note_rows::rows(),
         table_rows::rows(),
         table_rows::of_faults(),
         fault_rows::at_openings(),

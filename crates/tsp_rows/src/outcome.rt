@@ -96,21 +96,22 @@ fn print_sections(rt: &impl Print, bytes: &[u8]) -> Result<()> {
     Ok(())
 }
 
-/// Prints the bytes of the first section.
+/// Prints the bytes of the first section; where the packet has not the whole of it, its head alone.
 fn print_section(rt: &impl Print, bytes: &[u8]) -> Result<()> {
     if let [_, high, low, ..] = bytes {
         let length = u16::from_be_bytes([*high & 0x0F, *low]);
-        if let Some(section) = bytes.get(..usize::from(length) + 3) {
-            print_bytes(rt, section)?;
+        match bytes.get(..usize::from(length) + 3) {
+            Some(section) => print_bytes(rt, "section", section)?,
+            None => print_bytes(rt, "section begins", bytes.get(..8).unwrap_or(bytes))?,
         }
     }
     Ok(())
 }
 
-/// Prints bytes as a line.
-fn print_bytes(rt: &impl Print, section: &[u8]) -> Result<()> {
-    print!(rt; "  section")?;
-    for byte in section {
+/// Prints bytes as a line, behind what they are.
+fn print_bytes(rt: &impl Print, called: &str, bytes: &[u8]) -> Result<()> {
+    print!(rt; "  {called}")?;
+    for byte in bytes {
         print!(rt; " {byte:02x}")?;
     }
     println!(rt; "")?;

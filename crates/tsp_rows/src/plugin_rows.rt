@@ -108,7 +108,7 @@ pub(crate) fn of_joint_ends() -> &'static [Row] {
     &JOINT_ROWS
 }
 
-static JOINT_ROWS: [Row; 6] = [
+static JOINT_ROWS: [Row; 7] = [
     Row {
         name: "joint termination at 5 and 3",
         words: "-I file in -P until --packets 5 --joint-termination -P skip 2 -P until --packets 1 --joint-termination -O file out",
@@ -142,6 +142,12 @@ static JOINT_ROWS: [Row; 6] = [
     Row {
         name: "joint termination before a plain until",
         words: "-I file in -P until --packets 4 --joint-termination -P until --packets 4 -O file out",
+        input: Input::Pids(&TEN),
+        plan: ORDINARY,
+    },
+    Row {
+        name: "a plain until where joint termination is ignored",
+        words: "--ignore-joint-termination -I file in -P until --packets 3 --joint-termination -P until --packets 5 -O file out",
         input: Input::Pids(&TEN),
         plan: ORDINARY,
     },

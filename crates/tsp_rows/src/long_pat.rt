@@ -1,0 +1,90 @@
+//! A PAT of sixty services, of two versions: its section has 252 bytes and takes two packets.
+use std::alloc::AllocError;
+
+/// One of the two packets of the section, of one version.
+#[derive(Clone, Copy)]
+pub(crate) struct PatPart {
+    version: u8,
+    second: bool,
+    crc: [u8; 4],
+}
+
+const CRC_OF_0: [u8; 4] = [0x1C, 0x39, 0x4F, 0x2A];
+
+const CRC_OF_1: [u8; 4] = [0x88, 0x3F, 0x72, 0xDD];
+
+pub(crate) const FIRST_OF_0: PatPart = PatPart {
+    version: 0,
+    second: false,
+    crc: CRC_OF_0,
+};
+
+pub(crate) const SECOND_OF_0: PatPart = PatPart {
+    version: 0,
+    second: true,
+    crc: CRC_OF_0,
+};
+
+pub(crate) const FIRST_OF_1: PatPart = PatPart {
+    version: 1,
+    second: false,
+    crc: CRC_OF_1,
+};
+
+pub(crate) const SECOND_OF_1: PatPart = PatPart {
+    version: 1,
+    second: true,
+    crc: CRC_OF_1,
+};
+
+/// How many of the section's bytes the first packet has, behind the pointer.
+const IN_FIRST: usize = 183;
+
+/// Where the services end, and the CRC begins.
+const SERVICES_END: usize = 248;
+
+impl PatPart {
+    /// Puts its packet on PID 0 behind others, with this counter.
+    pub(crate) fn push(self, bytes: &mut Vec<u8>, counter: u8) -> Result<(), AllocError> {
+        if self.second {
+            bytes.extend_from_slice(&[0x47, 0, 0, 0x10 | counter % 16])?;
+            return self.push_section(bytes, IN_FIRST, 184);
+        }
+        bytes.extend_from_slice(&[0x47, 0x40, 0, 0x10 | counter % 16, 0])?;
+        self.push_section(bytes, 0, IN_FIRST)
+    }
+
+    /// Puts so many of the section's bytes behind others, from one on; behind the section stands 0xFF.
+    fn push_section(
+        self,
+        bytes: &mut Vec<u8>,
+        from: usize,
+        count: usize,
+    ) -> Result<(), AllocError> {
+        for k in from..from.saturating_add(count) {
+            bytes.push(self.section_byte(k))?;
+        }
+        Ok(())
+    }
+
+    /// A byte of the section: its head, then the services 100 to 159, each on the PID 4096 above its number, then the CRC.
+    fn section_byte(self, k: usize) -> u8 {
+        let head = [0x00, 0xB0, 0xF9, 0x00, 0x01, 0xC1 | self.version << 1, 0, 0];
+        if k < head.len() {
+            return head[k];
+        }
+        if k < SERVICES_END {
+            return service_byte(k - head.len());
+        }
+        self.crc.get(k - SERVICES_END).copied().unwrap_or(0xFF)
+    }
+}
+
+/// A byte of the services.
+fn service_byte(k: usize) -> u8 {
+    match k % 4 {
+        0 => 0,
+        2 => 0xF0,
+        _ => (100 + k / 4 % 60) as u8,
+    }
+}
