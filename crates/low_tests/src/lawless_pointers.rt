@@ -23,3 +23,34 @@ fn pointers_beyond_the_payload(rt: HostRuntime) -> Result<(), Fail> {
     }
     Ok(())
 }
+
+/// How many sections two packets complete of which the first has this pointer and the other no unit start. Before them came
+/// the first 183 bytes of a section of 366; all other bytes are 0xFF.
+fn completed_behind(alloc: Global, pointer: u8) -> Result<(usize, usize), AllocError> {
+    let mut packet = Packet::null();
+    packet.set_pid(0);
+    packet.set_unit_start(true);
+    packet.put_payload(4, &[0, 0x70, 0x71, 0x6B]);
+    let mut demux = Demux::new(alloc, 0)?;
+    demux.feed(&packet)?;
+    packet.set_counter(1);
+    packet.put_payload(4, &[pointer, 0xFF, 0xFF, 0xFF]);
+    let pointed = demux.feed(&packet)?;
+    packet.set_counter(2);
+    packet.set_unit_start(false);
+    Ok((pointed, demux.feed(&packet)?))
+}
+
+/// Behind pointer 183 nothing begins, and the bytes before it end the section. One more is beyond the payload, and gives
+/// the section up.
+#[test]
+fn the_last_pointer_and_the_one_beyond(rt: HostRuntime) -> Result<(), Fail> {
+    for (pointer, want) in [(183, (1, 0)), (184, (0, 0))] {
+        assert_eq!(rt;
+            completed_behind(rt.alloc(), pointer)?,
+            want,
+            "of {pointer}"
+        );
+    }
+    Ok(())
+}
