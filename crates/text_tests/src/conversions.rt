@@ -15,7 +15,7 @@ fn a_text_is_compiled(rt: HostRuntime) -> Result<(), Fail> {
     let Ok(bytes) = compile(rt.alloc(), PAT) else {
         return Err(Fail::from("no sections"));
     };
-    assert_eq!(rt; bytes.len(), 16);
+    assert_eq!(rt; bytes.as_slice(), PAT_BYTES);
     let Ok(sections) = sections_of(rt.alloc(), &bytes) else {
         return Err(Fail::from("no section"));
     };

@@ -72,3 +72,31 @@ fn a_fault_of_a_child_has_its_number(rt: HostRuntime) -> Result<(), Fail> {
     assert_eq!(rt; fault.kind, JsonKind::Missing);
     Ok(())
 }
+
+/// The language `fra`, of no audio type; and a CA system, with and without its reserved bits as ones.
+static MPEG_BODIES: [(u8, [u8; 4], &str); 3] = [
+    (
+        0x0A,
+        [0x66, 0x72, 0x61, 0x00],
+        r##"{"#name":"ISO_639_language_descriptor","#nodes":[{"#name":"language","audio_type":0,"code":"fra"}]}"##,
+    ),
+    (
+        0x09,
+        [0x18, 0x00, 0xE1, 0x00],
+        r##"{"#name":"CA_descriptor","CA_PID":256,"CA_system_id":6144,"private_data":""}"##,
+    ),
+    (
+        0x09,
+        [0x18, 0x00, 0x01, 0x00],
+        r##"{"#name":"generic_descriptor","data":"18000100","tag":9}"##,
+    ),
+];
+
+#[test]
+fn languages_and_systems_are_shown(rt: HostRuntime) -> Result<(), Fail> {
+    for (tag, body, text) in &MPEG_BODIES {
+        let found = shown(rt.alloc(), *tag, body)?;
+        assert_eq!(rt; found.as_str(), *text);
+    }
+    Ok(())
+}

@@ -5,6 +5,8 @@
 #[cfg(test)]
 mod calls;
 #[cfg(test)]
+mod conversion_faults;
+#[cfg(test)]
 mod conversions;
 #[cfg(test)]
 mod cut_sections;
@@ -12,6 +14,8 @@ mod cut_sections;
 mod descriptors;
 #[cfg(test)]
 mod elements;
+#[cfg(test)]
+mod longest_pmt;
 #[cfg(test)]
 mod nested_arrays;
 #[cfg(test)]
