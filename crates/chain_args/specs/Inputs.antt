@@ -3,6 +3,7 @@
 use Rattle.std.specs.Prelude.{ℕ, ◌&&◌, List, [], ◌∷◌, None, Option, Some, codes, if◌then◌else◌, true, unwrap_or}
 use Rattle.std.specs.Str.{bytes_eq}
 use Rattle.plug_conf.specs.declared.limits.TheConstants.{MOST_PACKETS}
+use Rattle.packet_forms.specs.declared.forms.Form.TheVariants.{Ts}
 use Rattle.option_words.specs.Forms.{number, text}
 use Rattle.option_words.specs.Number.{number_within}
 use Rattle.option_words.specs.Options.{has_value, operand, read_value, value_of}
@@ -18,7 +19,7 @@ abbrev pub file_input : OptionTable InputConf
 file_input = record {
   rows = record { name = codes "name"; kind = operand text } ∷ [];
   has_needed = λ found. true;
-  settings = λ found. File (unwrap_or (value_of (codes "name") found) []);
+  settings = λ found. File (unwrap_or (value_of (codes "name") found) []) Ts;
   go_together = λ found. true;
 }
 

@@ -27,7 +27,7 @@ pub record IsLawfulGeneral (c : GeneralConf) : Type 0 where
 
 -- `null` and `testgen` have at most 2^40 packets
 abbrev pub IsLawfulInput : InputConf → Type 0
-IsLawfulInput (File name) = Unit {0}
+IsLawfulInput (File name form) = Unit {0}
 IsLawfulInput (Null count) = count ≤ MOST_PACKETS
 IsLawfulInput (TestGen seed count) = count ≤ MOST_PACKETS
 

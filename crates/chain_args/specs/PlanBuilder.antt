@@ -9,6 +9,7 @@ use Rattle.chain_args.specs.Rules.{most_plugins}
 use Rattle.chain_args.specs.Segments.{Segment, is_input, is_output, is_plugin}
 use Rattle.chain_args.specs.declared.general_conf.GeneralConf.{GeneralConf}
 use Rattle.chain_args.specs.declared.input_conf.InputConf.TheVariants.{File}
+use Rattle.packet_forms.specs.declared.forms.Form.TheVariants.{Ts}
 use Rattle.chain_args.specs.declared.output_conf.OutputConf.TheVariants as output
 use Rattle.chain_args.specs.declared.plan_builder.PlanBuilder.{PlanBuilder}
 use Rattle.chain_args.specs.declared.plan_type.Plan.{Plan}
@@ -41,7 +42,7 @@ pub record StandsFor (p : PlanBuilder) (before : List Segment) : Type 0 where
 abbrev pub parts_plan : GeneralConf → PlanBuilder → Plan
 parts_plan general p = record {
   general = general;
-  input = unwrap_or p.input (File []);
+  input = unwrap_or p.input (File [] Ts);
   plugins = p.plugins.items;
   output = unwrap_or p.output (output.File []);
 }

@@ -12,6 +12,7 @@ use Rattle.chain_args.specs.Rules.{first_word_fault}
 use Rattle.chain_args.specs.Segments.{Segment, general_words, input_of, output_of, own_words, plugin_of, segments}
 use Rattle.chain_args.specs.declared.input_conf.InputConf.{InputConf}
 use Rattle.chain_args.specs.declared.input_conf.InputConf.TheVariants.{File}
+use Rattle.packet_forms.specs.declared.forms.Form.TheVariants.{Ts}
 use Rattle.chain_args.specs.declared.output_conf.OutputConf.{OutputConf}
 use Rattle.chain_args.specs.declared.output_conf.OutputConf.TheVariants as output
 use Rattle.chain_args.specs.declared.plan_type.Plan.{Plan}
@@ -40,7 +41,7 @@ outputs_of = filter_map output_made
 abbrev pub plan_made : List (List ℕ) → Plan
 plan_made words = record {
   general = settings_of general (general_words words);
-  input = unwrap_or (slice_get (inputs_of (segments words)) 0) (File []);
+  input = unwrap_or (slice_get (inputs_of (segments words)) 0) (File [] Ts);
   plugins = plugins_of (segments words);
   output = unwrap_or (slice_get (outputs_of (segments words)) 0) (output.File []);
 }

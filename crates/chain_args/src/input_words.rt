@@ -9,6 +9,7 @@ ghost use Rattle.option_words.specs.Refusal.{Reads, ReadsParsed};
 
 use crate::input_conf::{InputConf, MOST_SEED};
 use option_words::{ParsedOptions, Refusal, WordsRule, new_command, with_operand};
+use packet_forms::Form;
 use plug_conf::MOST_PACKETS;
 use std::alloc::Global;
 
@@ -52,7 +53,10 @@ fn read_file(alloc: Global, words: &[String]) -> Result<InputConf, Refusal>
 {
     let command = with_operand(alloc, new_command(alloc), "name")?;
     let found = ParsedOptions::of(command, words)?;
-    Ok(InputConf::File(found.text(alloc, "name")?))
+    Ok(InputConf::File {
+        name: found.text(alloc, "name")?,
+        form: Form::Ts,
+    })
 }
 
 fn read_null(alloc: Global, words: &[String]) -> Result<InputConf, Refusal>

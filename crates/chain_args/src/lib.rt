@@ -19,6 +19,7 @@ pub use general_conf::GeneralConf;
 pub use input_conf::InputConf;
 pub use option_words::WordsRule;
 pub use output_conf::OutputConf;
+pub use packet_forms::Form;
 pub use plan_of_words::plan;
 pub use plan_type::Plan;
 pub use plugin_list::PluginList;

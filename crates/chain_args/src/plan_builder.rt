@@ -12,6 +12,7 @@ use crate::output_words::OutputKind;
 use crate::plan_type::Plan;
 use crate::plugin_list::PluginList;
 use option_words::{Refusal, WordsRule};
+use packet_forms::Form;
 use plug_set::{PluginItem, PluginKind};
 use std::alloc::{AllocError, Global};
 use ts_outside::NameText;
@@ -131,7 +132,10 @@ impl PlanBuilder {
             general,
             input: match input {
                 Some(input) => input,
-                None => InputConf::File(NameText::of(String::new(alloc))),
+                None => InputConf::File {
+                    name: NameText::of(String::new(alloc)),
+                    form: Form::Ts,
+                },
             },
             plugins: PluginList::of(plugins),
             output: match output {

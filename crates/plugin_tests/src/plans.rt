@@ -1,4 +1,4 @@
-use chain_args::{InputConf, OutputConf, Plan, WordsFault, WordsRule, plan};
+use chain_args::{Form, InputConf, OutputConf, Plan, WordsFault, WordsRule, plan};
 use plug_set::PluginConf;
 use std::alloc::Global;
 use std::process::Abort;
@@ -167,7 +167,9 @@ fn is_plain(rt: &impl Abort, plan: &Plan) {
     assert!(rt; plan.general.max_flushed_packets.is_none());
     assert!(rt; plan.general.max_input_packets.is_none());
     assert!(rt; plan.general.add_input_stuffing == (0, 1));
-    assert!(rt; matches!(&plan.input, InputConf::File(name) if name.as_str().is_empty()));
+    assert!(rt;
+        matches!(&plan.input, InputConf::File { name, form: Form::Ts } if name.as_str().is_empty())
+    );
     assert!(rt; matches!(&plan.output, OutputConf::File(name) if name.as_str().is_empty()));
     assert!(rt; plan.plugins.as_slice().is_empty());
 }

@@ -37,7 +37,7 @@ use Rattle.tsp_top.proofs.StreamLemmas.{reports-text}
 in-vain-input : (d : DeskView) (conf : InputConf) → NamesInput conf
     → SameOutside d (asked_input_in_vain d conf) × HasCause d.read_faults (asked_input_in_vain d conf).read_faults
     × ((asked_input_in_vain d conf).asked ≡ grown d.asked (asked_for Input (input_name conf) false))
-in-vain-input d (input.File name) named =
+in-vain-input d (input.File name form) named =
     (record { files = refl; outputs = refl; reported = refl; closed_in = refl; report_faults = refl }, HasCause-raised d.read_faults, refl)
 in-vain-input d (input.Null count) named = absurd named
 in-vain-input d (input.TestGen seed count) named = absurd named
@@ -51,7 +51,7 @@ in-vain-output d output.Drop named = absurd named
 
 -- what is opened has a name
 input-named : (conf : InputConf) → NamesInput conf → IsSome (input_name conf)
-input-named (input.File name) named = refl
+input-named (input.File name form) named = refl
 input-named (input.Null count) named = absurd named
 input-named (input.TestGen seed count) named = absurd named
 
@@ -84,18 +84,18 @@ no-input-theorem plan tables old made new failed named asked says =
     }
 
 -- the output was not opened, and the input was closed
-pub no-output-theorem : {S : Type 0} (seen : S → SourceView) (plan : Plan) (tables : List (List (List ℕ))) (old made new : DeskView) (part : InputPart S) (failed : Bool) → OpensInput seen old plan.input part → NamesOutput plan.output
-    → made ≡ input_closed_as seen (asked_output_in_vain (asked_input old plan.input) plan.output) part
+pub no-output-theorem : {S : Type 0} (seen inner : S → SourceView) (plan : Plan) (tables : List (List (List ℕ))) (old made new : DeskView) (part : InputPart S) (failed : Bool) → OpensInput seen inner old plan.input part → NamesOutput plan.output
+    → made ≡ input_closed_as inner (asked_output_in_vain (asked_input old plan.input) plan.output) part
     → Says made new (codes "tsp: cannot open output" ++ 10 ∷ []) failed → StreamTheorem plan tables old new WriteFault
-no-output-theorem seen plan tables old made new part failed opens named asked says =
+no-output-theorem seen inner plan tables old made new part failed opens named asked says =
     let text : List ℕ = codes "tsp: cannot open output" ++ 10 ∷ [] in
     let first : DeskView = asked_input old plan.input in
     let vain : DeskView = asked_output_in_vain first plan.output in
-    let closed : DeskView = input_closed_as seen vain part in
+    let closed : DeskView = input_closed_as inner vain part in
     let said : Says closed new text failed = subst (λ (d : DeskView). Says d new text failed) asked says in
     let a = same-asked_input old plan.input in
     let v = in-vain-output first plan.output named in
-    let c = leaves-input_closed seen vain part in
+    let c = leaves-input_closed inner vain part in
     let l = leaves-says closed new text failed said in
     let files = some-files old in
     record {
@@ -103,14 +103,14 @@ no-output-theorem seen plan tables old made new part failed opens named asked sa
       status_tells_cause = (
         refl,
         subst (λ (n : ℕ). HasCause n new.write_faults) a.1.write_faults
-            (subst (λ (n : ℕ). HasCause first.write_faults n) (sym (l.write_faults ∙ write_faults-input_closed seen vain part)) v.1),
+            (subst (λ (n : ℕ). HasCause first.write_faults n) (sym (l.write_faults ∙ write_faults-input_closed inner vain part)) v.1),
       );
       files = files.0;
       files_are = files.1;
       can_end = output-named plan.output named;
       pure_or_fault = tt;
-      reads = reads-nothing seen old vain new files.0 plan.input part files.1 opens (v.0.closed_in ∙ a.0.closed_in) l.closed_in;
-      written = l.outputs ∙ outputs-input_closed seen vain part ∙ v.0.outputs ∙ a.0.outputs;
+      reads = reads-nothing seen inner old vain new files.0 plan.input part files.1 opens (v.0.closed_in ∙ a.0.closed_in) l.closed_in;
+      written = l.outputs ∙ outputs-input_closed inner vain part ∙ v.0.outputs ∙ a.0.outputs;
       reported = reports-text old closed new text failed (c.reported ∙ v.0.reported ∙ a.0.reported) (c.report_faults ∙ v.0.report_faults ∙ a.0.report_faults) said;
       opened = l.asked ∙ c.asked ∙ v.2
           ∙ ap (λ (o : Option (List Asked)). grown o (asked_for Output (output_name plan.output) false)) (asked-asked_input old plan.input)
@@ -124,14 +124,14 @@ take-first xs ys =
     take-append-le (length xs) xs ys le ∙ take_all (length xs) xs le
 
 -- there was no memory for the output, and the input was closed
-pub no-memory-theorem : {S : Type 0} (seen : S → SourceView) (plan : Plan) (tables : List (List (List ℕ))) (old new : DeskView) (part : InputPart S)
-    → OpensInput seen old plan.input part → new ≡ input_closed_as seen (asked_input old plan.input) part → StreamTheorem plan tables old new NoMemory
-no-memory-theorem seen plan tables old new part opens is =
+pub no-memory-theorem : {S : Type 0} (seen inner : S → SourceView) (plan : Plan) (tables : List (List (List ℕ))) (old new : DeskView) (part : InputPart S)
+    → OpensInput seen inner old plan.input part → new ≡ input_closed_as inner (asked_input old plan.input) part → StreamTheorem plan tables old new NoMemory
+no-memory-theorem seen inner plan tables old new part opens is =
     let first : DeskView = asked_input old plan.input in
     let one : List Asked = asked_for Input (input_name plan.input) true in
     let two : List Asked = asked_for Output (output_name plan.output) true in
     let a = same-asked_input old plan.input in
-    let c = leaves-input_closed seen first part in
+    let c = leaves-input_closed inner first part in
     let reported : new.reported ≡ old.reported = ap (λ (d : DeskView). d.reported) is ∙ c.reported ∙ a.0.reported in
     let report_faults : new.report_faults ≡ old.report_faults = ap (λ (d : DeskView). d.report_faults) is ∙ c.report_faults ∙ a.0.report_faults in
     let files = some-files old in
@@ -142,8 +142,8 @@ no-memory-theorem seen plan tables old new part opens is =
       files_are = files.1;
       can_end = tt;
       pure_or_fault = tt;
-      reads = reads-nothing seen old first new files.0 plan.input part files.1 opens a.0.closed_in (ap (λ (d : DeskView). d.closed_in) is);
-      written = inl (ap (λ (d : DeskView). d.outputs) is ∙ outputs-input_closed seen first part ∙ a.0.outputs);
+      reads = reads-nothing seen inner old first new files.0 plan.input part files.1 opens a.0.closed_in (ap (λ (d : DeskView). d.closed_in) is);
+      written = inl (ap (λ (d : DeskView). d.outputs) is ∙ outputs-input_closed inner first part ∙ a.0.outputs);
       reported = (reported, report_faults);
       opened = (
         length one,

@@ -14,6 +14,7 @@ use Rattle.stage_run.specs.declared.input_part.InputPart.{InputPart}
 use Rattle.stage_run.specs.declared.output_part.OutputPart.{OutputPart}
 use Rattle.stage_run.specs.declared.stuffing.Stuffing.{Stuffing}
 use Rattle.stage_run.specs.Seeing.{Seeing}
+use Rattle.ts_outside.specs.Source.{SourceView}
 use Rattle.ts_outside.specs.Desk.{DeskView}
 use Rattle.tsp_top.specs.PlannedChain.{named_rules}
 use Rattle.tsp_top.specs.PlannedTables.{tables_asked}
@@ -34,10 +35,10 @@ ready-plugins rule stands steady plan tables stuffing numbers plugins ready =
     ∙ ap (λ (l : List (Option ℕ)). length l) (sym ready.rooms)
     ∙ length-map plugins steady
 
-module _ {S K P : Type 0} (see : Seeing S K P) (plan : Plan) (core : CorePlan) (old made : DeskView)
+module _ {S K P : Type 0} (see : Seeing S K P) (inner : S → SourceView) (plan : Plan) (core : CorePlan) (old made : DeskView)
     (from made_from : InputPart S) (stuffing : Stuffing) (plugins back : List P) (to made_to : OutputPart K)
     (closed : Result Closed AllocError)
-    (opens : OpensPlan see plan core old made from stuffing plugins to)
+    (opens : OpensPlan see inner plan core old made from stuffing plugins to)
     (ends : EndsRun see stuffing core from made_from plugins back to made_to closed) where
   -- the plugins that the run gives back can be asked for their reports
   pub called-reach : IfOk closed (λ c. ReachesCut see.stands back c.cut 0)
@@ -51,7 +52,7 @@ module _ {S K P : Type 0} (see : Seeing S K P) (plan : Plan) (core : CorePlan) (
       → ((tables : List (List (List ℕ))) (s : Stuffing) (numbers : CorePlan) (f : InputPart S) (ps : List P) (t : OutputPart K)
       → map see.rule back ≡ rules_of (named_rules plan.plugins tables)
       → EndsRun see s numbers f made_from ps back t made_to closed
-      → RanOpened see plan tables s numbers made new f ps t status)
+      → RanOpened see inner plan tables s numbers made new f ps t status)
       → CallsTsp words old new status
   called words new status is reported = inl (
     plan,
@@ -59,7 +60,7 @@ module _ {S K P : Type 0} (see : Seeing S K P) (plan : Plan) (core : CorePlan) (
     inl (record {
       tables = opens.0;
       tables_are = opens.1;
-      theorem = ran-theorem see plan opens.0 stuffing core (tables_asked old plan) made new from plugins to status
+      theorem = ran-theorem see inner plan opens.0 stuffing core (tables_asked old plan) made new from plugins to status
           opens.2.asked opens.2.input opens.2.output opens.2.ready
           (reported opens.0 stuffing core from plugins to
           (ends-rules see stuffing core from made_from plugins back to made_to closed (rules_of (named_rules plan.plugins opens.0)) ends opens.2.ready.rules) ends);

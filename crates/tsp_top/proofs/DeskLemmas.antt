@@ -34,7 +34,7 @@ pub record SameCounts (old new : DeskView) : Type 0 where
   pub write_faults : new.write_faults ≡ old.write_faults
 
 pub same-asked_input : (d : DeskView) (conf : InputConf) → SameOutside d (asked_input d conf) × SameCounts d (asked_input d conf)
-same-asked_input d (input.File name) =
+same-asked_input d (input.File name form) =
     (record { files = refl; outputs = refl; reported = refl; closed_in = refl; report_faults = refl }, record { read_faults = refl; write_faults = refl })
 same-asked_input d (input.Null count) =
     (record { files = refl; outputs = refl; reported = refl; closed_in = refl; report_faults = refl }, record { read_faults = refl; write_faults = refl })
@@ -48,7 +48,7 @@ same-asked_output d output.Drop =
     (record { files = refl; outputs = refl; reported = refl; closed_in = refl; report_faults = refl }, record { read_faults = refl; write_faults = refl })
 
 pub asked-asked_input : (d : DeskView) (conf : InputConf) → (asked_input d conf).asked ≡ grown d.asked (asked_for Input (input_name conf) true)
-asked-asked_input d (input.File name) = refl
+asked-asked_input d (input.File name form) = refl
 asked-asked_input d (input.Null count) = sym (grown-nil d.asked)
 asked-asked_input d (input.TestGen seed count) = sym (grown-nil d.asked)
 
@@ -85,20 +85,20 @@ pub record LeavesOpen (old new : DeskView) : Type 0 where
   pub asked : new.asked ≡ old.asked
   pub report_faults : new.report_faults ≡ old.report_faults
 
-pub leaves-input_closed : {S : Type 0} (seen : S → SourceView) (d : DeskView) (part : InputPart S) → LeavesOpen d (input_closed_as seen d part)
-leaves-input_closed seen d (Stream source) = record { files = refl; reported = refl; asked = refl; report_faults = refl }
-leaves-input_closed seen d (Nulls count) = record { files = refl; reported = refl; asked = refl; report_faults = refl }
-leaves-input_closed seen d (Generated generator count) = record { files = refl; reported = refl; asked = refl; report_faults = refl }
+pub leaves-input_closed : {S : Type 0} (inner : S → SourceView) (d : DeskView) (part : InputPart S) → LeavesOpen d (input_closed_as inner d part)
+leaves-input_closed inner d (Stream source) = record { files = refl; reported = refl; asked = refl; report_faults = refl }
+leaves-input_closed inner d (Nulls count) = record { files = refl; reported = refl; asked = refl; report_faults = refl }
+leaves-input_closed inner d (Generated generator count) = record { files = refl; reported = refl; asked = refl; report_faults = refl }
 
-pub outputs-input_closed : {S : Type 0} (seen : S → SourceView) (d : DeskView) (part : InputPart S) → (input_closed_as seen d part).outputs ≡ d.outputs
-outputs-input_closed seen d (Stream source) = refl
-outputs-input_closed seen d (Nulls count) = refl
-outputs-input_closed seen d (Generated generator count) = refl
+pub outputs-input_closed : {S : Type 0} (inner : S → SourceView) (d : DeskView) (part : InputPart S) → (input_closed_as inner d part).outputs ≡ d.outputs
+outputs-input_closed inner d (Stream source) = refl
+outputs-input_closed inner d (Nulls count) = refl
+outputs-input_closed inner d (Generated generator count) = refl
 
-pub write_faults-input_closed : {S : Type 0} (seen : S → SourceView) (d : DeskView) (part : InputPart S) → (input_closed_as seen d part).write_faults ≡ d.write_faults
-write_faults-input_closed seen d (Stream source) = refl
-write_faults-input_closed seen d (Nulls count) = refl
-write_faults-input_closed seen d (Generated generator count) = refl
+pub write_faults-input_closed : {S : Type 0} (inner : S → SourceView) (d : DeskView) (part : InputPart S) → (input_closed_as inner d part).write_faults ≡ d.write_faults
+write_faults-input_closed inner d (Stream source) = refl
+write_faults-input_closed inner d (Nulls count) = refl
+write_faults-input_closed inner d (Generated generator count) = refl
 
 pub leaves-output_closed : {K : Type 0} (seen : K → SinkView) (d : DeskView) (part : OutputPart K) (failed : Bool) → LeavesOpen d (output_closed_as seen d part failed)
 leaves-output_closed seen d (out.Stream sink) failed = record { files = refl; reported = refl; asked = refl; report_faults = refl }

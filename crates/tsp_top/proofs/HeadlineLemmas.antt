@@ -19,6 +19,7 @@ use Rattle.chain_args.specs.declared.input_conf.InputConf.TheVariants as input
 use Rattle.chain_args.specs.declared.plan_type.Plan.{Plan}
 use Rattle.option_words.specs.declared.words_rule.WordsRule.{WordsRule}
 use Rattle.chain_args.specs.declared.words_fault.WordsFault.TheVariants.{At}
+use Rattle.packet_forms.specs.Stripped.{stripped}
 use Rattle.ts_outside.specs.Count.{HasCause, IsQuiet}
 use Rattle.ts_outside.specs.Told.{grown}
 use Rattle.ts_outside.specs.Desk.{DeskView, file_of}
@@ -147,9 +148,9 @@ of-some words plan old new answer is calls fine =
 -- a plan's chain over two lists of files, where the input is told, is one
 same-input : (conf : InputConf) (desk : DeskView) (files other : List (List ℕ × List ℕ)) → TellsInput conf desk files → IfSome desk.files (λ told. other ≡ told)
     → input_of conf other ≡ input_of conf files
-same-input (input.File name) desk files other tells is =
+same-input (input.File name form) desk files other tells is =
     let same : other ≡ files = subst (λ (o : Option (List (List ℕ × List ℕ))). IfSome o (λ told. other ≡ told)) tells is in
-    ap (λ (fs : List (List ℕ × List ℕ)). input_of_bytes (file_of fs name)) same
+    ap (λ (fs : List (List ℕ × List ℕ)). input_of_bytes (stripped form (file_of fs name))) same
 same-input (input.Null count) desk files other tells is = refl
 same-input (input.TestGen seed count) desk files other tells is = refl
 

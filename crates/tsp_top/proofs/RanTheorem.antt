@@ -43,7 +43,7 @@ use Rattle.plug_set.specs.Plugins.{steady_of}
 use Rattle.tsp_top.specs.CallEnd.{ran, unreported, out_of_memory, status_of, status_when_late, FaultRose, LateRose}
 use Rattle.tsp_top.specs.CanEnd.{CanEndBy}
 use Rattle.tsp_top.specs.MemoryFirst.{TakesLater}
-use Rattle.tsp_top.specs.Openings.{asked_input, asked_output, input_closed_as, output_closed_as, OpensInput, OpensOutput, WasOpened}
+use Rattle.tsp_top.specs.Openings.{asked_input, asked_output, input_closed_as, output_closed_as, OpensInput, OpensOutput, IsThrough, WasOpened}
 use Rattle.tsp_top.specs.PlannedChain.{chain_of, input_of, stuffing_of, users_of, named_rules, input_name, output_name}
 use Rattle.tsp_top.specs.Ran.{IsReady, RanEnds, RanOpened, closed_desk}
 use Rattle.tsp_top.specs.Readings.{ReadsTo}
@@ -138,20 +138,20 @@ opened-of false P h e = absurd (differ e)
     differ e = cc
 
 -- two ends that were opened for a plan
-record Opened {S K : Type 0} (in_seen : S → SourceView) (out_seen : K → SinkView) (plan : Plan) (old made : DeskView) (from : InputPart S) (to : OutputPart K) : Type 0 where
+record Opened {S K : Type 0} (in_seen inner : S → SourceView) (out_seen : K → SinkView) (plan : Plan) (old made : DeskView) (from : InputPart S) (to : OutputPart K) : Type 0 where
   asked : made ≡ asked_output (asked_input old plan.input) plan.output
-  input : OpensInput in_seen old plan.input from
+  input : OpensInput in_seen inner old plan.input from
   output : OpensOutput out_seen (asked_input old plan.input) plan.output to
 
-desks : {S K : Type 0} (in_seen : S → SourceView) (out_seen : K → SinkView) (plan : Plan) (old made : DeskView) (made_from : InputPart S) (made_to : OutputPart K) (failed : Bool)
+desks : {S K : Type 0} (inner : S → SourceView) (out_seen : K → SinkView) (plan : Plan) (old made : DeskView) (made_from : InputPart S) (made_to : OutputPart K) (failed : Bool)
     → made ≡ asked_output (asked_input old plan.input) plan.output
-    → Desks plan old made (input_closed_as in_seen made made_from) (closed_desk in_seen out_seen made made_from made_to failed)
-desks in_seen out_seen plan old made made_from made_to failed is =
+    → Desks plan old made (input_closed_as inner made made_from) (closed_desk inner out_seen made made_from made_to failed)
+desks inner out_seen plan old made made_from made_to failed is =
     let first = same-asked_input old plan.input in
     let B : DeskView → Type 0 = λ d. SameOutside old d × SameCounts old d in
     let both : B made = subst B (sym is) (same-both old plan.input plan.output) in
-    let third = leaves-input_closed in_seen made made_from in
-    let fourth = leaves-output_closed out_seen (input_closed_as in_seen made made_from) made_to failed in
+    let third = leaves-input_closed inner made made_from in
+    let fourth = leaves-output_closed out_seen (input_closed_as inner made made_from) made_to failed in
     record {
       files = fourth.files ∙ third.files ∙ both.0.files;
       reported = fourth.reported ∙ third.reported ∙ both.0.reported;
@@ -159,21 +159,21 @@ desks in_seen out_seen plan old made made_from made_to failed is =
       asked = fourth.asked ∙ third.asked ∙ ap (λ (d : DeskView). d.asked) is ∙ asked-both old plan.input plan.output;
       made_inputs = both.0.closed_in;
       made_reads = both.1.read_faults;
-      inputs = closed_in-output_closed out_seen (input_closed_as in_seen made made_from) made_to failed;
-      reads = read_faults-output_closed out_seen (input_closed_as in_seen made made_from) made_to failed;
-      writes = write_faults-input_closed in_seen made made_from ∙ both.1.write_faults;
-      outputs = outputs-input_closed in_seen made made_from ∙ both.0.outputs ∙ sym first.0.outputs;
+      inputs = closed_in-output_closed out_seen (input_closed_as inner made made_from) made_to failed;
+      reads = read_faults-output_closed out_seen (input_closed_as inner made made_from) made_to failed;
+      writes = write_faults-input_closed inner made made_from ∙ both.1.write_faults;
+      outputs = outputs-input_closed inner made made_from ∙ both.0.outputs ∙ sym first.0.outputs;
       first_outputs = first.0.outputs;
     }
 
 -- a run for which there was no memory
-not-run : {S K : Type 0} (in_seen : S → SourceView) (out_seen : K → SinkView) (plan : Plan) (tables : List (List (List ℕ))) (old made new : DeskView) (from : InputPart S) (to : OutputPart K) (failed : Bool) (st : Status)
-    → Opened in_seen out_seen plan old made from to
-    → st ≡ NoMemory → new ≡ closed_desk in_seen out_seen made from to failed → StreamTheorem plan tables old new st
-not-run in_seen out_seen plan tables old made new from to failed st opened e is =
-    let desks = desks in_seen out_seen plan old made from to failed opened.asked in
+not-run : {S K : Type 0} (in_seen inner : S → SourceView) (out_seen : K → SinkView) (plan : Plan) (tables : List (List (List ℕ))) (old made new : DeskView) (from : InputPart S) (to : OutputPart K) (failed : Bool) (st : Status)
+    → Opened in_seen inner out_seen plan old made from to
+    → st ≡ NoMemory → new ≡ closed_desk inner out_seen made from to failed → StreamTheorem plan tables old new st
+not-run in_seen inner out_seen plan tables old made new from to failed st opened e is =
+    let desks = desks inner out_seen plan old made from to failed opened.asked in
     let all : List Asked = both_asked plan in
-    let empty = outputs-empty out_seen (asked_input old plan.input) (input_closed_as in_seen made from) plan.output to failed opened.output desks.outputs in
+    let empty = outputs-empty out_seen (asked_input old plan.input) (input_closed_as inner made from) plan.output to failed opened.output desks.outputs in
     let files = some-files old in
     record {
       end = out_of_memory;
@@ -182,7 +182,7 @@ not-run in_seen out_seen plan tables old made new from to failed st opened e is 
       status_tells_cause = e;
       can_end = tt;
       pure_or_fault = tt;
-      reads = reads-nothing in_seen old made new files.0 plan.input from files.1 opened.input desks.made_inputs (ap (λ (v : DeskView). v.closed_in) is ∙ desks.inputs);
+      reads = reads-nothing in_seen inner old made new files.0 plan.input from files.1 opened.input desks.made_inputs (ap (λ (v : DeskView). v.closed_in) is ∙ desks.inputs);
       written = inr (ap (λ (v : DeskView). v.outputs) is ∙ empty ∙ ap (λ o. outputs_with (output_name plan.output) o []) desks.first_outputs);
       reported = (ap (λ (v : DeskView). v.reported) is ∙ desks.reported, ap (λ (v : DeskView). v.report_faults) is ∙ desks.report_faults);
       opened = (
@@ -193,34 +193,34 @@ not-run in_seen out_seen plan tables old made new from to failed st opened e is 
     }
 
 -- the counts of faults of a run
-faults-rose : {S K : Type 0} (in_seen : S → SourceView) (out_seen : K → SinkView) (plan : Plan) (old made new : DeskView) (from made_from : InputPart S) (to made_to : OutputPart K) (failed : Bool)
+faults-rose : {S K : Type 0} (in_seen inner : S → SourceView) (out_seen : K → SinkView) (plan : Plan) (old made new : DeskView) (from made_from : InputPart S) (to made_to : OutputPart K) (failed : Bool)
     (stuffing : model.Stuffing) (buffer : ℕ) (cells : List Cell) (cut : ℕ) (why : Cause)
-    → Opened in_seen out_seen plan old made from to
-    → LeftInput in_seen stuffing buffer from made_from cut why → LeftOutput out_seen to made_to cells cut why
-    → LeavesAll (closed_desk in_seen out_seen made made_from made_to failed) new → FaultRose old new why
-faults-rose in_seen out_seen plan old made new from made_from to made_to failed stuffing buffer cells cut why opened input output leaves =
-    let d2 : DeskView = input_closed_as in_seen made made_from in
-    let desks = desks in_seen out_seen plan old made made_from made_to failed opened.asked in
+    → Opened in_seen inner out_seen plan old made from to
+    → IsThrough in_seen inner made_from → LeftInput in_seen stuffing buffer from made_from cut why → LeftOutput out_seen to made_to cells cut why
+    → LeavesAll (closed_desk inner out_seen made made_from made_to failed) new → FaultRose old new why
+faults-rose in_seen inner out_seen plan old made new from made_from to made_to failed stuffing buffer cells cut why opened through input output leaves =
+    let d2 : DeskView = input_closed_as inner made made_from in
+    let desks = desks inner out_seen plan old made made_from made_to failed opened.asked in
     let R : ℕ → Type 0 = λ n. HasCause old.read_faults n in
     let R0 : ℕ → Type 0 = λ n. HasCause n d2.read_faults in
     let W : ℕ → Type 0 = λ n. HasCause old.write_faults n in
-    let W0 : ℕ → Type 0 = λ n. HasCause n (closed_desk in_seen out_seen made made_from made_to failed).write_faults in
+    let W0 : ℕ → Type 0 = λ n. HasCause n (closed_desk inner out_seen made made_from made_to failed).write_faults in
     fault-rose old new why
     (λ is. subst R (sym (leaves.read_faults ∙ desks.reads))
-    (subst R0 desks.made_reads (read_fault-counted in_seen old made plan.input from made_from stuffing buffer cut why opened.input input is)))
+    (subst R0 desks.made_reads (read_fault-counted in_seen inner old made plan.input from made_from stuffing buffer cut why opened.input through input is)))
     (λ is. subst W (sym leaves.write_faults)
     (subst W0 desks.writes (write_fault-counted out_seen (asked_input old plan.input) d2 plan.output to made_to cells cut why failed opened.output output is)))
 
 -- and what failed late
-lates-rose : {S K : Type 0} (in_seen : S → SourceView) (out_seen : K → SinkView) (plan : Plan) (old made new : DeskView) (from made_from : InputPart S) (to made_to : OutputPart K) (failed said : Bool)
+lates-rose : {S K : Type 0} (in_seen inner : S → SourceView) (out_seen : K → SinkView) (plan : Plan) (old made new : DeskView) (from made_from : InputPart S) (to made_to : OutputPart K) (failed said : Bool)
     (text : List ℕ) (cells : List Cell) (cut : ℕ) (why : Cause)
-    → Opened in_seen out_seen plan old made from to → OnTrue failed (WasOpened made_to)
+    → Opened in_seen inner out_seen plan old made from to → OnTrue failed (WasOpened made_to)
     → LeftOutput out_seen to made_to cells cut why
-    → Says (closed_desk in_seen out_seen made made_from made_to failed) new text said → LateRose (output_name plan.output) old new why (failed || said)
-lates-rose in_seen out_seen plan old made new from made_from to made_to failed said text cells cut why opened closing output says =
-    let d2 : DeskView = input_closed_as in_seen made made_from in
-    let d3 : DeskView = closed_desk in_seen out_seen made made_from made_to failed in
-    let desks = desks in_seen out_seen plan old made made_from made_to failed opened.asked in
+    → Says (closed_desk inner out_seen made made_from made_to failed) new text said → LateRose (output_name plan.output) old new why (failed || said)
+lates-rose in_seen inner out_seen plan old made new from made_from to made_to failed said text cells cut why opened closing output says =
+    let d2 : DeskView = input_closed_as inner made made_from in
+    let d3 : DeskView = closed_desk inner out_seen made made_from made_to failed in
+    let desks = desks inner out_seen plan old made made_from made_to failed opened.asked in
     let leaves = leaves-says d3 new text said says in
     let W : ℕ → Type 0 = λ n. HasCause n d3.write_faults in
     let W2 : ℕ → Type 0 = λ n. HasCause old.write_faults n in
@@ -268,18 +268,18 @@ takes-later (item ∷ items) buffer zero less no_room = λ steady.
     no_room (subst S (sym (steady buffer)) enough)
 takes-later (item ∷ items) buffer (suc j) less no_room = takes-later items buffer j (omega arith) no_room
 
-module _ {S K P : Type 0} (see : Seeing S K P) (plan : Plan) (tables : List (List (List ℕ))) (old made new : DeskView) (from made_from : InputPart S) (stuffing : Stuffing)
+module _ {S K P : Type 0} (see : Seeing S K P) (inner : S → SourceView) (plan : Plan) (tables : List (List (List ℕ))) (old made new : DeskView) (from made_from : InputPart S) (stuffing : Stuffing)
     (plugins : List P) (to made_to : OutputPart K) (failed : Bool) (numbers : CorePlan) (closed : Closed)
-    (opened : Opened see.source see.sink plan old made from to)
+    (opened : Opened see.source inner see.sink plan old made from to) (through : IsThrough see.source inner made_from)
     (ready : IsReady see.rule see.stands see.steady plan tables stuffing numbers plugins) where
   abbrev d2 : DeskView
-  d2 = input_closed_as see.source made made_from
+  d2 = input_closed_as inner made made_from
 
   abbrev d3 : DeskView
-  d3 = closed_desk see.source see.sink made made_from made_to failed
+  d3 = closed_desk inner see.sink made made_from made_to failed
 
   abbrev steps : Desks plan old made d2 d3
-  steps = desks see.source see.sink plan old made made_from made_to failed opened.asked
+  steps = desks inner see.sink plan old made made_from made_to failed opened.asked
 
   module _ (plugins_made : List P) (run : RunOf see from made_from stuffing plugins plugins_made to made_to numbers closed) where
     abbrev own : List PluginRule
@@ -294,7 +294,7 @@ module _ {S K P : Type 0} (see : Seeing S K P) (plan : Plan) (tables : List (Lis
     -- the files whose input the run had
     abbrev chosen : FilesOf old plan.input (stuffing_of plan.general) run.list
     chosen = subst (λ (s : model.Stuffing). FilesOf old plan.input s run.list) ready.stuffing_is
-        (opened-list see.source old plan.input from (stage.stuffing_of stuffing) run.list opened.input run.is_list)
+        (opened-list see.source inner old plan.input from (stage.stuffing_of stuffing) run.list opened.input run.is_list)
 
     -- what holds of the run's lists holds of the plan's chain
     of-plan : (F : List PluginRule → StageList → List ℕ → Type 0) → F own run.list users
@@ -328,14 +328,14 @@ module _ {S K P : Type 0} (see : Seeing S K P) (plan : Plan) (tables : List (Lis
     ran-facts : LeavesAll d3 new → RanFacts plan tables chosen.files old new closed.cut closed.cause
     ran-facts leaves = record {
       files_are = chosen.files_are;
-      rose = faults-rose see.source see.sink plan old made new from made_from to made_to failed (stage.stuffing_of stuffing) numbers.buffer cells closed.cut closed.cause opened run.input run.output leaves;
+      rose = faults-rose see.source inner see.sink plan old made new from made_from to made_to failed (stage.stuffing_of stuffing) numbers.buffer cells closed.cut closed.cause opened through run.input run.output leaves;
       can = can-end plan closed.cause
-          (read-named see.source old plan.input from made_from (stage.stuffing_of stuffing) numbers.buffer closed.cut closed.cause opened.input run.input)
+          (read-named see.source inner old plan.input from made_from (stage.stuffing_of stuffing) numbers.buffer closed.cut closed.cause opened.input run.input)
           (write-named see.sink (asked_input old plan.input) plan.output to made_to cells closed.cut closed.cause opened.output run.output)
           want;
       closes = of-plan (λ rs l us. IsPureClose rs l us closed.cut closed.cause ⊎ IsLawfulFault rs l us closed.cut closed.cause) run.closes;
-      reads = reads-to see.source old made new chosen.files plan.general plan.input from made_from (stage.stuffing_of stuffing) numbers.buffer closed.cut closed.cause
-          ready.stuffing_is (size-within plan.general.buffer_packets default_buffer numbers.buffer ready.numbers_are.buffer) chosen.files_are opened.input steps.made_inputs (leaves.closed_in ∙ steps.inputs) run.input;
+      reads = reads-to see.source inner old made new chosen.files plan.general plan.input from made_from (stage.stuffing_of stuffing) numbers.buffer closed.cut closed.cause
+          ready.stuffing_is (size-within plan.general.buffer_packets default_buffer numbers.buffer ready.numbers_are.buffer) chosen.files_are opened.input through steps.made_inputs (leaves.closed_in ∙ steps.inputs) run.input;
       written = of-plan (WritesOf plan old new closed.cut closed.cause) (writes leaves);
       asked = leaves.asked ∙ steps.asked;
       files_stay = leaves.files ∙ steps.files;
@@ -353,30 +353,30 @@ module _ {S K P : Type 0} (see : Seeing S K P) (plan : Plan) (tables : List (Lis
         let T : List ℕ → Type 0 = λ t. Says d3 new t report.0 in
         let says : Says d3 new text report.0 = subst T report-same report.1 in
         let facts = ran-facts (leaves-says d3 new text report.0 says) in
-        let late = lates-rose see.source see.sink plan old made new from made_from to made_to failed report.0 text cells closed.cut closed.cause opened closing run.output says in
+        let late = lates-rose see.source inner see.sink plan old made new from made_from to made_to failed report.0 text cells closed.cut closed.cause opened closing run.output says in
         reported-theorem plan tables chosen.files old d3 new closed.cut closed.cause (failed || report.0) report.0 st facts late report.2 steps.reported steps.report_faults says
     ran-closed st closing (inr none) =
         unreported-theorem plan tables chosen.files old new closed.cut closed.cause st (ran-facts (leaves-all d3 new none.1)) none.0
         (ap (λ (v : DeskView). v.reported) none.1 ∙ steps.reported) (ap (λ (v : DeskView). v.report_faults) none.1 ∙ steps.report_faults)
 
 -- a run between two opened ends
-pub ran-theorem : {S K P : Type 0} (see : Seeing S K P) (plan : Plan) (tables : List (List (List ℕ))) (stuffing : Stuffing) (numbers : CorePlan) (old made new : DeskView) (from : InputPart S) (plugins : List P) (to : OutputPart K) (st : Status)
+pub ran-theorem : {S K P : Type 0} (see : Seeing S K P) (inner : S → SourceView) (plan : Plan) (tables : List (List (List ℕ))) (stuffing : Stuffing) (numbers : CorePlan) (old made new : DeskView) (from : InputPart S) (plugins : List P) (to : OutputPart K) (st : Status)
     → made ≡ asked_output (asked_input old plan.input) plan.output
-    → OpensInput see.source old plan.input from → OpensOutput see.sink (asked_input old plan.input) plan.output to
+    → OpensInput see.source inner old plan.input from → OpensOutput see.sink (asked_input old plan.input) plan.output to
     → IsReady see.rule see.stands see.steady plan tables stuffing numbers plugins
-    → RanOpened see plan tables stuffing numbers made new from plugins to st
+    → RanOpened see inner plan tables stuffing numbers made new from plugins to st
     → StreamTheorem plan tables old new st
-ran-theorem {S} {K} {P} see plan tables stuffing numbers old made new from plugins to st is opens_in opens_out ready run =
-    ran-ends run.made_from run.made_to run.failed run.failed_opened run.ends
+ran-theorem {S} {K} {P} see inner plan tables stuffing numbers old made new from plugins to st is opens_in opens_out ready run =
+    ran-ends run.made_from run.made_to run.failed run.failed_opened run.through run.ends
   where
-    ran-ends : (made_from : InputPart S) (made_to : OutputPart K) (failed : Bool) → OnTrue failed (WasOpened made_to)
-        → RanEnds see plan tables stuffing numbers made new from made_from plugins to made_to failed st → StreamTheorem plan tables old new st
-    ran-ends made_from made_to failed closing (inl closed) =
-        let opened : Opened see.source see.sink plan old made from to = record { asked = is; input = opens_in; output = opens_out } in
-        ran-closed see plan tables old made new from made_from stuffing plugins to made_to failed numbers closed.0 opened ready closed.1.made closed.1.run st closing closed.1.reported
-    ran-ends made_from made_to failed closing (inr none) =
-        let opened : Opened see.source see.sink plan old made from to = record { asked = is; input = opens_in; output = opens_out } in
-        let F : InputPart S → Type 0 = λ p. new ≡ closed_desk see.source see.sink made p made_to failed in
-        let T : OutputPart K → Type 0 = λ p. new ≡ closed_desk see.source see.sink made from p failed in
-        not-run see.source see.sink plan tables old made new from to failed st opened none.status_is
+    ran-ends : (made_from : InputPart S) (made_to : OutputPart K) (failed : Bool) → OnTrue failed (WasOpened made_to) → IsThrough see.source inner made_from
+        → RanEnds see inner plan tables stuffing numbers made new from made_from plugins to made_to failed st → StreamTheorem plan tables old new st
+    ran-ends made_from made_to failed closing through (inl closed) =
+        let opened : Opened see.source inner see.sink plan old made from to = record { asked = is; input = opens_in; output = opens_out } in
+        ran-closed see inner plan tables old made new from made_from stuffing plugins to made_to failed numbers closed.0 opened through ready closed.1.made closed.1.run st closing closed.1.reported
+    ran-ends made_from made_to failed closing through (inr none) =
+        let opened : Opened see.source inner see.sink plan old made from to = record { asked = is; input = opens_in; output = opens_out } in
+        let F : InputPart S → Type 0 = λ p. new ≡ closed_desk inner see.sink made p made_to failed in
+        let T : OutputPart K → Type 0 = λ p. new ≡ closed_desk inner see.sink made from p failed in
+        not-run see.source inner see.sink plan tables old made new from to failed st opened none.status_is
         (subst T none.output_same (subst F none.input_same none.desk))

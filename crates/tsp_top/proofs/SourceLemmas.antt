@@ -19,43 +19,53 @@ use Rattle.ts_testgen.specs.Generated.{Generator}
 use Rattle.stage_run.specs.GeneratedInput.{input_of_generated}
 use Rattle.stage_run.specs.Parts.{IsListOf, IsUnused, list_at_fault}
 use Rattle.chain_run.specs.RunOf.{MayRead, CutsAtFault, ReadsSource, LeftInput}
+use Rattle.packet_forms.specs.declared.forms.Form.{Form}
+use Rattle.packet_forms.specs.Stripped.{unit, stripped, stripped_from}
+use Rattle.packet_forms.proofs.Strips.{some-raw}
+use Rattle.form_source.specs.FormView.{form_view, ReadsThrough}
+use Rattle.form_source.proofs.Through.{ReadOf, read-of, same-origin}
 use Rattle.ts_outside.specs.Count.{raised, HasCause}
 use Rattle.ts_outside.specs.Told.{before}
-use Rattle.ts_outside.specs.Source.{SourceView, own_bytes, unread, read_failed}
+use Rattle.ts_outside.specs.Source.{SourceView, Origin, own_bytes, unread, read_failed}
 use Rattle.ts_outside.specs.Desk.{DeskView, with_input, file_of, content}
 use Rattle.ts_outside.specs.declared.closed_inputs.ClosedInput.{ClosedInput}
 use Rattle.ts_outside.proofs.Views.{HasCause-raised}
 use Rattle.ts_outside.specs.Entries.{closed_with}
 use Rattle.tsp_top.specs.PlannedChain.{stuffing_of, input_of, input_name}
 use Rattle.tsp_top.specs.Sizes.{IsSize, most_buffer}
-use Rattle.tsp_top.specs.Openings.{OpensInput, input_closed_as}
+use Rattle.tsp_top.specs.Openings.{OpensInput, IsThrough, input_closed_as}
 use Rattle.tsp_top.specs.Readings.{ReadsNothing, CutsAtRead, ReadsFile, ReadsTo}
+
+-- where the bytes of a file's packets are from
+abbrev origin_of : Form → Option (List ℕ) → Origin
+origin_of form bytes = record { unit = unit form; bytes = bytes }
 
 -- a source whose read failed counts one fault
 one-fault : (old new : SourceView) (read : List ℕ) → old.faults ≡ 0 → read_failed old ≡ unread read new → new.faults ≡ 1
 one-fault old new read none is = sym (ap (λ (s : SourceView). s.faults) is) ∙ ap raised none
 
 -- a read that failed and ended the run is counted at the closing
-pub read_fault-counted : {S : Type 0} (seen : S → SourceView) (d made : DeskView) (conf : InputConf) (old new : InputPart S) (stuffing : model.Stuffing) (buffer cut : ℕ) (why : Cause)
-    → OpensInput seen d conf old → LeftInput seen stuffing buffer old new cut why → why ≡ Input ReadFault
-    → HasCause made.read_faults (input_closed_as seen made new).read_faults
-read_fault-counted seen d made (input.File name) (Stream first) (Stream now) stuffing buffer cut why opens left is =
-    let one : (seen now).faults ≡ 1 = one-fault (seen first) (seen now) left.read (ap (λ (s : SourceView). s.faults) opens) (left.at_fault is).failed in
+pub read_fault-counted : {S : Type 0} (seen inner : S → SourceView) (d made : DeskView) (conf : InputConf) (old new : InputPart S) (stuffing : model.Stuffing) (buffer cut : ℕ) (why : Cause)
+    → OpensInput seen inner d conf old → IsThrough seen inner new → LeftInput seen stuffing buffer old new cut why → why ≡ Input ReadFault
+    → HasCause made.read_faults (input_closed_as inner made new).read_faults
+read_fault-counted seen inner d made (input.File name form) (Stream first) (Stream now) stuffing buffer cut why opens through left is =
+    let none : (seen first).faults ≡ 0 = ap (λ (s : SourceView). s.faults) opens.1 ∙ ap (λ (s : SourceView). s.faults) opens.0 in
+    let one : (inner now).faults ≡ 1 = sym through.faults ∙ one-fault (seen first) (seen now) left.read none (left.at_fault is).failed in
     rw one (HasCause-raised made.read_faults)
-read_fault-counted seen d made (input.Null count) (Nulls old) (Nulls new) stuffing buffer cut why opens left is = absurd (left is)
-read_fault-counted seen d made (input.File name) (Nulls old) new stuffing buffer cut why opens left is = absurd opens
-read_fault-counted seen d made (input.File name) (Stream first) (Nulls new) stuffing buffer cut why opens left is = absurd left
-read_fault-counted seen d made (input.Null count) (Stream first) new stuffing buffer cut why opens left is = absurd opens
-read_fault-counted seen d made (input.Null count) (Nulls old) (Stream now) stuffing buffer cut why opens left is = absurd left
-read_fault-counted seen d made (input.File name) (Generated old packets) new stuffing buffer cut why opens left is = absurd opens
-read_fault-counted seen d made (input.File name) (Stream first) (Generated new packets) stuffing buffer cut why opens left is = absurd left
-read_fault-counted seen d made (input.Null count) (Generated old packets) new stuffing buffer cut why opens left is = absurd opens
-read_fault-counted seen d made (input.Null count) (Nulls old) (Generated new packets) stuffing buffer cut why opens left is = absurd left
-read_fault-counted seen d made (input.TestGen seed count) (Stream first) new stuffing buffer cut why opens left is = absurd opens
-read_fault-counted seen d made (input.TestGen seed count) (Nulls old) new stuffing buffer cut why opens left is = absurd opens
-read_fault-counted seen d made (input.TestGen seed count) (Generated old packets) (Stream now) stuffing buffer cut why opens left is = absurd left
-read_fault-counted seen d made (input.TestGen seed count) (Generated old packets) (Nulls now) stuffing buffer cut why opens left is = absurd left
-read_fault-counted seen d made (input.TestGen seed count) (Generated old packets) (Generated new same) stuffing buffer cut why opens left is = absurd (left is)
+read_fault-counted seen inner d made (input.Null count) (Nulls old) (Nulls new) stuffing buffer cut why opens through left is = absurd (left is)
+read_fault-counted seen inner d made (input.File name form) (Nulls old) new stuffing buffer cut why opens through left is = absurd opens
+read_fault-counted seen inner d made (input.File name form) (Stream first) (Nulls new) stuffing buffer cut why opens through left is = absurd left
+read_fault-counted seen inner d made (input.Null count) (Stream first) new stuffing buffer cut why opens through left is = absurd opens
+read_fault-counted seen inner d made (input.Null count) (Nulls old) (Stream now) stuffing buffer cut why opens through left is = absurd left
+read_fault-counted seen inner d made (input.File name form) (Generated old packets) new stuffing buffer cut why opens through left is = absurd opens
+read_fault-counted seen inner d made (input.File name form) (Stream first) (Generated new packets) stuffing buffer cut why opens through left is = absurd left
+read_fault-counted seen inner d made (input.Null count) (Generated old packets) new stuffing buffer cut why opens through left is = absurd opens
+read_fault-counted seen inner d made (input.Null count) (Nulls old) (Generated new packets) stuffing buffer cut why opens through left is = absurd left
+read_fault-counted seen inner d made (input.TestGen seed count) (Stream first) new stuffing buffer cut why opens through left is = absurd opens
+read_fault-counted seen inner d made (input.TestGen seed count) (Nulls old) new stuffing buffer cut why opens through left is = absurd opens
+read_fault-counted seen inner d made (input.TestGen seed count) (Generated old packets) (Stream now) stuffing buffer cut why opens through left is = absurd left
+read_fault-counted seen inner d made (input.TestGen seed count) (Generated old packets) (Nulls now) stuffing buffer cut why opens through left is = absurd left
+read_fault-counted seen inner d made (input.TestGen seed count) (Generated old packets) (Generated new same) stuffing buffer cut why opens through left is = absurd (left is)
 
 -- a source tells these bytes as still to come, where the files are told
 abbrev LeftTold : Option (List (List ℕ × List ℕ)) → SourceView → List ℕ → Type 0
@@ -82,11 +92,14 @@ pub record FilesOf (d : DeskView) (conf : InputConf) (s : model.Stuffing) (list 
   pub files_are : IfSome d.files (λ told. files ≡ told)
   pub list_is : list ≡ stuffed s (input_of conf files)
 
-files-of-bytes : (told : Option (List (List ℕ × List ℕ))) (name : List ℕ) (left : Option (List ℕ)) (bytes : List ℕ)
-    → left ≡ option_map (λ fs. file_of fs name) told → IfSome left (λ l. l ≡ bytes)
-    → (files : List (List ℕ × List ℕ)) × IfSome told (λ t. files ≡ t) × (file_of files name ≡ bytes)
-files-of-bytes None name left bytes e is = ((name, bytes) ∷ [], tt, file-of-first name bytes)
-files-of-bytes (Some t) name left bytes e is = (t, refl, subst (λ (o : Option (List ℕ)). IfSome o (λ l. l ≡ bytes)) e is)
+files-of-bytes : (told : Option (List (List ℕ × List ℕ))) (name : List ℕ) (form : Form) (own left : Option (List ℕ)) (bytes : List ℕ)
+    → own ≡ option_map (λ fs. file_of fs name) told → left ≡ option_map (stripped form) own → IfSome left (λ l. l ≡ bytes)
+    → (files : List (List ℕ × List ℕ)) × IfSome told (λ t. files ≡ t) × (stripped form (file_of files name) ≡ bytes)
+files-of-bytes None name form own left bytes e through is =
+    let raw = some-raw form 0 bytes in
+    ((name, raw.0) ∷ [], tt, ap (stripped form) (file-of-first name raw.0) ∙ raw.1)
+files-of-bytes (Some t) name form own left bytes e through is =
+    (t, refl, subst (λ (o : Option (List ℕ)). IfSome o (λ l. l ≡ bytes)) (through ∙ ap (option_map (stripped form)) e) is)
 
 files-of-nulls : (told : Option (List (List ℕ × List ℕ))) → (files : List (List ℕ × List ℕ)) × IfSome told (λ t. files ≡ t)
 files-of-nulls None = ([], tt)
@@ -97,25 +110,25 @@ pub some-files : (d : DeskView) → (files : List (List ℕ × List ℕ)) × IfS
 some-files d = files-of-nulls d.files
 
 -- the list of an input that was opened is that of the plan, over some files
-pub opened-list : {S : Type 0} (seen : S → SourceView) (d : DeskView) (conf : InputConf) (part : InputPart S) (s : model.Stuffing) (list : StageList)
-    → OpensInput seen d conf part → IsListOf seen part s list → FilesOf d conf s list
-opened-list seen d (input.File name) (Stream source) s list opens is =
-    let chosen = files-of-bytes d.files name (seen source).left is.0 (ap (λ (v : SourceView). v.left) opens) is.2 in
+pub opened-list : {S : Type 0} (seen inner : S → SourceView) (d : DeskView) (conf : InputConf) (part : InputPart S) (s : model.Stuffing) (list : StageList)
+    → OpensInput seen inner d conf part → IsListOf seen part s list → FilesOf d conf s list
+opened-list seen inner d (input.File name form) (Stream source) s list opens is =
+    let chosen = files-of-bytes d.files name form (inner source).left (seen source).left is.0 (ap (λ (v : SourceView). v.left) opens.0) (ap (λ (v : SourceView). v.left) opens.1) is.2 in
     record {
       files = chosen.0;
       files_are = chosen.1;
       list_is = is.1 ∙ ap (λ (bytes : List ℕ). stuffed s (input_of_bytes bytes)) (sym chosen.2);
     }
-opened-list seen d (input.Null count) (Nulls packets) s list opens is =
+opened-list seen inner d (input.Null count) (Nulls packets) s list opens is =
     let chosen = files-of-nulls d.files in
     record { files = chosen.0; files_are = chosen.1; list_is = is ∙ ap (λ n. stuffed s (input_of_nulls n)) opens }
-opened-list seen d (input.File name) (Nulls packets) s list opens is = absurd opens
-opened-list seen d (input.Null count) (Stream source) s list opens is = absurd opens
-opened-list seen d (input.File name) (Generated generator packets) s list opens is = absurd opens
-opened-list seen d (input.Null count) (Generated generator packets) s list opens is = absurd opens
-opened-list seen d (input.TestGen seed count) (Stream source) s list opens is = absurd opens
-opened-list seen d (input.TestGen seed count) (Nulls packets) s list opens is = absurd opens
-opened-list seen d (input.TestGen seed count) (Generated generator packets) s list opens is =
+opened-list seen inner d (input.File name form) (Nulls packets) s list opens is = absurd opens
+opened-list seen inner d (input.Null count) (Stream source) s list opens is = absurd opens
+opened-list seen inner d (input.File name form) (Generated generator packets) s list opens is = absurd opens
+opened-list seen inner d (input.Null count) (Generated generator packets) s list opens is = absurd opens
+opened-list seen inner d (input.TestGen seed count) (Stream source) s list opens is = absurd opens
+opened-list seen inner d (input.TestGen seed count) (Nulls packets) s list opens is = absurd opens
+opened-list seen inner d (input.TestGen seed count) (Generated generator packets) s list opens is =
     let chosen = files-of-nulls d.files in
     record {
       files = chosen.0;
@@ -126,12 +139,12 @@ opened-list seen d (input.TestGen seed count) (Generated generator packets) s li
     }
 
 -- an input that was opened is unused
-pub opened-unused : {S : Type 0} (seen : S → SourceView) (d : DeskView) (conf : InputConf) (part : InputPart S) → OpensInput seen d conf part → IsUnused part
-opened-unused seen d conf (Stream source) opens = tt
-opened-unused seen d conf (Nulls packets) opens = tt
-opened-unused seen d (input.File name) (Generated generator packets) opens = absurd opens
-opened-unused seen d (input.Null count) (Generated generator packets) opens = absurd opens
-opened-unused seen d (input.TestGen seed count) (Generated generator packets) opens = ap (λ (g : Generator). g.given) opens.0
+pub opened-unused : {S : Type 0} (seen inner : S → SourceView) (d : DeskView) (conf : InputConf) (part : InputPart S) → OpensInput seen inner d conf part → IsUnused part
+opened-unused seen inner d conf (Stream source) opens = tt
+opened-unused seen inner d conf (Nulls packets) opens = tt
+opened-unused seen inner d (input.File name form) (Generated generator packets) opens = absurd opens
+opened-unused seen inner d (input.Null count) (Generated generator packets) opens = absurd opens
+opened-unused seen inner d (input.TestGen seed count) (Generated generator packets) opens = ap (λ (g : Generator). g.given) opens.0
 
 -- the closed inputs with one more
 with_input-is : (told : Option (List (List ℕ × List ℕ))) (o : Option (List ClosedInput)) (s : SourceView) (left : List ℕ) → LeftTold told s left
@@ -142,41 +155,62 @@ with_input-is (Some t) None s left is = refl
 with_input-is (Some t) (Some l) s left is = rw is refl
 
 -- an input that was opened and closed at once
-pub reads-nothing : {S : Type 0} (seen : S → SourceView) (d made new : DeskView) (files : List (List ℕ × List ℕ)) (conf : InputConf) (part : InputPart S)
-    → IfSome d.files (λ t. files ≡ t) → OpensInput seen d conf part → made.closed_in ≡ d.closed_in → new.closed_in ≡ (input_closed_as seen made part).closed_in → ReadsNothing conf files d new
-reads-nothing seen d made new files (input.File name) (Stream source) told opens same is =
-    let none : (seen source).faults ≡ 0 = ap (λ (s : SourceView). s.faults) opens in
+pub reads-nothing : {S : Type 0} (seen inner : S → SourceView) (d made new : DeskView) (files : List (List ℕ × List ℕ)) (conf : InputConf) (part : InputPart S)
+    → IfSome d.files (λ t. files ≡ t) → OpensInput seen inner d conf part → made.closed_in ≡ d.closed_in → new.closed_in ≡ (input_closed_as inner made part).closed_in → ReadsNothing conf files d new
+reads-nothing seen inner d made new files (input.File name form) (Stream source) told opens same is =
+    let none : (inner source).faults ≡ 0 = ap (λ (s : SourceView). s.faults) opens.0 in
     let all : ℕ = length (file_of files name) in
-    is ∙ with_input-is d.files made.closed_in (seen source) (file_of files name) (opens-left (seen source) d files name told opens)
+    is ∙ with_input-is d.files made.closed_in (inner source) (file_of files name) (opens-left (inner source) d files name told opens.0)
     ∙ ap (λ (n : ℕ). closed_with d.files made.closed_in (record { left = all; failed = nat_lt 0 n })) none
     ∙ ap (λ (o : Option (List ClosedInput)). closed_with d.files o (record { left = all; failed = false })) same
-reads-nothing seen d made new files (input.Null count) (Nulls packets) told opens same is = is ∙ same
-reads-nothing seen d made new files (input.File name) (Nulls packets) told opens same is = absurd opens
-reads-nothing seen d made new files (input.Null count) (Stream source) told opens same is = absurd opens
-reads-nothing seen d made new files (input.File name) (Generated generator packets) told opens same is = absurd opens
-reads-nothing seen d made new files (input.Null count) (Generated generator packets) told opens same is = absurd opens
-reads-nothing seen d made new files (input.TestGen seed count) (Stream source) told opens same is = absurd opens
-reads-nothing seen d made new files (input.TestGen seed count) (Nulls packets) told opens same is = absurd opens
-reads-nothing seen d made new files (input.TestGen seed count) (Generated generator packets) told opens same is = is ∙ same
+reads-nothing seen inner d made new files (input.Null count) (Nulls packets) told opens same is = is ∙ same
+reads-nothing seen inner d made new files (input.File name form) (Nulls packets) told opens same is = absurd opens
+reads-nothing seen inner d made new files (input.Null count) (Stream source) told opens same is = absurd opens
+reads-nothing seen inner d made new files (input.File name form) (Generated generator packets) told opens same is = absurd opens
+reads-nothing seen inner d made new files (input.Null count) (Generated generator packets) told opens same is = absurd opens
+reads-nothing seen inner d made new files (input.TestGen seed count) (Stream source) told opens same is = absurd opens
+reads-nothing seen inner d made new files (input.TestGen seed count) (Nulls packets) told opens same is = absurd opens
+reads-nothing seen inner d made new files (input.TestGen seed count) (Generated generator packets) told opens same is = is ∙ same
 
--- what was read stands before what is left
-none-before : (read : List ℕ) (left : Option (List ℕ)) → before read left ≡ None → left ≡ None
-none-before read None e = refl
-none-before read (Some rest) e = absurd cc
+-- what was read of a file whose packets gave these bytes: the file's own, as far as it is told
+record OwnRead (told : Option (List (List ℕ × List ℕ))) (form : Form) (file given : List ℕ) (last : SourceView) : Type 0 where
+  read : List ℕ
+  rest : List ℕ
+  bytes : IfSome told (λ t. file ≡ read ++ rest)
+  left : LeftTold told last rest
+  given_is : stripped form read ≡ given
 
-some-before : (read bytes : List ℕ) (left : Option (List ℕ)) → before read left ≡ Some bytes → (rest : List ℕ) × (left ≡ Some rest) × (bytes ≡ read ++ rest)
-some-before read bytes None e = absurd cc
-some-before read bytes (Some rest) e = (rest, refl, cc)
+-- of a source that tells nothing nothing is told behind a read
+untold-left : (form : Form) (at : ℕ) (given : List ℕ) (new last : Option (List ℕ)) → None ≡ before given new → new ≡ option_map (stripped_from form at) last → last ≡ None
+untold-left form at given new None none is = refl
+untold-left form at given new (Some rest) none is =
+    let no : None ≡ before given (Some (stripped_from form at rest)) = none ∙ ap (before given) is in
+    absurd cc
 
-left-behind : (told : Option (List (List ℕ × List ℕ))) (old new : SourceView) (file read : List ℕ) → LeftTold told old file → old.left ≡ before read new.left
-    → (rest : List ℕ) × LeftTold told new rest × IfSome told (λ t. file ≡ read ++ rest)
-left-behind None old new file read is e = ([], none-before read new.left (sym e ∙ is), tt)
-left-behind (Some t) old new file read is e = some-before read file new.left (sym e ∙ is)
-
--- either way the bytes that were read stood before those that are left
-source-left : (old new : SourceView) (read : List ℕ) → (old ≡ unread read new) ⊎ (read_failed old ≡ unread read new) → old.left ≡ before read new.left
-source-left old new read (inl whole) = ap (λ (s : SourceView). s.left) whole
-source-left old new read (inr failed) = ap (λ (s : SourceView). s.left) failed
+own-read : (told : Option (List (List ℕ × List ℕ))) (form : Form) (file given : List ℕ) (first old new last : SourceView) → LeftTold told first file → old ≡ form_view form 0 first first
+    → (old ≡ unread given new) ⊎ (read_failed old ≡ unread given new) → ReadsThrough new last → OwnRead told form file given last
+own-read None form file given first old new last left takes moved through =
+    let raw = some-raw form 0 given in
+    let none : old.left ≡ None = ap (λ (s : SourceView). s.left) takes ∙ ap (option_map (stripped form)) left in
+    record {
+      read = raw.0;
+      rest = [];
+      bytes = tt;
+      left = untold-left through.form through.at given new.left last.left (sym none ∙ (same-origin old new given moved).0) through.left;
+      given_is = raw.1;
+    }
+own-read (Some files) form file given first old new last left takes moved through =
+    let parts = same-origin old new given moved in
+    let whole : old.left ≡ Some (stripped form file) = ap (λ (s : SourceView). s.left) takes ∙ ap (option_map (stripped form)) left in
+    let from : old.origin ≡ record { unit = unit form; bytes = Some file } = ap (λ (s : SourceView). s.origin) takes ∙ ap (origin_of form) left in
+    let of_file : ReadOf form file given last.left = read-of form file given old new last whole from parts.0 parts.1 through in
+    record {
+      read = of_file.raw;
+      rest = of_file.rest;
+      bytes = of_file.file_is;
+      left = of_file.left_is;
+      given_is = of_file.given_is;
+    }
 
 -- behind a failed read
 read-fault : (general : GeneralConf) (old new : SourceView) (read : List ℕ) (stuffing : model.Stuffing) (cut : ℕ) → stuffing ≡ stuffing_of general → old.faults ≡ 0
@@ -199,56 +233,61 @@ pub size-within : (given : Option ℕ) (default size : ℕ) → IsSize given def
 size-within None default size is = is.1
 size-within (Some n) default size is = omega arith
 
--- a file that a run read
-reads-file : (general : GeneralConf) (file : List ℕ) (d made next : DeskView) (old new : SourceView) (stuffing : model.Stuffing) (buffer cut : ℕ) (why : Cause)
-    → stuffing ≡ stuffing_of general → buffer ≤ most_buffer general → LeftTold d.files old file → old.faults ≡ 0 → made.closed_in ≡ d.closed_in → next.closed_in ≡ with_input made.closed_in new
-    → ReadsSource stuffing buffer old new cut why → ReadsFile general file d next cut why
-reads-file general file d made next old new stuffing buffer cut why stuffing_is buffer_within told none same is run =
-    let rest = left-behind d.files old new file run.read told (source-left old new run.read run.source) in
+-- a file that a run read: `first` and `last` are its own source before and behind the run, `old` and `new` that of its packets
+reads-file : (general : GeneralConf) (form : Form) (file : List ℕ) (d made next : DeskView) (first old new last : SourceView) (stuffing : model.Stuffing) (buffer cut : ℕ) (why : Cause)
+    → stuffing ≡ stuffing_of general → buffer ≤ most_buffer general → LeftTold d.files first file → first.faults ≡ 0 → old ≡ form_view form 0 first first
+    → ReadsThrough new last → made.closed_in ≡ d.closed_in → next.closed_in ≡ with_input made.closed_in last
+    → ReadsSource stuffing buffer old new cut why → ReadsFile general form file d next cut why
+reads-file general form file d made next first old new last stuffing buffer cut why stuffing_is buffer_within told none takes through same is run =
+    let own : OwnRead d.files form file run.read last = own-read d.files form file run.read first old new last told takes run.source through in
+    let fresh : old.faults ≡ 0 = ap (λ (s : SourceView). s.faults) takes ∙ none in
     record {
-      read = run.read;
-      rest = rest.0;
-      failed = nat_lt 0 new.faults;
-      bytes = rest.2;
-      closed = is ∙ with_input-is d.files made.closed_in new rest.0 rest.1
-          ∙ ap (λ (o : Option (List ClosedInput)). closed_with d.files o (record { left = length rest.0; failed = nat_lt 0 new.faults })) same;
-      within = may_read-wider buffer (most_buffer general) cut (length run.read) buffer_within run.within;
-      at_fault = λ is. read-fault general old new run.read stuffing cut stuffing_is none (run.at_fault is);
+      read = own.read;
+      rest = own.rest;
+      failed = nat_lt 0 last.faults;
+      bytes = own.bytes;
+      closed = is ∙ with_input-is d.files made.closed_in last own.rest own.left
+          ∙ ap (λ (o : Option (List ClosedInput)). closed_with d.files o (record { left = length own.rest; failed = nat_lt 0 last.faults })) same;
+      within = subst (λ (l : List ℕ). MayRead (most_buffer general) cut (length l)) (sym own.given_is)
+          (may_read-wider buffer (most_buffer general) cut (length run.read) buffer_within run.within);
+      at_fault = λ is_fault. subst (λ (l : List ℕ). CutsAtRead (stuffing_of general) l (nat_lt 0 last.faults) cut) (sym own.given_is)
+          (subst (λ (n : ℕ). CutsAtRead (stuffing_of general) run.read (nat_lt 0 n) cut) through.faults
+          (read-fault general old new run.read stuffing cut stuffing_is fresh (run.at_fault is_fault)));
     }
 
 -- what a run reads of the input that was opened for it
-pub reads-to : {S : Type 0} (seen : S → SourceView) (d made next : DeskView) (files : List (List ℕ × List ℕ)) (general : GeneralConf) (conf : InputConf) (old new : InputPart S) (stuffing : model.Stuffing) (buffer cut : ℕ) (why : Cause)
-    → stuffing ≡ stuffing_of general → buffer ≤ most_buffer general → IfSome d.files (λ t. files ≡ t) → OpensInput seen d conf old → made.closed_in ≡ d.closed_in
-    → next.closed_in ≡ (input_closed_as seen made new).closed_in → LeftInput seen stuffing buffer old new cut why → ReadsTo general conf files d next cut why
-reads-to seen d made next files general (input.File name) (Stream first) (Stream now) stuffing buffer cut why stuffing_is buffer_within told opens same is left =
-    reads-file general (file_of files name) d made next (seen first) (seen now) stuffing buffer cut why stuffing_is buffer_within
-    (opens-left (seen first) d files name told opens) (ap (λ (s : SourceView). s.faults) opens) same is left
-reads-to seen d made next files general (input.Null count) (Nulls old) (Nulls new) stuffing buffer cut why stuffing_is buffer_within told opens same is left = is ∙ same
-reads-to seen d made next files general (input.File name) (Nulls old) new stuffing buffer cut why stuffing_is buffer_within told opens same is left = absurd opens
-reads-to seen d made next files general (input.File name) (Stream first) (Nulls new) stuffing buffer cut why stuffing_is buffer_within told opens same is left = absurd left
-reads-to seen d made next files general (input.Null count) (Stream first) new stuffing buffer cut why stuffing_is buffer_within told opens same is left = absurd opens
-reads-to seen d made next files general (input.Null count) (Nulls old) (Stream now) stuffing buffer cut why stuffing_is buffer_within told opens same is left = absurd left
-reads-to seen d made next files general (input.File name) (Generated old packets) new stuffing buffer cut why stuffing_is buffer_within told opens same is left = absurd opens
-reads-to seen d made next files general (input.File name) (Stream first) (Generated new packets) stuffing buffer cut why stuffing_is buffer_within told opens same is left = absurd left
-reads-to seen d made next files general (input.Null count) (Generated old packets) new stuffing buffer cut why stuffing_is buffer_within told opens same is left = absurd opens
-reads-to seen d made next files general (input.Null count) (Nulls old) (Generated new packets) stuffing buffer cut why stuffing_is buffer_within told opens same is left = absurd left
-reads-to seen d made next files general (input.TestGen seed count) (Stream first) new stuffing buffer cut why stuffing_is buffer_within told opens same is left = absurd opens
-reads-to seen d made next files general (input.TestGen seed count) (Nulls old) new stuffing buffer cut why stuffing_is buffer_within told opens same is left = absurd opens
-reads-to seen d made next files general (input.TestGen seed count) (Generated old packets) (Stream now) stuffing buffer cut why stuffing_is buffer_within told opens same is left = absurd left
-reads-to seen d made next files general (input.TestGen seed count) (Generated old packets) (Nulls now) stuffing buffer cut why stuffing_is buffer_within told opens same is left = absurd left
-reads-to seen d made next files general (input.TestGen seed count) (Generated old packets) (Generated new as_many) stuffing buffer cut why stuffing_is buffer_within told opens same is left = is ∙ same
+pub reads-to : {S : Type 0} (seen inner : S → SourceView) (d made next : DeskView) (files : List (List ℕ × List ℕ)) (general : GeneralConf) (conf : InputConf) (old new : InputPart S) (stuffing : model.Stuffing) (buffer cut : ℕ) (why : Cause)
+    → stuffing ≡ stuffing_of general → buffer ≤ most_buffer general → IfSome d.files (λ t. files ≡ t) → OpensInput seen inner d conf old → IsThrough seen inner new → made.closed_in ≡ d.closed_in
+    → next.closed_in ≡ (input_closed_as inner made new).closed_in → LeftInput seen stuffing buffer old new cut why → ReadsTo general conf files d next cut why
+reads-to seen inner d made next files general (input.File name form) (Stream first) (Stream now) stuffing buffer cut why stuffing_is buffer_within told opens through same is left =
+    reads-file general form (file_of files name) d made next (inner first) (seen first) (seen now) (inner now) stuffing buffer cut why stuffing_is buffer_within
+    (opens-left (inner first) d files name told opens.0) (ap (λ (s : SourceView). s.faults) opens.0) opens.1 through same is left
+reads-to seen inner d made next files general (input.Null count) (Nulls old) (Nulls new) stuffing buffer cut why stuffing_is buffer_within told opens through same is left = is ∙ same
+reads-to seen inner d made next files general (input.File name form) (Nulls old) new stuffing buffer cut why stuffing_is buffer_within told opens through same is left = absurd opens
+reads-to seen inner d made next files general (input.File name form) (Stream first) (Nulls new) stuffing buffer cut why stuffing_is buffer_within told opens through same is left = absurd left
+reads-to seen inner d made next files general (input.Null count) (Stream first) new stuffing buffer cut why stuffing_is buffer_within told opens through same is left = absurd opens
+reads-to seen inner d made next files general (input.Null count) (Nulls old) (Stream now) stuffing buffer cut why stuffing_is buffer_within told opens through same is left = absurd left
+reads-to seen inner d made next files general (input.File name form) (Generated old packets) new stuffing buffer cut why stuffing_is buffer_within told opens through same is left = absurd opens
+reads-to seen inner d made next files general (input.File name form) (Stream first) (Generated new packets) stuffing buffer cut why stuffing_is buffer_within told opens through same is left = absurd left
+reads-to seen inner d made next files general (input.Null count) (Generated old packets) new stuffing buffer cut why stuffing_is buffer_within told opens through same is left = absurd opens
+reads-to seen inner d made next files general (input.Null count) (Nulls old) (Generated new packets) stuffing buffer cut why stuffing_is buffer_within told opens through same is left = absurd left
+reads-to seen inner d made next files general (input.TestGen seed count) (Stream first) new stuffing buffer cut why stuffing_is buffer_within told opens through same is left = absurd opens
+reads-to seen inner d made next files general (input.TestGen seed count) (Nulls old) new stuffing buffer cut why stuffing_is buffer_within told opens through same is left = absurd opens
+reads-to seen inner d made next files general (input.TestGen seed count) (Generated old packets) (Stream now) stuffing buffer cut why stuffing_is buffer_within told opens through same is left = absurd left
+reads-to seen inner d made next files general (input.TestGen seed count) (Generated old packets) (Nulls now) stuffing buffer cut why stuffing_is buffer_within told opens through same is left = absurd left
+reads-to seen inner d made next files general (input.TestGen seed count) (Generated old packets) (Generated new as_many) stuffing buffer cut why stuffing_is buffer_within told opens through same is left = is ∙ same
 
 -- a failed read wants an input that was opened by a name
-pub read-named : {S : Type 0} (seen : S → SourceView) (d : DeskView) (conf : InputConf) (old new : InputPart S) (stuffing : model.Stuffing) (buffer cut : ℕ) (why : Cause)
-    → OpensInput seen d conf old → LeftInput seen stuffing buffer old new cut why → why ≡ Input ReadFault → IsSome (input_name conf)
-read-named seen d (input.File name) old new stuffing buffer cut why opens left is = refl
-read-named seen d (input.Null count) (Nulls old) (Nulls new) stuffing buffer cut why opens left is = absurd (left is)
-read-named seen d (input.Null count) (Nulls old) (Stream now) stuffing buffer cut why opens left is = absurd left
-read-named seen d (input.Null count) (Stream first) new stuffing buffer cut why opens left is = absurd opens
-read-named seen d (input.Null count) (Generated old packets) new stuffing buffer cut why opens left is = absurd opens
-read-named seen d (input.Null count) (Nulls old) (Generated new packets) stuffing buffer cut why opens left is = absurd left
-read-named seen d (input.TestGen seed count) (Stream first) new stuffing buffer cut why opens left is = absurd opens
-read-named seen d (input.TestGen seed count) (Nulls old) new stuffing buffer cut why opens left is = absurd opens
-read-named seen d (input.TestGen seed count) (Generated old packets) (Stream now) stuffing buffer cut why opens left is = absurd left
-read-named seen d (input.TestGen seed count) (Generated old packets) (Nulls now) stuffing buffer cut why opens left is = absurd left
-read-named seen d (input.TestGen seed count) (Generated old packets) (Generated new same) stuffing buffer cut why opens left is = absurd (left is)
+pub read-named : {S : Type 0} (seen inner : S → SourceView) (d : DeskView) (conf : InputConf) (old new : InputPart S) (stuffing : model.Stuffing) (buffer cut : ℕ) (why : Cause)
+    → OpensInput seen inner d conf old → LeftInput seen stuffing buffer old new cut why → why ≡ Input ReadFault → IsSome (input_name conf)
+read-named seen inner d (input.File name form) old new stuffing buffer cut why opens left is = refl
+read-named seen inner d (input.Null count) (Nulls old) (Nulls new) stuffing buffer cut why opens left is = absurd (left is)
+read-named seen inner d (input.Null count) (Nulls old) (Stream now) stuffing buffer cut why opens left is = absurd left
+read-named seen inner d (input.Null count) (Stream first) new stuffing buffer cut why opens left is = absurd opens
+read-named seen inner d (input.Null count) (Generated old packets) new stuffing buffer cut why opens left is = absurd opens
+read-named seen inner d (input.Null count) (Nulls old) (Generated new packets) stuffing buffer cut why opens left is = absurd left
+read-named seen inner d (input.TestGen seed count) (Stream first) new stuffing buffer cut why opens left is = absurd opens
+read-named seen inner d (input.TestGen seed count) (Nulls old) new stuffing buffer cut why opens left is = absurd opens
+read-named seen inner d (input.TestGen seed count) (Generated old packets) (Stream now) stuffing buffer cut why opens left is = absurd left
+read-named seen inner d (input.TestGen seed count) (Generated old packets) (Nulls now) stuffing buffer cut why opens left is = absurd left
+read-named seen inner d (input.TestGen seed count) (Generated old packets) (Generated new same) stuffing buffer cut why opens left is = absurd (left is)

@@ -16,7 +16,7 @@ pub steady-fails_not : (old new : SteadyDeskView) → NothingFails (steady_desk 
 steady-fails_not old new = record { reads = quiet; writes = quiet; reports = quiet }
 
 pub steady-tells : (conf : InputConf) (desk : SteadyDeskView) → TellsInput conf (steady_desk desk) desk.files
-steady-tells (input.File name) desk = refl
+steady-tells (input.File name form) desk = refl
 steady-tells (input.Null count) desk = tt
 steady-tells (input.TestGen seed count) desk = tt
 

@@ -21,7 +21,7 @@ use Rattle.tsp_top.specs.declared.status.Status.TheVariants.{NoMemory}
 
 -- the desk tells these files, where the input is one
 abbrev pub TellsInput : InputConf → DeskView → List (List ℕ × List ℕ) → Type 0
-TellsInput (input.File name) desk files = desk.files ≡ Some files
+TellsInput (input.File name form) desk files = desk.files ≡ Some files
 TellsInput (input.Null count) desk files = Unit {0}
 TellsInput (input.TestGen seed count) desk files = Unit {0}
 

@@ -5,6 +5,7 @@ use Rattle.chain_args.specs.declared.input_conf.InputConf.{InputConf}
 use Rattle.chain_args.specs.declared.input_conf.InputConf.TheVariants as input
 use Rattle.chain_args.specs.declared.output_conf.OutputConf.{OutputConf}
 use Rattle.chain_args.specs.declared.output_conf.OutputConf.TheVariants as output
+use Rattle.form_source.specs.FormView.{form_view, ReadsThrough}
 use Rattle.stage_run.specs.declared.input_part.InputPart.{InputPart}
 use Rattle.stage_run.specs.declared.input_part.InputPart.TheVariants.{Stream, Nulls, Generated}
 use Rattle.stage_run.specs.declared.output_part.OutputPart.{OutputPart}
@@ -16,12 +17,12 @@ use Rattle.ts_outside.specs.Desk.{DeskView, asked_well, asked_in_vain, content, 
 
 -- the desk after the input was opened, and after that failed
 abbrev pub asked_input : DeskView → InputConf → DeskView
-asked_input desk (input.File name) = asked_well desk Input name
+asked_input desk (input.File name form) = asked_well desk Input name
 asked_input desk (input.Null count) = desk
 asked_input desk (input.TestGen seed count) = desk
 
 abbrev pub asked_input_in_vain : DeskView → InputConf → DeskView
-asked_input_in_vain desk (input.File name) = asked_in_vain desk Input name
+asked_input_in_vain desk (input.File name form) = asked_in_vain desk Input name
 asked_input_in_vain desk (input.Null count) = desk
 asked_input_in_vain desk (input.TestGen seed count) = desk
 
@@ -36,7 +37,7 @@ asked_output_in_vain desk output.Drop = desk
 
 -- there is something to open
 abbrev pub NamesInput : InputConf → Type 0
-NamesInput (input.File name) = Unit {0}
+NamesInput (input.File name form) = Unit {0}
 NamesInput (input.Null count) = ⊥
 NamesInput (input.TestGen seed count) = ⊥
 
@@ -50,13 +51,21 @@ IsGenerated seed count (Generated generator packets) =
     (generator ≡ record { seed = seed; given = 0 }) × (packets ≡ count)
 IsGenerated seed count _ = ⊥
 
--- the part of an input that was opened: a source of all the file's bytes, the null packets, or the generated stream
-abbrev pub OpensInput : {S : Type 0} → (S → SourceView) → DeskView → InputConf → InputPart S → Type 0
-OpensInput seen desk (input.File name) (Stream source) =
-    seen source ≡ record { left = content desk name; faults = 0; origin = own_bytes }
-OpensInput seen desk (input.Null count) (Nulls packets) = packets ≡ count
-OpensInput seen desk (input.TestGen seed count) part = IsGenerated seed count part
-OpensInput seen desk _ _ = ⊥
+-- the part of an input that was opened: the null packets, the generated stream, or a source of the packets of a file.
+-- `inner` is what is seen of the file's own source behind that one: it has all the file's bytes to come
+abbrev pub OpensInput : {S : Type 0} → (S → SourceView) → (S → SourceView) → DeskView → InputConf → InputPart S → Type 0
+OpensInput seen inner desk (input.File name form) (Stream source) =
+    (inner source ≡ record { left = content desk name; faults = 0; origin = own_bytes })
+    × (seen source ≡ form_view form 0 (inner source) (inner source))
+OpensInput seen inner desk (input.Null count) (Nulls packets) = packets ≡ count
+OpensInput seen inner desk (input.TestGen seed count) part = IsGenerated seed count part
+OpensInput seen inner desk _ _ = ⊥
+
+-- the source of the packets of an input, if it has one, and the file's own stand to each other
+abbrev pub IsThrough : {S : Type 0} → (S → SourceView) → (S → SourceView) → InputPart S → Type 0
+IsThrough seen inner (Stream source) = ReadsThrough (seen source) (inner source)
+IsThrough seen inner (Nulls packets) = Unit {0}
+IsThrough seen inner (Generated generator packets) = Unit {0}
 
 -- the part of an output that was opened: a sink of the name that took nothing, or none
 abbrev pub OpensOutput : {K : Type 0} → (K → SinkView) → DeskView → OutputConf → OutputPart K → Type 0
@@ -69,11 +78,11 @@ OpensOutput seen desk (output.File name) (out.Stream sink) =
 OpensOutput seen desk output.Drop out.Discard = Unit {0}
 OpensOutput seen desk _ _ = ⊥
 
--- the desk after the input was closed
+-- the desk after the input was closed: what it tells is the file's own source
 abbrev pub input_closed_as : {S : Type 0} → (S → SourceView) → DeskView → InputPart S → DeskView
-input_closed_as seen desk (Stream source) = input_closed desk (seen source)
-input_closed_as seen desk (Nulls packets) = desk
-input_closed_as seen desk (Generated generator packets) = desk
+input_closed_as inner desk (Stream source) = input_closed desk (inner source)
+input_closed_as inner desk (Nulls packets) = desk
+input_closed_as inner desk (Generated generator packets) = desk
 
 -- the desk after the output was closed, where that failed or did not
 abbrev pub output_closed_as : {K : Type 0} → (K → SinkView) → DeskView → OutputPart K → Bool → DeskView

@@ -15,6 +15,7 @@ use Rattle.chain_model.specs.Stuffed.{Stuffing, stuffed}
 use Rattle.chain_model.specs.Reports.{NamedRule}
 use Rattle.chain_model.specs.PureRun.{Chain}
 use Rattle.ts_outside.specs.Desk.{file_of}
+use Rattle.packet_forms.specs.Stripped.{stripped}
 
 -- the stuffing of the general options
 abbrev pub stuffing_of : GeneralConf → Stuffing
@@ -25,9 +26,10 @@ stuffing_of general = record {
   every = general.add_input_stuffing.1;
 }
 
--- the input's packets: those of the bytes of its file, null packets, or those of a generated stream
+-- the input's packets: those of the bytes of its file without what stands before and behind each, null packets, or those
+-- of a generated stream
 abbrev pub input_of : InputConf → List (List ℕ × List ℕ) → InputList
-input_of (input.File name) files = input_of_bytes (file_of files name)
+input_of (input.File name form) files = input_of_bytes (stripped form (file_of files name))
 input_of (input.Null count) files = input_of_nulls count
 input_of (input.TestGen seed count) files = input_of_generated seed count
 
@@ -73,7 +75,7 @@ chain_of plan tables files = record {
 -- what is opened for the input and for the output: nothing for null packets and a generated stream, and nothing to drop
 -- packets
 abbrev pub input_name : InputConf → Option (List ℕ)
-input_name (input.File name) = Some name
+input_name (input.File name form) = Some name
 input_name (input.Null count) = None
 input_name (input.TestGen seed count) = None
 

@@ -23,16 +23,17 @@ use Rattle.plug_set.specs.Plugins.{steady_of}
 use Rattle.tsp_top.specs.PlannedChain.{stuffing_of, named_rules}
 use Rattle.tsp_top.specs.PlannedTables.{AreTables, tables_asked}
 use Rattle.tsp_top.specs.Sizes.{IsPlannedCore}
-use Rattle.tsp_top.specs.Openings.{asked_input, asked_output, OpensInput, OpensOutput, input_closed_as, output_closed_as, WasOpened}
+use Rattle.tsp_top.specs.Openings.{asked_input, asked_output, OpensInput, OpensOutput, IsThrough, input_closed_as, output_closed_as, WasOpened}
 use Rattle.tsp_top.specs.Reported.{ReportsRun}
 use Rattle.tsp_top.specs.declared.status.Status.{Status}
 use Rattle.tsp_top.specs.declared.status.Status.TheVariants.{NoMemory}
 
--- the desk after both ends were closed
+-- the desk after both ends were closed; `inner` is what is seen of the file's own source behind that of an input's packets,
+-- here and below
 abbrev pub closed_desk : {S K : Type 0} → (S → SourceView) → (K → SinkView)
     → DeskView → InputPart S → OutputPart K → Bool → DeskView
-closed_desk in_seen out_seen desk input output failed =
-    output_closed_as out_seen (input_closed_as in_seen desk input) output failed
+closed_desk inner out_seen desk input output failed =
+    output_closed_as out_seen (input_closed_as inner desk input) output failed
 
 -- a chain that is ready to run: its stuffing, its numbers and its plugins are the plan's, with these tables, and no
 -- plugin met a cell
@@ -48,21 +49,21 @@ pub record IsReady {P : Type 0}
   pub fresh : AreFresh stands plugins
 
 -- a call whose chain is ready and whose two ends were opened, the input first
-pub record IsOpened {S K P : Type 0} (see : Seeing S K P)
+pub record IsOpened {S K P : Type 0} (see : Seeing S K P) (inner : S → SourceView)
     (plan : Plan) (tables : List (List (List ℕ))) (numbers : CorePlan) (old made : DeskView)
     (from : InputPart S) (stuffing : Stuffing) (plugins : List P) (to : OutputPart K) : Type 0 where
   pub ready : IsReady see.rule see.stands see.steady plan tables stuffing numbers plugins
   pub asked : made ≡ asked_output (asked_input old plan.input) plan.output
-  pub input : OpensInput see.source old plan.input from
+  pub input : OpensInput see.source inner old plan.input from
   pub unused : IsUnused from
   pub output : OpensOutput see.sink (asked_input old plan.input) plan.output to
 
 -- the same of a call whose tables were read before
-abbrev pub OpensPlan : {S K P : Type 0} → Seeing S K P → Plan → CorePlan → DeskView → DeskView
+abbrev pub OpensPlan : {S K P : Type 0} → Seeing S K P → (S → SourceView) → Plan → CorePlan → DeskView → DeskView
     → InputPart S → Stuffing → List P → OutputPart K → Type 0
-OpensPlan see plan numbers old made from stuffing plugins to =
+OpensPlan see inner plan numbers old made from stuffing plugins to =
     (tables : List (List (List ℕ))) × AreTables old plan.plugins tables
-    × IsOpened see plan tables numbers (tables_asked old plan) made from stuffing plugins to
+    × IsOpened see inner plan tables numbers (tables_asked old plan) made from stuffing plugins to
 
 -- what every run owes, whoever serves the stages: it was closed, or there was no memory for it
 pub record EndsRun {S K P : Type 0} (see : Seeing S K P) (stuffing : Stuffing) (numbers : CorePlan)
@@ -72,34 +73,34 @@ pub record EndsRun {S K P : Type 0} (see : Seeing S K P) (stuffing : Stuffing) (
   pub never_began : OnErr closed (NeverBegan from made_from plugins made to made_to)
 
 -- a run that was closed and reported, or closed only, where there was no memory for its report
-pub record RanClosed {S K P : Type 0} (see : Seeing S K P)
+pub record RanClosed {S K P : Type 0} (see : Seeing S K P) (inner : S → SourceView)
     (plan : Plan) (tables : List (List (List ℕ))) (stuffing : Stuffing) (numbers : CorePlan) (old new : DeskView)
     (from made_from : InputPart S) (plugins : List P) (to made_to : OutputPart K)
     (failed : Bool) (status : Status) (closed : Closed) : Type 0 where
   pub made : List P
   pub run : RunOf see from made_from stuffing plugins made to made_to numbers closed
   pub reported : ReportsRun (reports (named_rules plan.plugins tables) run.list closed.cut closed.cause)
-      closed.cause failed (closed_desk see.source see.sink old made_from made_to failed) new status
+      closed.cause failed (closed_desk inner see.sink old made_from made_to failed) new status
 
 -- there was no memory for the run: the ends were closed as they were opened
-pub record NotRun {S K P : Type 0} (see : Seeing S K P) (old new : DeskView)
+pub record NotRun {S K P : Type 0} (see : Seeing S K P) (inner : S → SourceView) (old new : DeskView)
     (from made_from : InputPart S) (to made_to : OutputPart K)
     (failed : Bool) (status : Status) : Type 0 where
   pub status_is : status ≡ NoMemory
   pub input_same : made_from ≡ from
   pub output_same : made_to ≡ to
-  pub desk : new ≡ closed_desk see.source see.sink old made_from made_to failed
+  pub desk : new ≡ closed_desk inner see.sink old made_from made_to failed
 
 -- one of the two
-abbrev pub RanEnds : {S K P : Type 0} → Seeing S K P → Plan → List (List (List ℕ)) → Stuffing → CorePlan → DeskView → DeskView
+abbrev pub RanEnds : {S K P : Type 0} → Seeing S K P → (S → SourceView) → Plan → List (List (List ℕ)) → Stuffing → CorePlan → DeskView → DeskView
     → InputPart S → InputPart S → List P → OutputPart K → OutputPart K → Bool → Status → Type 0
-RanEnds see plan tables stuffing numbers old new from made_from plugins to made_to failed status =
+RanEnds see inner plan tables stuffing numbers old new from made_from plugins to made_to failed status =
     ((closed : Closed)
-    × RanClosed see plan tables stuffing numbers old new from made_from plugins to made_to failed status closed)
-    ⊎ NotRun see old new from made_from to made_to failed status
+    × RanClosed see inner plan tables stuffing numbers old new from made_from plugins to made_to failed status closed)
+    ⊎ NotRun see inner old new from made_from to made_to failed status
 
 -- the chain ran, both ends were closed, and the run was reported; or there was no memory for the run
-pub record RanOpened {S K P : Type 0} (see : Seeing S K P)
+pub record RanOpened {S K P : Type 0} (see : Seeing S K P) (inner : S → SourceView)
     (plan : Plan) (tables : List (List (List ℕ))) (stuffing : Stuffing) (numbers : CorePlan) (old new : DeskView)
     (from : InputPart S) (plugins : List P) (to : OutputPart K) (status : Status) : Type 0 where
   pub made_from : InputPart S
@@ -107,4 +108,6 @@ pub record RanOpened {S K P : Type 0} (see : Seeing S K P)
   -- whether the closing of the output failed
   pub failed : Bool
   pub failed_opened : OnTrue failed (WasOpened made_to)
-  pub ends : RanEnds see plan tables stuffing numbers old new from made_from plugins to made_to failed status
+  -- what is left of the input's packets is that of its file
+  pub through : IsThrough see.source inner made_from
+  pub ends : RanEnds see inner plan tables stuffing numbers old new from made_from plugins to made_to failed status

@@ -7,6 +7,8 @@ use Rattle.chain_model.specs.declared.input_end.InputEnd.TheVariants.{ReadFault}
 use Rattle.chain_model.specs.declared.cause.Cause.{Cause}
 use Rattle.chain_model.specs.declared.cause.Cause.TheVariants.{Input}
 use Rattle.chain_model.specs.Stuffed.{Stuffing}
+use Rattle.packet_forms.specs.declared.forms.Form.{Form}
+use Rattle.packet_forms.specs.Stripped.{stripped}
 use Rattle.ts_outside.specs.Desk.{DeskView, file_of}
 use Rattle.ts_outside.specs.Entries.{closed_with}
 use Rattle.stage_run.specs.Parts.{IsInSyncSoFar, list_at_fault}
@@ -16,21 +18,21 @@ use Rattle.tsp_top.specs.Sizes.{most_buffer}
 
 -- nothing was read of the input: its file was closed with all its bytes still to come, and no read of it failed
 abbrev pub ReadsNothing : InputConf → List (List ℕ × List ℕ) → DeskView → DeskView → Type 0
-ReadsNothing (input.File name) files old new =
+ReadsNothing (input.File name form) files old new =
     new.closed_in
     ≡ closed_with old.files old.closed_in (record { left = length (file_of files name); failed = false })
 ReadsNothing (input.Null count) files old new = new.closed_in ≡ old.closed_in
 ReadsNothing (input.TestGen seed count) files old new = new.closed_in ≡ old.closed_in
 
--- behind a failed read: the bytes that were read show no lost sync, and the cut is where the stuffed list of the whole
--- packets among them ends
+-- behind a failed read: these bytes of packets, which were read, show no lost sync, and the cut is where the stuffed list
+-- of the whole packets among them ends
 pub record CutsAtRead (stuffing : Stuffing) (read : List ℕ) (failed : Bool) (cut : ℕ) : Type 0 where
   pub did_fail : failed ≡ true
   pub in_sync : IsInSyncSoFar read
   pub cut_is : cut ≡ length (list_at_fault stuffing read).cells
 
 -- the file of an input was read and closed by a run that was cut at `cut`
-pub record ReadsFile (general : GeneralConf) (file : List ℕ)
+pub record ReadsFile (general : GeneralConf) (form : Form) (file : List ℕ)
     (old new : DeskView) (cut : ℕ) (why : Cause) : Type 0 where
   pub read : List ℕ
   pub rest : List ℕ
@@ -40,14 +42,14 @@ pub record ReadsFile (general : GeneralConf) (file : List ℕ)
   pub bytes : IfSome old.files (λ told. file ≡ read ++ rest)
   pub closed : new.closed_in
       ≡ closed_with old.files old.closed_in (record { left = length rest; failed = failed })
-  -- at most the buffer's packets beyond the cut
-  pub within : MayRead (most_buffer general) cut (length read)
-  pub at_fault : why ≡ Input ReadFault → CutsAtRead (stuffing_of general) read failed cut
+  -- of packets at most the buffer's beyond the cut
+  pub within : MayRead (most_buffer general) cut (length (stripped form read))
+  pub at_fault : why ≡ Input ReadFault → CutsAtRead (stuffing_of general) (stripped form read) failed cut
 
 -- what a run that was cut at `cut` reads of its input; null packets and generated ones are not read
 abbrev pub ReadsTo : GeneralConf → InputConf → List (List ℕ × List ℕ)
     → DeskView → DeskView → ℕ → Cause → Type 0
-ReadsTo general (input.File name) files old new cut why =
-    ReadsFile general (file_of files name) old new cut why
+ReadsTo general (input.File name form) files old new cut why =
+    ReadsFile general form (file_of files name) old new cut why
 ReadsTo general (input.Null count) files old new cut why = new.closed_in ≡ old.closed_in
 ReadsTo general (input.TestGen seed count) files old new cut why = new.closed_in ≡ old.closed_in

@@ -19,11 +19,12 @@ use crate::tables::read_tables;
 use crate::words::refuse_words;
 use chain_args::{Plan, WordsFault, plan};
 use chain_run::Stages;
+use form_source::FormSource;
 use plug_set::AnyPlugin;
 use plugin_trait::Plugin;
 use stage_run::InputPart;
 use std::alloc::{AllocError, Global};
-use ts_outside::{Desk, OpenFault, say};
+use ts_outside::{Desk, OpenFault, Source, say};
 use ts_section::Section;
 
 /// Reads the words, reads and opens what they name. The answer is the call that is open, ready for this driver, or the
@@ -33,12 +34,13 @@ pub(crate) fn begin<D: Desk>(
     words: &[String],
     desk: &mut D,
     driver: Driver,
-) -> Result<OpenedCall<D::In, D::Out, AnyPlugin>, Status>
+) -> Result<OpenedCall<FormSource<D::In>, D::Out, AnyPlugin>, Status>
     ensures { MatchResult result
         (λ call. (plan_of (map string_bytes words.now) ≡ Some call.plan)
         × OpensPlan
-        (seeing D.In.seen D.Out.seen
+        (seeing ⟦<FormSource<D::In> as Source>⟧.seen D.Out.seen
         ⟦<AnyPlugin as Plugin>⟧.rule ⟦<AnyPlugin as Plugin>⟧.stands_for ⟦<AnyPlugin as Plugin>⟧.steady)
+        (λ source. D.In.seen source.source)
         call.plan call.core (D.seen desk.old) (D.seen desk.new)
         call.stages.input call.stages.stuffing call.stages.plugins.items call.stages.output)
         (λ status. CallsTsp (map string_bytes words.now) (D.seen desk.old) (D.seen desk.new) status) }
@@ -56,13 +58,14 @@ fn begin_plan<D: Desk>(
     desk: &mut D,
     plan: Plan,
     driver: Driver,
-) -> Result<OpenedCall<D::In, D::Out, AnyPlugin>, Status>
+) -> Result<OpenedCall<FormSource<D::In>, D::Out, AnyPlugin>, Status>
     requires { IsLawfulPlan plan }
     ensures { MatchResult result
         (λ call. (call.plan ≡ plan)
         × OpensPlan
-        (seeing D.In.seen D.Out.seen
+        (seeing ⟦<FormSource<D::In> as Source>⟧.seen D.Out.seen
         ⟦<AnyPlugin as Plugin>⟧.rule ⟦<AnyPlugin as Plugin>⟧.stands_for ⟦<AnyPlugin as Plugin>⟧.steady)
+        (λ source. D.In.seen source.source)
         plan call.core (D.seen desk.old) (D.seen desk.new)
         call.stages.input call.stages.stuffing call.stages.plugins.items call.stages.output)
         (λ status. CallsPlan plan (D.seen desk.old) (D.seen desk.new) status) }
@@ -80,13 +83,14 @@ fn begin_chain<D: Desk>(
     plan: Plan,
     tables: Vec<Vec<Section>>,
     driver: Driver,
-) -> Result<OpenedCall<D::In, D::Out, AnyPlugin>, Status>
+) -> Result<OpenedCall<FormSource<D::In>, D::Out, AnyPlugin>, Status>
     requires { IsLawfulPlan plan }
     ensures { MatchResult result
         (λ call. (call.plan ≡ plan)
         × IsOpened
-        (seeing D.In.seen D.Out.seen
+        (seeing ⟦<FormSource<D::In> as Source>⟧.seen D.Out.seen
         ⟦<AnyPlugin as Plugin>⟧.rule ⟦<AnyPlugin as Plugin>⟧.stands_for ⟦<AnyPlugin as Plugin>⟧.steady)
+        (λ source. D.In.seen source.source)
         plan (map (λ table. table.items) tables.items) call.core (D.seen desk.old) (D.seen desk.new)
         call.stages.input call.stages.stuffing call.stages.plugins.items call.stages.output)
         (λ status. IsOverBefore plan (map (λ table. table.items) tables.items)
@@ -104,12 +108,13 @@ fn open_ends<P: Plugin + Drop, D: Desk>(
     desk: &mut D,
     plan: Plan,
     ready: ReadyChain<P>,
-) -> Result<OpenedCall<D::In, D::Out, P>, Status>
+) -> Result<OpenedCall<FormSource<D::In>, D::Out, P>, Status>
     ensures { (tables : List (List (List ℕ)))
         → IsReady P.rule P.stands_for P.steady plan tables ready.stuffing ready.core ready.plugins.items
         → MatchResult result
         (λ call. (call.plan ≡ plan)
-        × IsOpened (seeing D.In.seen D.Out.seen P.rule P.stands_for P.steady)
+        × IsOpened (seeing ⟦<FormSource<D::In> as Source>⟧.seen D.Out.seen P.rule P.stands_for P.steady)
+        (λ source. D.In.seen source.source)
         plan tables call.core (D.seen desk.old) (D.seen desk.new)
         call.stages.input call.stages.stuffing call.stages.plugins.items call.stages.output)
         (λ status. IsOverBefore plan tables (D.seen desk.old) (D.seen desk.new) status) }
@@ -129,16 +134,17 @@ fn open_behind<P: Plugin + Drop, D: Desk>(
     desk: &mut D,
     plan: Plan,
     ready: ReadyChain<P>,
-    input: InputPart<D::In>,
-) -> Result<OpenedCall<D::In, D::Out, P>, Status>
-    requires { ((old : DeskView) × OpensInput D.In.seen old plan.input input) }
+    input: InputPart<FormSource<D::In>>,
+) -> Result<OpenedCall<FormSource<D::In>, D::Out, P>, Status>
+    requires { ((old : DeskView) × OpensInput ⟦<FormSource<D::In> as Source>⟧.seen (λ source. D.In.seen source.source) old plan.input input) }
     ensures { (tables : List (List (List ℕ))) (old : DeskView)
         → IsReady P.rule P.stands_for P.steady plan tables ready.stuffing ready.core ready.plugins.items
         → D.seen desk.old ≡ asked_input old plan.input
-        → OpensInput D.In.seen old plan.input input
+        → OpensInput ⟦<FormSource<D::In> as Source>⟧.seen (λ source. D.In.seen source.source) old plan.input input
         → MatchResult result
         (λ call. (call.plan ≡ plan)
-        × IsOpened (seeing D.In.seen D.Out.seen P.rule P.stands_for P.steady)
+        × IsOpened (seeing ⟦<FormSource<D::In> as Source>⟧.seen D.Out.seen P.rule P.stands_for P.steady)
+        (λ source. D.In.seen source.source)
         plan tables call.core old (D.seen desk.new)
         call.stages.input call.stages.stuffing call.stages.plugins.items call.stages.output)
         (λ status. StreamTheorem plan tables old (D.seen desk.new) status) }

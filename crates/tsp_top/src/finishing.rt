@@ -13,26 +13,28 @@ use crate::report::report_run;
 use crate::status::Status;
 use chain_args::Plan;
 use chain_run::RunEnd;
+use form_source::FormSource;
 use plugin_trait::Plugin;
 use stage_run::{InputPart, OutputPart};
 use std::alloc::{AllocError, Global};
-use ts_outside::Desk;
+use ts_outside::{Desk, Source};
 
 /// Closes both ends of a run, and reports it.
 pub(crate) fn finish<P: Plugin + Drop, D: Desk>(
     alloc: Global,
     desk: &mut D,
     plan: &Plan,
-    end: RunEnd<D::In, D::Out, P>,
+    end: RunEnd<FormSource<D::In>, D::Out, P>,
 ) -> Status
     requires few { length end.plugins.items ≤ 62 }
     requires reach { IfOk end.closed (λ closed. ReachesCut P.stands_for end.plugins.items closed.cut 0) }
-    ensures { (tables : List (List (List ℕ))) (stuffing : Stuffing) (numbers : CorePlan) (from : InputPart D.In)
+    ensures { (tables : List (List (List ℕ))) (stuffing : Stuffing) (numbers : CorePlan) (from : InputPart _)
         (plugins : List P) (to : OutputPart D.Out)
         → map P.rule end.plugins.items ≡ rules_of (named_rules plan.now.plugins tables)
-        → EndsRun (seeing D.In.seen D.Out.seen P.rule P.stands_for P.steady)
+        → EndsRun (seeing ⟦<FormSource<D::In> as Source>⟧.seen D.Out.seen P.rule P.stands_for P.steady)
         stuffing numbers from end.input plugins end.plugins.items to end.output end.closed
-        → RanOpened (seeing D.In.seen D.Out.seen P.rule P.stands_for P.steady)
+        → RanOpened (seeing ⟦<FormSource<D::In> as Source>⟧.seen D.Out.seen P.rule P.stands_for P.steady)
+        (λ source. D.In.seen source.source)
         plan.now tables stuffing numbers (D.seen desk.old) (D.seen desk.new) from plugins to result }
 {
     let RunEnd {

@@ -1,6 +1,4 @@
 use Rattle.std.proofs.Common.{arith}
-use Rattle.stage_run.specs.Seeing.{seeing}
-use Rattle.plug_set.specs.contracts.any_plugin.AnyPluginPlugin.TheImpl.{ghosts as any}
 use Rattle.tsp_top.proofs.CalledLemmas.{called, called-few, called-reach, ready-plugins}
 use Rattle.tsp_top.proofs.call.threaded_call.Goals as goal
 
@@ -20,13 +18,13 @@ pub run_in_threads-end-requires-clause-fresh : goal.run_in_threads-end-requires-
 run_in_threads-end-requires-clause-fresh g c κs within = c.in-Ok.ensures.1.2.ready.fresh
 
 pub finish-requires-clause-reach : goal.finish-requires-clause-reach
-finish-requires-clause-reach g c κs within = called-reach _ _ _ _ _ _ _ _ _ _ _ _ _ c.in-Ok.ensures.1 c.run_in_threads-end.ensures
+finish-requires-clause-reach g c κs within = called-reach _ _ _ _ _ _ _ _ _ _ _ _ _ _ c.in-Ok.ensures.1 c.run_in_threads-end.ensures
 
 pub finish-requires-clause-few : goal.finish-requires-clause-few
-finish-requires-clause-few g c κs within = called-few _ _ _ _ _ _ _ _ _ _ _ _ _ c.in-Ok.ensures.1 c.run_in_threads-end.ensures
+finish-requires-clause-few g c κs within = called-few _ _ _ _ _ _ _ _ _ _ _ _ _ _ c.in-Ok.ensures.1 c.run_in_threads-end.ensures
 
 pub returns-in-Ok : goal.returns-in-Ok
-returns-in-Ok g c = called (seeing g.D.In.Source.seen g.D.Out.Sink.seen any.rule any.stands_for any.steady) c.in-Ok.field-0.plan c.in-Ok.field-0.core (g.D.Desk.seen c.args.desk.now) (g.D.Desk.seen c.begin.new.desk)
+returns-in-Ok g c = called _ _ c.in-Ok.field-0.plan c.in-Ok.field-0.core (g.D.Desk.seen c.args.desk.now) (g.D.Desk.seen c.begin.new.desk)
     c.in-Ok.field-0.stages.input c.run_in_threads-end.result.input c.in-Ok.field-0.stages.stuffing c.in-Ok.field-0.stages.plugins.items c.run_in_threads-end.result.plugins.items
     c.in-Ok.field-0.stages.output c.run_in_threads-end.result.output c.run_in_threads-end.result.closed c.in-Ok.ensures.1 c.run_in_threads-end.ensures
     _ _ _ c.in-Ok.ensures.0 c.finish.ensures

@@ -19,6 +19,7 @@ returns-in-Ok g c = λ tables stuffing numbers from plugins to rules ends.
       made_to = c.args.end.output;
       failed = is_err c.close_output-closing.result;
       failed_opened = on-true-is_err c.close_output-closing.result _ c.close_output-closing.ensures.failed;
+      through = c.close_input.ensures.through;
       ends = inl (
         c.in-Ok.closed,
         record {
@@ -28,7 +29,7 @@ returns-in-Ok g c = λ tables stuffing numbers from plugins to rules ends.
               (ap (λ (items : List PluginItem). reports (named_rules items tables) run.list c.in-Ok.closed.cut c.in-Ok.closed.cause) c.as_slice.ensures)
               c.is_err.ensures.value
               (c.close_output-closing.ensures.closed
-              ∙ ap (λ (d : DeskView). output_closed_as g.D.Out.Sink.seen d c.args.end.output (is_err c.close_output-closing.result)) c.close_input.ensures)
+              ∙ ap (λ (d : DeskView). output_closed_as g.D.Out.Sink.seen d c.args.end.output (is_err c.close_output-closing.result)) c.close_input.ensures.closed)
               (c.report_run.ensures tables run.list
               (ap (λ (l : List _). map g.P.Plugin.rule l) c.deref_mut.ensures.value ∙ rules ∙ ap (λ (items : List PluginItem). rules_of (named_rules items tables)) (sym c.as_slice.ensures))
               (rw c.deref_mut.ensures.value (run-met _ from c.args.end.input stuffing plugins c.args.end.plugins.items to c.args.end.output numbers c.in-Ok.closed run)));
@@ -44,11 +45,12 @@ returns g c = λ tables stuffing numbers from plugins to rules ends.
       made_to = c.args.end.output;
       failed = is_err c.close_output-closing.result;
       failed_opened = on-true-is_err c.close_output-closing.result _ c.close_output-closing.ensures.failed;
+      through = c.close_input.ensures.through;
       ends = inr (record {
         status_is = refl;
         input_same = none.input;
         output_same = none.output;
         desk = c.close_output-closing.ensures.closed
-            ∙ ap (λ (d : DeskView). output_closed_as g.D.Out.Sink.seen d c.args.end.output (is_err c.close_output-closing.result)) c.close_input.ensures;
+            ∙ ap (λ (d : DeskView). output_closed_as g.D.Out.Sink.seen d c.args.end.output (is_err c.close_output-closing.result)) c.close_input.ensures.closed;
       });
     }
