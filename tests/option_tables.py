@@ -2,7 +2,7 @@
 
 A table is an expression of rows, such as `record { name = codes "pid"; kind = value (ranges LAST_PID) } ∷ version_rows`.
 It is computed here with the definitions that its file has and imports, down to rows (name, kind, form), where a form is
-a tuple as `("number", 1, 31)`, and with the numbers of the sources' constants.
+a tuple as `("number", 1, 31)`, or `("known", "is_form")` with the name of a test, and with the numbers of the sources' constants.
 """
 import functools
 import pathlib
@@ -11,7 +11,7 @@ import re
 TOP = pathlib.Path(__file__).resolve().parent.parent
 TOKEN = re.compile(r'\s*("[^"]*"|[∷{}();=,]|\+\+|\[\]|[^\s"∷{}();=,]+)')
 KINDS = {"flag": 0, "value": 1, "operand": 1, "operands": 1}
-FORMS = {"number": 2, "ranges": 1, "ranges_from": 2, "pair": 3, "pairs": 3, "bytes": 2, "text": 0}
+FORMS = {"number": 2, "ranges": 1, "ranges_from": 2, "pair": 3, "pairs": 3, "bytes": 2, "known": 1, "text": 0}
 
 
 @functools.lru_cache(None)
@@ -113,6 +113,8 @@ class Reader:
             return self.value()
         if word in KINDS:
             return (word, *(self.value() for _ in range(KINDS[word])), *([None] * (1 - KINDS[word])))
+        if word == "known":
+            return word, self.next()
         if word in FORMS:
             return (word, *(self.value() for _ in range(0 if alone else FORMS[word])))
         return self.defined(word)

@@ -1,12 +1,13 @@
--- The inputs: `file [NAME]`, `null N` and `testgen SEED N`.
+-- The inputs: `file [NAME] [--format F]`, `null N` and `testgen SEED N`.
 -- This project's own rule.
-use Rattle.std.specs.Prelude.{ℕ, ◌&&◌, List, [], ◌∷◌, None, Option, Some, codes, if◌then◌else◌, true, unwrap_or}
+use Rattle.std.specs.Prelude.{ℕ, ◌&&◌, Bool, is_some, List, [], ◌∷◌, None, Option, Some, codes, if◌then◌else◌, true, unwrap_or}
 use Rattle.std.specs.Str.{bytes_eq}
 use Rattle.plug_conf.specs.declared.limits.TheConstants.{MOST_PACKETS}
-use Rattle.packet_forms.specs.declared.forms.Form.TheVariants.{Ts}
-use Rattle.option_words.specs.Forms.{number, text}
+use Rattle.packet_forms.specs.declared.forms.Form.{Form}
+use Rattle.packet_forms.specs.declared.forms.Form.TheVariants.{Ts, M2ts, Rs204}
+use Rattle.option_words.specs.Forms.{known, number, text}
 use Rattle.option_words.specs.Number.{number_within}
-use Rattle.option_words.specs.Options.{has_value, operand, read_value, value_of}
+use Rattle.option_words.specs.Options.{has_value, operand, read_value, value, value_of}
 use Rattle.option_words.specs.OptionTable.{OptionTable}
 use Rattle.chain_args.specs.declared.input_conf.TheConstants.{MOST_SEED}
 use Rattle.chain_args.specs.declared.input_words.InputKind.{InputKind}
@@ -14,12 +15,26 @@ use Rattle.chain_args.specs.declared.input_words.InputKind.TheVariants as kind
 use Rattle.chain_args.specs.declared.input_conf.InputConf.{InputConf}
 use Rattle.chain_args.specs.declared.input_conf.InputConf.TheVariants.{File, Null, TestGen}
 
--- `file`: a name; without one, or where it is empty, standard input
+-- the forms of files by their names
+abbrev pub form_named : List ℕ → Option Form
+form_named name = if bytes_eq name (codes "ts") then Some Ts
+    else (if bytes_eq name (codes "m2ts") then Some M2ts
+    else (if bytes_eq name (codes "rs204") then Some Rs204 else None))
+
+abbrev pub is_form : List ℕ → Bool
+is_form name = is_some (form_named name)
+
+-- `file`: a name; without one, or where it is empty, standard input; the form in which it keeps its packets, without one
+-- packets alone
 abbrev pub file_input : OptionTable InputConf
 file_input = record {
-  rows = record { name = codes "name"; kind = operand text } ∷ [];
+  rows = record { name = codes "name"; kind = operand text }
+      ∷ record { name = codes "format"; kind = value (known is_form) }
+      ∷ [];
   has_needed = λ found. true;
-  settings = λ found. File (unwrap_or (value_of (codes "name") found) []) Ts;
+  settings = λ found.
+      File (unwrap_or (value_of (codes "name") found) [])
+      (unwrap_or (read_value form_named (codes "format") found) Ts);
   go_together = λ found. true;
 }
 

@@ -7,9 +7,9 @@ ghost use Rattle.option_words.specs.Options.{command_of};
 ghost use Rattle.option_words.specs.OptionTable.{OptionTable};
 ghost use Rattle.option_words.specs.Refusal.{Reads, ReadsParsed};
 
+use crate::form_words::read_format;
 use crate::input_conf::{InputConf, MOST_SEED};
-use option_words::{ParsedOptions, Refusal, WordsRule, new_command, with_operand};
-use packet_forms::Form;
+use option_words::{ParsedOptions, Refusal, WordsRule, new_command, with_operand, with_value};
 use plug_conf::MOST_PACKETS;
 use std::alloc::Global;
 
@@ -52,10 +52,19 @@ fn read_file(alloc: Global, words: &[String]) -> Result<InputConf, Refusal>
     ensures lawful { IfOk result IsLawfulInput }
 {
     let command = with_operand(alloc, new_command(alloc), "name")?;
+    let command = with_value(alloc, command, "format")?;
     let found = ParsedOptions::of(command, words)?;
+    file_settings(alloc, &found)
+}
+
+fn file_settings(alloc: Global, found: &ParsedOptions) -> Result<InputConf, Refusal>
+    ensures reads { ReadsParsed file_input found.now result }
+    ensures lawful { IfOk result IsLawfulInput }
+{
+    let form = read_format(found)?;
     Ok(InputConf::File {
         name: found.text(alloc, "name")?,
-        form: Form::Ts,
+        form,
     })
 }
 

@@ -2,6 +2,7 @@
 //! The layer above uses `plan`, which answers `plan_of` of the words, else `first_word_fault`.
 #![tactic(auto)]
 
+mod form_words;
 mod general_conf;
 mod general_words;
 mod input_conf;

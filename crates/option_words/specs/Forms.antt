@@ -19,6 +19,8 @@ pub data Form : Type 0 where
   pairs : ℕ → ℕ × ℕ → ℕ × ℕ → Form
   -- bytes as hexadecimal digits, from a least number of bytes to a most
   bytes : ℕ → ℕ → Form
+  -- a word that this test knows
+  known : (List ℕ → Bool) → Form
   -- any text
   text : Form
 
@@ -30,4 +32,5 @@ has_form (ranges_from least most) word = is_some (ranges_within least most word)
 has_form (pair sign first second) word = is_some (pair_of sign first second word)
 has_form (pairs sign first second) word = is_some (pairs_of sign first second word)
 has_form (bytes least most) word = is_some (bytes_of least most word)
+has_form (known test) word = test word
 has_form text word = true

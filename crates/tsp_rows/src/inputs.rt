@@ -9,6 +9,18 @@ const OTHER_BYTE: u8 = 0x46;
 /// The two flags of `Input::Headed`.
 const FLAGS_BYTE: u8 = 0x90;
 
+/// The byte that stands before and behind the packets of units.
+const BESIDE_BYTE: u8 = 0x99;
+
+/// So many bytes of packets on these PIDs, each with some bytes before and behind it.
+#[derive(Clone, Copy)]
+pub(crate) struct Units {
+    pub(crate) pids: &'static [u16],
+    pub(crate) before: usize,
+    pub(crate) behind: usize,
+    pub(crate) len: usize,
+}
+
 /// What is in the file that a row reads.
 #[derive(Clone, Copy)]
 pub(crate) enum Input {
@@ -31,6 +43,8 @@ pub(crate) enum Input {
     Headed(&'static [[u8; 5]]),
     /// These packets of PATs, with counters from 0 on.
     LongPats(&'static [PatPart]),
+    /// Packets with bytes before or behind each.
+    Units(Units),
 }
 
 /// The bytes of the file.
@@ -58,6 +72,7 @@ pub(crate) fn input_bytes(alloc: Global, input: Input) -> Result<Vec<u8>, AllocE
         }
         Input::Headed(heads) => push_headed(&mut bytes, heads)?,
         Input::LongPats(parts) => push_parts(&mut bytes, parts)?,
+        Input::Units(units) => push_units(&mut bytes, units)?,
     }
     Ok(bytes)
 }
@@ -68,6 +83,22 @@ fn push_packets(bytes: &mut Vec<u8>, pids: &[u16]) -> Result<(), AllocError> {
         let before = pids[..i].iter().filter(|p| **p == *pid).count();
         push_packet(bytes, *pid, (before % 16) as u8)?;
     }
+    Ok(())
+}
+
+/// The first bytes of packets on these PIDs, each with what stands before and behind it.
+fn push_units(bytes: &mut Vec<u8>, units: Units) -> Result<(), AllocError> {
+    for (i, pid) in units.pids.iter().enumerate() {
+        for _ in 0..units.before {
+            bytes.push(BESIDE_BYTE)?;
+        }
+        let before = units.pids[..i].iter().filter(|p| **p == *pid).count();
+        push_packet(bytes, *pid, (before % 16) as u8)?;
+        for _ in 0..units.behind {
+            bytes.push(BESIDE_BYTE)?;
+        }
+    }
+    bytes.truncate(units.len);
     Ok(())
 }
 

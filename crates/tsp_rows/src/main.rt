@@ -18,6 +18,7 @@ mod failing_reads;
 mod failing_writes;
 mod fault_rows;
 mod following_gate;
+mod form_rows;
 mod generated_rows;
 mod inputs;
 mod keeping_gate;
@@ -72,7 +73,7 @@ fn print_worked<R: Threads + Wait + Sync + Print + AllocGlobal>(rt: &R) -> Resul
 
 /// Prints the rows of all tables, and how many of them come to the same by both calls.
 fn print_tables<R: Threads + Wait + Sync + Print + AllocGlobal>(rt: &R) -> Result<()> {
-    let tables: [&[Row]; 29] = [
+    let tables: [&[Row]; 30] = [
         end_rows::rows(),
         plugin_rows::rows(),
         plugin_rows::of_watchers(),
@@ -96,6 +97,7 @@ fn print_tables<R: Threads + Wait + Sync + Print + AllocGlobal>(rt: &R) -> Resul
         failing_ends::rows(),
         small_pieces::rows(),
         lawless_packets::rows(),
+        form_rows::rows(),
         word_rows::rows(),
         edit_rows::of_words(),
         service_rows::of_words(),
