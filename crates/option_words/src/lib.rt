@@ -14,6 +14,7 @@ mod signs;
 mod words_rule;
 
 pub use commands::{command_with, new_command, with_flag, with_operand, with_operands, with_value};
+pub use number::read_number_within;
 pub use option_word::OptionWord;
 pub use parsed_options::ParsedOptions;
 pub use refusal::Refusal;

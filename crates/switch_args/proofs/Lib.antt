@@ -1,0 +1,4 @@
+mod FormLemmas
+mod WordsBackLemmas
+mod LawfulLemmas
+mod Rows

@@ -1,0 +1,3 @@
+pub mod SwitchWords
+pub mod LawfulSettings
+pub mod Readings

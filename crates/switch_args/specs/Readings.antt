@@ -1,0 +1,49 @@
+-- The words as they are read. This project's own rule.
+use Rattle.std.specs.Prelude.{◌≡◌, ℕ, List, Bool, true, false, Some, None, Result, Ok, Err}
+use Rattle.switch_args.specs.declared.reading.Reading.{Reading}
+use Rattle.switch_args.specs.declared.reading.Expected as code
+use Rattle.switch_args.specs.declared.reading.Expected.TheVariants.{OptionOrInput, Cycle, Buffer, InputKind, InputName, InputOrOutput, OutputKind, OutputName, Nothing}
+use Rattle.switch_args.specs.declared.settings.SwitchOutput.{SwitchOutput}
+use Rattle.switch_args.specs.declared.settings.SwitchOutput.TheVariants as out
+use Rattle.switch_args.specs.SwitchWords.{Given, Output, to_file, dropped, Expected, an_option_or_input, the_cycle, the_buffer, the_input_kind, the_input_name, an_input_or_output, the_output_kind, the_output_name, nothing, place, step, may_end, read_of, IsFirstFault}
+use Rattle.switch_args.specs.declared.settings.SwitchSettings.{SwitchSettings}
+use Rattle.switch_args.specs.declared.words.WordsFault.{WordsFault}
+use Rattle.switch_args.specs.declared.words.WordsFault.TheVariants.{At, NoMemory}
+
+abbrev pub expected_of : code.Expected → Expected
+expected_of OptionOrInput = an_option_or_input
+expected_of Cycle = the_cycle
+expected_of Buffer = the_buffer
+expected_of InputKind = the_input_kind
+expected_of InputName = the_input_name
+expected_of InputOrOutput = an_input_or_output
+expected_of OutputKind = the_output_kind
+expected_of OutputName = the_output_name
+expected_of Nothing = nothing
+
+abbrev pub output_of : SwitchOutput → Output
+output_of (out.File name) = to_file name
+output_of out.Drop = dropped
+
+abbrev pub given_of : Reading → Given
+given_of r = record { cycle = r.cycle; buffer = r.buffer; inputs = r.inputs.items; output = output_of r.output }
+
+-- the word may stand there, and this is what is given and expected behind it; or it may not
+abbrev pub Went : Reading → List ℕ → Bool → Reading → Type 0
+Went old word true new = step (given_of old) (expected_of old.expected) word ≡ Some (place (given_of new) (expected_of new.expected))
+Went old word false new = step (given_of old) (expected_of old.expected) word ≡ None
+
+abbrev pub given_of_settings : SwitchSettings → Given
+given_of_settings w = record { cycle = w.cycle; buffer = w.buffer; inputs = w.inputs.items; output = output_of w.output }
+
+-- the words end at a place: they are whole, or not
+abbrev pub EndsAt : Reading → ℕ → Result SwitchSettings WordsFault → Type 0
+EndsAt r at (Ok w) = may_end (place (given_of r) (expected_of r.expected)) ≡ Some (given_of_settings w)
+EndsAt r at (Err (At word)) = (may_end (place (given_of r) (expected_of r.expected)) ≡ None) × (word ≡ at)
+EndsAt r at (Err NoMemory) = Unit {0}
+
+-- the words are read, or this is their first fault, or memory was wanting
+abbrev pub ReadsWords : List (List ℕ) → Result SwitchSettings WordsFault → Type 0
+ReadsWords words (Ok w) = read_of words ≡ Some (given_of_settings w)
+ReadsWords words (Err (At word)) = IsFirstFault words word
+ReadsWords words (Err NoMemory) = Unit {0}

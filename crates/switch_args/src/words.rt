@@ -1,0 +1,36 @@
+//! All words of a command line.
+ghost use Rattle.std.specs.Prelude.{◌≡◌, List, map, IfOk};
+ghost use Rattle.std.specs.String.{string_bytes};
+ghost use Rattle.switch_args.specs.Readings.{ReadsWords, given_of_settings};
+ghost use Rattle.switch_args.specs.LawfulSettings.{IsLawful};
+
+use crate::reading::Reading;
+use crate::settings::SwitchSettings;
+use std::alloc::{AllocError, Global};
+
+/// Why words were not read.
+#[derive(Debug, Clone, Copy, PartialEq, Eq)]
+pub enum WordsFault {
+    /// They are not of the form, and this is the first word at which no list of the form goes on, or their number.
+    At { word: usize },
+    /// Memory was wanting.
+    NoMemory,
+}
+
+/// Reads the words, given without the program's name: `--cycle N` and `--buffer-packets N` in any order, each at most
+/// once; `-I file NAME`, once for each input; and at most once `-O file NAME` or `-O drop`.
+pub fn read_words(alloc: Global, words: &[String]) -> Result<SwitchSettings, WordsFault>
+    ensures read { ReadsWords (map string_bytes words.now) result }
+    ensures lawful { IfOk result (λ settings. IsLawful (given_of_settings settings)) }
+{
+    let mut reading = Reading::new(alloc);
+    let mut at = 0;
+    while at < words.len() {
+        match reading.take(alloc, words[at].as_str()) {
+            Ok(true) => at += 1,
+            Ok(false) => return Err(WordsFault::At { word: at }),
+            Err(AllocError) => return Err(WordsFault::NoMemory),
+        }
+    }
+    reading.end(at)
+}
