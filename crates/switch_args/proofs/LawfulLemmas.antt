@@ -13,7 +13,7 @@ use Rattle.switch_args.specs.SwitchWords.{Given, Output, to_file, dropped, Expec
 use Rattle.switch_args.specs.LawfulSettings.{IsLawful, IsLawfulOutput}
 
 -- how many inputs there are at a place: none before the first, and room for one that is expected
-CountsInputs : Expected → ℕ → Type 0
+abbrev CountsInputs : Expected → ℕ → Type 0
 CountsInputs an_option_or_input n = n ≡ 0
 CountsInputs the_cycle n = n ≡ 0
 CountsInputs the_buffer n = n ≡ 0
@@ -33,9 +33,9 @@ record IsLawfulTo (p : Place) : Type 0 where
   output : IsLawfulOutput p.given.output
 
 -- a place that is reached: by this word, or by another rule
-so : {b : Bool} {p q : Place} {rest : Option Place} → if_so b p rest ≡ Some q → ((b ≡ true) × (p ≡ q)) ⊎ (rest ≡ Some q)
-so {true} e = inl (refl, (let f = e in cc))
-so {false} e = inr e
+so : (b : Bool) (p : Place) (rest : Option Place) (q : Place) → if_so b p rest ≡ Some q → ((b ≡ true) × (p ≡ q)) ⊎ (rest ≡ Some q)
+so true p rest q e = inl (refl, (let f = e in cc))
+so false p rest q e = inr e
 
 never : {q : Place} → None ≡ Some q → ⊥
 never e = cc
@@ -49,8 +49,8 @@ inside least most text n e = by-number (number_of text) e
     by-number (Some m) e = grind (arith, nat_tests, e)
 
 both : {a b : Bool} → (a && b) ≡ true → (a ≡ true) × (b ≡ true)
-both {true} e = (refl, e)
-both {false} e = absurd (let bad : false ≡ true = e in cc)
+both {a = true} e = (refl, e)
+both {a = false} e = absurd (let bad : false ≡ true = e in cc)
 
 all-more : (names : List (List ℕ)) (name : List ℕ) → list_all is_name names ≡ true → is_name name ≡ true → list_all is_name (names ++ name ∷ []) ≡ true
 all-more [] name all is = ap (λ b. b && true) is
@@ -74,27 +74,30 @@ number-step least most word at q e = by-number (number_within least most word) r
     by-number (Some n) is e = (let i = inside least most word n is in (n, i.0, i.1, (let f = e in cc)))
 
 step-lawful : (g : Given) (e : Expected) (word : List ℕ) (q : Place) → IsLawfulTo (place g e) → step g e word ≡ Some q → IsLawfulTo q
-step-lawful g an_option_or_input word q l is = elim (so is) [
-  | inl s ↦ subst IsLawfulTo s.1 (record { cycle = l.cycle; buffer = l.buffer; counts = l.counts; names = l.names; output = l.output })
-  | inr more ↦ elim (so more) [
-    | inl s ↦ subst IsLawfulTo s.1 (record { cycle = l.cycle; buffer = l.buffer; counts = l.counts; names = l.names; output = l.output })
-    | inr more ↦ elim (so more) [
-      | inl s ↦ subst IsLawfulTo s.1 (record { cycle = l.cycle; buffer = l.buffer; counts = (let n = l.counts in omega (arith, n)); names = l.names; output = l.output })
-      | inr bad ↦ absurd (never bad)
+step-lawful g an_option_or_input word q l is =
+    let first = if_so (bytes_eq word (codes "-I")) (place g the_input_kind) None in
+    let buffer = if_so (bytes_eq word (codes "--buffer-packets") && is_none g.buffer) (place g the_buffer) first in
+    elim (so (bytes_eq word (codes "--cycle") && is_none g.cycle) (place g the_cycle) buffer q is) [
+      | inl s ↦ subst IsLawfulTo s.1 (record { cycle = l.cycle; buffer = l.buffer; counts = l.counts; names = l.names; output = l.output })
+      | inr more ↦ elim (so (bytes_eq word (codes "--buffer-packets") && is_none g.buffer) (place g the_buffer) first q more) [
+        | inl s ↦ subst IsLawfulTo s.1 (record { cycle = l.cycle; buffer = l.buffer; counts = l.counts; names = l.names; output = l.output })
+        | inr more ↦ elim (so (bytes_eq word (codes "-I")) (place g the_input_kind) None q more) [
+          | inl s ↦ subst IsLawfulTo s.1 (record { cycle = l.cycle; buffer = l.buffer; counts = (let n = l.counts in omega (arith, n)); names = l.names; output = l.output })
+          | inr bad ↦ absurd (never bad)
+        ]
+      ]
     ]
-  ]
-]
 step-lawful g the_cycle word q l is =
     let s = number-step 1 1000 word (λ n. place (record g { cycle = Some n }) an_option_or_input) q is in
     subst IsLawfulTo s.3 (record { cycle = (s.1, s.2); buffer = l.buffer; counts = l.counts; names = l.names; output = l.output })
 step-lawful g the_buffer word q l is =
     let s = number-step 1 1000000 word (λ n. place (record g { buffer = Some n }) an_option_or_input) q is in
     subst IsLawfulTo s.3 (record { cycle = l.cycle; buffer = (s.1, s.2); counts = l.counts; names = l.names; output = l.output })
-step-lawful g the_input_kind word q l is = elim (so is) [
+step-lawful g the_input_kind word q l is = elim (so (bytes_eq word (codes "file")) (place g the_input_name) None q is) [
   | inl s ↦ subst IsLawfulTo s.1 (record { cycle = l.cycle; buffer = l.buffer; counts = l.counts; names = l.names; output = l.output })
   | inr bad ↦ absurd (never bad)
 ]
-step-lawful g the_input_name word q l is = elim (so is) [
+step-lawful g the_input_name word q l is = elim (so (is_name word) (place (record g { inputs = g.inputs ++ word ∷ [] }) an_input_or_output) None q is) [
   | inl s ↦ subst IsLawfulTo s.1 (record {
     cycle = l.cycle;
     buffer = l.buffer;
@@ -104,21 +107,25 @@ step-lawful g the_input_name word q l is = elim (so is) [
   })
   | inr bad ↦ absurd (never bad)
 ]
-step-lawful g an_input_or_output word q l is = elim (so is) [
-  | inl s ↦ subst IsLawfulTo s.1 (record { cycle = l.cycle; buffer = l.buffer; counts = ltb-true (length g.inputs) 32 (both s.0).1; names = l.names; output = l.output })
-  | inr more ↦ elim (so more) [
-    | inl s ↦ subst IsLawfulTo s.1 (record { cycle = l.cycle; buffer = l.buffer; counts = l.counts; names = l.names; output = l.output })
-    | inr bad ↦ absurd (never bad)
-  ]
-]
-step-lawful g the_output_kind word q l is = elim (so is) [
-  | inl s ↦ subst IsLawfulTo s.1 (record { cycle = l.cycle; buffer = l.buffer; counts = l.counts; names = l.names; output = l.output })
-  | inr more ↦ elim (so more) [
-    | inl s ↦ subst IsLawfulTo s.1 (record { cycle = l.cycle; buffer = l.buffer; counts = l.counts; names = l.names; output = tt })
-    | inr bad ↦ absurd (never bad)
-  ]
-]
-step-lawful g the_output_name word q l is = elim (so is) [
+step-lawful g an_input_or_output word q l is =
+    let output = if_so (bytes_eq word (codes "-O")) (place g the_output_kind) None in
+    elim (so (bytes_eq word (codes "-I") && nat_lt (length g.inputs) 32) (place g the_input_kind) output q is) [
+      | inl s ↦ subst IsLawfulTo s.1 (record { cycle = l.cycle; buffer = l.buffer; counts = ltb-true (length g.inputs) 32 (both s.0).1; names = l.names; output = l.output })
+      | inr more ↦ elim (so (bytes_eq word (codes "-O")) (place g the_output_kind) None q more) [
+        | inl s ↦ subst IsLawfulTo s.1 (record { cycle = l.cycle; buffer = l.buffer; counts = l.counts; names = l.names; output = l.output })
+        | inr bad ↦ absurd (never bad)
+      ]
+    ]
+step-lawful g the_output_kind word q l is =
+    let drop = if_so (bytes_eq word (codes "drop")) (place (record g { output = dropped }) nothing) None in
+    elim (so (bytes_eq word (codes "file")) (place g the_output_name) drop q is) [
+      | inl s ↦ subst IsLawfulTo s.1 (record { cycle = l.cycle; buffer = l.buffer; counts = l.counts; names = l.names; output = l.output })
+      | inr more ↦ elim (so (bytes_eq word (codes "drop")) (place (record g { output = dropped }) nothing) None q more) [
+        | inl s ↦ subst IsLawfulTo s.1 (record { cycle = l.cycle; buffer = l.buffer; counts = l.counts; names = l.names; output = tt })
+        | inr bad ↦ absurd (never bad)
+      ]
+    ]
+step-lawful g the_output_name word q l is = elim (so (is_name word) (place (record g { output = to_file word }) nothing) None q is) [
   | inl s ↦ subst IsLawfulTo s.1 (record { cycle = l.cycle; buffer = l.buffer; counts = l.counts; names = l.names; output = output-name word s.0 })
   | inr bad ↦ absurd (never bad)
 ]
@@ -126,11 +133,11 @@ step-lawful g nothing word q l is = absurd (never is)
 
 after-lawful : (p : Place) (words : List (List ℕ)) (q : Place) → IsLawfulTo p → place_after p words ≡ Some q → IsLawfulTo q
 after-lawful p [] q l is = subst IsLawfulTo (let f = is in cc) l
-after-lawful p (word ∷ words) q l is = by-step (step p.given p.expected word) refl is
+after-lawful p (word ∷ words) q l is = by-step (λ r s. after-lawful r words q (step-lawful p.given p.expected word r l s)) (step p.given p.expected word) refl is
   where
-    by-step : (o : Option Place) → step p.given p.expected word ≡ o → option_and_then (λ r. place_after r words) o ≡ Some q → IsLawfulTo q
-    by-step None s e = absurd (never e)
-    by-step (Some r) s e = after-lawful r words q (step-lawful p.given p.expected word r l s) e
+    by-step : ((r : Place) → step p.given p.expected word ≡ Some r → place_after r words ≡ Some q → IsLawfulTo q) → (o : Option Place) → step p.given p.expected word ≡ o → option_and_then (λ r. place_after r words) o ≡ Some q → IsLawfulTo q
+    by-step law None s e = absurd (never e)
+    by-step law (Some r) s e = law r s e
 
 end-lawful : (g : Given) (e : Expected) (given : Given) → IsLawfulTo (place g e) → may_end (place g e) ≡ Some given → IsLawful given
 end-lawful g an_input_or_output given l is = subst IsLawful (let f = is in cc) (record { cycle = l.cycle; buffer = l.buffer; some = l.counts.0; few = l.counts.1; names = l.names; output = l.output })

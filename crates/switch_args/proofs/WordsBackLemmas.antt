@@ -1,6 +1,6 @@
 -- The words of settings, written out, are read as these settings.
 use Rattle.std.proofs.Common.{◌≡◌, ℕ, ◌+◌, ◌<◌, ◌≤◌, ◌^◌, List, [], ◌∷◌, ◌++◌, length, Option, None, Some, Bool, true, false, refl, ap, sym, ◌∙◌, subst, arith, append-nil, append_assoc}
-use Rattle.std.specs.Prelude.{option_and_then, codes, ◌&&◌, nat_lt, nat_eq, if◌then◌else◌, IfSome}
+use Rattle.std.specs.Prelude.{option_and_then, codes, ◌&&◌, nat_lt, nat_eq, if◌then◌else◌, IfSome, drop}
 use Rattle.std.specs.Fmt.{decimal}
 use Rattle.std.specs.Char.{digit_value}
 use Rattle.std.specs.List.{starts_with, list_all}
@@ -35,7 +35,7 @@ number-of-decimal : (n : ℕ) → n < 2 ^ 64 → number_of (decimal n) ≡ Some 
 unfolding number_of
 number-of-decimal n small =
     let k = decimal_is_IsNumeral n small in
-    ap (λ b. if b then numeral 16 _ else numeral 10 (decimal n)) (no-sign (decimal n) k.0.1)
+    ap (λ b. if b then numeral 16 (drop 2 (decimal n)) else numeral 10 (decimal n)) (no-sign (decimal n) k.0.1)
     ∙ ap (λ b. if b then Some (digits_value 10 (decimal n)) else None) (and_from _ _ (lt-ltb 0 (length (decimal n)) k.0.0) (numeral-test (decimal n) k.0.1))
     ∙ ap Some k.1
 

@@ -2,6 +2,7 @@ use Rattle.std.proofs.Common.{◌≡◌, ◌+◌, suc, ◌<◌, length, map, tak
 use Rattle.std.specs.String.{string_bytes}
 use Rattle.switch_args.specs.SwitchWords.{place, place_after, start, step}
 use Rattle.switch_args.specs.Readings.{Went, given_of, expected_of}
+use Rattle.switch_args.proofs.LawfulLemmas.{result-lawful}
 use Rattle.switch_args.proofs.FormLemmas.{more, no-more, map-at, map-many, ends-whole}
 use Rattle.switch_args.proofs.words.read_words.Goals as goal
 
@@ -19,8 +20,8 @@ loop-at-preserved c =
           (subst (λ w. step (given_of c.loop-at.reading) (expected_of c.loop-at.reading.expected) w ≡ Some (place (given_of c.take.new.self) (expected_of c.take.new.self.expected))) (sym is) went)),
     )
 
-pub returns-in-Ok-false : goal.returns-in-Ok-false
-returns-in-Ok-false c =
+pub returns-in-Ok-false-clause-read : goal.returns-in-Ok-false-clause-read
+returns-in-Ok-false-clause-read c =
     let ws = map string_bytes c.args.words.now in
     let at = c.loop-at.at in
     let lt : at < length c.args.words.now = c.loop-at-test.true in
@@ -29,8 +30,14 @@ returns-in-Ok-false c =
     no-more ws at _ (string_bytes c.index-words-at.result) (let m = map-many string_bytes c.args.words.now in omega (arith, m, lt)) c.loop-at.invariant.1
     (subst (λ w. step (given_of c.loop-at.reading) (expected_of c.loop-at.reading.expected) w ≡ None) (sym is) went)
 
-pub returns : goal.returns
-returns c =
+pub returns-clause-read : goal.returns-clause-read
+returns-clause-read c =
     let ws = map string_bytes c.args.words.now in
     let many : c.loop-at.at ≡ length ws = (let m = map-many string_bytes c.args.words.now in let a = c.loop-at.invariant.0 in let b = c.loop-at-test.false in omega (arith, m, a, b)) in
     ends-whole ws c.loop-at.at c.loop-at.reading c.end.result many c.loop-at.invariant.1 c.end.ensures
+
+pub returns-clause-lawful : goal.returns-clause-lawful
+returns-clause-lawful c =
+    let ws = map string_bytes c.args.words.now in
+    let many : c.loop-at.at ≡ length ws = (let m = map-many string_bytes c.args.words.now in let a = c.loop-at.invariant.0 in let b = c.loop-at-test.false in omega (arith, m, a, b)) in
+    result-lawful ws c.end.result (ends-whole ws c.loop-at.at c.loop-at.reading c.end.result many c.loop-at.invariant.1 c.end.ensures)
