@@ -1,0 +1,10 @@
+mod PlayNameLemmas
+mod SwitchLemmas
+mod StepLemmas
+mod Rows
+mod SwitchedLaws
+mod FirstLemmas
+mod EndLemmas
+mod PlanLemmas
+mod CallLaws
+mod TheoremLemmas

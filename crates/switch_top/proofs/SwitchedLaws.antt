@@ -1,0 +1,91 @@
+-- Plays that were played to their ends are those of the switched list, and their lines are its report.
+use Rattle.std.proofs.Common.{◌≡◌, ℕ, ◌+◌, List, [], ◌∷◌, ◌++◌, length, map, Option, Some, refl, ap, sym, ◌∙◌, subst, append-nil, append_assoc}
+use Rattle.std.specs.Prelude.{IfSome, if◌then◌else◌}
+use Rattle.std.specs.List.{flat_map}
+use Rattle.ts_packet.specs.declared.cell.Cell.{Cell}
+use Rattle.ts_outside.specs.Desk.{DeskView, file_of}
+use Rattle.chain_model.specs.declared.input_end.InputEnd.{InputEnd}
+use Rattle.chain_model.specs.declared.input_end.InputEnd.TheVariants.{End, Sync, ReadFault, TooLong}
+use Rattle.chain_model.specs.Apply.{OwnEnd, input_over}
+use Rattle.window_ring.specs.Views.{Each}
+use Rattle.play_run.specs.declared.played.PlayEnd.TheVariants.{Input}
+use Rattle.play_run.specs.Played.{play_of}
+use Rattle.switch_top.specs.PlayNames.{PlayName}
+use Rattle.switch_top.specs.Lines.{play_line, switch_end_line}
+use Rattle.switch_top.specs.Switched.{PlayList, lists_of, is_plain, played, switched, end_of_list, line_of, last_of, end_of_plays, switched_report}
+use Rattle.switch_top.specs.SoFar.{Behind, IsBehind, names_of, cells_of, lines_of}
+use Rattle.switch_top.proofs.SwitchLemmas.{flat-append, length-append}
+
+-- the packets of plays, whether they are played or not
+abbrev pub all-cells : List PlayList → List Cell
+all-cells plays = flat_map (λ (p : PlayList). p.list.cells) plays
+
+-- a play that ends plainly is played, and so are those behind it
+plain-on : (play : PlayList) (rest : List PlayList) (left : ℕ) → play.list.ended ≡ Some (input_over (End left)) → played (play ∷ rest) ≡ play ∷ played rest
+plain-on play rest left e = subst (λ (o : Option OwnEnd). (play ∷ (if is_plain o then played rest else [])) ≡ play ∷ played rest) (sym e) refl
+
+-- behind the last one nothing is played
+pub last-on : (play : PlayList) (later : List PlayList) (how : InputEnd) → play.list.ended ≡ Some (input_over how) → ((left : ℕ) → how ≡ End left → later ≡ []) → played (play ∷ later) ≡ play ∷ []
+last-on play later how e none = subst (λ (o : Option OwnEnd). (play ∷ (if is_plain o then played later else [])) ≡ play ∷ []) (sym e) (by-how how none)
+  where
+    by-how : (how : InputEnd) → ((left : ℕ) → how ≡ End left → later ≡ []) → (play ∷ (if is_plain (Some (input_over how)) then played later else [])) ≡ play ∷ []
+    by-how (End left) none = ap (λ l. play ∷ played l) (none left refl)
+    by-how (Sync packet) none = refl
+    by-how ReadFault none = refl
+    by-how TooLong none = refl
+
+module _ (start : DeskView) (files : List (List ℕ × List ℕ)) (told : start.files ≡ Some files) where
+  pub bytes-told : (bytes name : List ℕ) → IfSome start.files (λ fs. bytes ≡ file_of fs name) → bytes ≡ file_of files name
+  bytes-told bytes name t = subst (λ (o : Option (List (List ℕ × List ℕ))). IfSome o (λ fs. bytes ≡ file_of fs name)) told t
+
+  plain-file : (b : Behind) → IsBehind start b → (play_of (file_of files b.play.name)).ended ≡ Some (input_over (End b.left))
+  plain-file b is = ap (λ l. (play_of l).ended) (sym (bytes-told b.bytes b.play.name is.told)) ∙ is.plain
+
+  -- all plays behind are played
+  pub behind-on : (behind : List Behind) (rest : List PlayName) → Each (IsBehind start) behind → played (lists_of files (names_of behind ++ rest)) ≡ lists_of files (names_of behind) ++ played (lists_of files rest)
+  behind-on [] rest all = refl
+  behind-on (b ∷ bs) rest all =
+      plain-on (record { input = b.play.input; list = play_of (file_of files b.play.name) }) (lists_of files (names_of bs ++ rest)) b.left (plain-file b all.0)
+      ∙ ap (λ l. record { input = b.play.input; list = play_of (file_of files b.play.name) } ∷ l) (behind-on bs rest all.1)
+
+  -- and their packets are those of their files
+  pub behind-cells : (behind : List Behind) → Each (IsBehind start) behind → all-cells (lists_of files (names_of behind)) ≡ cells_of behind
+  behind-cells [] all = refl
+  behind-cells (b ∷ bs) all =
+      ap (λ l. (play_of (file_of files b.play.name)).cells ++ l) (behind-cells bs all.1)
+      ∙ ap (λ z. (play_of z).cells ++ cells_of bs) (sym (bytes-told b.bytes b.play.name all.0.told))
+
+  -- and so are their lines
+  behind-line : (b : Behind) → IsBehind start b → line_of (record { input = b.play.input; list = play_of (file_of files b.play.name) }) ≡ play_line b.play.input (length (play_of b.bytes).cells) (Input (End b.left))
+  behind-line b is =
+      ap (λ (o : Option OwnEnd). play_line b.play.input (length (play_of (file_of files b.play.name)).cells) (end_of_list o)) (plain-file b is)
+      ∙ ap (λ z. play_line b.play.input (length (play_of z).cells) (Input (End b.left))) (sym (bytes-told b.bytes b.play.name is.told))
+
+  pub behind-lines : (behind : List Behind) → Each (IsBehind start) behind → flat_map line_of (lists_of files (names_of behind)) ≡ lines_of behind
+  behind-lines [] all = refl
+  behind-lines (b ∷ bs) all =
+      ap (λ l. line_of (record { input = b.play.input; list = play_of (file_of files b.play.name) }) ++ l) (behind-lines bs all.1)
+      ∙ ap (λ l. l ++ lines_of bs) (behind-line b all.0)
+
+  pub behind-played : (behind : List Behind) (rest : List PlayName) → Each (IsBehind start) behind → switched (lists_of files (names_of behind ++ rest)) ≡ cells_of behind ++ switched (lists_of files rest)
+  behind-played behind rest all =
+      ap all-cells (behind-on behind rest all)
+      ∙ flat-append (λ (p : PlayList). p.list.cells) (lists_of files (names_of behind)) (played (lists_of files rest))
+      ∙ ap (λ l. l ++ switched (lists_of files rest)) (behind-cells behind all)
+
+last-append : (play : PlayList) (plays : List PlayList) (last : PlayList) → last_of play (plays ++ last ∷ []) ≡ last
+last-append play [] last = refl
+last-append play (next ∷ plays) last = last-append next plays last
+
+end-append : (count : ℕ) (plays : List PlayList) (last : PlayList) → end_of_plays count (plays ++ last ∷ []) ≡ switch_end_line last.input (end_of_list last.list.ended) count
+end-append count [] last = refl
+end-append count (play ∷ plays) last = ap (λ (l : PlayList). switch_end_line l.input (end_of_list l.list.ended) count) (last-append play plays last)
+
+-- the report of plays of which so many are behind and one is the last
+pub report-of : (behind : List PlayList) (last : PlayList) (plays : List PlayList) → played plays ≡ behind ++ last ∷ []
+    → switched_report plays ≡ flat_map line_of behind ++ (line_of last ++ switch_end_line last.input (end_of_list last.list.ended) (length (switched plays)))
+report-of behind last plays is =
+    ap (λ l. flat_map line_of l ++ end_of_plays (length (switched plays)) l) is
+    ∙ ap (λ l. l ++ end_of_plays (length (switched plays)) (behind ++ last ∷ [])) (flat-append line_of behind (last ∷ []) ∙ ap (λ l. flat_map line_of behind ++ l) (append-nil (line_of last)))
+    ∙ append_assoc (flat_map line_of behind) (line_of last) (end_of_plays (length (switched plays)) (behind ++ last ∷ []))
+    ∙ ap (λ l. flat_map line_of behind ++ (line_of last ++ l)) (end-append (length (switched plays)) behind last)

@@ -1,0 +1,10 @@
+pub mod PlayNames
+pub mod Lines
+pub mod Switched
+pub mod Nexts
+pub mod SoFar
+pub mod SwitchEnds
+pub mod SwitchExit
+pub mod SwitchPlans
+pub mod SwitchCall
+pub mod SwitchTheorem

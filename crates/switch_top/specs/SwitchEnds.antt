@@ -1,0 +1,152 @@
+-- How a call ends behind its plays: what is written, reported and answered. This project's own rule.
+use Rattle.std.specs.Prelude.{◌≡◌, ◌⊎◌, ℕ, ◌+◌, ◌-◌, ◌^◌, ◌<◌, min, List, [], ◌∷◌, ◌++◌, length, take, drop, codes, Bool, true, false, ◌||◌, if◌then◌else◌, Option, None, Some, IfSome}
+use Rattle.std.specs.Option.{option_map}
+use Rattle.ts_packet.specs.declared.cell.Cell.{Cell}
+use Rattle.ts_outside.specs.Sink.{SinkView}
+use Rattle.ts_outside.specs.Source.{SourceView}
+use Rattle.ts_outside.specs.Told.{grown}
+use Rattle.ts_outside.specs.Count.{HasCause}
+use Rattle.ts_outside.specs.declared.requests.Asked.{Asked}
+use Rattle.ts_outside.specs.declared.requests.Purpose.TheVariants as purpose
+use Rattle.ts_outside.specs.Desk.{DeskView, file_of, output_closed, asked_well, asked_in_vain}
+use Rattle.ts_outside.specs.Saying.{Says}
+use Rattle.ts_outside.specs.Entries.{outputs_with}
+use Rattle.chain_model.specs.declared.input_end.InputEnd.TheVariants as how
+use Rattle.chain_model.specs.Written.{written}
+use Rattle.stage_run.specs.OutputStands.{IsPartOfFirst}
+use Rattle.stage_run.specs.declared.output_part.OutputPart.{OutputPart}
+use Rattle.stage_run.specs.declared.output_part.OutputPart.TheVariants as out
+use Rattle.window_ring.specs.Views.{Each}
+use Rattle.play_run.specs.declared.played.PlayEnd.{PlayEnd}
+use Rattle.play_run.specs.declared.played.PlayEnd.TheVariants.{Input, WriteFault}
+use Rattle.play_run.specs.Played.{play_of, EndsAs}
+use Rattle.switch_args.specs.SwitchWords.{Output, to_file, dropped}
+use Rattle.switch_top.specs.declared.status.SwitchStatus.{SwitchStatus}
+use Rattle.switch_top.specs.declared.status.SwitchStatus.TheVariants as status
+use Rattle.switch_top.specs.PlayNames.{PlayName}
+use Rattle.switch_top.specs.Lines.{play_line, switch_end_line}
+use Rattle.switch_top.specs.SoFar.{Behind, IsBehind, names_of, cells_of, lines_of, all_asked, asked_of, with_inputs, LastRead, AskedFirst, AsksNext}
+
+-- the status of the last play's end; the input's number is told in 32 bits
+abbrev pub status_of : ℕ → PlayEnd → SwitchStatus
+status_of input (Input (how.End left)) = status.Done
+status_of input (Input (how.Sync packet)) = status.Sync (min input (2 ^ 32 - 1)) packet
+status_of input (Input how.ReadFault) = status.ReadFault
+status_of input (Input how.TooLong) = status.TooLong
+status_of input WriteFault = status.WriteFault
+
+-- where a report or the closing of the output failed
+abbrev pub when_late : SwitchStatus → SwitchStatus
+when_late status.Done = status.WriteFault
+when_late other = other
+
+-- the text is reported and the status tells the end; or memory was wanted for the text, and nothing is reported
+abbrev pub ReportsPlays : List ℕ → ℕ → PlayEnd → Bool → DeskView → DeskView → SwitchStatus → Type 0
+ReportsPlays text input end late old new answer =
+    ((failed : Bool) × Says old new text failed
+    × (answer ≡ (if late || failed then when_late (status_of input end) else status_of input end)))
+    ⊎ ((answer ≡ status.NoMemory) × (new ≡ old))
+
+-- the desk after the output was closed
+abbrev pub closed_as : {K : Type 0} → (K → SinkView) → DeskView → OutputPart K → Bool → DeskView
+closed_as seen desk (out.Stream sink) failed = output_closed desk (seen sink) failed
+closed_as seen desk out.Discard failed = desk
+
+-- what goes nowhere is always closed
+abbrev pub ClosesWell : {K : Type 0} → OutputPart K → Bool → Type 0
+ClosesWell (out.Stream sink) failed = Unit {0}
+ClosesWell out.Discard failed = failed ≡ false
+
+-- the count of the outputs rose by a failed write and where the closing failed, and by nothing else
+pub record CountsOutput (old new : ℕ) (end : PlayEnd) (late : Bool) : Type 0 where
+  pub fault : end ≡ WriteFault → HasCause old new
+  pub late_cause : late ≡ true → HasCause old new
+  pub still : late ≡ false → (end ≡ WriteFault → ⊥) → new ≡ old
+
+-- an output that was opened under a name and took nothing, or none
+abbrev pub IsOutputOf : {K : Type 0} → (K → SinkView) → DeskView → Option (List ℕ) → OutputPart K → Type 0
+IsOutputOf seen desk (Some name) (out.Stream sink) =
+    seen sink ≡ record { taken = option_map (λ _. []) desk.outputs; name = option_map (λ _. name) desk.outputs; faults = 0 }
+IsOutputOf seen desk None out.Discard = Unit {0}
+IsOutputOf seen desk _ _ = ⊥
+
+-- after a failed write alone, a part of the packet behind was taken too
+abbrev pub IsPart : List Cell → ℕ → PlayEnd → List ℕ → Type 0
+IsPart cells n (Input how) part = part ≡ []
+IsPart cells n WriteFault part = IsPartOfFirst (drop n cells) part
+
+-- a call whose plays were played: `start` is the desk when the output was open
+pub record SwitchRan (buffer : ℕ) (names : List PlayName) (output : Option (List ℕ)) (start new : DeskView) (answer : SwitchStatus) : Type 0 where
+  pub behind : List Behind
+  pub all : Each (IsBehind start) behind
+  pub input : ℕ
+  pub name : List ℕ
+  pub later : List PlayName
+  pub names_are : names ≡ names_of behind ++ record { input = input; name = name } ∷ later
+  pub bytes : List ℕ
+  pub told : IfSome start.files (λ files. bytes ≡ file_of files name)
+  pub n : ℕ
+  pub end : PlayEnd
+  pub ends : EndsAs (play_of bytes) n end
+  pub plain_is_last : (left : ℕ) → end ≡ Input (how.End left) → later ≡ []
+  pub part : List ℕ
+  pub part_is : IsPart (play_of bytes).cells n end part
+  pub written_is : new.outputs ≡ outputs_with output start.outputs (written (cells_of behind) ++ (written (take n (play_of bytes).cells) ++ part))
+  pub late : Bool
+  pub closed : DeskView
+  pub reported_before : closed.reported ≡ start.reported
+  pub counted_before : closed.report_faults ≡ start.report_faults
+  pub counts : CountsOutput start.write_faults closed.write_faults end late
+  pub writes : new.write_faults ≡ closed.write_faults
+  pub reported : ReportsPlays (lines_of behind ++ (play_line input n end ++ switch_end_line input end (length (cells_of behind) + n))) input end late closed new answer
+  pub ok : Bool
+  pub ahead : List Asked
+  pub asks_next : AsksNext later ahead
+  pub asked : new.asked ≡ grown start.asked (all_asked behind ++ asked_of ok (record { input = input; name = name }) ∷ ahead)
+  pub sources : List SourceView
+  pub last_read : LastRead buffer start behind name n end ok sources
+  pub closed_in : new.closed_in ≡ with_inputs start.closed_in sources
+  pub files : new.files ≡ start.files
+  pub read_fault : end ≡ Input how.ReadFault → HasCause start.read_faults new.read_faults
+
+-- memory was wanting while the plays were played: what was written begins what they write, and nothing is reported
+pub record SwitchWanted (names : List PlayName) (output : Option (List ℕ)) (start new : DeskView) (answer : SwitchStatus) : Type 0 where
+  pub answer_is : answer ≡ status.NoMemory
+  pub behind : List Behind
+  pub all : Each (IsBehind start) behind
+  pub later : List PlayName
+  pub names_are : names ≡ names_of behind ++ later
+  -- of the next play some packets may have been written
+  pub more : List Cell
+  pub n : ℕ
+  pub end : PlayEnd
+  pub of_next : (more ≡ []) ⊎ ((play : PlayName) × (rest : List PlayName) × (bytes : List ℕ) × (later ≡ play ∷ rest)
+      × IfSome start.files (λ files. bytes ≡ file_of files play.name) × (more ≡ (play_of bytes).cells) × EndsAs (play_of bytes) n end)
+  pub part : List ℕ
+  pub part_is : IsPart more n end part
+  pub written_is : new.outputs ≡ outputs_with output start.outputs (written (cells_of behind) ++ (written (take n more) ++ part))
+  pub reported : new.reported ≡ start.reported
+  pub asked : List Asked
+  pub asked_first : AskedFirst names asked
+  pub asked_is : new.asked ≡ grown start.asked asked
+  pub files : new.files ≡ start.files
+
+-- the name of an output
+abbrev pub output_name : Output → Option (List ℕ)
+output_name (to_file name) = Some name
+output_name dropped = None
+
+-- the desk after the output was opened
+abbrev pub opened_as : DeskView → Option (List ℕ) → DeskView
+opened_as desk None = desk
+opened_as desk (Some name) = asked_well desk purpose.Output name
+
+-- a call from its plan on
+pub data SwitchesPlan (buffer : ℕ) (names : List PlayName) (output : Option (List ℕ)) (old new : DeskView) (answer : SwitchStatus) : Type 0 where
+  -- the output was not opened
+  no_output : (name : List ℕ) → (failed : Bool) → output ≡ Some name → answer ≡ status.WriteFault
+      → Says (asked_in_vain old purpose.Output name) new (codes "tsswitch: cannot open output" ++ 10 ∷ []) failed → SwitchesPlan buffer names output old new answer
+  -- memory was wanting before anything was asked for
+  out_of_memory : answer ≡ status.NoMemory → new ≡ old → SwitchesPlan buffer names output old new answer
+  wanted : SwitchWanted names output (opened_as old output) new answer → SwitchesPlan buffer names output old new answer
+  ran : SwitchRan buffer names output (opened_as old output) new answer → SwitchesPlan buffer names output old new answer

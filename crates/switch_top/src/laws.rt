@@ -1,0 +1,67 @@
+//! What follows from the contract of `switch_call`, in the words of the switched list, as laws: facts and no code.
+ghost use Rattle.std.specs.Prelude.{◌≡◌, ◌⊎◌, ℕ, List, Some};
+ghost use Rattle.ts_outside.specs.Count.{HasCause};
+ghost use Rattle.ts_outside.specs.Desk.{DeskView};
+ghost use Rattle.ts_outside.specs.Faultless.{NothingFails};
+ghost use Rattle.switch_args.specs.SwitchWords.{Given, read_of, IsFirstFault};
+ghost use Rattle.switch_top.specs.declared.status.SwitchStatus.{SwitchStatus};
+ghost use Rattle.switch_top.specs.declared.status.SwitchStatus.TheVariants.{Done, NoMemory, Words, ReadFault, WriteFault};
+ghost use Rattle.switch_top.specs.SwitchCall.{CallsSwitch};
+ghost use Rattle.switch_top.specs.SwitchEnds.{output_name, opened_as};
+ghost use Rattle.switch_top.specs.SwitchTheorem.{lists_given, IsPureSwitch, WritesSwitched, WritesFirst, TellsWhole, NothingLate, AllEndPlainly, ReadFailed};
+
+use switch_args::first_fault_law;
+
+/// Whatever the files, the settings and the buffer, a call that meets no fault outside and no want of memory writes the
+/// packets of the plays up to the first that does not end plainly, reports one line for each of them and the end line, and
+/// answers how the last of them ended.
+pub fn switched_whole()
+    ensures { (words : List (List ℕ)) (given : Given) (files : List (List ℕ × List ℕ)) (old new : DeskView) (answer : SwitchStatus)
+        → read_of words ≡ Some given → old.files ≡ Some files → CallsSwitch words old new answer → NothingFails old new
+        → (answer ≡ NoMemory) ⊎ IsPureSwitch (lists_given given files) (output_name given.output) old new answer }
+{
+    first_fault_law();
+}
+
+/// Whatever fails, what is written begins the bytes of the switched list.
+pub fn switched_first()
+    ensures { (words : List (List ℕ)) (given : Given) (files : List (List ℕ × List ℕ)) (old new : DeskView) (answer : SwitchStatus)
+        → read_of words ≡ Some given → old.files ≡ Some files → CallsSwitch words old new answer
+        → WritesFirst (lists_given given files) (output_name given.output) old new }
+{
+    first_fault_law();
+}
+
+/// Behind `Done`, `Sync` and `TooLong` the whole list is written, also where a play behind the last one failed; these statuses
+/// are that of the list. Its report is what was reported, or begins it where a report failed. Behind `Done` no write and no
+/// report failed.
+pub fn switched_status()
+    ensures whole { (words : List (List ℕ)) (given : Given) (files : List (List ℕ × List ℕ)) (old new : DeskView) (answer : SwitchStatus)
+        → read_of words ≡ Some given → old.files ≡ Some files → CallsSwitch words old new answer → TellsWhole answer
+        → WritesSwitched (lists_given given files) (output_name given.output) old new answer }
+    ensures done { (words : List (List ℕ)) (old new : DeskView) → CallsSwitch words old new Done → NothingLate old new }
+{
+    first_fault_law();
+}
+
+/// Each fault that is told has its cause: `Words` comes exactly where the words are not of the form, `ReadFault` where a read
+/// failed and the failed opening or the closed source shows it, `WriteFault` where a write, a closing or a report failed.
+pub fn switched_faults()
+    ensures words { (words : List (List ℕ)) (old new : DeskView) (word : ℕ) → CallsSwitch words old new (Words word) → IsFirstFault words word }
+    ensures read { (words : List (List ℕ)) (given : Given) (old new : DeskView) → read_of words ≡ Some given
+        → CallsSwitch words old new ReadFault
+        → HasCause old.read_faults new.read_faults × ReadFailed (opened_as old (output_name given.output)) new }
+    ensures write { (words : List (List ℕ)) (old new : DeskView) → CallsSwitch words old new WriteFault
+        → HasCause old.write_faults new.write_faults ⊎ HasCause old.report_faults new.report_faults }
+{
+    first_fault_law();
+}
+
+/// Lawful words whose plays all end plainly, and no rise of a count, give `Done`, or memory was wanting.
+pub fn switched_complete()
+    ensures { (words : List (List ℕ)) (given : Given) (files : List (List ℕ × List ℕ)) (old new : DeskView) (answer : SwitchStatus)
+        → read_of words ≡ Some given → old.files ≡ Some files → CallsSwitch words old new answer → NothingFails old new
+        → AllEndPlainly (lists_given given files) → (answer ≡ Done) ⊎ (answer ≡ NoMemory) }
+{
+    first_fault_law();
+}

@@ -1,0 +1,21 @@
+//! The top call of `tsswitch`: words and a desk come in; the inputs are played one after another, the next one read ahead,
+//! plays are reported, a status comes back. The program uses the clauses of `switch_call` and nothing else.
+#![tactic(auto)]
+
+mod call;
+mod ending;
+mod laws;
+mod lines;
+mod plan;
+mod plays_left;
+mod status;
+mod stepping;
+mod switching;
+
+pub use call::{switch_call, switch_plan};
+pub use laws::{
+    switched_complete, switched_faults, switched_first, switched_status, switched_whole,
+};
+pub use plan::SwitchPlan;
+pub use status::SwitchStatus;
+pub use switch_args::SwitchOutput;

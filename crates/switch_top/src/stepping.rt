@@ -1,0 +1,405 @@
+//! One play after another.
+ghost use Rattle.std.specs.Prelude.{◌≡◌, ◌+◌, ◌<◌, ◌≤◌, ◌^◌, ◌*◌, ℕ, suc, length, List};
+ghost use Rattle.std.specs.String.{string_bytes};
+ghost use Rattle.chain_core.specs.declared.core_plan.CorePlan.{CorePlan};
+ghost use Rattle.chain_core.specs.CoreNumbers.{IsLawfulPlan};
+ghost use Rattle.stage_run.specs.declared.output_part.OutputPart.{OutputPart};
+ghost use Rattle.ts_outside.specs.Desk.{DeskView};
+ghost use Rattle.switch_top.specs.PlayNames.{PlayName, plays_left};
+ghost use Rattle.switch_top.specs.Nexts.{kind_of, CanPlay};
+ghost use Rattle.switch_top.specs.declared.plays_left.PlaysLeft.{PlaysLeft};
+ghost use Rattle.switch_top.specs.SoFar.{SoFar, WasPlayed, IsPresent, IsReady, IsCounted, TakesNext, Steps, AreAllPlayed};
+ghost use Rattle.play_run.specs.declared.played.PlayEnd.TheVariants.{Input};
+ghost use Rattle.chain_model.specs.declared.input_end.InputEnd.TheVariants.{End};
+
+use crate::lines::push_line;
+use crate::plays_left::PlaysLeft;
+use crate::switching::{NextPlay, abandon_next, open_next, play_ahead};
+use chain_core::{CorePlan, InputEnd};
+use play_run::{AheadPlay, NoPlugin, OpenPlay, PlayCut, PlayEnd, PlayedOut};
+use plugin_trait::Plugin;
+use stage_run::OutputPart;
+use std::alloc::{AllocError, Global};
+use std::marker::{Send, Sync};
+use std::sync::Wait;
+use std::thread::Threads;
+use ts_outside::{Desk, Gate, NameText, Sink, Source};
+
+/// Some plays are behind, and this one is open.
+pub(crate) struct Switching<A, K> {
+    pub(crate) left: PlaysLeft,
+    pub(crate) input: usize,
+    pub(crate) now: A,
+    pub(crate) output: OutputPart<K>,
+    pub(crate) count: u128,
+    pub(crate) text: String,
+}
+
+/// The same when it was played: its source is still open.
+pub(crate) struct Played<S, A, K> {
+    pub(crate) left: PlaysLeft,
+    pub(crate) input: usize,
+    pub(crate) next: NextPlay<A>,
+    pub(crate) out: PlayedOut<S, K>,
+    pub(crate) count: u128,
+    pub(crate) text: String,
+}
+
+/// The same when its source was closed.
+pub(crate) struct Present<A, K> {
+    pub(crate) left: PlaysLeft,
+    pub(crate) input: usize,
+    pub(crate) next: NextPlay<A>,
+    pub(crate) output: OutputPart<K>,
+    pub(crate) cut: PlayCut,
+    pub(crate) count: u128,
+    pub(crate) text: String,
+}
+
+/// The plays are over: how many packets all of them gave, their lines, and why the last one ended.
+pub(crate) struct Switched<K> {
+    pub(crate) output: OutputPart<K>,
+    pub(crate) count: u128,
+    pub(crate) text: String,
+    pub(crate) input: usize,
+    pub(crate) end: PlayEnd,
+}
+
+/// What one play came to.
+pub(crate) enum Flow<A, K> {
+    Goes(Switching<A, K>),
+    Over(Switched<K>),
+    /// Memory was wanting.
+    Wants(OutputPart<K>),
+}
+
+/// The play that could not be opened has given nothing.
+const NOTHING: PlayCut = PlayCut {
+    count: 0,
+    end: PlayEnd::Input(InputEnd::ReadFault),
+};
+
+/// Behind a play that ended plainly comes the next one, if there is one.
+fn begin_next<S: Source, A: OpenPlay<S>, K: Sink>(
+    alloc: Global,
+    present: Present<A, K>,
+) -> Flow<A, K>
+    requires counted { (core : CorePlan) × (inputs : List (List ℕ)) × (names : List PlayName) × (start : DeskView) × (first : OutputPart K) × (desk : DeskView) × IsCounted (kind_of S.seen K.seen A.is_open) core inputs names start first present desk }
+    requires plain { (left : ℕ) × (present.cut.end ≡ Input (End left)) }
+    ensures { (core : CorePlan) (inputs : List (List ℕ)) (names : List PlayName) (start : DeskView) (first : OutputPart K) (desk : DeskView)
+        → (left_before : PlaysLeft) → IsCounted (kind_of S.seen K.seen A.is_open) core inputs names start first present desk
+        → TakesNext inputs left_before present.left present.next
+        → Steps (kind_of S.seen K.seen A.is_open) core inputs names start first left_before result desk }
+{
+    let Present {
+        left,
+        input,
+        next,
+        output,
+        cut,
+        count,
+        mut text,
+    } = present;
+    match next {
+        NextPlay::NoMore => Flow::Over(Switched {
+            output,
+            count,
+            text,
+            input,
+            end: cut.end,
+        }),
+        NextPlay::Open { input, play } => Flow::Goes(Switching {
+            left,
+            input,
+            now: play,
+            output,
+            count,
+            text,
+        }),
+        NextPlay::Failed { input } => {
+            if push_line(&mut text, alloc, input, &NOTHING).is_err() {
+                return Flow::Wants(output);
+            }
+            Flow::Over(Switched {
+                output,
+                count,
+                text,
+                input,
+                end: NOTHING.end,
+            })
+        }
+    }
+}
+
+/// Behind a play that did not end plainly nothing more is played.
+fn end_here<R: Wait, D: Desk, A: OpenPlay<D::In>>(
+    rt: &R,
+    desk: &mut D,
+    present: Present<A, D::Out>,
+) -> Flow<A, D::Out>
+    requires counted { (core : CorePlan) × (inputs : List (List ℕ)) × (names : List PlayName) × (start : DeskView) × (first : OutputPart D.Out) × IsCounted (kind_of D.In.seen D.Out.seen A.is_open) core inputs names start first present (D.seen desk.old) }
+    requires other { (left : ℕ) → present.cut.end ≡ Input (End left) → ⊥ }
+    ensures { (core : CorePlan) (inputs : List (List ℕ)) (names : List PlayName) (start : DeskView) (first : OutputPart D.Out)
+        → IsCounted (kind_of D.In.seen D.Out.seen A.is_open) core inputs names start first present (D.seen desk.old)
+        → (left : PlaysLeft) → Steps (kind_of D.In.seen D.Out.seen A.is_open) core inputs names start first left result (D.seen desk.new) }
+{
+    let Present {
+        left: _,
+        input,
+        next,
+        output,
+        cut,
+        count,
+        text,
+    } = present;
+    abandon_next(rt, desk, next);
+    Flow::Over(Switched {
+        output,
+        count,
+        text,
+        input,
+        end: cut.end,
+    })
+}
+
+/// The play's packets are counted and its line is said: the next one begins, or the plays are over.
+fn go_on<R: Wait, D: Desk, A: OpenPlay<D::In>>(
+    rt: &R,
+    alloc: Global,
+    desk: &mut D,
+    present: Present<A, D::Out>,
+) -> Flow<A, D::Out>
+    requires { (core : CorePlan) × (inputs : List (List ℕ)) × (names : List PlayName) × (start : DeskView) × (first : OutputPart D.Out) × IsCounted (kind_of D.In.seen D.Out.seen A.is_open) core inputs names start first present (D.seen desk.old) }
+    ensures { (core : CorePlan) (inputs : List (List ℕ)) (names : List PlayName) (start : DeskView) (first : OutputPart D.Out) (left_before : PlaysLeft)
+        → IsCounted (kind_of D.In.seen D.Out.seen A.is_open) core inputs names start first present (D.seen desk.old)
+        → TakesNext inputs left_before present.left present.next
+        → Steps (kind_of D.In.seen D.Out.seen A.is_open) core inputs names start first left_before result (D.seen desk.new) }
+{
+    match present.cut.end {
+        PlayEnd::Input(InputEnd::End { left: _ }) => begin_next::<D::In, A, D::Out>(alloc, present),
+        PlayEnd::Input(InputEnd::Sync { packet: _ }) => end_here(rt, desk, present),
+        PlayEnd::Input(InputEnd::ReadFault) => end_here(rt, desk, present),
+        PlayEnd::Input(InputEnd::TooLong) => end_here(rt, desk, present),
+        PlayEnd::WriteFault => end_here(rt, desk, present),
+    }
+}
+
+/// Counts the packets of the play at hand and says its line.
+fn say_play<R: Wait, D: Desk, A: OpenPlay<D::In>>(
+    rt: &R,
+    alloc: Global,
+    desk: &mut D,
+    present: Present<A, D::Out>,
+) -> Flow<A, D::Out>
+    requires { (core : CorePlan) × (inputs : List (List ℕ)) × (names : List PlayName) × (start : DeskView) × (first : OutputPart D.Out) × IsPresent (kind_of D.In.seen D.Out.seen A.is_open) core inputs names start first present present.count (string_bytes present.text) (D.seen desk.old) }
+    ensures { (core : CorePlan) (inputs : List (List ℕ)) (names : List PlayName) (start : DeskView) (first : OutputPart D.Out) (left_before : PlaysLeft)
+        → IsPresent (kind_of D.In.seen D.Out.seen A.is_open) core inputs names start first present present.count (string_bytes present.text) (D.seen desk.old)
+        → TakesNext inputs left_before present.left present.next
+        → Steps (kind_of D.In.seen D.Out.seen A.is_open) core inputs names start first left_before result (D.seen desk.new) }
+{
+    let Present {
+        left,
+        input,
+        next,
+        output,
+        cut,
+        count,
+        mut text,
+    } = present;
+    match push_line(&mut text, alloc, input, &cut) {
+        Ok(()) => {
+            let count = count + u128::from(cut.count);
+            go_on(
+                rt,
+                alloc,
+                desk,
+                Present {
+                    left,
+                    input,
+                    next,
+                    output,
+                    cut,
+                    count,
+                    text,
+                },
+            )
+        }
+        Err(AllocError) => {
+            abandon_next(rt, desk, next);
+            Flow::Wants(output)
+        }
+    }
+}
+
+/// Closes the source of the play that was played, and goes on.
+fn close_played<R: Wait, D: Desk, A: OpenPlay<D::In>>(
+    rt: &R,
+    alloc: Global,
+    desk: &mut D,
+    played: Played<D::In, A, D::Out>,
+) -> Flow<A, D::Out>
+    requires { (core : CorePlan) × (inputs : List (List ℕ)) × (names : List PlayName) × (start : DeskView) × (first : OutputPart D.Out) × WasPlayed (kind_of D.In.seen D.Out.seen A.is_open) core inputs names start first played (D.seen desk.old) }
+    ensures { (core : CorePlan) (inputs : List (List ℕ)) (names : List PlayName) (start : DeskView) (first : OutputPart D.Out) (left_before : PlaysLeft)
+        → WasPlayed (kind_of D.In.seen D.Out.seen A.is_open) core inputs names start first played (D.seen desk.old)
+        → TakesNext inputs left_before played.left played.next
+        → Steps (kind_of D.In.seen D.Out.seen A.is_open) core inputs names start first left_before result (D.seen desk.new) }
+{
+    let Played {
+        left,
+        input,
+        next,
+        out,
+        count,
+        text,
+    } = played;
+    let PlayedOut {
+        source,
+        output,
+        cut,
+    } = out;
+    desk.close_in(source);
+    match cut {
+        Ok(cut) => say_play(
+            rt,
+            alloc,
+            desk,
+            Present {
+                left,
+                input,
+                next,
+                output,
+                cut,
+                count,
+                text,
+            },
+        ),
+        Err(AllocError) => {
+            abandon_next(rt, desk, next);
+            Flow::Wants(output)
+        }
+    }
+}
+
+/// Plays the play at hand, closes its source and goes on.
+fn play_on<R: Threads + Wait + Sync, D: Desk, G: Gate>(
+    rt: &R,
+    alloc: Global,
+    gate: &G,
+    desk: &mut D,
+    state: Switching<AheadPlay<D::In, D::Out, NoPlugin>, D::Out>,
+    mut next: NextPlay<AheadPlay<D::In, D::Out, NoPlugin>>,
+) -> Flow<AheadPlay<D::In, D::Out, NoPlugin>, D::Out>
+    requires { (core : CorePlan) × (inputs : List (List ℕ)) × (names : List PlayName) × (start : DeskView) × (first : OutputPart D.Out) × IsReady (kind_of D.In.seen D.Out.seen ⟦<AheadPlay<D::In, D::Out, NoPlugin> as OpenPlay<D::In>>⟧.is_open) core inputs names start first state next (D.seen desk.old) }
+    ensures { (core : CorePlan) (inputs : List (List ℕ)) (names : List PlayName) (start : DeskView) (first : OutputPart D.Out) (left_before : PlaysLeft)
+        → IsReady (kind_of D.In.seen D.Out.seen ⟦<AheadPlay<D::In, D::Out, NoPlugin> as OpenPlay<D::In>>⟧.is_open) core inputs names start first state next (D.seen desk.old)
+        → TakesNext inputs left_before state.left next
+        → Steps (kind_of D.In.seen D.Out.seen ⟦<AheadPlay<D::In, D::Out, NoPlugin> as OpenPlay<D::In>>⟧.is_open) core inputs names start first left_before result (D.seen desk.new) }
+{
+    let Switching {
+        left,
+        input,
+        now,
+        output,
+        count,
+        text,
+    } = state;
+    let out = play_ahead(rt, alloc, gate, now, output, &mut next);
+    close_played(
+        rt,
+        alloc,
+        desk,
+        Played {
+            left,
+            input,
+            next,
+            out,
+            count,
+            text,
+        },
+    )
+}
+
+/// Opens the next play, if there is one, and plays the one at hand.
+pub(crate) fn step<R: Threads + Wait + Sync, D: Desk, G: Gate>(
+    rt: &R,
+    alloc: Global,
+    gate: &G,
+    desk: &mut D,
+    core: &CorePlan,
+    inputs: &[NameText],
+    state: Switching<AheadPlay<D::In, D::Out, NoPlugin>, D::Out>,
+) -> Flow<AheadPlay<D::In, D::Out, NoPlugin>, D::Out>
+    requires lawful { IsLawfulPlan core.now }
+    requires plugins { core.now.plugins ≡ 0 }
+    requires some { 0 < length inputs.now }
+    requires few { length inputs.now < 2 ^ 62 }
+    requires so_far { (names : List PlayName) × (start : DeskView) × (first : OutputPart D.Out) × SoFar (kind_of D.In.seen D.Out.seen ⟦<AheadPlay<D::In, D::Out, NoPlugin> as OpenPlay<D::In>>⟧.is_open) core.now inputs.now names start first state (D.seen desk.old) }
+    ensures { (names : List PlayName) (start : DeskView) (first : OutputPart D.Out) → SoFar (kind_of D.In.seen D.Out.seen ⟦<AheadPlay<D::In, D::Out, NoPlugin> as OpenPlay<D::In>>⟧.is_open) core.now inputs.now names start first state (D.seen desk.old)
+        → Steps (kind_of D.In.seen D.Out.seen ⟦<AheadPlay<D::In, D::Out, NoPlugin> as OpenPlay<D::In>>⟧.is_open) core.now inputs.now names start first state.left result (D.seen desk.new) }
+{
+    let Switching {
+        mut left,
+        input,
+        now,
+        output,
+        count,
+        text,
+    } = state;
+    match open_next(alloc, desk, core, inputs, &mut left) {
+        Ok(next) => play_on(
+            rt,
+            alloc,
+            gate,
+            desk,
+            Switching {
+                left,
+                input,
+                now,
+                output,
+                count,
+                text,
+            },
+            next,
+        ),
+        Err(AllocError) => {
+            desk.close_in(now.leave(rt));
+            Flow::Wants(output)
+        }
+    }
+}
+
+/// What all plays came to.
+pub(crate) enum AllPlayed<K> {
+    Over(Switched<K>),
+    /// Memory was wanting.
+    Wants(OutputPart<K>),
+}
+
+/// Plays the play at hand and those behind it.
+pub(crate) fn play_all<R: Threads + Wait + Sync, D: Desk, G: Gate>(
+    rt: &R,
+    alloc: Global,
+    gate: &G,
+    desk: &mut D,
+    core: &CorePlan,
+    inputs: &[NameText],
+    mut state: Switching<AheadPlay<D::In, D::Out, NoPlugin>, D::Out>,
+) -> AllPlayed<D::Out>
+    requires lawful { IsLawfulPlan core.now }
+    requires plugins { core.now.plugins ≡ 0 }
+    requires some { 0 < length inputs.now }
+    requires few { length inputs.now < 2 ^ 62 }
+    requires so_far { (names : List PlayName) × (start : DeskView) × (first : OutputPart D.Out)
+        × SoFar (kind_of D.In.seen D.Out.seen ⟦<AheadPlay<D::In, D::Out, NoPlugin> as OpenPlay<D::In>>⟧.is_open) core.now inputs.now names start first state (D.seen desk.old) }
+    ensures { (names : List PlayName) (start : DeskView) (first : OutputPart D.Out)
+        → SoFar (kind_of D.In.seen D.Out.seen ⟦<AheadPlay<D::In, D::Out, NoPlugin> as OpenPlay<D::In>>⟧.is_open) core.now inputs.now names start first state (D.seen desk.old)
+        → AreAllPlayed (kind_of D.In.seen D.Out.seen ⟦<AheadPlay<D::In, D::Out, NoPlugin> as OpenPlay<D::In>>⟧.is_open) core.now inputs.now names start first result (D.seen desk.new) }
+{
+    loop {
+        match step(rt, alloc, gate, desk, core, inputs, state) {
+            Flow::Goes(next) => state = next,
+            Flow::Over(over) => return AllPlayed::Over(over),
+            Flow::Wants(output) => return AllPlayed::Wants(output),
+        }
+    }
+}
