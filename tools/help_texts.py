@@ -1,4 +1,4 @@
-"""Reads the texts of help: man/tsp.help, man/tstabcomp.help and man/plugins/NAME.help.
+"""Reads the texts of help: man/tsp.help, man/tstabcomp.help, man/tsswitch.help and man/plugins/NAME.help.
 
 A text of a plugin is made of these parts, and tsp.help has rows in the same form:
 

@@ -1,0 +1,36 @@
+//! The program `tsswitch`: the words of a command line come in, and an exit number goes out.
+//! All of it but the words, the real desk and the number is `switch_call`, whose contract says what is played.
+#![tactic(auto)]
+
+use std::io::ErrorKind;
+use std::process::ExitCode;
+use std::{env, io};
+use switch_top::switch_call;
+use ts_os::OsDesk;
+use ts_outside::{OpenGate, report_whole};
+
+/// The exit numbers of a start that never came to the call.
+const NO_MEMORY: u8 = 1;
+
+const FAULTY_WORDS: u8 = 2;
+
+/// The words behind the program's name.
+fn words(rt: &(impl env::Env + AllocGlobal)) -> io::Result<Vec<String>> {
+    let mut all = env::args(rt)?;
+    let _name = all.next();
+    Ok(all.collect(rt.alloc())?)
+}
+
+fn main(rt: HostRuntime) -> ExitCode {
+    let mut desk = OsDesk::new(rt);
+    let words = match words(&rt) {
+        Ok(words) => words,
+        Err(e) if e.kind() == ErrorKind::InvalidData => {
+            let _ = report_whole(&mut desk, b"tsswitch: a word is not UTF-8\n");
+            return ExitCode::from(FAULTY_WORDS);
+        }
+        Err(_) => return ExitCode::from(NO_MEMORY),
+    };
+    let status = switch_call(&rt, rt.alloc(), words.as_slice(), &mut desk, &OpenGate);
+    ExitCode::from(status.exit_code())
+}
