@@ -5,8 +5,6 @@
 #[cfg(test)]
 mod cells;
 #[cfg(test)]
-mod clocks;
-#[cfg(test)]
 mod editors;
 #[cfg(test)]
 mod ends;
