@@ -113,7 +113,14 @@ pub step-requires-in-Compact : goal.step-requires-in-Compact
 step-requires-in-Compact c = rw c.in-Compact.is at c.requires
 
 pub returns-in-Compact : goal.returns-in-Compact
-returns-in-Compact c = rw c.in-Compact.is c.step-in-Compact.ensures
+returns-in-Compact c = rw c.in-Compact.is (record {
+  tells = c.step-in-Compact.ensures.tells;
+  dropped = c.step-in-Compact.ensures.dropped;
+  meets = c.step-in-Compact.ensures.meets;
+  same_rule = c.step-in-Compact.ensures.same_rule;
+  same_steady = c.step-in-Compact.ensures.same_steady;
+  room = λ enough. c.step-in-Compact.ensures.no_memory;
+})
 
 pub step-requires-in-Rmorphan : goal.step-requires-in-Rmorphan
 step-requires-in-Rmorphan c = rw c.in-Rmorphan.is at c.requires
