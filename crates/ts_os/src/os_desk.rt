@@ -17,13 +17,23 @@ use std::fs::{File, OpenOptions, metadata};
 use std::marker::Model;
 use ts_outside::{Desk, Failed, FileBytes, FileFault, OpenFault, one_more, read_to_end};
 
+/// A regular file that is open as an output.
+#[derive(Clone, Copy, Drop)]
+struct OpenOutput {
+    file: FileId,
+
+    /// An input was wanted of it, in vain.
+    wanted: bool,
+}
+
 /// The files and standard streams of the system. It tells no content, and contracts see it as its counts of faults and
 /// as where reports go.
 ///
 /// Reports go to standard error once `open_out` was asked for the standard stream, and to standard output otherwise.
-/// An output file is made where it is absent and emptied where it is there. A regular file that is open as an input at
-/// that moment, under whatever name, is not opened as an output and stays as it is: emptied, it would take with it what
-/// was still to be read.
+/// An output file is made where it is absent. Where it is there it is emptied before the first byte is written, or at its
+/// closing. A regular file that is open as an input at that moment, under whatever name, is not opened as an output and
+/// stays as it is: emptied, it would take with it what was still to be read. Nor is a file that is open as an output opened
+/// as an input; if nothing was written to it when it was wanted so, its closing leaves it as it is.
 #[derive(Drop)]
 pub struct OsDesk {
     rt: HostRuntime,
@@ -31,6 +41,9 @@ pub struct OsDesk {
 
     /// The regular files that are open as inputs.
     inputs: Vec<FileId>,
+
+    /// Those that are open as outputs.
+    outputs: Vec<OpenOutput>,
     read_faults: u64,
     write_faults: u64,
     report_faults: u64,
@@ -59,6 +72,7 @@ impl OsDesk {
             rt,
             alloc: rt.alloc(),
             inputs: Vec::new(rt.alloc()),
+            outputs: Vec::new(rt.alloc()),
             read_faults: 0,
             write_faults: 0,
             report_faults: 0,
@@ -90,12 +104,21 @@ impl OsDesk {
     fn sink(&self, named: &str) -> Option<OsSink>
         ensures { IfSome result (λ s. s ≡ 0) }
     {
-        let to = if named.is_empty() {
-            Made::Stream(self.rt.stdout())
-        } else {
-            Made::File(self.emptied(named)?)
-        };
-        Some(OsSink { to, faults: 0 })
+        if named.is_empty() {
+            return Some(OsSink {
+                to: Made::Stream(self.rt.stdout()),
+                file: None,
+                full: false,
+                faults: 0,
+            });
+        }
+        let (made, id) = self.made(named)?;
+        Some(OsSink {
+            to: Made::File(made),
+            file: id,
+            full: id.is_some(),
+            faults: 0,
+        })
     }
 
     /// Once less among the open inputs: a file may be open as two of them.
@@ -107,20 +130,41 @@ impl OsDesk {
         }
     }
 
-    /// The file of a name, made or emptied. It is compared with the open inputs before it is emptied.
-    fn emptied(&self, named: &str) -> Option<File> {
+    /// The file of a name, made where it is absent, and which regular file it is. It is compared with the open inputs.
+    fn made(&self, named: &str) -> Option<(File, Option<FileId>)> {
         let file = OpenOptions::new()
             .write(true)
             .create(true)
             .open(&self.rt, named)
             .ok()?;
-        if let Some(id) = FileId::of(&file.metadata().ok()?) {
+        let id = FileId::of(&file.metadata().ok()?);
+        if let Some(id) = id {
             if self.inputs.contains(&id) {
                 return None;
             }
-            file.set_len(0).ok()?;
         }
-        Some(file)
+        Some((file, id))
+    }
+
+    /// Takes a closed file out of the open outputs. Whether it was wanted as an input.
+    fn forget_output(&mut self, closed: FileId) -> bool
+        ensures { self.new ≡ self.old }
+    {
+        match self.outputs.iter().position(|it| it.file == closed) {
+            Some(at) => self.outputs.swap_remove(at).wanted,
+            None => false,
+        }
+    }
+}
+
+/// Whether this file is open as an output. Then it is told there that it was wanted as an input.
+fn is_output(outputs: &mut Vec<OpenOutput>, wanted: FileId) -> bool {
+    match outputs.iter_mut().find(|it| it.file == wanted) {
+        Some(output) => {
+            output.wanted = true;
+            true
+        }
+        None => false,
     }
 }
 
@@ -147,6 +191,15 @@ impl Desk for OsDesk {
         match self.source(name.unwrap_or("")) {
             Some(source) => {
                 if let Some(id) = source.file {
+                    if is_output(&mut self.outputs, id) {
+                        let OsSource {
+                            from: _,
+                            file: _,
+                            faults: _,
+                        } = source;
+                        self.read_faults = one_more(self.read_faults);
+                        return Err(OpenFault::Failed);
+                    }
                     self.inputs.push_reserved(id);
                 }
                 Ok(source)
@@ -177,8 +230,19 @@ impl Desk for OsDesk {
         if named.is_empty() {
             self.aside = true;
         }
+        if self.outputs.reserve(1).is_err() {
+            return Err(OpenFault::NoMemory);
+        }
         match self.sink(named) {
-            Some(sink) => Ok(sink),
+            Some(sink) => {
+                if let Some(file) = sink.file {
+                    self.outputs.push_reserved(OpenOutput {
+                        file,
+                        wanted: false,
+                    });
+                }
+                Ok(sink)
+            }
             None => {
                 self.write_faults = one_more(self.write_faults);
                 Err(OpenFault::Failed)
@@ -206,15 +270,22 @@ impl Desk for OsDesk {
     fn close_out(&mut self, output: OsSink) -> Result<(), Failed>
         ensures closed { untold_desk self.new ≡ output_closed (untold_desk self.old) (untold_sink output) (is_err result) }
         ensures aside { self.new.aside ≡ self.old.aside }
-
-        // Nothing is kept back that a closing could still have to write.
-        ensures ok { IsOk result }
     {
-        let OsSink { to: _, faults } = output;
-        if faults > 0 {
+        let OsSink {
+            to,
+            file,
+            full,
+            faults,
+        } = output;
+        let wanted = match file {
+            Some(id) => self.forget_output(id),
+            None => false,
+        };
+        let closed = wanted || !full || to.empty();
+        if faults > 0 || !closed {
             self.write_faults = one_more(self.write_faults);
         }
-        Ok(())
+        if closed { Ok(()) } else { Err(Failed) }
     }
 
     fn read_file(&mut self, name: Option<&str>, most: usize) -> Result<FileBytes, FileFault>

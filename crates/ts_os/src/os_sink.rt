@@ -1,8 +1,9 @@
-ghost use Rattle.std.specs.Prelude.{◌≡◌, ◌<◌, ◌≤◌, length, take, IfOk, OnErr};
+ghost use Rattle.std.specs.Prelude.{◌≡◌, ◌<◌, ◌≤◌, length, take, IfOk, IfSome, OnErr};
 ghost use Rattle.ts_outside.specs.Sink.{took, write_failed};
 ghost use Rattle.ts_os.specs.Untold.{untold_sink};
 
 use crate::calls::write_some;
+use crate::file_id::FileId;
 use std::fs::File;
 use std::io::Stdout;
 use std::marker::Model;
@@ -15,11 +16,28 @@ pub(crate) enum Made {
     Stream(Stdout),
 }
 
+impl Made {
+    /// Takes away what a file has. Whether that went well.
+    pub(crate) fn empty(&self) -> bool {
+        match self {
+            Made::File(file) => file.set_len(0).is_ok(),
+            Made::Stream(_) => true,
+        }
+    }
+}
+
 /// A file or the standard output. It tells no content, and contracts see it as the count of its faults.
 ///
-/// Each call gives the system one piece. A call that takes nothing of a piece is a fault.
+/// Each call gives the system one piece. A call that takes nothing of a piece is a fault. A regular file keeps what it had
+/// up to the first write, or up to the closing.
 pub struct OsSink {
     pub(crate) to: Made,
+
+    /// The regular file that this is.
+    pub(crate) file: Option<FileId>,
+
+    /// It still has what it had before.
+    pub(crate) full: bool,
     pub(crate) faults: u64,
 }
 
@@ -29,6 +47,33 @@ impl Model for OsSink {
     ghost Value = { ℕ };
 
     ghost view = { λ s. s.faults };
+}
+
+impl OsSink {
+    /// Takes away what the file had, unless that was done. Whether that went well.
+    fn empty(&mut self) -> bool
+        ensures { self.new ≡ self.old }
+    {
+        if self.full {
+            self.full = !self.to.empty();
+        }
+        !self.full
+    }
+
+    /// Gives the system one piece. `None` where it took nothing, or what the file had could not be taken away.
+    fn give(&mut self, piece: &[u8]) -> Option<usize>
+        ensures some { IfSome result (λ n. 0 < n) }
+        ensures within { IfSome result (λ n. n ≤ length piece.now) }
+        ensures same { self.new ≡ self.old }
+    {
+        if !self.empty() {
+            return None;
+        }
+        match &mut self.to {
+            Made::File(file) => write_some(file, piece),
+            Made::Stream(stream) => write_some(stream, piece),
+        }
+    }
 }
 
 impl Sink for OsSink {
@@ -41,11 +86,7 @@ impl Sink for OsSink {
         ensures taken { IfOk result (λ n. untold_sink self.new ≡ took (untold_sink self.old) (take n piece.now)) }
         ensures failed { OnErr result (untold_sink self.new ≡ write_failed (untold_sink self.old)) }
     {
-        let moved = match &mut self.to {
-            Made::File(file) => write_some(file, piece),
-            Made::Stream(stream) => write_some(stream, piece),
-        };
-        match moved {
+        match self.give(piece) {
             Some(count) => Ok(count),
             None => {
                 self.faults = one_more(self.faults);
