@@ -12,7 +12,7 @@ use crate::calls::write_some;
 use crate::file_id::FileId;
 use crate::os_sink::{Made, OsSink};
 use crate::os_source::{Opened, OsSource};
-use std::alloc::Global;
+use std::alloc::{AllocError, Global};
 use std::fs::{File, OpenOptions, metadata};
 use std::marker::Model;
 use ts_outside::{Desk, Failed, FileBytes, FileFault, OpenFault, one_more, read_to_end};
@@ -31,8 +31,8 @@ struct OpenOutput {
 ///
 /// Reports go to standard error once `open_out` was asked for the standard stream, and to standard output otherwise.
 /// An output file is made where it is absent. Where it is there it is emptied before the first byte is written, or at its
-/// closing. A regular file that is open as an input at that moment, under whatever name, is not opened as an output and
-/// stays as it is: emptied, it would take with it what was still to be read. Nor is a file that is open as an output opened
+/// closing. A regular file that is open as an input at that moment or is spared, under whatever name, is not opened as an
+/// output and stays as it is: emptied, it would take with it what was still to be read. Nor is a file that is open as an output opened
 /// as an input; if nothing was written to it when it was wanted so, its closing leaves it as it is.
 #[derive(Drop)]
 pub struct OsDesk {
@@ -44,6 +44,9 @@ pub struct OsDesk {
 
     /// Those that are open as outputs.
     outputs: Vec<OpenOutput>,
+
+    /// Those that are never opened as outputs.
+    spared: Vec<FileId>,
     read_faults: u64,
     write_faults: u64,
     report_faults: u64,
@@ -73,11 +76,21 @@ impl OsDesk {
             alloc: rt.alloc(),
             inputs: Vec::new(rt.alloc()),
             outputs: Vec::new(rt.alloc()),
+            spared: Vec::new(rt.alloc()),
             read_faults: 0,
             write_faults: 0,
             report_faults: 0,
             aside: false,
         }
+    }
+
+    /// Spares the files of a command line that are inputs: a regular file whose name is the second word behind `option` is
+    /// not opened as an output from now on. `Err` is want of memory, and changes nothing.
+    pub fn spare(&mut self, words: &[String], option: &str) -> Result<(), AllocError>
+        ensures { self.new ≡ self.old }
+    {
+        self.spared = named_behind(self.rt, words, option)?;
+        Ok(())
     }
 
     /// A source of a name that opened.
@@ -139,7 +152,7 @@ impl OsDesk {
             .ok()?;
         let id = FileId::of(&file.metadata().ok()?);
         if let Some(id) = id {
-            if self.inputs.contains(&id) {
+            if self.inputs.contains(&id) || self.spared.contains(&id) {
                 return None;
             }
         }
@@ -155,6 +168,28 @@ impl OsDesk {
             None => false,
         }
     }
+}
+
+/// The regular files that are there, whose names are the second words behind an option.
+fn named_behind(
+    rt: HostRuntime,
+    words: &[String],
+    option: &str,
+) -> Result<Vec<FileId>, AllocError> {
+    let mut found = Vec::new(rt.alloc());
+    for (word, name) in words.iter().zip(words.iter().skip(2)) {
+        if word.as_str() == option {
+            if let Some(id) = regular(&rt, name.as_str()) {
+                found.push(id)?;
+            }
+        }
+    }
+    Ok(found)
+}
+
+/// The regular file of a name; `None` where there is none.
+fn regular(rt: &HostRuntime, named: &str) -> Option<FileId> {
+    FileId::of(&metadata(rt, named).ok()?)
 }
 
 /// Whether this file is open as an output. Then it is told there that it was wanted as an input.
