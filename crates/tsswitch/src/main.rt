@@ -31,6 +31,10 @@ fn main(rt: HostRuntime) -> ExitCode {
         }
         Err(_) => return ExitCode::from(NO_MEMORY),
     };
+    // The output is opened before the inputs, and would be emptied before one of them that is the same file is read.
+    if desk.spare(words.as_slice(), "-I").is_err() {
+        return ExitCode::from(NO_MEMORY);
+    }
     let status = switch_call(&rt, rt.alloc(), words.as_slice(), &mut desk, &OpenGate);
     ExitCode::from(status.exit_code())
 }
