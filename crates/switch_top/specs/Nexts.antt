@@ -3,7 +3,7 @@ use Rattle.std.specs.Prelude.{◌≡◌, ◌⊎◌, ℕ, List, [], ◌∷◌}
 use Rattle.chain_core.specs.declared.core_plan.CorePlan.{CorePlan}
 use Rattle.ts_outside.specs.Sink.{SinkView}
 use Rattle.ts_outside.specs.declared.requests.Purpose.TheVariants.{Input}
-use Rattle.ts_outside.specs.Source.{SourceView}
+use Rattle.ts_outside.specs.Source.{SourceView, own_bytes}
 use Rattle.ts_outside.specs.Desk.{DeskView, content, asked_well, asked_in_vain, input_closed}
 use Rattle.switch_top.specs.declared.plays_left.PlaysLeft.{PlaysLeft}
 use Rattle.switch_top.specs.declared.switching.NextPlay.{NextPlay}
@@ -24,7 +24,7 @@ module _ {S A K : Type 0} (see : PlayKind S A K) where
   pub record IsPlayOf (core : CorePlan) (desk : DeskView) (name : List ℕ) (play : A) : Type 0 where
     pub source : S
     pub ahead : see.opens core source play
-    pub source_is : see.source source ≡ record { left = content desk name; faults = 0 }
+    pub source_is : see.source source ≡ record { left = content desk name; faults = 0; origin = own_bytes }
 
   -- it is open
   abbrev pub IsOpenPlay : CorePlan → DeskView → List ℕ → ℕ → NextPlay A → Type 0
@@ -61,7 +61,7 @@ module _ {S A K : Type 0} (see : PlayKind S A K) where
 abbrev pub WantsNext : List (List ℕ) → PlaysLeft → DeskView → DeskView → Type 0
 WantsNext names left old new = (new ≡ old)
     ⊎ ((play : PlayName) × (rest : List PlayName) × (plays_left names left ≡ play ∷ rest)
-    × (new ≡ input_closed (asked_well old Input play.name) (record { left = content old play.name; faults = 0 })))
+    × (new ≡ input_closed (asked_well old Input play.name) (record { left = content old play.name; faults = 0; origin = own_bytes })))
 
 -- it was closed, if it was opened
 abbrev pub LeavesNext : {A : Type 0} → NextPlay A → DeskView → DeskView → Type 0

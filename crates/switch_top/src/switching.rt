@@ -4,6 +4,7 @@ ghost use Rattle.chain_core.specs.declared.core_plan.CorePlan.{CorePlan};
 ghost use Rattle.chain_core.specs.CoreNumbers.{IsLawfulPlan};
 ghost use Rattle.stage_run.specs.Seeing.{seeing};
 ghost use Rattle.ts_outside.specs.Desk.{DeskView, content, input_closed};
+ghost use Rattle.ts_outside.specs.Source.{own_bytes};
 ghost use Rattle.play_run.specs.Plays.{IsAhead};
 ghost use Rattle.play_run.specs.Played.{HasPlayedOut};
 ghost use Rattle.switch_top.specs.Nexts.{kind_of, OpensNext, WantsNext, IsOpenPlay, CanPlay, SameNext, LeavesNext};
@@ -39,7 +40,7 @@ fn seat_source<D: Desk, A: OpenPlay<D::In>>(
 ) -> Result<NextPlay<A>, AllocError>
     requires lawful { IsLawfulPlan core.now }
     requires plugins { core.now.plugins ≡ 0 }
-    ensures opened { (old : DeskView) (name : List ℕ) → D.In.seen source ≡ record { left = content old name; faults = 0 }
+    ensures opened { (old : DeskView) (name : List ℕ) → D.In.seen source ≡ record { left = content old name; faults = 0; origin = own_bytes }
         → IfOk result (IsOpenPlay (kind_of D.In.seen D.Out.seen A.is_open) core.now old name input) }
     ensures stays { IfOk result (λ next. D.seen desk.new ≡ D.seen desk.old) }
     ensures closed { OnErr result (D.seen desk.new ≡ input_closed (D.seen desk.old) (D.In.seen source)) }
