@@ -35,6 +35,13 @@ _tsp() {
     fi
     options=
     [ "$segment" = -I ] || [ "$segment" = -O ] || options=$(_tsp_options "$name")
+    [ "$segment/$name" != -I/file ] || options=--format=
+    case $segment/$name/$before in
+    -I/file/--format)
+        _tsp_answer '@formats@'
+        return
+        ;;
+    esac
     case " $options " in
     *" $before= "*) return ;;
     esac

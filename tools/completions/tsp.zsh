@@ -33,6 +33,13 @@ if [[ -z $segment || $segment == -P ]]; then
 @options@
     esac
 fi
+if [[ $segment/$name == -I/file ]]; then
+    options=('--format=:how the file keeps its packets')
+    if [[ $words[CURRENT-1] == --format ]]; then
+        compadd @formats@
+        return
+    fi
+fi
 # Behind an option that takes a value comes the value.
 if (( ${#options[(r)$words[CURRENT-1]=:*]} )); then
     _message value
