@@ -21,6 +21,8 @@ mod fields;
 #[cfg(test)]
 mod generated;
 #[cfg(test)]
+mod lawless_pmt;
+#[cfg(test)]
 mod lawless_pointers;
 #[cfg(test)]
 mod mpeg_descriptors;
