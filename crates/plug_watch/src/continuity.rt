@@ -26,7 +26,7 @@ pub struct Continuity {
 }
 
 impl Continuity {
-    ghost use Rattle.std.specs.Prelude.{◌≡◌, ◌<◌, true, IfOk, OnOk, OnErr, [], ◌++◌, ◌∷◌, None, length, ℕ, List, if◌then◌else◌};
+    ghost use Rattle.std.specs.Prelude.{◌≡◌, ◌<◌, true, ◌≤◌, IfOk, IsErr, OnOk, OnErr, [], ◌++◌, ◌∷◌, None, length, ℕ, List, if◌then◌else◌};
     ghost use Rattle.ts_packet.specs.declared.cell.Cell.{Cell as GivenCell};
     ghost use Rattle.ts_packet.specs.Cells.{Live};
     ghost use Rattle.ts_packet.specs.Header.{pid_of};
@@ -48,6 +48,7 @@ impl Continuity {
         ensures rule { IfOk result (λ plugin. ⟦<Continuity as Plugin>⟧.rule plugin ≡ continuity_rule conf.now) }
         ensures fresh { IfOk result (λ plugin. ⟦<Continuity as Plugin>⟧.stands_for plugin [] 0) }
         ensures steady { IfOk result (λ plugin. ⟦<Continuity as Plugin>⟧.steady plugin ≡ None) }
+        ensures reserved { IfOk result (λ plugin. plugin.notes.capacity ≡ buffer) }
     {
         Ok(Continuity {
             pids: PidSet::of(alloc, &conf.pid)?,
@@ -76,6 +77,8 @@ impl Continuity {
         ensures met { OnOk result ((history : List GivenCell) (mark : ℕ) → StandsFor self.old history mark
             → length history ≡ at → (labels : ℕ) → StandsFor self.new (history ++ Live packet.old labels ∷ []) mark) }
         ensures same { conf_of self.new ≡ conf_of self.old }
+        ensures full { IsErr result → self.old.notes.capacity ≤ length self.old.notes.items }
+        ensures reserved { self.new.notes.capacity ≡ self.old.notes.capacity }
         ensures err { OnErr result ((self.new.last ≡ self.old.last) × (self.new.notes.items ≡ self.old.notes.items) × (self.new.lines.items ≡ self.old.lines.items) × (packet.new ≡ packet.old)) }
     {
         push_if_any(&mut self.notes, self.last.fault(at, packet))?;
@@ -92,6 +95,7 @@ impl Continuity {
         requires { AllowsMark (StandsFor self.old) mark }
         ensures notes { Notes (StandsFor self.old) (StandsFor self.new) mark result }
         ensures same { conf_of self.new ≡ conf_of self.old }
+        ensures reserved { self.new.notes.capacity ≡ self.old.notes.capacity }
     {
         push_lines_below(&mut self.lines, &self.notes, mark)?;
         drop_below(&mut self.notes, mark);

@@ -1,6 +1,6 @@
 //! Notes on packets that are not folded yet, in a buffer of a fixed size: the oldest first.
 //! A note leaves the buffer once its packet stands before the mark, or before the cut.
-ghost use Rattle.std.specs.Prelude.{◌≡◌, ◌<◌, ◌≤◌, ◌∷◌, ◌++◌, [], IfSome, IfNone, IfOk, OnOk, OnErr, IsErr, length, map, nat_lt, option_to_list};
+ghost use Rattle.std.specs.Prelude.{◌≡◌, ◌<◌, ◌≤◌, ◌∷◌, ◌++◌, [], IfSome, IfNone, IfOk, OnOk, OnErr, IsErr, IsOk, None, length, map, nat_lt, option_to_list};
 ghost use Rattle.std.specs.List.{take_while};
 ghost use Rattle.plugin_notes.specs.NotesKept.{StartsFrom, TakesBelow};
 
@@ -48,7 +48,8 @@ pub fn push_note<N: Drop>(notes: &mut HeapCircularBuffer<N>, note: N) -> Result<
     Ok(())
 }
 
-/// Puts a note behind the others, if there is one.
+/// Puts a note behind the others, if there is one. Where there is and the buffer is full, it answers `AllocError`, and no
+/// note is lost.
 #[inline]
 pub fn push_if_any<N: Drop>(
     notes: &mut HeapCircularBuffer<N>,
@@ -56,6 +57,8 @@ pub fn push_if_any<N: Drop>(
 ) -> Result<(), AllocError>
     ensures ok { OnOk result (notes.new.items ≡ notes.old.items ++ option_to_list note) }
     ensures err { OnErr result (notes.new.items ≡ notes.old.items) }
+    ensures full { IsErr result → notes.old.capacity ≤ length notes.old.items }
+    ensures none { note ≡ None → IsOk result }
     ensures capacity { notes.new.capacity ≡ notes.old.capacity }
 {
     match note {
