@@ -5,6 +5,7 @@ use Rattle.tabcomp_core.specs.declared.fault.CompileFault.{CompileFault}
 use Rattle.tabcomp_core.specs.declared.fault.DecompileFault.{DecompileFault}
 use Rattle.tabcomp_core.specs.Compiling.{compiled}
 use Rattle.tabcomp_core.specs.Decompiling.{decompiled}
+use Rattle.tabcomp_core.specs.ToldAgain.{IsToldAgain}
 use Rattle.ts_outside.specs.Count.{HasCause, IsQuiet, raised}
 use Rattle.ts_outside.specs.Desk.{DeskView, content}
 use Rattle.ts_outside.proofs.Views.{HasCause-raised}
@@ -66,17 +67,51 @@ refusal task.Compile bytes why is = refusal-compiled (compiled bytes) why is
 refusal task.Decompile bytes why is = refusal-decompiled (decompiled bytes) why is
 refusal task.Canonical bytes why is = refusal-canonical (compiled bytes) why is
 
+-- what is compiled is decompiled
+abbrev IsDecompiled : Type 0
+IsDecompiled = (text sections : List ℕ) → compiled text ≡ Ok sections → IsToldAgain text sections
+
+-- where sections are decompiled they are not refused
+never-refused : (r : Result (List ℕ) DecompileFault) (text : List ℕ) (fault : DecompileFault) → r ≡ Ok text
+    → of_decompiled r ≡ Err (Decompile fault) → ⊥
+never-refused (Ok found) text fault is gives = absurd cc
+never-refused (Err why) text fault is gives = absurd cc
+
+-- so those of a text are not
+never-declined : IsDecompiled → (text : List ℕ) (fault : DecompileFault) (r : Result (List ℕ) CompileFault) → compiled text ≡ r
+    → canonical r ≡ Err (Decompile fault) → ⊥
+never-declined told text fault (Ok sections) is gives = never-refused (decompiled sections) _ fault (told text sections is).again gives
+never-declined told text fault (Err why) is gives = absurd cc
+
+pub canonical-told : IsDecompiled → (text : List ℕ) (fault : DecompileFault) → converted task.Canonical text ≡ Err (Decompile fault) → ⊥
+unfolding converted
+canonical-told told text fault gives = never-declined told text fault (compiled text) refl gives
+
+-- nor is a text refused as sections are
+compiled-told : (fault : DecompileFault) (r : Result (List ℕ) CompileFault) → of_compiled r ≡ Err (Decompile fault) → ⊥
+compiled-told fault (Ok sections) gives = absurd cc
+compiled-told fault (Err why) gives = absurd cc
+
+-- the task that refuses sections
+declined : IsDecompiled → (what : Task) (bytes : List ℕ) (fault : DecompileFault) → converted what bytes ≡ Err (Decompile fault)
+    → what ≡ task.Decompile
+unfolding converted
+declined told task.Compile bytes fault gives = absurd (compiled-told fault (compiled bytes) gives)
+declined told task.Decompile bytes fault gives = refl
+declined told task.Canonical bytes fault gives = absurd (canonical-told told bytes fault gives)
+
 -- what the status of an end tells: of one whose conversion is refused
-tells-refused : (job : Job) (old new : DeskView) (bytes : List ℕ) (why : TabStatus) → IsRefusal why → IsRead job old bytes
+tells-refused : IsDecompiled → (job : Job) (old new : DeskView) (bytes : List ℕ) (why : TabStatus) → IsRefusal why → IsRead job old bytes
     → converted job.task bytes ≡ Err why → new.outputs ≡ old.outputs → TellsCause job old new why
-tells-refused job old new bytes (Compile fault) kind read is same = record { bytes = bytes; read = read; no_conversion = is; nothing_written = same }
-tells-refused job old new bytes (Decompile fault) kind read is same = record { bytes = bytes; read = read; no_conversion = is; nothing_written = same }
-tells-refused job old new bytes Done kind read is same = absurd kind
-tells-refused job old new bytes NoMemory kind read is same = absurd kind
-tells-refused job old new bytes (Words word) kind read is same = absurd kind
-tells-refused job old new bytes ReadFault kind read is same = absurd kind
-tells-refused job old new bytes WriteFault kind read is same = absurd kind
-tells-refused job old new bytes TooMany kind read is same = absurd kind
+tells-refused told job old new bytes (Compile fault) kind read is same = record { bytes = bytes; read = read; no_conversion = is; nothing_written = same }
+tells-refused told job old new bytes (Decompile fault) kind read is same =
+    (record { bytes = bytes; read = read; no_conversion = is; nothing_written = same }, declined told job.task bytes fault is)
+tells-refused told job old new bytes Done kind read is same = absurd kind
+tells-refused told job old new bytes NoMemory kind read is same = absurd kind
+tells-refused told job old new bytes (Words word) kind read is same = absurd kind
+tells-refused told job old new bytes ReadFault kind read is same = absurd kind
+tells-refused told job old new bytes WriteFault kind read is same = absurd kind
+tells-refused told job old new bytes TooMany kind read is same = absurd kind
 
 -- of one that came to the output
 tells-put : (job : Job) (old new : DeskView) (bytes text line : List ℕ) (end : PutEnd) → IsRead job old bytes
@@ -90,15 +125,15 @@ tells-put job old new bytes text line written read is can k =
 tells-put job old new bytes text line out_of_memory read is can k = k.outputs
 
 -- of all
-tells : (job : Job) (old new : DeskView) (line : List ℕ) (end : TabEnd) → CanEnd job old end
+tells : IsDecompiled → (job : Job) (old new : DeskView) (line : List ℕ) (end : TabEnd) → CanEnd job old end
     → Tells (desk_after job old end) new line → TellsCause job old new (status_of end)
-tells job old new line not_read can is = let k = kept _ new line is in (rose old.read_faults new.read_faults k.read_faults, k.outputs)
-tells job old new line too_long can is = let k = kept _ new line is in (can, k.outputs)
-tells job old new line (refused bytes why) can is =
-    let k = kept _ new line is in tells-refused job old new bytes why (refusal job.task bytes why can.1) can.0 can.1 k.outputs
-tells job old new line (put bytes text end) can is = tells-put job old new bytes text line end can.0 can.1 can.2 (kept _ new line is)
-tells job old new line no_memory_to_read can is = (kept _ new line is).outputs
-tells job old new line no_memory_to_convert can is = (kept _ new line is).outputs
+tells told job old new line not_read can is = let k = kept _ new line is in (rose old.read_faults new.read_faults k.read_faults, k.outputs)
+tells told job old new line too_long can is = let k = kept _ new line is in (can, k.outputs)
+tells told job old new line (refused bytes why) can is =
+    let k = kept _ new line is in tells-refused told job old new bytes why (refusal job.task bytes why can.1) can.0 can.1 k.outputs
+tells told job old new line (put bytes text end) can is = tells-put job old new bytes text line end can.0 can.1 can.2 (kept _ new line is)
+tells told job old new line no_memory_to_read can is = (kept _ new line is).outputs
+tells told job old new line no_memory_to_convert can is = (kept _ new line is).outputs
 
 -- want of memory and a failed reading come with any conversion
 comes-no_memory : (r : Result (List ℕ) TabStatus) → ComesOf r NoMemory
@@ -141,17 +176,17 @@ exactly job old (Some file) no_memory_to_read is can = record { too_many = λ _.
 exactly job old (Some file) no_memory_to_convert is can = record { too_many = λ _. inl refl; within = λ _. comes-no_memory (converted job.task file) }
 
 -- the table of causes
-theorem-causes : (job : Job) (old new : DeskView) (status : TabStatus) → TabTheorem job old new status → HasCauses job old new status
-theorem-causes job old new status is = record {
-  tells = subst (λ (s : TabStatus). TellsCause job old new s) (sym is.status_is) (tells job old new _ is.end is.can_end is.desk_is);
+theorem-causes : IsDecompiled → (job : Job) (old new : DeskView) (status : TabStatus) → TabTheorem job old new status → HasCauses job old new status
+theorem-causes told job old new status is = record {
+  tells = subst (λ (s : TabStatus). TellsCause job old new s) (sym is.status_is) (tells told job old new _ is.end is.can_end is.desk_is);
   exactly = subst (λ (s : TabStatus). IfSome (content old job.input) (λ file. ComesExactly job file s)) (sym is.status_is)
       (exactly job old (content old job.input) is.end refl is.can_end);
 }
 
-pub causes : (words : List (List ℕ)) (job : Job) (old new : DeskView) (status : TabStatus)
+pub causes : IsDecompiled → (words : List (List ℕ)) (job : Job) (old new : DeskView) (status : TabStatus)
     → job_of words ≡ Ok job → CallsTab words old new status → HasCauses job old new status
-causes words job old new status is call =
-    theorem-causes job old new status
+causes told words job old new status is call =
+    theorem-causes told job old new status
     (subst (λ (r : Result Job ℕ). MatchResult r (λ j. TabTheorem j old new status) (λ word. RefusesWords word old new status)) is call)
 
 -- where no fault happened there is none to tell
@@ -168,10 +203,10 @@ done job old new status text cause fine (inr (inr (inl is))) = inl is
 done job old new status text cause fine (inr (inr (inr is))) =
     absurd (no_cause old.write_faults new.write_faults fine.writes (subst (λ (s : TabStatus). TellsCause job old new s) is cause).rose)
 
-pub completeness : (words : List (List ℕ)) (job : Job) (file text : List ℕ) (old new : DeskView) (status : TabStatus)
+pub completeness : IsDecompiled → (words : List (List ℕ)) (job : Job) (file text : List ℕ) (old new : DeskView) (status : TabStatus)
     → job_of words ≡ Ok job → content old job.input ≡ Some file → length file ≤ most_bytes → converted job.task file ≡ Ok text
     → CallsTab words old new status → NothingFails old new → (status ≡ Done) ⊎ (status ≡ NoMemory)
-completeness words job file text old new status is told within conversion call fine =
-    let both = causes words job old new status is call in
+completeness decompiles words job file text old new status is told within conversion call fine =
+    let both = causes decompiles words job old new status is call in
     let comes : ComesExactly job file status = subst (λ (o : Option (List ℕ)). IfSome o (λ f. ComesExactly job f status)) told both.exactly in
     done job old new status text both.tells fine (subst (λ (r : Result (List ℕ) TabStatus). ComesOf r status) conversion (comes.within within))

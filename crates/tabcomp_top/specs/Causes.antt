@@ -6,6 +6,7 @@ use Rattle.ts_outside.specs.Desk.{DeskView, content}
 use Rattle.tabcomp_top.specs.TabWords.{Job}
 use Rattle.tabcomp_top.specs.Conversion.{converted}
 use Rattle.tabcomp_top.specs.TabCall.{IsRead, most_bytes}
+use Rattle.tabcomp_top.specs.declared.task.Task.TheVariants as task
 use Rattle.tabcomp_top.specs.declared.status.TabStatus.{TabStatus}
 use Rattle.tabcomp_top.specs.declared.status.TabStatus.TheVariants.{Done, NoMemory, Words, ReadFault, WriteFault, Compile, Decompile, TooMany}
 
@@ -35,7 +36,7 @@ pub record IsCutShort (job : Job) (old new : DeskView) : Type 0 where
       ⊎ ((count : ℕ) × (count ≤ length text) × (new.outputs ≡ grown old.outputs ((job.output, take count text) ∷ [])))
   pub rose : HasCause old.write_faults new.write_faults
 
--- what a status tells of a call whose words ask for this job
+-- what a status tells of a call whose words ask for this job; the sections that a text was compiled to are never refused
 abbrev pub TellsCause : Job → DeskView → DeskView → TabStatus → Type 0
 TellsCause job old new Done = IsConverted job old new
 TellsCause job old new NoMemory = new.outputs ≡ old.outputs
@@ -44,7 +45,7 @@ TellsCause job old new ReadFault =
     HasCause old.read_faults new.read_faults × (new.outputs ≡ old.outputs)
 TellsCause job old new WriteFault = IsCutShort job old new
 TellsCause job old new (Compile fault) = IsRefused job old new (Compile fault)
-TellsCause job old new (Decompile fault) = IsRefused job old new (Decompile fault)
+TellsCause job old new (Decompile fault) = IsRefused job old new (Decompile fault) × (job.task ≡ task.Decompile)
 TellsCause job old new TooMany =
     IfSome (content old job.input) (λ file. most_bytes < length file) × (new.outputs ≡ old.outputs)
 
