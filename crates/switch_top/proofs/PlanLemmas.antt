@@ -11,7 +11,7 @@ use Rattle.switch_top.specs.SwitchEnds.{SwitchesPlan, output_name}
 use Rattle.switch_top.specs.SwitchPlans.{IsBuffer, IsPlanOf, plays_of}
 use Rattle.switch_top.specs.SwitchCall.{CallsSwitch, at_plan}
 
-pub buffer-of : (given : Option ℕ) (size : ℕ) → size ≡ unwrap_or given 89240 → IsBuffer given size
+pub buffer-of : (given : Option ℕ) (size : ℕ) → size ≡ unwrap_or given 4096 → IsBuffer given size
 buffer-of (Some n) size is = is
 buffer-of None size is = (omega (arith, is), omega (arith, is))
 

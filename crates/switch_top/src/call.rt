@@ -14,7 +14,7 @@ ghost use Rattle.switch_top.specs.SwitchCall.{CallsSwitch};
 
 use crate::ending::finish_plays;
 use crate::lines::push_line;
-use crate::plan::SwitchPlan;
+use crate::plan::{BATCH, SwitchPlan};
 use crate::plays_left::PlaysLeft;
 use crate::status::SwitchStatus;
 use crate::stepping::{AllPlayed, Switched, Switching, play_all};
@@ -48,7 +48,7 @@ fn play_from_first<R: Threads + Wait + Sync, D: Desk, G: Gate>(
     let core = CorePlan {
         plugins: 0,
         buffer: plan.buffer,
-        most: 10_000,
+        most: BATCH,
         users: StageSet::none(),
     };
     let inputs = plan.inputs.as_slice();

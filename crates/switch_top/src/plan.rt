@@ -4,8 +4,13 @@ ghost use Rattle.std.specs.Prelude.{◌≡◌, ◌≤◌, IfSome, unwrap_or};
 use switch_args::{SwitchOutput, SwitchSettings};
 use ts_outside::NameText;
 
-/// How many packets a ring has where the words do not say it.
-const DEFAULT_BUFFER: u64 = 89_240;
+/// How many packets a stage takes at a time. A batch that is handed on wakes the other stage; greater ones leave the
+/// processors' caches on their way.
+pub(crate) const BATCH: usize = 1024;
+
+/// How many packets a ring has where the words do not say it: four batches, so that both stages have some to work on at
+/// once. Each play takes a ring of its own, and two are there at once.
+const DEFAULT_BUFFER: u64 = 4096;
 
 /// What is played, and where to.
 #[derive(Drop)]
