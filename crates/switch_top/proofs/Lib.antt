@@ -8,3 +8,4 @@ mod EndLemmas
 mod PlanLemmas
 mod CallLaws
 mod TheoremLemmas
+mod TellsLemmas

@@ -1,7 +1,7 @@
 -- Plays that were played to their ends are those of the switched list, and their lines are its report.
 use Rattle.std.proofs.Common.{◌≡◌, ℕ, ◌+◌, List, [], ◌∷◌, ◌++◌, length, map, Option, Some, refl, ap, sym, ◌∙◌, subst, append-nil, append_assoc}
-use Rattle.std.specs.Prelude.{IfSome, if◌then◌else◌}
-use Rattle.std.specs.List.{flat_map}
+use Rattle.std.specs.Prelude.{Bool, true, ◌&&◌, IfSome, if◌then◌else◌}
+use Rattle.std.specs.List.{flat_map, list_all}
 use Rattle.ts_packet.specs.declared.cell.Cell.{Cell}
 use Rattle.ts_outside.specs.Desk.{DeskView, file_of}
 use Rattle.chain_model.specs.declared.input_end.InputEnd.{InputEnd}
@@ -40,6 +40,16 @@ module _ (start : DeskView) (files : List (List ℕ × List ℕ)) (told : start.
 
   plain-file : (b : Behind) → IsBehind start b → (play_of (file_of files b.play.name)).ended ≡ Some (input_over (End b.left))
   plain-file b is = ap (λ l. (play_of l).ended) (sym (bytes-told b.bytes b.play.name is.told)) ∙ is.plain
+
+  both-true : (a b : Bool) → a ≡ true → b ≡ true → (a && b) ≡ true
+  both-true a b first second = ap (λ x. x && b) first ∙ second
+
+  -- all plays behind end plainly
+  pub behind-plain : (behind : List Behind) → Each (IsBehind start) behind → list_all (λ (p : PlayList). is_plain p.list.ended) (lists_of files (names_of behind)) ≡ true
+  behind-plain [] all = refl
+  behind-plain (b ∷ bs) all =
+      both-true (is_plain (play_of (file_of files b.play.name)).ended) (list_all (λ (p : PlayList). is_plain p.list.ended) (lists_of files (names_of bs)))
+      (ap is_plain (plain-file b all.0)) (behind-plain bs all.1)
 
   -- all plays behind are played
   pub behind-on : (behind : List Behind) (rest : List PlayName) → Each (IsBehind start) behind → played (lists_of files (names_of behind ++ rest)) ≡ lists_of files (names_of behind) ++ played (lists_of files rest)

@@ -1,21 +1,30 @@
 -- What a call of `tsswitch` does, in the words of the switched list. This project's own rule.
-use Rattle.std.specs.Prelude.{◌≡◌, ◌⊎◌, ℕ, ◌<◌, ◌≤◌, List, [], ◌∷◌, ◌++◌, length, true, false, Option}
-use Rattle.std.specs.List.{list_all}
+use Rattle.std.specs.Prelude.{◌≡◌, ◌⊎◌, ℕ, ◌+◌, ◌-◌, ◌^◌, ◌<◌, ◌≤◌, min, List, [], ◌∷◌, ◌++◌, length, take, codes, Bool, true, false, Option, Some}
+use Rattle.std.specs.List.{flat_map, list_all}
+use Rattle.ts_packet.specs.declared.cell.Cell.{Cell}
 use Rattle.ts_outside.specs.Count.{HasCause}
 use Rattle.ts_outside.specs.Told.{grown}
 use Rattle.ts_outside.specs.Source.{SourceView}
-use Rattle.ts_outside.specs.Desk.{DeskView}
-use Rattle.ts_outside.specs.Saying.{ReportsText}
+use Rattle.ts_outside.specs.Desk.{DeskView, file_of, asked_in_vain}
+use Rattle.ts_outside.specs.declared.requests.Purpose.TheVariants as purpose
+use Rattle.ts_outside.specs.Saying.{Says, ReportsText}
 use Rattle.ts_outside.specs.Entries.{outputs_with}
 use Rattle.ts_outside.specs.declared.requests.Asked.{Asked}
 use Rattle.chain_model.specs.Written.{written}
+use Rattle.chain_model.specs.Stuffed.{no_stuffing}
+use Rattle.chain_model.specs.declared.input_end.InputEnd.TheVariants as how
+use Rattle.stage_run.specs.Parts.{list_at_fault}
+use Rattle.play_run.specs.declared.played.PlayEnd.{PlayEnd}
+use Rattle.play_run.specs.declared.played.PlayEnd.TheVariants.{Input, WriteFault}
+use Rattle.play_run.specs.Played.{play_of, EndsAs}
 use Rattle.switch_args.specs.SwitchWords.{Given}
 use Rattle.switch_top.specs.declared.status.SwitchStatus.{SwitchStatus}
 use Rattle.switch_top.specs.declared.status.SwitchStatus.TheVariants as status
 use Rattle.switch_top.specs.PlayNames.{PlayName}
-use Rattle.switch_top.specs.Switched.{PlayList, lists_of, is_plain, played, switched, end_of_list, last_of, switched_report}
+use Rattle.switch_top.specs.Lines.{play_line, switch_end_line}
+use Rattle.switch_top.specs.Switched.{PlayList, lists_of, is_plain, played, switched, end_of_list, line_of, last_of, switched_report}
 use Rattle.switch_top.specs.SoFar.{asked_of, with_inputs}
-use Rattle.switch_top.specs.SwitchEnds.{status_of, output_name, opened_as}
+use Rattle.switch_top.specs.SwitchEnds.{status_of, output_name, opened_as, IsPart}
 use Rattle.switch_top.specs.SwitchPlans.{plays_of}
 
 -- the plays of settings, over the bytes of files
@@ -68,3 +77,67 @@ ReadFailed start new =
     × (new.asked ≡ grown start.asked (before ++ asked_of false play ∷ ahead)))
     ⊎ ((before : List SourceView) × (made : SourceView) × (more : List SourceView) × (length more ≤ 1) × (0 < made.faults)
     × (new.closed_in ≡ with_inputs start.closed_in (before ++ made ∷ more)))
+
+-- ---- what a status tells
+
+-- the packets of plays, joined
+abbrev pub packets_of : List PlayList → List Cell
+packets_of plays = flat_map (λ (play : PlayList). play.list.cells) plays
+
+-- the report where these plays gave their whole lists, and the play behind them, of this input, gave so many packets and ended so
+abbrev pub report_to : List PlayList → ℕ → ℕ → PlayEnd → List ℕ
+report_to behind input n end =
+    flat_map line_of behind ++ (play_line input n end ++ switch_end_line input end (length (packets_of behind) + n))
+
+-- a play that ends by a read fault could not be opened, and gave nothing; or it gave the packets of what was read before the
+-- read that failed, which is its file without the bytes that its source had still to come when it was closed
+abbrev pub GivesRead : Option (List ℕ) → List ℕ → DeskView → DeskView → ℕ → Type 0
+GivesRead output file old new n =
+    (n ≡ 0)
+    ⊎ ((read : List ℕ) × (left : List ℕ) × (before : List SourceView) × (made : SourceView) × (more : List SourceView)
+    × (file ≡ read ++ left) × (n ≡ length (list_at_fault no_stuffing read).cells) × (made.left ≡ Some left) × (0 < made.faults)
+    × (length more ≤ 1) × (new.closed_in ≡ with_inputs (opened_as old output).closed_in (before ++ made ∷ more)))
+
+-- these plays end plainly, and the one behind them is the last that was played: it gave so many packets, and ended so. These
+-- packets are written, behind a failed write also a part of the next one; and that is reported, or a report failed behind a
+-- first part of it
+pub record EndsIn (files : List (List ℕ × List ℕ)) (names : List PlayName) (output : Option (List ℕ)) (old new : DeskView)
+    (end : PlayEnd) : Type 0 where
+  pub behind : List PlayName
+  pub play : PlayName
+  pub later : List PlayName
+  pub names_are : names ≡ behind ++ play ∷ later
+  pub plain : AllEndPlainly (lists_of files behind)
+  pub n : ℕ
+  pub ends : EndsAs (play_of (file_of files play.name)) n end
+  pub plain_is_last : (left : ℕ) → end ≡ Input (how.End left) → later ≡ []
+  pub part : List ℕ
+  pub part_is : IsPart (play_of (file_of files play.name)).cells n end part
+  pub written_is : new.outputs ≡ outputs_with output old.outputs
+      (written (packets_of (lists_of files behind)) ++ (written (take n (play_of (file_of files play.name)).cells) ++ part))
+  pub reported_is : ReportsText old new (report_to (lists_of files behind) play.input n end)
+  pub read : end ≡ Input how.ReadFault → GivesRead output (file_of files play.name) old new n
+
+-- an output was wanted and could not be opened; that is all that is reported
+abbrev pub MissesOutput : Option (List ℕ) → DeskView → DeskView → Type 0
+MissesOutput output old new = (name : List ℕ) × (failed : Bool) × (output ≡ Some name)
+    × Says (asked_in_vain old purpose.Output name) new (codes "tsswitch: cannot open output" ++ 10 ∷ []) failed
+
+-- how plays end behind which a write fault is told: by a failed write, or plainly, and then a report or the closing failed
+abbrev pub MayFailLate : PlayEnd → Type 0
+MayFailLate (Input (how.End left)) = Unit {0}
+MayFailLate WriteFault = Unit {0}
+MayFailLate _ = ⊥
+
+-- what each status says of the plays: the end of the last one that was played is that of the status, and no other
+abbrev pub StatusTells : List (List ℕ × List ℕ) → List PlayName → Option (List ℕ) → DeskView → DeskView → SwitchStatus → Type 0
+StatusTells files names output old new status.Done =
+    AllEndPlainly (lists_of files names) × ((left : ℕ) × EndsIn files names output old new (Input (how.End left)))
+StatusTells files names output old new status.NoMemory = Unit {0}
+StatusTells files names output old new (status.Words word) = ⊥
+StatusTells files names output old new status.ReadFault = EndsIn files names output old new (Input how.ReadFault)
+StatusTells files names output old new status.WriteFault =
+    MissesOutput output old new ⊎ ((end : PlayEnd) × MayFailLate end × EndsIn files names output old new end)
+StatusTells files names output old new (status.Sync input packet) =
+    (ends : EndsIn files names output old new (Input (how.Sync packet))) × (input ≡ min ends.play.input (2 ^ 32 - 1))
+StatusTells files names output old new status.TooLong = EndsIn files names output old new (Input how.TooLong)

@@ -8,7 +8,8 @@ ghost use Rattle.switch_top.specs.declared.status.SwitchStatus.{SwitchStatus};
 ghost use Rattle.switch_top.specs.declared.status.SwitchStatus.TheVariants.{Done, NoMemory, Words, ReadFault, WriteFault};
 ghost use Rattle.switch_top.specs.SwitchCall.{CallsSwitch};
 ghost use Rattle.switch_top.specs.SwitchEnds.{output_name, opened_as};
-ghost use Rattle.switch_top.specs.SwitchTheorem.{lists_given, IsPureSwitch, WritesSwitched, WritesFirst, TellsWhole, NothingLate, AllEndPlainly, ReadFailed};
+ghost use Rattle.switch_top.specs.SwitchPlans.{plays_of};
+ghost use Rattle.switch_top.specs.SwitchTheorem.{lists_given, IsPureSwitch, WritesSwitched, WritesFirst, TellsWhole, NothingLate, AllEndPlainly, ReadFailed, StatusTells};
 
 use switch_args::first_fault_law;
 
@@ -62,6 +63,20 @@ pub fn switched_complete()
     ensures { (words : List (List ℕ)) (given : Given) (files : List (List ℕ × List ℕ)) (old new : DeskView) (answer : SwitchStatus)
         → read_of words ≡ Some given → old.files ≡ Some files → CallsSwitch words old new answer → NothingFails old new
         → AllEndPlainly (lists_given given files) → (answer ≡ Done) ⊎ (answer ≡ NoMemory) }
+{
+    first_fault_law();
+}
+
+/// Each status tells how the last play that was played ended, and is told of no other end. `Done` comes only where every play
+/// ends plainly, and `Sync` and `TooLong` only where the last one ended so.
+///
+/// Whatever failed, exactly the packets of the plays before it and those that it gave itself are written, behind a failed write
+/// also a part of the next packet, and exactly their lines and the end line are reported, or begin the report where that
+/// failed. Behind a failed read the packets that it gave are those of what was read of it.
+pub fn switched_ends()
+    ensures { (words : List (List ℕ)) (given : Given) (files : List (List ℕ × List ℕ)) (old new : DeskView) (answer : SwitchStatus)
+        → read_of words ≡ Some given → old.files ≡ Some files → CallsSwitch words old new answer
+        → StatusTells files (plays_of given) (output_name given.output) old new answer }
 {
     first_fault_law();
 }

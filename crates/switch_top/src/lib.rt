@@ -14,7 +14,8 @@ mod switching;
 
 pub use call::{switch_call, switch_plan};
 pub use laws::{
-    switched_complete, switched_faults, switched_first, switched_status, switched_whole,
+    switched_complete, switched_ends, switched_faults, switched_first, switched_status,
+    switched_whole,
 };
 pub use plan::SwitchPlan;
 pub use status::SwitchStatus;

@@ -1,0 +1,190 @@
+-- From the whole call to what its status tells.
+use Rattle.std.proofs.Common.{◌≡◌, ℕ, ◌+◌, List, [], ◌∷◌, ◌++◌, length, take, Bool, true, false, Option, None, Some, refl, ap, sym, ◌∙◌, subst, arith, inl, inr}
+use Rattle.std.specs.Prelude.{◌⊎◌, ◌&&◌, ◌||◌, ◌<◌, ◌≤◌, ◌-◌, ◌^◌, min, codes}
+use Rattle.std.specs.List.{list_all}
+use Rattle.ts_outside.specs.Count.{HasCause, raised}
+use Rattle.ts_outside.proofs.Views.{HasCause-raised}
+use Rattle.ts_outside.specs.Source.{SourceView, own_bytes, read_failed, unread}
+use Rattle.ts_outside.specs.Told.{before, grown}
+use Rattle.ts_outside.specs.Desk.{DeskView, file_of, content, asked_well}
+use Rattle.ts_outside.specs.declared.requests.Purpose.TheVariants as purpose
+use Rattle.ts_outside.specs.Saying.{Says, ReportsText}
+use Rattle.ts_outside.specs.Entries.{outputs_with}
+use Rattle.chain_model.specs.declared.input_end.InputEnd.TheVariants as how
+use Rattle.chain_model.specs.Written.{written}
+use Rattle.chain_model.specs.Stuffed.{no_stuffing}
+use Rattle.stage_run.specs.Parts.{list_at_fault}
+use Rattle.switch_args.specs.SwitchWords.{Given, read_of}
+use Rattle.play_run.specs.declared.played.PlayEnd.{PlayEnd}
+use Rattle.play_run.specs.declared.played.PlayEnd.TheVariants.{Input, WriteFault}
+use Rattle.play_run.specs.Played.{play_of, cause_of, EndsAs}
+use Rattle.switch_top.specs.declared.status.SwitchStatus.{SwitchStatus}
+use Rattle.switch_top.specs.declared.status.SwitchStatus.TheVariants as status
+use Rattle.switch_top.specs.PlayNames.{PlayName}
+use Rattle.switch_top.specs.Lines.{play_line, switch_end_line}
+use Rattle.switch_top.specs.Switched.{PlayList, lists_of, is_plain}
+use Rattle.switch_top.specs.SoFar.{names_of, cells_of, lines_of, sources_of, with_inputs, LastRead}
+use Rattle.switch_top.specs.SwitchEnds.{SwitchesPlan, no_output, out_of_memory, wanted, ran, SwitchRan, IsPart, output_name, opened_as}
+use Rattle.switch_top.specs.SwitchCall.{CallsSwitch, at_words, no_room, at_plan}
+use Rattle.switch_top.specs.SwitchPlans.{plays_of}
+use Rattle.switch_top.specs.SwitchTheorem.{AllEndPlainly, packets_of, report_to, GivesRead, EndsIn, MayFailLate, StatusTells}
+use Rattle.switch_top.proofs.SwitchedLaws.{bytes-told, behind-plain, behind-cells, behind-lines}
+use Rattle.switch_top.proofs.CallLaws.{late_status}
+use Rattle.switch_top.proofs.TheoremLemmas.{NoFault}
+
+-- ---- what was read before a read failed
+
+before-is : (read file : List ℕ) (left : Option (List ℕ)) → Some file ≡ before read left → (rest : List ℕ) × (left ≡ Some rest) × (file ≡ read ++ rest)
+before-is read file None e = absurd (let bad : Some file ≡ None = e in cc)
+before-is read file (Some rest) e = (rest, refl, (let same : Some file ≡ Some (read ++ rest) = e in cc))
+
+module _ (buffer : ℕ) (names : List PlayName) (output : Option (List ℕ)) (start new : DeskView) (answer : SwitchStatus)
+    (r : SwitchRan buffer names output start new answer) (files : List (List ℕ × List ℕ)) (told : start.files ≡ Some files) where
+  last-is : r.bytes ≡ file_of files r.name
+  last-is = bytes-told start files told r.bytes r.name r.told
+
+  content-is : content start r.name ≡ Some (file_of files r.name)
+  content-is = ap (λ (o : Option (List (List ℕ × List ℕ))). content (record start { files = o }) r.name) told
+
+  gives-read : (ok : Bool) → LastRead buffer start r.behind r.name r.n r.end ok r.sources → r.end ≡ Input how.ReadFault
+      → (r.n ≡ 0)
+      ⊎ ((read : List ℕ) × (left : List ℕ) × (before : List SourceView) × (made : SourceView) × (more : List SourceView)
+      × (file_of files r.name ≡ read ++ left) × (r.n ≡ length (list_at_fault no_stuffing read).cells) × (made.left ≡ Some left) × (0 < made.faults)
+      × (length more ≤ 1) × (new.closed_in ≡ with_inputs start.closed_in (before ++ made ∷ more)))
+  gives-read false l e = inl l.1
+  gives-read true l e =
+      let f = l.4.at_fault (ap cause_of e) in
+      let one : raised 0 ≡ l.0.faults = ap (λ (s : SourceView). s.faults) f.failed in
+      let whole : Some (file_of files r.name) ≡ before l.4.read l.0.left = sym content-is ∙ ap (λ (s : SourceView). s.left) f.failed in
+      let b = before-is l.4.read (file_of files r.name) l.0.left whole in
+      inr (l.4.read, b.0, sources_of r.behind, l.0, l.1, b.2, f.cut_is, b.1, subst (λ n. 0 < n) one (omega arith), l.3, r.closed_in ∙ ap (with_inputs start.closed_in) l.2)
+
+  abbrev text : List ℕ
+  text = lines_of r.behind ++ (play_line r.input r.n r.end ++ switch_end_line r.input r.end (length (cells_of r.behind) + r.n))
+
+  text-is : report_to (lists_of files (names_of r.behind)) r.input r.n r.end ≡ text
+  text-is =
+      ap (λ l. l ++ (play_line r.input r.n r.end ++ switch_end_line r.input r.end (length (packets_of (lists_of files (names_of r.behind))) + r.n))) (behind-lines start files told r.behind r.all)
+      ∙ ap (λ c. lines_of r.behind ++ (play_line r.input r.n r.end ++ switch_end_line r.input r.end (length c + r.n))) (behind-cells start files told r.behind r.all)
+
+  said : (failed : Bool) → Says r.closed new text failed → ReportsText start new text
+  said false says = inl (ap (λ (d : DeskView). d.reported) says ∙ ap (λ o. grown o text) r.reported_before, ap (λ (d : DeskView). d.report_faults) says ∙ r.counted_before)
+  said true says = inr (
+    says.0,
+    says.1,
+    ap (λ (d : DeskView). d.reported) says.2 ∙ ap (λ o. grown o (take says.0 text)) r.reported_before,
+    subst (HasCause start.report_faults) (sym (ap (λ (d : DeskView). d.report_faults) says.2 ∙ ap raised r.counted_before)) (HasCause-raised start.report_faults),
+  )
+
+  abbrev bytes-of : List ℕ → List ℕ
+  bytes-of file = written (take r.n (play_of file).cells) ++ r.part
+
+  written-is : new.outputs ≡ outputs_with output start.outputs (written (packets_of (lists_of files (names_of r.behind))) ++ bytes-of (file_of files r.name))
+  written-is = r.written_is
+      ∙ ap (λ c. outputs_with output start.outputs (written c ++ bytes-of r.bytes)) (sym (behind-cells start files told r.behind r.all))
+      ∙ ap (λ z. outputs_with output start.outputs (written (packets_of (lists_of files (names_of r.behind))) ++ bytes-of z)) last-is
+
+-- the desk before the output was opened
+ran-ends : (buffer : ℕ) (names : List PlayName) (output : Option (List ℕ)) (old new : DeskView) (answer : SwitchStatus) (files : List (List ℕ × List ℕ)) → old.files ≡ Some files
+    → (r : SwitchRan buffer names output (opened_as old output) new answer)
+    → (failed : Bool) → Says r.closed new (lines_of r.behind ++ (play_line r.input r.n r.end ++ switch_end_line r.input r.end (length (cells_of r.behind) + r.n))) failed
+    → (e : EndsIn files names output old new r.end) × (e.play.input ≡ r.input)
+ran-ends buffer names None old new answer files told r failed says = (
+  record {
+    behind = names_of r.behind;
+    play = record { input = r.input; name = r.name };
+    later = r.later;
+    names_are = r.names_are;
+    plain = behind-plain old files told r.behind r.all;
+    n = r.n;
+    ends = subst (λ z. EndsAs (play_of z) r.n r.end) (last-is buffer names None old new answer r files told) r.ends;
+    plain_is_last = r.plain_is_last;
+    part = r.part;
+    part_is = subst (λ z. IsPart (play_of z).cells r.n r.end r.part) (last-is buffer names None old new answer r files told) r.part_is;
+    written_is = written-is buffer names None old new answer r files told;
+    reported_is = subst (ReportsText old new) (sym (text-is buffer names None old new answer r files told)) (said buffer names None old new answer r files told failed says);
+    read = gives-read buffer names None old new answer r files told r.ok r.last_read;
+  },
+  refl,
+)
+ran-ends buffer names (Some name) old new answer files told r failed says = (
+  record {
+    behind = names_of r.behind;
+    play = record { input = r.input; name = r.name };
+    later = r.later;
+    names_are = r.names_are;
+    plain = behind-plain (asked_well old purpose.Output name) files told r.behind r.all;
+    n = r.n;
+    ends = subst (λ z. EndsAs (play_of z) r.n r.end) (last-is buffer names (Some name) (asked_well old purpose.Output name) new answer r files told) r.ends;
+    plain_is_last = r.plain_is_last;
+    part = r.part;
+    part_is = subst (λ z. IsPart (play_of z).cells r.n r.end r.part) (last-is buffer names (Some name) (asked_well old purpose.Output name) new answer r files told) r.part_is;
+    written_is = written-is buffer names (Some name) (asked_well old purpose.Output name) new answer r files told;
+    reported_is = subst (ReportsText old new) (sym (text-is buffer names (Some name) (asked_well old purpose.Output name) new answer r files told)) (said buffer names (Some name) (asked_well old purpose.Output name) new answer r files told failed says);
+    read = gives-read buffer names (Some name) (asked_well old purpose.Output name) new answer r files told r.ok r.last_read;
+  },
+  refl,
+)
+
+-- ---- plays of which the last one ends plainly, too
+
+both-true : (a b : Bool) → a ≡ true → b ≡ true → (a && b) ≡ true
+both-true a b first second = ap (λ x. x && b) first ∙ second
+
+both-of : (a b : Bool) → (a && b) ≡ true → (a ≡ true) × (b ≡ true)
+both-of true b e = (refl, e)
+both-of false b e = absurd (let bad : false ≡ true = e in cc)
+
+module _ (files : List (List ℕ × List ℕ)) where
+  abbrev plain-file : PlayName → Bool
+  plain-file play = is_plain (play_of (file_of files play.name)).ended
+
+  all-plain : (behind : List PlayName) (play : PlayName) → AllEndPlainly (lists_of files behind) → plain-file play ≡ true → AllEndPlainly (lists_of files (behind ++ play ∷ []))
+  all-plain [] play all last = both-true (plain-file play) true last refl
+  all-plain (b ∷ bs) play all last =
+      let a = both-of (plain-file b) (list_all (λ (p : PlayList). is_plain p.list.ended) (lists_of files bs)) all in
+      both-true (plain-file b) (list_all (λ (p : PlayList). is_plain p.list.ended) (lists_of files (bs ++ play ∷ []))) a.0 (all-plain bs play a.1 last)
+
+  module _ (names : List PlayName) (output : Option (List ℕ)) (old new : DeskView) where
+    whole-plain : (left : ℕ) → EndsIn files names output old new (Input (how.End left)) → AllEndPlainly (lists_of files names)
+    whole-plain left e =
+        subst (λ l. AllEndPlainly (lists_of files l)) (sym (e.names_are ∙ ap (λ l. e.behind ++ e.play ∷ l) (e.plain_is_last left refl)))
+        (all-plain e.behind e.play e.plain (ap is_plain e.ends.ended))
+
+    -- the status of an end tells that end
+    tells : (late : Bool) (input : ℕ) (end : PlayEnd) (e : EndsIn files names output old new end) → e.play.input ≡ input → StatusTells files names output old new (late_status late input end)
+    tells true input (Input (how.End left)) e is = inr (Input (how.End left), tt, e)
+    tells true input (Input (how.Sync packet)) e is = (e, ap (λ i. min i (2 ^ 32 - 1)) (sym is))
+    tells true input (Input how.ReadFault) e is = e
+    tells true input (Input how.TooLong) e is = e
+    tells true input WriteFault e is = inr (WriteFault, tt, e)
+    tells false input (Input (how.End left)) e is = (whole-plain left e, (left, e))
+    tells false input (Input (how.Sync packet)) e is = (e, ap (λ i. min i (2 ^ 32 - 1)) (sym is))
+    tells false input (Input how.ReadFault) e is = e
+    tells false input (Input how.TooLong) e is = e
+    tells false input WriteFault e is = inr (WriteFault, tt, e)
+
+-- ---- the whole call
+
+module _ (files : List (List ℕ × List ℕ)) (buffer : ℕ) (names : List PlayName) (old new : DeskView) (answer : SwitchStatus) (told : old.files ≡ Some files) where
+  plan-tells : (output : Option (List ℕ)) → SwitchesPlan buffer names output old new answer → StatusTells files names output old new answer
+  plan-tells output (no_output name failed is answer_is says) = subst (StatusTells files names output old new) (sym answer_is) (inl (name, failed, is, says))
+  plan-tells output (out_of_memory answer_is same) = subst (StatusTells files names output old new) (sym answer_is) tt
+  plan-tells output (wanted w) = subst (StatusTells files names output old new) (sym w.answer_is) tt
+  plan-tells None (ran r) = elim r.reported [
+    | inl s ↦ (let e = ran-ends buffer names None old new answer files told r s.0 s.1 in subst (StatusTells files names None old new) (sym s.2) (tells files names None old new (r.late || s.0) r.input r.end e.0 e.1))
+    | inr n ↦ subst (StatusTells files names None old new) (sym n.0) tt
+  ]
+  plan-tells (Some name) (ran r) = elim r.reported [
+    | inl s ↦ (let e = ran-ends buffer names (Some name) old new answer files told r s.0 s.1 in subst (StatusTells files names (Some name) old new) (sym s.2) (tells files names (Some name) old new (r.late || s.0) r.input r.end e.0 e.1))
+    | inr n ↦ subst (StatusTells files names (Some name) old new) (sym n.0) tt
+  ]
+
+pub call-tells : ((words : List (List ℕ)) → NoFault words) → (words : List (List ℕ)) (given : Given) (files : List (List ℕ × List ℕ)) (old new : DeskView) (answer : SwitchStatus)
+    → read_of words ≡ Some given → old.files ≡ Some files → CallsSwitch words old new answer → StatusTells files (plays_of given) (output_name given.output) old new answer
+call-tells law words given files old new answer read told (at_words word failed is fault says) = absurd (law words given word read fault)
+call-tells law words given files old new answer read told (no_room is same) = subst (StatusTells files (plays_of given) (output_name given.output) old new) (sym is) tt
+call-tells law words given files old new answer read told (at_plan other is buffer size switches) =
+    let same : other ≡ given = (let f : Some other ≡ Some given = sym is ∙ read in cc) in
+    plan-tells files buffer (plays_of given) old new answer told (output_name given.output)
+    (subst (λ (g : Given). SwitchesPlan buffer (plays_of g) (output_name g.output) old new answer) same switches)
