@@ -153,6 +153,14 @@ gives-own bytes n (Input how.ReadFault) ends own = absurd own
 gives-own bytes n (Input how.TooLong) ends own = (how.TooLong, refl, ends)
 gives-own bytes n WriteFault ends own = absurd own
 
+-- at most one source was closed behind that of the last play
+pub one-more : (start : DeskView) (later : List PlayName) (ahead : List Asked) (more : List SourceView) → AsksNext start later ahead more → length more ≤ 1
+one-more start later ahead more (inl a) = (let l = ap (λ (x : List SourceView). length x) a.2 in omega (arith, l))
+one-more start later ahead more (inr a) = elim a.3 [
+  | inl n ↦ (let l = ap (λ (x : List SourceView). length x) n.1 in omega (arith, l))
+  | inr n ↦ (let l = ap (λ (x : List SourceView). length x) n.2 in omega (arith, l))
+]
+
 -- ---- the plays were played
 
 module _ (buffer : ℕ) (names : List PlayName) (output : Option (List ℕ)) (start new : DeskView) (answer : SwitchStatus) (r : SwitchRan buffer names output start new answer) where
@@ -307,18 +315,14 @@ module _ (buffer : ℕ) (names : List PlayName) (output : Option (List ℕ)) (st
     | inr n ↦ absurd (let bad : status.NoMemory ≡ status.ReadFault = sym n.0 ∙ is in cc)
   ]
     where
-      one-ahead : (later : List PlayName) (ahead : List Asked) → AsksNext later ahead → length ahead ≤ 1
-      one-ahead later ahead (inl e) = (let l = ap (λ (x : List Asked). length x) e in omega (arith, l))
-      one-ahead later ahead (inr a) = (let l = ap (λ (x : List Asked). length x) a.4 in omega (arith, l))
-
-      shows : (ok : Bool) → LastRead buffer start r.behind r.name r.n r.end ok r.sources
+      shows : (ok : Bool) → LastRead buffer start r.behind r.name r.n r.end r.later r.ahead ok r.sources
           → new.asked ≡ grown start.asked (all_asked r.behind ++ asked_of ok (record { input = r.input; name = r.name }) ∷ r.ahead)
           → r.end ≡ Input how.ReadFault → ReadFailed start new
-      shows false l asked e = inl (all_asked r.behind, record { input = r.input; name = r.name }, r.ahead, one-ahead r.later r.ahead r.asks_next, asked)
+      shows false l asked e = inl (all_asked r.behind, record { input = r.input; name = r.name }, r.ahead, (let none = ap (λ (x : List Asked). length x) l.3 in omega (arith, none)), asked)
       shows true l asked e =
           let f = l.4.at_fault (ap cause_of e) in
           let one : raised 0 ≡ l.0.faults = ap (λ (s : SourceView). s.faults) f.failed in
-          inr (sources_of r.behind, l.0, l.1, l.3, subst (λ n. 0 < n) one (omega arith), r.closed_in ∙ ap (with_inputs start.closed_in) l.2)
+          inr (sources_of r.behind, l.0, l.1, one-more start r.later r.ahead l.1 l.3, subst (λ n. 0 < n) one (omega arith), r.closed_in ∙ ap (with_inputs start.closed_in) l.2)
 
   -- a write fault has its cause
   pub ran-write : answer ≡ status.WriteFault → HasCause start.write_faults new.write_faults ⊎ HasCause start.report_faults new.report_faults

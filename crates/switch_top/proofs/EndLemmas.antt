@@ -185,7 +185,6 @@ switch-ran see core inputs names start first name o d closed new failed answer r
       reported = subst (λ t. ReportsPlays t o.input o.end failed closed new answer) text reports;
       ok = r.ok;
       ahead = r.ahead;
-      asks_next = r.asks_next;
       asked = leaves.asked ∙ rest.asked ∙ r.desk_is.asked_is;
       sources = r.sources;
       last_read = r.last_read;

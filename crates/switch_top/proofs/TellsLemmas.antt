@@ -29,7 +29,7 @@ use Rattle.switch_top.specs.SwitchCall.{CallsSwitch, at_words, no_room, at_plan}
 use Rattle.switch_top.specs.SwitchPlans.{plays_of}
 use Rattle.switch_top.specs.SwitchTheorem.{AllEndPlainly, packets_of, report_to, GivesRead, EndsIn, MayFailLate, StatusTells}
 use Rattle.switch_top.proofs.SwitchedLaws.{bytes-told, behind-plain, behind-cells, behind-lines}
-use Rattle.switch_top.proofs.CallLaws.{late_status}
+use Rattle.switch_top.proofs.CallLaws.{late_status, one-more}
 use Rattle.switch_top.proofs.TheoremLemmas.{NoFault}
 
 -- ---- what was read before a read failed
@@ -46,7 +46,7 @@ module _ (buffer : ℕ) (names : List PlayName) (output : Option (List ℕ)) (st
   content-is : content start r.name ≡ Some (file_of files r.name)
   content-is = ap (λ (o : Option (List (List ℕ × List ℕ))). content (record start { files = o }) r.name) told
 
-  gives-read : (ok : Bool) → LastRead buffer start r.behind r.name r.n r.end ok r.sources → r.end ≡ Input how.ReadFault
+  gives-read : (ok : Bool) → LastRead buffer start r.behind r.name r.n r.end r.later r.ahead ok r.sources → r.end ≡ Input how.ReadFault
       → (r.n ≡ 0)
       ⊎ ((read : List ℕ) × (left : List ℕ) × (before : List SourceView) × (made : SourceView) × (more : List SourceView)
       × (file_of files r.name ≡ read ++ left) × (r.n ≡ length (list_at_fault no_stuffing read).cells) × (made.left ≡ Some left) × (0 < made.faults)
@@ -57,7 +57,7 @@ module _ (buffer : ℕ) (names : List PlayName) (output : Option (List ℕ)) (st
       let one : raised 0 ≡ l.0.faults = ap (λ (s : SourceView). s.faults) f.failed in
       let whole : Some (file_of files r.name) ≡ before l.4.read l.0.left = sym content-is ∙ ap (λ (s : SourceView). s.left) f.failed in
       let b = before-is l.4.read (file_of files r.name) l.0.left whole in
-      inr (l.4.read, b.0, sources_of r.behind, l.0, l.1, b.2, f.cut_is, b.1, subst (λ n. 0 < n) one (omega arith), l.3, r.closed_in ∙ ap (with_inputs start.closed_in) l.2)
+      inr (l.4.read, b.0, sources_of r.behind, l.0, l.1, b.2, f.cut_is, b.1, subst (λ n. 0 < n) one (omega arith), one-more start r.later r.ahead l.1 l.3, r.closed_in ∙ ap (with_inputs start.closed_in) l.2)
 
   abbrev text : List ℕ
   text = lines_of r.behind ++ (play_line r.input r.n r.end ++ switch_end_line r.input r.end (length (cells_of r.behind) + r.n))

@@ -5,6 +5,7 @@ use Rattle.ts_outside.specs.Sink.{SinkView}
 use Rattle.ts_outside.specs.declared.requests.Purpose.TheVariants.{Input}
 use Rattle.ts_outside.specs.Source.{SourceView, own_bytes}
 use Rattle.ts_outside.specs.Desk.{DeskView, content, asked_well, asked_in_vain, input_closed}
+use Rattle.play_run.specs.Abandoned.{WasAbandoned}
 use Rattle.switch_top.specs.declared.plays_left.PlaysLeft.{PlaysLeft}
 use Rattle.switch_top.specs.declared.switching.NextPlay.{NextPlay}
 use Rattle.switch_top.specs.declared.switching.NextPlay.TheVariants.{NoMore, Open, Failed}
@@ -57,14 +58,15 @@ module _ {S A K : Type 0} (see : PlayKind S A K) where
   SameNext (Failed input) (Failed number) = number ≡ input
   SameNext _ _ = ⊥
 
+  -- it was closed, if it was opened; then some of it may have been read, and at most one call failed
+  abbrev pub LeavesNext : NextPlay A → DeskView → DeskView → Type 0
+  LeavesNext NoMore old new = new ≡ old
+  LeavesNext (Open input play) old new = (view : SourceView) × (new ≡ input_closed old view)
+      × ((plan : CorePlan) (source : S) → see.opens plan source play → WasAbandoned (see.source source) view)
+  LeavesNext (Failed input) old new = new ≡ old
+
 -- memory was wanting: nothing was asked for, or the next file was opened and closed again
 abbrev pub WantsNext : List (List ℕ) → PlaysLeft → DeskView → DeskView → Type 0
 WantsNext names left old new = (new ≡ old)
     ⊎ ((play : PlayName) × (rest : List PlayName) × (plays_left names left ≡ play ∷ rest)
     × (new ≡ input_closed (asked_well old Input play.name) (record { left = content old play.name; faults = 0; origin = own_bytes })))
-
--- it was closed, if it was opened
-abbrev pub LeavesNext : {A : Type 0} → NextPlay A → DeskView → DeskView → Type 0
-LeavesNext NoMore old new = new ≡ old
-LeavesNext (Open input play) old new = (view : SourceView) × (new ≡ input_closed old view)
-LeavesNext (Failed input) old new = new ≡ old

@@ -25,7 +25,7 @@ use Rattle.switch_top.specs.declared.status.SwitchStatus.{SwitchStatus}
 use Rattle.switch_top.specs.declared.status.SwitchStatus.TheVariants as status
 use Rattle.switch_top.specs.PlayNames.{PlayName}
 use Rattle.switch_top.specs.Lines.{play_line, switch_end_line}
-use Rattle.switch_top.specs.SoFar.{Behind, IsBehind, names_of, cells_of, lines_of, all_asked, asked_of, with_inputs, LastRead, AskedFirst, AsksNext}
+use Rattle.switch_top.specs.SoFar.{Behind, IsBehind, names_of, cells_of, lines_of, all_asked, asked_of, with_inputs, LastRead, AskedFirst}
 
 -- the status of the last play's end; the input's number is told in 32 bits
 abbrev pub status_of : ℕ → PlayEnd → SwitchStatus
@@ -101,10 +101,9 @@ pub record SwitchRan (buffer : ℕ) (names : List PlayName) (output : Option (Li
   pub reported : ReportsPlays (lines_of behind ++ (play_line input n end ++ switch_end_line input end (length (cells_of behind) + n))) input end late closed new answer
   pub ok : Bool
   pub ahead : List Asked
-  pub asks_next : AsksNext later ahead
   pub asked : new.asked ≡ grown start.asked (all_asked behind ++ asked_of ok (record { input = input; name = name }) ∷ ahead)
   pub sources : List SourceView
-  pub last_read : LastRead buffer start behind name n end ok sources
+  pub last_read : LastRead buffer start behind name n end later ahead ok sources
   pub closed_in : new.closed_in ≡ with_inputs start.closed_in sources
   pub files : new.files ≡ start.files
   pub read_fault : end ≡ Input how.ReadFault → HasCause start.read_faults new.read_faults

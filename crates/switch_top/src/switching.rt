@@ -114,7 +114,7 @@ pub(crate) fn abandon_next<R: Wait, D: Desk, A: OpenPlay<D::In>>(
     next: NextPlay<A>,
 )
     requires { CanPlay (kind_of D.In.seen D.Out.seen A.is_open) next }
-    ensures { LeavesNext next (D.seen desk.old) (D.seen desk.new) }
+    ensures { LeavesNext (kind_of D.In.seen D.Out.seen A.is_open) next (D.seen desk.old) (D.seen desk.new) }
 {
     match next {
         NextPlay::NoMore => {}
