@@ -7,8 +7,5 @@ pub mod FatesState
 pub mod EditorStands
 pub mod EditorsState
 pub mod ServiceState
-pub mod ZapSettings
-pub mod SvremoveSettings
+pub mod ServiceSettings
 pub mod ServiceWords
-pub mod ZapWords
-pub mod SvremoveWords

@@ -14,8 +14,7 @@ use Rattle.plug_service.specs.declared.way.Way.{Way}
 use Rattle.plug_service.specs.declared.way.Way.TheVariants.{Keep, Remove}
 use Rattle.plug_service.specs.declared.fate.Fate.{Fate}
 use Rattle.plug_service.specs.declared.fate.Fate.TheVariants.{EditPat, EditSdt, EditPmt, Pass, Drop}
-use Rattle.plug_service.specs.declared.zap_conf.ZapConf.{ZapConf}
-use Rattle.plug_service.specs.declared.svremove_conf.SvremoveConf.{SvremoveConf}
+use Rattle.plug_service.specs.declared.service_conf.ServiceConf.{ServiceConf}
 
 -- the packets on a PID, all of which are taken on PID 0 and PID 17
 unfoldable pub packets_on : ℕ → List (List ℕ) → List (List ℕ)
@@ -58,9 +57,9 @@ service_rule way service stuffing = silent_rule (λ history packet.
     fate stuffing (made_of way service (live_packets history) packet))
 
 -- the rule of `zap`
-abbrev pub zap_rule : ZapConf → PluginRule
+abbrev pub zap_rule : ServiceConf → PluginRule
 zap_rule conf = service_rule Keep conf.service conf.stuffing
 
 -- the rule of `svremove`
-abbrev pub svremove_rule : SvremoveConf → PluginRule
+abbrev pub svremove_rule : ServiceConf → PluginRule
 svremove_rule conf = service_rule Remove conf.service conf.stuffing

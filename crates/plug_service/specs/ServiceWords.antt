@@ -1,11 +1,13 @@
--- The words that `zap` and `svremove` have in common.
+-- The words of `zap` and `svremove`.
 -- This project's own rule.
-use Rattle.std.specs.Prelude.{ℕ, List, [], ◌∷◌, codes, unwrap_or}
+use Rattle.std.specs.Prelude.{ℕ, List, [], ◌∷◌, codes, true, unwrap_or}
 use Rattle.clap.specs.Walk.{Row}
 use Rattle.option_words.specs.Forms.{number}
 use Rattle.option_words.specs.Number.{number_within}
-use Rattle.option_words.specs.Options.{OptionRow, flag, operand, read_value}
+use Rattle.option_words.specs.Options.{OptionRow, flag, has_flag, has_value, operand, read_value}
+use Rattle.option_words.specs.OptionTable.{OptionTable}
 use Rattle.plug_service.specs.declared.limits.TheConstants.{LAST_SERVICE}
+use Rattle.plug_service.specs.declared.service_conf.ServiceConf.{ServiceConf}
 
 -- the operand is the number of the service, 1 to 65535
 abbrev pub service_rows : List OptionRow
@@ -16,3 +18,16 @@ service_rows = record { name = codes "operand"; kind = operand (number 1 LAST_SE
 -- the number of the service; it has to be given
 abbrev pub service_found : List Row → ℕ
 service_found found = unwrap_or (read_value (number_within 1 LAST_SERVICE) (codes "operand") found) 1
+
+-- the settings of what is found
+abbrev pub service_settings : List Row → ServiceConf
+service_settings found = record { service = service_found found; stuffing = has_flag (codes "stuffing") found }
+
+-- the service has to be given
+abbrev pub service_options : OptionTable ServiceConf
+service_options = record {
+  rows = service_rows;
+  has_needed = has_value (codes "operand");
+  settings = service_settings;
+  go_together = λ found. true;
+}

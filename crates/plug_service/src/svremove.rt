@@ -4,7 +4,7 @@ ghost use Rattle.std.specs.Prelude.{◌≡◌, [], None, IfOk};
 ghost use Rattle.plug_service.specs.ServiceRule.{svremove_rule};
 
 use crate::one_service::OneService;
-use crate::svremove_conf::SvremoveConf;
+use crate::service_conf::ServiceConf;
 use crate::way::Way;
 use plugin_trait::{Line, Outcome, Plugin, silent_report};
 use std::alloc::{AllocError, Global};
@@ -22,12 +22,12 @@ pub struct Svremove {
 }
 
 impl Svremove {
-    ghost use Rattle.plug_service.specs.SvremoveSettings.{IsLawfulSvremove};
+    ghost use Rattle.plug_service.specs.ServiceSettings.{IsLawfulService};
 
     /// A plugin that met no cell yet. Its steps take memory; a step on a live cell may want it, and then every later
     /// one does.
-    pub fn new(alloc: Global, conf: &SvremoveConf, _buffer: usize) -> Result<Svremove, AllocError>
-        requires { IsLawfulSvremove conf.now }
+    pub fn new(alloc: Global, conf: &ServiceConf, _buffer: usize) -> Result<Svremove, AllocError>
+        requires { IsLawfulService conf.now }
         ensures rule { IfOk result (λ plugin. ⟦<Svremove as Plugin>⟧.rule plugin ≡ svremove_rule conf.now) }
         ensures fresh { IfOk result (λ plugin. ⟦<Svremove as Plugin>⟧.stands_for plugin [] 0) }
         ensures steady { IfOk result (λ plugin. ⟦<Svremove as Plugin>⟧.steady plugin ≡ None) }

@@ -4,8 +4,8 @@ ghost use Rattle.std.specs.Prelude.{◌≡◌, [], None, IfOk};
 ghost use Rattle.plug_service.specs.ServiceRule.{zap_rule};
 
 use crate::one_service::OneService;
+use crate::service_conf::ServiceConf;
 use crate::way::Way;
-use crate::zap_conf::ZapConf;
 use plugin_trait::{Line, Outcome, Plugin, silent_report};
 use std::alloc::{AllocError, Global};
 use ts_packet::Cell;
@@ -22,12 +22,12 @@ pub struct Zap {
 }
 
 impl Zap {
-    ghost use Rattle.plug_service.specs.ZapSettings.{IsLawfulZap};
+    ghost use Rattle.plug_service.specs.ServiceSettings.{IsLawfulService};
 
     /// A plugin that met no cell yet. Its steps take memory; a step on a live cell may want it, and then every later
     /// one does.
-    pub fn new(alloc: Global, conf: &ZapConf, _buffer: usize) -> Result<Zap, AllocError>
-        requires { IsLawfulZap conf.now }
+    pub fn new(alloc: Global, conf: &ServiceConf, _buffer: usize) -> Result<Zap, AllocError>
+        requires { IsLawfulService conf.now }
         ensures rule { IfOk result (λ plugin. ⟦<Zap as Plugin>⟧.rule plugin ≡ zap_rule conf.now) }
         ensures fresh { IfOk result (λ plugin. ⟦<Zap as Plugin>⟧.stands_for plugin [] 0) }
         ensures steady { IfOk result (λ plugin. ⟦<Zap as Plugin>⟧.steady plugin ≡ None) }

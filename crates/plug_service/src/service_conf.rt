@@ -1,6 +1,6 @@
-/// Settings of `svremove`.
+/// Settings of `zap` and of `svremove`.
 #[derive(Drop)]
-pub struct SvremoveConf {
+pub struct ServiceConf {
     /// The number of the service, 1 to 65535.
     pub service: u64,
     /// What is not passed becomes a null packet and is not dropped.

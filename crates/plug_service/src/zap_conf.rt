@@ -1,8 +1,0 @@
-/// Settings of `zap`.
-#[derive(Drop)]
-pub struct ZapConf {
-    /// The number of the service, 1 to 65535.
-    pub service: u64,
-    /// What is not passed becomes a null packet and is not dropped.
-    pub stuffing: bool,
-}
