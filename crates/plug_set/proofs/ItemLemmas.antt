@@ -25,29 +25,10 @@ fold_more (r ∷ rows) row app = fold_more rows row (with_rule app (rule_of_kind
 pub command-more : (rows : List OptionRow) → command_of (rows ++ only_label_row ∷ []) ≡ with_rule (command_of rows) (value_rule (codes "only-label"))
 command-more rows = fold_more rows only_label_row bare_command
 
--- `clap` reads the command of each plugin by its simple rules
+-- `clap` reads the command of each plugin by its simple rules: each command is computed
 pub simple : (k : PluginKind) → is_simple_and_free (command_of (options_of_item k).rows) ≡ true
 simple kind.Filter = refl
-simple kind.Skip = refl
-simple kind.Slice = refl
-simple kind.Pattern = refl
-simple kind.Until = refl
-simple kind.Count = refl
-simple kind.Continuity = refl
-simple kind.Remap = refl
-simple kind.Inject = refl
-simple kind.Pat = refl
-simple kind.Cat = refl
-simple kind.Pmt = refl
-simple kind.Sdt = refl
-simple kind.Nit = refl
-simple kind.Analyze = refl
-simple kind.Tables = refl
-simple kind.Zap = refl
-simple kind.Svremove = refl
-simple kind.Compact = refl
-simple kind.Rmorphan = refl
-simple kind.Pcrverify = refl
+simple _ = refl
 
 module _ {C : Type 0} (p : OptionTable C) (app : App) (words : List (List ℕ)) (same : app ≡ command_of p.rows) where
   -- words that the command does not take

@@ -47,6 +47,35 @@ pub(crate) enum SomePlugin {
     Pcrverify(Pcrverify),
 }
 
+// What to do with the plugin that stands there, whichever it is.
+macro_rules! each_plugin {
+    ($some:expr, $plugin:ident => $does:expr) => {
+        match $some {
+            SomePlugin::Filter($plugin) => $does,
+            SomePlugin::Skip($plugin) => $does,
+            SomePlugin::Slice($plugin) => $does,
+            SomePlugin::Pattern($plugin) => $does,
+            SomePlugin::Until($plugin) => $does,
+            SomePlugin::Count($plugin) => $does,
+            SomePlugin::Continuity($plugin) => $does,
+            SomePlugin::Remap($plugin) => $does,
+            SomePlugin::Inject($plugin) => $does,
+            SomePlugin::Pat($plugin) => $does,
+            SomePlugin::Cat($plugin) => $does,
+            SomePlugin::Pmt($plugin) => $does,
+            SomePlugin::Sdt($plugin) => $does,
+            SomePlugin::Nit($plugin) => $does,
+            SomePlugin::Zap($plugin) => $does,
+            SomePlugin::Svremove($plugin) => $does,
+            SomePlugin::Analyze($plugin) => $does,
+            SomePlugin::Tables($plugin) => $does,
+            SomePlugin::Compact($plugin) => $does,
+            SomePlugin::Rmorphan($plugin) => $does,
+            SomePlugin::Pcrverify($plugin) => $does,
+        }
+    };
+}
+
 impl SomePlugin {
     ghost use Rattle.plug_set.specs.Plugins.{IsLawful};
 
@@ -179,133 +208,23 @@ impl Plugin for SomePlugin {
     ] };
 
     fn step(&mut self, at: u64, cell: &mut Cell) -> Outcome {
-        match self {
-            SomePlugin::Filter(plugin) => plugin.step(at, cell),
-            SomePlugin::Skip(plugin) => plugin.step(at, cell),
-            SomePlugin::Slice(plugin) => plugin.step(at, cell),
-            SomePlugin::Pattern(plugin) => plugin.step(at, cell),
-            SomePlugin::Until(plugin) => plugin.step(at, cell),
-            SomePlugin::Count(plugin) => plugin.step(at, cell),
-            SomePlugin::Continuity(plugin) => plugin.step(at, cell),
-            SomePlugin::Remap(plugin) => plugin.step(at, cell),
-            SomePlugin::Inject(plugin) => plugin.step(at, cell),
-            SomePlugin::Pat(plugin) => plugin.step(at, cell),
-            SomePlugin::Cat(plugin) => plugin.step(at, cell),
-            SomePlugin::Pmt(plugin) => plugin.step(at, cell),
-            SomePlugin::Sdt(plugin) => plugin.step(at, cell),
-            SomePlugin::Nit(plugin) => plugin.step(at, cell),
-            SomePlugin::Zap(plugin) => plugin.step(at, cell),
-            SomePlugin::Svremove(plugin) => plugin.step(at, cell),
-            SomePlugin::Analyze(plugin) => plugin.step(at, cell),
-            SomePlugin::Tables(plugin) => plugin.step(at, cell),
-            SomePlugin::Compact(plugin) => plugin.step(at, cell),
-            SomePlugin::Rmorphan(plugin) => plugin.step(at, cell),
-            SomePlugin::Pcrverify(plugin) => plugin.step(at, cell),
-        }
+        each_plugin!(self, plugin => plugin.step(at, cell))
     }
 
     fn steps(&mut self, at: u64, cells: &mut [Cell], noted: &mut bool) -> Applied {
-        match self {
-            SomePlugin::Filter(plugin) => plugin.steps(at, cells, noted),
-            SomePlugin::Skip(plugin) => plugin.steps(at, cells, noted),
-            SomePlugin::Slice(plugin) => plugin.steps(at, cells, noted),
-            SomePlugin::Pattern(plugin) => plugin.steps(at, cells, noted),
-            SomePlugin::Until(plugin) => plugin.steps(at, cells, noted),
-            SomePlugin::Count(plugin) => plugin.steps(at, cells, noted),
-            SomePlugin::Continuity(plugin) => plugin.steps(at, cells, noted),
-            SomePlugin::Remap(plugin) => plugin.steps(at, cells, noted),
-            SomePlugin::Inject(plugin) => plugin.steps(at, cells, noted),
-            SomePlugin::Pat(plugin) => plugin.steps(at, cells, noted),
-            SomePlugin::Cat(plugin) => plugin.steps(at, cells, noted),
-            SomePlugin::Pmt(plugin) => plugin.steps(at, cells, noted),
-            SomePlugin::Sdt(plugin) => plugin.steps(at, cells, noted),
-            SomePlugin::Nit(plugin) => plugin.steps(at, cells, noted),
-            SomePlugin::Zap(plugin) => plugin.steps(at, cells, noted),
-            SomePlugin::Svremove(plugin) => plugin.steps(at, cells, noted),
-            SomePlugin::Analyze(plugin) => plugin.steps(at, cells, noted),
-            SomePlugin::Tables(plugin) => plugin.steps(at, cells, noted),
-            SomePlugin::Compact(plugin) => plugin.steps(at, cells, noted),
-            SomePlugin::Rmorphan(plugin) => plugin.steps(at, cells, noted),
-            SomePlugin::Pcrverify(plugin) => plugin.steps(at, cells, noted),
-        }
+        each_plugin!(self, plugin => plugin.steps(at, cells, noted))
     }
 
     fn note(&mut self, written: u64) -> Result<(), AllocError> {
-        match self {
-            SomePlugin::Filter(plugin) => plugin.note(written),
-            SomePlugin::Skip(plugin) => plugin.note(written),
-            SomePlugin::Slice(plugin) => plugin.note(written),
-            SomePlugin::Pattern(plugin) => plugin.note(written),
-            SomePlugin::Until(plugin) => plugin.note(written),
-            SomePlugin::Count(plugin) => plugin.note(written),
-            SomePlugin::Continuity(plugin) => plugin.note(written),
-            SomePlugin::Remap(plugin) => plugin.note(written),
-            SomePlugin::Inject(plugin) => plugin.note(written),
-            SomePlugin::Pat(plugin) => plugin.note(written),
-            SomePlugin::Cat(plugin) => plugin.note(written),
-            SomePlugin::Pmt(plugin) => plugin.note(written),
-            SomePlugin::Sdt(plugin) => plugin.note(written),
-            SomePlugin::Nit(plugin) => plugin.note(written),
-            SomePlugin::Zap(plugin) => plugin.note(written),
-            SomePlugin::Svremove(plugin) => plugin.note(written),
-            SomePlugin::Analyze(plugin) => plugin.note(written),
-            SomePlugin::Tables(plugin) => plugin.note(written),
-            SomePlugin::Compact(plugin) => plugin.note(written),
-            SomePlugin::Rmorphan(plugin) => plugin.note(written),
-            SomePlugin::Pcrverify(plugin) => plugin.note(written),
-        }
+        each_plugin!(self, plugin => plugin.note(written))
     }
 
     fn agreed(&self) -> bool {
-        match self {
-            SomePlugin::Filter(plugin) => plugin.agreed(),
-            SomePlugin::Skip(plugin) => plugin.agreed(),
-            SomePlugin::Slice(plugin) => plugin.agreed(),
-            SomePlugin::Pattern(plugin) => plugin.agreed(),
-            SomePlugin::Until(plugin) => plugin.agreed(),
-            SomePlugin::Count(plugin) => plugin.agreed(),
-            SomePlugin::Continuity(plugin) => plugin.agreed(),
-            SomePlugin::Remap(plugin) => plugin.agreed(),
-            SomePlugin::Inject(plugin) => plugin.agreed(),
-            SomePlugin::Pat(plugin) => plugin.agreed(),
-            SomePlugin::Cat(plugin) => plugin.agreed(),
-            SomePlugin::Pmt(plugin) => plugin.agreed(),
-            SomePlugin::Sdt(plugin) => plugin.agreed(),
-            SomePlugin::Nit(plugin) => plugin.agreed(),
-            SomePlugin::Zap(plugin) => plugin.agreed(),
-            SomePlugin::Svremove(plugin) => plugin.agreed(),
-            SomePlugin::Analyze(plugin) => plugin.agreed(),
-            SomePlugin::Tables(plugin) => plugin.agreed(),
-            SomePlugin::Compact(plugin) => plugin.agreed(),
-            SomePlugin::Rmorphan(plugin) => plugin.agreed(),
-            SomePlugin::Pcrverify(plugin) => plugin.agreed(),
-        }
+        each_plugin!(self, plugin => plugin.agreed())
     }
 
     fn finish(&mut self, cut: u64) -> Result<Vec<Line>, AllocError> {
-        match self {
-            SomePlugin::Filter(plugin) => plugin.finish(cut),
-            SomePlugin::Skip(plugin) => plugin.finish(cut),
-            SomePlugin::Slice(plugin) => plugin.finish(cut),
-            SomePlugin::Pattern(plugin) => plugin.finish(cut),
-            SomePlugin::Until(plugin) => plugin.finish(cut),
-            SomePlugin::Count(plugin) => plugin.finish(cut),
-            SomePlugin::Continuity(plugin) => plugin.finish(cut),
-            SomePlugin::Remap(plugin) => plugin.finish(cut),
-            SomePlugin::Inject(plugin) => plugin.finish(cut),
-            SomePlugin::Pat(plugin) => plugin.finish(cut),
-            SomePlugin::Cat(plugin) => plugin.finish(cut),
-            SomePlugin::Pmt(plugin) => plugin.finish(cut),
-            SomePlugin::Sdt(plugin) => plugin.finish(cut),
-            SomePlugin::Nit(plugin) => plugin.finish(cut),
-            SomePlugin::Zap(plugin) => plugin.finish(cut),
-            SomePlugin::Svremove(plugin) => plugin.finish(cut),
-            SomePlugin::Analyze(plugin) => plugin.finish(cut),
-            SomePlugin::Tables(plugin) => plugin.finish(cut),
-            SomePlugin::Compact(plugin) => plugin.finish(cut),
-            SomePlugin::Rmorphan(plugin) => plugin.finish(cut),
-            SomePlugin::Pcrverify(plugin) => plugin.finish(cut),
-        }
+        each_plugin!(self, plugin => plugin.finish(cut))
     }
 
     ghost starts_open = { elim [

@@ -1,3 +1,4 @@
+-- Written by tools/answers.
 -- Each plugin's own command.
 use Rattle.plug_set.proofs.plugin_conf.PluginKind.command.Goals as goal
 

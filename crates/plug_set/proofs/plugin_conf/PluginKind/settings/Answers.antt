@@ -1,3 +1,4 @@
+-- Written by tools/answers.
 -- Each kind's own settings, as settings of any kind.
 use Rattle.plug_pass.specs.FilterWords.{filter}
 use Rattle.plug_pass.specs.SkipWords.{skip}

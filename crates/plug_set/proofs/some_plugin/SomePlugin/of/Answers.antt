@@ -1,3 +1,4 @@
+-- Written by tools/answers.
 -- Each plugin's own clauses, at the settings that it is made of.
 use Rattle.plug_set.proofs.some_plugin.SomePlugin.of.Goals as goal
 

@@ -1,3 +1,4 @@
+-- Written by tools/answers.
 -- Each plugin's own clauses, at the plugin that stands there.
 use Rattle.plug_set.proofs.some_plugin.SomePluginPlugin.note.Goals as goal
 
