@@ -1,0 +1,63 @@
+//! What a row says of the calls of its desk.
+ghost use Rattle.std.specs.Prelude.{◌<◌, IfOk};
+
+use std::alloc::{AllocError, Global};
+use ts_outside::{FailPlan, NumberList};
+
+/// The most bytes that one read gives: a packet.
+const READ_PIECE: usize = 188;
+
+/// The most bytes that one write or one report takes.
+const WRITE_PIECE: usize = 100;
+
+/// Which calls of a desk fail, each kind counted from 1 on, and the most bytes that an output holds, and the reports: a
+/// `FailPlan` that stands in a table of rows.
+#[derive(Clone, Copy)]
+pub(crate) struct DeskPlan {
+    /// The openings of the output and the inputs, counted together.
+    pub(crate) opens: &'static [u64],
+    /// Those of each input.
+    pub(crate) reads: &'static [u64],
+    pub(crate) writes: &'static [u64],
+    pub(crate) reports: &'static [u64],
+    pub(crate) closes: &'static [u64],
+    pub(crate) room: usize,
+}
+
+/// No call fails.
+pub(crate) const ORDINARY: DeskPlan = DeskPlan {
+    opens: &[],
+    reads: &[],
+    writes: &[],
+    reports: &[],
+    closes: &[],
+    room: 20_000,
+};
+
+impl DeskPlan {
+    /// The plan as a desk takes it.
+    pub(crate) fn fail_plan(self, alloc: Global) -> Result<FailPlan, AllocError>
+        ensures { IfOk result (λ p. (0 < p.read_piece) × (0 < p.write_piece)) }
+    {
+        let opens = numbers(alloc, self.opens)?;
+        let reads = numbers(alloc, self.reads)?;
+        let writes = numbers(alloc, self.writes)?;
+        let reports = numbers(alloc, self.reports)?;
+        let closes = numbers(alloc, self.closes)?;
+        Ok(FailPlan {
+            opens,
+            reads,
+            writes,
+            reports,
+            closes,
+            read_piece: READ_PIECE,
+            write_piece: WRITE_PIECE,
+            room: self.room,
+        })
+    }
+}
+
+/// The numbers as a desk takes them.
+fn numbers(alloc: Global, calls: &[u64]) -> Result<NumberList, AllocError> {
+    Ok(NumberList::of(Vec::from_slice(alloc, calls)?))
+}

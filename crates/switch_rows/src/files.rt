@@ -1,0 +1,93 @@
+//! The files of the desk.
+use std::alloc::{AllocError, Global};
+use ts_outside::{FileBytes, FileList, NameText};
+
+/// The byte with which a packet begins, and another one.
+const SYNC: u8 = 0x47;
+
+const NO_SYNC: u8 = 0x46;
+
+/// A file of packets.
+#[derive(Clone, Copy)]
+struct PacketFile {
+    name: &'static str,
+    /// The PIDs of its packets.
+    pids: &'static [u16],
+    /// Behind them comes a packet that does not begin with the sync byte.
+    is_lost: bool,
+    /// So many bytes of a packet stand behind all.
+    rest: usize,
+}
+
+/// A further name is an empty file.
+static FILES: [PacketFile; 5] = [
+    PacketFile {
+        name: "A",
+        pids: &[256, 257],
+        is_lost: false,
+        rest: 0,
+    },
+    PacketFile {
+        name: "B",
+        pids: &[258],
+        is_lost: false,
+        rest: 0,
+    },
+    PacketFile {
+        name: "lost",
+        pids: &[256],
+        is_lost: true,
+        rest: 0,
+    },
+    PacketFile {
+        name: "rest",
+        pids: &[259],
+        is_lost: false,
+        rest: 100,
+    },
+    PacketFile {
+        name: "many",
+        pids: &[300, 301, 302, 303],
+        is_lost: false,
+        rest: 0,
+    },
+];
+
+/// All files.
+pub(crate) fn files(alloc: Global) -> Result<FileList, AllocError> {
+    let mut files = Vec::new(alloc);
+    for file in &FILES {
+        let bytes = bytes_of(alloc, file)?;
+        let name = NameText::of(String::from_str(alloc, file.name)?);
+        files.push((name, FileBytes::of(bytes)))?;
+    }
+    Ok(FileList::of(files))
+}
+
+fn bytes_of(alloc: Global, file: &PacketFile) -> Result<Vec<u8>, AllocError> {
+    let mut bytes = Vec::new(alloc);
+    for pid in file.pids {
+        push_packet(&mut bytes, SYNC, *pid, 188)?;
+    }
+    if file.is_lost {
+        push_packet(&mut bytes, NO_SYNC, 8191, 188)?;
+    }
+    push_packet(&mut bytes, SYNC, 8191, file.rest)?;
+    Ok(bytes)
+}
+
+/// Puts the first bytes of a packet behind others.
+fn push_packet(bytes: &mut Vec<u8>, first: u8, pid: u16, count: usize) -> Result<(), AllocError> {
+    let [high, low] = pid.to_be_bytes();
+    for place in 0..count {
+        let byte = match place {
+            0 => first,
+            1 => high,
+            2 => low,
+            3 => 0x10,
+            _ => 0x55,
+        };
+        bytes.push(byte)?;
+    }
+    Ok(())
+}

@@ -1,0 +1,81 @@
+//! Two reads that meet.
+use std::sync::atomic::AtomicBool;
+use std::sync::atomic::Ordering::SeqCst;
+use std::thread::yield_now;
+
+/// How many turns a read waits at most.
+const TURNS: u32 = 50_000_000;
+
+/// How many turns a read waits before it lets others go first.
+const SPINS: u32 = 64;
+
+/// The second read of the first input, which holds until a read of the second input has begun, and that one, which holds
+/// until the other one has: where inputs are read one after another they never meet.
+#[derive(Drop)]
+pub(crate) struct Meeting {
+    /// The number of the second input's read, from 1 on. Where there is none no read holds.
+    of_second: Option<u64>,
+    first_came: AtomicBool,
+    second_came: AtomicBool,
+    was_given_up: AtomicBool,
+}
+
+impl Meeting {
+    /// No read waits for another one.
+    pub(crate) fn none() -> Meeting {
+        Meeting::of(None)
+    }
+
+    /// The second read of the first input meets this one of the second input.
+    pub(crate) fn with_read(number: u64) -> Meeting {
+        Meeting::of(Some(number))
+    }
+
+    fn of(of_second: Option<u64>) -> Meeting {
+        Meeting {
+            of_second,
+            first_came: AtomicBool::new(false),
+            second_came: AtomicBool::new(false),
+            was_given_up: AtomicBool::new(false),
+        }
+    }
+
+    /// A read of an input begins; inputs and reads are counted from 1.
+    pub(crate) fn begin(&self, input: u64, read: u64) {
+        if let Some(of_second) = self.of_second {
+            if input == 1 && read == 2 {
+                self.meet(&self.first_came, &self.second_came);
+            }
+            if input == 2 && read == of_second {
+                self.meet(&self.second_came, &self.first_came);
+            }
+        }
+    }
+
+    /// One of the two has come, and waits for the other one.
+    fn meet(&self, one: &AtomicBool, other: &AtomicBool) {
+        one.store(true, SeqCst);
+        if !comes(other) {
+            self.was_given_up.store(true, SeqCst);
+        }
+    }
+
+    /// Whether both came, each before the other one's turns ran out.
+    pub(crate) fn have_met(&self) -> bool {
+        let came = self.first_came.load(SeqCst) && self.second_came.load(SeqCst);
+        came && !self.was_given_up.load(SeqCst)
+    }
+}
+
+/// Waits until a read has come. Whether it did before the turns ran out.
+fn comes(other: &AtomicBool) -> bool {
+    for turn in 0..TURNS {
+        if other.load(SeqCst) {
+            return true;
+        }
+        if turn % SPINS == 0 {
+            yield_now();
+        }
+    }
+    false
+}

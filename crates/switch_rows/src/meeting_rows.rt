@@ -1,0 +1,64 @@
+//! Plays of which the next one is read while the present one is.
+use crate::desk_plan::{DeskPlan, ORDINARY};
+use crate::meeting::Meeting;
+use crate::outcome::print_outcome;
+use crate::trial::{called, push_words};
+use anyhow::Result;
+use std::sync::Wait;
+use std::thread::Threads;
+
+/// The second read of the first input and a read of the second one meet.
+#[derive(Clone, Copy)]
+struct MeetingRow {
+    name: &'static str,
+    words: &'static str,
+    plan: DeskPlan,
+    /// The number of that read.
+    read: u64,
+}
+
+static ROWS: [MeetingRow; 3] = [
+    MeetingRow {
+        name: "inputs meet",
+        words: "-I file A -I file B -O file C",
+        plan: ORDINARY,
+        read: 1,
+    },
+    MeetingRow {
+        name: "a read of the input behind the last one that is played has failed",
+        words: "-I file lost -I file many -O file C",
+        plan: DeskPlan {
+            reads: &[3],
+            ..ORDINARY
+        },
+        read: 3,
+    },
+    MeetingRow {
+        name: "the input behind the last one that is played has lost sync",
+        words: "-I file lost -I file lost -O file C",
+        plan: ORDINARY,
+        read: 2,
+    },
+];
+
+/// Plays all of them, and prints what they came to and whether the reads met.
+pub(crate) fn print_meetings<R: Threads + Wait + Sync + Print + AllocGlobal>(rt: &R) -> Result<()> {
+    for row in &ROWS {
+        print_meeting(rt, row)?;
+    }
+    Ok(())
+}
+
+fn print_meeting<R: Threads + Wait + Sync + Print + AllocGlobal>(
+    rt: &R,
+    row: &MeetingRow,
+) -> Result<()> {
+    println!(rt; "{}", row.name)?;
+    let meeting = Meeting::with_read(row.read);
+    let mut words = Vec::new(rt.alloc());
+    push_words(rt.alloc(), &mut words, row.words)?;
+    let trial = called(rt, words.as_slice(), row.plan, &meeting)?;
+    print_outcome(rt, &trial)?;
+    println!(rt; "  both reads met: {}", meeting.have_met())?;
+    Ok(())
+}

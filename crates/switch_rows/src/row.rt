@@ -1,0 +1,85 @@
+//! A worked example: its words, and what it says of the calls of its desk.
+use crate::desk_plan::DeskPlan;
+use crate::meeting::Meeting;
+use crate::outcome::print_outcome;
+use crate::tally::Tally;
+use crate::trial::{Trial, called, push_words};
+use anyhow::Result;
+use std::alloc::{AllocError, Global};
+use std::sync::Wait;
+use std::thread::Threads;
+
+/// A worked example. Its words do not say how many packets a ring has.
+#[derive(Clone, Copy)]
+pub(crate) struct Row {
+    pub(crate) name: &'static str,
+    pub(crate) words: &'static str,
+    pub(crate) plan: DeskPlan,
+}
+
+/// Words that say how many packets a ring has.
+static BUFFERS: [&str; 3] = [
+    "--buffer-packets 1",
+    "--buffer-packets 2",
+    "--buffer-packets 7",
+];
+
+/// Plays rows, and prints what they came to. The tally has them, too, then, over rings of each of the sizes.
+pub(crate) fn print_rows<R: Threads + Wait + Sync + Print + AllocGlobal>(
+    rt: &R,
+    rows: &[Row],
+    tally: &mut Tally,
+) -> Result<()> {
+    for row in rows {
+        *tally = print_row(rt, row, *tally)?;
+    }
+    Ok(())
+}
+
+/// Plays a row and prints what it came to; the tally with its runs over rings of the other sizes.
+fn print_row<R: Threads + Wait + Sync + Print + AllocGlobal>(
+    rt: &R,
+    row: &Row,
+    tally: Tally,
+) -> Result<Tally> {
+    println!(rt; "{}", row.name)?;
+    let meeting = Meeting::none();
+    let words = words_with(rt.alloc(), "", row.words)?;
+    let trial = called(rt, words.as_slice(), row.plan, &meeting)?;
+    print_outcome(rt, &trial)?;
+    Ok(over_buffers(rt, row, &trial, tally)?)
+}
+
+/// The words of two texts.
+fn words_with(alloc: Global, first: &str, text: &str) -> Result<Vec<String>, AllocError> {
+    let mut words = Vec::new(alloc);
+    push_words(alloc, &mut words, first)?;
+    push_words(alloc, &mut words, text)?;
+    Ok(words)
+}
+
+/// The tally with a row's runs over rings of each of the sizes, each of which has to come to the same.
+fn over_buffers<R: Threads + Wait + Sync + AllocGlobal>(
+    rt: &R,
+    row: &Row,
+    wanted: &Trial,
+    tally: Tally,
+) -> Result<Tally, AllocError> {
+    let mut tally = tally;
+    for buffer in &BUFFERS {
+        tally = tally.with(is_same_with(rt, row, buffer, wanted)?);
+    }
+    Ok(tally)
+}
+
+fn is_same_with<R: Threads + Wait + Sync + AllocGlobal>(
+    rt: &R,
+    row: &Row,
+    buffer: &str,
+    wanted: &Trial,
+) -> Result<bool, AllocError> {
+    let meeting = Meeting::none();
+    let words = words_with(rt.alloc(), buffer, row.words)?;
+    let trial = called(rt, words.as_slice(), row.plan, &meeting)?;
+    Ok(trial.is_like(wanted))
+}

@@ -1,0 +1,91 @@
+//! One call over a desk in memory.
+use crate::desk_plan::DeskPlan;
+use crate::files::files;
+use crate::meeting::Meeting;
+use crate::watched_desk::WatchedDesk;
+use std::alloc::{AllocError, Global};
+use std::sync::Wait;
+use std::thread::Threads;
+use switch_top::{SwitchStatus, switch_call};
+use ts_outside::{MemoryDesk, OpenGate};
+
+/// What a call came to: its desk and its status. The desk is large, and so in a box.
+#[derive(Drop)]
+pub(crate) struct Trial<'a> {
+    pub(crate) desk: Box<WatchedDesk<'a>>,
+    pub(crate) status: SwitchStatus,
+}
+
+impl<'a> Trial<'a> {
+    /// All that was reported.
+    pub(crate) fn reported(&self) -> &[u8] {
+        self.desk.desk.reported()
+    }
+
+    /// How many names were asked for.
+    pub(crate) fn asked_count(&self) -> usize {
+        self.desk.desk.asked_count()
+    }
+
+    /// The name and the bytes of the output, if there is one.
+    pub(crate) fn output(&self) -> Option<(&str, &[u8])> {
+        self.desk.desk.output(0)
+    }
+
+    /// The bytes of the output.
+    fn written(&self) -> &[u8] {
+        match self.output() {
+            Some((_, bytes)) => bytes,
+            None => &[],
+        }
+    }
+
+    /// Whether two calls came to the same status, report and output, and asked for the same in the same order.
+    pub(crate) fn is_like(&self, other: &Trial) -> bool {
+        self.status == other.status
+            && self.reported() == other.reported()
+            && self.output().is_some() == other.output().is_some()
+            && self.written() == other.written()
+            && self.desk.steps.text() == other.desk.steps.text()
+            && self.desk.steps.most() == other.desk.steps.most()
+    }
+}
+
+/// A desk with the files and this plan.
+fn filled_desk<'a>(
+    alloc: Global,
+    plan: DeskPlan,
+    meeting: &'a Meeting,
+) -> Result<Box<WatchedDesk<'a>>, AllocError> {
+    let plan = plan.fail_plan(alloc)?;
+    let files = files(alloc)?;
+    let desk = MemoryDesk::new(alloc, files, plan)?;
+    Ok(Box::new(alloc, WatchedDesk::new(alloc, desk, meeting))?)
+}
+
+/// Plays by `switch_call`, on a desk of its own.
+pub(crate) fn called<'a, R: Threads + Wait + Sync + AllocGlobal>(
+    rt: &R,
+    words: &[String],
+    plan: DeskPlan,
+    meeting: &'a Meeting,
+) -> Result<Trial<'a>, AllocError> {
+    let mut desk = filled_desk(rt.alloc(), plan, meeting)?;
+    let status = switch_call(rt, rt.alloc(), words, &mut *desk, &OpenGate);
+    Ok(Trial { desk, status })
+}
+
+/// Puts the words of a text, which blanks part, behind others. The word `''` is the empty one.
+pub(crate) fn push_words(
+    alloc: Global,
+    words: &mut Vec<String>,
+    text: &str,
+) -> Result<(), AllocError> {
+    for word in text.split(' ') {
+        if !word.is_empty() {
+            let word = if word == "''" { "" } else { word };
+            words.push(String::from_str(alloc, word)?)?;
+        }
+    }
+    Ok(())
+}
