@@ -43,12 +43,9 @@ use Rattle.plug_edit.specs.SdtSettings.{IsLawfulSdt}
 use Rattle.plug_edit.specs.SdtWords.{sdt}
 use Rattle.plug_edit.specs.NitSettings.{IsLawfulNit}
 use Rattle.plug_edit.specs.NitWords.{nit}
-use Rattle.plug_service.specs.ServiceRule.{zap_rule}
-use Rattle.plug_service.specs.ZapSettings.{IsLawfulZap}
-use Rattle.plug_service.specs.ZapWords.{zap}
-use Rattle.plug_service.specs.ServiceRule.{svremove_rule}
-use Rattle.plug_service.specs.SvremoveSettings.{IsLawfulSvremove}
-use Rattle.plug_service.specs.SvremoveWords.{svremove}
+use Rattle.plug_service.specs.ServiceRule.{svremove_rule, zap_rule}
+use Rattle.plug_service.specs.ServiceSettings.{IsLawfulService}
+use Rattle.plug_service.specs.ServiceWords.{service_options}
 use Rattle.plug_analyze.specs.AnalyzeRule.{analyze_rule}
 use Rattle.plug_analyze.specs.AnalyzeSettings.{IsLawfulAnalyze}
 use Rattle.plug_analyze.specs.AnalyzeWords.{analyze}
@@ -117,8 +114,8 @@ options_of_plugin kind.Cat = made_into Cat cat
 options_of_plugin kind.Pmt = made_into Pmt pmt
 options_of_plugin kind.Sdt = made_into Sdt sdt
 options_of_plugin kind.Nit = made_into Nit nit
-options_of_plugin kind.Zap = made_into Zap zap
-options_of_plugin kind.Svremove = made_into Svremove svremove
+options_of_plugin kind.Zap = made_into Zap service_options
+options_of_plugin kind.Svremove = made_into Svremove service_options
 options_of_plugin kind.Analyze = made_into Analyze analyze
 options_of_plugin kind.Tables = made_into Tables tables
 options_of_plugin kind.Compact = made_into Compact window
@@ -170,8 +167,8 @@ IsLawful (Cat conf) = IsLawfulCat conf
 IsLawful (Pmt conf) = IsLawfulPmt conf
 IsLawful (Sdt conf) = IsLawfulSdt conf
 IsLawful (Nit conf) = IsLawfulNit conf
-IsLawful (Zap conf) = IsLawfulZap conf
-IsLawful (Svremove conf) = IsLawfulSvremove conf
+IsLawful (Zap conf) = IsLawfulService conf
+IsLawful (Svremove conf) = IsLawfulService conf
 IsLawful (Analyze conf) = IsLawfulAnalyze conf
 IsLawful (Tables conf) = IsLawfulTables conf
 IsLawful (Compact conf) = IsLawfulWindow conf

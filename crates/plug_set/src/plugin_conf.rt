@@ -31,9 +31,7 @@ use plug_pass::{
     pattern_settings, skip_command, skip_settings, slice_command, slice_settings,
 };
 use plug_pcr::{PcrverifyConf, pcrverify_command, pcrverify_settings};
-use plug_service::{
-    SvremoveConf, ZapConf, svremove_command, svremove_settings, zap_command, zap_settings,
-};
+use plug_service::{ServiceConf, service_command, service_settings};
 use plug_tables::{TablesConf, tables_command, tables_settings};
 use plug_watch::{
     ContinuityConf, CountConf, continuity_command, continuity_settings, count_command,
@@ -60,8 +58,8 @@ pub enum PluginConf {
     Pmt(EditPmtConf),
     Sdt(EditSdtConf),
     Nit(EditNitConf),
-    Zap(ZapConf),
-    Svremove(SvremoveConf),
+    Zap(ServiceConf),
+    Svremove(ServiceConf),
     Analyze(AnalyzeConf),
     Tables(TablesConf),
     Compact(WindowConf),
@@ -174,8 +172,8 @@ impl PluginKind {
             PluginKind::Pmt => pmt_command(alloc),
             PluginKind::Sdt => sdt_command(alloc),
             PluginKind::Nit => nit_command(alloc),
-            PluginKind::Zap => zap_command(alloc),
-            PluginKind::Svremove => svremove_command(alloc),
+            PluginKind::Zap => service_command(alloc),
+            PluginKind::Svremove => service_command(alloc),
             PluginKind::Analyze => analyze_command(alloc),
             PluginKind::Tables => tables_command(alloc),
             PluginKind::Compact => window_command(alloc),
@@ -206,8 +204,8 @@ impl PluginKind {
             PluginKind::Pmt => pmt_settings(alloc, found).map(PluginConf::Pmt),
             PluginKind::Sdt => sdt_settings(alloc, found).map(PluginConf::Sdt),
             PluginKind::Nit => nit_settings(alloc, found).map(PluginConf::Nit),
-            PluginKind::Zap => zap_settings(found).map(PluginConf::Zap),
-            PluginKind::Svremove => svremove_settings(found).map(PluginConf::Svremove),
+            PluginKind::Zap => service_settings(found).map(PluginConf::Zap),
+            PluginKind::Svremove => service_settings(found).map(PluginConf::Svremove),
             PluginKind::Analyze => analyze_settings(alloc, found).map(PluginConf::Analyze),
             PluginKind::Tables => tables_settings(alloc, found).map(PluginConf::Tables),
             PluginKind::Compact => window_settings(found).map(PluginConf::Compact),

@@ -4,7 +4,7 @@
 ghost use Rattle.std.specs.Prelude.{[]};
 
 use crate::cells::{bytes_from, live};
-use plug_service::{Svremove, SvremoveConf, Zap, ZapConf};
+use plug_service::{ServiceConf, Svremove, Zap};
 use plugin_trait::{Plugin, apply_plugin};
 use std::alloc::Global;
 use std::process::Abort;
@@ -58,7 +58,7 @@ fn begins(rt: &impl Abort, cells: &[Cell], wanted: &[u8]) {
 
 /// What is left where service 1 is kept.
 fn kept(alloc: Global) -> Result<Vec<Cell>, Fail> {
-    let conf = ZapConf {
+    let conf = ServiceConf {
         service: 1,
         stuffing: false,
     };
@@ -82,7 +82,7 @@ fn a_service_is_kept(rt: HostRuntime) -> Result<(), Fail> {
 
 /// What is left where service 1 is taken out.
 fn without_it(alloc: Global) -> Result<Vec<Cell>, Fail> {
-    let conf = SvremoveConf {
+    let conf = ServiceConf {
         service: 1,
         stuffing: true,
     };

@@ -45,10 +45,10 @@ pub returns-in-Nit : goal.returns-in-Nit
 returns-in-Nit c = rw c.in-Nit.is c.nit_command.ensures
 
 pub returns-in-Zap : goal.returns-in-Zap
-returns-in-Zap c = rw c.in-Zap.is c.zap_command.ensures
+returns-in-Zap c = rw c.in-Zap.is c.service_command.ensures
 
 pub returns-in-Svremove : goal.returns-in-Svremove
-returns-in-Svremove c = rw c.in-Svremove.is c.svremove_command.ensures
+returns-in-Svremove c = rw c.in-Svremove.is c.service_command-in-Svremove.ensures
 
 pub returns-in-Analyze : goal.returns-in-Analyze
 returns-in-Analyze c = rw c.in-Analyze.is c.analyze_command.ensures

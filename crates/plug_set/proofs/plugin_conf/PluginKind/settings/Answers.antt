@@ -14,8 +14,7 @@ use Rattle.plug_edit.specs.CatWords.{cat}
 use Rattle.plug_edit.specs.PmtWords.{pmt}
 use Rattle.plug_edit.specs.SdtWords.{sdt}
 use Rattle.plug_edit.specs.NitWords.{nit}
-use Rattle.plug_service.specs.ZapWords.{zap}
-use Rattle.plug_service.specs.SvremoveWords.{svremove}
+use Rattle.plug_service.specs.ServiceWords.{service_options}
 use Rattle.plug_analyze.specs.AnalyzeWords.{analyze}
 use Rattle.plug_tables.specs.TablesWords.{tables}
 use Rattle.plug_window.specs.WindowWords.{window}
@@ -110,16 +109,16 @@ pub returns-in-Nit-clause-lawful : goal.returns-in-Nit-clause-lawful
 returns-in-Nit-clause-lawful c = made conf.Nit _ IsLawful _ _ c.map-in-Nit.ensures.cases (λ _ p. p) c.nit_settings.ensures.lawful
 
 pub returns-in-Zap-clause-reads : goal.returns-in-Zap-clause-reads
-returns-in-Zap-clause-reads c = rw c.in-Zap.is (read_into conf.Zap zap c.args.found.now _ _ c.map-in-Zap.ensures.cases c.zap_settings.ensures.reads)
+returns-in-Zap-clause-reads c = rw c.in-Zap.is (read_into conf.Zap service_options c.args.found.now _ _ c.map-in-Zap.ensures.cases c.service_settings.ensures.reads)
 
 pub returns-in-Zap-clause-lawful : goal.returns-in-Zap-clause-lawful
-returns-in-Zap-clause-lawful c = made conf.Zap _ IsLawful _ _ c.map-in-Zap.ensures.cases (λ _ p. p) c.zap_settings.ensures.lawful
+returns-in-Zap-clause-lawful c = made conf.Zap _ IsLawful _ _ c.map-in-Zap.ensures.cases (λ _ p. p) c.service_settings.ensures.lawful
 
 pub returns-in-Svremove-clause-reads : goal.returns-in-Svremove-clause-reads
-returns-in-Svremove-clause-reads c = rw c.in-Svremove.is (read_into conf.Svremove svremove c.args.found.now _ _ c.map-in-Svremove.ensures.cases c.svremove_settings.ensures.reads)
+returns-in-Svremove-clause-reads c = rw c.in-Svremove.is (read_into conf.Svremove service_options c.args.found.now _ _ c.map-in-Svremove.ensures.cases c.service_settings-in-Svremove.ensures.reads)
 
 pub returns-in-Svremove-clause-lawful : goal.returns-in-Svremove-clause-lawful
-returns-in-Svremove-clause-lawful c = made conf.Svremove _ IsLawful _ _ c.map-in-Svremove.ensures.cases (λ _ p. p) c.svremove_settings.ensures.lawful
+returns-in-Svremove-clause-lawful c = made conf.Svremove _ IsLawful _ _ c.map-in-Svremove.ensures.cases (λ _ p. p) c.service_settings-in-Svremove.ensures.lawful
 
 pub returns-in-Analyze-clause-reads : goal.returns-in-Analyze-clause-reads
 returns-in-Analyze-clause-reads c = rw c.in-Analyze.is (read_into conf.Analyze analyze c.args.found.now _ _ c.map-in-Analyze.ensures.cases c.analyze_settings.ensures.reads)
