@@ -40,6 +40,8 @@ impl Analyze {
         ensures rule { IfOk result (λ plugin. ⟦<Analyze as Plugin>⟧.rule plugin ≡ analyze_rule) }
         ensures fresh { IfOk result (λ plugin. ⟦<Analyze as Plugin>⟧.stands_for plugin [] 0) }
         ensures steady { IfOk result (λ plugin. ⟦<Analyze as Plugin>⟧.steady plugin ≡ None) }
+        ensures reserved_notes { IfOk result (λ plugin. plugin.noted.notes.capacity ≡ buffer) }
+        ensures reserved_changes { IfOk result (λ plugin. plugin.services.changes.capacity ≡ buffer) }
     {
         Ok(Analyze {
             last: LastPackets::new(alloc)?,

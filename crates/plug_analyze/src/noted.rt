@@ -13,7 +13,7 @@ pub struct Noted {
 }
 
 impl Noted {
-    ghost use Rattle.std.specs.Prelude.{◌≡◌, ◌++◌, ◌∷◌, [], IfOk, OnOk};
+    ghost use Rattle.std.specs.Prelude.{◌≡◌, ◌≤◌, ◌++◌, ◌∷◌, [], IfOk, IsErr, OnOk, length};
     ghost use Rattle.plugin_notes.specs.NotesKept.{CanFold, Folds};
     ghost use Rattle.plug_analyze.specs.AnalyzeNotes.{pid_in, place_of};
     ghost use Rattle.plug_analyze.specs.TotalsOf.{AreTotals};
@@ -22,6 +22,7 @@ impl Noted {
     pub fn new(alloc: Global, buffer: usize) -> Result<Noted, AllocError>
         ensures totals { IfOk result (λ noted. AreTotals noted.totals []) }
         ensures notes { IfOk result (λ noted. noted.notes.items ≡ []) }
+        ensures reserved { IfOk result (λ noted. noted.notes.capacity ≡ buffer) }
     {
         Ok(Noted {
             totals: Totals::new(alloc)?,
@@ -34,6 +35,8 @@ impl Noted {
     pub fn push(&mut self, note: Note) -> Result<(), AllocError>
         ensures notes { OnOk result (self.new.notes.items ≡ self.old.notes.items ++ note ∷ []) }
         ensures totals { self.new.totals ≡ self.old.totals }
+        ensures full { IsErr result → self.old.notes.capacity ≤ length self.old.notes.items }
+        ensures reserved { self.new.notes.capacity ≡ self.old.notes.capacity }
     {
         push_note(&mut self.notes, note)
     }

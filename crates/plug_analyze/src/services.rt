@@ -34,7 +34,8 @@ impl Services {
 
     /// Nothing is in force before a packet was met. It takes room for changes at as many packets as the buffer holds.
     pub fn new(alloc: Global, buffer: usize) -> Result<Services, AllocError>
-        ensures { IfOk result (λ services. Serves services [] 0) }
+        ensures serves { IfOk result (λ services. Serves services [] 0) }
+        ensures reserved { IfOk result (λ services. services.changes.capacity ≡ buffer) }
     {
         let changes = HeapCircularBuffer::with_capacity(alloc, buffer)?;
         let force = InForce::new(alloc)?;
