@@ -3,34 +3,55 @@
 ghost use Rattle.std.specs.Prelude.{◌≡◌, ◌⊎◌, ◌≤◌, ◌<◌, ◌+◌, ℕ, [], ◌∷◌, All, IsTrue, IfOk};
 ghost use Rattle.chain_core.specs.Stages.{stages_of};
 
+use crate::compared::{holds, same};
 use crate::driver::{Driver, Step};
 use chain_core::{Cause, Closed, CorePlan, InputEnd, News, Reason, StageEnd, StageSet, StageWord};
 use std::alloc::{AllocError, Global};
 use std::process::Abort;
 use std::test::Fail;
 
-fn gives(stage: usize, done: usize) -> Step {
-    let word = StageWord {
-        agreed: None,
-        ended: None,
+// A `static` calls no function.
+macro_rules! step {
+    ($stage:literal, $done:literal, $agreed:expr, $ended:expr) => {
+        Step {
+            stage: $stage,
+            done: $done,
+            word: StageWord {
+                agreed: $agreed,
+                ended: $ended,
+            },
+        }
     };
-    Step { stage, done, word }
 }
 
-fn agrees(stage: usize, done: usize, agreed: u64) -> Step {
-    let word = StageWord {
-        agreed: Some(agreed),
-        ended: None,
+macro_rules! gives {
+    ($stage:literal, $done:literal) => {
+        step!($stage, $done, None, None)
     };
-    Step { stage, done, word }
 }
 
-fn ends(stage: usize, done: usize, end: StageEnd) -> Step {
-    let word = StageWord {
-        agreed: None,
-        ended: Some(end),
+macro_rules! agrees {
+    ($stage:literal, $done:literal, $agreed:literal) => {
+        step!($stage, $done, Some($agreed), None)
     };
-    Step { stage, done, word }
+}
+
+macro_rules! ends {
+    ($stage:literal, $done:literal, $end:expr) => {
+        step!($stage, $done, None, Some($end))
+    };
+}
+
+macro_rules! news {
+    ($taken:literal, $limit:expr, $written:literal) => {
+        News {
+            taken: $taken,
+            limit: $limit,
+            written: $written,
+            before_over: false,
+            after_over: false,
+        }
+    };
 }
 
 /// Runs a core of two plugins over the visits, and compares its close.
@@ -55,7 +76,7 @@ fn row(
         let _ = told(rt, &mut driver, *step);
     }
     assert!(rt; driver.all_ended());
-    assert_eq!(rt; driver.close(), Closed { cut, cause });
+    same(rt, driver.close(), Closed { cut, cause });
     Ok(())
 }
 
@@ -75,64 +96,79 @@ const FOLLOWED: StageEnd = StageEnd::Followed;
 
 const INPUT_END: InputEnd = InputEnd::End { left: 0 };
 
+/// Agreed at 5 and at 3: the greater one is the cut.
+static JOINT_TERMINATION_AGREEING: [Step; 11] = [
+    gives!(0, 0),
+    gives!(0, 8),
+    gives!(1, 0),
+    agrees!(1, 6, 5),
+    gives!(2, 0),
+    agrees!(2, 6, 3),
+    gives!(3, 0),
+    ends!(3, 5, FOLLOWED),
+    ends!(2, 0, FOLLOWED),
+    ends!(1, 0, FOLLOWED),
+    ends!(0, 0, FOLLOWED),
+];
+
+fn agreeing() -> &'static [Step] {
+    &JOINT_TERMINATION_AGREEING
+}
+
+/// The same words with joint termination ignored: the chain goes on to the input's end.
+static JOINT_TERMINATION_IGNORED: [Step; 11] = [
+    gives!(0, 0),
+    ends!(0, 8, StageEnd::Input(INPUT_END)),
+    gives!(1, 0),
+    agrees!(1, 8, 5),
+    gives!(2, 0),
+    agrees!(2, 8, 3),
+    gives!(3, 0),
+    gives!(3, 8),
+    ends!(1, 0, FOLLOWED),
+    ends!(2, 0, FOLLOWED),
+    ends!(3, 0, FOLLOWED),
+];
+
+fn ignored() -> &'static [Step] {
+    &JOINT_TERMINATION_IGNORED
+}
+
+/// Plugin 2 never agrees.
+static JOINT_TERMINATION_NEVER: [Step; 11] = [
+    gives!(0, 0),
+    ends!(0, 8, StageEnd::Input(INPUT_END)),
+    gives!(1, 0),
+    agrees!(1, 8, 5),
+    gives!(2, 0),
+    gives!(2, 8),
+    gives!(3, 0),
+    gives!(3, 8),
+    ends!(1, 0, FOLLOWED),
+    ends!(2, 0, FOLLOWED),
+    ends!(3, 0, FOLLOWED),
+];
+
+fn never() -> &'static [Step] {
+    &JOINT_TERMINATION_NEVER
+}
+
 #[test]
 fn joint_termination(rt: HostRuntime) -> Result<(), Fail> {
-    // Agreed at 5 and at 3: the greater one is the cut.
-    let agreeing = [
-        gives(0, 0),
-        gives(0, 8),
-        gives(1, 0),
-        agrees(1, 6, 5),
-        gives(2, 0),
-        agrees(2, 6, 3),
-        gives(3, 0),
-        ends(3, 5, FOLLOWED),
-        ends(2, 0, FOLLOWED),
-        ends(1, 0, FOLLOWED),
-        ends(0, 0, FOLLOWED),
-    ];
-    row(&rt, rt.alloc(), both_plugins(), &agreeing, 5, Cause::Joint)?;
-    // The same words with joint termination ignored: the chain goes on to the input's end.
-    let ignored = [
-        gives(0, 0),
-        ends(0, 8, StageEnd::Input(INPUT_END)),
-        gives(1, 0),
-        agrees(1, 8, 5),
-        gives(2, 0),
-        agrees(2, 8, 3),
-        gives(3, 0),
-        gives(3, 8),
-        ends(1, 0, FOLLOWED),
-        ends(2, 0, FOLLOWED),
-        ends(3, 0, FOLLOWED),
-    ];
+    row(&rt, rt.alloc(), both_plugins(), agreeing(), 5, Cause::Joint)?;
     row(
         &rt,
         rt.alloc(),
         no_users(),
-        &ignored,
+        ignored(),
         8,
         Cause::Input(INPUT_END),
     )?;
-    // Plugin 2 never agrees.
-    let never = [
-        gives(0, 0),
-        ends(0, 8, StageEnd::Input(INPUT_END)),
-        gives(1, 0),
-        agrees(1, 8, 5),
-        gives(2, 0),
-        gives(2, 8),
-        gives(3, 0),
-        gives(3, 8),
-        ends(1, 0, FOLLOWED),
-        ends(2, 0, FOLLOWED),
-        ends(3, 0, FOLLOWED),
-    ];
     row(
         &rt,
         rt.alloc(),
         both_plugins(),
-        &never,
+        never(),
         8,
         Cause::Input(INPUT_END),
     )?;
@@ -145,268 +181,360 @@ fn first_plugin() -> StageSet
     StageSet::none().with(1)
 }
 
+/// A last packet at the joint cut: joint termination comes first.
+static ENDS_AT_ONE_PLACE_LAST: [Step; 11] = [
+    gives!(0, 0),
+    gives!(0, 8),
+    gives!(1, 0),
+    ends!(1, 5, StageEnd::Last),
+    gives!(2, 0),
+    agrees!(2, 5, 5),
+    gives!(3, 0),
+    gives!(3, 5),
+    ends!(2, 0, FOLLOWED),
+    ends!(3, 0, FOLLOWED),
+    ends!(0, 0, FOLLOWED),
+];
+
+fn last() -> &'static [Step] {
+    &ENDS_AT_ONE_PLACE_LAST
+}
+
+/// Two last packets: the first plugin's. Two other ends: the last stage's.
+static ENDS_AT_ONE_PLACE_TWO_LASTS: [Step; 10] = [
+    gives!(0, 0),
+    gives!(0, 8),
+    gives!(1, 0),
+    ends!(1, 5, StageEnd::Last),
+    gives!(2, 0),
+    ends!(2, 5, StageEnd::Last),
+    gives!(3, 0),
+    gives!(3, 5),
+    ends!(3, 0, FOLLOWED),
+    ends!(0, 0, FOLLOWED),
+];
+
+fn two_lasts() -> &'static [Step] {
+    &ENDS_AT_ONE_PLACE_TWO_LASTS
+}
+
+static ENDS_AT_ONE_PLACE_TWO_ENDS: [Step; 10] = [
+    gives!(0, 0),
+    gives!(0, 8),
+    gives!(1, 0),
+    ends!(1, 6, StageEnd::Stop),
+    gives!(2, 0),
+    ends!(2, 6, StageEnd::NoMemory),
+    gives!(3, 0),
+    gives!(3, 6),
+    ends!(3, 0, FOLLOWED),
+    ends!(0, 0, FOLLOWED),
+];
+
+fn two_ends() -> &'static [Step] {
+    &ENDS_AT_ONE_PLACE_TWO_ENDS
+}
+
+/// Plugin 1 is far ahead of the cut, at which plugin 2 refuses a packet.
+static ENDS_AT_ONE_PLACE_AHEAD: [Step; 11] = [
+    gives!(0, 0),
+    gives!(0, 8),
+    gives!(1, 0),
+    gives!(1, 8),
+    gives!(2, 0),
+    ends!(2, 1, StageEnd::Refuse(Reason::Pid(33))),
+    gives!(3, 0),
+    gives!(3, 1),
+    ends!(3, 0, FOLLOWED),
+    ends!(1, 0, FOLLOWED),
+    ends!(0, 0, FOLLOWED),
+];
+
+fn ahead() -> &'static [Step] {
+    &ENDS_AT_ONE_PLACE_AHEAD
+}
+
+/// Three packets with four stop nulls behind them, and an agreement at two.
+static ENDS_AT_ONE_PLACE_NULLS: [Step; 10] = [
+    gives!(0, 0),
+    ends!(0, 7, StageEnd::Input(INPUT_END)),
+    gives!(1, 0),
+    agrees!(1, 7, 2),
+    gives!(2, 0),
+    gives!(2, 7),
+    gives!(3, 0),
+    ends!(3, 2, FOLLOWED),
+    ends!(1, 0, FOLLOWED),
+    ends!(2, 0, FOLLOWED),
+];
+
+fn nulls() -> &'static [Step] {
+    &ENDS_AT_ONE_PLACE_NULLS
+}
+
 #[test]
 fn ends_at_one_place(rt: HostRuntime) -> Result<(), Fail> {
-    // A last packet at the joint cut: joint termination comes first.
-    let last = [
-        gives(0, 0),
-        gives(0, 8),
-        gives(1, 0),
-        ends(1, 5, StageEnd::Last),
-        gives(2, 0),
-        agrees(2, 5, 5),
-        gives(3, 0),
-        gives(3, 5),
-        ends(2, 0, FOLLOWED),
-        ends(3, 0, FOLLOWED),
-        ends(0, 0, FOLLOWED),
-    ];
-    row(&rt, rt.alloc(), no_users(), &last, 5, Cause::Until(1))?;
-    // Two last packets: the first plugin's. Two other ends: the last stage's.
-    let two_lasts = [
-        gives(0, 0),
-        gives(0, 8),
-        gives(1, 0),
-        ends(1, 5, StageEnd::Last),
-        gives(2, 0),
-        ends(2, 5, StageEnd::Last),
-        gives(3, 0),
-        gives(3, 5),
-        ends(3, 0, FOLLOWED),
-        ends(0, 0, FOLLOWED),
-    ];
-    row(&rt, rt.alloc(), no_users(), &two_lasts, 5, Cause::Until(1))?;
-    let two_ends = [
-        gives(0, 0),
-        gives(0, 8),
-        gives(1, 0),
-        ends(1, 6, StageEnd::Stop),
-        gives(2, 0),
-        ends(2, 6, StageEnd::NoMemory),
-        gives(3, 0),
-        gives(3, 6),
-        ends(3, 0, FOLLOWED),
-        ends(0, 0, FOLLOWED),
-    ];
+    row(&rt, rt.alloc(), no_users(), last(), 5, Cause::Until(1))?;
+    row(&rt, rt.alloc(), no_users(), two_lasts(), 5, Cause::Until(1))?;
     row(
         &rt,
         rt.alloc(),
         no_users(),
-        &two_ends,
+        two_ends(),
         6,
         Cause::NoMemory(2),
     )?;
-    // Plugin 1 is far ahead of the cut, at which plugin 2 refuses a packet.
-    let ahead = [
-        gives(0, 0),
-        gives(0, 8),
-        gives(1, 0),
-        gives(1, 8),
-        gives(2, 0),
-        ends(2, 1, StageEnd::Refuse(Reason::Pid(33))),
-        gives(3, 0),
-        gives(3, 1),
-        ends(3, 0, FOLLOWED),
-        ends(1, 0, FOLLOWED),
-        ends(0, 0, FOLLOWED),
-    ];
     row(
         &rt,
         rt.alloc(),
         both_plugins(),
-        &ahead,
+        ahead(),
         1,
         Cause::Refuse(2, Reason::Pid(33)),
     )?;
-    // Three packets with four stop nulls behind them, and an agreement at two.
-    let nulls = [
-        gives(0, 0),
-        ends(0, 7, StageEnd::Input(INPUT_END)),
-        gives(1, 0),
-        agrees(1, 7, 2),
-        gives(2, 0),
-        gives(2, 7),
-        gives(3, 0),
-        ends(3, 2, FOLLOWED),
-        ends(1, 0, FOLLOWED),
-        ends(2, 0, FOLLOWED),
-    ];
-    row(&rt, rt.alloc(), first_plugin(), &nulls, 2, Cause::Joint)?;
+    row(&rt, rt.alloc(), first_plugin(), nulls(), 2, Cause::Joint)?;
     Ok(())
+}
+
+static FAULTS_BEFORE_THE_CUT_READ_FAULT: [Step; 11] = [
+    gives!(0, 0),
+    ends!(0, 3, StageEnd::Input(InputEnd::ReadFault)),
+    gives!(1, 0),
+    gives!(1, 3),
+    gives!(2, 0),
+    agrees!(2, 3, 3),
+    gives!(3, 0),
+    gives!(3, 3),
+    ends!(1, 0, FOLLOWED),
+    ends!(2, 0, FOLLOWED),
+    ends!(3, 0, FOLLOWED),
+];
+
+fn read_fault() -> &'static [Step] {
+    &FAULTS_BEFORE_THE_CUT_READ_FAULT
+}
+
+static FAULTS_BEFORE_THE_CUT_FIRST_PLUGIN_WANTS: [Step; 11] = [
+    gives!(0, 0),
+    gives!(0, 8),
+    gives!(1, 0),
+    ends!(1, 3, StageEnd::NoMemory),
+    gives!(2, 0),
+    agrees!(2, 3, 3),
+    gives!(3, 0),
+    gives!(3, 3),
+    ends!(2, 0, FOLLOWED),
+    ends!(3, 0, FOLLOWED),
+    ends!(0, 0, FOLLOWED),
+];
+
+fn first_plugin_wants() -> &'static [Step] {
+    &FAULTS_BEFORE_THE_CUT_FIRST_PLUGIN_WANTS
+}
+
+static FAULTS_BEFORE_THE_CUT_SECOND_PLUGIN_WANTS: [Step; 11] = [
+    gives!(0, 0),
+    gives!(0, 8),
+    gives!(1, 0),
+    agrees!(1, 8, 5),
+    gives!(2, 0),
+    ends!(2, 3, StageEnd::NoMemory),
+    gives!(3, 0),
+    gives!(3, 3),
+    ends!(3, 0, FOLLOWED),
+    ends!(1, 0, FOLLOWED),
+    ends!(0, 0, FOLLOWED),
+];
+
+fn second_plugin_wants() -> &'static [Step] {
+    &FAULTS_BEFORE_THE_CUT_SECOND_PLUGIN_WANTS
+}
+
+static FAULTS_BEFORE_THE_CUT_WRITE_FAULT: [Step; 11] = [
+    gives!(0, 0),
+    gives!(0, 8),
+    gives!(1, 0),
+    agrees!(1, 8, 5),
+    gives!(2, 0),
+    agrees!(2, 8, 3),
+    gives!(3, 0),
+    ends!(3, 3, StageEnd::WriteFault),
+    ends!(2, 0, FOLLOWED),
+    ends!(1, 0, FOLLOWED),
+    ends!(0, 0, FOLLOWED),
+];
+
+fn write_fault() -> &'static [Step] {
+    &FAULTS_BEFORE_THE_CUT_WRITE_FAULT
 }
 
 #[test]
 fn faults_before_the_cut(rt: HostRuntime) -> Result<(), Fail> {
-    let read_fault = [
-        gives(0, 0),
-        ends(0, 3, StageEnd::Input(InputEnd::ReadFault)),
-        gives(1, 0),
-        gives(1, 3),
-        gives(2, 0),
-        agrees(2, 3, 3),
-        gives(3, 0),
-        gives(3, 3),
-        ends(1, 0, FOLLOWED),
-        ends(2, 0, FOLLOWED),
-        ends(3, 0, FOLLOWED),
-    ];
     let cause = Cause::Input(InputEnd::ReadFault);
-    row(&rt, rt.alloc(), both_plugins(), &read_fault, 3, cause)?;
-    let first_plugin_wants = [
-        gives(0, 0),
-        gives(0, 8),
-        gives(1, 0),
-        ends(1, 3, StageEnd::NoMemory),
-        gives(2, 0),
-        agrees(2, 3, 3),
-        gives(3, 0),
-        gives(3, 3),
-        ends(2, 0, FOLLOWED),
-        ends(3, 0, FOLLOWED),
-        ends(0, 0, FOLLOWED),
-    ];
+    row(&rt, rt.alloc(), both_plugins(), read_fault(), 3, cause)?;
     row(
         &rt,
         rt.alloc(),
         both_plugins(),
-        &first_plugin_wants,
+        first_plugin_wants(),
         3,
         Cause::NoMemory(1),
     )?;
-    let second_plugin_wants = [
-        gives(0, 0),
-        gives(0, 8),
-        gives(1, 0),
-        agrees(1, 8, 5),
-        gives(2, 0),
-        ends(2, 3, StageEnd::NoMemory),
-        gives(3, 0),
-        gives(3, 3),
-        ends(3, 0, FOLLOWED),
-        ends(1, 0, FOLLOWED),
-        ends(0, 0, FOLLOWED),
-    ];
     row(
         &rt,
         rt.alloc(),
         both_plugins(),
-        &second_plugin_wants,
+        second_plugin_wants(),
         3,
         Cause::NoMemory(2),
     )?;
-    let write_fault = [
-        gives(0, 0),
-        gives(0, 8),
-        gives(1, 0),
-        agrees(1, 8, 5),
-        gives(2, 0),
-        agrees(2, 8, 3),
-        gives(3, 0),
-        ends(3, 3, StageEnd::WriteFault),
-        ends(2, 0, FOLLOWED),
-        ends(1, 0, FOLLOWED),
-        ends(0, 0, FOLLOWED),
-    ];
     row(
         &rt,
         rt.alloc(),
         both_plugins(),
-        &write_fault,
+        write_fault(),
         3,
         Cause::WriteFault,
     )?;
     Ok(())
 }
 
+/// Joint termination at the same place is the cause.
+static FAULTS_AT_THE_CUT_READ_FAULT: [Step; 11] = [
+    gives!(0, 0),
+    ends!(0, 5, StageEnd::Input(InputEnd::ReadFault)),
+    gives!(1, 0),
+    agrees!(1, 5, 5),
+    gives!(2, 0),
+    agrees!(2, 5, 3),
+    gives!(3, 0),
+    gives!(3, 5),
+    ends!(1, 0, FOLLOWED),
+    ends!(2, 0, FOLLOWED),
+    ends!(3, 0, FOLLOWED),
+];
+
+fn read_fault_at_the_cut() -> &'static [Step] {
+    &FAULTS_AT_THE_CUT_READ_FAULT
+}
+
+static FAULTS_AT_THE_CUT_PLUGINS_WANT: [Step; 12] = [
+    gives!(0, 0),
+    gives!(0, 8),
+    gives!(1, 0),
+    agrees!(1, 5, 5),
+    ends!(1, 0, StageEnd::NoMemory),
+    gives!(2, 0),
+    agrees!(2, 5, 3),
+    ends!(2, 0, StageEnd::NoMemory),
+    gives!(3, 0),
+    gives!(3, 5),
+    ends!(3, 0, FOLLOWED),
+    ends!(0, 0, FOLLOWED),
+];
+
+fn plugins_want() -> &'static [Step] {
+    &FAULTS_AT_THE_CUT_PLUGINS_WANT
+}
+
+static FAULTS_AT_THE_CUT_WRITE_FAULT: [Step; 11] = [
+    gives!(0, 0),
+    gives!(0, 8),
+    gives!(1, 0),
+    agrees!(1, 8, 5),
+    gives!(2, 0),
+    agrees!(2, 8, 3),
+    gives!(3, 0),
+    ends!(3, 5, StageEnd::WriteFault),
+    ends!(2, 0, FOLLOWED),
+    ends!(1, 0, FOLLOWED),
+    ends!(0, 0, FOLLOWED),
+];
+
+fn write_fault_at_the_cut() -> &'static [Step] {
+    &FAULTS_AT_THE_CUT_WRITE_FAULT
+}
+
+/// So is a last packet.
+static FAULTS_AT_THE_CUT_LAST_PACKET: [Step; 10] = [
+    gives!(0, 0),
+    gives!(0, 8),
+    gives!(1, 0),
+    ends!(1, 5, StageEnd::Last),
+    gives!(2, 0),
+    ends!(2, 5, StageEnd::NoMemory),
+    gives!(3, 0),
+    gives!(3, 5),
+    ends!(3, 0, FOLLOWED),
+    ends!(0, 0, FOLLOWED),
+];
+
+fn last_packet() -> &'static [Step] {
+    &FAULTS_AT_THE_CUT_LAST_PACKET
+}
+
 #[test]
 fn faults_at_the_cut(rt: HostRuntime) -> Result<(), Fail> {
-    // Joint termination at the same place is the cause.
-    let read_fault = [
-        gives(0, 0),
-        ends(0, 5, StageEnd::Input(InputEnd::ReadFault)),
-        gives(1, 0),
-        agrees(1, 5, 5),
-        gives(2, 0),
-        agrees(2, 5, 3),
-        gives(3, 0),
-        gives(3, 5),
-        ends(1, 0, FOLLOWED),
-        ends(2, 0, FOLLOWED),
-        ends(3, 0, FOLLOWED),
-    ];
     row(
         &rt,
         rt.alloc(),
         both_plugins(),
-        &read_fault,
+        read_fault_at_the_cut(),
         5,
         Cause::Joint,
     )?;
-    let plugins_want = [
-        gives(0, 0),
-        gives(0, 8),
-        gives(1, 0),
-        agrees(1, 5, 5),
-        ends(1, 0, StageEnd::NoMemory),
-        gives(2, 0),
-        agrees(2, 5, 3),
-        ends(2, 0, StageEnd::NoMemory),
-        gives(3, 0),
-        gives(3, 5),
-        ends(3, 0, FOLLOWED),
-        ends(0, 0, FOLLOWED),
-    ];
     row(
         &rt,
         rt.alloc(),
         both_plugins(),
-        &plugins_want,
+        plugins_want(),
         5,
         Cause::Joint,
     )?;
-    let write_fault = [
-        gives(0, 0),
-        gives(0, 8),
-        gives(1, 0),
-        agrees(1, 8, 5),
-        gives(2, 0),
-        agrees(2, 8, 3),
-        gives(3, 0),
-        ends(3, 5, StageEnd::WriteFault),
-        ends(2, 0, FOLLOWED),
-        ends(1, 0, FOLLOWED),
-        ends(0, 0, FOLLOWED),
-    ];
     row(
         &rt,
         rt.alloc(),
         both_plugins(),
-        &write_fault,
+        write_fault_at_the_cut(),
         5,
         Cause::Joint,
     )?;
-    // So is a last packet.
-    let last_packet = [
-        gives(0, 0),
-        gives(0, 8),
-        gives(1, 0),
-        ends(1, 5, StageEnd::Last),
-        gives(2, 0),
-        ends(2, 5, StageEnd::NoMemory),
-        gives(3, 0),
-        gives(3, 5),
-        ends(3, 0, FOLLOWED),
-        ends(0, 0, FOLLOWED),
-    ];
     row(
         &rt,
         rt.alloc(),
         no_users(),
-        &last_packet,
+        last_packet(),
         5,
         Cause::Until(1),
     )?;
     Ok(())
+}
+
+/// Visits with their news. Before anything was written eight cells may be made, six with a visit.
+static NEWS: [(Step, News); 9] = [
+    (gives!(0, 0), news!(6, None, 0)),
+    (gives!(0, 6), news!(8, None, 0)),
+    (gives!(1, 0), news!(6, None, 0)),
+    (agrees!(1, 6, 5), news!(6, None, 0)),
+    (gives!(2, 0), news!(6, None, 0)),
+    (agrees!(2, 4, 3), news!(6, Some(5), 0)),
+    (gives!(3, 0), news!(4, Some(5), 0)),
+    (gives!(3, 4), news!(4, Some(5), 4)),
+    (gives!(0, 2), news!(12, Some(5), 4)),
+];
+
+fn news_rows() -> &'static [(Step, News)] {
+    &NEWS
+}
+
+/// The output ends; the plugin before it is told, and then that the plugin before that has ended.
+fn tells_ends(rt: &impl Abort, driver: &mut Driver) {
+    let _ = told(rt, driver, ends!(3, 0, StageEnd::WriteFault));
+    let over = told(rt, driver, gives!(2, 2));
+    same(rt, (over.before_over, over.after_over), (false, true));
+    let _ = told(rt, driver, ends!(1, 0, FOLLOWED));
+    let over = told(rt, driver, gives!(2, 0));
+    holds(rt, over.before_over);
 }
 
 #[test]
@@ -418,27 +546,10 @@ fn news_of_visits(rt: HostRuntime) -> Result<(), Fail> {
         users: both_plugins(),
     };
     let mut driver = Driver::new(rt.alloc(), &plan)?;
-    // Before anything was written eight cells may be made, six with a visit.
-    assert_eq!(rt; told(&rt, &mut driver, gives(0, 0)), news(6, None, 0));
-    assert_eq!(rt; told(&rt, &mut driver, gives(0, 6)), news(8, None, 0));
-    assert_eq!(rt; told(&rt, &mut driver, gives(1, 0)), news(6, None, 0));
-    assert_eq!(rt; told(&rt, &mut driver, agrees(1, 6, 5)), news(6, None, 0));
-    assert_eq!(rt; told(&rt, &mut driver, gives(2, 0)), news(6, None, 0));
-    assert_eq!(rt;
-        told(&rt, &mut driver, agrees(2, 4, 3)),
-        news(6, Some(5), 0)
-    );
-    assert_eq!(rt; told(&rt, &mut driver, gives(3, 0)), news(4, Some(5), 0));
-    assert_eq!(rt; told(&rt, &mut driver, gives(3, 4)), news(4, Some(5), 4));
-    assert_eq!(rt; told(&rt, &mut driver, gives(0, 2)), news(12, Some(5), 4));
-    // The output ends; the plugin before it is told.
-    let _ = told(&rt, &mut driver, ends(3, 0, StageEnd::WriteFault));
-    let over = told(&rt, &mut driver, gives(2, 2));
-    assert!(rt; over.after_over);
-    assert!(rt; !over.before_over);
-    let _ = told(&rt, &mut driver, ends(1, 0, FOLLOWED));
-    let over = told(&rt, &mut driver, gives(2, 0));
-    assert!(rt; over.before_over);
+    for (step, news) in news_rows() {
+        same(&rt, told(&rt, &mut driver, *step), *news);
+    }
+    tells_ends(&rt, &mut driver);
     Ok(())
 }
 
@@ -446,14 +557,4 @@ fn news_of_visits(rt: HostRuntime) -> Result<(), Fail> {
 fn told(rt: &impl Abort, driver: &mut Driver, step: Step) -> News {
     assert!(rt; driver.allows(step), "a visit of stage {}", step.stage);
     driver.visit(step)
-}
-
-fn news(taken: u64, limit: Option<u64>, written: u64) -> News {
-    News {
-        taken,
-        limit,
-        written,
-        before_over: false,
-        after_over: false,
-    }
 }

@@ -1,3 +1,5 @@
+use crate::compared::{same, same_bytes};
+use std::process::Abort;
 use std::test::Fail;
 use std::{env, fs, process};
 use ts_os::OsDesk;
@@ -49,39 +51,56 @@ fn write(desk: &mut OsDesk, name: &str, bytes: &[u8]) -> Result<(), Failed> {
     }
 }
 
+// Why a whole file of a name is not read; `None` where it is.
+fn whole_fault(desk: &mut OsDesk, name: &str, most: usize) -> Option<FileFault> {
+    desk.read_file(Some(name), most).err()
+}
+
 // An opening that fails, of an input, an output and a whole file.
 #[test]
 fn desk_fails(rt: HostRuntime) {
     let mut desk = OsDesk::new(rt);
-    assert_eq!(rt;
-        input_fault(&mut desk, "no/such/file"),
-        Some(OpenFault::Failed)
-    );
-    assert_eq!(rt;
-        output_fault(&mut desk, "no/such/file"),
-        Some(OpenFault::Failed)
-    );
-    let whole = desk.read_file(Some("no/such/file"), 9).err();
-    assert_eq!(rt; whole, Some(FileFault::Failed));
-    let directory = desk.read_file(Some("/"), 9).err();
-    assert_eq!(rt; directory, Some(FileFault::Failed));
+    let failed = Some(OpenFault::Failed);
+    same(&rt, input_fault(&mut desk, "no/such/file"), failed);
+    same(&rt, output_fault(&mut desk, "no/such/file"), failed);
+    let failed = Some(FileFault::Failed);
+    same(&rt, whole_fault(&mut desk, "no/such/file", 9), failed);
+    same(&rt, whole_fault(&mut desk, "/", 9), failed);
 }
 
 // A directory opens, and its first read fails.
 #[test]
 fn source_fails(rt: HostRuntime) {
     let mut desk = OsDesk::new(rt);
-    assert_eq!(rt; input_fault(&mut desk, "/"), None);
+    same(&rt, input_fault(&mut desk, "/"), None);
     let mut into = [0; 4];
-    assert_eq!(rt; read_twice(&mut desk, "/", &mut into), Err(Failed));
+    same(&rt, read_twice(&mut desk, "/", &mut into), Err(Failed));
 }
 
 // A full device opens, and its first write fails.
 #[test]
 fn sink_fails(rt: HostRuntime) {
     let mut desk = OsDesk::new(rt);
-    assert_eq!(rt; output_fault(&mut desk, "/dev/full"), None);
-    assert_eq!(rt; write(&mut desk, "/dev/full", b"abc"), Err(Failed));
+    same(&rt, output_fault(&mut desk, "/dev/full"), None);
+    same(&rt, write(&mut desk, "/dev/full", b"abc"), Err(Failed));
+}
+
+// Writes a file twice, and reads it in pieces.
+fn is_written(rt: &impl Abort, desk: &mut OsDesk, name: &str) -> Result<(), Failed> {
+    write(desk, name, b"abcdefgh")?;
+    write(desk, name, b"abcdef")?;
+    let mut into = [0; 4];
+    same(rt, read_twice(desk, name, &mut into)?, [4, 2]);
+    same_bytes(rt, &into[..2], b"ef");
+    Ok(())
+}
+
+// Reads it whole, and with room for a byte less.
+fn is_whole(rt: &impl Abort, desk: &mut OsDesk, name: &str) -> Result<(), Fail> {
+    same(rt, whole_fault(desk, name, 5), Some(FileFault::TooMany));
+    let whole = desk.read_file(Some(name), 6).ok().ok_or("read")?;
+    same_bytes(rt, whole.as_slice(), b"abcdef");
+    Ok(())
 }
 
 // What was written is read again, in pieces and whole, and a second writing leaves nothing of the first.
@@ -91,18 +110,8 @@ fn round_trip(rt: HostRuntime) -> Result<(), Fail> {
     let process = process::id(rt.process());
     let name = format!(in rt.alloc(); "{folder}/ts_os-{process}")?;
     let mut desk = OsDesk::new(rt);
-
-    write(&mut desk, name.as_str(), b"abcdefgh")?;
-    write(&mut desk, name.as_str(), b"abcdef")?;
-
-    let mut into = [0; 4];
-    assert_eq!(rt; read_twice(&mut desk, name.as_str(), &mut into)?, [4, 2]);
-    assert_eq!(rt; &into[..2], b"ef".as_slice());
-
-    let whole = desk.read_file(Some(name.as_str()), 6).ok().ok_or("read")?;
-    assert_eq!(rt; whole.as_slice(), b"abcdef".as_slice());
-    let short = desk.read_file(Some(name.as_str()), 5).err();
-    assert_eq!(rt; short, Some(FileFault::TooMany));
+    is_written(&rt, &mut desk, name.as_str())?;
+    is_whole(&rt, &mut desk, name.as_str())?;
     fs::remove_file(&rt, name.as_str())?;
     Ok(())
 }
@@ -111,8 +120,8 @@ fn round_trip(rt: HostRuntime) -> Result<(), Fail> {
 #[test]
 fn standard_streams(rt: HostRuntime) {
     let mut desk = OsDesk::new(rt);
-    assert_eq!(rt; input_fault(&mut desk, ""), None);
-    assert_eq!(rt; desk.report(b"out\n"), Ok(4));
-    assert_eq!(rt; output_fault(&mut desk, ""), None);
-    assert_eq!(rt; desk.report(b"err\n"), Ok(4));
+    same(&rt, input_fault(&mut desk, ""), None);
+    same(&rt, desk.report(b"out\n"), Ok(4));
+    same(&rt, output_fault(&mut desk, ""), None);
+    same(&rt, desk.report(b"err\n"), Ok(4));
 }

@@ -7,6 +7,8 @@ mod blocks;
 #[cfg(test)]
 mod callers;
 #[cfg(test)]
+mod compared;
+#[cfg(test)]
 mod cores;
 #[cfg(test)]
 mod driver;

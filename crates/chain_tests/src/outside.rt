@@ -1,7 +1,9 @@
 ghost use Rattle.std.specs.Prelude.{◌≡◌, IfOk};
 
 use crate::callers::{CopyEnd, copy};
+use crate::compared::{holds, same, same_bytes};
 use std::alloc::{AllocError, Global};
+use std::process::Abort;
 use std::test::Fail;
 use ts_outside::{
     Desk, FailPlan, FileBytes, FileFault, FileList, Gate, MemoryDesk, NameText, NumberList,
@@ -100,64 +102,77 @@ struct CopyRow {
     bytes: usize,
 }
 
-fn row(fails: Fails, room: usize, end: CopyEnd, outputs: usize, bytes: usize) -> CopyRow {
-    CopyRow {
-        fails,
-        room,
-        end,
-        outputs,
-        bytes,
-    }
+// A `static` calls no function.
+macro_rules! rows {
+    ($($fails:expr, $room:literal, $end:expr, $outputs:literal, $bytes:literal;)*) => {
+        [$(CopyRow { fails: $fails, room: $room, end: $end, outputs: $outputs, bytes: $bytes }),*]
+    };
 }
 
 // Whether a copy ends as its row says.
-fn holds(alloc: Global, row: &CopyRow) -> Result<bool, AllocError> {
+fn is_so(alloc: Global, row: &CopyRow) -> Result<bool, AllocError> {
     let mut desk = planned(alloc, row.fails, row.room)?;
     let end = copied(&mut *desk, "long", Some("to"));
     Ok(end == row.end && desk.output_count() == row.outputs && output_len(&desk, 0) == row.bytes)
 }
 
+// Looks at a desk from which a file was copied and one that is not there.
+fn tells_two(rt: &impl Abort, desk: &mut MemoryDesk) {
+    same(rt, copied(desk, "long", None), CopyEnd::Done);
+    same(rt, copied(desk, "unknown", Some("to")), CopyEnd::Done);
+    same(rt, desk.asked_count(), 4);
+    same_bytes(rt, desk.reported(), b"donedone");
+    same(rt, desk.output_count(), 2);
+    same(rt, (output_len(desk, 0), output_len(desk, 1)), (400, 0));
+    holds(rt, desk.output(2).is_none());
+}
+
 #[test]
 fn a_copy_is_told(rt: HostRuntime) -> Result<(), Fail> {
     let mut desk = planned(rt.alloc(), Fails::Never, 1000)?;
-    assert_eq!(rt; copied(&mut *desk, "long", None), CopyEnd::Done);
-    assert_eq!(rt; copied(&mut *desk, "unknown", Some("to")), CopyEnd::Done);
-    assert_eq!(rt; desk.asked_count(), 4);
-    assert_eq!(rt; desk.reported(), b"donedone".as_slice());
-    assert_eq!(rt; desk.output_count(), 2);
-    assert_eq!(rt; output_len(&desk, 0), 400);
-    assert_eq!(rt; output_len(&desk, 1), 0);
-    assert!(rt; desk.output(2).is_none());
+    tells_two(&rt, &mut *desk);
     Ok(())
+}
+
+// Looks at the name and the bytes of the first output.
+fn is_output(rt: &impl Abort, desk: &MemoryDesk, name: &str, bytes: &[u8]) {
+    let Some((found_name, found_bytes)) = desk.output(0) else {
+        panic!(rt; "no output");
+    };
+    assert_eq!(rt; found_name, name);
+    same_bytes(rt, found_bytes, bytes);
 }
 
 #[test]
 fn an_output_has_its_name(rt: HostRuntime) -> Result<(), Fail> {
     let mut desk = planned(rt.alloc(), Fails::Never, 1000)?;
-    assert_eq!(rt; copied(&mut *desk, "short", Some("to")), CopyEnd::Done);
-    let (name, bytes) = desk.output(0).ok_or("no output")?;
-    assert_eq!(rt; name, "to");
-    assert_eq!(rt; bytes, [7, 7, 7, 7, 7].as_slice());
+    same(&rt, copied(&mut *desk, "short", Some("to")), CopyEnd::Done);
+    is_output(&rt, &*desk, "to", &[7, 7, 7, 7, 7]);
     Ok(())
 }
 
 // The long file is read as two packets and a rest, by 100 and 88, by 100 and 88, and by 24; then comes its end.
+static COPIES: [CopyRow; 10] = rows![
+    Fails::Never, 1000, CopyEnd::Done, 1, 400;
+    Fails::Open(1), 1000, CopyEnd::ReadFault, 0, 0;
+    Fails::Open(2), 1000, CopyEnd::WriteFault, 0, 0;
+    Fails::Read(4), 1000, CopyEnd::WriteFault, 1, 188;
+    Fails::Read(7), 1000, CopyEnd::Done, 1, 400;
+    Fails::Write(2), 1000, CopyEnd::WriteFault, 1, 70;
+    Fails::Never, 200, CopyEnd::WriteFault, 1, 200;
+    Fails::Close(1), 1000, CopyEnd::WriteFault, 1, 400;
+    Fails::Report(1), 1000, CopyEnd::WriteFault, 1, 400;
+    Fails::Close(2), 1000, CopyEnd::Done, 1, 400;
+];
+
+fn copies() -> &'static [CopyRow] {
+    &COPIES
+}
+
 #[test]
 fn calls_fail_where_the_plan_or_the_room_says_so(rt: HostRuntime) -> Result<(), Fail> {
-    let rows = [
-        row(Fails::Never, 1000, CopyEnd::Done, 1, 400),
-        row(Fails::Open(1), 1000, CopyEnd::ReadFault, 0, 0),
-        row(Fails::Open(2), 1000, CopyEnd::WriteFault, 0, 0),
-        row(Fails::Read(4), 1000, CopyEnd::WriteFault, 1, 188),
-        row(Fails::Read(7), 1000, CopyEnd::Done, 1, 400),
-        row(Fails::Write(2), 1000, CopyEnd::WriteFault, 1, 70),
-        row(Fails::Never, 200, CopyEnd::WriteFault, 1, 200),
-        row(Fails::Close(1), 1000, CopyEnd::WriteFault, 1, 400),
-        row(Fails::Report(1), 1000, CopyEnd::WriteFault, 1, 400),
-        row(Fails::Close(2), 1000, CopyEnd::Done, 1, 400),
-    ];
-    for row in &rows {
-        assert!(rt; holds(rt.alloc(), row)?);
+    for row in copies() {
+        assert!(rt; is_so(rt.alloc(), row)?);
     }
     Ok(())
 }
@@ -167,25 +182,41 @@ fn read<D: Desk>(desk: &mut D, name: Option<&str>, most: usize) -> Result<usize,
     Ok(desk.read_file(name, most)?.as_slice().len())
 }
 
+// Looks how a short file is read whole, of which the third opening fails.
+fn reads_whole(rt: &impl Abort, desk: &mut MemoryDesk) {
+    same(rt, read(desk, Some("short"), 5), Ok(5));
+    same(rt, read(desk, Some("short"), 4), Err(FileFault::TooMany));
+    same(rt, read(desk, Some("short"), 5), Err(FileFault::Failed));
+    same(rt, read(desk, None, 0), Ok(0));
+    same(rt, desk.asked_count(), 4);
+}
+
 #[test]
 fn files_are_read_whole(rt: HostRuntime) -> Result<(), Fail> {
     let mut desk = planned(rt.alloc(), Fails::Open(3), 1000)?;
-    assert_eq!(rt; read(&mut *desk, Some("short"), 5), Ok(5));
-    assert_eq!(rt; read(&mut *desk, Some("short"), 4), Err(FileFault::TooMany));
-    assert_eq!(rt; read(&mut *desk, Some("short"), 5), Err(FileFault::Failed));
-    assert_eq!(rt; read(&mut *desk, None, 0), Ok(0));
-    assert_eq!(rt; desk.asked_count(), 4);
+    reads_whole(&rt, &mut *desk);
     Ok(())
+}
+
+// A desk on which nothing fails, in a box: it is large.
+fn steady(alloc: Global) -> Result<Box<SteadyDesk>, AllocError> {
+    let files = files(alloc)?;
+    Ok(Box::new(alloc, SteadyDesk::new(alloc, files)?)?)
+}
+
+// Looks at what such a desk counts.
+fn counts(rt: &impl Abort, desk: &mut SteadyDesk) {
+    same(rt, copied(desk, "long", Some("to")), CopyEnd::Done);
+    same(rt, copied(desk, "short", Some("to")), CopyEnd::Done);
+    same(rt, desk.written_count(), 405);
+    same(rt, desk.reported_count(), 8);
+    same(rt, read(desk, Some("short"), 5), Ok(5));
 }
 
 #[test]
 fn a_steady_desk_counts(rt: HostRuntime) -> Result<(), Fail> {
-    let mut desk = SteadyDesk::new(rt.alloc(), files(rt.alloc())?)?;
-    assert_eq!(rt; copied(&mut desk, "long", Some("to")), CopyEnd::Done);
-    assert_eq!(rt; copied(&mut desk, "short", Some("to")), CopyEnd::Done);
-    assert_eq!(rt; desk.written_count(), 405);
-    assert_eq!(rt; desk.reported_count(), 8);
-    assert_eq!(rt; read(&mut desk, Some("short"), 5), Ok(5));
+    let mut desk = steady(rt.alloc())?;
+    counts(&rt, &mut *desk);
     Ok(())
 }
 
@@ -218,28 +249,34 @@ fn crossed<D: Desk>(
 
 #[test]
 fn sources_and_sinks_may_cross_threads(rt: HostRuntime) -> Result<(), Fail> {
-    let alloc = rt.alloc();
-    let mut desk = planned(alloc, Fails::Never, 1000)?;
-    assert_eq!(rt; crossed(alloc, &mut *desk, "short", 5), Ok(5));
-    let mut steady = SteadyDesk::new(alloc, files(alloc)?)?;
-    assert_eq!(rt;
-        crossed(alloc, &mut steady, "long", 399),
-        Err(FileFault::TooMany)
-    );
+    let mut desk = planned(rt.alloc(), Fails::Never, 1000)?;
+    let read = crossed(rt.alloc(), &mut *desk, "short", 5);
+    same(&rt, read, Ok(5));
+    let mut steady = steady(rt.alloc())?;
+    let read = crossed(rt.alloc(), &mut *steady, "long", 399);
+    same(&rt, read, Err(FileFault::TooMany));
     Ok(())
+}
+
+// How long the name and the bytes of a file are that were copied.
+fn copied_lens(alloc: Global) -> Result<(usize, usize), AllocError> {
+    let (name, bytes) = file(alloc, "a b", 3)?;
+    let name_len = name.copy()?.into_string().len();
+    Ok((name_len, bytes.copy()?.into_vec().len()))
+}
+
+// Looks at a list of 3 and 1.
+fn has_numbers(rt: &impl Abort, list: &NumberList) {
+    same(rt, (list.has(1), list.has(2)), (true, false));
 }
 
 #[test]
 fn texts_and_lists_keep_what_they_hold(rt: HostRuntime) -> Result<(), Fail> {
-    let alloc = rt.alloc();
-    let (name, bytes) = file(alloc, "a b", 3)?;
-    assert_eq!(rt; name.copy()?.into_string().len(), 3);
-    assert_eq!(rt; bytes.copy()?.into_vec().len(), 3);
-    let list = numbers(alloc, &[3, 1])?.copy()?;
-    assert!(rt; list.has(1));
-    assert!(rt; !list.has(2));
-    assert_eq!(rt; list.into_vec().len(), 2);
-    assert_eq!(rt; files(alloc)?.into_vec().len(), 3);
+    same(&rt, copied_lens(rt.alloc())?, (3, 3));
+    same(&rt, files(rt.alloc())?.into_vec().len(), 3);
+    let list = numbers(rt.alloc(), &[3, 1])?.copy()?;
+    has_numbers(&rt, &list);
+    same(&rt, list.into_vec().len(), 2);
     Ok(())
 }
 

@@ -2,6 +2,7 @@ ghost use Rattle.std.specs.Prelude.{◌≡◌, ◌≤◌, length, IfOk};
 ghost use Rattle.std.specs.List.{All};
 ghost use Rattle.chain_core.specs.CoreNumbers.{IsLawfulPlan};
 
+use crate::compared::same;
 use crate::stops_at::StopsAt;
 use chain_core::{Cause, Closed, CorePlan, InputEnd, StageSet};
 use chain_run::{RunEnd, Stages, run_serial};
@@ -89,10 +90,10 @@ fn run(
 #[test]
 fn a_run_ends_by_its_input_or_its_plugin(rt: HostRuntime) -> Result<(), Fail> {
     let whole = run(rt.alloc(), 5, 100, 3, &[1, 3, 2])?;
-    assert_eq!(rt; whole.cut, 7);
-    assert!(rt; matches!(whole.cause, Cause::Input(InputEnd::End { left: 0 })));
+    let cause = Cause::Input(InputEnd::End { left: 0 });
+    same(&rt, whole, Closed { cut: 7, cause });
     let stopped = run(rt.alloc(), 5, 4, 1, &[1])?;
-    assert_eq!(rt; stopped.cut, 4);
-    assert!(rt; matches!(stopped.cause, Cause::Stop(1)));
+    let cause = Cause::Stop(1);
+    same(&rt, stopped, Closed { cut: 4, cause });
     Ok(())
 }

@@ -3,6 +3,7 @@ ghost use Rattle.stage_run.specs.Seeing.{seeing};
 ghost use Rattle.stage_run.specs.PartStands.{PartStands, MayWorkOnSome, kind_of, an_input, a_plugin, an_output};
 ghost use Rattle.stage_run.specs.Parts.{IsUnused};
 
+use crate::compared::same;
 use crate::stops_at::StopsAt;
 use chain_core::{InputEnd, News, StageEnd};
 use plugin_trait::Plugin;
@@ -164,37 +165,49 @@ fn close_output(desk: &mut MemoryDesk, part: OutputPart<MemorySink>) -> bool {
     }
 }
 
+/// Three windows of two cells each.
+#[derive(Drop)]
+struct Windows {
+    first: [Cell; 2],
+    second: [Cell; 2],
+    third: [Cell; 2],
+}
+
 /// What an input did with three windows; nothing with those behind the one in which it ended.
-#[derive(Clone, Copy)]
+#[derive(Drop)]
 struct Gave {
     first: Work,
     second: Option<Work>,
     third: Option<Work>,
+    windows: Windows,
 }
 
 /// Works on three windows, each behind the cells that were put before it.
-fn gives<S: Source, K: Sink, P: Plugin>(
-    part: &mut StagePart<S, K, P>,
-    one: &mut [Cell; 2],
-    two: &mut [Cell; 2],
-    three: &mut [Cell; 2],
-) -> Gave
+fn gives<S: Source, K: Sink, P: Plugin>(part: &mut StagePart<S, K, P>) -> Gave
     requires may { MayWorkOnSome (PartStands (seeing S.seen K.seen P.rule P.stands_for P.steady) part.old) 0 0 }
     ensures kind { kind_of part.new ≡ kind_of part.old }
 {
+    let mut windows = Windows {
+        first: two(),
+        second: two(),
+        third: two(),
+    };
+    let first = work(part, 0, &mut windows.first, None);
     let mut gave = Gave {
-        first: work(part, 0, one, None),
+        first,
         second: None,
         third: None,
+        windows,
     };
-    if gave.first.word.ended.is_some() {
+    if first.word.ended.is_some() {
         return gave;
     }
-    let at = gave.first.done as u64;
-    let second = work(part, at, two, None);
+    let at = first.done as u64;
+    let second = work(part, at, &mut gave.windows.second, None);
     gave.second = Some(second);
     if second.word.ended.is_none() {
-        gave.third = Some(work(part, at + second.done as u64, three, None));
+        let at = at + second.done as u64;
+        gave.third = Some(work(part, at, &mut gave.windows.third, None));
     }
     gave
 }
@@ -204,39 +217,23 @@ fn gives_and_ends<S: Source, K: Sink, P: Plugin>(
     part: InputPart<S>,
     start: u64,
     room: IoBuffer,
-    first: &mut [Cell; 2],
-    second: &mut [Cell; 2],
-    third: &mut [Cell; 2],
 ) -> (InputPart<S>, Gave)
     requires { IsUnused part }
 {
     let mut part: StagePart<S, K, P> = input(part, start, room);
-    let gave = gives(&mut part, first, second, third);
+    let gave = gives(&mut part);
     (part.into_input(), gave)
 }
 
 /// Works on three windows with an input that reads a desk's file `in`.
-fn read_file(
-    alloc: Global,
-    mut desk: Box<MemoryDesk>,
-    start: u64,
-    first: &mut [Cell; 2],
-    second: &mut [Cell; 2],
-    third: &mut [Cell; 2],
-) -> Result<Gave, Fail> {
+fn read_file(alloc: Global, mut desk: Box<MemoryDesk>, start: u64) -> Result<Gave, Fail> {
     let room = IoBuffer::new(alloc, 2)?;
     let source = match desk.open_in(Some("in")) {
         Ok(source) => source,
         Err(_) => return Err("no source".into()),
     };
-    let (part, gave) = gives_and_ends::<MemorySource, MemorySink, StopsAt>(
-        InputPart::Stream(source),
-        start,
-        room,
-        first,
-        second,
-        third,
-    );
+    let part = InputPart::Stream(source);
+    let (part, gave) = gives_and_ends::<MemorySource, MemorySink, StopsAt>(part, start, room);
     close_input(&mut *desk, part);
     Ok(gave)
 }
@@ -251,18 +248,32 @@ fn pid(cell: &Cell) -> Option<u16> {
     cell.live().map(|live| live.packet.pid())
 }
 
-/// Looks at what was done with a window.
-fn did(rt: &impl Abort, work: Work, done: usize, ended: Option<StageEnd>) {
-    assert_eq!(rt; work.done, done);
-    assert_eq!(rt; work.word.ended, ended);
+/// How many cells were done in a window, and how the stage ended in it.
+type Did = (usize, Option<StageEnd>);
+
+/// Looks at what was done with cells.
+fn did(rt: &impl Abort, work: Work, wanted: Did) {
+    same(rt, done_by(work), wanted);
 }
 
-/// Looks at what was done with a window, unless the stage had ended before.
-fn did_then(rt: &impl Abort, work: Option<Work>, done: usize, ended: Option<StageEnd>) {
-    assert!(rt; work.is_some());
-    if let Some(work) = work {
-        did(rt, work, done, ended);
-    }
+/// Looks at what was done with three windows, of which those behind an end were not worked on.
+fn did_all(rt: &impl Abort, gave: &Gave, wanted: [Option<Did>; 3]) {
+    let found = [
+        Some(done_by(gave.first)),
+        gave.second.map(done_by),
+        gave.third.map(done_by),
+    ];
+    same(rt, found, wanted);
+}
+
+/// How many cells were done, and how the stage ended.
+fn done_by(work: Work) -> Did {
+    (work.done, work.word.ended)
+}
+
+/// Looks at the PIDs of a window's packets.
+fn are_on(rt: &impl Abort, window: &[Cell; 2], pids: [Option<u16>; 2]) {
+    same(rt, [pid(&window[0]), pid(&window[1])], pids);
 }
 
 /// The end of an input of whole packets.
@@ -270,145 +281,105 @@ const PLAIN_END: StageEnd = StageEnd::Input(InputEnd::End { left: 0 });
 
 #[test]
 fn a_file_is_read_in_full_windows(rt: HostRuntime) -> Result<(), Fail> {
-    let mut first = two();
-    let mut second = two();
-    let mut third = two();
     let desk = desk(rt.alloc(), 4, 0, 0)?;
-    let gave = read_file(rt.alloc(), desk, 0, &mut first, &mut second, &mut third)?;
-    did(&rt, gave.first, 2, None);
-    did_then(&rt, gave.second, 2, None);
-    did_then(&rt, gave.third, 0, Some(PLAIN_END));
-    assert_eq!(rt; pid(&first[1]), Some(256));
-    assert_eq!(rt; pid(&second[1]), Some(256));
-    assert_eq!(rt; pid(&third[0]), None);
+    let gave = read_file(rt.alloc(), desk, 0)?;
+    let did = [Some((2, None)), Some((2, None)), Some((0, Some(PLAIN_END)))];
+    did_all(&rt, &gave, did);
+    are_on(&rt, &gave.windows.first, [Some(256), Some(256)]);
+    are_on(&rt, &gave.windows.second, [Some(256), Some(256)]);
+    are_on(&rt, &gave.windows.third, [None, None]);
     Ok(())
 }
 
 #[test]
 fn what_one_read_gave_is_handed_on(rt: HostRuntime) -> Result<(), Fail> {
-    let mut first = two();
-    let mut second = two();
-    let mut third = two();
     let desk = slow_desk(rt.alloc(), 4, 188)?;
-    let gave = read_file(rt.alloc(), desk, 0, &mut first, &mut second, &mut third)?;
-    did(&rt, gave.first, 1, None);
-    did_then(&rt, gave.second, 1, None);
-    did_then(&rt, gave.third, 1, None);
-    assert_eq!(rt; pid(&second[0]), Some(256));
-    assert_eq!(rt; pid(&second[1]), None);
+    let gave = read_file(rt.alloc(), desk, 0)?;
+    let did = [Some((1, None)), Some((1, None)), Some((1, None))];
+    did_all(&rt, &gave, did);
+    are_on(&rt, &gave.windows.second, [Some(256), None]);
     Ok(())
 }
 
 // A packet is whole after two reads.
 #[test]
 fn half_a_packet_is_not_handed_on(rt: HostRuntime) -> Result<(), Fail> {
-    let mut first = two();
-    let mut second = two();
-    let mut third = two();
     let desk = slow_desk(rt.alloc(), 2, 94)?;
-    let gave = read_file(rt.alloc(), desk, 0, &mut first, &mut second, &mut third)?;
-    did(&rt, gave.first, 1, None);
-    did_then(&rt, gave.second, 1, None);
-    did_then(&rt, gave.third, 0, Some(PLAIN_END));
+    let gave = read_file(rt.alloc(), desk, 0)?;
+    let did = [Some((1, None)), Some((1, None)), Some((0, Some(PLAIN_END)))];
+    did_all(&rt, &gave, did);
     Ok(())
 }
 
 // The first read gives one packet and half of the next one, the second read the rest of that and one more.
 #[test]
 fn half_a_packet_waits_for_the_rest(rt: HostRuntime) -> Result<(), Fail> {
-    let mut first = two();
-    let mut second = two();
-    let mut third = two();
     let desk = slow_desk(rt.alloc(), 3, 282)?;
-    let gave = read_file(rt.alloc(), desk, 0, &mut first, &mut second, &mut third)?;
-    did(&rt, gave.first, 1, None);
-    did_then(&rt, gave.second, 2, None);
-    did_then(&rt, gave.third, 0, Some(PLAIN_END));
+    let gave = read_file(rt.alloc(), desk, 0)?;
+    let did = [Some((1, None)), Some((2, None)), Some((0, Some(PLAIN_END)))];
+    did_all(&rt, &gave, did);
     Ok(())
 }
 
 #[test]
 fn stuffing_comes_first(rt: HostRuntime) -> Result<(), Fail> {
-    let mut first = two();
-    let mut second = two();
-    let mut third = two();
     let desk = desk(rt.alloc(), 2, 0, 0)?;
-    let gave = read_file(rt.alloc(), desk, 1, &mut first, &mut second, &mut third)?;
-    did(&rt, gave.first, 1, None);
-    did_then(&rt, gave.second, 2, None);
-    did_then(&rt, gave.third, 0, Some(PLAIN_END));
-    assert_eq!(rt; pid(&first[0]), Some(8191));
-    assert_eq!(rt; pid(&second[0]), Some(256));
-    assert_eq!(rt; pid(&second[1]), Some(256));
+    let gave = read_file(rt.alloc(), desk, 1)?;
+    let did = [Some((1, None)), Some((2, None)), Some((0, Some(PLAIN_END)))];
+    did_all(&rt, &gave, did);
+    are_on(&rt, &gave.windows.first, [Some(8191), None]);
+    are_on(&rt, &gave.windows.second, [Some(256), Some(256)]);
     Ok(())
 }
 
 #[test]
 fn a_read_fails_behind_the_first_window(rt: HostRuntime) -> Result<(), Fail> {
-    let mut first = two();
-    let mut second = two();
-    let mut third = two();
     let desk = desk(rt.alloc(), 3, 2, 0)?;
-    let gave = read_file(rt.alloc(), desk, 0, &mut first, &mut second, &mut third)?;
-    did(&rt, gave.first, 2, None);
-    did_then(
-        &rt,
-        gave.second,
-        0,
-        Some(StageEnd::Input(InputEnd::ReadFault)),
-    );
-    assert!(rt; gave.third.is_none());
+    let gave = read_file(rt.alloc(), desk, 0)?;
+    let fault = StageEnd::Input(InputEnd::ReadFault);
+    did_all(&rt, &gave, [Some((2, None)), Some((0, Some(fault))), None]);
     Ok(())
+}
+
+/// What an input of one null packet gives, and how many packets it then says it has.
+fn nulls(alloc: Global) -> Result<(Option<u64>, Gave), Fail> {
+    let room = IoBuffer::new(alloc, 1)?;
+    let mut desk = desk(alloc, 0, 0, 0)?;
+    let part = InputPart::Nulls(1);
+    let (part, gave) = gives_and_ends::<MemorySource, MemorySink, StopsAt>(part, 0, room);
+    Ok((close_input(&mut *desk, part), gave))
 }
 
 #[test]
 fn an_input_of_null_packets_ends(rt: HostRuntime) -> Result<(), Fail> {
-    let mut first = two();
-    let mut second = two();
-    let mut third = two();
-    let room = IoBuffer::new(rt.alloc(), 1)?;
-    let mut desk = desk(rt.alloc(), 0, 0, 0)?;
-    let (part, gave) = gives_and_ends::<MemorySource, MemorySink, StopsAt>(
-        InputPart::Nulls(1),
-        0,
-        room,
-        &mut first,
-        &mut second,
-        &mut third,
-    );
-    assert_eq!(rt; close_input(&mut *desk, part), Some(1));
-    did(&rt, gave.first, 1, Some(PLAIN_END));
-    assert!(rt; gave.second.is_none());
-    assert_eq!(rt; pid(&first[0]), Some(8191));
-    assert_eq!(rt; pid(&first[1]), None);
+    let (packets, gave) = nulls(rt.alloc())?;
+    same(&rt, packets, Some(1));
+    did_all(&rt, &gave, [Some((1, Some(PLAIN_END))), None, None]);
+    are_on(&rt, &gave.windows.first, [Some(8191), None]);
     Ok(())
+}
+
+/// What an input of three generated packets gives, and how many packets it then says it has.
+fn generated(alloc: Global) -> Result<(Option<u64>, Gave), Fail> {
+    let room = IoBuffer::new(alloc, 1)?;
+    let mut desk = desk(alloc, 0, 0, 0)?;
+    let generator = TestGen::new(alloc, 1)?;
+    let part = InputPart::Generated {
+        generator,
+        packets: 3,
+    };
+    let (part, gave) = gives_and_ends::<MemorySource, MemorySink, StopsAt>(part, 0, room);
+    Ok((close_input(&mut *desk, part), gave))
 }
 
 #[test]
 fn an_input_of_generated_packets_ends(rt: HostRuntime) -> Result<(), Fail> {
-    let mut first = two();
-    let mut second = two();
-    let mut third = two();
-    let room = IoBuffer::new(rt.alloc(), 1)?;
-    let mut desk = desk(rt.alloc(), 0, 0, 0)?;
-    let generator = TestGen::new(rt.alloc(), 1)?;
-    let (part, gave) = gives_and_ends::<MemorySource, MemorySink, StopsAt>(
-        InputPart::Generated {
-            generator,
-            packets: 3,
-        },
-        0,
-        room,
-        &mut first,
-        &mut second,
-        &mut third,
-    );
-    assert_eq!(rt; close_input(&mut *desk, part), Some(3));
-    did(&rt, gave.first, 2, None);
-    did_then(&rt, gave.second, 1, Some(PLAIN_END));
-    assert_eq!(rt; pid(&first[0]), Some(0));
-    assert_eq!(rt; pid(&first[1]), Some(4096));
-    assert_eq!(rt; pid(&second[0]), Some(4097));
+    let (packets, gave) = generated(rt.alloc())?;
+    same(&rt, packets, Some(3));
+    let did = [Some((2, None)), Some((1, Some(PLAIN_END))), None];
+    did_all(&rt, &gave, did);
+    are_on(&rt, &gave.windows.first, [Some(0), Some(4096)]);
+    are_on(&rt, &gave.windows.second, [Some(4097), None]);
     Ok(())
 }
 
@@ -431,17 +402,21 @@ fn four() -> [Cell; 4] {
     ]
 }
 
+/// Works on four cells with a plugin that stops at a position, which it keeps.
+fn stops(alloc: Global, position: u64, cells: &mut [Cell; 4]) -> (u64, Work) {
+    let stops = StopsAt { position, alloc };
+    let (stops, work) = edits::<MemorySource, MemorySink, StopsAt>(stops, cells);
+    (stops.position, work)
+}
+
 #[test]
 fn a_plugin_passes_and_stops(rt: HostRuntime) -> Result<(), Fail> {
-    let alloc = rt.alloc();
     let mut cells = four();
-    let stops = StopsAt { position: 4, alloc };
-    let (stops, work) = edits::<MemorySource, MemorySink, StopsAt>(stops, &mut cells);
-    did(&rt, work, 4, None);
-    assert_eq!(rt; stops.position, 4);
-    let stops = StopsAt { position: 1, alloc };
-    let (_, work) = edits::<MemorySource, MemorySink, StopsAt>(stops, &mut cells);
-    did(&rt, work, 2, Some(StageEnd::Stop));
+    let (position, work) = stops(rt.alloc(), 4, &mut cells);
+    did(&rt, work, (4, None));
+    same(&rt, position, 4);
+    let (_, work) = stops(rt.alloc(), 1, &mut cells);
+    did(&rt, work, (2, Some(StageEnd::Stop)));
     Ok(())
 }
 
@@ -480,16 +455,16 @@ fn written(alloc: Global, limit: Option<u64>, write: u64) -> Result<(usize, Work
 #[test]
 fn an_output_writes_live_cells_alone(rt: HostRuntime) -> Result<(), Fail> {
     let (bytes, work) = written(rt.alloc(), None, 0)?;
-    did(&rt, work, 4, None);
-    assert_eq!(rt; bytes, 3 * 188);
+    did(&rt, work, (4, None));
+    same(&rt, bytes, 3 * 188);
     Ok(())
 }
 
 #[test]
 fn an_output_ends_at_the_limit(rt: HostRuntime) -> Result<(), Fail> {
     let (bytes, work) = written(rt.alloc(), Some(2), 0)?;
-    did(&rt, work, 2, Some(StageEnd::Followed));
-    assert_eq!(rt; bytes, 188);
+    did(&rt, work, (2, Some(StageEnd::Followed)));
+    same(&rt, bytes, 188);
     Ok(())
 }
 
@@ -497,17 +472,24 @@ fn an_output_ends_at_the_limit(rt: HostRuntime) -> Result<(), Fail> {
 #[test]
 fn a_write_fails_within_a_packet(rt: HostRuntime) -> Result<(), Fail> {
     let (bytes, work) = written(rt.alloc(), None, 2)?;
-    did(&rt, work, 2, Some(StageEnd::WriteFault));
-    assert_eq!(rt; bytes, 300);
+    did(&rt, work, (2, Some(StageEnd::WriteFault)));
+    same(&rt, bytes, 300);
     Ok(())
+}
+
+/// What an output to nothing does with four cells, and whether it has a sink.
+fn discarded(alloc: Global) -> Result<(bool, Work), Fail> {
+    let room = IoBuffer::new(alloc, 1)?;
+    let mut desk = desk(alloc, 0, 0, 0)?;
+    let part = OutputPart::Discard;
+    let (part, work) = writes::<MemorySource, MemorySink, StopsAt>(part, room, None);
+    Ok((close_output(&mut *desk, part), work))
 }
 
 #[test]
 fn a_discarding_output_counts_cells(rt: HostRuntime) -> Result<(), Fail> {
-    let room = IoBuffer::new(rt.alloc(), 1)?;
-    let mut desk = desk(rt.alloc(), 0, 0, 0)?;
-    let (part, work) = writes::<MemorySource, MemorySink, StopsAt>(OutputPart::Discard, room, None);
-    assert!(rt; !close_output(&mut *desk, part));
-    did(&rt, work, 4, None);
+    let (is_stream, work) = discarded(rt.alloc())?;
+    same(&rt, is_stream, false);
+    did(&rt, work, (4, None));
     Ok(())
 }
