@@ -1,6 +1,7 @@
 //! Calls over a desk in memory: what is written, what is reported, and how a call ends whose desk fails.
 ghost use Rattle.std.specs.Prelude.{◌≡◌, IfOk};
 
+use crate::compared::{same, same_bytes};
 use std::alloc::{AllocError, Global};
 use std::process::Abort;
 use std::test::Fail;
@@ -15,13 +16,18 @@ const PAT: &[u8] =
 const CANONICAL: &[u8] =
     br##"{"#name":"tsduck","#nodes":[{"#name":"PAT","#nodes":[{"#name":"service","program_map_PID":4096,"service_id":1}],"current":true,"transport_stream_id":1,"version":0}]}"##;
 
-/// A desk with the text under the name `pat.json`, on which the closing of this number fails.
-fn desk(alloc: Global, failing: u64) -> Result<Box<MemoryDesk>, AllocError> {
-    let plan = plan(alloc, failing)?;
-    let mut files = Vec::new(alloc);
+/// The file `pat.json` with the text.
+fn files(alloc: Global) -> Result<FileList, AllocError> {
+    let bytes = FileBytes::of(Vec::from_slice(alloc, PAT)?);
     let name = NameText::of(String::from_str(alloc, "pat.json")?);
-    files.push((name, FileBytes::of(Vec::from_slice(alloc, PAT)?)))?;
-    Ok(Box::new(alloc, MemoryDesk::new(alloc, FileList::of(files), plan)?)?)
+    Ok(FileList::of(vec![in alloc; (name, bytes)]?))
+}
+
+/// A desk with that file, on which the closing of this number fails.
+fn desk(alloc: Global, failing: u64) -> Result<Box<MemoryDesk>, AllocError> {
+    let files = files(alloc)?;
+    let plan = plan(alloc, failing)?;
+    Ok(Box::new(alloc, MemoryDesk::new(alloc, files, plan)?)?)
 }
 
 /// A plan by which that closing fails, and nothing else.
@@ -43,6 +49,11 @@ fn words_of(alloc: Global, text: &str) -> Result<Vec<String>, AllocError> {
     Ok(words)
 }
 
+/// Looks at the first output, if there is to be one.
+fn is_written(rt: &impl Abort, desk: &MemoryDesk, wanted: Option<&[u8]>) {
+    assert_eq!(rt; desk.output(0).map(|(_, bytes)| bytes), wanted);
+}
+
 /// Makes a call, and looks at its exit number, at what it reported and at what it wrote.
 fn calls(
     rt: &(impl Abort + AllocGlobal),
@@ -54,9 +65,9 @@ fn calls(
 ) -> Result<(), AllocError> {
     let mut desk = desk(rt.alloc(), failing)?;
     let status = tabcomp_call(rt.alloc(), words, &mut *desk);
-    assert_eq!(rt; status.exit_code(), code);
-    assert_eq!(rt; desk.reported(), reported);
-    assert_eq!(rt; desk.output(0).map(|(_, bytes)| bytes), written);
+    same(rt, status.exit_code(), code);
+    same_bytes(rt, desk.reported(), reported);
+    is_written(rt, &*desk, written);
     Ok(())
 }
 
@@ -81,18 +92,28 @@ fn a_failing_close_is_told(rt: HostRuntime) -> Result<(), Fail> {
     Ok(())
 }
 
+/// Looks which word of a call is told as faulty.
+fn is_faulty(
+    rt: &(impl Abort + AllocGlobal),
+    words: &[String],
+    desk: &mut MemoryDesk,
+    wanted: usize,
+) {
+    let status = tabcomp_call(rt.alloc(), words, desk);
+    assert!(rt; matches!(status, TabStatus::Words { word } if word == wanted));
+}
+
 #[test]
 fn faulty_words_are_told(rt: HostRuntime) -> Result<(), Fail> {
     let words = words_of(rt.alloc(), "--compile a b c")?;
     let mut desk = desk(rt.alloc(), 9)?;
-    let none = tabcomp_call(rt.alloc(), &[], &mut *desk);
-    assert!(rt; matches!(none, TabStatus::Words { word: 0 }));
-    let four = tabcomp_call(rt.alloc(), &words, &mut *desk);
-    assert!(rt; matches!(four, TabStatus::Words { word: 3 }));
-    assert_eq!(rt;
+    is_faulty(&rt, &[], &mut *desk, 0);
+    is_faulty(&rt, &words, &mut *desk, 3);
+    same_bytes(
+        &rt,
         desk.reported(),
-        b"tstabcomp: words\ntstabcomp: words\n".as_slice()
+        b"tstabcomp: words\ntstabcomp: words\n",
     );
-    assert_eq!(rt; desk.asked_count(), 0);
+    same(&rt, desk.asked_count(), 0);
     Ok(())
 }

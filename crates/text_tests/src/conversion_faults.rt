@@ -1,8 +1,8 @@
 //! Texts that are not compiled and bytes that are no section, with all that their faults tell.
-use std::alloc::Global;
+use crate::faults::{is_refused, json_fault, tells};
 use std::test::Fail;
-use tabcomp_core::{CompileFault, DecompileFault, compile, decompile};
-use ts_jtree::{JsonFault, JsonKind};
+use tabcomp_core::DecompileFault;
+use ts_jtree::JsonKind;
 use ts_section::SectionFault;
 
 /// A PAT of one service; its CRC is 2A B1 04 B2, and the last byte here is another one.
@@ -14,8 +14,7 @@ fn a_wrong_crc_is_told(rt: HostRuntime) -> Result<(), Fail> {
         wanted: 0x2AB1_04B2,
         found: 0x2AB1_04B3,
     };
-    let told = decompile(rt.alloc(), WRONG_CRC).err();
-    assert_eq!(rt; told, Some(DecompileFault::Section { offset: 0, fault }));
+    is_refused(&rt, WRONG_CRC, DecompileFault::Section { offset: 0, fault });
     Ok(())
 }
 
@@ -23,19 +22,9 @@ fn a_wrong_crc_is_told(rt: HostRuntime) -> Result<(), Fail> {
 const EXTRA: &[u8] =
     br##"{"#name":"tsduck","#nodes":[{"#name":"PAT","transport_stream_id":1,"#nodes":[{"#name":"service","service_id":1,"program_map_PID":"0x1000","extra":1}]}]}"##;
 
-/// The fault of a text that is JSON, and no text of tables.
-fn json_fault(alloc: Global, text: &[u8]) -> Result<JsonFault, Fail> {
-    match compile(alloc, text) {
-        Err(CompileFault::Json(fault)) => Ok(fault),
-        _ => Err(Fail::from("no such fault")),
-    }
-}
-
 #[test]
 fn an_unknown_key_is_told(rt: HostRuntime) -> Result<(), Fail> {
     let fault = json_fault(rt.alloc(), EXTRA)?;
-    assert_eq!(rt; fault.path.as_slice(), [0, 0].as_slice());
-    assert_eq!(rt; fault.key.as_str(), "extra");
-    assert_eq!(rt; fault.kind, JsonKind::UnknownKey);
+    tells(&rt, &fault, &[0, 0], "extra", JsonKind::UnknownKey);
     Ok(())
 }

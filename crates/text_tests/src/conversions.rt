@@ -1,5 +1,7 @@
 //! Texts compiled, and bytes cut and decompiled, each call that takes memory once with enough of it.
 
+use crate::compared::{same, same_bytes};
+use crate::faults::{is_refused, json_fault, tells};
 use std::alloc::Global;
 use std::test::Fail;
 use tabcomp_core::{CompileFault, DecompileFault, compile, decompile, sections_of};
@@ -10,22 +12,30 @@ use ts_section::SectionFault;
 const PAT: &[u8] =
     br##"{"#name":"tsduck","#nodes":[{"#name":"PAT","transport_stream_id":1,"#nodes":[{"#name":"service","service_id":1,"program_map_PID":"0x1000"}]}]}"##;
 
+/// What a text is compiled to.
+fn compiled(alloc: Global, text: &[u8]) -> Result<Vec<u8>, Fail> {
+    match compile(alloc, text) {
+        Ok(bytes) => Ok(bytes),
+        Err(_) => Err(Fail::from("no sections")),
+    }
+}
+
+/// How many sections bytes are.
+fn section_count(alloc: Global, bytes: &[u8]) -> Result<usize, DecompileFault> {
+    Ok(sections_of(alloc, bytes)?.len())
+}
+
 #[test]
 fn a_text_is_compiled(rt: HostRuntime) -> Result<(), Fail> {
-    let Ok(bytes) = compile(rt.alloc(), PAT) else {
-        return Err(Fail::from("no sections"));
-    };
-    assert_eq!(rt; bytes.as_slice(), PAT_BYTES);
-    let Ok(sections) = sections_of(rt.alloc(), &bytes) else {
-        return Err(Fail::from("no section"));
-    };
-    assert_eq!(rt; sections.len(), 1);
-    let cut = sections_of(rt.alloc(), &bytes[..5]).err();
+    let bytes = compiled(rt.alloc(), PAT)?;
+    same_bytes(&rt, &bytes, PAT_BYTES);
+    same(&rt, section_count(rt.alloc(), &bytes), Ok(1));
     let fault = SectionFault::Short {
         wanted: 16,
         found: 5,
     };
-    assert_eq!(rt; cut, Some(DecompileFault::Section { offset: 0, fault }));
+    let cut = section_count(rt.alloc(), &PAT_BYTES[..5]);
+    same(&rt, cut, Err(DecompileFault::Section { offset: 0, fault }));
     Ok(())
 }
 
@@ -33,17 +43,16 @@ fn a_text_is_compiled(rt: HostRuntime) -> Result<(), Fail> {
 const ZERO: &[u8] =
     br##"{"#name":"tsduck","#nodes":[{"#name":"PAT","transport_stream_id":1,"#nodes":[{"#name":"service","service_id":0,"program_map_PID":1}]}]}"##;
 
+/// Whether a text is no JSON.
+fn is_no_json(alloc: Global, text: &[u8]) -> bool {
+    matches!(compile(alloc, text), Err(CompileFault::NotJson))
+}
+
 #[test]
 fn the_first_fault_is_told(rt: HostRuntime) -> Result<(), Fail> {
-    let Err(CompileFault::Json(fault)) = compile(rt.alloc(), ZERO) else {
-        return Err(Fail::from("no fault"));
-    };
-    assert_eq!(rt; fault.path.as_slice(), [0, 0].as_slice());
-    assert_eq!(rt; fault.key.as_str(), "service_id");
-    assert_eq!(rt; fault.kind, JsonKind::OutOfRange);
-    let Err(CompileFault::NotJson) = compile(rt.alloc(), b"{") else {
-        return Err(Fail::from("no JSON"));
-    };
+    same(&rt, is_no_json(rt.alloc(), b"{"), true);
+    let fault = json_fault(rt.alloc(), ZERO)?;
+    tells(&rt, &fault, &[0, 0], "service_id", JsonKind::OutOfRange);
     Ok(())
 }
 
@@ -89,13 +98,8 @@ const PAT_AS_BYTES: &[u8] =
 #[test]
 fn what_is_compiled_is_decompiled(rt: HostRuntime) -> Result<(), Fail> {
     assert!(rt; is_text(rt.alloc(), BOTH, BOTH_TEXT));
-    let Ok(sections) = compile(rt.alloc(), BOTH_TEXT.as_bytes()) else {
-        return Err(Fail::from("no sections"));
-    };
-    assert_eq!(rt; sections.as_slice(), BOTH);
-    let Ok(table) = compile(rt.alloc(), PAT_AS_BYTES) else {
-        return Err(Fail::from("no table"));
-    };
+    same_bytes(&rt, &compiled(rt.alloc(), BOTH_TEXT.as_bytes())?, BOTH);
+    let table = compiled(rt.alloc(), PAT_AS_BYTES)?;
     assert!(rt; is_text(rt.alloc(), &table, PAT_TEXT));
     Ok(())
 }
@@ -108,9 +112,8 @@ const SECOND_THEN_FIRST: &[u8] =
 
 #[test]
 fn runs_are_whole(rt: HostRuntime) -> Result<(), Fail> {
-    let wanting = decompile(rt.alloc(), FIRST).err();
-    assert_eq!(rt; wanting, Some(DecompileFault::Sequence { offset: 12 }));
-    let turned = decompile(rt.alloc(), SECOND_THEN_FIRST).err();
-    assert_eq!(rt; turned, Some(DecompileFault::Sequence { offset: 0 }));
+    is_refused(&rt, FIRST, DecompileFault::Sequence { offset: 12 });
+    let turned = DecompileFault::Sequence { offset: 0 };
+    is_refused(&rt, SECOND_THEN_FIRST, turned);
     Ok(())
 }

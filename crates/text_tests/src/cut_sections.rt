@@ -1,6 +1,7 @@
 //! A section that is cut short.
+use crate::faults::is_refused;
 use std::test::Fail;
-use tabcomp_core::{DecompileFault, decompile};
+use tabcomp_core::DecompileFault;
 use ts_section::SectionFault;
 
 /// A PAT of one service.
@@ -14,8 +15,8 @@ fn each_first_part_is_short(rt: HostRuntime) -> Result<(), Fail> {
     for found in 1..16 {
         let wanted = if found < 3 { 3 } else { 16 };
         let fault = SectionFault::Short { wanted, found };
-        let cut = decompile(rt.alloc(), &PAT[..found]).err();
-        assert_eq!(rt; cut, Some(DecompileFault::Section { offset: 0, fault }));
+        let cut = DecompileFault::Section { offset: 0, fault };
+        is_refused(&rt, &PAT[..found], cut);
     }
     Ok(())
 }

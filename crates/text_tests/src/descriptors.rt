@@ -2,12 +2,15 @@
 
 ghost use Rattle.std.specs.Prelude.{◌≤◌, length};
 
+use crate::compared::{same_bytes, same_text};
+use crate::faults::tells;
 use serde_json::Value;
 use std::alloc::{AllocError, Global};
+use std::process::Abort;
 use std::test::Fail;
 use ts_bits::Descriptor;
 use ts_json_descr::{descr_json, json_descr};
-use ts_jtree::{JsonKind, ReadRefusal};
+use ts_jtree::{JsonFault, JsonKind, ReadRefusal};
 
 /// 346 MHz, 64-QAM, 6.875 Mbaud.
 static CABLE: [u8; 11] = [
@@ -39,37 +42,56 @@ fn read(alloc: Global, text: &str) -> Result<Descriptor, Fail> {
     Ok(json_descr(alloc, &value)?)
 }
 
-#[test]
-fn a_cable_is_shown_and_read(rt: HostRuntime) -> Result<(), Fail> {
-    let text = shown(rt.alloc(), 0x44, &CABLE)?;
-    assert_eq!(rt; text.as_str(), CABLE_TEXT);
-    let back = read(rt.alloc(), CABLE_TEXT)?;
-    assert_eq!(rt; back.body(), CABLE.as_slice());
+/// Looks at the JSON text of a descriptor.
+fn is_shown(
+    rt: &(impl Abort + AllocGlobal),
+    tag: u8,
+    body: &[u8],
+    wanted: &str,
+) -> Result<(), AllocError>
+    requires { length body.now ≤ 255 }
+{
+    let text = shown(rt.alloc(), tag, body)?;
+    same_text(rt, text.as_str(), wanted);
+    Ok(())
+}
+
+/// Looks at the body of the descriptor of a JSON text.
+fn is_read(rt: &(impl Abort + AllocGlobal), text: &str, body: &[u8]) -> Result<(), Fail> {
+    let back = read(rt.alloc(), text)?;
+    same_bytes(rt, back.body(), body);
     Ok(())
 }
 
 #[test]
+fn a_cable_is_shown_and_read(rt: HostRuntime) -> Result<(), Fail> {
+    is_shown(&rt, 0x44, &CABLE, CABLE_TEXT)?;
+    is_read(&rt, CABLE_TEXT, &CABLE)
+}
+
+#[test]
 fn a_generic_one_is_shown_and_read(rt: HostRuntime) -> Result<(), Fail> {
-    let text = shown(rt.alloc(), 0x44, &NO_CABLE)?;
-    assert_eq!(rt; text.as_str(), NO_CABLE_TEXT);
-    let back = read(rt.alloc(), NO_CABLE_TEXT)?;
-    assert_eq!(rt; back.body(), NO_CABLE.as_slice());
-    Ok(())
+    is_shown(&rt, 0x44, &NO_CABLE, NO_CABLE_TEXT)?;
+    is_read(&rt, NO_CABLE_TEXT, &NO_CABLE)
 }
 
 /// A CA descriptor's second system has no value.
 const NO_SYSTEM: &str =
     r##"{"#name":"CA_identifier_descriptor","#nodes":[{"#name":"CA_system_id","value":1},{"#name":"CA_system_id"}]}"##;
 
+/// The fault of a text that is no descriptor.
+fn fault(alloc: Global, text: &str) -> Result<JsonFault, Fail> {
+    let value = Value::from_str(alloc, text)?;
+    match json_descr(alloc, &value) {
+        Err(ReadRefusal::Json(fault)) => Ok(fault),
+        _ => Err(Fail::from("no fault")),
+    }
+}
+
 #[test]
 fn a_fault_of_a_child_has_its_number(rt: HostRuntime) -> Result<(), Fail> {
-    let value = Value::from_str(rt.alloc(), NO_SYSTEM)?;
-    let Err(ReadRefusal::Json(fault)) = json_descr(rt.alloc(), &value) else {
-        return Err(Fail::from("no fault"));
-    };
-    assert_eq!(rt; fault.path.as_slice(), [1].as_slice());
-    assert_eq!(rt; fault.key.as_str(), "value");
-    assert_eq!(rt; fault.kind, JsonKind::Missing);
+    let fault = fault(rt.alloc(), NO_SYSTEM)?;
+    tells(&rt, &fault, &[1], "value", JsonKind::Missing);
     Ok(())
 }
 
@@ -95,8 +117,7 @@ static MPEG_BODIES: [(u8, [u8; 4], &str); 3] = [
 #[test]
 fn languages_and_systems_are_shown(rt: HostRuntime) -> Result<(), Fail> {
     for (tag, body, text) in &MPEG_BODIES {
-        let found = shown(rt.alloc(), *tag, body)?;
-        assert_eq!(rt; found.as_str(), *text);
+        is_shown(&rt, *tag, body, text)?;
     }
     Ok(())
 }

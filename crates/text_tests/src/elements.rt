@@ -1,10 +1,13 @@
 //! Elements read and shown, each call that takes memory once with enough of it.
 
+use crate::compared::same_text;
+use crate::faults::kind_words;
 use serde_json::{Map, Value};
 use std::alloc::{AllocError, Global};
+use std::process::Abort;
 use std::test::Fail;
 use ts_fields::{Field, FieldValue, Kind};
-use ts_jtree::{JsonKind, ReadRefusal, put_text, read_element, show_attributes};
+use ts_jtree::{ReadRefusal, put_text, read_element, show_attributes};
 
 macro_rules! rows {
     ($($name:literal $kind:expr, $absent:expr;)*) => {
@@ -21,25 +24,28 @@ static EVENT: &[Field] = rows![
     "name" Kind::Text, None;
 ];
 
-/// The way, the key and the kind of a fault, as text.
-fn fault_text(alloc: Global, text: &str) -> Result<String, Fail> {
-    let value = Value::from_str(alloc, text)?;
-    match read_element(alloc, "event", EVENT, &value) {
-        Ok((values, nodes)) => Ok(format!(in alloc;
-            "{} values, {} nodes",
-            values.len(),
-            nodes.len()
-        )?),
-        Err(ReadRefusal::NoMemory) => Ok(String::from_str(alloc, "no memory")?),
-        Err(ReadRefusal::Json(fault)) => {
-            let kind = match fault.kind {
-                JsonKind::Missing => "missing",
-                JsonKind::WrongKind => "wrong kind",
-                JsonKind::OutOfRange => "out of range",
-                JsonKind::UnknownKey => "unknown",
-            };
+/// The key and the kind of a fault, as text.
+fn refusal_text(alloc: Global, refusal: &ReadRefusal) -> Result<String, Fail> {
+    match refusal {
+        ReadRefusal::NoMemory => Ok(String::from_str(alloc, "no memory")?),
+        ReadRefusal::Json(fault) => {
+            let kind = kind_words(fault.kind);
             Ok(format!(in alloc; "{} {kind}", fault.key.as_str())?)
         }
+    }
+}
+
+/// How many values and children there are, as text.
+fn count_text(alloc: Global, values: usize, nodes: usize) -> Result<String, Fail> {
+    Ok(format!(in alloc; "{values} values, {nodes} nodes")?)
+}
+
+/// How many values and children are read of an element, or its fault, as text.
+fn read_text(alloc: Global, text: &str) -> Result<String, Fail> {
+    let value = Value::from_str(alloc, text)?;
+    match read_element(alloc, "event", EVENT, &value) {
+        Ok((values, nodes)) => count_text(alloc, values.len(), nodes.len()),
+        Err(refusal) => refusal_text(alloc, &refusal),
     }
 }
 
@@ -73,11 +79,22 @@ static ELEMENTS: [(&str, &str); 8] = [
     ),
 ];
 
+/// The elements. What a `static` holds is written into each function that names it.
+fn elements() -> &'static [(&'static str, &'static str)] {
+    &ELEMENTS
+}
+
+/// Looks what is read of an element.
+fn is_read(rt: &(impl Abort + AllocGlobal), text: &str, wanted: &str) -> Result<(), Fail> {
+    let told = read_text(rt.alloc(), text)?;
+    same_text(rt, told.as_str(), wanted);
+    Ok(())
+}
+
 #[test]
 fn the_first_fault_is_told(rt: HostRuntime) -> Result<(), Fail> {
-    for (text, told) in &ELEMENTS {
-        let fault = fault_text(rt.alloc(), text)?;
-        assert_eq!(rt; fault.as_str(), *told);
+    for (text, told) in elements() {
+        is_read(&rt, text, told)?;
     }
     Ok(())
 }
@@ -91,19 +108,27 @@ fn event_text(alloc: Global, values: &[FieldValue]) -> Result<String, AllocError
     Value::Object(members).to_string(alloc)
 }
 
+/// The values of an event.
+fn event_values(alloc: Global) -> Result<Vec<FieldValue>, AllocError> {
+    let name = Vec::from_slice(alloc, b"\x05News")?;
+    let values = vec![in alloc;
+        FieldValue::Number(31),
+        FieldValue::Number(0xC0_7912_4500),
+        FieldValue::Number(0x01_4530),
+        FieldValue::Number(0),
+        FieldValue::Bytes(name),
+    ]?;
+    Ok(values)
+}
+
 #[test]
 fn an_event_is_shown(rt: HostRuntime) -> Result<(), Fail> {
-    let alloc = rt.alloc();
-    let mut values = Vec::new(alloc);
-    values.push(FieldValue::Number(31))?;
-    values.push(FieldValue::Number(0xC0_7912_4500))?;
-    values.push(FieldValue::Number(0x01_4530))?;
-    values.push(FieldValue::Number(0))?;
-    values.push(FieldValue::Bytes(Vec::from_slice(alloc, b"\x05News")?))?;
-    let text = event_text(alloc, &values)?;
-    assert_eq!(rt;
+    let values = event_values(rt.alloc())?;
+    let text = event_text(rt.alloc(), &values)?;
+    same_text(
+        &rt,
         text.as_str(),
-        r##"{"#name":"event","CA_mode":false,"duration":"01:45:30","event_id":31,"name_hex":"054e657773","start_time":"1993-10-13 12:45:00"}"##
+        r##"{"#name":"event","CA_mode":false,"duration":"01:45:30","event_id":31,"name_hex":"054e657773","start_time":"1993-10-13 12:45:00"}"##,
     );
     Ok(())
 }

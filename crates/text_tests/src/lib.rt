@@ -5,6 +5,8 @@
 #[cfg(test)]
 mod calls;
 #[cfg(test)]
+mod compared;
+#[cfg(test)]
 mod conversion_faults;
 #[cfg(test)]
 mod conversions;
@@ -14,6 +16,8 @@ mod cut_sections;
 mod descriptors;
 #[cfg(test)]
 mod elements;
+#[cfg(test)]
+mod faults;
 #[cfg(test)]
 mod longest_pmt;
 #[cfg(test)]

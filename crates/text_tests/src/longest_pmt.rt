@@ -1,4 +1,5 @@
 //! A text of a PMT without components, whose four descriptors of a private tag just fit, and one of a byte more.
+use crate::compared::same;
 use std::alloc::{AllocError, Global};
 use std::test::Fail;
 use tabcomp_core::{CompileFault, compile};
@@ -29,14 +30,20 @@ fn pmt_text(alloc: Global, last: usize) -> Result<Vec<u8>, AllocError> {
     Ok(text)
 }
 
+/// The section that a text is compiled to.
+fn compiled(alloc: Global, text: &[u8]) -> Result<Vec<u8>, Fail> {
+    match compile(alloc, text) {
+        Ok(bytes) => Ok(bytes),
+        Err(_) => Err(Fail::from("no section")),
+    }
+}
+
 /// Its section_length is 13 + 771 + 237 = 1021, the most that a PMT may have.
 #[test]
 fn the_longest_pmt_is_compiled(rt: HostRuntime) -> Result<(), Fail> {
     let text = pmt_text(rt.alloc(), 235)?;
-    let Ok(bytes) = compile(rt.alloc(), &text) else {
-        return Err(Fail::from("no section"));
-    };
-    assert_eq!(rt; bytes.len(), 1024);
+    let bytes = compiled(rt.alloc(), &text)?;
+    same(&rt, bytes.len(), 1024);
     assert_eq!(rt; bytes.get(..3), Some(b"\x02\xB3\xFD".as_slice()));
     Ok(())
 }
@@ -53,6 +60,6 @@ fn refusal(alloc: Global, text: &[u8]) -> Result<TableRefusal, Fail> {
 fn a_longer_pmt_is_too_large(rt: HostRuntime) -> Result<(), Fail> {
     let text = pmt_text(rt.alloc(), 236)?;
     let told = refusal(rt.alloc(), &text)?;
-    assert_eq!(rt; told, TableRefusal::TooLarge { bytes: 1022 });
+    same(&rt, told, TableRefusal::TooLarge { bytes: 1022 });
     Ok(())
 }

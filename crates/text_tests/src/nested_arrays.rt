@@ -23,10 +23,9 @@ fn is_of_root(fault: &JsonFault) -> bool {
         && fault.kind == JsonKind::WrongKind
 }
 
-/// Whether so many nested arrays are read as JSON, which then is no element.
-fn is_json(alloc: Global, depth: usize) -> Result<bool, Fail> {
-    let text = nested(alloc, depth)?;
-    let Err(fault) = compile(alloc, &text) else {
+/// Whether a text is read as JSON, which then is no element.
+fn is_read(alloc: Global, text: &[u8]) -> Result<bool, Fail> {
+    let Err(fault) = compile(alloc, text) else {
         return Err(Fail::from("it has tables"));
     };
     match fault {
@@ -40,6 +39,12 @@ fn is_json(alloc: Global, depth: usize) -> Result<bool, Fail> {
         }
         _ => Err(Fail::from("another fault")),
     }
+}
+
+/// Whether so many nested arrays are read as JSON.
+fn is_json(alloc: Global, depth: usize) -> Result<bool, Fail> {
+    let text = nested(alloc, depth)?;
+    is_read(alloc, &text)
 }
 
 #[test]

@@ -1,17 +1,36 @@
 //! Tables as JSON texts and sections, each call that takes memory once with enough of it.
 
+ghost use Rattle.std.specs.Prelude.{IfOk};
+ghost use Rattle.ts_json_tables.specs.HeldTables.{table_value};
+ghost use Rattle.ts_json_tables.specs.LawfulTables.{IsTable};
+
+use crate::compared::same_text;
+use crate::faults::kind_words;
 use serde_json::Value;
 use std::alloc::Global;
+use std::process::Abort;
 use std::test::Fail;
-use ts_json_tables::{of_json, table_of, table_sections, to_json};
-use ts_jtree::{JsonKind, ReadRefusal};
+use ts_json_tables::{Table, of_json, table_of, table_sections, to_json};
+use ts_jtree::{JsonFault, ReadRefusal};
 use ts_section::TableRun;
 
-/// Whether a text is read, written as sections and shown again as another text.
-fn again(alloc: Global, text: &str) -> Result<String, Fail> {
+/// The table of a text.
+fn read(alloc: Global, text: &str) -> Result<Table, Fail>
+    ensures { IfOk result (λ t. IsTable (table_value t)) }
+{
     let value = Value::from_str(alloc, text)?;
-    let table = of_json(alloc, &value)?;
-    let run = TableRun::of(table_sections(alloc, &table)?)?;
+    Ok(of_json(alloc, &value)?)
+}
+
+/// The sections of a text.
+fn written(alloc: Global, text: &str) -> Result<TableRun, Fail> {
+    let table = read(alloc, text)?;
+    Ok(TableRun::of(table_sections(alloc, &table)?)?)
+}
+
+/// What a text is shown as that is read, written as sections and read again.
+fn again(alloc: Global, text: &str) -> Result<String, Fail> {
+    let run = written(alloc, text)?;
     let back = table_of(alloc, &run)?;
     Ok(to_json(alloc, &back)?.to_string(alloc)?)
 }
@@ -52,27 +71,39 @@ static TEXTS: [(&str, &str); 8] = [
     ),
 ];
 
+/// The texts. What a `static` holds is written into each function that names it.
+fn texts() -> &'static [(&'static str, &'static str)] {
+    &TEXTS
+}
+
+/// Looks at the canonical form of a text.
+fn comes_back(rt: &(impl Abort + AllocGlobal), text: &str, canonical: &str) -> Result<(), Fail> {
+    let back = again(rt.alloc(), text)?;
+    same_text(rt, back.as_str(), canonical);
+    Ok(())
+}
+
 #[test]
 fn tables_come_back(rt: HostRuntime) -> Result<(), Fail> {
-    for (text, canonical) in &TEXTS {
-        let back = again(rt.alloc(), text)?;
-        assert_eq!(rt; back.as_str(), *canonical);
+    for (text, canonical) in texts() {
+        comes_back(&rt, text, canonical)?;
     }
     Ok(())
 }
 
+/// The fault of a text that is no table.
+fn fault(alloc: Global, text: &str) -> Result<JsonFault, Fail> {
+    let value = Value::from_str(alloc, text)?;
+    match of_json(alloc, &value) {
+        Err(ReadRefusal::Json(fault)) => Ok(fault),
+        _ => Err(Fail::from("no fault")),
+    }
+}
+
 /// The way, the key and the kind of a fault, as text.
 fn fault_text(alloc: Global, text: &str) -> Result<String, Fail> {
-    let value = Value::from_str(alloc, text)?;
-    let Err(ReadRefusal::Json(fault)) = of_json(alloc, &value) else {
-        return Err(Fail::from("no fault"));
-    };
-    let kind = match fault.kind {
-        JsonKind::Missing => "missing",
-        JsonKind::WrongKind => "wrong kind",
-        JsonKind::OutOfRange => "out of range",
-        JsonKind::UnknownKey => "unknown",
-    };
+    let fault = fault(alloc, text)?;
+    let kind = kind_words(fault.kind);
     let first = fault.path.as_slice().first().copied().unwrap_or(99);
     Ok(format!(in alloc; "{first} {} {kind}", fault.key.as_str())?)
 }
@@ -114,11 +145,22 @@ static FAULTS: [(&str, &str); 9] = [
     ),
 ];
 
+/// The texts with faults.
+fn faults() -> &'static [(&'static str, &'static str)] {
+    &FAULTS
+}
+
+/// Looks at the first fault of a text.
+fn is_faulty(rt: &(impl Abort + AllocGlobal), text: &str, told: &str) -> Result<(), Fail> {
+    let fault = fault_text(rt.alloc(), text)?;
+    same_text(rt, fault.as_str(), told);
+    Ok(())
+}
+
 #[test]
 fn the_first_fault_is_told(rt: HostRuntime) -> Result<(), Fail> {
-    for (text, told) in &FAULTS {
-        let fault = fault_text(rt.alloc(), text)?;
-        assert_eq!(rt; fault.as_str(), *told);
+    for (text, told) in faults() {
+        is_faulty(&rt, text, told)?;
     }
     Ok(())
 }
