@@ -1,6 +1,8 @@
 -- From the whole call to what its status tells.
-use Rattle.std.proofs.Common.{◌≡◌, ℕ, ◌+◌, List, [], ◌∷◌, ◌++◌, length, take, Bool, true, false, Option, None, Some, refl, ap, sym, ◌∙◌, subst, arith, inl, inr}
-use Rattle.std.specs.Prelude.{◌⊎◌, ◌&&◌, ◌||◌, ◌<◌, ◌≤◌, ◌-◌, ◌^◌, min, codes}
+use Rattle.std.proofs.Math.Nat.{min-eq_left}
+use Rattle.std.proofs.lemmas.Bool.Decides.{nat_tests}
+use Rattle.std.proofs.Common.{◌≡◌, ℕ, zero, suc, ◌+◌, append_assoc, List, [], ◌∷◌, ◌++◌, length, take, Bool, true, false, Option, None, Some, refl, ap, sym, ◌∙◌, subst, arith, inl, inr}
+use Rattle.std.specs.Prelude.{◌⊎◌, ◌&&◌, ◌||◌, ◌<◌, ◌≤◌, ◌-◌, ◌^◌, min, codes, nat_lt, unwrap_or, IsSome}
 use Rattle.std.specs.List.{list_all}
 use Rattle.ts_outside.specs.Count.{HasCause, raised}
 use Rattle.ts_outside.proofs.Views.{HasCause-raised}
@@ -14,20 +16,22 @@ use Rattle.chain_model.specs.declared.input_end.InputEnd.TheVariants as how
 use Rattle.chain_model.specs.Written.{written}
 use Rattle.chain_model.specs.Stuffed.{no_stuffing}
 use Rattle.stage_run.specs.Parts.{list_at_fault}
-use Rattle.switch_args.specs.SwitchWords.{Given, read_of}
+use Rattle.window_ring.specs.Views.{Each}
+use Rattle.switch_args.specs.SwitchWords.{Given, read_of, IsBeginning, IsFirstFault}
+use Rattle.switch_args.specs.LawfulSettings.{IsLawful}
 use Rattle.play_run.specs.declared.played.PlayEnd.{PlayEnd}
 use Rattle.play_run.specs.declared.played.PlayEnd.TheVariants.{Input, WriteFault}
 use Rattle.play_run.specs.Played.{play_of, cause_of, EndsAs}
 use Rattle.switch_top.specs.declared.status.SwitchStatus.{SwitchStatus}
 use Rattle.switch_top.specs.declared.status.SwitchStatus.TheVariants as status
-use Rattle.switch_top.specs.PlayNames.{PlayName}
+use Rattle.switch_top.specs.PlayNames.{PlayName, numbered, rows_of}
 use Rattle.switch_top.specs.Lines.{play_line, switch_end_line}
 use Rattle.switch_top.specs.Switched.{PlayList, lists_of, is_plain}
 use Rattle.switch_top.specs.SoFar.{names_of, cells_of, lines_of, sources_of, with_inputs, LastRead}
 use Rattle.switch_top.specs.SwitchEnds.{SwitchesPlan, no_output, out_of_memory, wanted, ran, SwitchRan, IsPart, output_name, opened_as}
 use Rattle.switch_top.specs.SwitchCall.{CallsSwitch, at_words, no_room, at_plan}
 use Rattle.switch_top.specs.SwitchPlans.{plays_of}
-use Rattle.switch_top.specs.SwitchTheorem.{AllEndPlainly, packets_of, report_to, GivesRead, EndsIn, MayFailLate, StatusTells}
+use Rattle.switch_top.specs.SwitchTheorem.{AllEndPlainly, packets_of, report_to, GivesRead, EndsIn, MayFailLate, StatusTells, RefusesWords}
 use Rattle.switch_top.proofs.SwitchedLaws.{bytes-told, behind-plain, behind-cells, behind-lines}
 use Rattle.switch_top.proofs.CallLaws.{late_status, one-more}
 use Rattle.switch_top.proofs.TheoremLemmas.{NoFault}
@@ -126,6 +130,27 @@ ran-ends buffer names (Some name) old new answer files told r failed says = (
   refl,
 )
 
+-- ---- the numbers of inputs
+
+abbrev IsSmall : PlayName → Type 0
+IsSmall play = play.input ≤ 32
+
+small-append : (first second : List PlayName) → Each IsSmall first → Each IsSmall second → Each IsSmall (first ++ second)
+small-append [] second f s = s
+small-append (x ∷ xs) second f s = (f.0, small-append xs second f.1 s)
+
+small-at : (behind : List PlayName) (play : PlayName) (later : List PlayName) → Each IsSmall (behind ++ play ∷ later) → play.input ≤ 32
+small-at [] play later all = all.0
+small-at (b ∷ bs) play later all = small-at bs play later all.1
+
+small-numbered : (number : ℕ) (names : List (List ℕ)) → number + length names ≤ 33 → Each IsSmall (numbered number names)
+small-numbered number [] few = tt
+small-numbered number (name ∷ names) few = (omega (arith, few), small-numbered (suc number) names (omega (arith, few)))
+
+small-rows : (rows : ℕ) (names : List (List ℕ)) → length names ≤ 32 → Each IsSmall (rows_of rows names)
+small-rows zero names few = tt
+small-rows (suc rows) names few = small-append (numbered 1 names) (rows_of rows names) (small-numbered 1 names (omega (arith, few))) (small-rows rows names few)
+
 -- ---- plays of which the last one ends plainly, too
 
 both-true : (a b : Bool) → a ≡ true → b ≡ true → (a && b) ≡ true
@@ -152,39 +177,82 @@ module _ (files : List (List ℕ × List ℕ)) where
         (all-plain e.behind e.play e.plain (ap is_plain e.ends.ended))
 
     -- the status of an end tells that end
-    tells : (late : Bool) (input : ℕ) (end : PlayEnd) (e : EndsIn files names output old new end) → e.play.input ≡ input → StatusTells files names output old new (late_status late input end)
-    tells true input (Input (how.End left)) e is = inr (Input (how.End left), tt, e)
-    tells true input (Input (how.Sync packet)) e is = (e, ap (λ i. min i (2 ^ 32 - 1)) (sym is))
-    tells true input (Input how.ReadFault) e is = e
-    tells true input (Input how.TooLong) e is = e
-    tells true input WriteFault e is = inr (WriteFault, tt, e)
-    tells false input (Input (how.End left)) e is = (whole-plain left e, (left, e))
-    tells false input (Input (how.Sync packet)) e is = (e, ap (λ i. min i (2 ^ 32 - 1)) (sym is))
-    tells false input (Input how.ReadFault) e is = e
-    tells false input (Input how.TooLong) e is = e
-    tells false input WriteFault e is = inr (WriteFault, tt, e)
+    told-input : (input : ℕ) (end : PlayEnd) (e : EndsIn files names output old new end) → e.play.input ≡ input → Each IsSmall names → min input (2 ^ 32 - 1) ≡ e.play.input
+    told-input input end e is small =
+        let few = subst (λ i. i ≤ 32) is (small-at e.behind e.play e.later (subst (Each IsSmall) e.names_are small)) in
+        min-eq_left (omega (arith, few)) ∙ sym is
+
+    tells : Each IsSmall names → (late : Bool) (input : ℕ) (end : PlayEnd) (e : EndsIn files names output old new end) → e.play.input ≡ input → StatusTells files names output old new (late_status late input end)
+    tells small true input (Input (how.End left)) e is = inr (Input (how.End left), tt, e)
+    tells small true input (Input (how.Sync packet)) e is = (e, told-input input (Input (how.Sync packet)) e is small)
+    tells small true input (Input how.ReadFault) e is = e
+    tells small true input (Input how.TooLong) e is = e
+    tells small true input WriteFault e is = inr (WriteFault, tt, e)
+    tells small false input (Input (how.End left)) e is = (whole-plain left e, (left, e))
+    tells small false input (Input (how.Sync packet)) e is = (e, told-input input (Input (how.Sync packet)) e is small)
+    tells small false input (Input how.ReadFault) e is = e
+    tells small false input (Input how.TooLong) e is = e
+    tells small false input WriteFault e is = inr (WriteFault, tt, e)
 
 -- ---- the whole call
 
-module _ (files : List (List ℕ × List ℕ)) (buffer : ℕ) (names : List PlayName) (old new : DeskView) (answer : SwitchStatus) (told : old.files ≡ Some files) where
+module _ (files : List (List ℕ × List ℕ)) (buffer : ℕ) (names : List PlayName) (old new : DeskView) (answer : SwitchStatus) (told : old.files ≡ Some files) (small : Each IsSmall names) where
   plan-tells : (output : Option (List ℕ)) → SwitchesPlan buffer names output old new answer → StatusTells files names output old new answer
   plan-tells output (no_output name failed is answer_is says) = subst (StatusTells files names output old new) (sym answer_is) (inl (name, failed, is, says))
   plan-tells output (out_of_memory answer_is same) = subst (StatusTells files names output old new) (sym answer_is) tt
   plan-tells output (wanted w) = subst (StatusTells files names output old new) (sym w.answer_is) tt
   plan-tells None (ran r) = elim r.reported [
-    | inl s ↦ (let e = ran-ends buffer names None old new answer files told r s.0 s.1 in subst (StatusTells files names None old new) (sym s.2) (tells files names None old new (r.late || s.0) r.input r.end e.0 e.1))
+    | inl s ↦ (let e = ran-ends buffer names None old new answer files told r s.0 s.1 in subst (StatusTells files names None old new) (sym s.2) (tells files names None old new small (r.late || s.0) r.input r.end e.0 e.1))
     | inr n ↦ subst (StatusTells files names None old new) (sym n.0) tt
   ]
   plan-tells (Some name) (ran r) = elim r.reported [
-    | inl s ↦ (let e = ran-ends buffer names (Some name) old new answer files told r s.0 s.1 in subst (StatusTells files names (Some name) old new) (sym s.2) (tells files names (Some name) old new (r.late || s.0) r.input r.end e.0 e.1))
+    | inl s ↦ (let e = ran-ends buffer names (Some name) old new answer files told r s.0 s.1 in subst (StatusTells files names (Some name) old new) (sym s.2) (tells files names (Some name) old new small (r.late || s.0) r.input r.end e.0 e.1))
     | inr n ↦ subst (StatusTells files names (Some name) old new) (sym n.0) tt
   ]
 
-pub call-tells : ((words : List (List ℕ)) → NoFault words) → (words : List (List ℕ)) (given : Given) (files : List (List ℕ × List ℕ)) (old new : DeskView) (answer : SwitchStatus)
+pub call-tells : ((words : List (List ℕ)) → NoFault words) → ((words : List (List ℕ)) (given : Given) → read_of words ≡ Some given → IsLawful given) → (words : List (List ℕ)) (given : Given) (files : List (List ℕ × List ℕ)) (old new : DeskView) (answer : SwitchStatus)
     → read_of words ≡ Some given → old.files ≡ Some files → CallsSwitch words old new answer → StatusTells files (plays_of given) (output_name given.output) old new answer
-call-tells law words given files old new answer read told (at_words word failed is fault says) = absurd (law words given word read fault)
-call-tells law words given files old new answer read told (no_room is same) = subst (StatusTells files (plays_of given) (output_name given.output) old new) (sym is) tt
-call-tells law words given files old new answer read told (at_plan other is buffer size switches) =
+call-tells law lawful words given files old new answer read told (at_words word failed is fault says) = absurd (law words given word read fault)
+call-tells law lawful words given files old new answer read told (no_room is same) = subst (StatusTells files (plays_of given) (output_name given.output) old new) (sym is) tt
+call-tells law lawful words given files old new answer read told (at_plan other is buffer size switches) =
     let same : other ≡ given = (let f : Some other ≡ Some given = sym is ∙ read in cc) in
-    plan-tells files buffer (plays_of given) old new answer told (output_name given.output)
+    plan-tells files buffer (plays_of given) old new answer told (small-rows (unwrap_or given.cycle 1) given.inputs (lawful words given read).few) (output_name given.output)
     (subst (λ (g : Given). SwitchesPlan buffer (plays_of g) (output_name g.output) old new answer) same switches)
+
+-- ---- faulty words
+
+prefix : (k m : ℕ) (words : List (List ℕ)) → k ≤ m → (more : List (List ℕ)) × (take m words ≡ take k words ++ more)
+prefix zero m words le = (take m words, refl)
+prefix (suc k) zero words le = absurd (omega (arith, le))
+prefix (suc k) (suc m) [] le = ([], refl)
+prefix (suc k) (suc m) (word ∷ words) le = (let p = prefix k m words (omega (arith, le)) in (p.0, ap (λ l. word ∷ l) p.1))
+
+begins-before : (k m : ℕ) (words : List (List ℕ)) → k ≤ m → IsBeginning (take m words) → IsBeginning (take k words)
+begins-before k m words le b =
+    let p = prefix k m words le in
+    (p.0 ++ b.0, subst (λ l. IsSome (read_of l)) (ap (λ l. l ++ b.0) p.1 ∙ append_assoc (take k words) p.0 b.0) b.1)
+
+none-before : (words : List (List ℕ)) (n m : ℕ) → IsFirstFault words n → IsFirstFault words m → n < m → ⊥
+none-before words n m first second lt =
+    let within = second.within in
+    first.goes_on_no_more (omega (arith, lt, within)) (begins-before (suc n) m words (omega (arith, lt)) second.begins)
+
+same-fault : (words : List (List ℕ)) (n m : ℕ) → IsFirstFault words n → IsFirstFault words m → n ≡ m
+same-fault words n m first second = by (nat_lt n m) (nat_lt m n) refl refl
+  where
+    less : (a b : ℕ) → nat_lt a b ≡ true → a < b
+    less a b e = grind (arith, nat_tests)
+
+    equal : (a b : ℕ) → nat_lt a b ≡ false → nat_lt b a ≡ false → a ≡ b
+    equal a b e f = grind (arith, nat_tests)
+
+    by : (x y : Bool) → nat_lt n m ≡ x → nat_lt m n ≡ y → n ≡ m
+    by true y e f = absurd (none-before words n m first second (less n m e))
+    by false true e f = absurd (none-before words m n second first (less m n f))
+    by false false e f = equal n m e f
+
+pub call-refuses : ((words : List (List ℕ)) → NoFault words) → (words : List (List ℕ)) (old new : DeskView) (answer : SwitchStatus) (word : ℕ) → IsFirstFault words word → CallsSwitch words old new answer
+    → ((answer ≡ status.NoMemory) × (new ≡ old)) ⊎ RefusesWords word old new answer
+call-refuses law words old new answer word fault (at_words other failed is first says) = inr (is ∙ ap status.Words (same-fault words other word first fault), (failed, says))
+call-refuses law words old new answer word fault (no_room is same) = inl (is, same)
+call-refuses law words old new answer word fault (at_plan given read buffer size switches) = absurd (law words given word read fault)

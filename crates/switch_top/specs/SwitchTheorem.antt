@@ -1,5 +1,5 @@
 -- What a call of `tsswitch` does, in the words of the switched list. This project's own rule.
-use Rattle.std.specs.Prelude.{◌≡◌, ◌⊎◌, ℕ, ◌+◌, ◌-◌, ◌^◌, ◌<◌, ◌≤◌, min, List, [], ◌∷◌, ◌++◌, length, take, codes, Bool, true, false, Option, Some}
+use Rattle.std.specs.Prelude.{◌≡◌, ◌⊎◌, ℕ, ◌+◌, ◌<◌, ◌≤◌, List, [], ◌∷◌, ◌++◌, length, take, codes, Bool, true, false, Option, Some}
 use Rattle.std.specs.List.{flat_map, list_all}
 use Rattle.ts_packet.specs.declared.cell.Cell.{Cell}
 use Rattle.ts_outside.specs.Count.{HasCause}
@@ -139,5 +139,10 @@ StatusTells files names output old new status.ReadFault = EndsIn files names out
 StatusTells files names output old new status.WriteFault =
     MissesOutput output old new ⊎ ((end : PlayEnd) × MayFailLate end × EndsIn files names output old new end)
 StatusTells files names output old new (status.Sync input packet) =
-    (ends : EndsIn files names output old new (Input (how.Sync packet))) × (input ≡ min ends.play.input (2 ^ 32 - 1))
+    (ends : EndsIn files names output old new (Input (how.Sync packet))) × (input ≡ ends.play.input)
 StatusTells files names output old new status.TooLong = EndsIn files names output old new (Input how.TooLong)
+
+-- the first faulty word is told, and that is all: nothing was opened
+abbrev pub RefusesWords : ℕ → DeskView → DeskView → SwitchStatus → Type 0
+RefusesWords word old new answer =
+    (answer ≡ status.Words word) × ((failed : Bool) × Says old new (codes "tsswitch: words" ++ 10 ∷ []) failed)

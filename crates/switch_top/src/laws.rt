@@ -9,9 +9,9 @@ ghost use Rattle.switch_top.specs.declared.status.SwitchStatus.TheVariants.{Done
 ghost use Rattle.switch_top.specs.SwitchCall.{CallsSwitch};
 ghost use Rattle.switch_top.specs.SwitchEnds.{output_name, opened_as};
 ghost use Rattle.switch_top.specs.SwitchPlans.{plays_of};
-ghost use Rattle.switch_top.specs.SwitchTheorem.{lists_given, IsPureSwitch, WritesSwitched, WritesFirst, TellsWhole, NothingLate, AllEndPlainly, ReadFailed, StatusTells};
+ghost use Rattle.switch_top.specs.SwitchTheorem.{lists_given, IsPureSwitch, WritesSwitched, WritesFirst, TellsWhole, NothingLate, AllEndPlainly, ReadFailed, StatusTells, RefusesWords};
 
-use switch_args::first_fault_law;
+use switch_args::{first_fault_law, words_read_back};
 
 /// Whatever the files, the settings and the buffer, a call that meets no fault outside and no want of memory writes the
 /// packets of the plays up to the first that does not end plainly, reports one line for each of them and the end line, and
@@ -45,10 +45,13 @@ pub fn switched_status()
     first_fault_law();
 }
 
-/// Each fault that is told has its cause: `Words` comes exactly where the words are not of the form, `ReadFault` where a read
+/// Each fault that is told has its cause: `Words` comes exactly where the words are not of the form, and nothing is opened
+/// then, `ReadFault` where a read
 /// failed and the failed opening or the closed source shows it, `WriteFault` where a write, a closing or a report failed.
 pub fn switched_faults()
     ensures words { (words : List (List ℕ)) (old new : DeskView) (word : ℕ) → CallsSwitch words old new (Words word) → IsFirstFault words word }
+    ensures refused { (words : List (List ℕ)) (old new : DeskView) (answer : SwitchStatus) (word : ℕ) → IsFirstFault words word
+        → CallsSwitch words old new answer → ((answer ≡ NoMemory) × (new ≡ old)) ⊎ RefusesWords word old new answer }
     ensures read { (words : List (List ℕ)) (given : Given) (old new : DeskView) → read_of words ≡ Some given
         → CallsSwitch words old new ReadFault
         → HasCause old.read_faults new.read_faults × ReadFailed (opened_as old (output_name given.output)) new }
@@ -79,4 +82,5 @@ pub fn switched_ends()
         → StatusTells files (plays_of given) (output_name given.output) old new answer }
 {
     first_fault_law();
+    words_read_back();
 }
