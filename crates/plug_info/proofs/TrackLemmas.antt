@@ -1,0 +1,42 @@
+-- What is known of the cells that were taken, one cell after another.
+use Rattle.std.proofs.Common.{ℕ, List, [], ◌∷◌, ◌++◌, sym, subst}
+use Rattle.ts_packet.specs.declared.cell.Cell.{Cell}
+use Rattle.ts_packet.specs.Cells.{Live, Dropped, live_packets}
+use Rattle.plugin_notes.specs.LastSeen.{Remembers}
+use Rattle.plugin_notes.proofs.Remembering.{remembers_dropped}
+use Rattle.plug_psi.specs.ForceStands as forcing
+use Rattle.plug_analyze.specs.AnalyzeRule.{all_pids}
+use Rattle.plug_info.specs.ClockSpans.{AreSpans}
+use Rattle.plug_info.specs.SdtStands.{HasFedSdt}
+use Rattle.plug_info.specs.TotalsOf.{AreCounted}
+use Rattle.plug_info.specs.Tracked.{IsReady, Tracks}
+use Rattle.plug_info.specs.declared.tracker.Tracker.{Tracker}
+use Rattle.plug_info.proofs.CountLemmas.{are_whole, counted_dropped, live-dropped, live-live}
+use Rattle.plug_info.proofs.SpanLemmas.{spans_dropped}
+
+-- each table has its places
+pub is_ready : (t : Tracker) (cells : List Cell) → Tracks t cells → IsReady t
+is_ready t cells w = record { totals = are_whole t.totals cells w.counted; spans = w.spans_are.whole }
+
+-- a dropped cell
+pub tracks_dropped : (t : Tracker) (cells : List Cell) → Tracks t cells → Tracks t (cells ++ Dropped ∷ [])
+tracks_dropped t cells w = record {
+  remembers = remembers_dropped all_pids t.last cells w.remembers;
+  counted = counted_dropped t.totals cells w.counted;
+  spans_are = spans_dropped t.spans cells w.spans_are;
+  has_sdt = subst (HasFedSdt t.sdt) (sym (live-dropped cells)) w.has_sdt;
+  fed = subst (forcing.StandsFor t.force) (sym (live-dropped cells)) w.fed;
+}
+
+-- a packet
+pub tracks_live : (t : Tracker) (cells : List Cell) (packet : List ℕ) (labels : ℕ)
+    → Remembers all_pids t.last (cells ++ Live packet labels ∷ []) → AreCounted t.totals (cells ++ Live packet labels ∷ []) → AreSpans t.spans (cells ++ Live packet labels ∷ [])
+    → HasFedSdt t.sdt (live_packets cells ++ packet ∷ []) → forcing.StandsFor t.force (live_packets cells ++ packet ∷ [])
+    → Tracks t (cells ++ Live packet labels ∷ [])
+tracks_live t cells packet labels a b c d e = record {
+  remembers = a;
+  counted = b;
+  spans_are = c;
+  has_sdt = subst (HasFedSdt t.sdt) (sym (live-live cells packet labels)) d;
+  fed = subst (forcing.StandsFor t.force) (sym (live-live cells packet labels)) e;
+}

@@ -1,0 +1,22 @@
+use Rattle.std.proofs.Common.{◌++◌, List, take, ap, ◌∙◌}
+use Rattle.plugin_trait.specs.declared.line.Line.{Line}
+use Rattle.plugin_trait.specs.PlacedLines.{placed_at}
+use Rattle.plug_info.specs.InfoRule.{info_on}
+use Rattle.plug_info.proofs.MetLemmas.{report_is}
+use Rattle.plug_info.proofs.info.InfoPlugin.finish.Goals as goal
+
+pub take_below-requires : goal.take_below-requires
+take_below-requires c = record {
+  history = c.requires.history;
+  mark = c.requires.mark;
+  holds = c.requires.holds.0 c.if-self.false;
+  not_below = c.requires.not_below;
+  met = c.requires.met;
+}
+
+pub returns : goal.returns
+returns c = λ history mark s later within.
+    let met = c.in_ok-take_below.ensures history mark (s.0 c.if-self.false) later within in
+    report_is history c.args.cut c.push_summary.new.lines.items within
+    (c.in_ok-push_summary.ensures (take c.args.cut history) met.tracks
+    ∙ ap (λ (ls : List Line). ls ++ placed_at c.args.cut (info_on (take c.args.cut history))) c.new-lines.ensures.items)

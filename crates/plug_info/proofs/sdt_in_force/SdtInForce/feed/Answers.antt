@@ -1,0 +1,21 @@
+use Rattle.std.proofs.Common.{◌≡◌, ◌==◌, false, sym, ◌∙◌, ap, List, ℕ, Option}
+use Rattle.std.specs.Prelude.{fold, option_map}
+use Rattle.ts_table_rows.specs.TableValues.{TableHolding}
+use Rattle.ts_si.specs.SiTables.{sdt_held}
+use Rattle.plug_psi.specs.LastFound.{newer}
+use Rattle.plug_info.specs.SdtInForce.{current_sdt}
+use Rattle.std.proofs.lemmas.Bool.{ne_eqb}
+use Rattle.plug_info.proofs.SdtLemmas.{sdt-fed, sdt-other}
+use Rattle.plug_info.proofs.sdt_in_force.SdtInForce.feed.Goals as goal
+
+pub returns-then-pid-ne-SDT_PID : goal.returns-then-pid-ne-SDT_PID
+returns-then-pid-ne-SDT_PID c =
+    let other : (c.pid.result == 17) ≡ false = ne_eqb c.pid.result 17 c.if-pid-ne-SDT_PID.true in
+    λ fed w. sdt-other c.args.self.now fed c.args.packet.now (ap (λ n. n == 17) (sym c.pid.ensures.field) ∙ other)
+    c.uncounted_packets_change_nothing.ensures c.other_packets_complete_nothing.ensures w
+
+pub returns : goal.returns
+returns c = λ fed w.
+    sdt-fed c.args.self.now _ fed c.args.packet.now c.in_ok-tables.tables.items w
+    (c.in_ok-tables.ensures.stands 17 fed w.read) (c.in_ok-tables.ensures.completes 17 fed w.read) (c.in_ok-keep_sdts.ensures
+    ∙ ap (fold (λ (old : Option TableHolding) (table : List (List ℕ)). newer old (current_sdt table)) (option_map sdt_held c.args.self.now.sdt)) c.deref.ensures.value)

@@ -1,0 +1,21 @@
+use Rattle.std.proofs.Common.{◌+◌, ℕ, Bool, ap, ap₂, ◌∙◌, refl, if◌then◌else◌}
+use Rattle.std.specs.Prelude.{option_map}
+use Rattle.std.specs.Option.{option_copied}
+use Rattle.ts_packet.specs.Cells.{live_packets}
+use Rattle.ts_psi.specs.PsiTables.{pmt_held}
+use Rattle.plugin_notes.specs.PidPackets.{numbers_below, packets_on}
+use Rattle.plug_info.specs.InfoRule.{has_component}
+use Rattle.plug_info.proofs.LineLemmas.{fold_below_more}
+use Rattle.plug_info.proofs.summary.service_packets.Goals as goal
+
+pub loop-pid-init : goal.loop-pid-init
+unfolding numbers_below
+loop-pid-init c = λ cells w. refl
+
+pub loop-pid-preserved : goal.loop-pid-preserved
+loop-pid-preserved c = λ cells w.
+    let pid = c.loop-pid.pid in
+    c.in_ok-packets.ensures
+    ∙ (ap₂ (λ (a b : ℕ). a + b) (c.loop-pid.invariant cells w)
+    (c.packets_if.ensures cells w ∙ ap (λ (b : Bool). if b then packets_on pid (live_packets cells) else 0) c.has_component.ensures)
+    ∙ fold_below_more (λ n q. n + (if has_component (option_map pmt_held (option_copied c.args.pmt)) q then packets_on q (live_packets cells) else 0)) 0 pid)

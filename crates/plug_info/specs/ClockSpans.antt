@@ -1,0 +1,57 @@
+-- What is kept of the PCRs of each PID. This project's own rule.
+use Rattle.std.specs.Prelude.{◌≡◌, ◌<◌, ℕ, ◌+◌, ◌-◌, List, [], ◌∷◌, length, Bool, Option, None, Some, option_map, if◌then◌else◌}
+use Rattle.std.specs.List.{slice_index_or}
+use Rattle.ts_packet.specs.declared.cell.Cell.{Cell}
+use Rattle.ts_packet.specs.declared.numbers.TheConstants.{PID_COUNT}
+use Rattle.ts_packet.specs.MetRows.{Met}
+use Rattle.ts_packet.specs.Pcr.{clock_of}
+use Rattle.plug_pcr.specs.ClockFaults.{clocks_on}
+use Rattle.plug_pcr.specs.ClockJitter.{units_behind}
+use Rattle.plug_info.specs.PcrRate.{positions_in, units_in, ways_of}
+use Rattle.plug_info.specs.declared.clock_span.ClockSpan.{ClockSpan}
+use Rattle.plug_info.specs.declared.clock_span.MetClock.{MetClock}
+use Rattle.plug_info.specs.declared.spans.Spans.{Spans}
+
+-- the positions and units from the last PCR to one that is met
+abbrev pub way_parts : Option MetClock → MetClock → Bool → ℕ × ℕ
+way_parts None met breaks = (0, 0)
+way_parts (Some last) met breaks = if breaks then (0, 0) else (met.at - last.at, units_behind last.clock met.clock)
+
+-- what is kept with one PCR more
+abbrev pub span_with : ClockSpan → MetClock → Bool → ClockSpan
+span_with span met breaks = record {
+  last = Some met;
+  positions = span.positions + (way_parts span.last met breaks).0;
+  units = span.units + (way_parts span.last met breaks).1;
+}
+
+-- no PCR was met
+abbrev pub no_span : ClockSpan
+no_span = record { last = None; positions = 0; units = 0 }
+
+-- of a packet with a PCR its position and its PCR
+abbrev pub met_clock : Met → MetClock
+met_clock row = record { at = row.at; clock = clock_of row.packet }
+
+-- the last of a row and those that follow it
+abbrev pub last_behind : Met → List Met → Met
+last_behind first [] = first
+last_behind first (row ∷ rows) = last_behind row rows
+
+-- the last row, where there is one
+abbrev pub last_row : List Met → Option Met
+last_row [] = None
+last_row (first ∷ rows) = Some (last_behind first rows)
+
+-- what is kept of packets with a PCR
+abbrev pub span_of : List Met → ClockSpan
+span_of rows = record {
+  last = option_map met_clock (last_row rows);
+  positions = positions_in (ways_of rows);
+  units = units_in (ways_of rows);
+}
+
+-- of each PID that of its packets with a PCR is kept
+pub record AreSpans (spans : Spans) (cells : List Cell) : Type 0 where
+  pub whole : length spans.spans.items ≡ PID_COUNT
+  pub each : (pid : ℕ) → pid < PID_COUNT → slice_index_or spans.spans.items pid no_span ≡ span_of (clocks_on pid cells)

@@ -1,0 +1,116 @@
+-- The rule of `info`: what is in a stream, on one screen.
+-- This project's own rule, over the header fields of ISO/IEC 13818-1, 2.4.3.2, the tables of 2.4.4.3 and 2.4.4.8, and
+-- the SDT of ETSI EN 300 468, 5.2.3.
+use Rattle.std.specs.Prelude.{ℕ, ◌+◌, ◌==◌, ◌&&◌, Bool, false, not, List, [], ◌∷◌, ◌++◌, length, map, filter, fold, count_by, drop, Option, None, Some, option_map, unwrap_or, codes, if◌then◌else◌}
+use Rattle.std.specs.List.{flat_map, list_any}
+use Rattle.ts_packet.specs.declared.cell.Cell.{Cell}
+use Rattle.ts_packet.specs.declared.numbers.TheConstants.{NULL_PID, PID_COUNT}
+use Rattle.ts_packet.specs.Cells.{live_packets}
+use Rattle.ts_packet.specs.Header.{error_indicator_of}
+use Rattle.ts_table_rows.specs.BodyReading.{first_number}
+use Rattle.ts_table_rows.specs.TableValues.{ItemHolding, TableHolding}
+use Rattle.chain_model.specs.PluginRule.{PluginRule, passes}
+use Rattle.plugin_notes.specs.PidPackets.{numbers_below, packets_on}
+use Rattle.plug_psi.specs.InForce.{names, pat_of, pmt_of, services_in}
+use Rattle.plug_analyze.specs.AnalyzeRule.{fault_pids, is_scrambled}
+use Rattle.plug_info.specs.InfoNames.{pid_names, text_for}
+use Rattle.plug_info.specs.InfoTexts.{component_text, marks_text, pid_text, portion_text, sdt_texts, service_text, stream_text}
+use Rattle.plug_info.specs.PcrRate.{rate_of}
+use Rattle.plug_info.specs.SdtInForce.{is_number, items_in, sdt_of, service_body}
+use Rattle.plug_info.specs.declared.pid_numbers.PidNumbers.{PidNumbers}
+use Rattle.plug_info.specs.declared.scene.Scene.{Scene}
+use Rattle.plug_info.specs.declared.stream_numbers.StreamNumbers.{StreamNumbers}
+
+-- how many packets on a PID are of each kind, in a list of cells
+abbrev pub numbers_on : ℕ → List Cell → PidNumbers
+numbers_on pid cells = record {
+  packets = packets_on pid (live_packets cells);
+  scrambled = packets_on pid (filter is_scrambled (live_packets cells));
+  faults = count_by (λ q. q == pid) (fault_pids cells);
+}
+
+-- all packets, and the bit rate of the stream: what shares are of
+abbrev pub scene_of : List Cell → Scene
+scene_of cells = record { whole = length (live_packets cells); rate = rate_of cells }
+
+-- the transport_stream_id of a table
+abbrev pub stream_id_in : Option TableHolding → Option ℕ
+stream_id_in table = option_map (λ t. t.head.extension) table
+
+-- the numbers of the whole stream
+abbrev pub stream_numbers : List Cell → StreamNumbers
+stream_numbers cells = record {
+  packets = length (live_packets cells);
+  stream_id = stream_id_in (pat_of (live_packets cells));
+  rate = rate_of cells;
+  nulls = packets_on NULL_PID (live_packets cells);
+  errored = length (filter error_indicator_of (live_packets cells));
+  scrambled = length (filter is_scrambled (live_packets cells));
+  faults = length (fault_pids cells);
+}
+
+-- a component of a PMT has the PID
+abbrev pub has_component : Option TableHolding → ℕ → Bool
+has_component pmt pid = list_any (λ x. is_number pid (first_number (drop 1 x.values))) (items_in pmt)
+
+-- how many services of the PAT in force have a component on the PID
+abbrev pub users_of : List (List ℕ) → ℕ → ℕ
+users_of packets pid = count_by (λ service. has_component (pmt_of service.0 packets) pid) (services_in (pat_of packets))
+
+-- the PCR_PID of a PMT
+abbrev pub pcr_pid_in : Option TableHolding → Option ℕ
+pcr_pid_in None = None
+pcr_pid_in (Some pmt) = first_number pmt.body.values
+
+-- the packets of a service: those on the PIDs of its components, each PID once
+abbrev pub service_packets : Option TableHolding → List (List ℕ) → ℕ
+service_packets pmt packets = fold (λ n pid. n + (if has_component pmt pid then packets_on pid packets else 0)) 0 (numbers_below PID_COUNT)
+
+-- the line of a component of a service
+abbrev pub component_line : List Cell → ℕ → ItemHolding → List ℕ
+component_line cells service x =
+    let pid = unwrap_or (first_number (drop 1 x.values)) 0 in
+    component_text (scene_of cells) pid service (unwrap_or (first_number x.values) 0) (marks_text x.descriptors) (numbers_on pid cells)
+    (users_of (live_packets cells) pid)
+
+-- the line of an entry of the PAT in force, with what the SDT in force tells of it
+abbrev pub service_line : List Cell → ℕ × ℕ → List ℕ
+service_line cells service =
+    let body = service_body (sdt_of (live_packets cells)) service.0 in
+    let pmt = pmt_of service.0 (live_packets cells) in
+    service_text service.0 service.1 body (pcr_pid_in pmt)
+    (portion_text (scene_of cells) (service_packets pmt (live_packets cells)))
+
+-- the lines of a service: its own, and those of the components of its PMT in force
+abbrev pub service_lines : List Cell → ℕ × ℕ → List (List ℕ)
+service_lines cells service =
+    service_line cells service ∷ map (component_line cells service.0) (items_in (pmt_of service.0 (live_packets cells)))
+
+-- what a PID is, that no component has: that of a PMT, one that the standards give to tables, or none of these
+abbrev pub use_of : List (List ℕ) → ℕ → List ℕ
+use_of packets pid = if names (pat_of packets) pid then codes "PMT" else unwrap_or (text_for pid_names pid) (codes "unnamed")
+
+-- the line of a PID that has packets and is no component's
+abbrev pub pid_lines : List Cell → ℕ → List (List ℕ)
+pid_lines cells pid =
+    if not (packets_on pid (live_packets cells) == 0) && (users_of (live_packets cells) pid == 0)
+    then pid_text pid (use_of (live_packets cells) pid) (portion_text (scene_of cells) (packets_on pid (live_packets cells))) (numbers_on pid cells) ∷ []
+    else []
+
+-- what is said of a list of cells: the stream, the services of the PAT in force with their components, and the other PIDs
+abbrev pub info_on : List Cell → List (List ℕ)
+info_on cells =
+    (stream_text (stream_numbers cells)
+    ∷ sdt_texts (stream_id_in (pat_of (live_packets cells))) (stream_id_in (sdt_of (live_packets cells))))
+    ++ (flat_map (service_lines cells) (services_in (pat_of (live_packets cells)))
+    ++ flat_map (pid_lines cells) (numbers_below PID_COUNT))
+
+-- every packet passes, and the summary tells of them
+abbrev pub info_rule : PluginRule
+info_rule = record {
+  outcome_of = λ _ packet _. passes packet;
+  labels_of = λ _ _ labels. labels;
+  lines_of = λ _ _ _. [];
+  summary_of = λ history. info_on history;
+  agrees = λ _. false;
+}

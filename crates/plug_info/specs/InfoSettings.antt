@@ -1,0 +1,7 @@
+-- Lawful settings of `info`.
+-- This project's own rule.
+use Rattle.plug_info.specs.declared.info_conf.InfoConf.{InfoConf}
+
+-- there is nothing to set
+abbrev pub IsLawfulInfo : InfoConf → Type 0
+IsLawfulInfo c = Unit {0}

@@ -1,0 +1,13 @@
+-- When a value of `info` stands for the cells that it met. This project's own rule.
+use Rattle.std.specs.Prelude.{Bool, ℕ, List}
+use Rattle.ts_packet.specs.declared.cell.Cell.{Cell}
+use Rattle.plug_info.specs.MetState.{HasMet}
+use Rattle.plug_info.specs.declared.info.Info.{Info}
+
+-- whether memory was wanting
+abbrev pub has_failed : Info → Bool
+has_failed s = s.failed
+
+-- the cells were met, and this is the greatest mark
+abbrev pub StandsFor : Info → List Cell → ℕ → Type 0
+StandsFor s history mark = HasMet s.met history mark

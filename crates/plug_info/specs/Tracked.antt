@@ -1,0 +1,33 @@
+-- What is known of the cells that were taken. This project's own rule.
+use Rattle.std.specs.Prelude.{◌≡◌, ◌<◌, ℕ, List, length}
+use Rattle.ts_packet.specs.declared.cell.Cell.{Cell}
+use Rattle.ts_packet.specs.Cells.{live_packets}
+use Rattle.ts_packet.specs.declared.numbers.TheConstants.{PID_COUNT}
+use Rattle.chain_model.specs.declared.positions.TheConstants.{POSITION_LIMIT}
+use Rattle.plugin_notes.specs.LastSeen.{Remembers}
+use Rattle.plug_psi.specs.ForceStands as forcing
+use Rattle.plug_analyze.specs.AnalyzeRule.{all_pids}
+use Rattle.plug_info.specs.ClockSpans.{AreSpans}
+use Rattle.plug_info.specs.SdtStands.{HasFedSdt}
+use Rattle.plug_info.specs.TotalsOf.{AreCounted, AreWhole}
+use Rattle.plug_info.specs.declared.tracker.Tracker.{Tracker}
+
+-- each part stands for these cells
+pub record Tracks (tracker : Tracker) (cells : List Cell) : Type 0 where
+  pub remembers : Remembers all_pids tracker.last cells
+  pub counted : AreCounted tracker.totals cells
+  pub spans_are : AreSpans tracker.spans cells
+  pub has_sdt : HasFedSdt tracker.sdt (live_packets cells)
+  pub fed : forcing.StandsFor tracker.force (live_packets cells)
+
+-- they stand for some list of just so many cells, which may be one more
+pub record TracksSome (tracker : Tracker) (at : ℕ) : Type 0 where
+  pub cells : List Cell
+  pub tracks : Tracks tracker cells
+  pub count : length cells ≡ at
+  pub few : length cells < POSITION_LIMIT
+
+-- each table has a place for each PID
+pub record IsReady (tracker : Tracker) : Type 0 where
+  pub totals : AreWhole tracker.totals
+  pub spans : length tracker.spans.spans.items ≡ PID_COUNT

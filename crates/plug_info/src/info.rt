@@ -1,0 +1,119 @@
+ghost use Rattle.std.specs.Prelude.{◌≡◌, IfOk, [], None};
+ghost use Rattle.plug_info.specs.InfoRule.{info_rule};
+
+use crate::info_conf::InfoConf;
+use crate::met_cells::MetCells;
+use crate::summary::push_summary;
+use plugin_trait::{Line, Outcome, Plugin};
+use std::alloc::{AllocError, Global};
+use ts_packet::Cell;
+
+/// Tells what is in the stream: its services by name, their components, and how much of the rate each takes.
+///
+/// A step may want memory, and then every later step does, and nothing is told.
+#[derive(Drop)]
+pub struct Info {
+    met: MetCells,
+    failed: bool,
+    alloc: Global,
+}
+
+impl Info {
+    ghost use Rattle.std.specs.Prelude.{◌≡◌, ◌<◌, ◌∷◌, ◌++◌, IfOk, OnOk, OnErr, IsErr, [], None, ℕ, List, length, true, false};
+    ghost use Rattle.ts_packet.specs.declared.cell.Cell.{Cell as GivenCell};
+    ghost use Rattle.chain_model.specs.declared.positions.TheConstants.{POSITION_LIMIT};
+    ghost use Rattle.plug_info.specs.InfoRule.{info_rule};
+    ghost use Rattle.plug_info.specs.InfoSettings.{IsLawfulInfo};
+    ghost use Rattle.plug_info.specs.InfoStands.{StandsFor, has_failed};
+
+    /// A plugin that met no cell yet. It takes room for its tables, and for as many cells as the buffer holds; the tables
+    /// in force grow with the stream.
+    pub fn new(alloc: Global, _conf: &InfoConf, buffer: usize) -> Result<Info, AllocError>
+        requires { IsLawfulInfo _conf.now }
+        ensures rule { IfOk result (λ plugin. ⟦<Info as Plugin>⟧.rule plugin ≡ info_rule) }
+        ensures fresh { IfOk result (λ plugin. ⟦<Info as Plugin>⟧.stands_for plugin [] 0) }
+        ensures steady { IfOk result (λ plugin. ⟦<Info as Plugin>⟧.steady plugin ≡ None) }
+    {
+        Ok(Info {
+            met: MetCells::new(alloc, buffer)?,
+            failed: false,
+            alloc,
+        })
+    }
+
+    // Meets the next cell, as long as memory was there.
+    #[inline]
+    fn meet(&mut self, cell: &Cell) -> Result<(), AllocError>
+        ensures met { OnOk result ((history : List GivenCell) (mark : ℕ) → StandsFor self.old history mark → length history < POSITION_LIMIT
+            → StandsFor self.new (history ++ cell.now ∷ []) mark) }
+        ensures spent { OnErr result (has_failed self.new ≡ true) }
+        ensures stays_spent { has_failed self.old ≡ true → IsErr result }
+    {
+        if self.failed {
+            return Err(AllocError);
+        }
+        match self.met.push(cell) {
+            Ok(()) => Ok(()),
+            Err(error) => {
+                self.failed = true;
+                Err(error)
+            }
+        }
+    }
+}
+
+impl Plugin for Info {
+    ghost use Rattle.std.specs.Prelude.{◌≡◌, ◌≤◌, length, false, None, refl};
+    ghost use Rattle.plug_info.specs.InfoRule.{info_rule};
+    ghost use Rattle.plug_info.specs.InfoStands.{StandsFor, has_failed};
+
+    ghost rule = { λ s. info_rule };
+
+    ghost stands_for = { λ s history mark. (has_failed s ≡ false → StandsFor s history mark) × (mark ≤ length history) };
+
+    ghost steady = { λ s. None };
+
+    // Else the loop of `steps` has a call for each cell.
+    #[inline(always)]
+    fn step(&mut self, _at: u64, cell: &mut Cell) -> Outcome {
+        match self.meet(cell) {
+            Ok(()) => Outcome::Pass,
+            Err(_) => {
+                if cell.is_live() {
+                    Outcome::NoMemory
+                } else {
+                    Outcome::Pass
+                }
+            }
+        }
+    }
+
+    fn note(&mut self, written: u64) -> Result<(), AllocError> {
+        if self.failed {
+            return Ok(());
+        }
+        match self.met.take_below(written) {
+            Ok(()) => Ok(()),
+            Err(error) => {
+                self.failed = true;
+                Err(error)
+            }
+        }
+    }
+
+    fn agreed(&self) -> bool {
+        false
+    }
+
+    fn finish(&mut self, cut: u64) -> Result<Vec<Line>, AllocError> {
+        if self.failed {
+            return Err(AllocError);
+        }
+        self.met.take_below(cut)?;
+        let mut lines = Vec::new(self.alloc);
+        push_summary(&mut lines, cut, &self.met.tracker)?;
+        Ok(lines)
+    }
+
+    ghost starts_open = { λ plugin history mark stands. refl };
+}

@@ -1,0 +1,3 @@
+/// Settings of `info`, which has none.
+#[derive(Drop)]
+pub struct InfoConf {}

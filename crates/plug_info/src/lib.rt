@@ -1,0 +1,32 @@
+//! The plugin `info`: packets come in and pass; what is in the stream comes out as its summary, on one screen: the
+//! services by name, their components, how much of the rate each takes, and the other PIDs. The layer above reads settings
+//! of words, makes the plugin, and uses it by the clauses of `Plugin`, which hold the summary to the cells that count.
+#![tactic(auto)]
+
+mod clock_span;
+mod counters;
+mod info;
+mod info_conf;
+mod info_words;
+mod languages;
+mod met_cells;
+mod name_row;
+mod pid_numbers;
+mod portions;
+mod scene;
+mod sdt_in_force;
+mod service_texts;
+mod shown;
+mod spans;
+mod stream_numbers;
+mod summary;
+mod totals;
+mod tracker;
+mod users;
+
+pub use info::Info;
+pub use info_conf::InfoConf;
+pub use info_words::{info_command, info_settings};
+pub use pid_numbers::PidNumbers;
+pub use scene::Scene;
+pub use stream_numbers::StreamNumbers;

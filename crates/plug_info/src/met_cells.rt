@@ -1,0 +1,73 @@
+//! The cells that were met, on their way to be counted.
+ghost use Rattle.std.specs.Prelude.{◌≡◌, ◌∷◌, IfSome};
+
+use crate::tracker::Tracker;
+use circular_buffer::HeapCircularBuffer;
+use plugin_notes::push_note;
+use std::alloc::{AllocError, Global};
+use ts_packet::Cell;
+
+/// The cells from the greatest mark on, which may still stand behind the cut, and what is known of those below it.
+#[derive(Drop)]
+pub struct MetCells {
+    waiting: HeapCircularBuffer<Cell>,
+    /// The greatest mark.
+    mark: u64,
+    pub(crate) tracker: Tracker,
+}
+
+impl MetCells {
+    ghost use Rattle.std.specs.Prelude.{◌≡◌, ◌≤◌, ◌<◌, ◌∷◌, ◌++◌, [], ℕ, List, IfOk, OnOk, length};
+    ghost use Rattle.chain_model.specs.declared.positions.TheConstants.{POSITION_LIMIT};
+    ghost use Rattle.ts_packet.specs.declared.cell.Cell.{Cell as GivenCell};
+    ghost use Rattle.plugin_trait.specs.Marks.{AllowsMark};
+    ghost use Rattle.plug_info.specs.MetState.{HasMet};
+
+    /// No cell was met. It takes room for as many cells as the buffer holds.
+    pub fn new(alloc: Global, buffer: usize) -> Result<MetCells, AllocError>
+        ensures { IfOk result (λ met. HasMet met [] 0) }
+    {
+        let waiting = HeapCircularBuffer::with_capacity(alloc, buffer)?;
+        let tracker = Tracker::new(alloc)?;
+        Ok(MetCells {
+            waiting,
+            mark: 0,
+            tracker,
+        })
+    }
+
+    /// Meets the next cell. Where the buffer is full it answers `AllocError`.
+    #[inline]
+    pub fn push(&mut self, cell: &Cell) -> Result<(), AllocError>
+        ensures { OnOk result ((history : List GivenCell) (mark : ℕ) → HasMet self.old history mark → length history < POSITION_LIMIT
+            → HasMet self.new (history ++ cell.now ∷ []) mark) }
+    {
+        let copy = cell.clone()?;
+        push_note(&mut self.waiting, copy)
+    }
+
+    /// Takes the cells below a later mark. After `AllocError` no more is to be asked.
+    pub fn take_below(&mut self, mark: u64) -> Result<(), AllocError>
+        requires { AllowsMark (HasMet self.old) mark }
+        ensures { OnOk result ((history : List GivenCell) (before : ℕ) → HasMet self.old history before → before ≤ mark → mark ≤ length history
+            → HasMet self.new history mark) }
+    {
+        while self.mark < mark {
+            let Some(cell) = next_cell(&mut self.waiting) else {
+                return Err(AllocError);
+            };
+            self.tracker.take(self.mark, &cell)?;
+            self.mark += 1;
+        }
+        Ok(())
+    }
+}
+
+// Takes the first cell off, where there is one.
+#[inline]
+fn next_cell(waiting: &mut HeapCircularBuffer<Cell>) -> Option<Cell>
+    ensures { IfSome result (λ cell. waiting.old.items ≡ cell ∷ waiting.new.items) }
+{
+    waiting.front()?;
+    waiting.pop_front()
+}

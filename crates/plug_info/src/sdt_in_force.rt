@@ -1,0 +1,99 @@
+//! The SDT of the packets on PID 17.
+ghost use Rattle.std.specs.Prelude.{◌≡◌, ◌++◌, ◌∷◌, [], ℕ, List, IfOk, OnOk, fold, option_map};
+ghost use Rattle.ts_si.specs.SiTables.{sdt_held};
+ghost use Rattle.plug_psi.specs.LastFound.{newer};
+ghost use Rattle.plug_info.specs.SdtInForce.{current_sdt};
+ghost use Rattle.plug_info.specs.SdtStands.{actual_one};
+
+use std::alloc::{AllocError, Global};
+use ts_demux::{PidTables, other_packets_complete_nothing, uncounted_packets_change_nothing};
+use ts_packet::Packet;
+use ts_section::TableRun;
+use ts_si::Sdt;
+use ts_table_rows::TableFault;
+
+/// The PID of the SDT (ETSI EN 300 468, 5.1.3).
+const SDT_PID: u16 = 17;
+
+/// The SDT in force of all packets that were fed.
+#[derive(Drop)]
+pub struct SdtInForce {
+    pub(crate) sdt: Option<Sdt>,
+    tables: PidTables,
+    alloc: Global,
+}
+
+impl SdtInForce {
+    ghost use Rattle.std.specs.Prelude.{◌≡◌, ◌++◌, ◌∷◌, [], ℕ, List, IfOk, OnOk};
+    ghost use Rattle.plug_info.specs.SdtStands.{HasFedSdt};
+
+    /// No packet was fed.
+    pub fn new(alloc: Global) -> Result<SdtInForce, AllocError>
+        ensures { IfOk result (λ sdt. HasFedSdt sdt []) }
+    {
+        let tables = PidTables::new(alloc, SDT_PID)?;
+        Ok(SdtInForce {
+            sdt: None,
+            tables,
+            alloc,
+        })
+    }
+
+    /// Takes the next packet, of any PID. After `AllocError` no more is to be asked.
+    #[inline]
+    pub fn feed(&mut self, packet: &Packet) -> Result<(), AllocError>
+        ensures { OnOk result ((fed : List (List ℕ)) → HasFedSdt self.old fed → HasFedSdt self.new (fed ++ packet.now ∷ [])) }
+    {
+        uncounted_packets_change_nothing();
+        other_packets_complete_nothing();
+        // Nearly all packets are of other PIDs.
+        if packet.pid() != SDT_PID {
+            return Ok(());
+        }
+        let tables = self.tables.take(packet)?;
+        keep_sdts(self.alloc, &mut self.sdt, &tables)?;
+        Ok(())
+    }
+}
+
+// Keeps the last of the tables that is a current SDT of the actual stream, if one is.
+fn keep_sdts(alloc: Global, sdt: &mut Option<Sdt>, tables: &[TableRun]) -> Result<(), AllocError>
+    ensures { OnOk result (option_map sdt_held sdt.new ≡ fold (λ old table. newer old (current_sdt table)) (option_map sdt_held sdt.old) tables.now) }
+{
+    for table in tables {
+        keep_sdt(alloc, sdt, table)?;
+    }
+    Ok(())
+}
+
+// Keeps the SDT that a table is, if it is a current one of the actual stream.
+fn keep_sdt(alloc: Global, sdt: &mut Option<Sdt>, table: &TableRun) -> Result<(), AllocError>
+    ensures { OnOk result (option_map sdt_held sdt.new ≡ newer (option_map sdt_held sdt.old) (current_sdt table.now)) }
+{
+    if let Some(read) = read_current(alloc, table)? {
+        *sdt = Some(read);
+    }
+    Ok(())
+}
+
+// The SDT of the actual stream that a table is, where it reads as one and is current.
+fn read_current(alloc: Global, table: &TableRun) -> Result<Option<Sdt>, AllocError>
+    ensures { IfOk result (λ sdt. option_map sdt_held sdt ≡ current_sdt table.now) }
+{
+    match Sdt::read(alloc, table) {
+        Ok(sdt) => Ok(current_actual(sdt)),
+        Err(TableFault::Broken { .. }) => Ok(None),
+        Err(TableFault::NoMemory) => Err(AllocError),
+    }
+}
+
+// An SDT, where it is current and of the actual stream.
+fn current_actual(sdt: Sdt) -> Option<Sdt>
+    ensures { option_map sdt_held result ≡ actual_one (sdt_held sdt) }
+{
+    if sdt.current && sdt.actual {
+        Some(sdt)
+    } else {
+        None
+    }
+}

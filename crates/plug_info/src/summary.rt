@@ -1,0 +1,478 @@
+//! The summary of what was met.
+ghost use Rattle.std.specs.Prelude.{◌≡◌, ◌<◌, ◌+◌, ◌*◌, Some, ◌++◌, ◌∷◌, [], ℕ, List, IfOk, OnOk, length, map, option_map, fold, if◌then◌else◌};
+ghost use Rattle.std.specs.List.{flat_map};
+ghost use Rattle.std.specs.Option.{option_copied};
+ghost use Rattle.std.specs.String.{string_bytes};
+ghost use Rattle.ts_packet.specs.declared.cell.Cell.{Cell as GivenCell};
+ghost use Rattle.ts_packet.specs.Cells.{live_packets};
+ghost use Rattle.ts_packet.specs.declared.numbers.TheConstants.{PACKET_SIZE, PID_COUNT};
+ghost use Rattle.ts_psi.specs.PatTables.{service_item};
+ghost use Rattle.ts_psi.specs.PsiTables.{component_item, pmt_held};
+ghost use Rattle.plugin_notes.specs.PidPackets.{numbers_below};
+ghost use Rattle.plugin_trait.specs.PlacedLines.{placed_at};
+ghost use Rattle.plug_psi.specs.InForce.{pat_of, pmt_of, services_in};
+ghost use Rattle.plug_info.specs.InfoRule.{component_line, has_component, info_on, pcr_pid_in, pid_lines, scene_of, service_line, service_lines, service_packets, stream_id_in, stream_numbers, use_of};
+ghost use Rattle.plug_info.specs.InfoTexts.{pid_text, sdt_texts, shared_text, stream_text};
+ghost use Rattle.plug_info.specs.SdtInForce.{sdt_of};
+ghost use Rattle.plug_info.specs.Tracked.{Tracks};
+ghost use Rattle.plug_info.specs.Tracked.{IsReady};
+ghost use Rattle.plug_info.specs.InfoTexts;
+ghost use Rattle.plugin_notes.specs.PidPackets.{packets_on};
+
+use crate::languages::marks_text;
+use crate::name_row::{pid_name, stream_type_name};
+use crate::pid_numbers::PidNumbers;
+use crate::portions::{percent, portion_text, troubles_text};
+use crate::scene::Scene;
+use crate::service_texts::{name_in, provider_in, service_body, type_in};
+use crate::shown::{number_or_none, shown_or_none};
+use crate::stream_numbers::StreamNumbers;
+use crate::tracker::Tracker;
+use crate::users::{has_component, parts, users_of};
+use plugin_notes::push_line;
+use plugin_trait::{Line, LineText};
+use std::alloc::{AllocError, Global};
+use ts_packet::{NULL_PID, PID_COUNT};
+use ts_psi::{Component, Pmt};
+
+/// Puts the summary behind other lines: the stream, the services in force with their components, and the other PIDs.
+pub fn push_summary(lines: &mut Vec<Line>, cut: u64, tracker: &Tracker) -> Result<(), AllocError>
+    requires { IsReady tracker.now }
+    ensures { OnOk result ((cells : List GivenCell) → Tracks tracker.now cells → lines.new.items ≡ lines.old.items ++ placed_at cut (info_on cells)) }
+{
+    let numbers = stream_numbers(tracker);
+    let scene = Scene {
+        whole: numbers.packets,
+        rate: numbers.rate,
+    };
+    let alloc = *lines.allocator();
+    let text = stream_text(alloc, &numbers)?;
+    push_line(lines, cut, text)?;
+    push_sdt(lines, cut, numbers.stream_id, sdt_stream_id(tracker))?;
+    push_services(lines, cut, tracker, &scene)?;
+    push_pids(lines, cut, tracker, &scene)?;
+    Ok(())
+}
+
+// The numbers of the whole stream.
+fn stream_numbers(tracker: &Tracker) -> StreamNumbers
+    requires { IsReady tracker.now }
+    ensures { (cells : List GivenCell) → Tracks tracker.now cells → result ≡ stream_numbers cells }
+{
+    StreamNumbers {
+        packets: tracker.totals.packets(),
+        stream_id: pat_stream_id(tracker),
+        rate: tracker.spans.rate(),
+        nulls: tracker.totals.packets_on(NULL_PID),
+        errored: tracker.totals.errored(),
+        scrambled: tracker.totals.scrambled(),
+        faults: tracker.totals.faults(),
+    }
+}
+
+// The transport_stream_id of the PAT in force.
+fn pat_stream_id(tracker: &Tracker) -> Option<u16>
+    ensures { (cells : List GivenCell) → Tracks tracker.now cells → result ≡ stream_id_in (pat_of (live_packets cells)) }
+{
+    match tracker.force.pat() {
+        Some(pat) => Some(pat.stream_id),
+        None => None,
+    }
+}
+
+// The transport_stream_id of the SDT in force.
+fn sdt_stream_id(tracker: &Tracker) -> Option<u16>
+    ensures { (cells : List GivenCell) → Tracks tracker.now cells → result ≡ stream_id_in (sdt_of (live_packets cells)) }
+{
+    match &tracker.sdt.sdt {
+        Some(sdt) => Some(sdt.stream_id),
+        None => None,
+    }
+}
+
+// The text of the line of the stream.
+fn stream_text(alloc: Global, s: &StreamNumbers) -> Result<LineText, AllocError>
+    ensures { IfOk result (λ text. text ≡ stream_text s.now) }
+{
+    let head = stream_head(alloc, s)?;
+    let tail = stream_tail(alloc, s)?;
+    let text = format!(in alloc; "{head}{tail}")?;
+    Ok(LineText::of(text))
+}
+
+// Its first half: how much there is.
+fn stream_head(alloc: Global, s: &StreamNumbers) -> Result<String, AllocError>
+    ensures { IfOk result (λ text. string_bytes text ≡ InfoTexts.stream_head s.now) }
+{
+    let bytes = bytes_of(s.packets);
+    let id = number_or_none(alloc, widened(s.stream_id))?;
+    let rate = number_or_none(alloc, s.rate)?;
+    let text = format!(in alloc;
+        "stream packets {} bytes {} transport_stream_id {} bitrate {}",
+        s.packets, bytes, id, rate
+    )?;
+    Ok(text)
+}
+
+// Its second half: null packets and troubles.
+fn stream_tail(alloc: Global, s: &StreamNumbers) -> Result<String, AllocError>
+    ensures { IfOk result (λ text. string_bytes text ≡ InfoTexts.stream_tail s.now) }
+{
+    let share = percent(alloc, s.nulls, s.packets)?;
+    let text = format!(in alloc;
+        " nulls {} share {} errored {} scrambled {} faults {}",
+        s.nulls, share, s.errored, s.scrambled, s.faults
+    )?;
+    Ok(text)
+}
+
+// How many bytes packets have.
+fn bytes_of(packets: u64) -> u128
+    ensures { result ≡ packets * PACKET_SIZE }
+{
+    u128::from(packets) * 188
+}
+
+// The same number, if there is one.
+fn widened(number: Option<u16>) -> Option<u64>
+    ensures { result ≡ number }
+{
+    match number {
+        Some(number) => Some(u64::from(number)),
+        None => None,
+    }
+}
+
+// Puts a line on the SDT behind others, where it is of another stream than the PAT.
+fn push_sdt(
+    lines: &mut Vec<Line>,
+    cut: u64,
+    pat: Option<u16>,
+    sdt: Option<u16>,
+) -> Result<(), AllocError>
+    ensures { OnOk result (lines.new.items ≡ lines.old.items ++ placed_at cut (sdt_texts pat sdt)) }
+{
+    let Some(pat) = pat else {
+        return Ok(());
+    };
+    let Some(sdt) = sdt else {
+        return Ok(());
+    };
+    push_other(lines, cut, pat, sdt)?;
+    Ok(())
+}
+
+// Puts a line on the SDT behind others, where its number is another than the PAT's.
+fn push_other(lines: &mut Vec<Line>, cut: u64, pat: u16, sdt: u16) -> Result<(), AllocError>
+    ensures { OnOk result (lines.new.items ≡ lines.old.items ++ placed_at cut (sdt_texts (Some pat) (Some sdt))) }
+{
+    if pat == sdt {
+        return Ok(());
+    }
+    let alloc = *lines.allocator();
+    let text = format!(in alloc; "sdt of transport_stream_id {sdt}")?;
+    push_line(lines, cut, LineText::of(text))?;
+    Ok(())
+}
+
+// Puts the lines of the services of the PAT in force behind others.
+fn push_services(
+    lines: &mut Vec<Line>,
+    cut: u64,
+    tracker: &Tracker,
+    scene: &Scene,
+) -> Result<(), AllocError>
+    requires { IsReady tracker.now }
+    ensures { OnOk result ((cells : List GivenCell) → Tracks tracker.now cells → scene.now ≡ scene_of cells
+        → lines.new.items ≡ lines.old.items ++ placed_at cut (flat_map (service_lines cells) (services_in (pat_of (live_packets cells))))) }
+{
+    let Some(pat) = tracker.force.pat() else {
+        return Ok(());
+    };
+    let entries = pat.services.as_slice();
+    for service in entries {
+        let (id, pid) = parts(service);
+        push_service(lines, cut, tracker, scene, id, pid)?;
+    }
+    Ok(())
+}
+
+// Puts the lines of a service behind others.
+fn push_service(
+    lines: &mut Vec<Line>,
+    cut: u64,
+    tracker: &Tracker,
+    scene: &Scene,
+    id: u16,
+    pid: u16,
+) -> Result<(), AllocError>
+    requires { IsReady tracker.now }
+    ensures { OnOk result ((cells : List GivenCell) → Tracks tracker.now cells → scene.now ≡ scene_of cells
+        → lines.new.items ≡ lines.old.items ++ placed_at cut (service_lines cells (id, pid))) }
+{
+    let pmt = tracker.force.pmt(id);
+    let alloc = *lines.allocator();
+    let text = service_text(alloc, tracker, scene, id, pid, pmt)?;
+    push_line(lines, cut, text)?;
+    if let Some(pmt) = pmt {
+        push_components(lines, cut, tracker, scene, id, pmt.components.as_slice())?;
+    }
+    Ok(())
+}
+
+// The text of the line of a service.
+fn service_text(
+    alloc: Global,
+    tracker: &Tracker,
+    scene: &Scene,
+    id: u16,
+    pid: u16,
+    pmt: Option<&Pmt>,
+) -> Result<LineText, AllocError>
+    requires { IsReady tracker.now }
+    ensures { IfOk result (λ text. (cells : List GivenCell) → Tracks tracker.now cells → scene.now ≡ scene_of cells
+        → option_map pmt_held (option_copied pmt.entry) ≡ pmt_of id (live_packets cells)
+        → text ≡ service_line cells (id, pid)) }
+{
+    let body = service_body(tracker.sdt.sdt.as_ref(), id);
+    let packets = service_packets(tracker, pmt)?;
+    let head = service_head(alloc, id, body)?;
+    let tail = service_tail(alloc, scene, pid, pcr_pid_in(pmt), packets)?;
+    let text = format!(in alloc; "{head}{tail}")?;
+    Ok(LineText::of(text))
+}
+
+// Its first half: what the SDT tells.
+fn service_head(alloc: Global, id: u16, body: Option<&[u8]>) -> Result<String, AllocError>
+    ensures { IfOk result (λ text. string_bytes text ≡ InfoTexts.service_head id (option_map (λ b. b.now) body.entry)) }
+{
+    let kind = number_or_none(alloc, type_in(body))?;
+    let name = shown_or_none(alloc, name_in(body))?;
+    let provider = shown_or_none(alloc, provider_in(body))?;
+    let text = format!(in alloc;
+        "service {} type {} name {} provider {}",
+        id, kind, name, provider
+    )?;
+    Ok(text)
+}
+
+// Its second half: its PIDs and its portion.
+fn service_tail(
+    alloc: Global,
+    scene: &Scene,
+    pid: u16,
+    pcr: Option<u64>,
+    packets: u64,
+) -> Result<String, AllocError>
+    ensures { IfOk result (λ text. string_bytes text ≡ InfoTexts.service_tail pid pcr (InfoTexts.portion_text scene.now packets)) }
+{
+    let portion = portion_text(alloc, scene, packets)?;
+    let pcr = number_or_none(alloc, pcr)?;
+    let text = format!(in alloc; " pmt {pid} pcr {pcr}{portion}")?;
+    Ok(text)
+}
+
+// The PCR_PID of a PMT.
+fn pcr_pid_in(pmt: Option<&Pmt>) -> Option<u64>
+    ensures { result ≡ pcr_pid_in (option_map pmt_held (option_copied pmt.entry)) }
+{
+    match pmt {
+        Some(pmt) => Some(u64::from(pmt.pcr_pid)),
+        None => None,
+    }
+}
+
+// The packets on the PIDs of the components of a PMT.
+fn service_packets(tracker: &Tracker, pmt: Option<&Pmt>) -> Result<u64, AllocError>
+    requires { IsReady tracker.now }
+    ensures { IfOk result (λ n. (cells : List GivenCell) → Tracks tracker.now cells
+        → n ≡ service_packets (option_map pmt_held (option_copied pmt.entry)) (live_packets cells)) }
+{
+    let mut packets: u64 = 0;
+    for pid in 0..PID_COUNT {
+        packets = plus(packets, packets_if(tracker, has_component(pmt, pid), pid))?;
+    }
+    Ok(packets)
+}
+
+// The packets on a PID, if they are counted.
+fn packets_if(tracker: &Tracker, is_one: bool, pid: u16) -> u64
+    requires ready { IsReady tracker.now }
+    requires on_pid { pid < PID_COUNT }
+    ensures { (cells : List GivenCell) → Tracks tracker.now cells → result ≡ (if is_one then packets_on pid (live_packets cells) else 0) }
+{
+    if is_one {
+        tracker.totals.packets_on(pid)
+    } else {
+        0
+    }
+}
+
+// A sum, which never passes 64 bits: it counts packets.
+fn plus(a: u64, b: u64) -> Result<u64, AllocError>
+    ensures { IfOk result (λ n. n ≡ a + b) }
+{
+    match a.checked_add(b) {
+        Some(sum) => Ok(sum),
+        None => Err(AllocError),
+    }
+}
+
+// Puts the lines of components behind others.
+fn push_components(
+    lines: &mut Vec<Line>,
+    cut: u64,
+    tracker: &Tracker,
+    scene: &Scene,
+    service: u16,
+    components: &[Component],
+) -> Result<(), AllocError>
+    requires { IsReady tracker.now }
+    ensures { OnOk result ((cells : List GivenCell) → Tracks tracker.now cells → scene.now ≡ scene_of cells
+        → lines.new.items ≡ lines.old.items ++ placed_at cut (map (λ c. component_line cells service (component_item c)) components.now)) }
+{
+    let alloc = *lines.allocator();
+    for component in components {
+        let text = component_text(alloc, tracker, scene, service, component)?;
+        push_line(lines, cut, text)?;
+    }
+    Ok(())
+}
+
+// The text of the line of a component.
+fn component_text(
+    alloc: Global,
+    tracker: &Tracker,
+    scene: &Scene,
+    service: u16,
+    component: &Component,
+) -> Result<LineText, AllocError>
+    requires { IsReady tracker.now }
+    ensures { IfOk result (λ text. (cells : List GivenCell) → Tracks tracker.now cells → scene.now ≡ scene_of cells
+        → text ≡ component_line cells service (component_item component.now)) }
+{
+    let numbers = tracker.totals.numbers_on(component.pid);
+    let users = users_of(&tracker.force, component.pid);
+    let head = component_head(alloc, component.pid, service, component.stream_type)?;
+    let marks = marks_text(alloc, component.descriptors.as_slice())?;
+    let tail = component_tail(alloc, scene, &numbers, users)?;
+    let text = format!(in alloc; "{head}{marks}{tail}")?;
+    Ok(LineText::of(text))
+}
+
+// Its beginning: what it is.
+fn component_head(alloc: Global, pid: u16, service: u16, kind: u8) -> Result<String, AllocError>
+    ensures { IfOk result (λ text. string_bytes text ≡ InfoTexts.component_head pid service kind) }
+{
+    let name = name_or_unknown(stream_type_name(kind));
+    let text = format!(in alloc; "component {pid} service {service} stream_type {kind} ({name})")?;
+    Ok(text)
+}
+
+// A name, or that it is not known.
+fn name_or_unknown(name: Option<&'static str>) -> &'static str
+    ensures { result.now ≡ InfoTexts.name_or_unknown (option_map (λ n. n.now) name.entry) }
+{
+    match name {
+        Some(name) => name,
+        None => "unknown",
+    }
+}
+
+// Its end: its portion and its troubles.
+fn component_tail(
+    alloc: Global,
+    scene: &Scene,
+    numbers: &PidNumbers,
+    users: u64,
+) -> Result<String, AllocError>
+    ensures { IfOk result (λ text. string_bytes text ≡ InfoTexts.component_tail scene.now numbers.now users) }
+{
+    let portion = portion_text(alloc, scene, numbers.packets)?;
+    let troubles = troubles_text(alloc, numbers)?;
+    let shared = shared_text(alloc, users)?;
+    let text = format!(in alloc; "{portion}{troubles}{shared}")?;
+    Ok(text)
+}
+
+// That more than one service has a component.
+fn shared_text(alloc: Global, users: u64) -> Result<String, AllocError>
+    ensures { IfOk result (λ text. string_bytes text ≡ shared_text users) }
+{
+    if 1 < users {
+        let text = format!(in alloc; " shared {users}")?;
+        return Ok(text);
+    }
+    Ok(String::new(alloc))
+}
+
+// Puts the lines of the PIDs that have packets and are no component's behind others.
+fn push_pids(
+    lines: &mut Vec<Line>,
+    cut: u64,
+    tracker: &Tracker,
+    scene: &Scene,
+) -> Result<(), AllocError>
+    requires { IsReady tracker.now }
+    ensures { OnOk result ((cells : List GivenCell) → Tracks tracker.now cells → scene.now ≡ scene_of cells
+        → lines.new.items ≡ lines.old.items ++ placed_at cut (flat_map (pid_lines cells) (numbers_below PID_COUNT))) }
+{
+    for pid in 0..PID_COUNT {
+        push_pid(lines, cut, tracker, scene, pid)?;
+    }
+    Ok(())
+}
+
+// Puts the line of a PID behind others, where it has packets and is no component's.
+fn push_pid(
+    lines: &mut Vec<Line>,
+    cut: u64,
+    tracker: &Tracker,
+    scene: &Scene,
+    pid: u16,
+) -> Result<(), AllocError>
+    requires ready { IsReady tracker.now }
+    requires on_pid { pid < PID_COUNT }
+    ensures { OnOk result ((cells : List GivenCell) → Tracks tracker.now cells → scene.now ≡ scene_of cells
+        → lines.new.items ≡ lines.old.items ++ placed_at cut (pid_lines cells pid)) }
+{
+    let numbers = tracker.totals.numbers_on(pid);
+    if numbers.packets == 0 {
+        return Ok(());
+    }
+    if users_of(&tracker.force, pid) != 0 {
+        return Ok(());
+    }
+    let alloc = *lines.allocator();
+    let text = pid_text(alloc, tracker, scene, pid, &numbers)?;
+    push_line(lines, cut, text)?;
+    Ok(())
+}
+
+// The text of the line of a PID.
+fn pid_text(
+    alloc: Global,
+    tracker: &Tracker,
+    scene: &Scene,
+    pid: u16,
+    numbers: &PidNumbers,
+) -> Result<LineText, AllocError>
+    ensures { IfOk result (λ text. (cells : List GivenCell) → Tracks tracker.now cells
+        → text ≡ pid_text pid (use_of (live_packets cells) pid) (InfoTexts.portion_text scene.now numbers.now.packets) numbers.now) }
+{
+    let name = use_of(tracker, pid);
+    let portion = portion_text(alloc, scene, numbers.packets)?;
+    let troubles = troubles_text(alloc, numbers)?;
+    let text = format!(in alloc; "pid {pid} ({name}){portion}{troubles}")?;
+    Ok(LineText::of(text))
+}
+
+// What a PID is, that is no component's.
+fn use_of(tracker: &Tracker, pid: u16) -> &'static str
+    ensures { (cells : List GivenCell) → Tracks tracker.now cells → result.now ≡ use_of (live_packets cells) pid }
+{
+    if tracker.force.names(pid) {
+        return "PMT";
+    }
+    pid_name(pid).unwrap_or("unnamed")
+}

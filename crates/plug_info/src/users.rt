@@ -1,0 +1,67 @@
+//! Which services have a component on a PID.
+ghost use Rattle.std.specs.Prelude.{◌≡◌, ◌<◌, ℕ, List, map, count_by, option_map};
+ghost use Rattle.std.specs.List.{list_any};
+ghost use Rattle.std.specs.Option.{option_copied};
+ghost use Rattle.std.specs.Prelude.{Some, ◌≤◌, cond};
+ghost use Rattle.ts_psi.specs.PatTables.{service_item};
+ghost use Rattle.plug_psi.specs.InForce.{service_in};
+ghost use Rattle.plug_psi.specs.ForceStands.{StandsFor as IsFed};
+ghost use Rattle.ts_psi.specs.PsiTables.{component_item, pmt_held};
+ghost use Rattle.plug_info.specs.InfoRule.{has_component, users_of};
+ghost use Rattle.plug_info.specs.Components.{has_item};
+
+use plug_psi::InForce;
+use ts_psi::{Component, PatService, Pmt};
+
+/// Whether one of the components has the PID.
+fn has_item(components: &[Component], pid: u16) -> bool
+    ensures { result ≡ has_item (map component_item components.now) pid }
+{
+    for component in components {
+        if component.pid == pid {
+            return true;
+        }
+    }
+    false
+}
+
+/// Whether a component of a PMT has the PID.
+pub fn has_component(pmt: Option<&Pmt>, pid: u16) -> bool
+    ensures { result ≡ has_component (option_map pmt_held (option_copied pmt.entry)) pid }
+{
+    match pmt {
+        Some(pmt) => has_item(pmt.components.as_slice(), pid),
+        None => false,
+    }
+}
+
+/// The number and the PID of a service.
+pub fn parts(service: &PatService) -> (u16, u16)
+    ensures { service_in (service_item service.now) ≡ Some (result.0, result.1) }
+{
+    (service.service_id, service.pid)
+}
+
+/// How many services of the PAT in force have a component on the PID.
+pub fn users_of(force: &InForce, pid: u16) -> u64
+    ensures { (fed : List (List ℕ)) → IsFed force.now fed → result ≡ users_of fed pid }
+{
+    let Some(pat) = force.pat() else {
+        return 0;
+    };
+    let entries = pat.services.as_slice();
+    let mut users = 0;
+    for service in entries {
+        let (id, _) = parts(service);
+        users += one_if(has_component(force.pmt(id), pid));
+    }
+    users
+}
+
+// One for what is counted.
+fn one_if(is_one: bool) -> u64
+    ensures is { result ≡ cond is_one 1 0 }
+    ensures most { result ≤ 1 }
+{
+    if is_one { 1 } else { 0 }
+}
