@@ -1,5 +1,10 @@
+ghost use Rattle.std.specs.Prelude.{◌<◌};
+
+use crate::compared::{are_so_many, same};
 use std::alloc::{AllocError, Global};
+use std::process::Abort;
 use std::test::Fail;
+use ts_packet::Packet;
 use ts_packetize::{Cycle, packets};
 use ts_section::Section;
 
@@ -15,42 +20,68 @@ fn short(alloc: Global, table_id: u8) -> Result<Option<Section>, AllocError> {
     Ok(Some(Section::short(alloc, table_id, true, body.as_slice())?))
 }
 
+/// A list of so many of these sections.
+fn shorts(alloc: Global, table_ids: &[u8]) -> Result<Vec<Section>, Fail> {
+    let mut sections = Vec::new(alloc);
+    for table_id in table_ids {
+        sections.push(short(alloc, *table_id)?.ok_or("section")?)?;
+    }
+    Ok(sections)
+}
+
+/// Looks at a byte of a packet's payload.
+fn has_byte(rt: &impl Abort, packet: &Packet, at: usize, wanted: u8) {
+    same(rt, packet.payload().get(at).copied(), Some(wanted));
+}
+
+/// Looks at the packets of two short sections.
+fn are_two_packets(rt: &impl Abort, list: &[Packet]) {
+    are_so_many(rt, list.len(), 2);
+    let first = &list[0];
+    same(rt, first.unit_start(), true);
+    has_byte(rt, first, 0, 0);
+    has_byte(rt, first, 183, 0x11);
+    let second = &list[1];
+    same(rt, (second.unit_start(), second.counter()), (false, 1));
+    has_byte(rt, second, 16, 0x11);
+    has_byte(rt, second, 17, 0xFF);
+}
+
 #[test]
 fn two_short_sections(rt: HostRuntime) -> Result<(), Fail> {
-    let mut sections = Vec::new(rt.alloc());
-    sections.push(short(rt.alloc(), 0x70)?.ok_or("section")?)?;
-    sections.push(short(rt.alloc(), 0x71)?.ok_or("section")?)?;
-    let list = packets(rt.alloc(), 32, sections.as_slice())?;
-    assert_eq!(rt; list.as_slice().len(), 2);
-    let first = list.as_slice()[0];
-    assert!(rt; first.unit_start());
-    assert_eq!(rt; first.payload().first().copied(), Some(0));
-    assert_eq!(rt; first.payload().get(183).copied(), Some(0x11));
-    let second = list.as_slice()[1];
-    assert!(rt; !second.unit_start());
-    assert_eq!(rt; second.counter(), 1);
-    assert_eq!(rt; second.payload().get(16).copied(), Some(0x11));
-    assert_eq!(rt; second.payload().get(17).copied(), Some(0xFF));
+    let sections = shorts(rt.alloc(), &[0x70, 0x71])?;
+    let list = packets(rt.alloc(), 32, &sections)?;
+    are_two_packets(&rt, list.as_slice());
+    Ok(())
+}
+
+/// A cycle in a box: it is large.
+fn cycle(alloc: Global) -> Result<Box<Cycle>, AllocError> {
+    Ok(Box::new(alloc, Cycle::new(alloc, 32)?)?)
+}
+
+/// Looks at the counter and at a byte of the cycle's next packet, which is asked for with a counter.
+fn goes_on(rt: &impl Abort, cycle: &mut Cycle, counter: u8, byte: Option<u8>) -> Result<(), Fail>
+    requires { counter < 16 }
+{
+    let packet = cycle.next(counter).ok_or("packet")?;
+    same(rt, packet.counter(), counter);
+    if let Some(byte) = byte {
+        has_byte(rt, &packet, 1, byte);
+    }
     Ok(())
 }
 
 #[test]
 fn contents_come_with_the_next_cycle(rt: HostRuntime) -> Result<(), Fail> {
-    let mut cycle = Cycle::new(rt.alloc(), 32)?;
+    let one = shorts(rt.alloc(), &[0x70, 0x70])?;
+    let other = shorts(rt.alloc(), &[0x71])?;
+    let mut cycle = cycle(rt.alloc())?;
     assert!(rt; cycle.next(0).is_none());
-    let mut one = Vec::new(rt.alloc());
-    one.push(short(rt.alloc(), 0x70)?.ok_or("section")?)?;
-    one.push(short(rt.alloc(), 0x70)?.ok_or("section")?)?;
     cycle.renew(one)?;
-    let first = cycle.next(15).ok_or("packet")?;
-    assert_eq!(rt; first.counter(), 15);
-    let mut other = Vec::new(rt.alloc());
-    other.push(short(rt.alloc(), 0x71)?.ok_or("section")?)?;
+    goes_on(&rt, &mut *cycle, 15, None)?;
     cycle.renew(other)?;
-    let second = cycle.next(0).ok_or("packet")?;
-    assert_eq!(rt; second.payload().get(1).copied(), Some(0x11));
-    let third = cycle.next(1).ok_or("packet")?;
-    assert_eq!(rt; third.payload().get(1).copied(), Some(0x71));
-    assert_eq!(rt; third.counter(), 1);
+    goes_on(&rt, &mut *cycle, 0, Some(0x11))?;
+    goes_on(&rt, &mut *cycle, 1, Some(0x71))?;
     Ok(())
 }

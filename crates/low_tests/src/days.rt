@@ -1,5 +1,7 @@
 //! Days and starts with numbers from outside, each call once.
 
+use crate::compared::same;
+use std::process::Abort;
 use std::test::Fail;
 use ts_days::{day_of, day_text, start_of, start_text, time_of, time_text};
 
@@ -22,27 +24,37 @@ static NO_DAYS: [&str; 6] = [
     "1993/10/13",
 ];
 
+/// Looks whether a text and a number are those of one day.
+fn are_of_a_day(rt: &impl Abort, text: &str, number: u16) {
+    same(rt, day_of(text), Some(number));
+    is_text(rt, day_text(number).as_str(), text);
+}
+
+/// Looks whether a text is the wanted one.
+fn is_text(rt: &impl Abort, found: &str, wanted: &str) {
+    assert_eq!(rt; found, wanted);
+}
+
 #[test]
 fn days_are_told(rt: HostRuntime) -> Result<(), Fail> {
     for (text, number) in &DAYS {
-        assert_eq!(rt; day_of(text), Some(*number));
-        assert_eq!(rt; day_text(*number).as_str(), *text);
+        are_of_a_day(&rt, text, *number);
     }
     for text in &NO_DAYS {
-        assert_eq!(rt; day_of(text), None);
+        same(&rt, day_of(text), None);
     }
     Ok(())
 }
 
 #[test]
 fn starts_are_told(rt: HostRuntime) -> Result<(), Fail> {
+    same(&rt, start_of("1993-10-13 12:45:00"), Some(0xC0_7912_4500));
+    same(&rt, start_of("undefined"), Some(0xFF_FFFF_FFFF));
+    same(&rt, start_of("1993-10-13 24:00:00"), None);
+    same(&rt, time_of(99, "99:59:59"), Some(0x99_5959));
+    same(&rt, time_of(99, "01:60:00"), None);
+    is_text(&rt, time_text(0x01_4530).as_str(), "01:45:30");
     let text = start_text(rt.alloc(), 0xC0_7912_4500)?;
-    assert_eq!(rt; text.as_str(), "1993-10-13 12:45:00");
-    assert_eq!(rt; start_of("1993-10-13 12:45:00"), Some(0xC0_7912_4500));
-    assert_eq!(rt; start_of("undefined"), Some(0xFF_FFFF_FFFF));
-    assert_eq!(rt; start_of("1993-10-13 24:00:00"), None);
-    assert_eq!(rt; time_text(0x01_4530).as_str(), "01:45:30");
-    assert_eq!(rt; time_of(99, "99:59:59"), Some(0x99_5959));
-    assert_eq!(rt; time_of(99, "01:60:00"), None);
+    is_text(&rt, text.as_str(), "1993-10-13 12:45:00");
     Ok(())
 }

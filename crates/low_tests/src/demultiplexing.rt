@@ -1,6 +1,8 @@
 ghost use Rattle.std.specs.Prelude.{◌<◌};
 
+use crate::compared::same;
 use std::alloc::{AllocError, Global};
+use std::process::Abort;
 use std::test::Fail;
 use ts_demux::{Assembly, Demux};
 use ts_packet::Packet;
@@ -26,36 +28,80 @@ fn pat(alloc: Global, number: u8) -> Result<Option<Section>, AllocError> {
     Ok(Some(Section::long(alloc, head, &[0x00, 0x01, 0xF0, 0x00])?))
 }
 
+/// A packet in which the short section 70 30 02 AA BB begins three bytes before the end.
+fn begun() -> Packet {
+    let mut packet = Packet::null();
+    packet.set_pid(PID);
+    packet.set_counter(15);
+    packet.set_unit_start(true);
+    packet.put_payload(4, &[180]);
+    packet.put_payload(185, &[0x70, 0x30, 0x02]);
+    packet
+}
+
+/// The packet behind it.
+fn ended() -> Packet {
+    let mut packet = Packet::null();
+    packet.set_pid(PID);
+    packet.put_payload(4, &[0xAA, 0xBB]);
+    packet
+}
+
+/// A demultiplexer in a box: it is large.
+fn demux(alloc: Global) -> Result<Box<Demux>, AllocError> {
+    Ok(Box::new(alloc, Demux::new(alloc, PID)?)?)
+}
+
+/// Looks how many sections each of these packets completes.
+fn completes(
+    rt: &impl Abort,
+    demux: &mut Demux,
+    rows: &[(Packet, usize)],
+) -> Result<(), AllocError> {
+    for (packet, wanted) in rows {
+        same(rt, demux.feed(packet)?, *wanted);
+    }
+    Ok(())
+}
+
+/// How many bytes the next section has.
+fn next_len(demux: &mut Demux) -> Option<usize> {
+    Some(demux.next_section()?.bytes().len())
+}
+
 #[test]
 fn section_over_two_packets(rt: HostRuntime) -> Result<(), Fail> {
-    // The short section 70 30 02 AA BB begins three bytes before the end of its first packet.
-    let mut first = Packet::null();
-    first.set_pid(PID);
-    first.set_counter(15);
-    first.set_unit_start(true);
-    first.put_payload(4, &[180]);
-    first.put_payload(185, &[0x70, 0x30, 0x02]);
-    let mut second = Packet::null();
-    second.set_pid(PID);
-    second.put_payload(4, &[0xAA, 0xBB]);
-    let mut demux = Demux::new(rt.alloc(), PID)?;
-    assert_eq!(rt; demux.feed(&first)?, 0);
-    assert_eq!(rt; demux.feed(&first)?, 0);
-    assert_eq!(rt; demux.feed(&second)?, 1);
-    let section = demux.next_section().ok_or("none waits")?;
-    assert_eq!(rt; section.bytes().len(), 5);
-    assert!(rt; demux.next_section().is_none());
+    let mut demux = demux(rt.alloc())?;
+    let first = begun();
+    completes(&rt, &mut *demux, &[(first, 0), (first, 0), (ended(), 1)])?;
+    same(&rt, next_len(&mut *demux), Some(5));
+    same(&rt, next_len(&mut *demux), None);
     Ok(())
+}
+
+/// An assembly in a box: it is large.
+fn assembly(alloc: Global) -> Result<Box<Assembly>, AllocError> {
+    Ok(Box::new(alloc, Assembly::new(alloc)?)?)
+}
+
+/// How many sections the table has that a section completes, if it does.
+fn completed(assembly: &mut Assembly, section: Section) -> Result<Option<usize>, Fail> {
+    let table = assembly.add(section)?;
+    Ok(table.map(|table| table.sections().len()))
+}
+
+/// The section of that number.
+fn numbered(alloc: Global, number: u8) -> Result<Section, Fail> {
+    Ok(pat(alloc, number)?.ok_or("pat")?)
 }
 
 #[test]
 fn table_of_two_sections(rt: HostRuntime) -> Result<(), Fail> {
-    let mut assembly = Assembly::new(rt.alloc())?;
-    let second = pat(rt.alloc(), 1)?.ok_or("pat")?;
-    assert!(rt; assembly.add(second)?.is_none());
-    let first = pat(rt.alloc(), 0)?.ok_or("pat")?;
-    let table = assembly.add(first)?.ok_or("table")?;
-    assert_eq!(rt; table.sections().len(), 2);
+    let mut assembly = assembly(rt.alloc())?;
+    let second = completed(&mut *assembly, numbered(rt.alloc(), 1)?)?;
+    same(&rt, second, None);
+    let first = completed(&mut *assembly, numbered(rt.alloc(), 0)?)?;
+    same(&rt, first, Some(2));
     Ok(())
 }
 
@@ -103,19 +149,19 @@ fn counted(packet: Packet, counter: u8) -> Packet
 #[test]
 fn a_jump_gives_a_section_up(rt: HostRuntime) -> Result<(), Fail> {
     let (first, second) = two_packets(rt.alloc())?;
-    let mut demux = Demux::new(rt.alloc(), PID)?;
-    assert_eq!(rt; demux.feed(&counted(first, 3))?, 0);
-    assert_eq!(rt; demux.feed(&counted(second, 5))?, 0);
+    let mut demux = demux(rt.alloc())?;
+    let rows = [(counted(first, 3), 0), (counted(second, 5), 0)];
+    completes(&rt, &mut *demux, &rows)?;
     Ok(())
 }
 
 #[test]
 fn a_packet_that_comes_twice_counts_once(rt: HostRuntime) -> Result<(), Fail> {
     let (first, second) = two_packets(rt.alloc())?;
-    let mut demux = Demux::new(rt.alloc(), PID)?;
-    assert_eq!(rt; demux.feed(&counted(first, 3))?, 0);
-    assert_eq!(rt; demux.feed(&counted(first, 3))?, 0);
-    assert_eq!(rt; demux.feed(&counted(second, 4))?, 1);
+    let first = counted(first, 3);
+    let mut demux = demux(rt.alloc())?;
+    let rows = [(first, 0), (first, 0), (counted(second, 4), 1)];
+    completes(&rt, &mut *demux, &rows)?;
     Ok(())
 }
 
@@ -126,11 +172,11 @@ const ONE_SERVICE: [u8; 16] = [
 
 #[test]
 fn a_table_is_given_once(rt: HostRuntime) -> Result<(), Fail> {
-    let mut assembly = Assembly::new(rt.alloc())?;
     let section = Section::parse(rt.alloc(), &ONE_SERVICE)?;
-    let again = section.copy()?;
-    let table = assembly.add(section)?.ok_or("table")?;
-    assert_eq!(rt; table.sections().len(), 1);
-    assert!(rt; assembly.add(again)?.is_none());
+    let mut assembly = assembly(rt.alloc())?;
+    let first = completed(&mut *assembly, section.copy()?)?;
+    same(&rt, first, Some(1));
+    let again = completed(&mut *assembly, section)?;
+    same(&rt, again, None);
     Ok(())
 }

@@ -1,10 +1,12 @@
 //! Worked rows, and each call that takes memory once with enough of it.
 
+use crate::compared::{are_so_many, same};
+use crate::tables_of_bytes::{is_one_section, is_one_section_of, long_descriptors, run_of};
 use std::alloc::Global;
+use std::process::Abort;
 use std::test::Fail;
-use ts_bits::{Descriptor, DescriptorList};
 use ts_eit::{Eit, Event, EventList, Start};
-use ts_section::{Section, TableRun};
+use ts_section::TableRun;
 use ts_table_rows::{TableFault, TableRefusal, TableRule};
 
 /// An EIT of service 0x0101, section 1 of 0 to 2, with two events: the first on 1993-10-13 at 12:45:00 for
@@ -22,32 +24,36 @@ const NO_START: [u8; 46] = [
     0x4F, 0x6E, 0x20, 0x64, 0x65, 0x6D, 0x61, 0x6E, 0x64, 0x00, 0x01, 0x9A, 0x52, 0x34,
 ];
 
-/// The run of one section.
-fn run_of(alloc: Global, bytes: &[u8]) -> Result<TableRun, Fail> {
-    let mut sections = Vec::new(alloc);
-    sections.push(Section::parse(alloc, bytes)?)?;
-    Ok(TableRun::of(sections)?)
+/// The EIT of these bytes, copied.
+fn copied_eit(alloc: Global) -> Result<Eit, Fail> {
+    let run = run_of(alloc, &EIT)?;
+    Ok(Eit::read(alloc, &run)?.copy()?)
+}
+
+/// Looks at the fields of that EIT.
+fn is_the_eit(rt: &impl Abort, eit: &Eit) {
+    let ids = (eit.table_id, eit.service_id, eit.stream_id);
+    same(rt, ids, (0x4E, 0x0101, 1));
+    same(rt, (eit.number, eit.last, eit.segment_last), (1, 2, 2));
+    are_its_events(rt, eit.events.as_slice());
+}
+
+/// Looks at its events.
+fn are_its_events(rt: &impl Abort, events: &[Event]) {
+    are_so_many(rt, events.len(), 2);
+    let start = events[0].start.map(|start| (start.day, start.second));
+    same(rt, start, Some((0xC079, 45_900)));
+    same(rt, (events[0].duration, events[0].running), (6_330, 4));
+    same(rt, events[1].start.is_none(), true);
+    same(rt, events[1].duration, 359_999);
 }
 
 #[test]
 fn an_eit(rt: HostRuntime) -> Result<(), Fail> {
-    let alloc = rt.alloc();
-    let eit = Eit::read(alloc, &run_of(alloc, &EIT)?)?.copy()?;
-    assert_eq!(rt;
-        (eit.table_id, eit.service_id, eit.stream_id),
-        (0x4E, 0x0101, 1)
-    );
-    assert_eq!(rt; (eit.number, eit.last, eit.segment_last), (1, 2, 2));
-    let events = eit.events.as_slice();
-    assert_eq!(rt; events.len(), 2);
-    let start = events[0].start.map(|start| (start.day, start.second));
-    assert_eq!(rt; start, Some((0xC079, 45_900)));
-    assert_eq!(rt; (events[0].duration, events[0].running), (6_330, 4));
-    assert_eq!(rt; events[1].start.is_none(), true);
-    assert_eq!(rt; events[1].duration, 359_999);
-    let sections = eit.sections(alloc)?;
-    assert_eq!(rt; sections.len(), 1);
-    assert_eq!(rt; sections[0].bytes(), EIT.as_slice());
+    let eit = copied_eit(rt.alloc())?;
+    is_the_eit(&rt, &eit);
+    let sections = eit.sections(rt.alloc())?;
+    is_one_section(&rt, &sections, &EIT);
     Ok(())
 }
 
@@ -60,26 +66,13 @@ fn a_lawless_start(rt: HostRuntime) -> Result<(), Fail> {
         offset: 16,
         rule: TableRule::Time,
     };
-    assert_eq!(rt; fault, Some(wanted));
+    same(&rt, fault, Some(wanted));
     Ok(())
 }
 
-/// The descriptors of an event, 15 of 255 bytes and one of `last`.
-fn long_descriptors(alloc: Global, last: usize) -> Result<DescriptorList, Fail> {
-    let body = vec![in alloc; 7u8; 255]?;
-    let mut descriptors = Vec::new(alloc);
-    for _ in 0..15 {
-        descriptors.push(Descriptor::new(alloc, 0x80, &body)?)?;
-    }
-    descriptors.push(Descriptor::new(alloc, 0x80, &body[..last.min(body.len())])?)?;
-    Ok(DescriptorList::of(descriptors))
-}
-
-/// An EIT with one event.
-fn long_eit(alloc: Global, last: usize) -> Result<Eit, Fail> {
-    let descriptors = long_descriptors(alloc, last)?;
-    let mut events = Vec::new(alloc);
-    events.push(Event {
+/// One event with 16 descriptors, the last of `last` bytes.
+fn long_event(alloc: Global, last: usize) -> Result<EventList, Fail> {
+    let event = Event {
         event_id: 1,
         start: Some(Start {
             day: 40_587,
@@ -88,8 +81,14 @@ fn long_eit(alloc: Global, last: usize) -> Result<Eit, Fail> {
         duration: 0,
         running: 0,
         free_ca: true,
-        descriptors,
-    })?;
+        descriptors: long_descriptors(alloc, 15, last)?,
+    };
+    Ok(EventList::of(vec![in alloc; event]?))
+}
+
+/// An EIT with that event.
+fn long_eit(alloc: Global, last: usize) -> Result<Eit, Fail> {
+    let events = long_event(alloc, last)?;
     Ok(Eit {
         table_id: 0x6F,
         service_id: 1,
@@ -101,19 +100,18 @@ fn long_eit(alloc: Global, last: usize) -> Result<Eit, Fail> {
         last: 255,
         segment_last: 255,
         last_table_id: 0x6F,
-        events: EventList::of(events),
+        events,
     })
 }
 
 #[test]
 fn the_longest_eit(rt: HostRuntime) -> Result<(), Fail> {
-    let alloc = rt.alloc();
-    let sections = long_eit(alloc, 209)?.sections(alloc)?;
-    assert_eq!(rt; sections.len(), 1);
-    assert_eq!(rt; sections[0].bytes().len(), 4096);
-    let again = Eit::read(alloc, &TableRun::of(sections)?)?;
-    assert_eq!(rt; (again.number, again.events.as_slice().len()), (255, 1));
-    let past = long_eit(alloc, 210)?.sections(alloc).err();
-    assert_eq!(rt; past, Some(TableRefusal::TooLarge { bytes: 4094 }));
+    let past = long_eit(rt.alloc(), 210)?.sections(rt.alloc()).err();
+    same(&rt, past, Some(TableRefusal::TooLarge { bytes: 4094 }));
+    let sections = long_eit(rt.alloc(), 209)?.sections(rt.alloc())?;
+    is_one_section_of(&rt, &sections, 4096);
+    let run = TableRun::of(sections)?;
+    let again = Eit::read(rt.alloc(), &run)?;
+    same(&rt, (again.number, again.events.as_slice().len()), (255, 1));
     Ok(())
 }

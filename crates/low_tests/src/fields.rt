@@ -3,7 +3,9 @@
 ghost use Rattle.std.specs.Prelude.{◌≤◌, length, IsTrue};
 ghost use Rattle.ts_fields.specs.Bodies.{page, page_sound};
 
+use crate::compared::{same, same_bytes};
 use std::alloc::Global;
+use std::process::Abort;
 use std::test::Fail;
 use ts_fields::{
     Field, ItemLayout, Kind, Layout, NotRead, fit_page_is_shaped, read_body, write_body,
@@ -62,23 +64,29 @@ fn again(alloc: Global, layout: &Layout, from: &[u8]) -> Result<Vec<u8>, NotRead
     Ok(bytes)
 }
 
+/// Looks what becomes of a body of each kind.
+fn is_kept(rt: &(impl Abort + AllocGlobal), from: &[u8]) -> Result<(), Fail>
+    requires { length from.now ≤ 4096 }
+{
+    let bytes = again(rt.alloc(), &EACH_KIND, from)?;
+    same_bytes(rt, &bytes, &OF_EACH_KIND);
+    Ok(())
+}
+
 #[test]
 fn each_kind_is_read_and_written(rt: HostRuntime) -> Result<(), Fail> {
-    let bytes = again(rt.alloc(), &EACH_KIND, &OF_EACH_KIND)?;
-    assert_eq!(rt; bytes.as_slice(), OF_EACH_KIND.as_slice());
     let mut free = OF_EACH_KIND;
     free[0] = 0xB9;
-    let bytes = again(rt.alloc(), &EACH_KIND, &free)?;
-    assert_eq!(rt; bytes.as_slice(), OF_EACH_KIND.as_slice());
-    Ok(())
+    is_kept(&rt, &OF_EACH_KIND)?;
+    is_kept(&rt, &free)
 }
 
 #[test]
 fn items_are_read_and_written(rt: HostRuntime) -> Result<(), Fail> {
     let row = [0x07, 0x12, 0x34, 0x56, 0x78];
-    let bytes = again(rt.alloc(), &PAIRS, &row)?;
-    assert_eq!(rt; bytes.as_slice(), row.as_slice());
     let cut = again(rt.alloc(), &PAIRS, &row[..4]).err();
-    assert_eq!(rt; cut, Some(NotRead::Outside));
+    same(&rt, cut, Some(NotRead::Outside));
+    let bytes = again(rt.alloc(), &PAIRS, &row)?;
+    same_bytes(&rt, &bytes, &row);
     Ok(())
 }

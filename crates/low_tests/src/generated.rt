@@ -1,3 +1,4 @@
+use crate::compared::same_bytes;
 use std::test::Fail;
 use ts_testgen::TestGen;
 
@@ -18,7 +19,7 @@ fn some_packets(rt: HostRuntime) -> Result<(), Fail> {
     for i in 0..51u64 {
         let packet = generator.next_packet();
         if let Some(front) = front_at(i) {
-            assert_eq!(rt; &packet.bytes()[..5], front.as_slice());
+            same_bytes(&rt, &packet.bytes()[..5], &front);
         }
     }
     Ok(())

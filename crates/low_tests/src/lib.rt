@@ -5,6 +5,8 @@
 #[cfg(test)]
 mod bits;
 #[cfg(test)]
+mod compared;
+#[cfg(test)]
 mod cycles;
 #[cfg(test)]
 mod days;
@@ -36,3 +38,5 @@ mod sections;
 mod si;
 #[cfg(test)]
 mod table_rows;
+#[cfg(test)]
+mod tables_of_bytes;

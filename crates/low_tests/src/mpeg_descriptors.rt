@@ -1,5 +1,7 @@
 //! A descriptor read and written again, each call that takes memory once with enough of it.
 
+use crate::compared::{same, same_bytes};
+use std::alloc::Global;
 use std::test::Fail;
 use ts_bits::Descriptor;
 use ts_descr_mpeg::MpegDescr;
@@ -7,12 +9,16 @@ use ts_descr_mpeg::MpegDescr;
 /// The languages `eng` and `fra`.
 static LANGUAGES: [u8; 8] = [b'e', b'n', b'g', 0x00, b'f', b'r', b'a', 0x03];
 
+/// What is read of them.
+fn languages(alloc: Global) -> Result<MpegDescr, Fail> {
+    let descriptor = Descriptor::new(alloc, 0x0A, &LANGUAGES)?;
+    Ok(MpegDescr::read(alloc, &descriptor)?.ok_or("no page")?)
+}
+
 #[test]
 fn languages_are_written_again(rt: HostRuntime) -> Result<(), Fail> {
-    let descriptor = Descriptor::new(rt.alloc(), 0x0A, &LANGUAGES)?;
-    let value = MpegDescr::read(rt.alloc(), &descriptor)?.ok_or("no page")?;
-    let written = value.write(rt.alloc())?;
-    assert_eq!(rt; written.tag(), 0x0A);
-    assert_eq!(rt; written.body(), LANGUAGES.as_slice());
+    let written = languages(rt.alloc())?.write(rt.alloc())?;
+    same(&rt, written.tag(), 0x0A);
+    same_bytes(&rt, written.body(), &LANGUAGES);
     Ok(())
 }

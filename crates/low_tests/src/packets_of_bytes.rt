@@ -1,3 +1,4 @@
+use crate::compared::{same, same_bytes};
 use std::process::Abort;
 use ts_packet::{Cell, Labels, NoSync, PACKET_SIZE, Packet};
 
@@ -23,42 +24,51 @@ struct HeaderRow {
 
 /// Headers from streams of other makers: a null packet, a program association, and packets with
 /// an error indicator, a priority and scrambling.
+static HEADERS: [HeaderRow; 3] = [
+    HeaderRow {
+        head: NULL_HEAD,
+        pid: 8191,
+        flags: [false, false, false],
+        controls: [0, 1],
+        counter: 0,
+    },
+    HeaderRow {
+        head: [0x47, 0x40, 0, 0x10, 0, 0, 0xB0, 0x0D, 0, 1, 0xC1, 0],
+        pid: 0,
+        flags: [false, true, false],
+        controls: [0, 1],
+        counter: 0,
+    },
+    HeaderRow {
+        head: [
+            0x47, 0xE1, 1, 0xF6, 1, 0xE0, 0x24, 0x2B, 0x32, 0x39, 0x40, 0x47,
+        ],
+        pid: 257,
+        flags: [true, true, true],
+        controls: [3, 3],
+        counter: 6,
+    },
+];
+
+/// The headers. What a `static` holds is written into each function that names it.
+fn headers() -> &'static [HeaderRow] {
+    &HEADERS
+}
+
+/// Looks at the fields of a packet that has this header.
+fn has_header(rt: &impl Abort, read: &Packet, row: &HeaderRow) {
+    same(rt, read.pid(), row.pid);
+    let flags = [read.error_indicator(), read.unit_start(), read.priority()];
+    same(rt, flags, row.flags);
+    let controls = [read.scrambling(), read.adaptation_control()];
+    same(rt, controls, row.controls);
+    same(rt, read.counter(), row.counter);
+}
+
 #[test]
 fn header_fields(rt: HostRuntime) {
-    let rows = [
-        HeaderRow {
-            head: NULL_HEAD,
-            pid: 8191,
-            flags: [false, false, false],
-            controls: [0, 1],
-            counter: 0,
-        },
-        HeaderRow {
-            head: [0x47, 0x40, 0, 0x10, 0, 0, 0xB0, 0x0D, 0, 1, 0xC1, 0],
-            pid: 0,
-            flags: [false, true, false],
-            controls: [0, 1],
-            counter: 0,
-        },
-        HeaderRow {
-            head: [
-                0x47, 0xE1, 1, 0xF6, 1, 0xE0, 0x24, 0x2B, 0x32, 0x39, 0x40, 0x47,
-            ],
-            pid: 257,
-            flags: [true, true, true],
-            controls: [3, 3],
-            counter: 6,
-        },
-    ];
-    for row in rows {
-        let read = packet(&rt, row.head);
-        assert_eq!(rt; read.pid(), row.pid);
-        assert_eq!(rt; read.error_indicator(), row.flags[0]);
-        assert_eq!(rt; read.unit_start(), row.flags[1]);
-        assert_eq!(rt; read.priority(), row.flags[2]);
-        assert_eq!(rt; read.scrambling(), row.controls[0]);
-        assert_eq!(rt; read.adaptation_control(), row.controls[1]);
-        assert_eq!(rt; read.counter(), row.counter);
+    for row in headers() {
+        has_header(&rt, &packet(&rt, row.head), row);
     }
 }
 
@@ -74,88 +84,98 @@ struct FieldRow {
 
 /// Adaptation fields: the first PCR of a muxer's stream, the greatest PCR, one with its extension,
 /// an empty field, lawful and unlawful lengths, and a discontinuity.
+static FIELDS: [FieldRow; 7] = [
+    FieldRow {
+        head: [
+            0x47, 0x41, 0x20, 0x30, 7, 0xD0, 0, 0, 0x7B, 0xC3, 0x7E, 0x48,
+        ],
+        length: Some(7),
+        start: Some(12),
+        payload: 176,
+        discontinuity: true,
+        pcr: Some(19_009_872),
+    },
+    FieldRow {
+        head: [
+            0x47, 1, 0, 0x33, 7, 0x10, 0xFF, 0xFF, 0xFF, 0xFF, 0xFF, 0x2B,
+        ],
+        length: Some(7),
+        start: Some(12),
+        payload: 176,
+        discontinuity: false,
+        pcr: Some(2_576_980_377_599),
+    },
+    FieldRow {
+        head: [0x47, 1, 0, 0x31, 0, 1, 0x0A, 0x11, 0x18, 0x1F, 0x26, 0x2D],
+        length: Some(0),
+        start: Some(5),
+        payload: 183,
+        discontinuity: false,
+        pcr: None,
+    },
+    FieldRow {
+        head: [0x47, 1, 0, 0x27, 183, 0x10, 0, 2, 0x0F, 0x58, 0x7E, 4],
+        length: Some(183),
+        start: None,
+        payload: 0,
+        discontinuity: false,
+        pcr: Some(81_000_004),
+    },
+    FieldRow {
+        head: [
+            0x47, 3, 0x31, 0x31, 184, 0, 0x33, 0x3A, 0x41, 0x48, 0x4F, 0x56,
+        ],
+        length: None,
+        start: None,
+        payload: 0,
+        discontinuity: false,
+        pcr: None,
+    },
+    FieldRow {
+        head: [0x47, 1, 0, 0x38, 182, 0, 0xFF, 0xFF, 0xFF, 0xFF, 0xFF, 0xFF],
+        length: Some(182),
+        start: Some(187),
+        payload: 1,
+        discontinuity: false,
+        pcr: None,
+    },
+    FieldRow {
+        head: [
+            0x47, 3, 0, 0x10, 0x32, 0x39, 0x40, 0x47, 0x4E, 0x55, 0x5C, 0x63,
+        ],
+        length: None,
+        start: Some(4),
+        payload: 184,
+        discontinuity: false,
+        pcr: None,
+    },
+];
+
+/// The adaptation fields.
+fn fields() -> &'static [FieldRow] {
+    &FIELDS
+}
+
+/// Looks at the adaptation field and the payload of a packet.
+fn has_fields(rt: &impl Abort, read: &Packet, row: &FieldRow) {
+    same(rt, read.adaptation_length(), row.length);
+    same(rt, read.payload_start(), row.start);
+    let has_payload = row.payload > 0 || row.length.is_none();
+    same(rt, read.has_payload(), has_payload);
+    same(rt, read.payload().len(), row.payload);
+    same(rt, read.discontinuity(), row.discontinuity);
+    same(rt, read.pcr(), row.pcr);
+}
+
 #[test]
 fn adaptation_fields(rt: HostRuntime) {
-    let rows = [
-        FieldRow {
-            head: [
-                0x47, 0x41, 0x20, 0x30, 7, 0xD0, 0, 0, 0x7B, 0xC3, 0x7E, 0x48,
-            ],
-            length: Some(7),
-            start: Some(12),
-            payload: 176,
-            discontinuity: true,
-            pcr: Some(19_009_872),
-        },
-        FieldRow {
-            head: [
-                0x47, 1, 0, 0x33, 7, 0x10, 0xFF, 0xFF, 0xFF, 0xFF, 0xFF, 0x2B,
-            ],
-            length: Some(7),
-            start: Some(12),
-            payload: 176,
-            discontinuity: false,
-            pcr: Some(2_576_980_377_599),
-        },
-        FieldRow {
-            head: [0x47, 1, 0, 0x31, 0, 1, 0x0A, 0x11, 0x18, 0x1F, 0x26, 0x2D],
-            length: Some(0),
-            start: Some(5),
-            payload: 183,
-            discontinuity: false,
-            pcr: None,
-        },
-        FieldRow {
-            head: [0x47, 1, 0, 0x27, 183, 0x10, 0, 2, 0x0F, 0x58, 0x7E, 4],
-            length: Some(183),
-            start: None,
-            payload: 0,
-            discontinuity: false,
-            pcr: Some(81_000_004),
-        },
-        FieldRow {
-            head: [
-                0x47, 3, 0x31, 0x31, 184, 0, 0x33, 0x3A, 0x41, 0x48, 0x4F, 0x56,
-            ],
-            length: None,
-            start: None,
-            payload: 0,
-            discontinuity: false,
-            pcr: None,
-        },
-        FieldRow {
-            head: [0x47, 1, 0, 0x38, 182, 0, 0xFF, 0xFF, 0xFF, 0xFF, 0xFF, 0xFF],
-            length: Some(182),
-            start: Some(187),
-            payload: 1,
-            discontinuity: false,
-            pcr: None,
-        },
-        FieldRow {
-            head: [
-                0x47, 3, 0, 0x10, 0x32, 0x39, 0x40, 0x47, 0x4E, 0x55, 0x5C, 0x63,
-            ],
-            length: None,
-            start: Some(4),
-            payload: 184,
-            discontinuity: false,
-            pcr: None,
-        },
-    ];
-    for row in rows {
-        let read = packet(&rt, row.head);
-        assert_eq!(rt; read.adaptation_length(), row.length);
-        assert_eq!(rt; read.payload_start(), row.start);
-        assert_eq!(rt; read.has_payload(), row.payload > 0 || row.length.is_none());
-        assert_eq!(rt; read.payload().len(), row.payload);
-        assert_eq!(rt; read.discontinuity(), row.discontinuity);
-        assert_eq!(rt; read.pcr(), row.pcr);
+    for row in fields() {
+        has_fields(&rt, &packet(&rt, row.head), row);
     }
 }
 
-/// Each writer once, on the null packet and on one with a PCR.
-#[test]
-fn fields_written(rt: HostRuntime) {
+/// A null packet that each writer but that of the PCR wrote into once.
+fn written() -> Packet {
     let mut written = Packet::null();
     written.set_error_indicator(true);
     written.set_priority(true);
@@ -165,26 +185,28 @@ fn fields_written(rt: HostRuntime) {
     written.set_adaptation_control(3);
     written.set_counter(6);
     written.put_payload(4, &[1, 0xE0]);
-    assert_eq!(rt;
-        &written.bytes()[..7],
-        [0x47, 0xE1, 1, 0xF6, 1, 0xE0, 0xFF].as_slice()
-    );
+    written
+}
+
+/// Each writer once, on the null packet and on one with a PCR.
+#[test]
+fn fields_written(rt: HostRuntime) {
+    let wanted = [0x47, 0xE1, 1, 0xF6, 1, 0xE0, 0xFF];
+    same_bytes(&rt, &written().bytes()[..7], &wanted);
 
     let head = [0x47, 1, 0, 0x33, 7, 0x10, 0, 0, 0, 0, 0, 0];
     let mut clocked = packet(&rt, head);
-    assert_eq!(rt; clocked.set_pcr(19_009_872), true);
-    assert_eq!(rt;
-        &clocked.bytes()[6..12],
-        [0, 0, 0x7B, 0xC3, 0x7E, 0x48].as_slice()
-    );
-    assert_eq!(rt; Packet::null().set_pcr(0), false);
+    same(&rt, clocked.set_pcr(19_009_872), true);
+    let wanted = [0, 0, 0x7B, 0xC3, 0x7E, 0x48];
+    same_bytes(&rt, &clocked.bytes()[6..12], &wanted);
+    same(&rt, Packet::null().set_pcr(0), false);
 }
 
 #[test]
 fn sync_byte(rt: HostRuntime) {
     let refused = Packet::of(&[0xFF; PACKET_SIZE]);
-    assert_eq!(rt; refused, Err(NoSync { found: 0xFF }));
-    assert_eq!(rt; Packet::null(), packet(&rt, NULL_HEAD));
+    same(&rt, refused, Err(NoSync { found: 0xFF }));
+    same(&rt, Packet::null(), packet(&rt, NULL_HEAD));
 }
 
 /// Labels are found again, two sets meet in one of theirs, and a cell with them takes 196 bytes.
@@ -194,11 +216,9 @@ fn labels_of_a_cell(rt: HostRuntime) {
     for (n, wanted) in [(0, false), (3, true), (4, false), (31, true)] {
         assert!(rt; labels.has(n) == wanted, "label {n}");
     }
-    assert!(rt; labels.shares(Labels::none().with(31)));
-    assert!(rt; !labels.shares(Labels::none().with(4)));
-    assert_eq!(rt;
-        Labels::none().with(3).union(Labels::none().with(31)),
-        labels
-    );
-    assert_eq!(rt; size_of::<Cell>(), 196);
+    let last = Labels::none().with(31);
+    same(&rt, labels.shares(last), true);
+    same(&rt, labels.shares(Labels::none().with(4)), false);
+    same(&rt, Labels::none().with(3).union(last), labels);
+    same(&rt, size_of::<Cell>(), 196);
 }

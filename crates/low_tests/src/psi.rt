@@ -5,9 +5,12 @@ ghost use Rattle.ts_psi.specs.CatTables.{cat_held};
 ghost use Rattle.ts_psi.specs.PatTables.{pat_held};
 ghost use Rattle.ts_psi.specs.PsiTables.{pmt_held};
 
+use crate::compared::{are_so_many, same, same_bytes};
+use crate::tables_of_bytes::{is_one_section, is_one_section_of, long_descriptors, run_of};
 use std::alloc::Global;
+use std::process::Abort;
 use std::test::Fail;
-use ts_bits::{Descriptor, DescriptorList};
+use ts_bits::DescriptorList;
 use ts_psi::{Cat, Component, ComponentList, Pat, PatService, PatServiceList, Pmt};
 use ts_section::{Section, TableRun};
 use ts_table_rows::TableRefusal;
@@ -16,13 +19,6 @@ use ts_table_rows::TableRefusal;
 const PAT: [u8; 16] = [
     0x00, 0xB0, 0x0D, 0x00, 0x01, 0xC1, 0x00, 0x00, 0x00, 0x01, 0xF0, 0x00, 0x2A, 0xB1, 0x04, 0xB2,
 ];
-
-/// The run of one section.
-fn run_of(alloc: Global, bytes: &[u8]) -> Result<TableRun, Fail> {
-    let mut sections = Vec::new(alloc);
-    sections.push(Section::parse(alloc, bytes)?)?;
-    Ok(TableRun::of(sections)?)
-}
 
 /// A PAT through its sections.
 fn pat_again(alloc: Global, pat: &Pat) -> Result<Pat, Fail>
@@ -48,101 +44,131 @@ fn pmt_again(alloc: Global, pmt: &Pmt) -> Result<Pmt, Fail>
     Ok(Pmt::read(alloc, &run)?)
 }
 
-#[test]
-fn a_pat(rt: HostRuntime) -> Result<(), Fail> {
-    let alloc = rt.alloc();
-    let pat = Pat::read(alloc, &run_of(alloc, &PAT)?)?.copy()?;
-    assert_eq!(rt; (pat.version, pat.current, pat.stream_id), (0, true, 1));
-    assert_eq!(rt; pat.network_pid, None);
+/// The PAT of these bytes, copied.
+fn copied_pat(alloc: Global) -> Result<Pat, Fail> {
+    let run = run_of(alloc, &PAT)?;
+    Ok(Pat::read(alloc, &run)?.copy()?)
+}
+
+/// Looks at the fields of that PAT.
+fn is_the_pat(rt: &impl Abort, pat: &Pat) {
+    same(rt, (pat.version, pat.current, pat.stream_id), (0, true, 1));
+    same(rt, pat.network_pid, None);
     let services = pat.services.as_slice();
-    assert_eq!(rt; services.len(), 1);
-    assert_eq!(rt; (services[0].service_id, services[0].pid), (1, 4096));
-    let sections = pat.sections(alloc)?;
-    assert_eq!(rt; sections.len(), 1);
-    assert_eq!(rt; sections[0].bytes(), PAT.as_slice());
-    Ok(())
+    are_so_many(rt, services.len(), 1);
+    same(rt, (services[0].service_id, services[0].pid), (1, 4096));
 }
 
 #[test]
-fn a_network_entry(rt: HostRuntime) -> Result<(), Fail> {
-    let alloc = rt.alloc();
-    let mut services = Vec::new(alloc);
-    services.push(PatService {
+fn a_pat(rt: HostRuntime) -> Result<(), Fail> {
+    let pat = copied_pat(rt.alloc())?;
+    is_the_pat(&rt, &pat);
+    let sections = pat.sections(rt.alloc())?;
+    is_one_section(&rt, &sections, &PAT);
+    Ok(())
+}
+
+/// A PAT with a network PID and a service.
+fn with_a_network(alloc: Global) -> Result<Pat, Fail> {
+    let service = PatService {
         service_id: 7,
         pid: 256,
-    })?;
-    let pat = Pat {
+    };
+    let services = vec![in alloc; service]?;
+    Ok(Pat {
         version: 3,
         current: true,
         stream_id: 2,
         network_pid: Some(16),
         services: PatServiceList::of(services),
-    };
-    let sections = pat.sections(alloc)?;
-    assert_eq!(rt; sections.len(), 1);
-    assert_eq!(rt;
-        sections[0].body(),
-        [0, 0, 0xE0, 0x10, 0, 7, 0xE1, 0].as_slice()
-    );
-    let again = pat_again(alloc, &pat)?;
-    assert_eq!(rt; again.network_pid, Some(16));
-    assert_eq!(rt; again.services.as_slice().len(), 1);
+    })
+}
+
+/// Looks whether there is one section, with this body.
+fn is_one_body(rt: &impl Abort, sections: &[Section], body: &[u8]) {
+    are_so_many(rt, sections.len(), 1);
+    same_bytes(rt, sections[0].body(), body);
+}
+
+#[test]
+fn a_network_entry(rt: HostRuntime) -> Result<(), Fail> {
+    let pat = with_a_network(rt.alloc())?;
+    let sections = pat.sections(rt.alloc())?;
+    is_one_body(&rt, &sections, &[0, 0, 0xE0, 0x10, 0, 7, 0xE1, 0]);
+    let again = pat_again(rt.alloc(), &pat)?;
+    same(&rt, again.network_pid, Some(16));
+    same(&rt, again.services.as_slice().len(), 1);
     Ok(())
+}
+
+/// A CAT without descriptors.
+fn empty_cat(alloc: Global) -> Cat {
+    Cat {
+        version: 0,
+        current: true,
+        descriptors: DescriptorList::of(Vec::new(alloc)),
+    }
+}
+
+/// The sections of a copy of it.
+fn empty_sections(alloc: Global) -> Result<Vec<Section>, Fail> {
+    Ok(empty_cat(alloc).copy()?.sections(alloc)?)
 }
 
 #[test]
 fn an_empty_cat(rt: HostRuntime) -> Result<(), Fail> {
-    let alloc = rt.alloc();
-    let cat = Cat {
-        version: 0,
-        current: true,
-        descriptors: DescriptorList::of(Vec::new(alloc)),
-    };
-    let sections = cat.copy()?.sections(alloc)?;
-    assert_eq!(rt; sections.len(), 1);
     let bytes = [
         0x01, 0xB0, 0x09, 0xFF, 0xFF, 0xC1, 0x00, 0x00, 0xD6, 0x6D, 0xA2, 0x42,
     ];
-    assert_eq!(rt; sections[0].bytes(), bytes.as_slice());
-    let again = cat_again(alloc, &cat)?;
-    assert_eq!(rt; again.descriptors.as_slice().len(), 0);
+    is_one_section(&rt, &empty_sections(rt.alloc())?, &bytes);
+    let again = cat_again(rt.alloc(), &empty_cat(rt.alloc()))?;
+    same(&rt, again.descriptors.as_slice().len(), 0);
     Ok(())
+}
+
+/// One component without descriptors.
+fn one_component(alloc: Global) -> Result<ComponentList, Fail> {
+    let component = Component {
+        stream_type: 2,
+        pid: 256,
+        descriptors: DescriptorList::of(Vec::new(alloc)),
+    };
+    Ok(ComponentList::of(vec![in alloc; component]?))
 }
 
 /// A PMT with four descriptors, the last of `last` bytes.
 fn pmt_with(alloc: Global, last: usize) -> Result<Pmt, Fail> {
-    let body = vec![in alloc; 7u8; 255]?;
-    let mut descriptors = Vec::new(alloc);
-    for _ in 0..3 {
-        descriptors.push(Descriptor::new(alloc, 0x80, &body)?)?;
-    }
-    descriptors.push(Descriptor::new(alloc, 0x80, &body[..last.min(body.len())])?)?;
-    let mut components = Vec::new(alloc);
-    components.push(Component {
-        stream_type: 2,
-        pid: 256,
-        descriptors: DescriptorList::of(Vec::new(alloc)),
-    })?;
+    let descriptors = long_descriptors(alloc, 3, last)?;
+    let components = one_component(alloc)?;
     Ok(Pmt {
         version: 0,
         current: true,
         service_id: 1,
         pcr_pid: 256,
-        descriptors: DescriptorList::of(descriptors),
-        components: ComponentList::of(components),
+        descriptors,
+        components,
     })
+}
+
+/// The sections of a copy of the longest one.
+fn longest_sections(alloc: Global) -> Result<Vec<Section>, Fail> {
+    let pmt = pmt_with(alloc, 230)?;
+    Ok(pmt.copy()?.sections(alloc)?)
+}
+
+/// The longest one through its section.
+fn longest_again(alloc: Global) -> Result<Pmt, Fail> {
+    let pmt = pmt_with(alloc, 230)?;
+    pmt_again(alloc, &pmt)
 }
 
 #[test]
 fn the_longest_pmt(rt: HostRuntime) -> Result<(), Fail> {
-    let alloc = rt.alloc();
-    let sections = pmt_with(alloc, 230)?.copy()?.sections(alloc)?;
-    assert_eq!(rt; sections.len(), 1);
-    assert_eq!(rt; sections[0].bytes().len(), 1024);
-    let again = pmt_again(alloc, &pmt_with(alloc, 230)?)?;
-    assert_eq!(rt; again.descriptors.as_slice().len(), 4);
-    assert_eq!(rt; again.components.as_slice().len(), 1);
-    let past = pmt_with(alloc, 231)?.sections(alloc).err();
-    assert_eq!(rt; past, Some(TableRefusal::TooLarge { bytes: 1022 }));
+    let past = pmt_with(rt.alloc(), 231)?.sections(rt.alloc()).err();
+    same(&rt, past, Some(TableRefusal::TooLarge { bytes: 1022 }));
+    is_one_section_of(&rt, &longest_sections(rt.alloc())?, 1024);
+    let again = longest_again(rt.alloc())?;
+    same(&rt, again.descriptors.as_slice().len(), 4);
+    same(&rt, again.components.as_slice().len(), 1);
     Ok(())
 }

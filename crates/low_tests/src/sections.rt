@@ -1,6 +1,8 @@
 //! Worked rows, sections that other tools wrote, and each call that takes memory once with enough of it.
 
+use crate::compared::{are_so_many, same, same_bytes};
 use std::alloc::{AllocError, Global};
+use std::process::Abort;
 use std::test::Fail;
 use ts_section::{LongHead, Section, SectionFault, SectionRule, TableRun, crc_of};
 
@@ -25,10 +27,10 @@ fn fault(alloc: Global, bytes: &[u8]) -> Option<SectionFault> {
 
 #[test]
 fn published_crcs(rt: HostRuntime) {
-    assert_eq!(rt; crc_of(b"123456789"), 0x0376_E6E7);
-    assert_eq!(rt; crc_of(&PAT), 0);
-    assert_eq!(rt; crc_of(&CAT), 0);
-    assert_eq!(rt; crc_of(&[]), 0xFFFF_FFFF);
+    same(&rt, crc_of(b"123456789"), 0x0376_E6E7);
+    same(&rt, crc_of(&PAT), 0);
+    same(&rt, crc_of(&CAT), 0);
+    same(&rt, crc_of(&[]), 0xFFFF_FFFF);
 }
 
 #[test]
@@ -79,56 +81,64 @@ fn a_wrong_crc(rt: HostRuntime) {
         wanted: 0xD66D_A242,
         found: 0xD66D_A243,
     };
-    assert_eq!(rt; fault(rt.alloc(), &bytes), Some(want));
+    same(&rt, fault(rt.alloc(), &bytes), Some(want));
+}
+
+/// The head of that PAT.
+const PAT_HEAD: LongHead = LongHead {
+    table_id: 0,
+    private: false,
+    extension: 1105,
+    version: 0,
+    current: true,
+    number: 0,
+    last: 0,
+};
+
+/// Looks whether a section is that PAT.
+fn is_the_pat(rt: &impl Abort, section: &Section) {
+    same_bytes(rt, section.bytes(), &PAT);
+    same(rt, (section.table_id(), section.is_long()), (0, true));
+    same(rt, section.head(), Some(PAT_HEAD));
+    same_bytes(rt, section.body(), &PAT[8..16]);
 }
 
 #[test]
 fn a_pat(rt: HostRuntime) -> Result<(), Fail> {
     let section = Section::parse(rt.alloc(), &PAT)?.copy()?;
-    let head = LongHead {
-        table_id: 0,
-        private: false,
-        extension: 1105,
-        version: 0,
-        current: true,
-        number: 0,
-        last: 0,
-    };
-    assert_eq!(rt; section.bytes(), PAT.as_slice());
-    assert_eq!(rt; section.table_id(), 0);
-    assert!(rt; section.is_long());
-    assert_eq!(rt; section.head(), Some(head));
-    assert_eq!(rt; section.body(), &PAT[8..16]);
-    let written = Section::long(rt.alloc(), head, section.body())?;
-    assert_eq!(rt; written.bytes(), PAT.as_slice());
+    is_the_pat(&rt, &section);
+    let written = Section::long(rt.alloc(), PAT_HEAD, section.body())?;
+    same_bytes(&rt, written.bytes(), &PAT);
     Ok(())
+}
+
+/// The TDT, which stands in front of the CAT.
+fn in_front(alloc: Global) -> Result<Section, Fail> {
+    let mut bytes = Vec::from_slice(alloc, &TDT)?;
+    bytes.extend_from_slice(&CAT)?;
+    Ok(Section::parse_front(alloc, &bytes)?)
 }
 
 #[test]
 fn a_section_in_front(rt: HostRuntime) -> Result<(), Fail> {
-    let mut bytes = Vec::from_slice(rt.alloc(), &TDT)?;
-    bytes.extend_from_slice(&CAT)?;
-    let section = Section::parse_front(rt.alloc(), &bytes)?;
-    assert_eq!(rt; section.bytes(), TDT.as_slice());
     let cut = Section::parse_front(rt.alloc(), &TDT[..5]).err();
-    assert_eq!(rt;
-        cut,
-        Some(SectionFault::Short {
-            wanted: 8,
-            found: 5,
-        })
-    );
+    let short = SectionFault::Short {
+        wanted: 8,
+        found: 5,
+    };
+    same(&rt, cut, Some(short));
+    let section = in_front(rt.alloc())?;
+    same_bytes(&rt, section.bytes(), &TDT);
     Ok(())
 }
 
 #[test]
 fn a_tdt(rt: HostRuntime) -> Result<(), Fail> {
     let section = Section::parse(rt.alloc(), &TDT)?;
-    assert!(rt; !section.is_long());
-    assert_eq!(rt; section.head(), None);
-    assert_eq!(rt; section.body(), &TDT[3..]);
+    same(&rt, (section.is_long(), section.head()), (false, None));
+    same_bytes(&rt, section.body(), &TDT[3..]);
     let written = Section::short(rt.alloc(), 0x70, true, section.body())?;
-    assert_eq!(rt; written.bytes(), TDT.as_slice());
+    same_bytes(&rt, written.bytes(), &TDT);
     Ok(())
 }
 
@@ -174,12 +184,22 @@ fn runs(rt: HostRuntime) -> Result<(), Fail> {
     Ok(())
 }
 
+/// A copy of the run of the PAT.
+fn copied_run(alloc: Global) -> Result<TableRun, Fail> {
+    let section = Section::parse(alloc, &PAT)?;
+    let sections = vec![in alloc; section]?;
+    Ok(TableRun::of(sections)?.copy()?)
+}
+
+/// Looks whether the PAT is the only section.
+fn has_the_pat(rt: &impl Abort, sections: &[Section]) {
+    are_so_many(rt, sections.len(), 1);
+    same_bytes(rt, sections[0].bytes(), &PAT);
+}
+
 #[test]
 fn a_run_keeps_its_sections(rt: HostRuntime) -> Result<(), Fail> {
-    let mut sections = Vec::new(rt.alloc());
-    sections.push(Section::parse(rt.alloc(), &PAT)?)?;
-    let run = TableRun::of(sections)?.copy()?;
-    assert_eq!(rt; run.sections().len(), 1);
-    assert_eq!(rt; run.sections()[0].bytes(), PAT.as_slice());
+    let run = copied_run(rt.alloc())?;
+    has_the_pat(&rt, run.sections());
     Ok(())
 }

@@ -1,9 +1,12 @@
 //! Worked rows, and each call that takes memory once with enough of it.
 
+use crate::compared::{are_so_many, same};
+use crate::tables_of_bytes::{is_one_section, run_of};
 use std::alloc::Global;
+use std::process::Abort;
 use std::test::Fail;
 use ts_bits::DescriptorList;
-use ts_section::{Section, TableRun};
+use ts_section::TableRun;
 use ts_si::{Bat, Nit, NitStream, NitStreamList, Sdt};
 
 /// A NIT of network 0x3001, another than the actual one, with a name and two transport streams, the second of
@@ -28,69 +31,92 @@ const BAT: [u8; 22] = [
     0xF0, 0x00, 0x12, 0x01, 0x74, 0x32,
 ];
 
-/// The run of one section.
-fn run_of(alloc: Global, bytes: &[u8]) -> Result<TableRun, Fail> {
-    let mut sections = Vec::new(alloc);
-    sections.push(Section::parse(alloc, bytes)?)?;
-    Ok(TableRun::of(sections)?)
+/// The NIT of these bytes, copied.
+fn copied_nit(alloc: Global) -> Result<Nit, Fail> {
+    let run = run_of(alloc, &NIT)?;
+    Ok(Nit::read(alloc, &run)?.copy()?)
+}
+
+/// Looks at the fields of that NIT.
+fn is_the_nit(rt: &impl Abort, nit: &Nit) {
+    same(rt, (nit.actual, nit.version, nit.current), (false, 5, true));
+    same(rt, nit.network_id, 0x3001);
+    same(rt, nit.descriptors.as_slice().len(), 1);
+    let streams = nit.streams.as_slice();
+    are_so_many(rt, streams.len(), 2);
+    same(
+        rt,
+        (streams[1].stream_id, streams[1].original_id),
+        (2, 0x20FB),
+    );
+    same(rt, streams[1].descriptors.as_slice().len(), 1);
 }
 
 #[test]
 fn a_nit(rt: HostRuntime) -> Result<(), Fail> {
-    let alloc = rt.alloc();
-    let nit = Nit::read(alloc, &run_of(alloc, &NIT)?)?.copy()?;
-    assert_eq!(rt; (nit.actual, nit.version, nit.current), (false, 5, true));
-    assert_eq!(rt; nit.network_id, 0x3001);
-    assert_eq!(rt; nit.descriptors.as_slice().len(), 1);
-    let streams = nit.streams.as_slice();
-    assert_eq!(rt; streams.len(), 2);
-    assert_eq!(rt; (streams[1].stream_id, streams[1].original_id), (2, 0x20FB));
-    assert_eq!(rt; streams[1].descriptors.as_slice().len(), 1);
-    let sections = nit.sections(alloc)?;
-    assert_eq!(rt; sections.len(), 1);
-    assert_eq!(rt; sections[0].bytes(), NIT.as_slice());
+    let nit = copied_nit(rt.alloc())?;
+    is_the_nit(&rt, &nit);
+    let sections = nit.sections(rt.alloc())?;
+    is_one_section(&rt, &sections, &NIT);
     Ok(())
+}
+
+/// The SDT of these bytes, copied.
+fn copied_sdt(alloc: Global) -> Result<Sdt, Fail> {
+    let run = run_of(alloc, &SDT)?;
+    Ok(Sdt::read(alloc, &run)?.copy()?)
+}
+
+/// Looks at the fields of that SDT.
+fn is_the_sdt(rt: &impl Abort, sdt: &Sdt) {
+    let ids = (sdt.actual, sdt.stream_id, sdt.original_id);
+    same(rt, ids, (true, 0x0451, 0x20FA));
+    let services = sdt.services.as_slice();
+    are_so_many(rt, services.len(), 1);
+    let service = &services[0];
+    same(rt, (service.service_id, service.running), (0x0301, 4));
+    let flags = [service.schedule, service.present, service.free_ca];
+    same(rt, flags, [false; 3]);
 }
 
 #[test]
 fn an_sdt(rt: HostRuntime) -> Result<(), Fail> {
-    let alloc = rt.alloc();
-    let sdt = Sdt::read(alloc, &run_of(alloc, &SDT)?)?.copy()?;
-    assert_eq!(rt;
-        (sdt.actual, sdt.stream_id, sdt.original_id),
-        (true, 0x0451, 0x20FA)
-    );
-    let services = sdt.services.as_slice();
-    assert_eq!(rt; services.len(), 1);
-    assert_eq!(rt; (services[0].service_id, services[0].running), (0x0301, 4));
-    assert_eq!(rt; (services[0].schedule, services[0].present), (false, false));
-    assert_eq!(rt; services[0].free_ca, false);
-    let sections = sdt.sections(alloc)?;
-    assert_eq!(rt; sections.len(), 1);
-    assert_eq!(rt; sections[0].bytes(), SDT.as_slice());
+    let sdt = copied_sdt(rt.alloc())?;
+    is_the_sdt(&rt, &sdt);
+    let sections = sdt.sections(rt.alloc())?;
+    is_one_section(&rt, &sections, &SDT);
     Ok(())
 }
 
-#[test]
-fn a_bat(rt: HostRuntime) -> Result<(), Fail> {
-    let alloc = rt.alloc();
-    let mut streams = Vec::new(alloc);
-    streams.push(NitStream {
+/// One stream without descriptors.
+fn one_stream(alloc: Global) -> Result<NitStreamList, Fail> {
+    let stream = NitStream {
         stream_id: 1,
         original_id: 0x20FA,
         descriptors: DescriptorList::of(Vec::new(alloc)),
-    })?;
+    };
+    Ok(NitStreamList::of(vec![in alloc; stream]?))
+}
+
+/// A copy of a BAT of that stream.
+fn copied_bat(alloc: Global) -> Result<Bat, Fail> {
+    let streams = one_stream(alloc)?;
     let bat = Bat {
         version: 0,
         current: true,
         bouquet_id: 0x1234,
         descriptors: DescriptorList::of(Vec::new(alloc)),
-        streams: NitStreamList::of(streams),
+        streams,
     };
-    let sections = bat.copy()?.sections(alloc)?;
-    assert_eq!(rt; sections.len(), 1);
-    assert_eq!(rt; sections[0].bytes(), BAT.as_slice());
-    let again = Bat::read(alloc, &TableRun::of(sections)?)?;
-    assert_eq!(rt; again.streams.as_slice().len(), 1);
+    Ok(bat.copy()?)
+}
+
+#[test]
+fn a_bat(rt: HostRuntime) -> Result<(), Fail> {
+    let sections = copied_bat(rt.alloc())?.sections(rt.alloc())?;
+    is_one_section(&rt, &sections, &BAT);
+    let run = TableRun::of(sections)?;
+    let again = Bat::read(rt.alloc(), &run)?;
+    same(&rt, again.streams.as_slice().len(), 1);
     Ok(())
 }

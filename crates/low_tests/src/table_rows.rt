@@ -3,7 +3,9 @@
 ghost use Rattle.std.specs.Prelude.{IsTrue};
 ghost use Rattle.ts_table_rows.specs.TablePages.{table_page, page_sound};
 
+use crate::compared::{are_so_many, same, same_bytes};
 use std::alloc::Global;
+use std::process::Abort;
 use std::test::Fail;
 use ts_fields::{Field, Kind};
 use ts_section::{LongHead, Section, TableRun};
@@ -134,71 +136,102 @@ fn again(
     Ok(write_table(alloc, layout, &table)?)
 }
 
+/// A table, its sections' bodies, and where they break which rule.
+type BrokenRow = (u8, &'static [&'static [u8]], (usize, usize, TableRule));
+
+/// Looks at the faults of entries.
+fn entries_break(rt: &(impl Abort + AllocGlobal)) -> Result<(), Fail> {
+    let rows: [BrokenRow; 3] = [
+        (1, &[&[]], (0, 0, TableRule::WrongTable)),
+        (0, &[&[0, 1, 0, 2, 0]], (0, 12, TableRule::Loop)),
+        (
+            0,
+            &[&[0, 0, 0, 2], &[0, 0, 0, 3]],
+            (1, 8, TableRule::Network),
+        ),
+    ];
+    for (table_id, bodies, at) in rows {
+        let found = fault(rt.alloc(), &ENTRIES, table_id, bodies)?;
+        same(rt, found, Some(broken(at)));
+    }
+    Ok(())
+}
+
+/// Looks at the faults of streams.
+fn streams_break(rt: &(impl Abort + AllocGlobal)) -> Result<(), Fail> {
+    let rows: [BrokenRow; 3] = [
+        (0x40, &[&[0xF0]], (0, 8, TableRule::Short)),
+        (0x40, &[&[0xF0, 1, 0x52]], (0, 10, TableRule::Loop)),
+        (
+            0x40,
+            &[&[0xF0, 0, 0xF0, 0, 0xAA]],
+            (0, 12, TableRule::Trailing),
+        ),
+    ];
+    for (table_id, bodies, at) in rows {
+        let found = fault(rt.alloc(), &STREAMS, table_id, bodies)?;
+        same(rt, found, Some(broken(at)));
+    }
+    Ok(())
+}
+
+/// Looks at the faults of services.
+fn services_break(rt: &(impl Abort + AllocGlobal)) -> Result<(), Fail> {
+    let rows: [BrokenRow; 2] = [
+        (0x42, &[&[0, 7, 0xFF], &[0, 8]], (1, 8, TableRule::Mixed)),
+        (0x42, &[&[0, 7]], (0, 10, TableRule::Short)),
+    ];
+    for (table_id, bodies, at) in rows {
+        let found = fault(rt.alloc(), &SERVICES, table_id, bodies)?;
+        same(rt, found, Some(broken(at)));
+    }
+    Ok(())
+}
+
+/// A rule that is broken in a section, at an offset.
+fn broken(at: (usize, usize, TableRule)) -> TableFault {
+    let (section, offset, rule) = at;
+    TableFault::Broken {
+        section,
+        offset,
+        rule,
+    }
+}
+
 #[test]
 fn broken_rules(rt: HostRuntime) -> Result<(), Fail> {
-    let at = |section, offset, rule| {
-        Some(TableFault::Broken {
-            section,
-            offset,
-            rule,
-        })
-    };
-    let alloc = rt.alloc();
-    assert_eq!(rt;
-        fault(alloc, &ENTRIES, 1, &[&[]])?,
-        at(0, 0, TableRule::WrongTable)
-    );
-    assert_eq!(rt;
-        fault(alloc, &ENTRIES, 0, &[&[0, 1, 0, 2, 0]])?,
-        at(0, 12, TableRule::Loop)
-    );
-    assert_eq!(rt;
-        fault(alloc, &ENTRIES, 0, &[&[0, 0, 0, 2], &[0, 0, 0, 3]])?,
-        at(1, 8, TableRule::Network)
-    );
-    assert_eq!(rt;
-        fault(alloc, &STREAMS, 0x40, &[&[0xF0]])?,
-        at(0, 8, TableRule::Short)
-    );
-    assert_eq!(rt;
-        fault(alloc, &STREAMS, 0x40, &[&[0xF0, 1, 0x52]])?,
-        at(0, 10, TableRule::Loop)
-    );
-    assert_eq!(rt;
-        fault(alloc, &STREAMS, 0x40, &[&[0xF0, 0, 0xF0, 0, 0xAA]])?,
-        at(0, 12, TableRule::Trailing)
-    );
-    assert_eq!(rt;
-        fault(alloc, &SERVICES, 0x42, &[&[0, 7, 0xFF], &[0, 8]])?,
-        at(1, 8, TableRule::Mixed)
-    );
-    assert_eq!(rt;
-        fault(alloc, &SERVICES, 0x42, &[&[0, 7]])?,
-        at(0, 10, TableRule::Short)
-    );
+    entries_break(&rt)?;
+    streams_break(&rt)?;
+    services_break(&rt)
+}
+
+/// Looks at the bodies of sections.
+fn have_bodies(rt: &impl Abort, sections: &[Section], bodies: &[&[u8]]) {
+    are_so_many(rt, sections.len(), bodies.len());
+    for (section, body) in sections.iter().zip(bodies) {
+        same_bytes(rt, section.body(), body);
+    }
+}
+
+/// Looks what is written of entries.
+fn entries_fill(rt: &(impl Abort + AllocGlobal)) -> Result<(), Fail> {
+    let bodies: [&[u8]; 2] = [&[0, 1, 0, 2], &[0, 2, 0, 3, 0, 3, 0, 4, 0, 4, 0, 5]];
+    let entries = again(rt.alloc(), &ENTRIES, 0, &bodies)?;
+    let wanted: [&[u8]; 2] = [
+        &[0, 1, 0xE0, 2, 0, 2, 0xE0, 3, 0, 3, 0xE0, 4],
+        &[0, 4, 0xE0, 5],
+    ];
+    have_bodies(rt, &entries, &wanted);
     Ok(())
 }
 
 #[test]
 fn filled_sections(rt: HostRuntime) -> Result<(), Fail> {
-    let alloc = rt.alloc();
-    let entries = again(
-        alloc,
-        &ENTRIES,
-        0,
-        &[&[0, 1, 0, 2], &[0, 2, 0, 3, 0, 3, 0, 4, 0, 4, 0, 5]],
-    )?;
-    assert_eq!(rt; entries.len(), 2);
-    assert_eq!(rt;
-        entries[0].body(),
-        [0, 1, 0xE0, 2, 0, 2, 0xE0, 3, 0, 3, 0xE0, 4].as_slice()
-    );
-    assert_eq!(rt; entries[1].body(), [0, 4, 0xE0, 5].as_slice());
-    let none = again(alloc, &ENTRIES, 0, &[&[]])?;
-    assert_eq!(rt; none.len(), 1);
+    entries_fill(&rt)?;
+    let none = again(rt.alloc(), &ENTRIES, 0, &[&[]])?;
+    are_so_many(&rt, none.len(), 1);
     let body = [0xF0, 3, 0x52, 1, 9, 0xF0, 8, 0, 1, 0, 2, 0xF0, 2, 0x0A, 0];
-    let streams = again(alloc, &STREAMS, 0x41, &[&body])?;
-    assert_eq!(rt; streams.len(), 1);
-    assert_eq!(rt; streams[0].body(), body.as_slice());
+    let streams = again(rt.alloc(), &STREAMS, 0x41, &[&body])?;
+    have_bodies(&rt, &streams, &[&body]);
     Ok(())
 }
