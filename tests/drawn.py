@@ -33,6 +33,7 @@ PLUGINS = {
     "compact": ["compact --window {few}", "compact --window {many} --stuffing", "compact --window {few} --only-label 3"],
     "rmorphan": ["rmorphan --window {few}", "rmorphan --window {many} --stuffing", "rmorphan --window {few} --only-label 3"],
     "analyze": ["analyze", "analyze --only-label 3"],
+    "info": ["info", "info --only-label 3"],
     "tables": ["tables", "tables --pid {source} --tid 0-2"],
 }
 

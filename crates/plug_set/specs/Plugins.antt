@@ -47,8 +47,11 @@ use Rattle.plug_service.specs.ServiceRule.{svremove_rule, zap_rule}
 use Rattle.plug_service.specs.ServiceSettings.{IsLawfulService}
 use Rattle.plug_service.specs.ServiceWords.{service_options}
 use Rattle.plug_analyze.specs.AnalyzeRule.{analyze_rule}
+use Rattle.plug_info.specs.InfoRule.{info_rule}
 use Rattle.plug_analyze.specs.AnalyzeSettings.{IsLawfulAnalyze}
+use Rattle.plug_info.specs.InfoSettings.{IsLawfulInfo}
 use Rattle.plug_analyze.specs.AnalyzeWords.{analyze}
+use Rattle.plug_info.specs.InfoWords.{info}
 use Rattle.plug_tables.specs.TablesRule.{tables_rule}
 use Rattle.plug_tables.specs.TablesSettings.{IsLawfulTables}
 use Rattle.plug_tables.specs.TablesWords.{tables}
@@ -60,14 +63,14 @@ use Rattle.plug_pcr.specs.PcrverifyRule.{pcrverify_rule}
 use Rattle.plug_pcr.specs.PcrverifySettings.{IsLawfulPcrverify}
 use Rattle.plug_pcr.specs.PcrverifyWords.{pcrverify}
 use Rattle.plug_set.specs.declared.plugin_conf.PluginConf.{PluginConf}
-use Rattle.plug_set.specs.declared.plugin_conf.PluginConf.TheVariants.{Filter, Skip, Slice, Pattern, Until, Count, Continuity, Remap, Inject, Pat, Cat, Pmt, Sdt, Nit, Zap, Svremove, Analyze, Tables, Compact, Rmorphan, Pcrverify}
+use Rattle.plug_set.specs.declared.plugin_conf.PluginConf.TheVariants.{Filter, Skip, Slice, Pattern, Until, Count, Continuity, Remap, Inject, Pat, Cat, Pmt, Sdt, Nit, Zap, Svremove, Analyze, Info, Tables, Compact, Rmorphan, Pcrverify}
 use Rattle.plug_set.specs.declared.plugin_conf.PluginKind.{PluginKind}
 use Rattle.plug_set.specs.declared.plugin_conf.PluginKind.TheVariants as kind
 
 -- the plugins
 abbrev pub kinds : List PluginKind
 kinds = kind.Filter ∷ kind.Skip ∷ kind.Slice ∷ kind.Pattern ∷ kind.Until ∷ kind.Count ∷ kind.Continuity ∷ kind.Remap
-    ∷ kind.Inject ∷ kind.Pat ∷ kind.Cat ∷ kind.Pmt ∷ kind.Sdt ∷ kind.Nit ∷ kind.Zap ∷ kind.Svremove ∷ kind.Analyze ∷ kind.Tables
+    ∷ kind.Inject ∷ kind.Pat ∷ kind.Cat ∷ kind.Pmt ∷ kind.Sdt ∷ kind.Nit ∷ kind.Zap ∷ kind.Svremove ∷ kind.Analyze ∷ kind.Info ∷ kind.Tables
     ∷ kind.Compact ∷ kind.Rmorphan ∷ kind.Pcrverify ∷ []
 
 -- their names, as the command line and the reports have them
@@ -89,6 +92,7 @@ name_of_kind kind.Nit = codes "nit"
 name_of_kind kind.Zap = codes "zap"
 name_of_kind kind.Svremove = codes "svremove"
 name_of_kind kind.Analyze = codes "analyze"
+name_of_kind kind.Info = codes "info"
 name_of_kind kind.Tables = codes "tables"
 name_of_kind kind.Compact = codes "compact"
 name_of_kind kind.Rmorphan = codes "rmorphan"
@@ -117,6 +121,7 @@ options_of_plugin kind.Nit = made_into Nit nit
 options_of_plugin kind.Zap = made_into Zap service_options
 options_of_plugin kind.Svremove = made_into Svremove service_options
 options_of_plugin kind.Analyze = made_into Analyze analyze
+options_of_plugin kind.Info = made_into Info info
 options_of_plugin kind.Tables = made_into Tables tables
 options_of_plugin kind.Compact = made_into Compact window
 options_of_plugin kind.Rmorphan = made_into Rmorphan window
@@ -141,6 +146,7 @@ kind_of (Nit conf) = kind.Nit
 kind_of (Zap conf) = kind.Zap
 kind_of (Svremove conf) = kind.Svremove
 kind_of (Analyze conf) = kind.Analyze
+kind_of (Info conf) = kind.Info
 kind_of (Tables conf) = kind.Tables
 kind_of (Compact conf) = kind.Compact
 kind_of (Rmorphan conf) = kind.Rmorphan
@@ -170,6 +176,7 @@ IsLawful (Nit conf) = IsLawfulNit conf
 IsLawful (Zap conf) = IsLawfulService conf
 IsLawful (Svremove conf) = IsLawfulService conf
 IsLawful (Analyze conf) = IsLawfulAnalyze conf
+IsLawful (Info conf) = IsLawfulInfo conf
 IsLawful (Tables conf) = IsLawfulTables conf
 IsLawful (Compact conf) = IsLawfulWindow conf
 IsLawful (Rmorphan conf) = IsLawfulWindow conf
@@ -199,6 +206,7 @@ rule_of (Nit conf) sections = edit_rule 16 (change_nit conf)
 rule_of (Zap conf) sections = zap_rule conf
 rule_of (Svremove conf) sections = svremove_rule conf
 rule_of (Analyze conf) sections = analyze_rule
+rule_of (Info conf) sections = info_rule
 rule_of (Tables conf) sections = tables_rule conf
 rule_of (Compact conf) sections = compact_rule conf
 rule_of (Rmorphan conf) sections = rmorphan_rule conf
@@ -220,6 +228,7 @@ steady_of (Nit conf) buffer = None
 steady_of (Zap conf) buffer = None
 steady_of (Svremove conf) buffer = None
 steady_of (Analyze conf) buffer = None
+steady_of (Info conf) buffer = None
 steady_of (Tables conf) buffer = None
 steady_of (Rmorphan conf) buffer = None
 steady_of (Pcrverify conf) buffer = None

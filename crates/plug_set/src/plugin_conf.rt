@@ -24,6 +24,7 @@ use plug_edit::{
     sdt_settings,
 };
 use plug_end::{UntilConf, until_command, until_settings};
+use plug_info::{InfoConf, info_command, info_settings};
 use plug_inject::{InjectConf, inject_command, inject_settings};
 use plug_move::{RemapConf, remap_command, remap_settings};
 use plug_pass::{
@@ -61,6 +62,7 @@ pub enum PluginConf {
     Zap(ServiceConf),
     Svremove(ServiceConf),
     Analyze(AnalyzeConf),
+    Info(InfoConf),
     Tables(TablesConf),
     Compact(WindowConf),
     Rmorphan(WindowConf),
@@ -87,6 +89,7 @@ pub enum PluginKind {
     Zap,
     Svremove,
     Analyze,
+    Info,
     Tables,
     Compact,
     Rmorphan,
@@ -116,6 +119,7 @@ impl PluginKind {
             "zap" => Some(PluginKind::Zap),
             "svremove" => Some(PluginKind::Svremove),
             "analyze" => Some(PluginKind::Analyze),
+            "info" => Some(PluginKind::Info),
             "tables" => Some(PluginKind::Tables),
             "compact" => Some(PluginKind::Compact),
             "rmorphan" => Some(PluginKind::Rmorphan),
@@ -146,6 +150,7 @@ impl PluginKind {
             PluginKind::Zap => "zap",
             PluginKind::Svremove => "svremove",
             PluginKind::Analyze => "analyze",
+            PluginKind::Info => "info",
             PluginKind::Tables => "tables",
             PluginKind::Compact => "compact",
             PluginKind::Rmorphan => "rmorphan",
@@ -175,6 +180,7 @@ impl PluginKind {
             PluginKind::Zap => service_command(alloc),
             PluginKind::Svremove => service_command(alloc),
             PluginKind::Analyze => analyze_command(alloc),
+            PluginKind::Info => info_command(alloc),
             PluginKind::Tables => tables_command(alloc),
             PluginKind::Compact => window_command(alloc),
             PluginKind::Rmorphan => window_command(alloc),
@@ -207,6 +213,7 @@ impl PluginKind {
             PluginKind::Zap => service_settings(found).map(PluginConf::Zap),
             PluginKind::Svremove => service_settings(found).map(PluginConf::Svremove),
             PluginKind::Analyze => analyze_settings(alloc, found).map(PluginConf::Analyze),
+            PluginKind::Info => info_settings(alloc, found).map(PluginConf::Info),
             PluginKind::Tables => tables_settings(alloc, found).map(PluginConf::Tables),
             PluginKind::Compact => window_settings(found).map(PluginConf::Compact),
             PluginKind::Rmorphan => window_settings(found).map(PluginConf::Rmorphan),
@@ -288,6 +295,7 @@ impl PluginConf {
             PluginConf::Zap(_) => PluginKind::Zap,
             PluginConf::Svremove(_) => PluginKind::Svremove,
             PluginConf::Analyze(_) => PluginKind::Analyze,
+            PluginConf::Info(_) => PluginKind::Info,
             PluginConf::Tables(_) => PluginKind::Tables,
             PluginConf::Compact(_) => PluginKind::Compact,
             PluginConf::Rmorphan(_) => PluginKind::Rmorphan,

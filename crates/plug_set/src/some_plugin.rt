@@ -8,6 +8,7 @@ use plug_edit::{
     SdtEdit,
 };
 use plug_end::Until;
+use plug_info::Info;
 use plug_inject::Inject;
 use plug_move::Remap;
 use plug_pass::{Filter, Pattern, Skip, Slice};
@@ -41,6 +42,7 @@ pub(crate) enum SomePlugin {
     Zap(Zap),
     Svremove(Svremove),
     Analyze(Analyze),
+    Info(Info),
     Tables(Tables),
     Compact(Compact),
     Rmorphan(Rmorphan),
@@ -68,6 +70,7 @@ macro_rules! each_plugin {
             SomePlugin::Zap($plugin) => $does,
             SomePlugin::Svremove($plugin) => $does,
             SomePlugin::Analyze($plugin) => $does,
+            SomePlugin::Info($plugin) => $does,
             SomePlugin::Tables($plugin) => $does,
             SomePlugin::Compact($plugin) => $does,
             SomePlugin::Rmorphan($plugin) => $does,
@@ -119,6 +122,7 @@ impl SomePlugin {
             PluginConf::Analyze(conf) => {
                 Ok(SomePlugin::Analyze(Analyze::new(alloc, conf, buffer)?))
             }
+            PluginConf::Info(conf) => Ok(SomePlugin::Info(Info::new(alloc, conf, buffer)?)),
             PluginConf::Tables(conf) => Ok(SomePlugin::Tables(Tables::new(alloc, conf, buffer)?)),
             PluginConf::Compact(conf) => {
                 Ok(SomePlugin::Compact(Compact::new(alloc, conf, buffer)?))
@@ -133,7 +137,7 @@ impl SomePlugin {
 
 impl Plugin for SomePlugin {
     ghost use Rattle.std.specs.Prelude.{refl};
-    ghost use Rattle.plug_set.specs.declared.some_plugin.SomePlugin.TheVariants.{Filter as MadeFilter, Skip as MadeSkip, Slice as MadeSlice, Pattern as MadePattern, Until as MadeUntil, Count as MadeCount, Continuity as MadeContinuity, Remap as MadeRemap, Inject as MadeInject, Pat as MadePat, Cat as MadeCat, Pmt as MadePmt, Sdt as MadeSdt, Nit as MadeNit, Zap as MadeZap, Svremove as MadeSvremove, Analyze as MadeAnalyze, Tables as MadeTables, Compact as MadeCompact, Rmorphan as MadeRmorphan, Pcrverify as MadePcrverify};
+    ghost use Rattle.plug_set.specs.declared.some_plugin.SomePlugin.TheVariants.{Filter as MadeFilter, Skip as MadeSkip, Slice as MadeSlice, Pattern as MadePattern, Until as MadeUntil, Count as MadeCount, Continuity as MadeContinuity, Remap as MadeRemap, Inject as MadeInject, Pat as MadePat, Cat as MadeCat, Pmt as MadePmt, Sdt as MadeSdt, Nit as MadeNit, Zap as MadeZap, Svremove as MadeSvremove, Analyze as MadeAnalyze, Info as MadeInfo, Tables as MadeTables, Compact as MadeCompact, Rmorphan as MadeRmorphan, Pcrverify as MadePcrverify};
 
     ghost rule = { elim [
       | MadeFilter p ↦ ⟦<Filter as Plugin>⟧.rule p
@@ -153,6 +157,7 @@ impl Plugin for SomePlugin {
       | MadeZap p ↦ ⟦<Zap as Plugin>⟧.rule p
       | MadeSvremove p ↦ ⟦<Svremove as Plugin>⟧.rule p
       | MadeAnalyze p ↦ ⟦<Analyze as Plugin>⟧.rule p
+      | MadeInfo p ↦ ⟦<Info as Plugin>⟧.rule p
       | MadeTables p ↦ ⟦<Tables as Plugin>⟧.rule p
       | MadeCompact p ↦ ⟦<Compact as Plugin>⟧.rule p
       | MadeRmorphan p ↦ ⟦<Rmorphan as Plugin>⟧.rule p
@@ -177,6 +182,7 @@ impl Plugin for SomePlugin {
       | MadeZap p ↦ ⟦<Zap as Plugin>⟧.stands_for p
       | MadeSvremove p ↦ ⟦<Svremove as Plugin>⟧.stands_for p
       | MadeAnalyze p ↦ ⟦<Analyze as Plugin>⟧.stands_for p
+      | MadeInfo p ↦ ⟦<Info as Plugin>⟧.stands_for p
       | MadeTables p ↦ ⟦<Tables as Plugin>⟧.stands_for p
       | MadeCompact p ↦ ⟦<Compact as Plugin>⟧.stands_for p
       | MadeRmorphan p ↦ ⟦<Rmorphan as Plugin>⟧.stands_for p
@@ -201,6 +207,7 @@ impl Plugin for SomePlugin {
       | MadeZap p ↦ ⟦<Zap as Plugin>⟧.steady p
       | MadeSvremove p ↦ ⟦<Svremove as Plugin>⟧.steady p
       | MadeAnalyze p ↦ ⟦<Analyze as Plugin>⟧.steady p
+      | MadeInfo p ↦ ⟦<Info as Plugin>⟧.steady p
       | MadeTables p ↦ ⟦<Tables as Plugin>⟧.steady p
       | MadeCompact p ↦ ⟦<Compact as Plugin>⟧.steady p
       | MadeRmorphan p ↦ ⟦<Rmorphan as Plugin>⟧.steady p
@@ -245,6 +252,7 @@ impl Plugin for SomePlugin {
       | MadeZap p ↦ λ history mark stands. refl
       | MadeSvremove p ↦ λ history mark stands. refl
       | MadeAnalyze p ↦ λ history mark stands. refl
+      | MadeInfo p ↦ λ history mark stands. refl
       | MadeTables p ↦ λ history mark stands. refl
       | MadeCompact p ↦ λ history mark stands. refl
       | MadeRmorphan p ↦ λ history mark stands. refl

@@ -53,6 +53,9 @@ returns-in-Svremove c = rw c.in-Svremove.is c.service_command-in-Svremove.ensure
 pub returns-in-Analyze : goal.returns-in-Analyze
 returns-in-Analyze c = rw c.in-Analyze.is c.analyze_command.ensures
 
+pub returns-in-Info : goal.returns-in-Info
+returns-in-Info c = rw c.in-Info.is c.info_command.ensures
+
 pub returns-in-Tables : goal.returns-in-Tables
 returns-in-Tables c = rw c.in-Tables.is c.tables_command.ensures
 

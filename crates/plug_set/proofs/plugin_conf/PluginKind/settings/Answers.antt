@@ -16,6 +16,7 @@ use Rattle.plug_edit.specs.SdtWords.{sdt}
 use Rattle.plug_edit.specs.NitWords.{nit}
 use Rattle.plug_service.specs.ServiceWords.{service_options}
 use Rattle.plug_analyze.specs.AnalyzeWords.{analyze}
+use Rattle.plug_info.specs.InfoWords.{info}
 use Rattle.plug_tables.specs.TablesWords.{tables}
 use Rattle.plug_window.specs.WindowWords.{window}
 use Rattle.plug_pcr.specs.PcrverifyWords.{pcrverify}
@@ -125,6 +126,12 @@ returns-in-Analyze-clause-reads c = rw c.in-Analyze.is (read_into conf.Analyze a
 
 pub returns-in-Analyze-clause-lawful : goal.returns-in-Analyze-clause-lawful
 returns-in-Analyze-clause-lawful c = made conf.Analyze _ IsLawful _ _ c.map-in-Analyze.ensures.cases (λ _ p. p) c.analyze_settings.ensures.lawful
+
+pub returns-in-Info-clause-reads : goal.returns-in-Info-clause-reads
+returns-in-Info-clause-reads c = rw c.in-Info.is (read_into conf.Info info c.args.found.now _ _ c.map-in-Info.ensures.cases c.info_settings.ensures.reads)
+
+pub returns-in-Info-clause-lawful : goal.returns-in-Info-clause-lawful
+returns-in-Info-clause-lawful c = made conf.Info _ IsLawful _ _ c.map-in-Info.ensures.cases (λ _ p. p) c.info_settings.ensures.lawful
 
 pub returns-in-Tables-clause-reads : goal.returns-in-Tables-clause-reads
 returns-in-Tables-clause-reads c = rw c.in-Tables.is (read_into conf.Tables tables c.args.found.now _ _ c.map-in-Tables.ensures.cases c.tables_settings.ensures.reads)

@@ -104,6 +104,12 @@ new-requires-in-Analyze c = rw c.in-Analyze.is at c.requires
 pub returns-in_ok-new-in-Analyze : goal.returns-in_ok-new-in-Analyze
 returns-in_ok-new-in-Analyze c = rw c.in-Analyze.is c.in_ok-new-in-Analyze.ensures
 
+pub new-requires-in-Info : goal.new-requires-in-Info
+new-requires-in-Info c = rw c.in-Info.is at c.requires
+
+pub returns-in_ok-new-in-Info : goal.returns-in_ok-new-in-Info
+returns-in_ok-new-in-Info c = rw c.in-Info.is c.in_ok-new-in-Info.ensures
+
 pub new-requires-in-Tables : goal.new-requires-in-Tables
 new-requires-in-Tables c = rw c.in-Tables.is at c.requires
 

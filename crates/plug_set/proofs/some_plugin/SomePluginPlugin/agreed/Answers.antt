@@ -104,6 +104,12 @@ agreed-requires-in-Analyze c = rw c.in-Analyze.is at c.requires
 pub returns-in-Analyze : goal.returns-in-Analyze
 returns-in-Analyze c = rw c.in-Analyze.is c.agreed-in-Analyze.ensures
 
+pub agreed-requires-in-Info : goal.agreed-requires-in-Info
+agreed-requires-in-Info c = rw c.in-Info.is at c.requires
+
+pub returns-in-Info : goal.returns-in-Info
+returns-in-Info c = rw c.in-Info.is c.agreed-in-Info.ensures
+
 pub agreed-requires-in-Tables : goal.agreed-requires-in-Tables
 agreed-requires-in-Tables c = rw c.in-Tables.is at c.requires
 

@@ -104,6 +104,12 @@ finish-requires-in-Analyze c = rw c.in-Analyze.is at c.requires
 pub returns-in-Analyze : goal.returns-in-Analyze
 returns-in-Analyze c = rw c.in-Analyze.is c.finish-in-Analyze.ensures
 
+pub finish-requires-in-Info : goal.finish-requires-in-Info
+finish-requires-in-Info c = rw c.in-Info.is at c.requires
+
+pub returns-in-Info : goal.returns-in-Info
+returns-in-Info c = rw c.in-Info.is c.finish-in-Info.ensures
+
 pub finish-requires-in-Tables : goal.finish-requires-in-Tables
 finish-requires-in-Tables c = rw c.in-Tables.is at c.requires
 

@@ -104,6 +104,12 @@ note-requires-in-Analyze c = rw c.in-Analyze.is at c.requires
 pub returns-in-Analyze : goal.returns-in-Analyze
 returns-in-Analyze c = rw c.in-Analyze.is c.note-in-Analyze.ensures
 
+pub note-requires-in-Info : goal.note-requires-in-Info
+note-requires-in-Info c = rw c.in-Info.is at c.requires
+
+pub returns-in-Info : goal.returns-in-Info
+returns-in-Info c = rw c.in-Info.is c.note-in-Info.ensures
+
 pub note-requires-in-Tables : goal.note-requires-in-Tables
 note-requires-in-Tables c = rw c.in-Tables.is at c.requires
 

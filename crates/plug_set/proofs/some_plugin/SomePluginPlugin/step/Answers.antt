@@ -104,6 +104,12 @@ step-requires-in-Analyze c = rw c.in-Analyze.is at c.requires
 pub returns-in-Analyze : goal.returns-in-Analyze
 returns-in-Analyze c = rw c.in-Analyze.is c.step-in-Analyze.ensures
 
+pub step-requires-in-Info : goal.step-requires-in-Info
+step-requires-in-Info c = rw c.in-Info.is at c.requires
+
+pub returns-in-Info : goal.returns-in-Info
+returns-in-Info c = rw c.in-Info.is c.step-in-Info.ensures
+
 pub step-requires-in-Tables : goal.step-requires-in-Tables
 step-requires-in-Tables c = rw c.in-Tables.is at c.requires
 

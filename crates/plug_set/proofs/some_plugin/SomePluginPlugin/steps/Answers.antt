@@ -104,6 +104,12 @@ steps-requires-in-Analyze c = rw c.in-Analyze.is at c.requires
 pub returns-in-Analyze : goal.returns-in-Analyze
 returns-in-Analyze c = rw c.in-Analyze.is c.steps-in-Analyze.ensures
 
+pub steps-requires-in-Info : goal.steps-requires-in-Info
+steps-requires-in-Info c = rw c.in-Info.is at c.requires
+
+pub returns-in-Info : goal.returns-in-Info
+returns-in-Info c = rw c.in-Info.is c.steps-in-Info.ensures
+
 pub steps-requires-in-Tables : goal.steps-requires-in-Tables
 steps-requires-in-Tables c = rw c.in-Tables.is at c.requires
 
