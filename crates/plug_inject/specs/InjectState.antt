@@ -26,3 +26,7 @@ pub record Stands (how : Injection) (put_in wait : ℕ) (history : List Cell) (m
   pub counts : Counts how put_in wait (reverse (live_packets history))
   pub live : length (live_packets history) ≤ length history
   pub marked : mark ≤ length history
+
+-- and of a value of the plugin
+abbrev pub Meant : Inject → List Cell → ℕ → Type 0
+Meant s history mark = Stands (how_of s) s.put_in s.wait history mark

@@ -96,19 +96,30 @@ impl Inject {
 }
 
 impl Plugin for Inject {
-    ghost use Rattle.std.specs.Prelude.{◌≤◌, length, reverse, None, refl};
-    ghost use Rattle.ts_packet.specs.Cells.{live_packets};
+    ghost use Rattle.std.specs.Prelude.{◌≡◌, ◌≢◌, ◌<◌, None, refl};
+    ghost use Rattle.ts_packet.specs.Cells.{Dropped};
+    ghost use Rattle.chain_model.specs.declared.positions.TheConstants.{POSITION_LIMIT};
+    ghost use Rattle.plugin_trait.specs.Steps.{MeetsCells, Tells, Meets};
     ghost use Rattle.plug_inject.specs.InjectRule.{injecting_rule};
-    ghost use Rattle.plug_inject.specs.InjectState.{Stands, how_of};
+    ghost use Rattle.plug_inject.specs.InjectState.{Meant, how_of};
 
     ghost rule = { λ s. injecting_rule (how_of s) };
 
-    ghost stands_for = { λ s history mark. Stands (how_of s) s.put_in s.wait history mark };
+    ghost stands_for = { λ s history mark. Meant s history mark };
 
     ghost steady = { λ s. None };
 
+    /// The clauses are those of `Plugin`, whose ghost members have no names here, and one more: no step wants memory.
     #[inline]
-    fn step(&mut self, _at: u64, cell: &mut Cell) -> Outcome {
+    fn step(&mut self, _at: u64, cell: &mut Cell) -> Outcome
+        requires met { MeetsCells (Meant self.old) _at }
+        requires in_range { _at < POSITION_LIMIT }
+        ensures tells { Tells (injecting_rule (how_of self.old)) (Meant self.old) _at cell.old result cell.new }
+        ensures dropped { cell.old ≡ Dropped → result ≡ Outcome.Pass }
+        ensures meets { Meets (Meant self.old) (Meant self.new) _at cell.old result }
+        ensures same_rule { injecting_rule (how_of self.new) ≡ injecting_rule (how_of self.old) }
+        ensures no_memory { result ≢ Outcome.NoMemory }
+    {
         let Some(live) = cell.live_mut() else {
             return Outcome::Pass;
         };

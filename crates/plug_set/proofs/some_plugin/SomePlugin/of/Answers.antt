@@ -42,7 +42,11 @@ pub new-requires-in-Continuity : goal.new-requires-in-Continuity
 new-requires-in-Continuity c = rw c.in-Continuity.is at c.requires
 
 pub returns-in_ok-new-in-Continuity : goal.returns-in_ok-new-in-Continuity
-returns-in_ok-new-in-Continuity c = rw c.in-Continuity.is c.in_ok-new-in-Continuity.ensures
+returns-in_ok-new-in-Continuity c = rw c.in-Continuity.is (record {
+  rule = c.in_ok-new-in-Continuity.ensures.rule;
+  fresh = c.in_ok-new-in-Continuity.ensures.fresh;
+  steady = c.in_ok-new-in-Continuity.ensures.steady;
+})
 
 pub new-requires-in-Remap : goal.new-requires-in-Remap
 new-requires-in-Remap c = rw c.in-Remap.is at c.requires
@@ -102,7 +106,11 @@ pub new-requires-in-Analyze : goal.new-requires-in-Analyze
 new-requires-in-Analyze c = rw c.in-Analyze.is at c.requires
 
 pub returns-in_ok-new-in-Analyze : goal.returns-in_ok-new-in-Analyze
-returns-in_ok-new-in-Analyze c = rw c.in-Analyze.is c.in_ok-new-in-Analyze.ensures
+returns-in_ok-new-in-Analyze c = rw c.in-Analyze.is (record {
+  rule = c.in_ok-new-in-Analyze.ensures.rule;
+  fresh = c.in_ok-new-in-Analyze.ensures.fresh;
+  steady = c.in_ok-new-in-Analyze.ensures.steady;
+})
 
 pub new-requires-in-Info : goal.new-requires-in-Info
 new-requires-in-Info c = rw c.in-Info.is at c.requires

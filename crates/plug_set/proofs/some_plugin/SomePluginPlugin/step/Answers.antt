@@ -1,5 +1,6 @@
 -- Written by tools/answers.
 -- Each plugin's own clauses, at the plugin that stands there.
+use Rattle.std.proofs.Common.{refl}
 use Rattle.plug_set.proofs.some_plugin.SomePluginPlugin.step.Goals as goal
 
 pub step-requires : goal.step-requires
@@ -54,7 +55,14 @@ pub step-requires-in-Inject : goal.step-requires-in-Inject
 step-requires-in-Inject c = rw c.in-Inject.is at c.requires
 
 pub returns-in-Inject : goal.returns-in-Inject
-returns-in-Inject c = rw c.in-Inject.is c.step-in-Inject.ensures
+returns-in-Inject c = rw c.in-Inject.is (record {
+  tells = c.step-in-Inject.ensures.tells;
+  dropped = c.step-in-Inject.ensures.dropped;
+  meets = c.step-in-Inject.ensures.meets;
+  same_rule = c.step-in-Inject.ensures.same_rule;
+  same_steady = refl;
+  room = λ enough. c.step-in-Inject.ensures.no_memory;
+})
 
 pub step-requires-in-Pat : goal.step-requires-in-Pat
 step-requires-in-Pat c = rw c.in-Pat.is at c.requires
