@@ -1,9 +1,11 @@
 ghost use Rattle.std.specs.Prelude.{[], ◌≤◌, ◌^◌, vec_len};
 ghost use Rattle.plug_end.specs.UntilSettings.{IsLawfulUntil};
 
+use crate::compared::same;
 use plug_end::{Until, UntilConf};
 use plugin_trait::{ListEnd, Plugin, apply_plugin};
 use std::alloc::Global;
+use std::process::Abort;
 use std::test::Fail;
 use ts_packet::{Cell, Labels, Packet};
 
@@ -54,6 +56,21 @@ fn left_by(alloc: Global, conf: &UntilConf, met: usize) -> Result<(ListEnd, bool
     Ok((end, agreed, cells))
 }
 
+/// Looks how a new plugin with these settings leaves the first so many of ten cells, and how many are left.
+fn leaves(
+    rt: &(impl Abort + AllocGlobal),
+    conf: &UntilConf,
+    met: usize,
+    wanted: (ListEnd, bool, usize),
+) -> Result<(), Fail>
+    requires { IsLawfulUntil conf.now }
+{
+    let (end, agreed, cells) = left_by(rt.alloc(), conf, met)?;
+    same(rt, (end, agreed, cells.len()), wanted);
+    same(rt, cells.last().is_some_and(Cell::is_live), true);
+    Ok(())
+}
+
 #[test]
 fn until_ends_the_list(rt: HostRuntime) -> Result<(), Fail> {
     let rows = [
@@ -72,11 +89,7 @@ fn until_ends_the_list(rt: HostRuntime) -> Result<(), Fail> {
             exclude_last,
             joint_termination: false,
         };
-        let (end, agreed, cells) = left_by(rt.alloc(), &conf, 10)?;
-        assert_eq!(rt; end, wanted);
-        assert!(rt; !agreed);
-        assert_eq!(rt; cells.len(), left);
-        assert!(rt; cells.last().is_some_and(Cell::is_live));
+        leaves(&rt, &conf, 10, (wanted, false, left))?;
     }
     Ok(())
 }
@@ -101,10 +114,7 @@ fn joint_until_agrees_and_passes_all(rt: HostRuntime) -> Result<(), Fail> {
             exclude_last: false,
             joint_termination: true,
         };
-        let (end, agreed, cells) = left_by(rt.alloc(), &conf, met)?;
-        assert_eq!(rt; end, ListEnd::Through);
-        assert_eq!(rt; cells.len(), met);
-        assert_eq!(rt; agreed, wanted);
+        leaves(&rt, &conf, met, (ListEnd::Through, wanted, met))?;
     }
     Ok(())
 }

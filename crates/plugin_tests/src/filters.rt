@@ -1,10 +1,12 @@
-ghost use Rattle.std.specs.Prelude.{◌<◌, ℕ, [], length, slice_index};
+ghost use Rattle.std.specs.Prelude.{◌<◌, ℕ, [], IfOk, length, slice_index};
 
 use crate::cells::{each_shows, live, packet};
+use crate::compared::same;
 use plug_conf::NumberSet;
 use plug_pass::{Filter, FilterConf, Pattern, PatternConf, Skip, SkipConf, Slice, SliceConf};
 use plugin_trait::{ListEnd, Plugin, apply_plugin};
 use std::alloc::{AllocError, Global};
+use std::process::Abort;
 use std::test::Fail;
 use ts_outside::FileBytes;
 use ts_packet::Cell;
@@ -68,49 +70,66 @@ fn filtered(alloc: Global, negate: bool, stuffing: bool) -> Result<(String, List
     Ok(shape(alloc, Filter::new(alloc, &conf, 1)?, &THREE)?)
 }
 
+/// Looks what a plugin made of packets, and how it ended.
+fn is_shape(rt: &impl Abort, found: &(String, ListEnd), letters: &str, end: ListEnd) {
+    assert_eq!(rt; found.0.as_str(), letters);
+    same(rt, found.1, end);
+}
+
+/// Looks what the filter makes of three packets.
+fn passes(
+    rt: &(impl Abort + AllocGlobal),
+    negate: bool,
+    stuffing: bool,
+    wanted: &str,
+) -> Result<(), Fail> {
+    let found = filtered(rt.alloc(), negate, stuffing)?;
+    is_shape(rt, &found, wanted, ListEnd::Through);
+    Ok(())
+}
+
 #[test]
 fn filter_passes_a_pid(rt: HostRuntime) -> Result<(), Fail> {
-    let rows = [
-        (false, false, "p.p"),
-        (true, false, ".p."),
-        (false, true, "pnp"),
-    ];
-    for (negate, stuffing, wanted) in rows {
-        let (shape, end) = filtered(rt.alloc(), negate, stuffing)?;
-        assert_eq!(rt; shape.as_str(), wanted);
-        assert_eq!(rt; end, ListEnd::Through);
-    }
-    Ok(())
+    passes(&rt, false, false, "p.p")?;
+    passes(&rt, true, false, ".p.")?;
+    passes(&rt, false, true, "pnp")
 }
 
 #[test]
 fn skip_drops_the_first(rt: HostRuntime) -> Result<(), Fail> {
     let skip = Skip::new(rt.alloc(), &SkipConf { operand: 1 }, 1)?;
-    let (shape, end) = shape(rt.alloc(), skip, &THREE)?;
-    assert_eq!(rt; shape.as_str(), ".pp");
-    assert_eq!(rt; end, ListEnd::Through);
+    let found = shape(rt.alloc(), skip, &THREE)?;
+    is_shape(&rt, &found, ".pp", ListEnd::Through);
     Ok(())
 }
 
-#[test]
-fn slice_goes_by_starts(rt: HostRuntime) -> Result<(), Fail> {
+/// A slice that drops from the second packet on, passes from the fourth, makes null packets from the fifth, and stops at
+/// the seventh.
+fn slice(alloc: Global) -> Result<Slice, Fail>
+    ensures { IfOk result (λ plugin. ⟦<Slice as Plugin>⟧.stands_for plugin [] 0) }
+{
     let conf = SliceConf {
         drop: Some(1),
         null: Some(4),
         pass: Some(3),
         stop: Some(6),
     };
-    let slice = Slice::new(rt.alloc(), &conf, 1)?;
-    let (shape, end) = shape(rt.alloc(), slice, &[256; 10])?;
-    assert_eq!(rt; shape.as_str(), "p..pnn");
-    assert_eq!(rt; end, ListEnd::Stop);
+    Ok(Slice::new(alloc, &conf, 1)?)
+}
+
+#[test]
+fn slice_goes_by_starts(rt: HostRuntime) -> Result<(), Fail> {
+    let slice = slice(rt.alloc())?;
+    let found = shape(rt.alloc(), slice, &[256; 10])?;
+    is_shape(&rt, &found, "p..pnn", ListEnd::Stop);
     Ok(())
 }
 
-/// A packet on PID 256 with a pattern behind it up to its end.
-fn patterned(alloc: Global) -> Result<(ListEnd, Vec<Cell>), Fail> {
+/// A pattern that is written from three bytes before the end on.
+fn pattern(alloc: Global) -> Result<Pattern, Fail>
+    ensures { IfOk result (λ plugin. ⟦<Pattern as Plugin>⟧.stands_for plugin [] 0) }
+{
     let bytes = vec![in alloc; 0xAB, 0xCD]?;
-    let mut cells = vec![in alloc; live(packet(256))]?;
     let conf = PatternConf {
         operand: FileBytes::of(bytes),
         pid: NumberSet::of(Vec::new(alloc)),
@@ -118,7 +137,13 @@ fn patterned(alloc: Global) -> Result<(ListEnd, Vec<Cell>), Fail> {
         offset_pusi: None,
         offset_non_pusi: Some(181),
     };
-    let mut pattern = Pattern::new(alloc, &conf, 1)?;
+    Ok(Pattern::new(alloc, &conf, 1)?)
+}
+
+/// A packet on PID 256 with a pattern behind it up to its end.
+fn patterned(alloc: Global) -> Result<(ListEnd, Vec<Cell>), Fail> {
+    let mut cells = vec![in alloc; live(packet(256))]?;
+    let mut pattern = pattern(alloc)?;
     let end = apply_plugin(&mut pattern, &mut cells);
     Ok((end, cells))
 }
@@ -126,8 +151,7 @@ fn patterned(alloc: Global) -> Result<(ListEnd, Vec<Cell>), Fail> {
 #[test]
 fn pattern_is_written_to_the_end(rt: HostRuntime) -> Result<(), Fail> {
     let (end, cells) = patterned(rt.alloc())?;
-    assert_eq!(rt; end, ListEnd::Through);
-    assert_eq!(rt; cells.len(), 1);
+    same(&rt, (end, cells.len()), (ListEnd::Through, 1));
     each_shows(&rt, &cells, 184, &[0xFF, 0xAB, 0xCD, 0xAB]);
     Ok(())
 }

@@ -3,6 +3,7 @@
 ghost use Rattle.std.specs.Prelude.{◌<◌, [], IfOk};
 
 use crate::cells::{live, one_component, one_service, packet, packet_of};
+use crate::compared::same;
 use plug_conf::PairList;
 use plug_move::{Remap, RemapConf};
 use plugin_trait::{ListEnd, Plugin, Reason, apply_plugin};
@@ -13,16 +14,23 @@ use ts_bits::{Descriptor, DescriptorList};
 use ts_packet::{Cell, NULL_PID};
 use ts_psi::{Cat, Component};
 
-/// What the plugin makes of four packets where PIDs 256 and 257 are moved, and how it ends.
-fn remapped(alloc: Global, unchecked: bool) -> Result<(ListEnd, Vec<Cell>), Fail> {
+/// The plugin that moves PIDs 256 and 257, and no tables.
+fn remap_of_two(alloc: Global, unchecked: bool) -> Result<Remap, Fail>
+    ensures { IfOk result (λ plugin. ⟦<Remap as Plugin>⟧.stands_for plugin [] 0) }
+{
     let pairs = vec![in alloc; (256, 512), (257, 256)]?;
-    let mut cells = vec![in alloc; cell(256), cell(257), cell(258), cell(512)]?;
     let conf = RemapConf {
         operand: PairList::of(pairs),
         no_psi: true,
         unchecked,
     };
-    let mut remap = Remap::new(alloc, &conf, 1)?;
+    Ok(Remap::new(alloc, &conf, 1)?)
+}
+
+/// What it makes of four packets, and how it ends.
+fn remapped(alloc: Global, unchecked: bool) -> Result<(ListEnd, Vec<Cell>), Fail> {
+    let mut cells = vec![in alloc; cell(256), cell(257), cell(258), cell(512)]?;
+    let mut remap = remap_of_two(alloc, unchecked)?;
     let end = apply_plugin(&mut remap, &mut cells);
     Ok((end, cells))
 }
@@ -47,15 +55,24 @@ fn are_on(rt: &impl Abort, cells: &[Cell], pids: &[u16]) {
     }
 }
 
+/// Looks how it ends, and on which PIDs the packets then are.
+fn moves(
+    rt: &(impl Abort + AllocGlobal),
+    unchecked: bool,
+    wanted: ListEnd,
+    pids: &[u16],
+) -> Result<(), Fail> {
+    let (end, cells) = remapped(rt.alloc(), unchecked)?;
+    same(rt, end, wanted);
+    are_on(rt, &cells, pids);
+    Ok(())
+}
+
 #[test]
 fn remap_moves_and_refuses(rt: HostRuntime) -> Result<(), Fail> {
-    let (end, cells) = remapped(rt.alloc(), false)?;
-    assert_eq!(rt; end, ListEnd::Refuse(Reason::Pid(512)));
-    are_on(&rt, &cells, &[512, 256, 258]);
-    let (end, cells) = remapped(rt.alloc(), true)?;
-    assert_eq!(rt; end, ListEnd::Through);
-    are_on(&rt, &cells, &[512, 256, 258, 512]);
-    Ok(())
+    let refused = ListEnd::Refuse(Reason::Pid(512));
+    moves(&rt, false, refused, &[512, 256, 258])?;
+    moves(&rt, true, ListEnd::Through, &[512, 256, 258, 512])
 }
 
 /// A cell with a PAT of service 1 on PID 4096 and the network PID 256.

@@ -1,4 +1,7 @@
+use crate::compared::{holds, same};
 use chain_args::{Form, InputConf, OutputConf, Plan, WordsFault, WordsRule, plan};
+use plug_conf::NumberSet;
+use plug_pass::{FilterConf, PatternConf, SliceConf};
 use plug_set::PluginConf;
 use std::alloc::Global;
 use std::process::Abort;
@@ -69,15 +72,30 @@ static FIRST_BROKEN: [(&str, usize, WordsRule); 20] = [
     ("-I null 2 3", 0, WordsRule::Shape),
 ];
 
+/// These lines. What a `static` holds is written into each function that names it.
+fn first_broken() -> &'static [(&'static str, usize, WordsRule)] {
+    &FIRST_BROKEN
+}
+
+/// Looks why a line has no plan.
+fn breaks(
+    rt: &(impl Abort + AllocGlobal),
+    line: &str,
+    wanted: Option<WordsFault>,
+) -> Result<(), Fail> {
+    let fault = fault_of_line(rt.alloc(), line)?;
+    assert!(rt; fault == wanted, "{line}");
+    Ok(())
+}
+
 #[test]
 fn first_broken_rules(rt: HostRuntime) -> Result<(), Fail> {
-    for (line, word, rule) in &FIRST_BROKEN {
-        let fault = fault_of_line(rt.alloc(), line)?;
+    for (line, word, rule) in first_broken() {
         let wanted = WordsFault::At {
             word: *word,
             rule: *rule,
         };
-        assert!(rt; fault == Some(wanted), "{line}");
+        breaks(&rt, line, Some(wanted))?;
     }
     Ok(())
 }
@@ -88,9 +106,8 @@ fn break_rules(
     rows: &[(&str, Option<WordsRule>)],
 ) -> Result<(), Fail> {
     for (line, rule) in rows {
-        let fault = fault_of_line(rt.alloc(), line)?;
         let wanted = rule.map(|rule| WordsFault::At { word: 0, rule });
-        assert!(rt; fault == wanted, "{line}");
+        breaks(rt, line, wanted)?;
     }
     Ok(())
 }
@@ -132,12 +149,17 @@ fn forms_of_values(rt: HostRuntime) -> Result<(), Fail> {
     break_rules(&rt, &FORMS)
 }
 
-/// Looks at the plan of the line below.
-fn is_whole(rt: &impl Abort, plan: &Plan) -> Result<(), Fail> {
-    assert!(rt; plan.general.add_input_stuffing == (1, 2));
-    assert!(rt; plan.general.buffer_packets == Some(7) && plan.general.ignore_joint_termination);
-    assert!(rt; matches!(plan.input, InputConf::Null(4)));
-    assert!(rt; matches!(plan.output, OutputConf::Drop));
+/// Looks at the plan of the line below, but for its plugin.
+fn is_whole(rt: &impl Abort, plan: &Plan) {
+    same(rt, plan.general.add_input_stuffing, (1, 2));
+    same(rt, plan.general.buffer_packets, Some(7));
+    holds(rt, plan.general.ignore_joint_termination);
+    holds(rt, matches!(plan.input, InputConf::Null(4)));
+    holds(rt, matches!(plan.output, OutputConf::Drop));
+}
+
+/// Looks at the only plugin of that plan.
+fn has_one_filter(rt: &impl Abort, plan: &Plan) -> Result<(), Fail> {
     let [item] = plan.plugins.as_slice() else {
         return Err(Fail::from("one plugin"));
     };
@@ -147,10 +169,19 @@ fn is_whole(rt: &impl Abort, plan: &Plan) -> Result<(), Fail> {
     let Some(only) = &item.only else {
         return Err(Fail::from("labels"));
     };
-    assert!(rt; only.as_slice() == [(0, 3)].as_slice());
-    assert!(rt; filter.pid.as_slice() == [(8191, 8191), (5, 7)].as_slice());
-    assert!(rt; filter.negate && !filter.pcr && !filter.stuffing);
+    is_filter(rt, filter, only);
     Ok(())
+}
+
+/// Looks at the settings of that filter, and at its labels.
+fn is_filter(rt: &impl Abort, filter: &FilterConf, only: &NumberSet) {
+    holds(rt, only.as_slice() == [(0, 3)].as_slice());
+    holds(
+        rt,
+        filter.pid.as_slice() == [(8191, 8191), (5, 7)].as_slice(),
+    );
+    let flags = [filter.negate, filter.pcr, filter.stuffing];
+    same(rt, flags, [true, false, false]);
 }
 
 #[test]
@@ -158,20 +189,29 @@ fn a_whole_plan(rt: HostRuntime) -> Result<(), Fail> {
     let line =
         "--add-input-stuffing 1/2 --buffer-packets=7 --ignore-joint-termination -I null 4 -P filter --pid 0x1FFF,5-7 --negate --only-label 0-3 -O drop";
     let plan = plan_of_line(rt.alloc(), line)?;
-    is_whole(&rt, &*plan)
+    is_whole(&rt, &*plan);
+    has_one_filter(&rt, &*plan)
 }
 
 /// Looks at the plan of no words.
 fn is_plain(rt: &impl Abort, plan: &Plan) {
-    assert!(rt; plan.general.buffer_packets.is_none());
-    assert!(rt; plan.general.max_flushed_packets.is_none());
-    assert!(rt; plan.general.max_input_packets.is_none());
-    assert!(rt; plan.general.add_input_stuffing == (0, 1));
-    assert!(rt;
-        matches!(&plan.input, InputConf::File { name, form: Form::Ts } if name.as_str().is_empty())
-    );
-    assert!(rt; matches!(&plan.output, OutputConf::File(name) if name.as_str().is_empty()));
-    assert!(rt; plan.plugins.as_slice().is_empty());
+    same(rt, plan.general.buffer_packets, None);
+    same(rt, plan.general.max_flushed_packets, None);
+    same(rt, plan.general.max_input_packets, None);
+    same(rt, plan.general.add_input_stuffing, (0, 1));
+    holds(rt, is_standard_input(&plan.input));
+    holds(rt, is_standard_output(&plan.output));
+    holds(rt, plan.plugins.as_slice().is_empty());
+}
+
+/// Whether packets are read from the standard input, plain ones.
+fn is_standard_input(input: &InputConf) -> bool {
+    matches!(input, InputConf::File { name, form: Form::Ts } if name.as_str().is_empty())
+}
+
+/// Whether packets are written to the standard output.
+fn is_standard_output(output: &OutputConf) -> bool {
+    matches!(output, OutputConf::File(name) if name.as_str().is_empty())
 }
 
 #[test]
@@ -202,8 +242,8 @@ fn the_63rd_plugin(rt: HostRuntime) -> Result<(), Fail> {
         word: 186,
         rule: WordsRule::TooMany,
     };
-    assert!(rt; fault_of_plugins(rt.alloc(), 63)? == Some(fault));
-    assert!(rt; fault_of_plugins(rt.alloc(), 62)?.is_none());
+    same(&rt, fault_of_plugins(rt.alloc(), 63)?, Some(fault));
+    same(&rt, fault_of_plugins(rt.alloc(), 62)?, None);
     Ok(())
 }
 
@@ -278,6 +318,19 @@ fn words_of_labels(rt: HostRuntime) -> Result<(), Fail> {
     break_rules(&rt, &OF_LABELS)
 }
 
+/// Looks at the settings of a pattern.
+fn is_pattern(rt: &impl Abort, pattern: &PatternConf) {
+    holds(rt, pattern.operand.as_slice() == [0xAB, 0xCD].as_slice());
+    let offsets = (pattern.offset_pusi, pattern.offset_non_pusi);
+    same(rt, offsets, (None, Some(182)));
+}
+
+/// Looks at the settings of a slice.
+fn is_slice(rt: &impl Abort, slice: &SliceConf) {
+    same(rt, (slice.drop, slice.null), (Some(1), None));
+    same(rt, slice.stop, Some(4));
+}
+
 /// Looks at the plan of the line below.
 fn has_settings(rt: &impl Abort, plan: &Plan) -> Result<(), Fail> {
     let [first, second, third] = plan.plugins.as_slice() else {
@@ -292,10 +345,9 @@ fn has_settings(rt: &impl Abort, plan: &Plan) -> Result<(), Fail> {
     let PluginConf::Remap(remap) = &third.conf else {
         return Err(Fail::from("a remap"));
     };
-    assert!(rt; pattern.operand.as_slice() == [0xAB, 0xCD].as_slice());
-    assert!(rt; pattern.offset_pusi == None && pattern.offset_non_pusi == Some(182));
-    assert!(rt; slice.drop == Some(1) && slice.null == None && slice.stop == Some(4));
-    assert!(rt; remap.operand.as_slice() == [(1, 2), (3, 4)].as_slice());
+    is_pattern(rt, pattern);
+    is_slice(rt, slice);
+    holds(rt, remap.operand.as_slice() == [(1, 2), (3, 4)].as_slice());
     Ok(())
 }
 
@@ -328,7 +380,7 @@ fn many_pairs(rt: HostRuntime) -> Result<(), Fail> {
         word: 0,
         rule: WordsRule::Conflict,
     };
-    assert!(rt; fault_of_pairs(rt.alloc(), 1001)? == Some(fault));
-    assert!(rt; fault_of_pairs(rt.alloc(), 1000)?.is_none());
+    same(&rt, fault_of_pairs(rt.alloc(), 1001)?, Some(fault));
+    same(&rt, fault_of_pairs(rt.alloc(), 1000)?, None);
     Ok(())
 }

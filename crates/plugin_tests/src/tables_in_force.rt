@@ -1,6 +1,7 @@
 //! Each call that takes memory once with enough of it, on streams of a few packets.
 
 use crate::cells::{one_component, packet, packet_of};
+use crate::compared::{holds, same};
 use plug_psi::{Edited, Editor, InForce, TableEdit};
 use std::alloc::{AllocError, Global};
 use std::process::Abort;
@@ -48,26 +49,34 @@ fn pmt_packet(alloc: Global) -> Result<Packet, Fail> {
     packet_of(alloc, 4096, pmt.sections(alloc))
 }
 
+/// What becomes of a packet.
+fn stepped(editor: &mut Editor<Unchanged>, packet: Packet) -> Result<Packet, AllocError> {
+    let mut packet = packet;
+    editor.step(&mut packet)?;
+    Ok(packet)
+}
+
+/// The packet with counter 7.
+fn counted(packet: Packet) -> Packet {
+    let mut packet = packet;
+    packet.set_counter(7);
+    packet
+}
+
 /// Takes a packet before the PAT, and then the PAT twice.
 fn replaces(
     rt: &impl Abort,
     editor: &mut Editor<Unchanged>,
     pat: Packet,
 ) -> Result<(), AllocError> {
-    let mut early = packet(0);
-    editor.step(&mut early)?;
-    assert_eq!(rt; early.pid(), NULL_PID);
-    let mut first = pat;
-    first.set_counter(7);
-    editor.step(&mut first)?;
-    assert_eq!(rt;
-        (first.pid(), first.counter(), first.unit_start()),
-        (0, 0, true)
-    );
-    assert_eq!(rt; first.payload().get(8).copied(), Some(0x00));
-    let mut second = first;
-    editor.step(&mut second)?;
-    assert_eq!(rt; second.counter(), 1);
+    let early = stepped(editor, packet(0))?;
+    same(rt, early.pid(), NULL_PID);
+    let first = stepped(editor, counted(pat))?;
+    let seen = (first.pid(), first.counter(), first.unit_start());
+    same(rt, seen, (0, 0, true));
+    same(rt, first.payload().get(8).copied(), Some(0x00));
+    let second = stepped(editor, first)?;
+    same(rt, second.counter(), 1);
     Ok(())
 }
 
@@ -86,14 +95,14 @@ fn comes_into_force(
     pat: &Packet,
     pmt: &Packet,
 ) -> Result<(), AllocError> {
-    assert!(rt; force.pat().is_none());
+    holds(rt, force.pat().is_none());
     force.feed(pmt)?;
     force.feed(pat)?;
-    assert!(rt; force.names(4096));
-    assert!(rt; force.pmt(1).is_none());
+    holds(rt, force.names(4096));
+    holds(rt, force.pmt(1).is_none());
     force.feed(pmt)?;
-    assert_eq!(rt; force.pmt(1).map(|pmt| pmt.version), Some(3));
-    assert!(rt; !force.names(257));
+    same(rt, force.pmt(1).map(|pmt| pmt.version), Some(3));
+    holds(rt, !force.names(257));
     Ok(())
 }
 

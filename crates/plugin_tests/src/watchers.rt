@@ -1,6 +1,7 @@
 ghost use Rattle.std.specs.Prelude.{◌<◌, ◌≤◌, ◌^◌, [], IfOk, vec_len};
 
 use crate::cells::counter_of;
+use crate::compared::same;
 use plug_conf::NumberSet;
 use plug_watch::{Continuity, ContinuityConf, Count, CountConf};
 use plugin_trait::{Line, ListEnd, Plugin, apply_plugin, report};
@@ -62,26 +63,32 @@ fn counted(alloc: Global, all: bool, total: bool, cut: u64) -> Result<Vec<Line>,
     Ok(lines)
 }
 
+/// Looks at what is counted of them.
+fn is_counted(
+    rt: &(impl Abort + AllocGlobal),
+    all: bool,
+    total: bool,
+    cut: u64,
+    wanted: &[&str],
+) -> Result<(), Fail> {
+    let lines = counted(rt.alloc(), all, total, cut)?;
+    are_lines(rt, &lines, wanted);
+    Ok(())
+}
+
 #[test]
 fn count_counts_to_the_cut(rt: HostRuntime) -> Result<(), Fail> {
-    are_lines(
-        &rt,
-        &counted(rt.alloc(), true, false, 3)?,
-        &[
-            "packet 0 pid 256",
-            "packet 1 pid 257",
-            "pid 256 packets 1",
-            "pid 257 packets 1",
-            "total 2",
-        ],
-    );
-    are_lines(
-        &rt,
-        &counted(rt.alloc(), false, false, 4)?,
-        &["pid 256 packets 2", "pid 257 packets 1", "total 3"],
-    );
-    are_lines(&rt, &counted(rt.alloc(), false, true, 4)?, &["total 3"]);
-    Ok(())
+    let each = [
+        "packet 0 pid 256",
+        "packet 1 pid 257",
+        "pid 256 packets 1",
+        "pid 257 packets 1",
+        "total 2",
+    ];
+    is_counted(&rt, true, false, 3, &each)?;
+    let sums = ["pid 256 packets 2", "pid 257 packets 1", "total 3"];
+    is_counted(&rt, false, false, 4, &sums)?;
+    is_counted(&rt, false, true, 4, &["total 3"])
 }
 
 /// How the counting of three packets ends with room for so many in its buffer, how many cells are left, and what it
@@ -98,6 +105,21 @@ fn counted_in(alloc: Global, buffer: usize) -> Result<(ListEnd, usize, Vec<Line>
     Ok((end, cells.len(), lines))
 }
 
+/// Looks how that ends.
+fn ends_so(
+    rt: &(impl Abort + AllocGlobal),
+    buffer: usize,
+    wanted_end: ListEnd,
+    wanted_cells: usize,
+    text: &str,
+) -> Result<(), Fail> {
+    let (end, cells, lines) = counted_in(rt.alloc(), buffer)?;
+    same(rt, end, wanted_end);
+    same(rt, cells, wanted_cells);
+    are_lines(rt, &lines, &[text]);
+    Ok(())
+}
+
 #[test]
 fn count_ends_where_its_buffer_is_full(rt: HostRuntime) -> Result<(), Fail> {
     let rows = [
@@ -105,11 +127,8 @@ fn count_ends_where_its_buffer_is_full(rt: HostRuntime) -> Result<(), Fail> {
         (2, ListEnd::NoMemory, 2, "total 2"),
         (3, ListEnd::Through, 3, "total 3"),
     ];
-    for (buffer, wanted_end, wanted_cells, text) in rows {
-        let (end, cells, lines) = counted_in(rt.alloc(), buffer)?;
-        assert_eq!(rt; end, wanted_end);
-        assert_eq!(rt; cells, wanted_cells);
-        are_lines(&rt, &lines, &[text]);
+    for (buffer, end, cells, text) in rows {
+        ends_so(&rt, buffer, end, cells, text)?;
     }
     Ok(())
 }
@@ -130,13 +149,18 @@ fn fixed(alloc: Global) -> Result<(Vec<Cell>, Vec<Line>), Fail> {
     Ok((cells, lines))
 }
 
+/// Looks at the counters of cells.
+fn have_counters(rt: &impl Abort, cells: &[Cell], counters: &[u8]) {
+    for (cell, counter) in cells.iter().zip(counters) {
+        same(rt, counter_of(cell), Some(*counter));
+    }
+}
+
 #[test]
 fn continuity_reports_and_fixes(rt: HostRuntime) -> Result<(), Fail> {
     let (cells, lines) = fixed(rt.alloc())?;
     let wanted = ["packet 2 pid 256 counter 8 wanted 7", "faults 1"];
     are_lines(&rt, &lines, &wanted);
-    for (cell, counter) in cells.iter().zip([5, 6, 7, 7]) {
-        assert!(rt; counter_of(cell) == Some(counter));
-    }
+    have_counters(&rt, &cells, &[5, 6, 7, 7]);
     Ok(())
 }
