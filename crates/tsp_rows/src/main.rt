@@ -20,6 +20,7 @@ mod fault_rows;
 mod following_gate;
 mod form_rows;
 mod generated_rows;
+mod info_rows;
 mod inputs;
 mod keeping_gate;
 mod lawless_packets;
@@ -73,7 +74,7 @@ fn print_worked<R: Threads + Wait + Sync + Print + AllocGlobal>(rt: &R) -> Resul
 
 /// Prints the rows of all tables, and how many of them come to the same by both calls.
 fn print_tables<R: Threads + Wait + Sync + Print + AllocGlobal>(rt: &R) -> Result<()> {
-    let tables: [&[Row]; 30] = [
+    let tables: [&[Row]; 32] = [
         end_rows::rows(),
         plugin_rows::rows(),
         plugin_rows::of_watchers(),
@@ -84,6 +85,7 @@ fn print_tables<R: Threads + Wait + Sync + Print + AllocGlobal>(rt: &R) -> Resul
         window_rows::rows(),
         stream_rows::rows(),
         clock_rows::rows(),
+        info_rows::rows(),
         generated_rows::rows(),
         cycle_rows::rows(),
         note_rows::rows(),
@@ -104,6 +106,7 @@ fn print_tables<R: Threads + Wait + Sync + Print + AllocGlobal>(rt: &R) -> Resul
         window_rows::of_words(),
         stream_rows::of_words(),
         clock_rows::of_words(),
+        info_rows::of_words(),
     ];
     let mut tally = Tally::empty();
     for rows in tables {
