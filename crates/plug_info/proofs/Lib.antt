@@ -1,6 +1,7 @@
 pub mod CountLemmas
 pub mod SpanLemmas
 pub mod LineLemmas
+pub mod JsonLemmas
 pub mod SdtLemmas
 pub mod TrackLemmas
 pub mod MetLemmas

@@ -6,9 +6,10 @@ use Rattle.ts_packet.specs.Cells.{Live, Dropped}
 use Rattle.chain_model.specs.declared.positions.TheConstants.{POSITION_LIMIT}
 use Rattle.plugin_trait.specs.declared.line.Line.{Line}
 use Rattle.plugin_trait.specs.PlacedLines.{placed_after, placed_at, placed_of}
-use Rattle.plug_info.specs.InfoRule.{info_on, info_rule}
+use Rattle.plug_info.specs.InfoRule.{info_rule, report_in}
 use Rattle.plug_info.specs.MetState.{HasMet}
 use Rattle.plug_info.specs.Tracked.{Tracks, TracksSome}
+use Rattle.plug_info.specs.declared.info_conf.InfoConf.{InfoConf}
 use Rattle.plug_info.specs.declared.met_cells.MetCells.{MetCells}
 use Rattle.plug_info.specs.declared.tracker.Tracker.{Tracker}
 
@@ -72,15 +73,16 @@ module _ (met : MetCells) (history : List Cell) (mark : ℕ) (w : HasMet met his
       behind = ap (drop 1) (sym front ∙ w.waits) ∙ (drop-drop 1 mark history ∙ ap (λ (n : ℕ). drop n history) (let same : mark + 1 ≡ mark + 1 = refl in same))
 
 -- a rule without lines has none
-placed_none : (history cells : List Cell) → placed_after info_rule history cells ≡ []
-placed_none history [] = refl
-placed_none history (Live packet labels ∷ cells) = placed_none (history ++ Live packet labels ∷ []) cells
-placed_none history (Dropped ∷ cells) = placed_none (history ++ Dropped ∷ []) cells
+placed_none : (conf : InfoConf) (history cells : List Cell) → placed_after (info_rule conf) history cells ≡ []
+placed_none conf history [] = refl
+placed_none conf history (Live packet labels ∷ cells) = placed_none conf (history ++ Live packet labels ∷ []) cells
+placed_none conf history (Dropped ∷ cells) = placed_none conf (history ++ Dropped ∷ []) cells
 
 -- the report over the cells before a position
-pub report_is : (history : List Cell) (cut : ℕ) (lines : List Line) → cut ≤ length history → lines ≡ placed_at cut (info_on (take cut history))
-    → lines ≡ placed_of info_rule (take cut history)
-report_is history cut lines within is =
+pub report_is : (conf : InfoConf) (history : List Cell) (cut : ℕ) (lines : List Line) → cut ≤ length history → lines ≡ placed_at cut (report_in conf.json (take cut history))
+    → lines ≡ placed_of (info_rule conf) (take cut history)
+report_is conf history cut lines within is =
+    let report = report_in conf.json (take cut history) in
     is
-    ∙ (ap (λ (n : ℕ). placed_at n (info_on (take cut history))) (sym (length-take-le cut history within))
-    ∙ ap (λ (ls : List Line). ls ++ placed_at (length (take cut history)) (info_on (take cut history))) (sym (placed_none [] (take cut history))))
+    ∙ (ap (λ (n : ℕ). placed_at n report) (sym (length-take-le cut history within))
+    ∙ ap (λ (ls : List Line). ls ++ placed_at (length (take cut history)) report) (sym (placed_none conf [] (take cut history))))

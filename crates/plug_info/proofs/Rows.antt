@@ -5,6 +5,8 @@ use Rattle.hex.specs.Hex.{encode_with}
 use Rattle.std.specs.Str.{chars, is_utf8}
 use lib.Utf8.{encode}
 use Rattle.plug_pcr.specs.ClockJitter.{units_behind}
+use Rattle.plugin_notes.specs.PidPackets.{numbers_below}
+use Rattle.plug_info.specs.InfoJson.{array, bytes_field, component_json, stream_json, whole_json}
 use Rattle.plug_info.specs.InfoTexts.{component_text, hundredths, percent, pid_text, portion_text, sdt_texts, service_head, service_tail, shown}
 use Rattle.plug_info.specs.PcrRate.{rate_over}
 use Rattle.plug_info.specs.SdtInForce.{name_in}
@@ -85,3 +87,37 @@ sdt-row = refl
 
 sdt-same : sdt_texts (Some 1) (Some 1) ≡ []
 sdt-same = refl
+
+-- arrays of none and of two
+array-none : array [] ≡ codes "[]"
+array-none = refl
+
+array-two : array (codes "1" ∷ codes "2" ∷ []) ≡ codes "[1,2]"
+array-two = refl
+
+-- a name that is a text, bytes of another table, a quotation mark, and no name
+json-plain : bytes_field (codes "name") (Some (codes "BBC 1")) ≡ codes "\"name\":\"BBC 1\""
+json-plain = refl
+
+json-other : bytes_field (codes "name") (Some (0x05 ∷ 0x41 ∷ [])) ≡ codes "\"name_hex\":\"0541\""
+unfolding encode_with
+json-other = refl
+
+json-quote : bytes_field (codes "name") (Some (codes "a\"b")) ≡ codes "\"name_hex\":\"612262\""
+unfolding encode_with
+json-quote = refl
+
+json-none : bytes_field (codes "name") None ≡ codes "\"name\":null"
+json-none = refl
+
+-- a component with a language and no codec, which two services have, where no PCR tells a rate
+json-component : component_json (record { whole = 8; rate = None }) 256 3 (record { tag = 0x0A; body = codes "eng" ++ (0 ∷ []) } ∷ []) (record { packets = 4; scrambled = 1; faults = 2 }) 2
+    ≡ codes "{\"pid\":256,\"stream_type\":3,\"stream_type_name\":\"MPEG-1 audio\",\"languages\":[\"eng\"],\"codecs\":[],\"packets\":4,\"bitrate\":null,\"scrambled\":1,\"faults\":2,\"services\":2}"
+unfolding digits numbers_below
+json-component = refl
+
+-- a stream without tables
+json-whole : whole_json (stream_json (record { packets = 2; stream_id = None; rate = None; nulls = 2; errored = 0; scrambled = 0; faults = 0 })) (codes "null") (array []) (array [])
+    ≡ codes "{\"stream\":{\"packets\":2,\"bytes\":376,\"transport_stream_id\":null,\"bitrate\":null,\"nulls\":2,\"errored\":0,\"scrambled\":0,\"faults\":0},\"sdt_transport_stream_id\":null,\"services\":[],\"pids\":[]}"
+unfolding digits
+json-whole = refl

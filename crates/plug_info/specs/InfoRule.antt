@@ -13,10 +13,12 @@ use Rattle.chain_model.specs.PluginRule.{PluginRule, passes}
 use Rattle.plugin_notes.specs.PidPackets.{numbers_below, packets_on}
 use Rattle.plug_psi.specs.InForce.{names, pat_of, pmt_of, services_in}
 use Rattle.plug_analyze.specs.AnalyzeRule.{fault_pids, is_scrambled}
+use Rattle.plug_info.specs.InfoJson.{array, component_json, number_or_null, pid_json, portion_json, service_json, stream_json, whole_json}
 use Rattle.plug_info.specs.InfoNames.{pid_names, text_for}
 use Rattle.plug_info.specs.InfoTexts.{component_text, marks_text, pid_text, portion_text, sdt_texts, service_text, stream_text}
 use Rattle.plug_info.specs.PcrRate.{rate_of}
 use Rattle.plug_info.specs.SdtInForce.{is_number, items_in, sdt_of, service_body}
+use Rattle.plug_info.specs.declared.info_conf.InfoConf.{InfoConf}
 use Rattle.plug_info.specs.declared.pid_numbers.PidNumbers.{PidNumbers}
 use Rattle.plug_info.specs.declared.scene.Scene.{Scene}
 use Rattle.plug_info.specs.declared.stream_numbers.StreamNumbers.{StreamNumbers}
@@ -105,12 +107,45 @@ info_on cells =
     ++ (flat_map (service_lines cells) (services_in (pat_of (live_packets cells)))
     ++ flat_map (pid_lines cells) (numbers_below PID_COUNT))
 
+-- the object of a component of a service
+abbrev pub component_object : List Cell → ItemHolding → List ℕ
+component_object cells x =
+    let pid = unwrap_or (first_number (drop 1 x.values)) 0 in
+    component_json (scene_of cells) pid (unwrap_or (first_number x.values) 0) x.descriptors (numbers_on pid cells) (users_of (live_packets cells) pid)
+
+-- the object of an entry of the PAT in force, with those of the components of its PMT in force
+abbrev pub service_object : List Cell → ℕ × ℕ → List ℕ
+service_object cells service =
+    let pmt = pmt_of service.0 (live_packets cells) in
+    service_json service.0 service.1 (service_body (sdt_of (live_packets cells)) service.0) (pcr_pid_in pmt)
+    (portion_json (scene_of cells) (service_packets pmt (live_packets cells)))
+    (array (map (component_object cells) (items_in pmt)))
+
+-- the object of a PID that has packets and is no component's
+abbrev pub pid_objects : List Cell → ℕ → List (List ℕ)
+pid_objects cells pid =
+    if not (packets_on pid (live_packets cells) == 0) && (users_of (live_packets cells) pid == 0)
+    then pid_json pid (use_of (live_packets cells) pid) (portion_json (scene_of cells) (packets_on pid (live_packets cells))) (numbers_on pid cells) ∷ []
+    else []
+
+-- the same of a list of cells as one JSON object
+abbrev pub json_on : List Cell → List ℕ
+json_on cells =
+    whole_json (stream_json (stream_numbers cells))
+    (number_or_null (stream_id_in (sdt_of (live_packets cells))))
+    (array (map (service_object cells) (services_in (pat_of (live_packets cells)))))
+    (array (flat_map (pid_objects cells) (numbers_below PID_COUNT)))
+
+-- what is said of a list of cells in the form that is wanted
+abbrev pub report_in : Bool → List Cell → List (List ℕ)
+report_in json cells = if json then json_on cells ∷ [] else info_on cells
+
 -- every packet passes, and the summary tells of them
-abbrev pub info_rule : PluginRule
-info_rule = record {
+abbrev pub info_rule : InfoConf → PluginRule
+info_rule conf = record {
   outcome_of = λ _ packet _. passes packet;
   labels_of = λ _ _ labels. labels;
   lines_of = λ _ _ _. [];
-  summary_of = λ history. info_on history;
+  summary_of = λ history. report_in conf.json history;
   agrees = λ _. false;
 }

@@ -2,6 +2,6 @@
 -- This project's own rule.
 use Rattle.plug_info.specs.declared.info_conf.InfoConf.{InfoConf}
 
--- there is nothing to set
+-- both settings are
 abbrev pub IsLawfulInfo : InfoConf → Type 0
 IsLawfulInfo c = Unit {0}

@@ -1,8 +1,13 @@
 -- When a value of `info` stands for the cells that it met. This project's own rule.
 use Rattle.std.specs.Prelude.{Bool, ℕ, List}
 use Rattle.ts_packet.specs.declared.cell.Cell.{Cell}
+use Rattle.plug_info.specs.declared.info_conf.InfoConf.{InfoConf}
 use Rattle.plug_info.specs.MetState.{HasMet}
 use Rattle.plug_info.specs.declared.info.Info.{Info}
+
+-- the settings
+abbrev pub conf_of : Info → InfoConf
+conf_of s = record { json = s.json }
 
 -- whether memory was wanting
 abbrev pub has_failed : Info → Bool

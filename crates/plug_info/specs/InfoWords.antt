@@ -1,19 +1,19 @@
 -- The words of `info`.
 -- This project's own rule.
-use Rattle.std.specs.Prelude.{List, [], true}
+use Rattle.std.specs.Prelude.{List, [], ◌∷◌, true, codes}
 use Rattle.plug_info.specs.declared.info_conf.InfoConf.{InfoConf}
-use Rattle.option_words.specs.Options.{OptionRow}
+use Rattle.option_words.specs.Options.{OptionRow, flag, has_flag}
 use Rattle.option_words.specs.OptionTable.{OptionTable}
 
 -- the options
 abbrev pub info_rows : List OptionRow
-info_rows = []
+info_rows = record { name = codes "json"; kind = flag } ∷ []
 
--- nothing can be given, and nothing has to be
+-- nothing has to be given
 abbrev pub info : OptionTable InfoConf
 info = record {
   rows = info_rows;
   has_needed = λ found. true;
-  settings = λ found. record {};
+  settings = λ found. record { json = has_flag (codes "json") found };
   go_together = λ found. true;
 }

@@ -3,7 +3,7 @@ ghost use Rattle.plug_info.specs.InfoRule.{info_rule};
 
 use crate::info_conf::InfoConf;
 use crate::met_cells::MetCells;
-use crate::summary::push_summary;
+use crate::report::push_report;
 use plugin_trait::{Line, Outcome, Plugin};
 use std::alloc::{AllocError, Global};
 use ts_packet::Cell;
@@ -13,6 +13,7 @@ use ts_packet::Cell;
 /// A step may want memory, and then every later step does, and nothing is told.
 #[derive(Drop)]
 pub struct Info {
+    json: bool,
     met: MetCells,
     failed: bool,
     alloc: Global,
@@ -28,13 +29,14 @@ impl Info {
 
     /// A plugin that met no cell yet. It takes room for its tables, and for as many cells as the buffer holds; the tables
     /// in force grow with the stream.
-    pub fn new(alloc: Global, _conf: &InfoConf, buffer: usize) -> Result<Info, AllocError>
-        requires { IsLawfulInfo _conf.now }
-        ensures rule { IfOk result (λ plugin. ⟦<Info as Plugin>⟧.rule plugin ≡ info_rule) }
+    pub fn new(alloc: Global, conf: &InfoConf, buffer: usize) -> Result<Info, AllocError>
+        requires { IsLawfulInfo conf.now }
+        ensures rule { IfOk result (λ plugin. ⟦<Info as Plugin>⟧.rule plugin ≡ info_rule conf.now) }
         ensures fresh { IfOk result (λ plugin. ⟦<Info as Plugin>⟧.stands_for plugin [] 0) }
         ensures steady { IfOk result (λ plugin. ⟦<Info as Plugin>⟧.steady plugin ≡ None) }
     {
         Ok(Info {
+            json: conf.json,
             met: MetCells::new(alloc, buffer)?,
             failed: false,
             alloc,
@@ -46,6 +48,7 @@ impl Info {
     fn meet(&mut self, cell: &Cell) -> Result<(), AllocError>
         ensures met { OnOk result ((history : List GivenCell) (mark : ℕ) → StandsFor self.old history mark → length history < POSITION_LIMIT
             → StandsFor self.new (history ++ cell.now ∷ []) mark) }
+        ensures same { self.new.json ≡ self.old.json }
         ensures spent { OnErr result (has_failed self.new ≡ true) }
         ensures stays_spent { has_failed self.old ≡ true → IsErr result }
     {
@@ -65,9 +68,9 @@ impl Info {
 impl Plugin for Info {
     ghost use Rattle.std.specs.Prelude.{◌≡◌, ◌≤◌, length, false, None, refl};
     ghost use Rattle.plug_info.specs.InfoRule.{info_rule};
-    ghost use Rattle.plug_info.specs.InfoStands.{StandsFor, has_failed};
+    ghost use Rattle.plug_info.specs.InfoStands.{StandsFor, conf_of, has_failed};
 
-    ghost rule = { λ s. info_rule };
+    ghost rule = { λ s. info_rule (conf_of s) };
 
     ghost stands_for = { λ s history mark. (has_failed s ≡ false → StandsFor s history mark) × (mark ≤ length history) };
 
@@ -111,7 +114,7 @@ impl Plugin for Info {
         }
         self.met.take_below(cut)?;
         let mut lines = Vec::new(self.alloc);
-        push_summary(&mut lines, cut, &self.met.tracker)?;
+        push_report(&mut lines, cut, &self.met.tracker, self.json)?;
         Ok(lines)
     }
 

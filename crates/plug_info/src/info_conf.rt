@@ -1,3 +1,6 @@
-/// Settings of `info`, which has none.
+/// Settings of `info`.
 #[derive(Drop)]
-pub struct InfoConf {}
+pub struct InfoConf {
+    /// The summary is one JSON object on one line.
+    pub json: bool,
+}

@@ -7,20 +7,25 @@ ghost use Rattle.option_words.specs.Refusal.{ReadsParsed};
 
 use crate::info_conf::InfoConf;
 use clap::Command;
-use option_words::{ParsedOptions, Refusal, new_command};
+use option_words::{OptionWord, ParsedOptions, Refusal, command_with};
 use std::alloc::{AllocError, Global};
 
-/// The command of `info`, which has no options.
+// The options of `info`.
+static INFO: [OptionWord; 1] = [OptionWord::Flag("json")];
+
+/// The command of `info`, which has its options.
 pub fn info_command<'a>(alloc: Global) -> Result<Command<'a>, AllocError>
     ensures { IfOk result (λ c. app_of c ≡ command_of info_rows) }
 {
-    Ok(new_command(alloc))
+    command_with(alloc, &INFO)
 }
 
-/// Reads the settings of `info` from what its command found in the words. There is nothing to read.
-pub fn info_settings(_alloc: Global, _found: &ParsedOptions) -> Result<InfoConf, Refusal>
-    ensures reads { ReadsParsed info _found.now result }
+/// Reads the settings of `info` from what its command found in the words.
+pub fn info_settings(_alloc: Global, found: &ParsedOptions) -> Result<InfoConf, Refusal>
+    ensures reads { ReadsParsed info found.now result }
     ensures lawful { IfOk result IsLawfulInfo }
 {
-    Ok(InfoConf {})
+    Ok(InfoConf {
+        json: found.has_flag("json"),
+    })
 }

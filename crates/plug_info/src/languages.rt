@@ -43,8 +43,8 @@ fn push_codec(text: &mut String, name: Option<&str>) -> Result<(), AllocError>
     Ok(())
 }
 
-// How many bytes each language of a descriptor takes.
-fn language_step(tag: u8) -> usize
+/// How many bytes each language of a descriptor takes.
+pub fn language_step(tag: u8) -> usize
     ensures step { result ≡ InfoTexts.language_step tag }
     ensures least { 3 ≤ result }
     ensures most { result ≤ 256 }
@@ -97,8 +97,8 @@ fn push_language(
     Ok(())
 }
 
-// Whether a language stands at a place.
-fn is_entry(step: usize, size: usize, place: usize) -> bool
+/// Whether a language stands at a place.
+pub fn is_entry(step: usize, size: usize, place: usize) -> bool
     requires least { 3 ≤ step }
     requires most { step ≤ 256 }
     requires within { place < size }
@@ -108,8 +108,8 @@ fn is_entry(step: usize, size: usize, place: usize) -> bool
     place % step == 0 && place + step <= size
 }
 
-// The language that stands at a place.
-fn language_in(body: &[u8], place: usize) -> &[u8]
+/// The language that stands at a place.
+pub fn language_in(body: &[u8], place: usize) -> &[u8]
     requires { place + 3 ≤ length body.now }
     ensures { result.now ≡ take 3 (drop place body.now) }
 {

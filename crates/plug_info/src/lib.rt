@@ -1,6 +1,7 @@
-//! The plugin `info`: packets come in and pass; what is in the stream comes out as its summary, on one screen: the
-//! services by name, their components, how much of the rate each takes, and the other PIDs. The layer above reads settings
-//! of words, makes the plugin, and uses it by the clauses of `Plugin`, which hold the summary to the cells that count.
+//! The plugin `info`: packets come in and pass; what is in the stream comes out as its summary, on one screen or as one
+//! JSON object: the services by name, their components, how much of the rate each takes, and the other PIDs. The layer
+//! above reads settings of words, makes the plugin, and uses it by the clauses of `Plugin`, which hold the summary to the
+//! cells that count.
 #![tactic(auto)]
 
 mod clock_span;
@@ -8,11 +9,15 @@ mod counters;
 mod info;
 mod info_conf;
 mod info_words;
+mod json;
+mod json_marks;
+mod json_parts;
 mod languages;
 mod met_cells;
 mod name_row;
 mod pid_numbers;
 mod portions;
+mod report;
 mod scene;
 mod sdt_in_force;
 mod service_texts;

@@ -26,8 +26,8 @@ pub fn percent(alloc: Global, part: u64, whole: u64) -> Result<String, AllocErro
     Ok(text)
 }
 
-// The part of a bit rate that so many of all packets take, rounded down.
-fn rate_part(rate: u64, part: u64, whole: u64) -> u128
+/// The part of a bit rate that so many of all packets take, rounded down.
+pub fn rate_part(rate: u64, part: u64, whole: u64) -> u128
     ensures { result ≡ InfoTexts.rate_part rate part whole }
 {
     if whole == 0 {

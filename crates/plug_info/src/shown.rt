@@ -15,8 +15,8 @@ fn is_plain(byte: u8) -> bool
     0x20 <= byte && byte != 0x22 && byte != 0x5C && byte != 0x7F
 }
 
-// Whether all bytes may.
-fn are_plain(bytes: &[u8]) -> bool
+/// Whether all bytes may.
+pub fn are_plain(bytes: &[u8]) -> bool
     ensures { result ≡ list_all InfoTexts.is_plain bytes.now }
 {
     bytes.iter().all(|byte| is_plain(*byte))
@@ -39,8 +39,8 @@ pub fn shown(alloc: Global, bytes: &[u8]) -> Result<String, AllocError>
     Ok(hex)
 }
 
-// Bytes as hexadecimal digits behind `0x`.
-fn hex_text(alloc: Global, bytes: &[u8]) -> Result<String, AllocError>
+/// Bytes as hexadecimal digits behind `0x`.
+pub fn hex_text(alloc: Global, bytes: &[u8]) -> Result<String, AllocError>
     ensures { IfOk result (λ text. string_bytes text ≡ InfoTexts.hex_text bytes.now) }
 {
     let digits = hex::encode(alloc, bytes)?;

@@ -54,8 +54,8 @@ pub fn push_summary(lines: &mut Vec<Line>, cut: u64, tracker: &Tracker) -> Resul
     Ok(())
 }
 
-// The numbers of the whole stream.
-fn stream_numbers(tracker: &Tracker) -> StreamNumbers
+/// The numbers of the whole stream.
+pub fn stream_numbers(tracker: &Tracker) -> StreamNumbers
     requires { IsReady tracker.now }
     ensures { (cells : List GivenCell) → Tracks tracker.now cells → result ≡ stream_numbers cells }
 {
@@ -80,8 +80,8 @@ fn pat_stream_id(tracker: &Tracker) -> Option<u16>
     }
 }
 
-// The transport_stream_id of the SDT in force.
-fn sdt_stream_id(tracker: &Tracker) -> Option<u16>
+/// The transport_stream_id of the SDT in force.
+pub fn sdt_stream_id(tracker: &Tracker) -> Option<u16>
     ensures { (cells : List GivenCell) → Tracks tracker.now cells → result ≡ stream_id_in (sdt_of (live_packets cells)) }
 {
     match &tracker.sdt.sdt {
@@ -126,15 +126,15 @@ fn stream_tail(alloc: Global, s: &StreamNumbers) -> Result<String, AllocError>
     Ok(text)
 }
 
-// How many bytes packets have.
-fn bytes_of(packets: u64) -> u128
+/// How many bytes packets have.
+pub fn bytes_of(packets: u64) -> u128
     ensures { result ≡ packets * PACKET_SIZE }
 {
     u128::from(packets) * 188
 }
 
-// The same number, if there is one.
-fn widened(number: Option<u16>) -> Option<u64>
+/// The same number, if there is one.
+pub fn widened(number: Option<u16>) -> Option<u64>
     ensures { result ≡ number }
 {
     match number {
@@ -272,8 +272,8 @@ fn service_tail(
     Ok(text)
 }
 
-// The PCR_PID of a PMT.
-fn pcr_pid_in(pmt: Option<&Pmt>) -> Option<u64>
+/// The PCR_PID of a PMT.
+pub fn pcr_pid_in(pmt: Option<&Pmt>) -> Option<u64>
     ensures { result ≡ pcr_pid_in (option_map pmt_held (option_copied pmt.entry)) }
 {
     match pmt {
@@ -282,8 +282,8 @@ fn pcr_pid_in(pmt: Option<&Pmt>) -> Option<u64>
     }
 }
 
-// The packets on the PIDs of the components of a PMT.
-fn service_packets(tracker: &Tracker, pmt: Option<&Pmt>) -> Result<u64, AllocError>
+/// The packets on the PIDs of the components of a PMT.
+pub fn service_packets(tracker: &Tracker, pmt: Option<&Pmt>) -> Result<u64, AllocError>
     requires { IsReady tracker.now }
     ensures { IfOk result (λ n. (cells : List GivenCell) → Tracks tracker.now cells
         → n ≡ service_packets (option_map pmt_held (option_copied pmt.entry)) (live_packets cells)) }
@@ -467,8 +467,8 @@ fn pid_text(
     Ok(LineText::of(text))
 }
 
-// What a PID is, that is no component's.
-fn use_of(tracker: &Tracker, pid: u16) -> &'static str
+/// What a PID is, that is no component's.
+pub fn use_of(tracker: &Tracker, pid: u16) -> &'static str
     ensures { (cells : List GivenCell) → Tracks tracker.now cells → result.now ≡ use_of (live_packets cells) pid }
 {
     if tracker.force.names(pid) {

@@ -1,7 +1,8 @@
 use Rattle.std.proofs.Common.{◌++◌, List, take, ap, ◌∙◌}
 use Rattle.plugin_trait.specs.declared.line.Line.{Line}
 use Rattle.plugin_trait.specs.PlacedLines.{placed_at}
-use Rattle.plug_info.specs.InfoRule.{info_on}
+use Rattle.plug_info.specs.InfoRule.{report_in}
+use Rattle.plug_info.specs.InfoStands.{conf_of}
 use Rattle.plug_info.proofs.MetLemmas.{report_is}
 use Rattle.plug_info.proofs.info.InfoPlugin.finish.Goals as goal
 
@@ -17,6 +18,6 @@ take_below-requires c = record {
 pub returns : goal.returns
 returns c = λ history mark s later within.
     let met = c.in_ok-take_below.ensures history mark (s.0 c.if-self.false) later within in
-    report_is history c.args.cut c.push_summary.new.lines.items within
-    (c.in_ok-push_summary.ensures (take c.args.cut history) met.tracks
-    ∙ ap (λ (ls : List Line). ls ++ placed_at c.args.cut (info_on (take c.args.cut history))) c.new-lines.ensures.items)
+    report_is (conf_of c.args.self.now) history c.args.cut c.push_report.new.lines.items within
+    (c.in_ok-push_report.ensures (take c.args.cut history) met.tracks
+    ∙ ap (λ (ls : List Line). ls ++ placed_at c.args.cut (report_in c.args.self.now.json (take c.args.cut history))) c.new-lines.ensures.items)

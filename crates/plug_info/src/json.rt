@@ -1,0 +1,353 @@
+//! The summary of what was met, as one JSON object.
+ghost use Rattle.std.specs.Prelude.{◌≡◌, ◌<◌, ◌++◌, ◌∷◌, [], List, IfOk, OnOk, map, option_map};
+ghost use Rattle.std.specs.List.{flat_map};
+ghost use Rattle.std.specs.Option.{option_copied};
+ghost use Rattle.std.specs.String.{string_bytes};
+ghost use Rattle.ts_packet.specs.declared.cell.Cell.{Cell as GivenCell};
+ghost use Rattle.ts_packet.specs.Cells.{live_packets};
+ghost use Rattle.ts_packet.specs.declared.numbers.TheConstants.{PID_COUNT};
+ghost use Rattle.ts_psi.specs.PsiTables.{component_item, pmt_held};
+ghost use Rattle.plugin_notes.specs.PidPackets.{numbers_below};
+ghost use Rattle.plugin_trait.specs.PlacedLines.{placed_at};
+ghost use Rattle.plug_psi.specs.InForce.{pat_of, pmt_of, services_in};
+ghost use Rattle.plug_info.specs.InfoJson;
+ghost use Rattle.plug_info.specs.InfoJson.{behind_comma};
+ghost use Rattle.plug_info.specs.InfoRule.{component_object, json_on, pid_objects, scene_of, service_object, use_of};
+ghost use Rattle.plug_info.specs.SdtInForce.{items_in};
+ghost use Rattle.plug_info.specs.Tracked.{IsReady, Tracks};
+
+use crate::json_marks::marks_json;
+use crate::json_parts::{
+    array, bytes_field, name_or_null, number_or_null, portion_json, push_item, troubles_json,
+};
+use crate::name_row::stream_type_name;
+use crate::pid_numbers::PidNumbers;
+use crate::scene::Scene;
+use crate::service_texts::{name_in, provider_in, service_body, type_in};
+use crate::stream_numbers::StreamNumbers;
+use crate::summary::{
+    bytes_of, pcr_pid_in, sdt_stream_id, service_packets, stream_numbers, use_of, widened,
+};
+use crate::tracker::Tracker;
+use crate::users::{parts, users_of};
+use plugin_notes::push_line;
+use plugin_trait::{Line, LineText};
+use std::alloc::{AllocError, Global};
+use ts_packet::PID_COUNT;
+use ts_psi::{Component, Pmt};
+
+/// Puts the object behind other lines: the stream, the services in force with their components, and the other PIDs.
+pub fn push_json(lines: &mut Vec<Line>, cut: u64, tracker: &Tracker) -> Result<(), AllocError>
+    requires { IsReady tracker.now }
+    ensures { OnOk result ((cells : List GivenCell) → Tracks tracker.now cells → lines.new.items ≡ lines.old.items ++ placed_at cut (json_on cells ∷ [])) }
+{
+    let alloc = *lines.allocator();
+    let text = whole_json(alloc, tracker)?;
+    push_line(lines, cut, text)?;
+    Ok(())
+}
+
+// The object.
+fn whole_json(alloc: Global, tracker: &Tracker) -> Result<LineText, AllocError>
+    requires { IsReady tracker.now }
+    ensures { IfOk result (λ text. (cells : List GivenCell) → Tracks tracker.now cells → text ≡ json_on cells) }
+{
+    let numbers = stream_numbers(tracker);
+    let scene = Scene {
+        whole: numbers.packets,
+        rate: numbers.rate,
+    };
+    let stream = stream_json(alloc, &numbers)?;
+    let sdt = number_or_null(alloc, widened(sdt_stream_id(tracker)))?;
+    let services = services_json(alloc, tracker, &scene)?;
+    let pids = pids_json(alloc, tracker, &scene)?;
+    let text = format!(in alloc;
+        "{{\"stream\":{stream},\"sdt_transport_stream_id\":{sdt},\"services\":{services},\"pids\":{pids}}}"
+    )?;
+    Ok(LineText::of(text))
+}
+
+// The object of the stream.
+fn stream_json(alloc: Global, s: &StreamNumbers) -> Result<String, AllocError>
+    ensures { IfOk result (λ text. string_bytes text ≡ InfoJson.stream_json s.now) }
+{
+    let head = stream_head(alloc, s)?;
+    let tail = stream_tail(alloc, s)?;
+    let text = format!(in alloc; "{head}{tail}")?;
+    Ok(text)
+}
+
+// Its first half: how much there is.
+fn stream_head(alloc: Global, s: &StreamNumbers) -> Result<String, AllocError>
+    ensures { IfOk result (λ text. string_bytes text ≡ InfoJson.stream_head s.now) }
+{
+    let bytes = bytes_of(s.packets);
+    let id = number_or_null(alloc, widened(s.stream_id))?;
+    let rate = number_or_null(alloc, s.rate)?;
+    let text = format!(in alloc;
+        "{{\"packets\":{},\"bytes\":{},\"transport_stream_id\":{},\"bitrate\":{}",
+        s.packets, bytes, id, rate
+    )?;
+    Ok(text)
+}
+
+// Its second half: null packets and troubles.
+fn stream_tail(alloc: Global, s: &StreamNumbers) -> Result<String, AllocError>
+    ensures { IfOk result (λ text. string_bytes text ≡ InfoJson.stream_tail s.now) }
+{
+    let text = format!(in alloc;
+        ",\"nulls\":{},\"errored\":{},\"scrambled\":{},\"faults\":{}}}",
+        s.nulls, s.errored, s.scrambled, s.faults
+    )?;
+    Ok(text)
+}
+
+// The array of the services of the PAT in force.
+fn services_json(alloc: Global, tracker: &Tracker, scene: &Scene) -> Result<String, AllocError>
+    requires { IsReady tracker.now }
+    ensures { IfOk result (λ text. (cells : List GivenCell) → Tracks tracker.now cells → scene.now ≡ scene_of cells
+        → string_bytes text ≡ InfoJson.array (map (service_object cells) (services_in (pat_of (live_packets cells))))) }
+{
+    let mut items = String::new(alloc);
+    push_services(alloc, &mut items, tracker, scene)?;
+    let text = array(alloc, &items)?;
+    Ok(text)
+}
+
+// Puts the services behind other items.
+fn push_services(
+    alloc: Global,
+    items: &mut String,
+    tracker: &Tracker,
+    scene: &Scene,
+) -> Result<(), AllocError>
+    requires { IsReady tracker.now }
+    ensures { OnOk result ((cells : List GivenCell) → Tracks tracker.now cells → scene.now ≡ scene_of cells
+        → string_bytes items.new ≡ string_bytes items.old ++ flat_map (λ s. behind_comma (service_object cells s)) (services_in (pat_of (live_packets cells)))) }
+{
+    let Some(pat) = tracker.force.pat() else {
+        return Ok(());
+    };
+    let entries = pat.services.as_slice();
+    for service in entries {
+        let (id, pid) = parts(service);
+        let text = service_json(alloc, tracker, scene, id, pid)?;
+        push_item(items, &text)?;
+    }
+    Ok(())
+}
+
+// The object of a service.
+fn service_json(
+    alloc: Global,
+    tracker: &Tracker,
+    scene: &Scene,
+    id: u16,
+    pid: u16,
+) -> Result<String, AllocError>
+    requires { IsReady tracker.now }
+    ensures { IfOk result (λ text. (cells : List GivenCell) → Tracks tracker.now cells → scene.now ≡ scene_of cells
+        → string_bytes text ≡ service_object cells (id, pid)) }
+{
+    let pmt = tracker.force.pmt(id);
+    let head = service_head(alloc, id, service_body(tracker.sdt.sdt.as_ref(), id))?;
+    let packets = service_packets(tracker, pmt)?;
+    let components = components_json(alloc, tracker, scene, pmt)?;
+    let tail = service_tail(alloc, scene, pid, pcr_pid_in(pmt), packets, &components)?;
+    let text = format!(in alloc; "{head}{tail}")?;
+    Ok(text)
+}
+
+// Its first half: what the SDT tells.
+fn service_head(alloc: Global, id: u16, body: Option<&[u8]>) -> Result<String, AllocError>
+    ensures { IfOk result (λ text. string_bytes text ≡ InfoJson.service_head id (option_map (λ b. b.now) body.entry)) }
+{
+    let kind = number_or_null(alloc, type_in(body))?;
+    let name = bytes_field(alloc, "name", name_in(body))?;
+    let provider = bytes_field(alloc, "provider", provider_in(body))?;
+    let text = format!(in alloc; "{{\"id\":{},\"type\":{},{},{}", id, kind, name, provider)?;
+    Ok(text)
+}
+
+// Its second half: its PIDs, its portion and its components.
+fn service_tail(
+    alloc: Global,
+    scene: &Scene,
+    pid: u16,
+    pcr: Option<u64>,
+    packets: u64,
+    components: &str,
+) -> Result<String, AllocError>
+    ensures { IfOk result (λ text. string_bytes text ≡ InfoJson.service_tail pid pcr (InfoJson.portion_json scene.now packets) components.now) }
+{
+    let portion = portion_json(alloc, scene, packets)?;
+    let pcr = number_or_null(alloc, pcr)?;
+    let text = format!(in alloc;
+        ",\"pmt\":{pid},\"pcr\":{pcr},{portion},\"components\":{components}}}"
+    )?;
+    Ok(text)
+}
+
+// The array of the components of a PMT.
+fn components_json(
+    alloc: Global,
+    tracker: &Tracker,
+    scene: &Scene,
+    pmt: Option<&Pmt>,
+) -> Result<String, AllocError>
+    requires { IsReady tracker.now }
+    ensures { IfOk result (λ text. (cells : List GivenCell) → Tracks tracker.now cells → scene.now ≡ scene_of cells
+        → string_bytes text ≡ InfoJson.array (map (component_object cells) (items_in (option_map pmt_held (option_copied pmt.entry))))) }
+{
+    let mut items = String::new(alloc);
+    push_components(alloc, &mut items, tracker, scene, components_of(pmt))?;
+    let text = array(alloc, &items)?;
+    Ok(text)
+}
+
+// The components of a PMT, none where there is none.
+fn components_of(pmt: Option<&Pmt>) -> &[Component]
+    ensures { map component_item result.now ≡ items_in (option_map pmt_held (option_copied pmt.entry)) }
+{
+    match pmt {
+        Some(pmt) => pmt.components.as_slice(),
+        None => &[],
+    }
+}
+
+// Puts components behind other items.
+fn push_components(
+    alloc: Global,
+    items: &mut String,
+    tracker: &Tracker,
+    scene: &Scene,
+    components: &[Component],
+) -> Result<(), AllocError>
+    requires { IsReady tracker.now }
+    ensures { OnOk result ((cells : List GivenCell) → Tracks tracker.now cells → scene.now ≡ scene_of cells
+        → string_bytes items.new ≡ string_bytes items.old ++ flat_map (λ c. behind_comma (component_object cells (component_item c))) components.now) }
+{
+    for component in components {
+        let text = component_json(alloc, tracker, scene, component)?;
+        push_item(items, &text)?;
+    }
+    Ok(())
+}
+
+// The object of a component.
+fn component_json(
+    alloc: Global,
+    tracker: &Tracker,
+    scene: &Scene,
+    component: &Component,
+) -> Result<String, AllocError>
+    requires { IsReady tracker.now }
+    ensures { IfOk result (λ text. (cells : List GivenCell) → Tracks tracker.now cells → scene.now ≡ scene_of cells
+        → string_bytes text ≡ component_object cells (component_item component.now)) }
+{
+    let numbers = tracker.totals.numbers_on(component.pid);
+    let users = users_of(&tracker.force, component.pid);
+    let head = component_head(alloc, component.pid, component.stream_type)?;
+    let marks = marks_json(alloc, component.descriptors.as_slice())?;
+    let tail = component_tail(alloc, scene, &numbers, users)?;
+    let text = format!(in alloc; "{head}{marks}{tail}")?;
+    Ok(text)
+}
+
+// Its beginning: what it is.
+fn component_head(alloc: Global, pid: u16, kind: u8) -> Result<String, AllocError>
+    ensures { IfOk result (λ text. string_bytes text ≡ InfoJson.component_head pid kind) }
+{
+    let name = name_or_null(alloc, stream_type_name(kind))?;
+    let text = format!(in alloc;
+        "{{\"pid\":{pid},\"stream_type\":{kind},\"stream_type_name\":{name}"
+    )?;
+    Ok(text)
+}
+
+// Its end: its portion and its troubles, and how many services have it.
+fn component_tail(
+    alloc: Global,
+    scene: &Scene,
+    numbers: &PidNumbers,
+    users: u64,
+) -> Result<String, AllocError>
+    ensures { IfOk result (λ text. string_bytes text ≡ InfoJson.component_tail scene.now numbers.now users) }
+{
+    let portion = portion_json(alloc, scene, numbers.packets)?;
+    let troubles = troubles_json(alloc, numbers)?;
+    let text = format!(in alloc; "{portion}{troubles},\"services\":{users}}}")?;
+    Ok(text)
+}
+
+// The array of the PIDs that have packets and are no component's.
+fn pids_json(alloc: Global, tracker: &Tracker, scene: &Scene) -> Result<String, AllocError>
+    requires { IsReady tracker.now }
+    ensures { IfOk result (λ text. (cells : List GivenCell) → Tracks tracker.now cells → scene.now ≡ scene_of cells
+        → string_bytes text ≡ InfoJson.array (flat_map (pid_objects cells) (numbers_below PID_COUNT))) }
+{
+    let mut items = String::new(alloc);
+    push_pids(alloc, &mut items, tracker, scene)?;
+    let text = array(alloc, &items)?;
+    Ok(text)
+}
+
+// Puts them behind other items.
+fn push_pids(
+    alloc: Global,
+    items: &mut String,
+    tracker: &Tracker,
+    scene: &Scene,
+) -> Result<(), AllocError>
+    requires { IsReady tracker.now }
+    ensures { OnOk result ((cells : List GivenCell) → Tracks tracker.now cells → scene.now ≡ scene_of cells
+        → string_bytes items.new ≡ string_bytes items.old ++ flat_map (λ pid. flat_map behind_comma (pid_objects cells pid)) (numbers_below PID_COUNT)) }
+{
+    for pid in 0..PID_COUNT {
+        push_pid(alloc, items, tracker, scene, pid)?;
+    }
+    Ok(())
+}
+
+// Puts a PID behind other items, where it has packets and is no component's.
+fn push_pid(
+    alloc: Global,
+    items: &mut String,
+    tracker: &Tracker,
+    scene: &Scene,
+    pid: u16,
+) -> Result<(), AllocError>
+    requires ready { IsReady tracker.now }
+    requires on_pid { pid < PID_COUNT }
+    ensures { OnOk result ((cells : List GivenCell) → Tracks tracker.now cells → scene.now ≡ scene_of cells
+        → string_bytes items.new ≡ string_bytes items.old ++ flat_map behind_comma (pid_objects cells pid)) }
+{
+    let numbers = tracker.totals.numbers_on(pid);
+    if numbers.packets == 0 {
+        return Ok(());
+    }
+    if users_of(&tracker.force, pid) != 0 {
+        return Ok(());
+    }
+    let text = pid_json(alloc, tracker, scene, pid, &numbers)?;
+    push_item(items, &text)?;
+    Ok(())
+}
+
+// The object of a PID.
+fn pid_json(
+    alloc: Global,
+    tracker: &Tracker,
+    scene: &Scene,
+    pid: u16,
+    numbers: &PidNumbers,
+) -> Result<String, AllocError>
+    ensures { IfOk result (λ text. (cells : List GivenCell) → Tracks tracker.now cells
+        → string_bytes text ≡ InfoJson.pid_json pid (use_of (live_packets cells) pid) (InfoJson.portion_json scene.now numbers.now.packets) numbers.now) }
+{
+    let name = use_of(tracker, pid);
+    let portion = portion_json(alloc, scene, numbers.packets)?;
+    let troubles = troubles_json(alloc, numbers)?;
+    let text = format!(in alloc; "{{\"pid\":{pid},\"use\":\"{name}\",{portion}{troubles}}}")?;
+    Ok(text)
+}

@@ -1,0 +1,29 @@
+ghost use Rattle.std.specs.Prelude.{◌≡◌, ◌++◌, List, OnOk};
+ghost use Rattle.ts_packet.specs.declared.cell.Cell.{Cell as GivenCell};
+ghost use Rattle.plugin_trait.specs.PlacedLines.{placed_at};
+ghost use Rattle.plug_info.specs.InfoRule.{report_in};
+ghost use Rattle.plug_info.specs.Tracked.{IsReady, Tracks};
+
+use crate::json::push_json;
+use crate::summary::push_summary;
+use crate::tracker::Tracker;
+use plugin_trait::Line;
+use std::alloc::AllocError;
+
+/// Puts what is told at the end behind other lines, as one JSON object where that is wanted.
+pub fn push_report(
+    lines: &mut Vec<Line>,
+    cut: u64,
+    tracker: &Tracker,
+    json: bool,
+) -> Result<(), AllocError>
+    requires { IsReady tracker.now }
+    ensures { OnOk result ((cells : List GivenCell) → Tracks tracker.now cells → lines.new.items ≡ lines.old.items ++ placed_at cut (report_in json cells)) }
+{
+    if json {
+        push_json(lines, cut, tracker)?;
+        return Ok(());
+    }
+    push_summary(lines, cut, tracker)?;
+    Ok(())
+}
