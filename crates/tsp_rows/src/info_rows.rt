@@ -9,7 +9,7 @@ pub(crate) fn rows() -> &'static [Row] {
     &INFO_ROWS
 }
 
-static INFO_ROWS: [Row; 7] = [
+static INFO_ROWS: [Row; 10] = [
     Row {
         name: "info of a stream without a PAT",
         words: "-I file in -P info -O drop",
@@ -52,6 +52,24 @@ static INFO_ROWS: [Row; 7] = [
         input: Input::Pids(&[]),
         plan: ORDINARY,
     },
+    Row {
+        name: "info of a stream without a PAT, as JSON",
+        words: "-I file in -P info --json -O drop",
+        input: Input::Pids(&[256, 8191, 257, 8191]),
+        plan: ORDINARY,
+    },
+    Row {
+        name: "info of a service without a name, as JSON",
+        words: "-I file in -P info --json -O drop",
+        input: Input::Around(&[300], &[Carried::Pat, Carried::PmtOf300], &[301]),
+        plan: ORDINARY,
+    },
+    Row {
+        name: "info of two services with one PCR PID, as JSON",
+        words: "-I testgen 1 1000 -P info --json -O drop",
+        input: Input::Pids(&[]),
+        plan: ORDINARY,
+    },
 ];
 
 /// Words of `info` that are no command line.
@@ -59,9 +77,17 @@ pub(crate) fn of_words() -> &'static [Row] {
     &INFO_WORD_ROWS
 }
 
-static INFO_WORD_ROWS: [Row; 1] = [Row {
-    name: "info takes no operand",
-    words: "-I null 1 -P info 1 -O drop",
-    input: Input::Pids(&[]),
-    plan: ORDINARY,
-}];
+static INFO_WORD_ROWS: [Row; 2] = [
+    Row {
+        name: "info takes no operand",
+        words: "-I null 1 -P info 1 -O drop",
+        input: Input::Pids(&[]),
+        plan: ORDINARY,
+    },
+    Row {
+        name: "info takes --json without a value",
+        words: "-I null 1 -P info --json=1 -O drop",
+        input: Input::Pids(&[]),
+        plan: ORDINARY,
+    },
+];
