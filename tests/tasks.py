@@ -10,8 +10,9 @@ LIMIT, LINGER = 60, 2
 
 PACKET = bytes([0x47, 0x01, 0x00, 0x10]) + bytes(range(184))
 
-# A user who has no process, since root is exempt from limits and may do all.
-NOBODY = 54_321
+# A user who has no process, since root is exempt from limits and may do all. Each script has one of its own: a limit on
+# tasks counts those of the user, whoever started them.
+NOBODY = 54_321 + os.getpid()
 
 
 def become_nobody():
