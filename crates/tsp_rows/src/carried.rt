@@ -5,6 +5,11 @@ static PAT: [u8; 16] = [
     0x00, 0xB0, 0x0D, 0x00, 0x01, 0xC1, 0x00, 0x00, 0x00, 0x01, 0xF0, 0x00, 0x2A, 0xB1, 0x04, 0xB2,
 ];
 
+/// A PAT of version 1 of the same stream, with the service 2 on PID 4097.
+static NEXT_PAT: [u8; 16] = [
+    0x00, 0xB0, 0x0D, 0x00, 0x01, 0xC3, 0x00, 0x00, 0x00, 0x02, 0xF0, 0x01, 0xB2, 0xB7, 0x3C, 0xAE,
+];
+
 /// A CAT of version 3 without descriptors.
 static CAT: [u8; 12] = [
     0x01, 0xB0, 0x09, 0xFF, 0xFF, 0xC7, 0x00, 0x00, 0xD2, 0xBE, 0x49, 0x50,
@@ -36,6 +41,7 @@ static NIT: [u8; 16] = [
 #[derive(Clone, Copy)]
 pub(crate) enum Carried {
     Pat,
+    NextPat,
     Cat,
     Pmt,
     PmtOf300,
@@ -47,7 +53,7 @@ impl Carried {
     /// The PID on which it comes.
     pub(crate) fn pid(self) -> u16 {
         match self {
-            Carried::Pat => 0,
+            Carried::Pat | Carried::NextPat => 0,
             Carried::Cat => 1,
             Carried::Pmt | Carried::PmtOf300 => 4096,
             Carried::Sdt => 17,
@@ -59,6 +65,7 @@ impl Carried {
     pub(crate) fn section(self) -> &'static [u8] {
         match self {
             Carried::Pat => &PAT,
+            Carried::NextPat => &NEXT_PAT,
             Carried::Cat => &CAT,
             Carried::Pmt => &PMT,
             Carried::PmtOf300 => &PMT_OF_300,

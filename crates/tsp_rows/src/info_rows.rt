@@ -9,7 +9,7 @@ pub(crate) fn rows() -> &'static [Row] {
     &INFO_ROWS
 }
 
-static INFO_ROWS: [Row; 10] = [
+static INFO_ROWS: [Row; 12] = [
     Row {
         name: "info of a stream without a PAT",
         words: "-I file in -P info -O drop",
@@ -26,6 +26,18 @@ static INFO_ROWS: [Row; 10] = [
         name: "info of a service without a name",
         words: "-I file in -P info -O drop",
         input: Input::Around(&[300], &[Carried::Pat, Carried::PmtOf300], &[301]),
+        plan: ORDINARY,
+    },
+    Row {
+        name: "info of a scrambled component",
+        words: "-I file in -P info -O drop",
+        input: Input::Scrambled(&[Carried::Pat, Carried::PmtOf300], &[300, 300, 300]),
+        plan: ORDINARY,
+    },
+    Row {
+        name: "info of a PAT that changes within the stream",
+        words: "-I file in -P info -O drop",
+        input: Input::Around(&[300], &[Carried::Pat, Carried::NextPat], &[301]),
         plan: ORDINARY,
     },
     Row {

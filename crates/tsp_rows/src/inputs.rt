@@ -38,6 +38,8 @@ pub(crate) enum Input {
     Tables(&'static [Carried]),
     /// Packets on these PIDs, a packet for each of these tables as above, and packets on these PIDs.
     Around(&'static [u16], &'static [Carried], &'static [u16]),
+    /// A packet for each of these tables as above, and scrambled packets on these PIDs, with counters from 0 on.
+    Scrambled(&'static [Carried], &'static [u16]),
     /// Packets with these first five bytes. Their other bytes are 0x90: as the flags of an adaptation field, a
     /// discontinuity and a PCR.
     Headed(&'static [[u8; 5]]),
@@ -69,6 +71,10 @@ pub(crate) fn input_bytes(alloc: Global, input: Input) -> Result<Vec<u8>, AllocE
             push_packets(&mut bytes, before)?;
             push_tables(&mut bytes, carried)?;
             push_packets(&mut bytes, behind)?;
+        }
+        Input::Scrambled(carried, pids) => {
+            push_tables(&mut bytes, carried)?;
+            push_scrambled(&mut bytes, pids)?;
         }
         Input::Headed(heads) => push_headed(&mut bytes, heads)?,
         Input::LongPats(parts) => push_parts(&mut bytes, parts)?,
@@ -116,6 +122,18 @@ fn push_packet(bytes: &mut Vec<u8>, pid: u16, counter: u8) -> Result<(), AllocEr
     bytes.extend_from_slice(&[0x47, high, low, 0x10 | counter % 16])?;
     for k in 0..184u8 {
         bytes.push(counter.wrapping_add(k))?;
+    }
+    Ok(())
+}
+
+/// A packet on each of these PIDs whose payload was scrambled with the even key.
+fn push_scrambled(bytes: &mut Vec<u8>, pids: &[u16]) -> Result<(), AllocError> {
+    for (i, pid) in pids.iter().enumerate() {
+        let [high, low] = pid.to_be_bytes();
+        bytes.extend_from_slice(&[0x47, high, low, 0x90 | (i % 16) as u8])?;
+        for k in 0..184u8 {
+            bytes.push(k)?;
+        }
     }
     Ok(())
 }
