@@ -23,7 +23,7 @@ bit_of-in_byte row k r h =
     let place : (8 * k + r) % 8 ≡ r = omega arith in
     rw (byte, place) refl
 
--- a field is its first part, with the rest behind it
+-- a field is its first part, followed by the rest
 pub field-split : (row : List ℕ) (at m n : ℕ) → field row at (m + n) ≡ field row at m * 2 ^ n + field row (at + m) n
 unfolding field
 field-split row at m zero = rw add-zero (omega arith)
@@ -80,7 +80,7 @@ field-moved row other at shift (suc n) same =
 pub field-same : (old new : List ℕ) (at n : ℕ) → ((i : ℕ) → at ≤ i → i < at + n → bit_of new i ≡ bit_of old i) → field new at n ≡ field old at n
 field-same old new at n h = field-moved new old at at n (λ i inside. h (at + i) (omega arith) (omega arith))
 
--- to set a field and then the one behind it is to set both as one
+-- to set a field and then the one after it is to set both as one
 pub SetsField-join : (a b c : List ℕ) (at m n u w : ℕ) → SetsField a b at m u → SetsField b c (at + m) n w → SetsField a c at (m + n) (u * 2 ^ n + w)
 SetsField-join a b c at m n u w first second =
     let kept : field c at m ≡ field b at m = field-same b c at m (λ i low high. second.before i high) in

@@ -64,7 +64,7 @@ field-below_bytes row index most few =
     let below : 2 ^ (8 * index) ≤ 2 ^ (8 * most) = pow-le-pow_right positive fewer in
     omega (arith, field-below row 0 (8 * index), below)
 
--- a part of a row read as one number, without the bits before and behind
+-- a part of a row read as one number, without the bits before and after it
 pub field-in_bytes : (row : List ℕ) (at count size : ℕ) → at % 8 + count ≤ 8 * size → field (take size (drop (at / 8) row)) 0 (8 * size) / 2 ^ (8 * size - at % 8 - count) % 2 ^ count ≡ field row at count
 field-in_bytes row at count size fits =
     let split : at % 8 + count + (8 * size - at % 8 - count) ≡ 8 * size = omega arith in

@@ -11,7 +11,7 @@ unfoldable pub field : List ℕ → ℕ → ℕ → ℕ
 field row at zero = 0
 field row at (suc count) = 2 * field row at count + bit_of row (at + count)
 
--- in a row of bytes the `count` bits from place `at` on now give `value`, and nothing else has changed
+-- the `count` bits of a row of bytes from place `at` on now give `value`, and nothing else has changed
 pub record SetsField (old new : List ℕ) (at count value : ℕ) : Type 0 where
   pub same_length : length new ≡ length old
   pub reads_back : field new at count ≡ value

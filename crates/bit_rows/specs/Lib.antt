@@ -1,1 +1,2 @@
+-- The definition of bits and fields in rows of bytes.
 pub mod BitRow

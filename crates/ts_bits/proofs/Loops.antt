@@ -9,7 +9,7 @@ use Rattle.std.proofs.lemmas.Grind.{flat_map-append}
 use Rattle.ts_bits.specs.DescriptorLoop.{behind_first, descriptors_from, descriptors_of, IsCutAt}
 use Rattle.ts_bits.specs.TaggedBody.{TaggedBody, IsDescriptor, descriptor_bytes, loop_bytes}
 
--- descriptors in front of those that are read behind them
+-- descriptors before those that are read after them
 abbrev pub with_front : List TaggedBody → Result (List TaggedBody) ℕ → Result (List TaggedBody) ℕ
 with_front front (Ok more) = Ok (front ++ more)
 with_front front (Err offset) = Err offset
@@ -61,7 +61,7 @@ goes_on front d offset (tag ∷ size ∷ rest) body whole within first is so_far
     ∙ ap (λ n. with_front (front ++ with_tag (take size rest) ∷ []) (descriptors_from (length (drop size rest)) (offset + n) (drop size rest))) (sym two)
     ∙ sym (first_whole front offset tag size rest fits) ∙ so_far)
 
--- the same with the bytes that are left as a part of the whole row
+-- the same, with the bytes that are left as a part of the whole row
 pub goes_on_at : (front after : List TaggedBody) (d : TaggedBody) (offset : ℕ) (from rest body : List ℕ) (whole : Result (List TaggedBody) ℕ) → rest ≡ drop offset from → after ≡ front ++ d ∷ [] → 2 + slice_index rest 1 ≤ length rest
     → body ≡ take (slice_index rest 1) (drop 2 rest) → d ≡ record { tag = slice_index rest 0; body = body } → with_front front (descriptors_from (length (drop offset from)) offset (drop offset from)) ≡ whole
     → with_front after (descriptors_from (length (drop (offset + (2 + length body)) from)) (offset + (2 + length body)) (drop (offset + (2 + length body)) from)) ≡ whole

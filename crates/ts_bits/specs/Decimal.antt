@@ -31,7 +31,7 @@ pub record SetsDecimal (old new : List ℕ) (at digits value : ℕ) : Type 0 whe
   pub before : (i : ℕ) → i < at → bit_of new i ≡ bit_of old i
   pub after : (i : ℕ) → at + 4 * digits ≤ i → bit_of new i ≡ bit_of old i
 
--- why there are no such digits: the row ends before the last, or the half-byte at a place is the
+-- why there are no such digits: the row ends before the last one, or the half-byte at a place is the
 -- first above 9
 abbrev pub IsBcdFault : List ℕ → ℕ → ℕ → BcdFault → Type 0
 IsBcdFault row at digits Short = 8 * length row < at + 4 * digits

@@ -5,13 +5,13 @@ use Rattle.ts_bits.specs.declared.descriptor_loop.LoopFault.{LoopFault}
 use Rattle.ts_bits.specs.declared.descriptor_loop.LoopFault.TheVariants.{Cut, NoMemory}
 use Rattle.ts_bits.specs.TaggedBody.{TaggedBody, loop_bytes}
 
--- one descriptor in front of those that were read behind it
+-- the result with one descriptor before those that were read after it
 abbrev pub behind_first : TaggedBody → Result (List TaggedBody) ℕ → Result (List TaggedBody) ℕ
 behind_first d (Ok more) = Ok (d ∷ more)
 behind_first d (Err offset) = Err offset
 
--- the descriptors that stand in a row from `offset` on, whose bytes from there are given, or where the
--- one that passes the end begins; there are no more of them than bytes
+-- the descriptors in the bytes of a row from `offset` on, or where the one that passes the end begins;
+-- `most` is at least the number of these bytes
 unfoldable pub descriptors_from : ℕ → ℕ → List ℕ → Result (List TaggedBody) ℕ
 descriptors_from most offset [] = Ok []
 descriptors_from most offset (tag ∷ []) = Err offset
@@ -24,7 +24,7 @@ descriptors_from (suc most) offset (tag ∷ size ∷ rest) =
 abbrev pub descriptors_of : List ℕ → Result (List TaggedBody) ℕ
 descriptors_of row = descriptors_from (length row) 0 row
 
--- what a call answered is what the row holds; want of memory says nothing of it
+-- the result is what the row holds; out of memory says nothing about it
 abbrev pub IsLoopOf : List ℕ → {L : Type 0} → (L → List TaggedBody) → Result L LoopFault → Type 0
 IsLoopOf row view (Ok list) = descriptors_of row ≡ Ok (view list)
 IsLoopOf row view (Err (Cut offset)) = descriptors_of row ≡ Err offset

@@ -3,7 +3,7 @@
 use Rattle.std.specs.Prelude.{ℕ, ◌<◌, ◌≤◌, List, ◌∷◌, length, All}
 use Rattle.std.specs.List.{flat_map}
 
--- a tag and the bytes behind the length
+-- a tag and the bytes after the length
 pub record TaggedBody : Type 0 where
   pub tag : ℕ
   pub body : List ℕ

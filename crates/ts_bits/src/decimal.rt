@@ -1,4 +1,4 @@
-//! Numbers of decimal digits, four bits each.
+//! Decimal numbers of four bits a digit (BCD).
 
 ghost use Rattle.std.specs.Prelude.{◌≡◌, ◌+◌, ◌*◌, ◌%◌, ◌^◌, ◌<◌, ◌≤◌, ◌↔◌, length, IfOk, OnOk, OnErr, IfErr, IsOk};
 ghost use Rattle.bit_rows.specs.BitRow.{field};
@@ -6,7 +6,7 @@ ghost use Rattle.ts_bits.specs.Decimal.{decimal, AreDigits, IsBcdFault, SetsDeci
 
 use crate::row::{ShortInput, bits, put_bits};
 
-/// Why half-bytes are no decimal number.
+/// Why half-bytes are not a decimal number.
 #[derive(Debug, Clone, Copy, PartialEq, Eq)]
 pub enum BcdFault {
     /// The row ends before the last digit.
@@ -15,8 +15,8 @@ pub enum BcdFault {
     Digit { place: u32 },
 }
 
-/// The number of `digits` decimal digits of four bits each from the bit `at` on, highest first
-/// (ETSI EN 300 468, 5.2.5). Takes no memory.
+/// The number of `digits` decimal digits of four bits each from bit `at` on, highest first
+/// (ETSI EN 300 468, 5.2.5). Allocates nothing.
 pub fn bcd(from: &[u8], at: usize, digits: u32) -> Result<u64, BcdFault>
     requires { digits ≤ 8 }
     ensures read { IfOk result (λ number. number ≡ decimal from.now at digits) }
@@ -39,8 +39,8 @@ pub fn bcd(from: &[u8], at: usize, digits: u32) -> Result<u64, BcdFault>
     Ok(number)
 }
 
-/// Writes `value` as `digits` decimal digits of four bits each from the bit `at` on, and changes
-/// nothing else. Takes no memory.
+/// Writes `value` as `digits` decimal digits of four bits each from bit `at` on, and changes
+/// nothing else. Allocates nothing.
 pub fn put_bcd(into: &mut [u8], at: usize, digits: u32, value: u64) -> Result<(), ShortInput>
     requires count { digits ≤ 8 }
     requires fits { value < 10 ^ digits }

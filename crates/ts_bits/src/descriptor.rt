@@ -6,8 +6,8 @@ ghost use Rattle.ts_bits.specs.TaggedBody.{IsDescriptor};
 use std::alloc::{AllocError, Global};
 use std::marker::Model;
 
-/// A tag and at most 255 bytes behind the length (ISO/IEC 13818-1, 2.6). What the bytes mean is for the
-/// layer above.
+/// A descriptor: a tag and the at most 255 bytes after the length (ISO/IEC 13818-1, 2.6). The layer above
+/// reads what the bytes mean.
 #[derive(Drop)]
 pub struct Descriptor {
     tag: u8,
@@ -26,7 +26,7 @@ impl Model for Descriptor {
 }
 
 impl Descriptor {
-    /// A descriptor with this tag and these bytes behind its length.
+    /// A descriptor with this tag and these bytes after its length.
     pub fn new(alloc: Global, tag: u8, body: &[u8]) -> Result<Descriptor, AllocError>
         requires { length body.now ≤ 255 }
         ensures { IfOk result (λ d. d ≡ record { tag = tag; body = body.now }) }
@@ -42,7 +42,7 @@ impl Descriptor {
         self.tag
     }
 
-    /// The bytes behind the length.
+    /// The bytes after the length.
     pub fn body(&self) -> &[u8]
         ensures body { result.now ≡ self.now.body }
         ensures fits { IsDescriptor self.now }
@@ -50,7 +50,7 @@ impl Descriptor {
         &self.body
     }
 
-    /// An equal descriptor.
+    /// A copy of the descriptor.
     pub fn copy(&self) -> Result<Descriptor, AllocError>
         ensures { IfOk result (λ d. d ≡ self.now) }
     {

@@ -9,12 +9,12 @@ use crate::descriptor::Descriptor;
 use std::alloc::{AllocError, AllocFailed, Global};
 use std::marker::Model;
 
-/// Why bytes are no loop of descriptors.
+/// Why bytes are not a loop of descriptors.
 #[derive(Debug, Clone, Copy, PartialEq, Eq)]
 pub enum LoopFault {
     /// The descriptor that begins at `offset` passes the end.
     Cut { offset: usize },
-    /// There is no memory for the descriptors.
+    /// Out of memory.
     NoMemory,
 }
 
@@ -51,21 +51,21 @@ impl Model for DescriptorList {
 }
 
 impl DescriptorList {
-    /// The descriptors of a `Vec`, which the list keeps.
+    /// The list of these descriptors. Allocates nothing.
     pub fn of(descriptors: Vec<Descriptor>) -> DescriptorList
         ensures { result ≡ descriptors.items }
     {
         DescriptorList { descriptors }
     }
 
-    /// The descriptors.
+    /// The descriptors in order.
     pub fn as_slice(&self) -> &[Descriptor]
         ensures { result.now ≡ self.now }
     {
         &self.descriptors
     }
 
-    /// An equal list.
+    /// A copy of the list.
     pub fn copy(&self) -> Result<DescriptorList, AllocError>
         ensures { IfOk result (λ list. list ≡ self.now) }
     {
@@ -77,7 +77,7 @@ impl DescriptorList {
         Ok(DescriptorList { descriptors })
     }
 
-    /// The `Vec` of the descriptors.
+    /// The descriptors as a `Vec`.
     pub fn into_vec(self) -> Vec<Descriptor>
         ensures { result.items ≡ self }
     {
@@ -103,7 +103,7 @@ pub fn read_loop(alloc: Global, from: &[u8]) -> Result<DescriptorList, LoopFault
     Ok(DescriptorList { descriptors })
 }
 
-/// The body of the descriptor that begins `rest`; none where the descriptor passes the end.
+/// The body of the descriptor at the beginning of `rest`; none where the descriptor passes the end.
 fn first_body(rest: &[u8]) -> Option<&[u8]>
     ensures passes { IfNone result (length rest.now < 2 + slice_index rest.now 1) }
     ensures within { OnSome result (2 + slice_index rest.now 1 ≤ length rest.now) }
@@ -125,7 +125,7 @@ pub fn write_loop(alloc: Global, descriptors: &[Descriptor]) -> Result<Vec<u8>, 
     Ok(bytes)
 }
 
-/// Adds the bytes of one descriptor.
+/// Appends the bytes of one descriptor.
 fn put_descriptor(bytes: &mut Vec<u8>, descriptor: &Descriptor) -> Result<(), AllocError>
     ensures written { OnOk result (bytes.new.items ≡ bytes.old.items ++ descriptor_bytes descriptor.now) }
     ensures fits { IsDescriptor descriptor.now }

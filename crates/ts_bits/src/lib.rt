@@ -1,5 +1,5 @@
-//! Rows of bytes come in; numbers of some bits, decimal digits and descriptors go out, and are written back.
-//! The layer above rests on `bits` and `put_bits`, which read and set the fields of `bit_rows`.
+//! Numbers of any width in bits, decimal digits and descriptors, read from and written to bytes.
+//! The layer above uses `bits` and `put_bits`, which read and set the fields of `bit_rows`.
 #![tactic(auto)]
 
 mod decimal;

@@ -1,14 +1,14 @@
-//! Numbers of up to 64 bits at any place of a row of bytes.
+//! Numbers of up to 64 bits at any place in bytes.
 
 ghost use Rattle.std.specs.Prelude.{◌≡◌, ◌+◌, ◌*◌, ◌^◌, ◌<◌, ◌≤◌, ◌↔◌, length, IfOk, OnOk, OnErr, IsOk, IsTrue};
 ghost use Rattle.bit_rows.specs.BitRow.{field, SetsField};
 
-/// A row of bytes ends before the bits that were asked for.
+/// The bytes end before the bits that were asked for.
 #[derive(Debug, Clone, Copy, PartialEq, Eq)]
 pub struct ShortInput;
 
-/// The number that the `count` bits from the bit `at` on give, highest bit first (ISO/IEC 13818-1,
-/// 2.2.6). Bits count from the highest of the first byte. Takes no memory.
+/// The number that the `count` bits from bit `at` on give, highest bit first (ISO/IEC 13818-1,
+/// 2.2.6). Bits are counted from the highest of the first byte. Allocates nothing.
 pub fn bits(from: &[u8], at: usize, count: u32) -> Result<u64, ShortInput>
     requires { count ≤ 64 }
     ensures read { IfOk result (λ number. number ≡ field from.now at count) }
@@ -26,8 +26,8 @@ pub fn bits(from: &[u8], at: usize, count: u32) -> Result<u64, ShortInput>
     Ok(((wide >> behind) & ((1u128 << count) - 1)) as u64)
 }
 
-/// Sets the `count` bits from the bit `at` on to `value`, highest bit first, and nothing else.
-/// Takes no memory.
+/// Sets the `count` bits from bit `at` on to `value`, highest bit first, and nothing else.
+/// Allocates nothing.
 pub fn put_bits(into: &mut [u8], at: usize, count: u32, value: u64) -> Result<(), ShortInput>
     requires width { count ≤ 64 }
     requires fits { value < 2 ^ count }
@@ -48,14 +48,14 @@ pub fn put_bits(into: &mut [u8], at: usize, count: u32, value: u64) -> Result<()
     Ok(())
 }
 
-/// Whether the `count` bits from the bit `at` on are there.
+/// Whether the bytes have the `count` bits from bit `at` on.
 fn has_bits(row: &[u8], at: usize, count: u32) -> bool
     ensures { IsTrue result ↔ (at + count ≤ 8 * length row.now) }
 {
     at as u128 + u128::from(count) <= 8 * row.len() as u128
 }
 
-/// The number that all bits of a few bytes give.
+/// The number that all bits of at most nine bytes give.
 fn whole_number(row: &[u8]) -> u128
     requires { length row.now ≤ 9 }
     ensures { result ≡ field row.now 0 (8 * length row.now) }

@@ -1,4 +1,4 @@
--- Worked rows: the definitions computed on heads of packets of other makers.
+-- Worked rows: the definitions computed on packet heads of other multiplexers.
 use Rattle.std.proofs.Common.{◌≡◌, ℕ, List, [], ◌∷◌, true, Some, None, refl}
 use Rattle.bit_rows.specs.BitRow.{bit_of, field}
 use Rattle.ts_packet.specs.declared.cell.Cell.{Cell}
@@ -11,11 +11,11 @@ use Rattle.ts_packet.specs.LiveRows.{labelled, live_rows}
 use Rattle.ts_packet.specs.MetRows.{met_rows}
 use Rattle.ts_packet.specs.Pcr.{pcr_of, has_pcr_of, clock_of, with_pcr}
 
--- the first PCR of a muxer's stream, with its discontinuity flag, and two payload bytes
+-- the first PCR of a multiplexer's stream, with its discontinuity flag, and two payload bytes
 abbrev clocked : List ℕ
 clocked = 0x47 ∷ 0x41 ∷ 0x20 ∷ 0x30 ∷ 7 ∷ 0xD0 ∷ 0 ∷ 0 ∷ 0x7B ∷ 0xC3 ∷ 0x7E ∷ 0x48 ∷ 0xAB ∷ 0xCD ∷ []
 
--- an adaptation field of length 184, which is no lawful one
+-- an adaptation field of length 184, which is not valid
 abbrev unlawful : List ℕ
 unlawful = 0x47 ∷ 0x03 ∷ 0x31 ∷ 0x31 ∷ 184 ∷ 0x10 ∷ 0x33 ∷ []
 

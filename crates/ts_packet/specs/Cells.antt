@@ -1,4 +1,4 @@
--- This project's own rule: a cell is a place in the chain that holds a packet or a mark for a dropped one.
+-- A cell: a place in the chain that holds a packet or the mark of a dropped one. This project's own rule.
 use Rattle.std.specs.Prelude.{ℕ, List, [], ◌∷◌, Bool, true, false}
 use Rattle.std.specs.List.{flat_map}
 

@@ -34,7 +34,7 @@ counter_of row = field row 28 4
 abbrev pub has_payload_of : List ℕ → Bool
 has_payload_of row = field row 27 1 == 1
 
--- the one bit that a truth value is written as
+-- the bit that a Bool is written as
 abbrev pub flag_of : Bool → ℕ
 flag_of true = 1
 flag_of false = 0

@@ -1,5 +1,5 @@
 -- Labels of a packet: a set of numbers below 32. This project's own rule.
--- The set is told by one number, whose binary digit n is 1 where n is a label.
+-- The set is given as one number, whose binary digit n is 1 where n is a label.
 use Rattle.std.specs.Prelude.{ℕ, zero, suc, ◌^◌, ◌==◌, Bool, not, if◌then◌else◌}
 use Rattle.std.specs.Int.{bit_at}
 use Rattle.std.specs.Int.Bits.{bit_and}
@@ -13,11 +13,11 @@ no_labels = 0
 abbrev pub has_label : ℕ → ℕ → Bool
 has_label labels n = bit_at labels n == 1
 
--- the set with the labels of both
+-- the union of two sets
 abbrev pub joined : ℕ → ℕ → ℕ
 joined a b = bit_or a b
 
--- the set with one label more
+-- the set with one label added
 abbrev pub with_label : ℕ → ℕ → ℕ
 with_label labels n = joined labels (2 ^ n)
 
@@ -25,7 +25,7 @@ with_label labels n = joined labels (2 ^ n)
 abbrev pub shares_label : ℕ → ℕ → Bool
 shares_label a b = not (bit_and a b == 0)
 
--- the set of the numbers below `count` that are picked
+-- the set of the numbers below `count` that the test takes
 abbrev pub labels_below : (ℕ → Bool) → ℕ → ℕ
 labels_below picked zero = no_labels
 labels_below picked (suc n) =

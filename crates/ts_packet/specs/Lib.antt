@@ -1,3 +1,4 @@
+-- The definitions of packets, their fields, their labels, and cells.
 pub mod Packet
 pub mod Header
 pub mod Adaptation

@@ -9,7 +9,7 @@ use Rattle.ts_packet.specs.declared.labelled.Labelled.{Labelled}
 abbrev pub labelled : List ℕ → ℕ → Labelled
 labelled packet labels = record { packet = packet; labels = labels }
 
--- the packet of a live cell with its labels, and none of a dropped one
+-- the packet of a live cell with its labels; nothing of a dropped one
 abbrev pub row_in : Cell → List Labelled
 row_in (Live packet labels) = labelled packet labels ∷ []
 row_in Dropped = []

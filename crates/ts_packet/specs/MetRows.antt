@@ -3,13 +3,13 @@ use Rattle.std.specs.Prelude.{ℕ, ◌+◌, List, [], ◌∷◌}
 use Rattle.ts_packet.specs.declared.cell.Cell.{Cell}
 use Rattle.ts_packet.specs.Cells.{Live, Dropped}
 
--- a packet that was met: its position, the packet as it was then, and its labels
+-- a packet that a plugin met: its position, the packet as it was then, and its labels
 pub record Met : Type 0 where
   pub at : ℕ
   pub packet : List ℕ
   pub labels : ℕ
 
--- the packets of the live cells that stand at this position and the next ones: dropped cells have positions too
+-- the packets of the live cells, the first cell of which has this position; dropped cells have positions too
 abbrev pub met_from : ℕ → List Cell → List Met
 met_from start [] = []
 met_from start (Live packet labels ∷ cells) =

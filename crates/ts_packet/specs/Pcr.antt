@@ -4,11 +4,11 @@ use Rattle.bit_rows.specs.BitRow.{bit_of, field}
 use Rattle.ts_packet.specs.Adaptation.{adaptation_length_of, reaches}
 use Rattle.ts_packet.specs.Payload.{with_piece}
 
--- program_clock_reference_base times 300, and program_clock_reference_extension
+-- program_clock_reference_base times 300 plus program_clock_reference_extension
 unfoldable pub clock_of : List ℕ → ℕ
 clock_of row = field row 48 33 * 300 + field row 87 9
 
--- the packet has a PCR: a lawful adaptation field that has room for one, and its PCR_flag
+-- the packet has a PCR: a valid adaptation field that has room for one, and its PCR_flag
 unfoldable pub has_pcr_of : List ℕ → Bool
 has_pcr_of row = reaches (adaptation_length_of row) 7 && (field row 43 1 == 1)
 
@@ -25,10 +25,11 @@ pub record SetsPcr (old new : List ℕ) (value : ℕ) : Type 0 where
   pub before : (i : ℕ) → i < 48 → bit_of new i ≡ bit_of old i
   pub after : (i : ℕ) → 96 ≤ i → bit_of new i ≡ bit_of old i
 
--- the six bytes of a PCR field: base 33, reserved 6, extension 9
+-- the six bytes of a PCR field: base 33 bits, reserved 6, extension 9
 abbrev pub clock_bytes : ℕ → ℕ → List ℕ
 clock_bytes base extension =
-    (base / 2 ^ 25) ∷ (base / 2 ^ 17 % 256) ∷ (base / 2 ^ 9 % 256) ∷ (base / 2 % 256) ∷ (base % 2 * 128 + 126 + extension / 256) ∷ (extension % 256) ∷ []
+    (base / 2 ^ 25) ∷ (base / 2 ^ 17 % 256) ∷ (base / 2 ^ 9 % 256) ∷ (base / 2 % 256)
+    ∷ (base % 2 * 128 + 126 + extension / 256) ∷ (extension % 256) ∷ []
 
 -- the row with this PCR at the PCR's place
 unfoldable pub with_pcr : List ℕ → ℕ → List ℕ

@@ -1,3 +1,4 @@
+//! A cell: a place in the chain for one packet.
 ghost use Rattle.std.specs.Prelude.{◌≡◌, MatchOption, slice_index};
 ghost use Rattle.std.specs.Borrow.{LendsIf, sem};
 ghost use Rattle.ts_packet.specs.Cells.{Live, Dropped, is_live};
@@ -15,11 +16,11 @@ use std::marker::Model;
 
 /// A place in the chain: a packet with its labels, or the mark of one that a plugin dropped.
 ///
-/// Contracts see `Live` with the packet and its labels, or `Dropped`. A dropped packet stays in the memory, where nothing
-/// sees it, so that a drop writes one byte.
+/// Contracts see `Live` with the packet and its labels, or `Dropped`. The bytes of a dropped packet stay in memory,
+/// where nothing reads them, so that a drop writes one byte.
 #[derive(Drop)]
 pub struct Cell {
-    // In front of the packet, so that it lies beside the packet's header.
+    // Before the packet, so that it lies beside the packet's header.
     is_live: bool,
     held: LivePacket,
 }
@@ -57,7 +58,7 @@ impl Cell {
         }
     }
 
-    /// A cell without a packet.
+    /// A cell of a dropped packet.
     pub fn dropped() -> Cell
         ensures { result ≡ Dropped }
     {
@@ -78,7 +79,7 @@ impl Cell {
         self.is_live
     }
 
-    /// Its packet with the labels, where it has one.
+    /// The packet with its labels; none where it was dropped.
     #[inline]
     pub fn live(&self) -> Option<&LivePacket>
         ensures { MatchOption result (self.now ≡ Dropped)
@@ -87,7 +88,7 @@ impl Cell {
         if self.is_live { Some(&self.held) } else { None }
     }
 
-    /// Its packet with the labels, to be changed where they stand, where it has one.
+    /// The packet with its labels, to be changed in place; none where it was dropped.
     #[inline]
     pub fn live_mut(&mut self) -> Option<&mut LivePacket>
         ensures* writes_back { sem 𝓛
@@ -110,7 +111,7 @@ impl Cell {
         self.is_live = false;
     }
 
-    /// Puts a packet without labels into it, whatever it had.
+    /// Puts a packet without labels into the cell, in place of what it had.
     #[inline]
     pub fn put(&mut self, packet: Packet)
         ensures { self.new ≡ Live packet no_labels }
@@ -118,7 +119,7 @@ impl Cell {
         self.put_bytes(packet.bytes());
     }
 
-    /// Puts the packet of these bytes, which begin with the sync byte, without labels into it. They are copied once.
+    /// Puts the packet of these bytes, which begin with the sync byte, without labels into the cell. They are copied once.
     #[inline]
     pub fn put_bytes(&mut self, bytes: &[u8; PACKET_SIZE])
         requires sync { slice_index bytes.now 0 ≡ 0x47 }

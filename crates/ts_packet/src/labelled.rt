@@ -1,7 +1,8 @@
+//! A packet that a plugin keeps with its labels.
 use crate::labels::Labels;
 use crate::packet::Packet;
 
-/// The packet of a live cell with its labels, as a plugin that gives it later keeps it.
+/// The packet of a live cell with its labels, as a plugin that gives it out later keeps it.
 #[derive(Clone, Copy, Debug, PartialEq, Eq)]
 pub struct Labelled {
     /// The packet.

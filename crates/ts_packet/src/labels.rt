@@ -1,14 +1,15 @@
+//! The labels of a packet.
 ghost use Rattle.std.specs.Prelude.{◌≡◌, ◌<◌};
 ghost use Rattle.ts_packet.specs.Labels.{has_label, joined, no_labels, shares_label, with_label};
 
 use std::marker::Model;
 
-/// Labels are numbers below this one.
+/// The number of labels; each is below it.
 pub const LABEL_COUNT: u32 = 32;
 
-/// The labels of a packet: a set of numbers from 0 to 31, which `filter` gives and the plugins behind it look at.
+/// The labels of a packet: a set of numbers from 0 to 31, which `filter` sets and the plugins after it look at.
 ///
-/// It is no part of the packet's bytes. Contracts see the number whose binary digit n is 1 where n is a label.
+/// They are not part of the packet's bytes. Contracts see the number whose binary digit n is 1 where n is a label.
 #[derive(Clone, Copy, Debug, PartialEq, Eq)]
 pub struct Labels {
     bits: u32,
@@ -27,7 +28,7 @@ impl Model for Labels {
 }
 
 impl Labels {
-    /// No label.
+    /// The empty set.
     #[inline]
     pub fn none() -> Labels
         ensures { result ≡ no_labels }

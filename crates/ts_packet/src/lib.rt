@@ -1,5 +1,5 @@
-//! Transport packets: 188 bytes come in; header fields, adaptation field, payload and PCR are read and set.
-//! The layer above rests on `Packet`, which contracts see as its bytes: each reader is its field of `specs/`.
+//! Transport stream packets of 188 bytes: header fields, adaptation field, payload and PCR are read and set.
+//! The layer above uses `Packet`, which contracts see as its bytes; each reader returns its field of `specs/`.
 #![tactic(auto)]
 
 mod cell;

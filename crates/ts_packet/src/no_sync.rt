@@ -1,6 +1,7 @@
+//! The error of bytes without a sync byte.
 use thiserror::Error;
 
-/// The row of bytes does not begin with the sync byte 0x47.
+/// The bytes do not begin with the sync byte 0x47.
 #[derive(Clone, Copy, Debug, PartialEq, Eq, Error)]
 #[error("no sync byte: found {found}")]
 pub struct NoSync {

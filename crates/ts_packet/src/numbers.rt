@@ -1,16 +1,16 @@
-//! The numbers of ISO/IEC 13818-1, 2.4.3.2, each of which has its name here alone.
+//! Constants of the packet (ISO/IEC 13818-1, 2.4.3.2).
 
-/// The bytes of a packet.
+/// The size of a packet in bytes.
 pub const PACKET_SIZE: usize = 188;
 
-/// The bytes behind a packet's header of four: the longest payload.
+/// The bytes after the 4-byte header: the size of the longest payload.
 pub const PAYLOAD_SIZE: usize = 184;
 
 /// `sync_byte`, the first byte of each packet.
 pub const SYNC_BYTE: u8 = 0x47;
 
-/// How many PIDs there are: a PID is below it.
+/// The number of PIDs; each is below it.
 pub const PID_COUNT: u16 = 8192;
 
-/// The PID of null packets, which is the greatest.
+/// The PID of null packets, the greatest one.
 pub const NULL_PID: u16 = 8191;

@@ -33,7 +33,7 @@ impl Model for Packet {
 }
 
 impl Packet {
-    /// The packet of these bytes, which have to begin with the sync byte.
+    /// The packet of these bytes; `NoSync` where they do not begin with the sync byte.
     pub fn of(bytes: &[u8; PACKET_SIZE]) -> Result<Self, NoSync>
         ensures accepted { IsOk result ↔ (slice_index bytes.now 0 ≡ SYNC_BYTE) }
         ensures bytes { IfOk result (λ packet. packet ≡ bytes.now) }
@@ -57,7 +57,7 @@ impl Packet {
         self.row.copy_from_slice(bytes);
     }
 
-    /// The null packet: PID 8191, counter 0, and 184 payload bytes 0xFF.
+    /// The null packet: PID 8191, continuity counter 0, and 184 payload bytes 0xFF.
     pub fn null() -> Self
         ensures bytes { result ≡ null_packet }
         ensures packet { IsPacket result }
@@ -102,7 +102,7 @@ impl Packet {
         (self.row[1] >> 5) & 1 == 1
     }
 
-    /// The packet identifier, 0 to 8191.
+    /// The packet identifier (PID), 0 to 8191.
     pub fn pid(&self) -> u16
         ensures field { result ≡ pid_of self.now }
         ensures range { result < PID_COUNT }
@@ -134,7 +134,7 @@ impl Packet {
         self.row[3] & 0x0F
     }
 
-    /// The low bit of the adaptation field control.
+    /// Whether the packet has a payload: the low bit of `adaptation_field_control`.
     pub fn has_payload(&self) -> bool
         ensures { result ≡ has_payload_of self.now }
     {

@@ -4,15 +4,15 @@ ghost use Rattle.ts_packet.specs.Adaptation.{adaptation_length_of, discontinuity
 
 use super::Packet;
 
-/// The longest adaptation field with no payload behind it.
+/// The length of an adaptation field without a payload after it.
 const LENGTH_ALONE: u8 = 183;
-/// The longest adaptation field with a payload behind it.
+/// The longest adaptation field with a payload after it.
 const LENGTH_WITH_PAYLOAD: u8 = 182;
 
 #[tactic(auto, unfolding(bit_rows::specs::BitRow::field, bit_rows::specs::BitRow::bit_of, crate::specs::Adaptation::adaptation_length_of, crate::specs::Adaptation::discontinuity_of))]
 impl Packet {
-    /// `adaptation_field_length`, where the packet has an adaptation field and the length is lawful:
-    /// 183 for a field alone, at most 182 with a payload behind it.
+    /// `adaptation_field_length`, where the packet has an adaptation field and the length is valid:
+    /// 183 without a payload, at most 182 with a payload after the field.
     pub fn adaptation_length(&self) -> Option<u8>
         ensures length { result ≡ adaptation_length_of self.now }
         ensures range { IfSome result (λ length. length ≤ 183) }
@@ -25,7 +25,7 @@ impl Packet {
         }
     }
 
-    /// `discontinuity_indicator` of a lawful adaptation field; false where there is none, or an empty one.
+    /// `discontinuity_indicator` of a valid adaptation field; false where there is none, or where it is empty.
     pub fn discontinuity(&self) -> bool
         ensures { result ≡ discontinuity_of self.now }
     {

@@ -1,4 +1,4 @@
-//! Writing bits, a byte or several bytes of a packet; the sync byte cannot be reached.
+//! Writes to bits and bytes of a packet; none of them reaches the sync byte.
 ghost use Rattle.std.specs.Prelude.{◌≡◌, ◌+◌, ◌*◌, ◌^◌, ◌<◌, ◌≤◌, length, slice_set};
 ghost use Rattle.bit_rows.specs.BitRow.{SetsField};
 ghost use Rattle.ts_packet.specs.Header.{byte_with, row_with};
@@ -23,7 +23,7 @@ fn with_bits(byte: u8, first: u32, count: u32, value: u8) -> u8
 }
 
 impl Packet {
-    /// Replaces `count` bits of the byte at `place`, from its bit `first` on.
+    /// Replaces `count` bits of the byte at `place`, from its bit `first` on, counted from the highest.
     #[inline]
     pub(super) fn write_bits(&mut self, place: usize, first: u32, count: u32, value: u8)
         requires behind_sync { 0 < place }
@@ -49,7 +49,7 @@ impl Packet {
         self.row[place] = value;
     }
 
-    /// Lays a piece over the bytes from `at` on.
+    /// Copies a piece over the bytes from `at` on.
     #[inline]
     pub(super) fn write_bytes(&mut self, at: usize, piece: &[u8])
         requires behind_sync { 0 < at }

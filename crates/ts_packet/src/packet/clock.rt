@@ -7,7 +7,7 @@ ghost use Rattle.ts_packet.specs.Pcr.{has_pcr_of, clock_of, pcr_of, SetsPcr, clo
 use super::Packet;
 
 impl Packet {
-    /// The PCR, base times 300 plus extension, where a lawful adaptation field has one.
+    /// The PCR, base times 300 plus extension; none where no valid adaptation field has one.
     #[tactic(auto, unfolding(crate::specs::Pcr::pcr_of))]
     pub fn pcr(&self) -> Option<u64>
         ensures value { result ≡ pcr_of self.now }
@@ -20,7 +20,7 @@ impl Packet {
         }
     }
 
-    /// Writes the PCR where the packet has one, with its six reserved bits as ones, and says whether it has.
+    /// Writes the PCR where the packet has one, with its six reserved bits as ones, and returns whether it has.
     #[tactic(auto, unfolding(crate::specs::Pcr::with_pcr))]
     pub fn set_pcr(&mut self, value: u64) -> bool
         requires { value < 2 ^ 33 * 300 }
@@ -38,7 +38,7 @@ impl Packet {
         true
     }
 
-    /// Whether a lawful adaptation field is long enough for a PCR and flags one.
+    /// Whether a valid adaptation field has its PCR_flag set and room for a PCR.
     #[tactic(auto, unfolding(bit_rows::specs::BitRow::field, bit_rows::specs::BitRow::bit_of, crate::specs::Pcr::has_pcr_of))]
     fn has_pcr(&self) -> bool
         ensures value { result ≡ has_pcr_of self.now }
@@ -51,7 +51,7 @@ impl Packet {
         }
     }
 
-    /// The value that stands at the PCR's place.
+    /// The value at the PCR's place.
     fn clock(&self) -> u64
         ensures value { result ≡ clock_of self.now }
         ensures range { result < 2 ^ 33 * 300 + 212 }
@@ -64,7 +64,7 @@ impl Packet {
     }
 }
 
-/// The six bytes of a PCR field: base 33, six reserved ones, extension 9.
+/// The six bytes of a PCR field: 33 bits of base, six reserved ones, 9 bits of extension.
 fn clock_bytes(base: u64, extension: u64) -> [u8; 6]
     requires base_fits { base < 2 ^ 33 }
     requires extension_fits { extension < 2 ^ 9 }

@@ -7,8 +7,8 @@ use super::Packet;
 use crate::numbers::{PACKET_SIZE, PAYLOAD_SIZE};
 
 impl Packet {
-    /// The place of the first payload byte, 4 to 187: 4 with no adaptation field, 5 and the field's length
-    /// with a lawful one; else none.
+    /// The place of the first payload byte, 4 to 187: 4 without an adaptation field, 5 plus the field's length
+    /// with a valid one; else none.
     #[tactic(auto, unfolding(crate::specs::Adaptation::adaptation_length_of, crate::specs::Payload::payload_start_of))]
     pub fn payload_start(&self) -> Option<u8>
         ensures place { result ≡ payload_start_of self.now }
@@ -22,7 +22,7 @@ impl Packet {
         }
     }
 
-    /// The payload bytes: those from `payload_start` on, or none.
+    /// The payload bytes, from `payload_start` on; empty where there is no payload.
     #[tactic(auto, unfolding(crate::specs::Payload::payload_of))]
     pub fn payload(&self) -> &[u8]
         ensures bytes { result.now ≡ payload_of self.now }
@@ -34,7 +34,7 @@ impl Packet {
         }
     }
 
-    /// Lays a piece over the packet's bytes from `at` on; the header cannot be reached.
+    /// Copies a piece over the packet's bytes from `at` on; the header is never reached.
     pub fn put_payload(&mut self, at: u8, piece: &[u8])
         requires behind_header { 4 ≤ at }
         requires fits { at + length piece.now ≤ PACKET_SIZE }
