@@ -1,4 +1,4 @@
--- The sections of the packets of some sections are the sections again.
+-- The sections in the packets of some sections are the sections again.
 use Rattle.std.proofs.Common.{◌≡◌, ◌≢◌, ℕ, ◌+◌, ◌-◌, ◌%◌, ◌<◌, ◌≤◌, Bool, true, false, not, ◌&&◌, ◌==◌, nat_le, List, [], ◌∷◌, ◌++◌, length, take, drop, replicate, zero, suc, Option, Some, None, is_none, refl, sym, ◌∙◌, ap, arith, append_assoc, append-nil, length-take, length-append, filter, inl, inr, subst}
 use Rattle.std.specs.List.{flat_map, AllByRecursion}
 use Rattle.std.proofs.lemmas.Bool.Decides.{nat_tests, leb_tells}
@@ -39,7 +39,7 @@ without_repeats-parts before c (load ∷ loads) e h =
     if_false (repeats before c) others (part_with c load ∷ others) e
     ∙ ap (λ t. part_with c load ∷ t) (without_repeats-parts (Some c) ((c + 1) % 16) loads (next_is_other c h) (omega arith))
 
--- the sections of loads counted from c on, and what goes on behind the counter c
+-- the sections of loads counted from c on, and what continues after the counter c
 abbrev left_from : ℕ → List Load → List (List ℕ)
 left_from c loads = sections_left (parts_from c loads)
 
@@ -85,7 +85,7 @@ on_from-plain c bytes xs =
     let rest = parts_from ((next + 1) % 16) xs in
     following-plain c (part_with next (plain_load bytes)) rest (goes_on-next c (plain_load bytes) rest refl) refl refl
 
--- no section comes of fill bytes
+-- stuffing bytes give no section
 fill_id : (k : ℕ) → table_id_of (replicate (suc k) 0xFF) ≡ 255
 unfolding field bit_of
 fill_id k = refl
@@ -101,7 +101,7 @@ other_number a b h = grind (arith, nat_tests)
 lawful_is_section : (s : List ℕ) → IsSection s → is_section s ≡ true
 lawful_is_section s h = ap is_none (none_from_lawful s h)
 
--- of a section, and what is behind it, comes the section first
+-- a section followed by anything gives the section first
 section_first : (s more : List ℕ) → IsSection s → sections_in (s ++ more) ≡ s ∷ sections_in more
 section_first s more h =
     let size : size_in_front s ≡ length s = sym h.whole in
@@ -113,7 +113,7 @@ section_first s more h =
     ∙ ap (λ t. filter is_section (s ∷ []) ++ sections_in (t ++ more)) behind
     ∙ ap (λ t. t ++ sections_in more) (if_true (is_section s) (s ∷ []) [] (lawful_is_section s h))
 
--- of sections and fill bytes come the sections
+-- sections followed by stuffing bytes give the sections
 sections_first : (ss : List (List ℕ)) (k : ℕ) → AllByRecursion (λ s. IsSection s) ss → sections_in (joined ss ++ replicate k 0xFF) ≡ ss
 sections_first [] k all = nothing_of_fill k
 sections_first (s ∷ ss) k all =
@@ -129,7 +129,7 @@ all_back : (xs ys : List (List ℕ)) → AllByRecursion (λ s. IsSection s) (xs 
 all_back [] ys all = all
 all_back (x ∷ xs) ys all = all_back xs ys all.1
 
--- the load of bytes that go on, and what goes on behind it
+-- the load of bytes that continue, and what continues after it
 goes_on_with : (rest : List ℕ) (k : ℕ) → (j : ℕ) × (filled rest ++ (drop 184 rest ++ replicate k 0xFF) ≡ rest ++ replicate j 0xFF)
 goes_on_with rest k = elim (le_or_lt 184 (length rest)) as (λ _. (j : ℕ) × (filled rest ++ (drop 184 rest ++ replicate k 0xFF) ≡ rest ++ replicate j 0xFF)) [
   | inl h ↦ (
@@ -147,7 +147,7 @@ goes_on_with rest k = elim (le_or_lt 184 (length rest)) as (λ _. (j : ℕ) × (
   )
 ]
 
--- the bytes behind the pointer of a load that begins sections
+-- the bytes after the pointer of a load that begins sections
 behind_pointer : List ℕ → List (List ℕ) → List ℕ
 behind_pointer rest ss = take (183 - length rest) (joined ss) ++ replicate (184 - suc (length (take 183 (rest ++ joined ss)))) 0xFF
 
@@ -169,7 +169,7 @@ drop-seam (x ∷ xs) ys = drop-seam xs ys
 fill-count : (rest : List ℕ) (ss : List (List ℕ)) → length rest < 183 → 183 - length rest ≤ length (joined ss) → 184 - suc (length (take 183 (rest ++ joined ss))) ≡ 0
 fill-count rest ss h full = omega (arith, h, full, length-take 183 (rest ++ joined ss), length-append rest (joined ss))
 
--- of what stands behind the pointer, and what goes on, come the sections that are begun
+-- what stands after the pointer, and what continues, give the sections that have begun
 begins_sections :
     (rest : List ℕ) (ss : List (List ℕ)) (j : ℕ) → length rest < 183 → AllByRecursion (λ s. IsSection s) (begun (183 - length rest) ss) →
     sections_in (behind_pointer rest ss ++ (missing (183 - length rest) ss ++ replicate j 0xFF)) ≡ begun (183 - length rest) ss
@@ -194,7 +194,7 @@ begins_sections rest ss j h all =
           ∙ sections_first (begun room ss) (k + j) all
     ]
 
--- what goes on behind a counter, and which sections are begun from there on
+-- what continues after a counter, and which sections begin from there on
 abbrev Packed : ℕ → List Load → List ℕ → List (List ℕ) → Type 0
 Packed c loads rest ss = (k : ℕ) × (on_from c loads ≡ rest ++ replicate k 0xFF) × (left_from ((c + 1) % 16) loads ≡ ss)
 

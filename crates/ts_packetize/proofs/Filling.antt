@@ -1,4 +1,4 @@
--- Payloads filled up, and the loads in which bytes go on.
+-- Payloads with stuffing, and the loads in which bytes continue.
 use Rattle.std.proofs.Common.{◌≡◌, ℕ, ◌+◌, ◌-◌, ◌≤◌, ◌<◌, List, [], ◌∷◌, ◌++◌, length, take, drop, replicate, zero, suc, sym, ◌∙◌, ap, arith, append-nil, length-take, inl, inr, ◌⊎◌}
 use Rattle.std.proofs.lemmas.List.{take_all, take-take}
 use Rattle.std.proofs.Math.ListN.{drop_of_length-le}
@@ -17,7 +17,7 @@ drop-replicate (suc n) (suc m) x = drop-replicate n m x ∙ ap (λ k. replicate 
 drop_four : (n a b c d : ℕ) (xs : List ℕ) → drop (4 + n) (a ∷ b ∷ c ∷ d ∷ xs) ≡ drop n xs
 drop_four n a b c d xs = ap (λ k. drop k (a ∷ b ∷ c ∷ d ∷ xs)) (let e : 4 + n ≡ suc (suc (suc (suc n))) = omega arith in e)
 
--- few bytes are all there, and then come fill bytes
+-- few bytes are all there, and stuffing bytes follow
 pub filled_few : (bytes : List ℕ) → length bytes ≤ 184 → filled bytes ≡ bytes ++ replicate (184 - length bytes) 0xFF
 filled_few bytes h = ap (λ t. t ++ replicate (184 - length bytes) 0xFF) (take_all 184 bytes h)
 
@@ -25,7 +25,7 @@ pub filled_many : (bytes : List ℕ) → 184 ≤ length bytes → filled bytes �
 filled_many bytes h =
     ap (λ k. take 184 bytes ++ replicate k 0xFF) (let e : 184 - length bytes ≡ 0 = omega arith in e) ∙ append-nil (take 184 bytes)
 
--- a packet of fill bytes with a piece at the front of its payload
+-- a packet of stuffing bytes with a piece at the beginning of its payload
 pub laid_plain :
     (a b c d : ℕ) (bytes blank one : List ℕ) → length bytes ≤ 184 →
     blank ≡ a ∷ b ∷ c ∷ d ∷ replicate 184 0xFF → one ≡ with_piece blank 4 bytes →
@@ -51,7 +51,7 @@ filled-first m bytes h k all =
       | inr l ↦ ap filled (take_all m bytes (omega (arith, all l)))
     ]
 
--- and what is left of them is what is left behind a full payload
+-- and what is left of them is what is left after a full payload
 pub left_behind : (m most : ℕ) (bytes : List ℕ) → m ≤ most → (m < most → m ≡ length bytes) → drop m bytes ≡ drop most bytes
 left_behind m most bytes h all =
     elim (le_or_lt most m) as (λ _. drop m bytes ≡ drop most bytes) [

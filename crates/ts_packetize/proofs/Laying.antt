@@ -92,13 +92,13 @@ module _ (room : ℕ) where
         if_false (room == 0) [] (if nat_le (length s) room then s ∷ begun (room - length s) ss else s ∷ []) (eq_some room some)
         ∙ if_false (nat_le (length s) room) (s ∷ begun (room - length s) ss) (s ∷ []) (le_not (length s) room h)
 
--- what is laid of a section that is laid whole, and of those behind it
+-- what is laid of a section that is laid whole, and of those after it
 pub laid-whole : (room : ℕ) (s : List ℕ) (ss : List (List ℕ)) → length s ≤ room → take room (joined (s ∷ ss)) ≡ s ++ take (room - length s) (joined ss)
 laid-whole room s ss h =
     let e : room ≡ length s + (room - length s) = omega (arith, h) in
     ap (λ n. take n (s ++ joined ss)) e ∙ take-append-add s (joined ss) (room - length s)
 
--- what a load has where its first section is laid whole, and then those behind it
+-- what a load has where its first section is laid whole, and then those after it
 pub laid-on :
     (room : ℕ) (old extended new first s : List ℕ) (waiting ss : List (List ℕ)) → waiting ≡ s ∷ ss → first ≡ s → length first ≤ room →
     extended ≡ old ++ first → new ≡ extended ++ take (room - length first) (joined ss) → new ≡ old ++ take room (joined waiting)
@@ -109,7 +109,7 @@ laid-on room old extended new first s waiting ss w f h e n =
     let all : take room (joined waiting) ≡ s ++ more = ap (λ x. take room (joined x)) w ∙ laid-whole room s ss (omega (arith, h, ap length f)) in
     n ∙ ap (λ x. extended ++ x) same ∙ ap (λ x. x ++ more) front ∙ append_assoc old s more ∙ ap (λ x. old ++ x) (sym all)
 
--- The sections that are begun, and those that are not, are the sections; what is laid of those that are begun,
+-- The sections that begin, and those that do not, are the sections; what is laid of those that begin,
 -- and what is missing, are their bytes; and where something is missing the room is full.
 pub record LaysOut (room : ℕ) (ss : List (List ℕ)) : Type 0 where
   pub sections : ss ≡ begun room ss ++ not_begun room ss
@@ -210,7 +210,7 @@ not_alone rest (s ∷ ss) e = grind (arith, nat_tests, e)
 pub alone_long : (rest : List ℕ) (s : List ℕ) (ss : List (List ℕ)) → goes_on_alone rest (s ∷ ss) ≡ true → 183 ≤ length rest
 alone_long rest s ss e = grind (arith, nat_tests, e)
 
--- less is left behind a step
+-- less is left after a step
 alone-shorter : (rest : List ℕ) (ss : List (List ℕ)) → is_done rest ss ≡ false → goes_on_alone rest ss ≡ true → length (drop 184 rest) < length rest
 alone-shorter [] [] d e = cc
 alone-shorter (b ∷ rest) [] d e = omega (arith, length-drop 184 (b ∷ rest))

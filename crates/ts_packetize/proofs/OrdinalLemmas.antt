@@ -61,7 +61,7 @@ due-start cycle n left e nothing =
     let z : n - n ≡ 0 = omega arith in
     ap (λ t. due t (cycle n)) nothing ∙ sym (ap (λ k. drop (n - k) (cycle k)) e ∙ ap (λ k. drop k (cycle n)) z)
 
--- what is due before an ordinal are the packets of its cycle from it on
+-- what is due before an ordinal is the packets of its cycle from it on
 due-is : (cycle : Cycles) (n : ℕ) → due (left_before cycle n) (cycle n) ≡ due_at cycle n
 unfolding left_before start_of
 due-is cycle zero = refl
@@ -112,7 +112,7 @@ pub length-mapped : (counter : ℕ) (row : Option (List ℕ)) → length (option
 length-mapped counter None = refl
 length-mapped counter (Some row) = refl
 
--- what is put in a packet's place is the counted packet at its ordinal, or a null packet
+-- what replaces a packet is the counted packet at its ordinal, or a null packet
 pub replaced-is : (cycle : Cycles) (n : ℕ) → replaced_at cycle n ≡ unwrap_or (counted_at cycle n) null_packet
 replaced-is cycle n = placed (written_before cycle n) (packet_at cycle n)
   where

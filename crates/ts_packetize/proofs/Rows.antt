@@ -13,21 +13,21 @@ begins bytes = record { unit_start = true; payload = bytes }
 abbrev goes_on : List ℕ → Load
 goes_on bytes = record { unit_start = false; payload = bytes }
 
--- the second of two sections goes on in a packet of its own
+-- the second of two sections continues in a packet of its own
 two_of_100 :
     packed (replicate 100 1 ∷ replicate 100 2 ∷ [])
     ≡ begins (0 ∷ replicate 100 1 ++ replicate 83 2) ∷ goes_on (replicate 17 2 ++ replicate 167 0xFF) ∷ []
 unfolding pack next_step missing not_begun
 two_of_100 = refl
 
--- and a third begins behind it
+-- and a third begins after it
 and_one_of_20 :
     packed (replicate 100 1 ∷ replicate 100 2 ∷ replicate 20 3 ∷ [])
     ≡ begins (0 ∷ replicate 100 1 ++ replicate 83 2) ∷ begins (17 ∷ replicate 17 2 ++ replicate 20 3 ++ replicate 146 0xFF) ∷ []
 unfolding pack next_step missing not_begun
 and_one_of_20 = refl
 
--- 183 bytes that are left leave no room for a byte behind a pointer, and go on alone
+-- 183 bytes that are left leave no room for a byte after a pointer, and continue alone
 one_fill_byte :
     packed (replicate 366 1 ∷ replicate 50 2 ∷ [])
     ≡ begins (0 ∷ replicate 183 1) ∷ goes_on (replicate 183 1 ++ 0xFF ∷ []) ∷ begins (0 ∷ replicate 50 2 ++ replicate 133 0xFF) ∷ []
@@ -48,12 +48,12 @@ ends_with_its_packet :
 unfolding pack next_step missing not_begun
 ends_with_its_packet = refl
 
--- two packets without a fill byte
+-- two packets without a stuffing byte
 no_fill_byte : packed (replicate 367 1 ∷ []) ≡ begins (0 ∷ replicate 183 1) ∷ goes_on (replicate 184 1) ∷ []
 unfolding pack next_step missing not_begun
 no_fill_byte = refl
 
--- the short section 70 30 01 AA on PID 32: unit start, pointer 0, and 179 fill bytes
+-- the short section 70 30 01 AA on PID 32: unit start, pointer 0, and 179 stuffing bytes
 one_packet :
     packets_of 32 ((0x70 ∷ 0x30 ∷ 0x01 ∷ 0xAA ∷ []) ∷ [])
     ≡ (0x47 ∷ 0x40 ∷ 0x20 ∷ 0x10 ∷ 0x00 ∷ 0x70 ∷ 0x30 ∷ 0x01 ∷ 0xAA ∷ replicate 179 0xFF) ∷ []

@@ -1,3 +1,4 @@
+-- The definitions of packetizing, and of cycles of packets.
 pub mod Packing
 pub mod Begun
 pub mod Packets

@@ -1,40 +1,40 @@
 -- How sections are laid into payloads.
 -- ISO/IEC 13818-1, 2.4.4.1 and 2.4.4.2: sections follow one another, the pointer_field says where the first of them
--- begins, and stuffing stands behind the last one. Where a payload is used by one section alone is this project's own rule.
+-- begins, and stuffing stands after the last one. Where a payload is used by one section alone is this project's own rule.
 use Rattle.std.specs.Prelude.{ℕ, ◌-◌, ◌==◌, nat_le, Bool, true, false, List, [], ◌∷◌, ◌++◌, length, take, drop, replicate, zero, suc, if◌then◌else◌}
 use Rattle.std.specs.List.{flat_map}
 use Rattle.ts_packet.specs.declared.numbers.TheConstants.{PAYLOAD_SIZE}
 
--- the payload of one packet, and whether it has a unit start
+-- the payload of one packet, and its payload_unit_start_indicator
 pub record Load : Type 0 where
   pub unit_start : Bool
   pub payload : List ℕ
 
--- the first 184 bytes, filled up with 0xFF
+-- the first 184 bytes, stuffed with 0xFF
 abbrev pub filled : List ℕ → List ℕ
 filled bytes = take PAYLOAD_SIZE bytes ++ replicate (PAYLOAD_SIZE - length bytes) 0xFF
 
--- the bytes of sections, one section behind another
+-- the bytes of sections, one section after another
 abbrev pub joined : List (List ℕ) → List ℕ
 joined sections = flat_map (λ section. section) sections
 
--- of sections that are laid into so much room: the bytes that are missing of the one begun and not finished
+-- of sections laid into a room of so many bytes: the bytes that are missing of the one that begins and does not end
 unfoldable pub missing : ℕ → List (List ℕ) → List ℕ
 missing room [] = []
 missing room (s ∷ ss) = if room == 0 then [] else (if nat_le (length s) room then missing (room - length s) ss else drop room s)
 
--- and the ones that are not begun
+-- and the ones that do not begin
 unfoldable pub not_begun : ℕ → List (List ℕ) → List (List ℕ)
 not_begun room [] = []
 not_begun room (s ∷ ss) = if room == 0 then s ∷ ss else (if nat_le (length s) room then not_begun (room - length s) ss else ss)
 
--- a load, and what is left behind it: bytes of a section that is begun, and sections that are not
+-- a load, and what is left after it: bytes of a section that has begun, and sections that have not
 pub record Step : Type 0 where
   pub load : Load
   pub rest : List ℕ
   pub sections : List (List ℕ)
 
--- a load without unit start, in which the bytes that are left go on alone
+-- a load without unit start, in which the bytes that are left continue alone
 abbrev pub going_on : List ℕ → List (List ℕ) → Step
 going_on rest sections = record {
   load = record { unit_start = false; payload = filled rest };
@@ -42,8 +42,9 @@ going_on rest sections = record {
   sections = sections;
 }
 
--- A load with unit start: the pointer, which is the number of bytes that are left; these bytes; and then sections,
--- one behind another, the last of which may go on behind the load. Behind the pointer there is room for 183 bytes.
+-- A load with unit start: the pointer_field, which is the number of bytes that are left; these bytes; and then
+-- sections, one after another, the last of which may continue after the load. After the pointer_field there is
+-- room for 183 bytes.
 abbrev pub beginning : List ℕ → List (List ℕ) → Step
 beginning rest sections = record {
   load = record { unit_start = true; payload = filled (length rest ∷ take 183 (rest ++ joined sections)) };
@@ -51,12 +52,12 @@ beginning rest sections = record {
   sections = not_begun (183 - length rest) sections;
 }
 
--- bytes go on alone where no section is left, or where no byte of one would come into the load
+-- bytes continue alone where no section is left, or where no byte of one would fit into the load
 abbrev pub goes_on_alone : List ℕ → List (List ℕ) → Bool
 goes_on_alone rest [] = true
 goes_on_alone rest (s ∷ ss) = nat_le 183 (length rest)
 
--- the next load of bytes that are left and of the sections behind them
+-- the next load of bytes that are left and of the sections after them
 unfoldable pub next_step : List ℕ → List (List ℕ) → Step
 next_step rest sections = if goes_on_alone rest sections then going_on rest sections else beginning rest sections
 
@@ -66,7 +67,7 @@ is_done [] [] = true
 is_done [] (s ∷ ss) = false
 is_done (b ∷ rest) sections = false
 
--- the loads of the bytes that are left of a section and of the sections behind it, at most so many
+-- the loads of the bytes that are left of a section and of the sections after it, at most so many
 unfoldable pub pack : ℕ → List ℕ → List (List ℕ) → List Load
 pack zero rest sections = []
 pack (suc more) rest sections =

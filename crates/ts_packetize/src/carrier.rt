@@ -1,4 +1,4 @@
-//! The packet that carries some bytes.
+//! The packet that carries given bytes.
 
 ghost use Rattle.std.specs.Prelude.{◌≡◌, ◌<◌, ◌≤◌, length, replicate};
 ghost use Rattle.ts_packetize.specs.Packing.{filled};
@@ -6,10 +6,10 @@ ghost use Rattle.ts_packetize.specs.Packets.{packet_with};
 
 use ts_packet::{NULL_PID, PAYLOAD_SIZE, Packet};
 
-/// The bytes of a packet's header.
+/// The size of a packet's header in bytes.
 const HEADER: u8 = 4;
 
-/// The packet with this counter that carries the bytes, at most 184, filled up with 0xFF.
+/// The packet with this counter that carries the bytes, at most 184, stuffed with 0xFF.
 pub(crate) fn packet(pid: u16, counter: u8, unit_start: bool, bytes: &[u8]) -> Packet
     requires pid { pid < NULL_PID }
     requires counter { counter < 16 }
@@ -21,7 +21,7 @@ pub(crate) fn packet(pid: u16, counter: u8, unit_start: bool, bytes: &[u8]) -> P
     packet
 }
 
-/// The packet with this header and a payload of 0xFF alone, which a null packet has.
+/// The packet with this header and a payload of 0xFF alone, as a null packet has it.
 fn blank(pid: u16, counter: u8, unit_start: bool) -> Packet
     requires pid { pid < NULL_PID }
     requires counter { counter < 16 }

@@ -1,4 +1,4 @@
-//! Packets given in cycles.
+//! Packets given out in cycles.
 
 ghost use Rattle.std.specs.Prelude.{◌≡◌, ◌<◌, [], false, length, IsTrue, IfOk, IfNone, OnOk, OnErr};
 ghost use Rattle.ts_packet.specs.Header.{with_counter};
@@ -12,9 +12,9 @@ use std::marker::Model;
 use ts_packet::{NULL_PID, Packet};
 use ts_section::Section;
 
-/// The packets of contents, given one by one and over again. New contents come with the next cycle.
+/// The packets of contents, given out one by one, over and over. New contents begin with the next cycle.
 ///
-/// Clauses see the PID, the packets that are left of the cycle that runs, and the packets of the next.
+/// Clauses see the PID, the packets that are left of the current cycle, and the packets of the next.
 #[derive(Drop)]
 pub struct Cycle {
     pid: u16,
@@ -49,7 +49,7 @@ impl Cycle {
         })
     }
 
-    /// Sets the contents from the next cycle on. After `AllocError` they are as before.
+    /// Sets the contents from the next cycle on. After an `AllocError` they are as before.
     pub fn renew(&mut self, sections: Vec<Section>) -> Result<(), AllocError>
         ensures renewed { OnOk result (self.new ≡ record self.old { contents = packets_of self.old.pid sections.items }) }
         ensures err { OnErr result (self.new ≡ self.old) }
@@ -60,7 +60,7 @@ impl Cycle {
         Ok(())
     }
 
-    /// Whether a new cycle would begin with the next packet.
+    /// Whether the next packet would begin a new cycle.
     pub fn is_over(&self) -> bool
         ensures over { IsTrue result → self.now.left ≡ [] }
         ensures runs { result ≡ false → 0 < length self.now.left }
@@ -68,8 +68,8 @@ impl Cycle {
         self.place >= self.current.as_slice().len()
     }
 
-    /// The next packet, with this counter, below 16; none exactly where a new cycle would begin and the contents
-    /// have no packet. Takes no memory.
+    /// The next packet, with this continuity counter, below 16; none exactly where a new cycle would begin and the
+    /// contents have no packet. Allocates nothing.
     pub fn next(&mut self, counter: u8) -> Option<Packet>
         requires { counter < 16 }
         ensures next { GivesNext self.old self.new counter result }
@@ -85,7 +85,7 @@ impl Cycle {
         Some(packet)
     }
 
-    /// Begins the next cycle where nothing is left of the one that runs.
+    /// Begins the next cycle where nothing is left of the current one.
     fn begin_where_over(&mut self)
         ensures left { self.new.left ≡ due self.old.left self.old.contents }
         ensures contents { self.new.contents ≡ self.old.contents }
@@ -101,7 +101,7 @@ impl Cycle {
     }
 }
 
-/// The packet with another counter.
+/// The packet with another continuity counter.
 fn with_counter(packet: &Packet, counter: u8) -> Packet
     requires { counter < 16 }
     ensures { result ≡ with_counter packet.now counter }

@@ -16,13 +16,13 @@ use std::alloc::{AllocError, Global};
 use ts_packet::{NULL_PID, PAYLOAD_SIZE, Packet};
 use ts_section::Section;
 
-/// The bytes of a payload behind its pointer.
+/// The bytes of a payload after its pointer_field.
 const BEHIND_POINTER: usize = PAYLOAD_SIZE - 1;
 
-/// The packets of the PID, below 8191, that carry the sections one behind another (ISO/IEC 13818-1, 2.4.4).
-/// A packet in which sections begin has a unit start and a pointer; one in which a section only goes on has
-/// neither, and bytes of a section that fill all 183 behind a pointer go on alone. The last packet is filled up
-/// with 0xFF. Counters run from 0, modulo 16.
+/// The packets of the PID, below 8191, that carry the sections one after another (ISO/IEC 13818-1, 2.4.4).
+/// A packet in which a section begins has payload_unit_start_indicator 1 and a pointer_field. One in which a section
+/// only continues has neither; bytes of a section that fill all 183 after a pointer_field continue alone. The last
+/// packet is stuffed with 0xFF. Continuity counters run from 0, modulo 16.
 pub fn packets(alloc: Global, pid: u16, sections: &[Section]) -> Result<PacketList, AllocError>
     requires { pid < NULL_PID }
     ensures packed { IfOk result (λ list. list ≡ packets_of pid sections.now) }
@@ -43,7 +43,7 @@ pub fn packets(alloc: Global, pid: u16, sections: &[Section]) -> Result<PacketLi
     Ok(PacketList::of(packets))
 }
 
-/// The next packet of bytes that are left and sections that wait. `load` is room to lay bytes in.
+/// The next packet of the bytes that are left and the sections that wait. `load` is a buffer for its payload.
 fn next_packet(
     pid: u16,
     counter: u8,
@@ -67,7 +67,7 @@ fn next_packet(
     Ok(packet(pid, counter, true, load))
 }
 
-/// The bytes that are left behind the next packet.
+/// The bytes that are left after the next packet.
 fn rest_behind<'a>(rest: &'a [u8], waiting: &'a [Section]) -> &'a [u8]
     ensures { result.now ≡ (next_step rest.now waiting.now).rest }
 {
@@ -77,7 +77,7 @@ fn rest_behind<'a>(rest: &'a [u8], waiting: &'a [Section]) -> &'a [u8]
     missing(&rest[rest.len()..], waiting, BEHIND_POINTER - rest.len())
 }
 
-/// The sections that wait behind the next packet.
+/// The sections that wait after the next packet.
 fn sections_behind<'a>(rest: &[u8], waiting: &'a [Section]) -> &'a [Section]
     ensures { result.now ≡ (next_step rest.now waiting.now).sections }
 {
@@ -94,7 +94,7 @@ fn is_done(rest: &[u8], waiting: &[Section]) -> bool
     rest.is_empty() && waiting.is_empty()
 }
 
-/// Whether bytes that are left go on alone in the next packet.
+/// Whether the bytes that are left continue alone in the next packet.
 fn goes_on_alone(rest: &[u8], waiting: &[Section]) -> bool
     ensures alone { result ≡ packing.goes_on_alone rest.now waiting.now }
     ensures room { result ≡ false → length rest.now < 183 }
@@ -102,7 +102,7 @@ fn goes_on_alone(rest: &[u8], waiting: &[Section]) -> bool
     waiting.is_empty() || rest.len() >= BEHIND_POINTER
 }
 
-/// The counter behind these packets.
+/// The continuity counter after these packets.
 fn next_counter(packets: &Vec<Packet>) -> u8
     ensures counter { result ≡ length packets.now.items % 16 }
     ensures range { result < 16 }

@@ -1,4 +1,4 @@
-//! Sections laid one behind another into the room that is left in a payload.
+//! Sections laid one after another into the room that is left in a payload.
 
 ghost use Rattle.std.specs.Prelude.{◌≡◌, ◌++◌, length, take, OnOk};
 ghost use Rattle.std.specs.List.{AllByRecursion};
@@ -10,7 +10,7 @@ ghost use Rattle.ts_packetize.specs.Begun.{begun};
 use std::alloc::AllocError;
 use ts_section::Section;
 
-/// Lays sections behind what is in the load, as far as there is room for their bytes.
+/// Appends sections to the load, as far as there is room for their bytes.
 pub(crate) fn lay(waiting: &[Section], room: usize, load: &mut Vec<u8>) -> Result<(), AllocError>
     ensures laid { OnOk result (load.new.items ≡ load.old.items ++ take room (joined waiting.now)) }
     ensures lawful { OnOk result (AllByRecursion (λ s. IsSection s) (begun room waiting.now)) }
@@ -31,8 +31,8 @@ pub(crate) fn lay(waiting: &[Section], room: usize, load: &mut Vec<u8>) -> Resul
     Ok(())
 }
 
-/// The bytes that are missing of the section that is begun in so much room and not finished.
-/// `nothing` has no bytes, and is the answer where there is no such section.
+/// The bytes that are missing of the section that begins in this room and does not end in it.
+/// `nothing` has no bytes, and is returned where there is no such section.
 pub(crate) fn missing<'a>(nothing: &'a [u8], waiting: &'a [Section], room: usize) -> &'a [u8]
     requires { length nothing.now ≡ 0 }
     ensures { result.now ≡ packing.missing room waiting.now }
@@ -50,7 +50,7 @@ pub(crate) fn missing<'a>(nothing: &'a [u8], waiting: &'a [Section], room: usize
     &bytes[room..]
 }
 
-/// The sections that are not begun in so much room.
+/// The sections that do not begin in this room.
 pub(crate) fn not_begun(waiting: &[Section], room: usize) -> &[Section]
     ensures { result.now ≡ packing.not_begun room waiting.now }
 {

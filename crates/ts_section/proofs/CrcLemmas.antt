@@ -69,7 +69,7 @@ divided_row-append a b =
     (xor-shift (8 * length b) (field a 0 (8 * length a) * 2 ^ 32) ((2 ^ 32 - 1) * 2 ^ (8 * length a)))
     ∙ ap (λ n. bit_xor (n * 2 ^ (8 * length b)) (field b 0 (8 * length b) * 2 ^ 32)) (sym (divided_row-is a))
 
--- the CRC goes on from the CRC of the bytes before
+-- the CRC continues from the CRC of the bytes before
 pub crc_of-append : (a b : List ℕ) → crc_of (a ++ b) ≡ remainder (8 * length b) (bit_xor (crc_of a * 2 ^ (8 * length b)) (field b 0 (8 * length b) * 2 ^ 32))
 crc_of-append a b =
     let both : 8 * length (a ++ b) ≡ 8 * length a + 8 * length b = omega (arith, length-append a b) in

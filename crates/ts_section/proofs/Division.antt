@@ -53,7 +53,7 @@ reduced-none : (places row : ℕ) → bit_at row (places + 32) ≡ 0 → reduced
 reduced-none places row none =
     ap (λ b. bit_xor row (b * (polynomial * 2 ^ places))) none ∙ ap (bit_xor row) (zero-mul (polynomial * 2 ^ places)) ∙ xor_zero_r row
 
--- zeros in front change nothing
+-- leading zeros change nothing
 pub remainder-front : (more places row : ℕ) → row < 2 ^ (places + 32) → remainder (more + places) row ≡ remainder places row
 remainder-front zero places row small = ap (λ n. remainder n row) (zero-add places)
 remainder-front (suc more) places row small =
@@ -95,7 +95,7 @@ pub remainder-lt : (places row : ℕ) → row < 2 ^ (places + 32) → remainder 
 remainder-lt zero row small = rw (remainder-zero row) small
 remainder-lt (suc places) row small = rw (remainder-suc places row) (remainder-lt places (reduced places row) (reduced-lt places row small))
 
--- zeros behind both sides of a sum
+-- zeros after both sides of a sum
 pub xor-shift : (k a b : ℕ) → bit_xor (a * 2 ^ k) (b * 2 ^ k) ≡ bit_xor a b * 2 ^ k
 xor-shift k a b = simp add-zero at (xor_block k a b 0 0 (pow_pos k) (pow_pos k))
 
@@ -104,7 +104,7 @@ bit_at-shift row behind i j same =
     ap (λ n. row * 2 ^ behind / 2 ^ n % 2) same
     ∙ ap (λ n. n % 2) (sym (shr-shr (row * 2 ^ behind) behind i) ∙ ap (λ n. n / 2 ^ i) (shl-shr row behind))
 
--- a step on a row with zeros behind
+-- a step on a row with zeros after
 reduced-shift : (places behind row : ℕ) → reduced (places + behind) (row * 2 ^ behind) ≡ reduced places row * 2 ^ behind
 reduced-shift places behind row =
     let bit : bit_at (row * 2 ^ behind) (places + behind + 32) ≡ bit_at row (places + 32) =
@@ -116,7 +116,7 @@ reduced-shift places behind row =
     ∙ ap (bit_xor (row * 2 ^ behind)) (sym (mul_assoc (bit_at row (places + 32)) (polynomial * 2 ^ places) (2 ^ behind)))
     ∙ xor-shift behind row (bit_at row (places + 32) * (polynomial * 2 ^ places))
 
--- the first places of a row with zeros behind
+-- the first places of a row with zeros after
 pub remainder-shift : (places behind row : ℕ) → remainder (places + behind) (row * 2 ^ behind) ≡ remainder behind (remainder places row * 2 ^ behind)
 remainder-shift zero behind row = ap (λ n. remainder n (row * 2 ^ behind)) (zero-add behind) ∙ ap (λ n. remainder behind (n * 2 ^ behind)) (sym (remainder-zero row))
 remainder-shift (suc places) behind row =

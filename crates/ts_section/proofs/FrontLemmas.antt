@@ -1,4 +1,4 @@
--- The section in front of a longer row.
+-- The section before a longer row.
 use Rattle.std.proofs.Common.{◌≡◌, ℕ, ◌+◌, ◌-◌, ◌<◌, ◌≤◌, Bool, true, false, List, length, take, Some, refl, sym, ap, arith}
 use Rattle.std.specs.Prelude.{if◌then◌else◌, Option, nat_lt, ◌==◌}
 use Rattle.std.proofs.lemmas.Bool.{ltb-true}
@@ -24,7 +24,7 @@ if_by : {C : Type 0} (P : C → Type 0) (b c : Bool) (x y : C) → c ≡ b → (
 if_by P true c x y is good other = good is
 if_by P false c x y is good other = other is
 
--- the rule about bytes behind the end
+-- the rule about bytes after the end
 abbrev Trails : Option SectionFault → Type 0
 Trails o = o ≡ Some (Lawless Trailing)
 

@@ -67,7 +67,7 @@ table_id-byte b small = field-one_byte b small 0 0 refl
 pub IsBytes-drop : (n : ℕ) (b : List ℕ) → IsBytes b → IsBytes (drop n b)
 IsBytes-drop n b small = λ i. rw (get_or-drop n b i 0) (small (n + i))
 
--- the bytes of a lawful section
+-- the bytes of a valid section
 pub IsBytes-section : (b : List ℕ) → IsSection b → IsBytes b
 IsBytes-section b lawful = λ i. elim (cases_lt i (length b)) [
   | inl inside ↦ All-get_or (λ x. x < 256) b i 0 inside lawful.bytes

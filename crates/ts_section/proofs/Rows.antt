@@ -36,7 +36,7 @@ stuffing : first_broken (0xFF ∷ 0x30 ∷ 0x00 ∷ []) ≡ Some (Lawless Stuffi
 unfolding first_broken first_broken_long crc_of divided_row remainder field bit_of
 stuffing = refl
 
--- one byte is wanting
+-- one byte is missing
 short : first_broken (0x72 ∷ 0x30 ∷ 0x02 ∷ 0xAA ∷ []) ≡ Some (Short 5 4)
 unfolding first_broken first_broken_long crc_of divided_row remainder field bit_of
 short = refl
@@ -46,7 +46,7 @@ cat-made : long_section (record { table_id = 1; private = false; extension = 0xF
 unfolding cat long_section crc_of divided_row remainder field bit_of
 cat-made = refl
 
--- a short section with a byte behind it
+-- a short section with a byte after it
 front-of-two : front_of (0x72 ∷ 0x30 ∷ 0x01 ∷ 0xAA ∷ 0xFF ∷ []) ≡ 0x72 ∷ 0x30 ∷ 0x01 ∷ 0xAA ∷ []
 unfolding front_of field bit_of
 front-of-two = refl

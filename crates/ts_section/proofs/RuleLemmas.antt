@@ -1,4 +1,4 @@
--- The first broken rule, case by case, and that none is broken exactly in lawful sections.
+-- The first broken rule, case by case, and that none is broken exactly in valid sections.
 use Rattle.std.proofs.Common.{◌≡◌, ◌≢◌, ℕ, ◌+◌, ◌-◌, ◌<◌, ◌≤◌, List, length, take, drop, true, false, eqb, Option, Some, None, refl, sym, ap, ◌∙◌, inl, inr, arith}
 use Rattle.std.specs.Prelude.{All}
 use Rattle.std.proofs.lemmas.Bool.{lt-ltb, le-ltb, eq-eqb, cases_lt, cases_eq, cases_Bool}
@@ -156,7 +156,7 @@ long_crc b none =
       | inr other ↦ absurd (fault_and_none (first_broken_long b) _ (bad_crc-broken b (long_room b none) (long_numbers b none) other) none)
     ]
 
--- a row of bytes without a broken rule is a lawful section
+-- a row of bytes without a broken rule is a valid section
 pub lawful_from_none : (b : List ℕ) → All (λ x. x < 256) b → first_broken b ≡ None → IsSection b
 lawful_from_none b bytes none =
     record {
@@ -174,7 +174,7 @@ lawful_from_none b bytes none =
     long_size : (b : List ℕ) → first_broken b ≡ None → is_long b ≡ true → 4 ≤ length b
     long_size b none form = omega (arith, whole b none, long_room b (long_none b none form))
 
--- in a lawful section no rule is broken
+-- in a valid section no rule is broken
 pub none_from_lawful : (b : List ℕ) → IsSection b → first_broken b ≡ None
 none_from_lawful b lawful =
     elim (cases_Bool (is_long b)) [

@@ -1,4 +1,4 @@
--- When sections are a whole run, and where they stop to be one.
+-- When sections are a whole run, and where they stop being one.
 use Rattle.std.proofs.Common.{◌≡◌, ℕ, ◌+◌, ◌<◌, List, [], ◌∷◌, length, get_or, take, true, false, refl, sym, ◌∙◌, subst, inl, inr, arith, suc, zero, add-one}
 use Rattle.std.proofs.lemmas.Bool.{cases_Bool, false≢true}
 use Rattle.std.proofs.lemmas.List.{get_or-take, length-take}
@@ -52,7 +52,7 @@ fault_at (s ∷ rest) place together inside members other =
       stops = λ more. stops_at s rest place together inside other;
     }
 
--- sections that are wanting
+-- sections that are missing
 pub fault_wanting : (ss : List (List ℕ)) → stands_alone (get_or ss 0 []) ≡ false → 0 < length ss → length ss < last_number_of (get_or ss 0 []) + 1 → MembersBelow (get_or ss 0 []) ss (length ss) → IsRunFault ss (length ss)
 fault_wanting [] together some few members = absurd (omega arith)
 fault_wanting (s ∷ rest) together some few members =
@@ -63,7 +63,7 @@ fault_wanting (s ∷ rest) together some few members =
       stops = λ more. absurd (omega arith);
     }
 
--- one section more behind one that is a table by itself
+-- one section more after one that is a table by itself
 pub fault_behind : (ss : List (List ℕ)) → stands_alone (get_or ss 0 []) ≡ true → 1 < length ss → IsRunFault ss 1
 fault_behind [] alone many = absurd (omega arith)
 fault_behind (s ∷ []) alone many = absurd (omega arith)

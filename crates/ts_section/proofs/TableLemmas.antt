@@ -4,7 +4,7 @@ use Rattle.std.proofs.lemmas.Bool.{and_parts, eqb-true}
 use Rattle.ts_section.specs.Crc.{remainder}
 use Rattle.ts_section.specs.declared.crc_table.TheConstants.{CRC_TABLE}
 
--- whether each entry, from the one of `first` on, is as it is to be
+-- whether each entry, from that of `first` on, is right
 abbrev are_remainders : List ℕ → ℕ → Bool
 are_remainders [] first = true
 are_remainders (entry ∷ rest) first = eqb entry (remainder 8 (first * 2 ^ 32)) && are_remainders rest (suc first)

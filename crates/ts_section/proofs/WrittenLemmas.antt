@@ -1,4 +1,4 @@
--- Sections put together from their parts.
+-- Sections built from their parts.
 use Rattle.std.proofs.Common.{◌≡◌, ℕ, ◌+◌, ◌-◌, ◌*◌, ◌/◌, ◌%◌, ◌^◌, ◌<◌, ◌≤◌, List, [], ◌∷◌, ◌++◌, length, take, drop, Bool, true, false, eqb, refl, sym, ap, ◌∙◌, arith, suc, zero, length-append, append_assoc}
 use mir.Val.{bool_byte}
 use Rattle.std.specs.Prelude.{All, bit_or, ◌==◌}

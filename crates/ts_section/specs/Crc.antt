@@ -9,9 +9,9 @@ use Rattle.bit_rows.specs.BitRow.{field}
 abbrev pub polynomial : ℕ
 polynomial = 0x104C11DB7
 
--- The remainder of a row of `places` bits and 32 more, seen as one number, in one long division
+-- The remainder of a row of `places` bits and 32 more, taken as one number, in a long division
 -- modulo 2 by the polynomial: from the highest place down, where the row has a one, the polynomial
--- is taken off there.
+-- is subtracted there.
 unfoldable pub remainder : ℕ → ℕ → ℕ
 remainder zero row = row
 remainder (suc places) row = remainder places (bit_xor row (bit_at row (places + 32) * (polynomial * 2 ^ places)))

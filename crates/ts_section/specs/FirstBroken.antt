@@ -1,5 +1,5 @@
--- The first broken rule of a row of bytes that is to be a section.
--- This project's own rule: the order in which the demands on a lawful section are looked at.
+-- The first broken rule of a row of bytes that should be a section.
+-- This project's own rule: the order in which the rules of a valid section are checked.
 use Rattle.std.specs.Prelude.{ℕ, ◌+◌, ◌-◌, ◌==◌, nat_lt, Bool, List, length, take, Option, Some, None, is_none, if◌then◌else◌}
 use Rattle.ts_section.specs.Crc.{crc_of}
 use Rattle.ts_section.specs.SectionFields.{table_id_of, is_long, section_length_of, number_of, last_number_of, crc_field_of}
@@ -7,7 +7,7 @@ use Rattle.ts_section.specs.declared.fault.SectionFault.{SectionFault}
 use Rattle.ts_section.specs.declared.fault.SectionFault.TheVariants.{Short, Lawless, TooLong, BadCrc}
 use Rattle.ts_section.specs.declared.fault.SectionRule.TheVariants.{Stuffing, Trailing, ShortLong, Numbers}
 
--- the first broken rule of a section of the long form that is there whole
+-- the first broken rule of a whole section of the long form
 unfoldable pub first_broken_long : List ℕ → Option SectionFault
 first_broken_long b =
     let wanted = crc_of (take (length b - 4) b) in
@@ -28,6 +28,6 @@ first_broken b =
     else if is_long b then first_broken_long b
     else None
 
--- whether no rule is broken, so that the row is a lawful section
+-- whether no rule is broken, so that the row is a valid section
 abbrev pub is_section : List ℕ → Bool
 is_section b = is_none (first_broken b)

@@ -1,3 +1,4 @@
+-- The definitions of sections, their fields, their CRC, and runs of sections.
 pub mod Crc
 pub mod SectionFields
 pub mod LawfulSection

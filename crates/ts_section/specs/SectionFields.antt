@@ -13,11 +13,11 @@ table_id_of b = field b 0 8
 abbrev pub is_long : List ℕ → Bool
 is_long b = bit_of b 8 == 1
 
--- the bit behind it, for private use
+-- the bit after section_syntax_indicator, for private use
 abbrev pub private_of : List ℕ → Bool
 private_of b = bit_of b 9 == 1
 
--- section_length: the number of bytes behind the field
+-- section_length: the number of bytes after the field
 abbrev pub section_length_of : List ℕ → ℕ
 section_length_of b = field b 12 12
 
@@ -54,11 +54,11 @@ head_fields b =
       last = last_number_of b;
     }
 
--- the head, which only the long form has
+-- the head; none for the short form
 abbrev pub head_of : List ℕ → Option LongHead
 head_of b = if is_long b then Some (head_fields b) else None
 
--- the bytes between the head and the CRC, in the short form those behind section_length
+-- the bytes between the head and the CRC; in the short form, those after section_length
 abbrev pub body_of : List ℕ → List ℕ
 body_of b = if is_long b then drop 8 (take (length b - 4) b) else drop 3 b
 
@@ -67,7 +67,7 @@ abbrev pub body_place : List ℕ → ℕ
 body_place b = if is_long b then LONG_BODY_PLACE else SHORT_BODY_PLACE
 
 -- the section that a longer row begins with: its first three bytes and section_length more, or all
--- that is there where it is less
+-- bytes where there are fewer
 unfoldable pub front_of : List ℕ → List ℕ
 front_of b = take (3 + section_length_of b) b
 

@@ -46,8 +46,8 @@ IsTableRun [] = ⊥
 IsTableRun (s ∷ rest) =
     ((stands_alone s ≡ true) × (rest ≡ [])) ⊎ (AllMembers s (s ∷ rest) × (length (s ∷ rest) ≡ last_number_of s + 1))
 
--- the list is no whole run, and `place` is the first section at which no run goes on,
--- or the number of sections where some are wanting
+-- the list is not a whole run, and `place` is the first section at which no run continues,
+-- or the number of sections where some are missing
 pub record IsRunFault (ss : List (List ℕ)) (place : ℕ) : Type 0 where
   pub not_whole : IsTableRun ss → ⊥
   pub within : place ≤ length ss

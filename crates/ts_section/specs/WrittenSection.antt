@@ -26,8 +26,8 @@ next_five head =
 abbrev pub four_bytes : ℕ → List ℕ
 four_bytes n = n / 16777216 % 256 ∷ n / 65536 % 256 ∷ n / 256 % 256 ∷ n % 256 ∷ []
 
--- the section of the long form with this head and this body: the five bytes of the head, the body and
--- the four of the CRC are counted
+-- the section of the long form with this head and this body; section_length counts the five bytes of the
+-- head, the body and the four bytes of the CRC
 unfoldable pub long_section : LongHead → List ℕ → List ℕ
 long_section head body =
     let front = (first_three head.table_id true head.private (9 + length body) ++ next_five head) ++ body in

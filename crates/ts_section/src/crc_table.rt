@@ -1,4 +1,4 @@
-//! The table of the CRC, one entry for each byte.
+//! The table of the CRC, one entry for each byte value.
 
 ghost use Rattle.std.specs.Prelude.{◌≡◌, slice_index};
 
@@ -10,8 +10,8 @@ pub fn crc_entry(byte: u8) -> u32
     CRC_TABLE[usize::from(byte)]
 }
 
-/// For each byte the remainder of its eight bits and 32 zero bits behind them, divided modulo 2 by the
-/// polynomial 0x104C11DB7. That each entry is so is computed in the proofs.
+/// For each byte value, the remainder of its eight bits and 32 zero bits after them, divided modulo 2 by the
+/// polynomial 0x104C11DB7. The proofs compute that each entry is this remainder.
 static CRC_TABLE: [u32; 256] = [
     0x0000_0000,
     0x04C1_1DB7,

@@ -1,5 +1,5 @@
-//! Rows of bytes come in; sections of the standard's form, checked or written, and whole table runs go out.
-//! The layer above rests on `Section::parse`: accepted exactly where lawful, else the first broken rule.
+//! Sections: parsed and checked, or built from a head and a body; and runs of all sections of one table.
+//! The layer above uses `Section::parse`, which returns a valid section, or else the first broken rule.
 #![tactic(auto)]
 
 mod crc;

@@ -5,7 +5,7 @@
 pub struct LongHead {
     /// table_id, 0 to 254.
     pub table_id: u8,
-    /// The bit behind section_syntax_indicator: false for PAT, CAT and PMT, true for the tables of DVB.
+    /// The bit after section_syntax_indicator: false for PAT, CAT and PMT, true for the tables of DVB.
     pub private: bool,
     /// table_id_extension: transport_stream_id, program_number, network_id and the like.
     pub extension: u16,

@@ -1,4 +1,4 @@
-//! One lawful section.
+//! One valid section.
 
 ghost use Rattle.std.specs.Prelude.{◌≡◌, ◌≢◌, ◌<◌, ◌≤◌, ◌+◌, true, false, length, take, drop, IfOk, IfSome, IfNone, IsOkUnless};
 ghost use Rattle.ts_section.specs.SectionFields.{table_id_of, section_length_of, head_of, body_of, body_place, front_of};
@@ -13,19 +13,19 @@ use crate::long_head::LongHead;
 use std::alloc::{AllocError, Global};
 use std::marker::Model;
 
-/// The most that section_length may be.
+/// The greatest section_length.
 pub const MOST_SECTION_LENGTH: u16 = 4093;
 
-/// Where the body of a section of the short form begins: behind section_length.
+/// Where the body of a section of the short form begins: after section_length.
 pub const SHORT_BODY_PLACE: usize = 3;
 
-/// Where the body of a section of the long form begins: behind last_section_number.
+/// Where the body of a section of the long form begins: after last_section_number.
 pub const LONG_BODY_PLACE: usize = 8;
 
-/// The bytes of the CRC.
+/// The size of the CRC in bytes.
 const CRC_SIZE: usize = 4;
 
-/// One lawful section of the short or the long form (ISO/IEC 13818-1, 2.4.4.11), at most 4096 bytes.
+/// One valid section of the short or the long form (ISO/IEC 13818-1, 2.4.4.11), at most 4096 bytes.
 #[derive(Drop)]
 pub struct Section {
     bytes: Vec<u8>,
@@ -44,7 +44,7 @@ impl Model for Section {
 }
 
 impl Section {
-    /// Takes one whole section, and answers the first broken rule where `from` is none.
+    /// The section that `from` is, or the first broken rule where it is not one whole valid section.
     pub fn parse(alloc: Global, from: &[u8]) -> Result<Section, SectionFault>
         ensures refused { IfSome (first_broken from.now) (λ fault. result ≡ Err fault) }
         ensures accepted { IfNone (first_broken from.now) (IsOkUnless result SectionFault.NoMemory) }
@@ -61,8 +61,8 @@ impl Section {
         Ok(Section { bytes })
     }
 
-    /// The section in front of a longer row of bytes: what `parse` answers for the first
-    /// 3 + section_length bytes, or for all that is there where it is less.
+    /// The section at the beginning of longer bytes: what `parse` returns for the first
+    /// 3 + section_length bytes, or for all bytes where there are fewer.
     pub fn parse_front(alloc: Global, from: &[u8]) -> Result<Section, SectionFault>
         ensures refused { IfSome (first_broken (front_of from.now)) (λ fault. result ≡ Err fault) }
         ensures accepted { IfNone (first_broken (front_of from.now)) (IsOkUnless result SectionFault.NoMemory) }
@@ -73,7 +73,7 @@ impl Section {
         Section::parse(alloc, front(from))
     }
 
-    /// The section of the long form with this head and body, reserved bits as ones, with its CRC.
+    /// The section of the long form with this head and body, with reserved bits as ones and its CRC.
     pub fn long(alloc: Global, head: LongHead, body: &[u8]) -> Result<Section, AllocError>
         requires lawful_id { head.table_id < 255 }
         requires version { head.version < 32 }
@@ -92,7 +92,7 @@ impl Section {
         Ok(Section { bytes })
     }
 
-    /// The section of the short form with this body, reserved bits as ones.
+    /// The section of the short form with this body, with reserved bits as ones.
     pub fn short(
         alloc: Global,
         table_id: u8,
@@ -127,7 +127,7 @@ impl Section {
         b[0]
     }
 
-    /// Whether the section is of the long form.
+    /// Whether the section has the long form.
     pub fn is_long(&self) -> bool
         ensures long { result ≡ fields.is_long self.now }
         ensures lawful { IsSection self.now }
@@ -135,7 +135,7 @@ impl Section {
         is_long(&self.bytes)
     }
 
-    /// The bit behind section_syntax_indicator.
+    /// The bit after section_syntax_indicator.
     pub fn is_private(&self) -> bool
         ensures own { result ≡ fields.private_of self.now }
         ensures lawful { IsSection self.now }
@@ -154,7 +154,7 @@ impl Section {
         if is_long(b) { Some(long_head(b)) } else { None }
     }
 
-    /// The bytes between the head and the CRC, in the short form those behind section_length.
+    /// The bytes between the head and the CRC; in the short form, those after section_length.
     pub fn body(&self) -> &[u8]
         ensures body { result.now ≡ body_of self.now }
         ensures place { result.now ≡ take (length result.now) (drop (body_place self.now) self.now) }
@@ -170,7 +170,7 @@ impl Section {
         }
     }
 
-    /// An equal section.
+    /// A copy of the section.
     pub fn copy(&self) -> Result<Section, AllocError>
         ensures { IfOk result (λ s. s ≡ self.now) }
     {
@@ -179,7 +179,7 @@ impl Section {
     }
 }
 
-/// Whether bytes begin a section of the long form.
+/// Whether the bytes begin a section of the long form.
 fn is_long(bytes: &[u8]) -> bool
     requires { 2 ≤ length bytes.now }
     ensures { result ≡ fields.is_long bytes.now }
@@ -187,7 +187,7 @@ fn is_long(bytes: &[u8]) -> bool
     bytes[1] >> 7 == 1
 }
 
-/// The bit behind section_syntax_indicator.
+/// The bit after section_syntax_indicator.
 fn is_private(bytes: &[u8]) -> bool
     requires { 2 ≤ length bytes.now }
     ensures { result ≡ fields.private_of bytes.now }
@@ -211,7 +211,7 @@ fn long_head(b: &[u8]) -> LongHead
     }
 }
 
-/// The bytes of the section that bytes begin with, or all of them where they are fewer.
+/// The section at the beginning of the bytes, or all of them where there are fewer.
 fn front(bytes: &[u8]) -> &[u8]
     ensures { result.now ≡ front_of bytes.now }
 {
@@ -270,7 +270,7 @@ fn first_fault(bytes: &[u8]) -> Option<SectionFault>
     }
 }
 
-/// The first broken rule of the long form's own.
+/// The first broken rule of the long form's own rules.
 fn first_fault_long(bytes: &[u8]) -> Option<SectionFault>
     requires { length bytes.now ≡ 3 + fields.section_length_of bytes.now }
     ensures { result ≡ first_broken_long bytes.now }
@@ -307,7 +307,7 @@ fn first_bytes(table_id: u8, long: bool, private: bool, length: u16) -> [u8; 3]
     ]
 }
 
-/// The bytes of a long head behind section_length.
+/// The five bytes of a long head after section_length.
 fn long_bytes(head: LongHead) -> [u8; 5]
     requires { head.version < 32 }
     ensures { result ≡ next_five head }

@@ -6,8 +6,8 @@ ghost use Rattle.ts_section.specs.SectionFields.{is_long, head_fields};
 ghost use Rattle.ts_section.specs.SectionRun.{stands_alone, SharesHead, IsTableRun};
 ghost use Rattle.ts_section.specs.WrittenSection.{long_section, short_section, IsLongSectionOf, IsShortSectionOf};
 
-/// What is made of a head and a body within their ranges is a lawful section with that head and that
-/// body. A law: it runs nothing.
+/// A section built from a head and a body within their ranges is a valid section with that head and that
+/// body. A law; it runs nothing.
 pub fn made_sections_are_lawful()
     ensures long { (head : LongHead) (body : List ℕ) → head.table_id < 255 → head.extension < 65536 →
         head.version < 32 → head.number ≤ head.last → head.last < 256 →
@@ -16,8 +16,8 @@ pub fn made_sections_are_lawful()
         length body ≤ 4093 → IsShortSectionOf id own body (short_section id own body) }
 {}
 
-/// A run whose first section does not stand alone has its head in all its sections, each of the long
-/// form; any other run is that section. A law: it runs nothing.
+/// A run whose first section does not stand alone has one head in all its sections, each of the long
+/// form; any other run is that one section. A law; it runs nothing.
 pub fn runs_share_their_head()
     ensures head { (first : List ℕ) (rest : List (List ℕ)) (k : ℕ) → IsTableRun (first ∷ rest) →
         stands_alone first ≡ false → k < length (first ∷ rest) →

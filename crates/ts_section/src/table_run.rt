@@ -32,7 +32,7 @@ impl Model for TableRun {
 }
 
 impl TableRun {
-    /// The sections as one whole run. Takes no memory; a refused list is dropped.
+    /// The run of these sections; a list that is not one whole run is refused and dropped. Allocates nothing.
     pub fn of(sections: Vec<Section>) -> Result<TableRun, RunFault>
         ensures same { IfOk result (λ run. run ≡ sections.items) }
         ensures whole { IfOk result (λ run. IsTableRun run) }
@@ -45,7 +45,7 @@ impl TableRun {
         }
     }
 
-    /// The sections, by their numbers.
+    /// The sections in the order of their numbers.
     pub fn sections(&self) -> &[Section]
         ensures same { result.now ≡ self.now }
         ensures whole { IsTableRun self.now }
@@ -54,7 +54,7 @@ impl TableRun {
         &self.sections
     }
 
-    /// An equal run.
+    /// A copy of the run.
     pub fn copy(&self) -> Result<TableRun, AllocError>
         ensures { IfOk result (λ run. run ≡ self.now) }
     {
@@ -67,7 +67,7 @@ impl TableRun {
     }
 }
 
-/// Where the sections stop to be a run, if they are none.
+/// Where the sections stop being a run; none where they are a run.
 fn fault_place(sections: &[Section]) -> Option<usize>
     ensures whole { IfNone result (IsTableRun sections.now) }
     ensures lawful { IfNone result (All (λ s. IsSection s) sections.now) }
@@ -107,7 +107,7 @@ fn shared_head(section: &Section) -> Option<LongHead>
     }
 }
 
-/// Whether a section stands at `place` of the run that a section with the head `first` begins.
+/// Whether the section stands at `place` of the run that a section with the head `first` begins.
 fn is_member(first: &LongHead, place: usize, section: &Section) -> bool
     ensures member { IsTrue result ↔ SharesHead first.now place section.now }
     ensures lawful { IsSection section.now }
