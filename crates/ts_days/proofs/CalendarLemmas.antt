@@ -189,7 +189,7 @@ year_walk (suc most) first (suc k) d is at few =
     let less : year_length first + years_length (first + 1) k + rest - year_length first ≡ years_length (first + 1) k + rest = omega arith in
     rw (test, less) (year_walk most (first + 1) k d is (omega (arith, at)) (omega arith))
 
--- the day with so many days before it is the one that the number tells
+-- the day with so many days before it is the one with that number
 pub told : (d : Day) (n : ℕ) → is_day d ≡ true → 1858 ≤ d.year → d.year ≤ 2039 → days_before d ≡ n + 320 → d ≡ day_numbered n
 unfolding days_before
 told d n is late soon same =
@@ -285,7 +285,7 @@ centuries : 65856 < years_length 1858 182
 unfolding years_length
 centuries = lit< tt
 
--- a day that a number of 16 bits tells
+-- a day with a number of 16 bits
 pub record Told (n : ℕ) : Type 0 where
   pub day : Day
   pub tells : day ≡ day_numbered n

@@ -24,7 +24,7 @@ last-row : day_text 65535 ≡ codes "2038-04-22"
 unfolding day_text day_of_year day_of_month
 last-row = refl
 
--- 1900 is no leap year, 2000 is one
+-- 1900 is not a leap year, 2000 is one
 century-row : day_of (codes "1900-02-29") ≡ None
 unfolding day_of day_written number_of_day days_before years_length months_length
 century-row = refl
@@ -33,7 +33,7 @@ leap-row : day_text 51603 ≡ codes "2000-02-29"
 unfolding day_text day_of_year day_of_month
 leap-row = refl
 
--- the day before the first, and the day behind the last
+-- the day before the first, and the day after the last
 before-row : day_of (codes "1858-11-16") ≡ None
 unfolding day_of day_written number_of_day days_before years_length months_length
 before-row = refl

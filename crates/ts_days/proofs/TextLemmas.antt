@@ -1,4 +1,4 @@
--- Texts of days and times, and the numbers that they tell.
+-- Texts of days and times, and the numbers that they give.
 use Rattle.std.proofs.Common.{◌≡◌, ℕ, ◌+◌, ◌-◌, ◌*◌, ◌/◌, ◌%◌, ◌^◌, ◌<◌, ◌≤◌, Bool, true, false, List, ◌∷◌, ◌++◌, length, take, drop, nat_le, nat_eq, refl, sym, ap, ◌∙◌, arith}
 use Rattle.std.specs.Prelude.{◌&&◌, ◌||◌, if◌then◌else◌, Some, slice_index, bytes_eq, codes}
 use Rattle.std.proofs.lemmas.Bool.{le-leb, leb-true, eqb-true, ne_eqb}
@@ -132,7 +132,7 @@ no_word n m =
     let test : nat_eq (last_digit ((day_numbered n).year / 1000)) 117 ≡ false = ne_eqb _ _ (λ (e : last_digit ((day_numbered n).year / 1000) ≡ 117). absurd (omega (arith, e))) in
     rw test refl
 
--- the time of a start is told by its last 24 bits
+-- the time of a start is given by its last 24 bits
 low_time : (n : ℕ) → time_text n ≡ time_text (n % 0x1000000)
 unfolding time_text
 low_time n =

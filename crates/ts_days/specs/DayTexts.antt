@@ -12,12 +12,12 @@ text_of_day d =
     ∷ last_digit (d.month / 10) ∷ last_digit d.month ∷ 45
     ∷ last_digit (d.day / 10) ∷ last_digit d.day ∷ []
 
--- ten bytes, with a hyphen behind year and month
+-- ten bytes, with a hyphen after year and month
 abbrev pub has_hyphens : List ℕ → Bool
 has_hyphens text =
     nat_eq (length text) 10 && (nat_eq (slice_index text 4) 45 && nat_eq (slice_index text 7) 45)
 
--- year, month and day that the digits of a text write
+-- the year, month and day that the digits of a text write
 unfoldable pub day_written : List ℕ → Option Day
 day_written text = do
   a ← digit_at text 0
@@ -36,6 +36,6 @@ day_of text = if has_hyphens text then (do
   d ← day_written text
   number_of_day d) else None
 
--- the text of the day that a number tells
+-- the text of the day with a number
 unfoldable pub day_text : ℕ → List ℕ
 day_text number = text_of_day (day_numbered number)

@@ -6,7 +6,7 @@ use Rattle.std.specs.Prelude.{ℕ, ◌+◌, ◌-◌, ◌%◌, ◌&&◌, List, sl
 abbrev pub is_digit : ℕ → Bool
 is_digit byte = nat_le 48 byte && nat_le byte 57
 
--- the number of the digit at a place of a text
+-- the value of the digit at a place of a text
 abbrev pub digit_at : List ℕ → ℕ → Option ℕ
 digit_at text place =
     if is_digit (slice_index text place) then Some (slice_index text place - 48) else None
@@ -15,7 +15,7 @@ digit_at text place =
 abbrev pub last_digit : ℕ → ℕ
 last_digit number = 48 + number % 10
 
--- reading goes on with what was read; nothing read stays nothing
+-- reading continues with what was read; none stays none
 infixl 10 ◌>>=◌
 abbrev pub ◌>>=◌ : {A B : Type 0} → Option A → (A → Option B) → Option B
 None >>= next = None

@@ -16,7 +16,7 @@ time_text n =
     ∷ low_digit (n / 0x1000) ∷ low_digit (n / 0x100) ∷ 58
     ∷ low_digit (n / 0x10) ∷ low_digit n ∷ []
 
--- eight bytes, with a colon behind hours and minutes
+-- eight bytes, with a colon after hours and minutes
 abbrev pub has_colons : List ℕ → Bool
 has_colons text = nat_eq (length text) 8 && (nat_eq (slice_index text 2) 58 && nat_eq (slice_index text 5) 58)
 
@@ -31,7 +31,7 @@ digits_written text = do
   f ← digit_at text 7
   Some (0x100000 * a + 0x10000 * b + 0x1000 * c + 0x100 * d + 0x10 * e + f)
 
--- the time that a text writes, the hours at most so many
+-- the time that a text writes, with hours up to this bound
 unfoldable pub time_of : ℕ → List ℕ → Option ℕ
 time_of hours text = if has_colons text then (do
   n ← digits_written text
@@ -43,7 +43,7 @@ start_text n =
     if nat_eq n 0xFFFFFFFFFF then codes "undefined"
     else day_text (n / 0x1000000 % 0x10000) ++ (codes " " ++ time_text n)
 
--- the start of the day and the time of it that a text writes
+-- the start of the day and the time that a text writes
 unfoldable pub moment_of : List ℕ → Option ℕ
 moment_of text = do
   day ← day_of (take 10 text)

@@ -5,7 +5,7 @@ ghost use Rattle.ts_days.specs.Calendar;
 
 use jiff_core::civil::Date;
 
-/// The day 1970-01-01 in days from 1858-11-17 on.
+/// The number of 1970-01-01, in days from 1858-11-17 on.
 const EPOCH: i32 = 40_587;
 
 /// A day as a text writes it, whether or not the calendar has it.
@@ -19,7 +19,7 @@ pub struct Day {
     pub day: u32,
 }
 
-/// The number of a day; none where the calendar has no such day, and outside 0 to 65535.
+/// The number of a day, from 1858-11-17 on; none where the calendar has no such day, or its number is outside 0 to 65535.
 pub fn number_of_day(written: Day) -> Option<u16>
     requires year { written.year ≤ 9999 }
     requires month { written.month ≤ 99 }
@@ -35,7 +35,7 @@ pub fn number_of_day(written: Day) -> Option<u16>
     }
 }
 
-/// The number of 16 bits of a day that is so many days after 1970-01-01.
+/// The 16-bit number of the day that is this many days after 1970-01-01; none where it is outside 0 to 65535.
 fn number_of_epoch_day(day: i32) -> Option<u16>
     requires low { neg_ℤ (pos 4_371_587) ≤ℤ day }
     requires high { day ≤ℤ pos 2_932_896 }
@@ -45,7 +45,7 @@ fn number_of_epoch_day(day: i32) -> Option<u16>
     u16::try_from(day + EPOCH).ok()
 }
 
-/// The day that a number tells.
+/// The day with this number.
 pub fn day_numbered(number: u16) -> Day
     ensures day { result ≡ Calendar.day_numbered number }
     ensures year { result.year ≤ 9999 }

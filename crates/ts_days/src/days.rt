@@ -8,7 +8,7 @@ use crate::digits::{digit_at, last_digit};
 use std::marker::Model;
 use ts_fields::text_of;
 
-/// The text of a day, seen as its ten bytes. `day_text` makes it.
+/// The text of a day, which contracts see as its ten bytes. `day_text` makes it.
 #[derive(Clone, Copy)]
 pub struct DayText {
     bytes: [u8; 10],
@@ -28,7 +28,7 @@ impl Model for DayText {
 }
 
 impl DayText {
-    /// Lends the text.
+    /// The text as a `str`.
     pub fn as_str(&self) -> &str
         ensures { result.now ≡ self.now }
     {
@@ -39,7 +39,7 @@ impl DayText {
     }
 }
 
-/// The text `YYYY-MM-DD` of the day that a number tells (ETSI EN 300 468, annex C): 0 is 1858-11-17 and 65535
+/// The text `YYYY-MM-DD` of the day with this number (ETSI EN 300 468, annex C): 0 is 1858-11-17 and 65535
 /// is 2038-04-22.
 #[tactic(auto, unfolding(crate::specs::DayTexts::day_text))]
 pub fn day_text(day: u16) -> DayText
@@ -63,14 +63,14 @@ pub fn day_text(day: u16) -> DayText
 }
 
 /// The number of the day that a text writes as `YYYY-MM-DD`; none for any other text, for a day that the
-/// calendar has not, and before 1858-11-17 and after 2038-04-22.
+/// calendar does not have, and for one before 1858-11-17 or after 2038-04-22.
 pub fn day_of(text: &str) -> Option<u16>
     ensures { result ≡ DayTexts.day_of text.now }
 {
     day_of_bytes(text.as_bytes())
 }
 
-/// The same of the bytes of a text.
+/// `day_of` for the bytes of a text.
 #[tactic(auto, unfolding(crate::specs::DayTexts::day_of))]
 pub fn day_of_bytes(text: &[u8]) -> Option<u16>
     ensures { result ≡ DayTexts.day_of text.now }
@@ -88,7 +88,7 @@ pub fn day_of_bytes(text: &[u8]) -> Option<u16>
     number_of_day(written)
 }
 
-/// The year, month and day that the digits of a text write.
+/// The year, month and day that the digits of a text of ten bytes write; none where one of them is not a digit.
 #[tactic(auto, unfolding(crate::specs::DayTexts::day_written))]
 fn day_written(text: &[u8]) -> Option<Day>
     requires { length text.now ≡ 10 }

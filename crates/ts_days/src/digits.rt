@@ -3,7 +3,7 @@
 ghost use Rattle.std.specs.Prelude.{◌≡◌, ◌≤◌, ◌<◌, length, IfSome};
 ghost use Rattle.ts_days.specs.Digits;
 
-/// The number of the digit at a place of a text; none where no digit stands there.
+/// The value of the digit at a place of a text; none where no digit is there.
 pub fn digit_at(text: &[u8], place: usize) -> Option<u32>
     requires { place < length text.now }
     ensures digit { result ≡ Digits.digit_at text.now place }
@@ -16,7 +16,7 @@ pub fn digit_at(text: &[u8], place: usize) -> Option<u32>
     Some(u32::from(byte - b'0'))
 }
 
-/// The byte of the last digit of a number.
+/// The ASCII byte of the last digit of a number.
 pub fn last_digit(number: u32) -> u8
     ensures { result ≡ Digits.last_digit number }
 {

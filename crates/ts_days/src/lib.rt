@@ -1,5 +1,5 @@
-//! Days, times and starts of events come in as the numbers that tables hold or as texts; the others go out.
-//! The layer above rests on `start_of` and `start_text`, which follow the calendar (`specs/Calendar.antt`).
+//! Days, times and starts of events: the numbers in tables as texts, and the texts as numbers.
+//! The layer above uses `start_of` and `start_text`, which follow the calendar (`specs/Calendar.antt`).
 #![tactic(auto)]
 
 mod calendar;

@@ -12,7 +12,7 @@ use ts_fields::{is_time, text_of};
 /// The 40 bits of a start that is undefined (ETSI EN 300 468, 5.2.4).
 const UNDEFINED: u64 = 0xFF_FFFF_FFFF;
 
-/// The text of a time, seen as its eight bytes. `time_text` makes it.
+/// The text of a time, which contracts see as its eight bytes. `time_text` makes it.
 #[derive(Clone, Copy)]
 pub struct TimeText {
     bytes: [u8; 8],
@@ -32,7 +32,7 @@ impl Model for TimeText {
 }
 
 impl TimeText {
-    /// Lends the text.
+    /// The text as a `str`.
     pub fn as_str(&self) -> &str
         ensures { result.now ≡ self.now }
     {
@@ -43,14 +43,14 @@ impl TimeText {
     }
 }
 
-/// The byte of a digit of four bits.
+/// The ASCII byte of the digit in the low four bits.
 fn low_digit(number: u64) -> u8
     ensures { result ≡ TimeTexts.low_digit number }
 {
     b'0' + (number % 16) as u8
 }
 
-/// The text `hh:mm:ss` of six decimal digits of four bits each.
+/// The text `hh:mm:ss` of six decimal digits of four bits each (BCD).
 #[tactic(auto, unfolding(crate::specs::TimeTexts::time_text))]
 pub fn time_text(number: u64) -> TimeText
     ensures { result ≡ TimeTexts.time_text number }
@@ -77,7 +77,7 @@ pub fn time_of(hours: u64, text: &str) -> Option<u64>
     time_of_bytes(hours, text.as_bytes())
 }
 
-/// The same of the bytes of a text.
+/// `time_of` for the bytes of a text.
 #[tactic(auto, unfolding(crate::specs::TimeTexts::time_of))]
 fn time_of_bytes(hours: u64, text: &[u8]) -> Option<u64>
     ensures time { result ≡ TimeTexts.time_of hours text.now }
@@ -99,7 +99,7 @@ fn time_of_bytes(hours: u64, text: &[u8]) -> Option<u64>
     Some(digits)
 }
 
-/// The six digits of a text, four bits each.
+/// The six digits of a text of eight bytes, four bits each; none where one of them is not a digit.
 #[tactic(auto, unfolding(crate::specs::TimeTexts::digits_written))]
 fn digits_written(text: &[u8]) -> Option<u64>
     requires { length text.now ≡ 8 }
@@ -133,7 +133,7 @@ pub fn start_text(alloc: Global, number: u64) -> Result<String, AllocError>
 }
 
 /// The 40 bits of the start that a text writes as `YYYY-MM-DD hh:mm:ss`, or `undefined`; none for any other
-/// text, and for a day or a time that is none.
+/// text, and for a day or a time that does not exist.
 #[tactic(auto, unfolding(crate::specs::TimeTexts::start_of))]
 pub fn start_of(text: &str) -> Option<u64>
     ensures { result ≡ TimeTexts.start_of text.now }
@@ -151,7 +151,7 @@ pub fn start_of(text: &str) -> Option<u64>
     moment_of(bytes)
 }
 
-/// The 40 bits of a day and a time of it that a text of 19 bytes writes.
+/// The 40 bits of the day and the time that a text of 19 bytes writes.
 #[tactic(auto, unfolding(crate::specs::TimeTexts::moment_of))]
 fn moment_of(text: &[u8]) -> Option<u64>
     requires { length text.now ≡ 19 }

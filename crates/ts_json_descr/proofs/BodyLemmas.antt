@@ -1,4 +1,4 @@
--- What is read from an element is of the sort that its rows want, and how large it is.
+-- What is read from an element has the shape that its rows ask for, and how large it is.
 use Rattle.std.proofs.Common.{◌≡◌, ℕ, ◌+◌, ◌*◌, ◌<◌, ◌≤◌, Bool, true, false, List, [], ◌∷◌, ◌++◌, length, refl, sym, ap, ◌∙◌, arith}
 use Rattle.std.specs.Prelude.{Option, Some, None, Ok, Err, option_to_list, nat_lt, nat_le, ◌&&◌, if◌then◌else◌}
 use Rattle.std.proofs.lemmas.Bool.{lt-ltb, leb-true}
@@ -18,7 +18,7 @@ use Rattle.ts_json_descr.specs.DescrElements.{generic_page, generic_rows}
 use Rattle.ts_json_descr.specs.DescrReading.{are_tagged, read_children, read_holding, read_item, read_items, read_typed}
 use Rattle.ts_json_descr.proofs.StepLemmas.{both, child_ok, not_more, same_ok, then_ok}
 
--- what the law of attributes says, on the contract of the crate below
+-- what the law of attributes says, by the contract of the crate below
 abbrev pub Shapes : Type 0
 Shapes = (rs : List Row) (ms : Members) (values : List Held) → read_attributes rs ms ≡ Ok values → shaped rs values ≡ true
 

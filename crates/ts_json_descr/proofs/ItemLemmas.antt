@@ -10,7 +10,7 @@ use Rattle.ts_jtree.specs.declared.fault.ReadRefusal.TheVariants.{Json, NoMemory
 use Rattle.ts_jtree.specs.Faults.{Reading, Stops, at_child, ◌>>=◌}
 use Rattle.ts_json_descr.specs.DescrReading.{read_item, read_items}
 
--- what is read with what was read before
+-- what is read, after what was read before
 abbrev pub with_items : List (List Held) → Reading (List (List Held)) → Reading (List (List Held))
 with_items front read = read >>= λ more. Ok (front ++ more)
 

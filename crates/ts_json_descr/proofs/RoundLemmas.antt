@@ -23,7 +23,7 @@ use Rattle.ts_json_descr.proofs.StepLemmas.{both, not_more}
 use Rattle.std.proofs.lemmas.Slice.Eq.{bytes_eq-Decides}
 use Rattle.std.specs.Prelude.{bytes_eq}
 
--- what the laws of elements, bits and pages say, which are on the contracts of the crates below
+-- what the laws of elements, bits and pages say, by the contracts of the crates below
 pub record Laws : Type 0 where
   pub name : (rs : List Row) (called : List ℕ) (nodes : Option Data) (values : List Held) → rows_show rs ≡ true → name_of (element_members rs called nodes values) ≡ Ok called
   pub keys : (rs : List Row) (called : List ℕ) (nodes : Option Data) (values : List Held) → rows_show rs ≡ true → keys_known rs (element_members rs called nodes values) (element_members rs called nodes values) ≡ Ok []

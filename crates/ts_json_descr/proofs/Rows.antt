@@ -20,7 +20,7 @@ cable-row : compact_text (descr_shown (record { tag = 0x44; body = 0x03 ∷ 0x46
 unfolding bits number_of read_number read_bytes read_decimal read_rest read_field read_rows read_page read_behind shown_on_literals
 cable-row = refl
 
--- the same with a digit ten, which is none
+-- the same with a digit ten, which is not a digit
 generic-row : compact_text (descr_shown (record { tag = 0x44; body = 0x03 ∷ 0x0A ∷ 0x00 ∷ 0x00 ∷ 0xFF ∷ 0xF2 ∷ 0x03 ∷ 0x00 ∷ 0x68 ∷ 0x75 ∷ 0x0F ∷ [] }))
     ≡ codes "{\"#name\":\"generic_descriptor\",\"data\":\"030a0000fff2030068750f\",\"tag\":68}"
 unfolding bits number_of read_number read_bytes read_decimal read_rest read_field read_rows read_page read_behind shown_on_literals
@@ -32,12 +32,12 @@ subtitling-row : compact_text (descr_shown (record { tag = 0x59; body = 0x66 ∷
 unfolding bits number_of read_number read_bytes read_decimal read_rest read_field read_rows read_page read_behind read_items shown_on_literals
 subtitling-row = refl
 
--- a name of no descriptor
+-- a name that no descriptor has
 name-row : descr_read (object (member (codes "#name") (string (codes "cable")) no_members)) ≡ Err (fault_of (codes "#name") UnknownKey)
 unfolding descr_read name_of
 name-row = refl
 
--- the first attribute that is missing, in the order of the rows and not of the keys
+-- the first missing attribute, in the order of the rows and not of the keys
 missing-row : descr_read (object (member (codes "#name") (string (codes "cable_delivery_system_descriptor")) no_members))
     ≡ Err (fault_of (codes "frequency") Missing)
 unfolding descr_read name_of read_typed read_holding keys_known read_attributes attribute_of number_attribute

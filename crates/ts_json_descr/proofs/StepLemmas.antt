@@ -1,4 +1,4 @@
--- Reading that went on, and tests.
+-- Reading that continued, and tests.
 use Rattle.std.proofs.Common.{◌≡◌, ◌≤◌, ℕ, Bool, true, false, refl, sym, ap, arith}
 use Rattle.std.specs.Prelude.{◌&&◌, not, nat_lt, Ok, Err, List}
 use Rattle.std.proofs.lemmas.Bool.{ltb-true}
@@ -16,7 +16,7 @@ pub not_true : (b : Bool) → not b ≡ true → b ≡ false
 not_true true is = cc
 not_true false is = refl
 
--- where reading went on, each of its steps did
+-- where reading continued, each of its steps did
 pub then_ok : {A B P : Type 0} (read : Reading A) (next : A → Reading B) (y : B) → (read >>= next) ≡ Ok y
     → ((x : A) → read ≡ Ok x → next x ≡ Ok y → P) → P
 then_ok (Ok x) next y is goal = goal x refl is

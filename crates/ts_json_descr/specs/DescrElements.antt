@@ -1,5 +1,5 @@
--- Descriptors as elements of JSON.
--- This project's own rule: a descriptor whose body is of its tag's page is an element of the page's name,
+-- Descriptors as JSON elements.
+-- This project's own rule: a descriptor whose body reads by its tag's page is an element of the page's name,
 -- its fields attributes and its items children; every other one is a `generic_descriptor` of tag and bytes.
 use Rattle.std.specs.Prelude.{ℕ, List, [], ◌∷◌, map, codes, Option, Some, None, option_map, option_and_then}
 use Rattle.serde_json.specs.Data.{Data, object, array}
@@ -17,16 +17,16 @@ use Rattle.ts_jtree.specs.Shown.{element_members}
 abbrev pub item_shown : List ℕ × List Row → List Held → Data
 item_shown i values = object (element_members i.1 i.0 None values)
 
--- the children, where there may be some
+-- the children, where the layout has items
 abbrev pub items_shown : Option (List ℕ × List Row) → List (List Held) → Option Data
 items_shown None items = None
 items_shown (Some i) items = Some (array (items_of (map (item_shown i) items)))
 
--- the element of a body of a page
+-- the element of a body that a page reads
 abbrev pub body_shown : Page → Holding → Data
 body_shown p h = object (element_members p.head p.name (items_shown p.items h.items) h.head)
 
--- the name of a descriptor of no page
+-- the name of a descriptor without a page
 abbrev pub generic_name : List ℕ
 generic_name = codes "generic_descriptor"
 
@@ -44,10 +44,11 @@ generic_page = record { tag = 0; name = generic_name; head = generic_rows; items
 abbrev pub generic_shown : TaggedBody → Data
 generic_shown d = object (element_members generic_rows generic_name None (number d.tag ∷ bytes d.body ∷ []))
 
--- the page of a descriptor with what its body holds by it
+-- the page of a descriptor with the values of its body
 abbrev pub typed : TaggedBody → Option (Page × Holding)
 typed d = option_and_then (λ p. option_map (λ h. (p, h)) (read_page p (bits_of d.body))) (page_of d.tag)
 
+-- the element of a descriptor by its page, or the generic one
 abbrev pub shown_by : Option (Page × Holding) → TaggedBody → Data
 shown_by None d = generic_shown d
 shown_by (Some x) d = body_shown x.0 x.1

@@ -1,6 +1,6 @@
--- Descriptors from elements of JSON.
+-- Descriptors from JSON elements.
 -- This project's own rule: an element is checked step by step, and then its children in their order; a body
--- of more than 255 bytes comes last.
+-- of more than 255 bytes is checked last.
 use Rattle.std.specs.Prelude.{ℕ, ◌+◌, ◌<◌, ◌≤◌, Bool, List, [], ◌∷◌, length, bytes_eq, nat_lt, if◌then◌else◌, Option, Some, None, Ok}
 use Rattle.serde_json.specs.Data.{Data, Items, no_items, item, Members}
 use Rattle.ts_fields.specs.Bits.{bits_of}
@@ -20,7 +20,7 @@ read_item i value = do
   _ ← no_children x.1
   Ok x.0
 
--- items one after another, the first of which is the child of this number
+-- items one after another, the first of which is the child with this number
 unfoldable pub read_items : List ℕ × List Row → ℕ → Items → Reading (List (List Held))
 read_items i place no_items = Ok []
 read_items i place (item value more) = do
@@ -28,12 +28,12 @@ read_items i place (item value more) = do
   others ← read_items i (place + 1) more
   Ok (x ∷ others)
 
--- the children, which are items where there may be some
+-- the children, which are items where the layout has items
 unfoldable pub read_children : Option (List ℕ × List Row) → Items → Reading (List (List Held))
 read_children None nodes = no_children nodes
 read_children (Some i) nodes = read_items i 0 nodes
 
--- what an element of a page holds, whose name was looked at before
+-- the values of an element of a page, whose name was checked before
 unfoldable pub read_holding : Page → Members → Reading Holding
 read_holding p ms = do
   _ ← keys_known p.head ms ms

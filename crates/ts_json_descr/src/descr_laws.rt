@@ -1,4 +1,4 @@
-//! Laws of descriptors and JSON: functions with nothing to run, called where what they ensure is wanted.
+//! The law of descriptors and JSON.
 
 ghost use Rattle.std.specs.Prelude.{◌≡◌, ◌≤◌, ◌<◌, true, length, Ok};
 ghost use Rattle.ts_bits.specs.TaggedBody.{TaggedBody};
@@ -11,6 +11,7 @@ use ts_fields::{length_of_bits, read_is_written};
 use ts_jtree::element_shows;
 
 /// Every descriptor that is shown is read again: its tag and the bits of its body, which determine its bytes.
+/// A law; it runs nothing.
 pub fn shown_descr_is_read()
     ensures { (d : TaggedBody) → d.tag < 256 → are_bytes d.body ≡ true → length d.body ≤ 255
         → descr_read (descr_shown d) ≡ Ok (d.tag, bits_of d.body) }

@@ -1,5 +1,5 @@
-//! Descriptors come in and the elements of JSON that show them go out, and the other way.
-//! The layer above rests on `descr_json` and `json_descr`, and on `shown_descr_is_read`, which ties them.
+//! Descriptors as JSON elements, and JSON elements as descriptors.
+//! The layer above uses `descr_json` and `json_descr`, and `shown_descr_is_read`, the law that ties them.
 #![tactic(auto)]
 
 mod descr_laws;

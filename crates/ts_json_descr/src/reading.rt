@@ -1,4 +1,4 @@
-//! Descriptors from elements of JSON.
+//! Reading descriptors from JSON elements.
 
 ghost use Rattle.std.specs.Prelude.{◌≡◌, [], map, length, IsTrue, Some, option_map};
 ghost use Rattle.serde_json.specs.View.{view, items_view, members_view};
@@ -37,7 +37,7 @@ fn read_item(
     Ok(values)
 }
 
-/// An item that is the child of this number.
+/// The item that is the child with this number.
 fn read_item_at(
     alloc: Global,
     layout: ItemLayout,
@@ -54,7 +54,7 @@ fn read_item_at(
     }
 }
 
-/// Items, each a child.
+/// Items, each of them a child.
 fn read_items(alloc: Global, layout: ItemLayout, nodes: &[Value]) -> Result<Vec<Item>, ReadRefusal>
     requires { IsTrue (are_sound (rows_of layout.rows.now)) }
     ensures { Answers (λ v. map item_held v.items) result
@@ -70,7 +70,7 @@ fn read_items(alloc: Global, layout: ItemLayout, nodes: &[Value]) -> Result<Vec<
     Ok(items)
 }
 
-/// The children, which are items where there may be some.
+/// The children, which are items where the layout has items.
 #[tactic(auto, unfolding(crate::specs::DescrReading::read_children))]
 fn read_children(
     alloc: Global,
@@ -90,7 +90,7 @@ fn read_children(
     }
 }
 
-/// What an element of a page holds, whose name was looked at before.
+/// The values of an element of a page, whose name was checked before.
 #[tactic(auto, unfolding(crate::specs::DescrReading::read_holding))]
 fn read_element_body(
     alloc: Global,
@@ -128,7 +128,7 @@ fn read_typed(
     Ok(Descriptor::new(alloc, layout.tag, &bytes)?)
 }
 
-/// The descriptor of a tag and bytes.
+/// The descriptor with a tag and bytes.
 fn tagged(alloc: Global, values: &[FieldValue]) -> Result<Descriptor, ReadRefusal>
     requires { DescrReading.are_tagged (map held values.now) }
     ensures { Answers (λ d. (d.tag, bits_of d.body)) result (DescrReading.tagged (map held values.now)) }
@@ -150,7 +150,7 @@ fn read_generic(alloc: Global, members: &Map<String, Value>) -> Result<Descripto
 }
 
 /// The descriptor of an element, or the first fault of the element and its children. A body of more than 255
-/// bytes is `OutOfRange` on `#name`, and comes last.
+/// bytes is `OutOfRange` on `#name`, and is checked last.
 #[tactic(auto, unfolding(crate::specs::DescrReading::descr_read))]
 pub fn json_descr(alloc: Global, value: &Value) -> Result<Descriptor, ReadRefusal>
     ensures { Answers (λ d. (d.tag, bits_of d.body)) result (descr_read (view value.now)) }

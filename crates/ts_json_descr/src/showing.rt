@@ -1,4 +1,4 @@
-//! Descriptors as elements of JSON.
+//! Showing descriptors as JSON elements.
 
 ghost use Rattle.std.specs.Prelude.{◌≡◌, ◌∷◌, [], map, option_map, Some, true, OnOk, IfOk};
 ghost use Rattle.serde_json.specs.View.{view, members_view};
@@ -16,7 +16,7 @@ use ts_fields::{Body, Field, FieldValue, Item, ItemLayout, Kind, Layout, NotRead
 use ts_jtree::{fit_is_shown, put_member, put_text, show_attributes};
 use ts_pages::layout_of;
 
-/// A descriptor of no page, as tag and bytes.
+/// The layout of a descriptor without a page: tag and bytes.
 pub static GENERIC: Layout = Layout {
     tag: 0,
     name: "generic_descriptor",
@@ -37,8 +37,8 @@ pub static GENERIC: Layout = Layout {
     items: None,
 };
 
-/// The element that shows a descriptor: one of its page's name exactly where its body is of the page of its
-/// tag, and else a `generic_descriptor`.
+/// The element that shows a descriptor: one with the name of its tag's page exactly where its body reads by that
+/// page, and else a `generic_descriptor`.
 pub fn descr_json(alloc: Global, from: &Descriptor) -> Result<Value, AllocError>
     ensures { IfOk result (λ v. view v ≡ descr_shown from.now) }
 {
@@ -52,7 +52,7 @@ pub fn descr_json(alloc: Global, from: &Descriptor) -> Result<Value, AllocError>
     }
 }
 
-/// The element of tag and bytes.
+/// The element of a tag and bytes.
 #[tactic(auto, unfolding(ts_jtree::specs::Shown::are_shown))]
 fn generic_json(alloc: Global, from: &Descriptor) -> Result<Value, AllocError>
     ensures { IfOk result (λ v. view v ≡ generic_shown from.now) }
@@ -64,7 +64,7 @@ fn generic_json(alloc: Global, from: &Descriptor) -> Result<Value, AllocError>
     Ok(Value::Object(members))
 }
 
-/// Tag and bytes as what fields hold.
+/// The values of the fields of a tag and bytes.
 fn generic_values(alloc: Global, from: &Descriptor) -> Result<Vec<FieldValue>, AllocError>
     ensures { IfOk result (λ v. map held v.items ≡ number from.now.tag ∷ bytes from.now.body ∷ []) }
 {
@@ -74,7 +74,7 @@ fn generic_values(alloc: Global, from: &Descriptor) -> Result<Vec<FieldValue>, A
     Ok(values)
 }
 
-/// The element of a body of a page.
+/// The element of a body that a page reads.
 fn body_json(alloc: Global, layout: &Layout, body: &Body) -> Result<Value, AllocError>
     requires { page_fits (page layout.now) (body_held body.now) ≡ true }
     ensures { IfOk result (λ v. view v ≡ body_shown (page layout.now) (body_held body.now)) }
@@ -87,7 +87,7 @@ fn body_json(alloc: Global, layout: &Layout, body: &Body) -> Result<Value, Alloc
     Ok(Value::Object(members))
 }
 
-/// Puts the items as children, where there may be some.
+/// Puts the items as children, where the layout has items.
 fn put_items(
     alloc: Global,
     members: &mut Map<String, Value>,

@@ -18,7 +18,7 @@ use Rattle.ts_json_descr.specs.DescrReading.{descr_read}
 use Rattle.ts_table_rows.specs.BodySpelling.{bytes_of}
 use Rattle.ts_json_tables.specs.TableReading.{read_each}
 
--- what the laws of elements, descriptors and bits say, which are on the contracts of the crates below
+-- what the laws of elements, descriptors and bits say, by the contracts of the crates below
 pub record Laws : Type 0 where
   pub name : (rs : List Row) (called : List ℕ) (nodes : Option Data) (values : List Held) → rows_show rs ≡ true → name_of (element_members rs called nodes values) ≡ Ok called
   pub keys : (rs : List Row) (called : List ℕ) (nodes : Option Data) (values : List Held) → rows_show rs ≡ true → keys_known rs (element_members rs called nodes values) (element_members rs called nodes values) ≡ Ok []

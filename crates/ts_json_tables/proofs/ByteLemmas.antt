@@ -23,7 +23,7 @@ all_bytes [] all = refl
 all_bytes (x ∷ row) all =
     and_from (nat_lt x 256) (are_bytes row) (lt-ltb x 256 (All-head (λ y. y < 256) x row all)) (all_bytes row (All-tail (λ y. y < 256) x row all))
 
--- bytes are told by their bits
+-- bytes are given by their bits
 abbrev pub BytesTold : Type 0
 BytesTold = (row : List ℕ) (bits : List Bool) → are_bytes row ≡ true → bits_of row ≡ bits → row ≡ bytes_of bits
 

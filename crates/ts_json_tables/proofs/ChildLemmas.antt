@@ -1,10 +1,10 @@
--- Children by their sort.
+-- Children by their kind.
 use Rattle.std.proofs.Common.{◌≡◌, List, [], ◌∷◌, ◌++◌, refl, sym, ap, ◌∙◌, append_assoc, append-nil}
 use Rattle.ts_bits.specs.TaggedBody.{TaggedBody}
 use Rattle.ts_table_rows.specs.TableSections.{Thing, own_thing, item_thing, items_in, owns_in}
 use Rattle.ts_table_rows.specs.TableValues.{ItemHolding}
 
--- things behind those that were read before, by their sort
+-- children after those that were read before, by their kind
 abbrev pub behind : List TaggedBody → List ItemHolding → List Thing → List TaggedBody × List ItemHolding
 behind own items things = (own ++ owns_in things, items ++ items_in things)
 

@@ -10,7 +10,7 @@ use Rattle.ts_jtree.specs.declared.fault.ReadRefusal.TheVariants.{Json, NoMemory
 use Rattle.ts_jtree.specs.Faults.{Reading, Stops, at_child, ◌>>=◌}
 use Rattle.ts_json_tables.specs.TableReading.{read_each}
 
--- what is made of what is read
+-- what is made from what is read
 abbrev pub made_of : {A B : Type 0} → Reading (List A) → (List A → B) → Reading B
 made_of read made = read >>= λ xs. Ok (made xs)
 

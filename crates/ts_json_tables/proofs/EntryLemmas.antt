@@ -1,4 +1,4 @@
--- Entries of 0 and the others.
+-- The entry with number 0, and the others.
 use Rattle.std.proofs.Common.{◌≡◌, ℕ, ◌<◌, Bool, true, false, List, [], ◌∷◌, ◌++◌, refl, sym, ap, ◌∙◌, arith}
 use Rattle.std.specs.Prelude.{◌&&◌, Option, Some, None, is_some, nat_eq, nat_lt, nat_le}
 use Rattle.std.specs.List.{list_all}
@@ -21,7 +21,7 @@ entry_above id pid inside =
     let least = leb-true 1 id (both (nat_le 1 id) (nat_le id 65535) parts.0).0 in
     ne_eqb id 0 (λ none. absurd (omega (arith, least, none)))
 
--- an entry in its range is not one of 0
+-- an entry in its range does not have the number 0
 pub not_zero : (x : ItemHolding) → item_fits entry_page x ≡ true → are_within entry_page.rows x.values ≡ true
     → is_network x ≡ false
 not_zero x fit inside =
@@ -61,7 +61,7 @@ entry_fits id pid small in_range =
     and_from (fits entry_page.rows (entry_item id pid).values) true
     (and_from (nat_lt id 65536) _ (lt-ltb id 65536 small) (and_from (nat_lt pid 8192) true (lt-ltb pid 8192 in_range) refl)) refl
 
--- items of a table, that of 0 before the others
+-- the items of a table, that with number 0 before the others
 pub record Settled (one_zero : Bool) (i : Option ItemPage) (network : Option ℕ) (xs : List ItemHolding) : Type 0 where
   pub fits : items_fit i (network_items network ++ xs) ≡ true
   pub zeros : is_some (zeros_from one_zero false (network_items network ++ xs)) ≡ true

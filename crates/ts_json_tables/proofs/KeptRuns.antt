@@ -1,4 +1,4 @@
--- The sections of a run's table tell that table.
+-- The sections of a run's table give that table.
 use Rattle.std.proofs.Common.{◌≡◌, ℕ, ◌+◌, ◌-◌, ◌<◌, Bool, true, false, List, [], ◌∷◌, length, get_or, map, refl, sym, ap, ◌∙◌, subst, arith, inl, inr}
 use Rattle.std.specs.Prelude.{All, Option, Some, None, Result, Ok, Err, if◌then◌else◌}
 use Rattle.std.specs.List.{list_all}
@@ -129,7 +129,7 @@ long_alike law p s ss form whole all =
     runs_alike p (long_sections l) (s ∷ ss)
     (alike_by (long_sections l) (s ∷ ss) count (λ k inside. alike_at law s ss parts bytes form whole all k (omega (arith, inside, count))))
 
--- ---- a run's table is told as it is
+-- ---- the sections of a run's table give it as it is
 
 long_kept : MadeLawful → (s : List ℕ) (ss : List (List ℕ)) (o : Option TablePage) → is_long s ≡ true → IsTableRun (s ∷ ss) → All (λ b. IsSection b) (s ∷ ss)
     → ((p : TablePage) → o ≡ Some p → (t : TableHolding) → read_run p (s ∷ ss) ≡ Ok t → ⊥) → long_by_page o (long_of s (s ∷ ss)) ≡ long (long_of s (s ∷ ss))

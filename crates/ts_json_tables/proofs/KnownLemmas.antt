@@ -1,4 +1,4 @@
--- What every table has that is known.
+-- What holds for every known table.
 use Rattle.std.proofs.Common.{◌≡◌, ℕ, Bool, true, false, List, [], ◌∷◌, ◌++◌, ◌^◌, ◌<◌, refl, subst, sym, ap, ◌∙◌, arith}
 use Rattle.std.specs.Prelude.{◌&&◌, ◌||◌, Option, Some, None, Ok, find, bytes_eq, nat_eq, nat_le, nat_lt, IsTrue, if◌then◌else◌}
 use Rattle.std.proofs.lemmas.Option.{same_Some}
@@ -25,7 +25,7 @@ use Rattle.ts_json_tables.proofs.RowLemmas.{plain}
 use Rattle.ts_json_tables.proofs.StepLemmas.{both, same_ok, then_ok}
 use Rattle.ts_json_tables.proofs.TruthLemmas.{number_again, truth_read}
 
--- an item's name is no descriptor's, and its rows can be shown
+-- an item's name is not a descriptor's, and its rows can be shown
 pub record ItemFacts (i : ItemPage) : Type 0 where
   pub shows : rows_show i.rows ≡ true
   pub own : bytes_eq i.name generic_name ≡ false
@@ -61,7 +61,7 @@ pub or_no : (b : Bool) → (b || false) ≡ true → b ≡ true
 or_no true is = refl
 or_no false is = cc
 
--- its table_id is told by no attribute
+-- its table_id has no attribute
 one_again : (n : ℕ) (ms : Members) (id : ℕ) → has_id ((n, n) ∷ []) id ≡ true → read_id ((n, n) ∷ []) ms ≡ Ok id
 unfolding read_id
 one_again n ms id is =
@@ -87,7 +87,7 @@ two_ids n m small small2 ms id is =
         subst (λ k. (has_id ((n, n) ∷ (m, m) ∷ []) k ≡ true) × (k < 255)) e
         (rw (le-leb m m (omega arith)) (or_yes (nat_le n m && nat_le m n)), small2)
 
--- its table_id is told by a truth value
+-- its table_id is given by a Boolean
 two_again : (n m : ℕ) (ms : Members) (id : ℕ) → has_id ((n, n) ∷ (m, m) ∷ []) id ≡ true
     → read_attributes (actual_row ∷ []) ms ≡ Ok (truth (nat_eq id n) ∷ []) → read_id ((n, n) ∷ (m, m) ∷ []) ms ≡ Ok id
 unfolding read_id
@@ -134,7 +134,7 @@ range_ids n m apart small ms id is =
     told (number k ∷ v ∷ vs) fit inside e =
         let parts = both (nat_lt k (2 ^ 8)) _ fit in let no : false ≡ true = parts.1 in cc
 
--- its table_id is told by the number
+-- its table_id is given by the number
 range_again : (n m : ℕ) → nat_eq n m ≡ false → (ms : Members) (id : ℕ)
     → read_attributes (id_rows ((n, m) ∷ [])) ms ≡ Ok (id_values ((n, m) ∷ []) id) → read_id ((n, m) ∷ []) ms ≡ Ok id
 unfolding read_id
@@ -142,7 +142,7 @@ range_again n m apart ms id read =
     let told : read_attributes (table_id_row (n, m) ∷ []) ms ≡ Ok (number id ∷ []) = rw apart at read in
     rw apart (number_again (table_id_row (n, m)) ms id told)
 
--- the rows behind those of the head
+-- the rows after those of the head
 abbrev pub rows_behind : TablePage → Bool → List Row
 rows_behind p network = p.common ++ (kept_rows p.keeps_numbers ++ (p.head ++ network_rows network))
 

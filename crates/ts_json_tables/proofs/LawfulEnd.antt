@@ -1,4 +1,4 @@
--- Tables that are read are lawful, of a page or of bytes.
+-- Tables that are read are valid, of a page or given by their bytes.
 use Rattle.std.proofs.Common.{◌≡◌, ℕ, ◌<◌, Bool, true, false, List, [], ◌∷◌, ◌++◌, length, take, drop, refl, sym, ap, ◌∙◌, arith, subst}
 use Rattle.std.specs.Prelude.{Option, Some, None, Result, Ok, Err, IfOk, bytes_eq, nat_lt, if◌then◌else◌}
 use Rattle.std.specs.List.{list_all}

@@ -1,4 +1,4 @@
--- Tables that are read are lawful.
+-- Tables that are read are valid.
 use Rattle.std.proofs.Common.{◌≡◌, ℕ, ◌<◌, Bool, true, false, List, [], ◌∷◌, ◌++◌, length, refl, sym, ap, ◌∙◌, arith, subst}
 use Rattle.std.specs.Prelude.{option_to_list, ◌&&◌, ◌||◌, Option, Some, None, Ok, nat_lt, nat_le, bytes_eq, codes, if◌then◌else◌}
 use Rattle.std.specs.List.{list_all}
@@ -82,7 +82,7 @@ payload_small most ms b is =
     let same : row ≡ b = ap (λ w. only_bytes (option_to_list w ++ [])) v_is ∙ ap only_bytes values_is ∙ made in
     subst (λ l. nat_le (length l) most ≡ true) same (data_small most (codes "payload") ms row a))))
 
--- ---- tables of bytes
+-- ---- tables given by their bytes
 
 pub short_lawful : (ms : Members) (t : TableValue) → read_short ms ≡ Ok t → IsTable t
 unfolding read_short
@@ -108,7 +108,7 @@ section_small value row is =
     then_ok (no_children nodes) _ row b6 (λ none a7 b7.
     subst (λ l. is_payload 4084 l ≡ true) (same_ok payload row b7) (payload_small 4084 ms payload a5))))))))
 
--- the table_id that is read is the one that is looked at before
+-- the table_id that is read is the one that was checked before
 given_id : (o : Option Data) (ms : Members) (range : Option (ℕ × ℕ)) (key : List ℕ) (n : ℕ)
     → number_at None range 255 key o ≡ Ok n → is_eit_value o ≡ is_eit_id n
 unfolding number_in

@@ -19,7 +19,7 @@ use Rattle.ts_table_rows.specs.TableSections.{Thing, above, body_rows, empty_len
 use Rattle.ts_table_rows.specs.TableValues.{BodyHolding}
 use Rattle.ts_json_tables.specs.LawfulTables.{is_payload}
 
--- what the layer below ensures of numbers and bytes that are spelled and read
+-- what the layer below ensures of numbers and bytes that are written and read
 pub record Spelled : Type 0 where
   pub wide : (count value : ℕ) → length (bits count value) ≡ count
   pub long : (row : List ℕ) → length (bits_of row) ≡ 8 * length row
@@ -126,7 +126,7 @@ piece_length law p values piece =
 
 -- ---- the bodies of a table
 
--- bodies are some, are bytes, and leave room for the head and the CRC
+-- bodies are not empty, are bytes, and leave room for the head and the CRC
 pub record AreBodies (single : Bool) (rows : List (List ℕ)) : Type 0 where
   pub small : list_all (is_payload 4084) rows ≡ true
   pub bytes : list_all are_bytes rows ≡ true

@@ -1,4 +1,4 @@
--- Sections of the long form that are made of heads and bodies, one after another.
+-- Sections of the long form that are built from heads and bodies, one after another.
 use Rattle.std.proofs.Common.{◌≡◌, ℕ, zero, suc, ◌+◌, ◌-◌, ◌<◌, ◌≤◌, true, List, [], ◌∷◌, length, take, drop, get_or, refl, ap, subst, arith}
 use Rattle.std.specs.Prelude.{All, nat_lt}
 use Rattle.std.specs.List.{list_all}
@@ -19,7 +19,7 @@ use Rattle.ts_json_tables.specs.LawfulTables.{is_payload}
 use Rattle.ts_json_tables.specs.RunTables.{long_head, numbered}
 use Rattle.ts_json_tables.proofs.StepLemmas.{both}
 
--- what the layer below ensures of sections that are made
+-- what the layer below ensures of sections that are built
 abbrev pub MadeLawful : Type 0
 MadeLawful = (head : LongHead) (body : List ℕ) → head.table_id < 255 → head.extension < 65536 → head.version < 32 → head.number ≤ head.last
     → head.last < 256 → All (λ x. x < 256) body → length body ≤ 4084 → IsLongSectionOf head body (long_section head body)
@@ -89,7 +89,7 @@ all_made law head last number rows heads room small bytes =
     All-from_get_or (λ s. IsSection s) (made_by head number rows) []
     (λ k inside. (made_at law head last number rows heads room small bytes k (omega (arith, inside, made_length head number rows))).lawful)
 
--- a section of the long form has nine bytes beside its body
+-- a section of the long form has nine bytes in addition to its body
 pub long_size : (b : List ℕ) → IsSection b → is_long b ≡ true → section_length_of b ≡ 9 + length (body_of b)
 long_size b s form =
     let long = s.long form in

@@ -1,4 +1,4 @@
--- The number that one row holds.
+-- The number of a single row.
 use Rattle.std.proofs.Common.{◌≡◌, ℕ, ◌-◌, ◌^◌, ◌<◌, Bool, true, false, List, [], ◌∷◌, ◌++◌, refl, ap, arith, subst}
 use Rattle.std.specs.Prelude.{◌&&◌, Option, Some, None, Ok, Err, option_to_list, option_map, option_and_then, codes, bytes_eq, nat_lt, nat_le, if◌then◌else◌}
 use Rattle.std.proofs.lemmas.Bool.{leb-true, ltb-true}

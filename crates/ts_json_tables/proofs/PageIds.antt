@@ -12,8 +12,8 @@ use Rattle.ts_json_tables.specs.KnownPages.{page_named, page_with_id, table_page
 use Rattle.ts_json_tables.proofs.KnownLemmas.{or_no}
 use Rattle.ts_json_tables.proofs.StepLemmas.{both}
 
--- what every table has that is known: its table_ids are no other's, its sections form runs and are small, and one that
--- keeps its numbers has one section
+-- what holds for every known table: its table_ids belong to no other, its sections form runs and are small, and one
+-- that keeps its numbers has one section
 pub record IdFacts (p : TablePage) : Type 0 where
   pub own : (id : ℕ) → has_id p.ids id ≡ true → page_with_id id ≡ Some p
   pub runs : forms_runs p ≡ true

@@ -1,4 +1,4 @@
--- Elements have no numbers but whole ones, and are not deep.
+-- Elements have only whole numbers, and are not deep.
 use Rattle.std.proofs.Common.{◌≡◌, ℕ, suc, ◌≤◌, Bool, true, false, ◌||◌, List, [], ◌∷◌, ◌++◌, map, refl, arith, Ordering, Less, Equal, Greater}
 use Rattle.std.specs.Prelude.{Option, Some, None}
 use Rattle.std.specs.Ordering.{nat_cmp, match_ordering}
@@ -25,7 +25,7 @@ use Rattle.ts_json_tables.specs.HeldTables.{TableValue, laid, short, long}
 use Rattle.ts_json_tables.specs.TableElements.{children_shown, described_shown, descrs_shown, item_shown, items_shown, section_shown, shown_items, table_shown}
 use Rattle.std.specs.Prelude.{slice_get, drop}
 
--- a value with no float, of at most this depth; a row of values, and members
+-- a value without floats, of at most this depth; a row of values, and members
 pub record IsPlain (most : ℕ) (d : Data) : Type 0 where
   pub whole : has_float d ≡ false
   pub shallow : depth d ≤ most

@@ -31,7 +31,7 @@ extension_plain : (called : List ℕ) → plain (extension_rows called) ≡ true
 extension_plain [] = refl
 extension_plain (c ∷ cs) = refl
 
--- of a table whose fields have no ranges behind the head
+-- for a table whose fields after the head have no ranges
 pub element_within : (p : TablePage) (t : TableHolding) (network : Bool) → has_id p.ids t.head.table_id ≡ true
     → plain (rows_behind p network) ≡ true → are_within (element_rows p network) (element_values p t) ≡ true
 unfolding are_within

@@ -1,4 +1,4 @@
--- Tables that are read have descriptors that are some, and bytes below 256.
+-- Tables that are read have valid descriptors, and bytes below 256.
 use Rattle.std.proofs.Common.{◌≡◌, ℕ, ◌+◌, ◌-◌, ◌*◌, ◌%◌, ◌^◌, ◌<◌, ◌≤◌, Bool, true, false, List, [], ◌∷◌, ◌++◌, length, refl, sym, ap, ◌∙◌, subst, arith}
 use Rattle.std.specs.Prelude.{◌&&◌, ◌==◌, All, Option, Some, None, Result, Ok, Err, bytes_eq, codes, find, nat_le, nat_lt, option_to_list, if◌then◌else◌}
 use Rattle.std.specs.List.{list_all}
@@ -128,7 +128,7 @@ payload_bytes most ms row is =
     let same : b ≡ row = ap (λ w. only_bytes (option_to_list w ++ [])) v_is ∙ ap only_bytes values_is ∙ made in
     ap are_bytes (sym same) ∙ data_bytes (Some (0, most)) (codes "payload") ms b a)))
 
--- ---- tables of bytes
+-- ---- tables given by their bytes
 
 short_bytes : (ms : Members) (t : TableValue) → read_short ms ≡ Ok t → IsOfBytes t
 unfolding read_short

@@ -84,7 +84,7 @@ none_within : (range : Option (ℕ × ℕ)) (n : ℕ) → is_none range ≡ true
 none_within None n is = refl
 none_within (Some x) n is = cc
 
--- a row's value, or none for reserved bits
+-- the value of a row; none for reserved bits
 abbrev IsGood : Kind → Option (ℕ × ℕ) → Option Held → Type 0
 IsGood kind range v =
     ((v ≡ None) × ((holds kind ≡ 0) × (((w : Option Held) → field_fits kind w ≡ true) × (is_none range ≡ true))))

@@ -102,7 +102,7 @@ own_there Absent ds fit some = absurd (never (sym some ∙ fit))
 own_there Counted ds fit some = refl
 own_there ToEnd ds fit some = refl
 
--- what is known of all items is known of those that are shown
+-- what holds for all items holds for those that are shown
 shown_all : (one_zero : Bool) (items : List ItemHolding) → All (λ x. All (λ d. IsDescriptor d) x.descriptors) items
     → All (λ x. All (λ d. IsDescriptor d) x.descriptors) (shown_items one_zero items)
 shown_all one_zero items all = go (begins_with_zero one_zero items)
@@ -147,7 +147,7 @@ laid_again laws p t is well facts =
     rw (head.1, keys, head.0, found, children)
     (ap (λ l. Ok (laid p (record { head = t.head; body = record { values = t.body.values; descriptors = t.body.descriptors; items = l } }))) network.joined)
 
--- ---- tables of bytes
+-- ---- tables given by their bytes
 
 payload_again : (most : ℕ) (ms : Members) (row : List ℕ) → read_attributes (payload_row most ∷ []) ms ≡ Ok (bytes row ∷ [])
     → read_bytes (payload_row most) ms ≡ Ok row
@@ -296,7 +296,7 @@ long_again laws l is small =
       each_read read_section 0 (map section_shown l.payloads) l.payloads (sections_again laws l.payloads facts.bodies small),
     ) refl
 
--- every lawful table that is shown is read again
+-- every valid table that is shown is read again
 pub table_again : Laws → (t : TableValue) → IsTable t → IsOfBytes t → table_read (table_shown t) ≡ Ok t
 unfolding table_read
 table_again laws (laid p t) is well =

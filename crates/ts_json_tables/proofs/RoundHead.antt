@@ -49,7 +49,7 @@ known_more : (b : Bool) (rs : List Row) (ms : Members) (key : List ℕ) (more : 
 known_more true rs ms key more is = (refl, is)
 known_more false rs ms key more is = cc
 
--- a key that no row knows is not there where all keys are known
+-- a key that no row knows is absent where all keys are known
 pub key_absent : (rs : List Row) (ms more : Members) (key : List ℕ) → is_known rs ms key ≡ false
     → keys_known rs ms more ≡ Ok [] → get_member key more ≡ None
 unfolding keys_known
@@ -98,7 +98,7 @@ kept_again true (Some n) ms fit is =
     let order = both (nat_le n.0 n.1) (nat_lt n.1 256) fit in
     rw (number_again section_number_row ms n.0 parts.0, number_again last_section_number_row ms n.1 parts.1, order.0) refl
 
--- ---- the entry of 0
+-- ---- the entry with number 0
 
 pub record Network (one_zero : Bool) (items : List ItemHolding) : Type 0 where
   pub pid : Option ℕ

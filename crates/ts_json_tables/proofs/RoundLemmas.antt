@@ -90,7 +90,7 @@ called_of value y is =
     then_ok (name_of ms) _ y b1 (λ called a2 b2.
     record { ms = ms; called = called; object = a1; named = a2; whole = b2 }))
 
--- its name is no item's
+-- its name is not an item's
 other_by : (b : Bool) (ms : Members) (name called : List ℕ) (y : ℕ × List Bool) → bytes_eq called name ≡ b
     → bytes_eq name generic_name ≡ false → descrs.page_named name ≡ None
     → (if bytes_eq called generic_name then read_generic ms else (or_refuse (descrs.page_named called) name_key UnknownKey >>= λ p. read_typed p ms)) ≡ Ok y

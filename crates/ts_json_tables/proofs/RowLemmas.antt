@@ -74,7 +74,7 @@ split_by Q r rs (k ∷ x) y ms (Some h) more was count e n rest =
     let parts = rest x (omega (arith, n, count)) (same_tails h k more (x ++ y) e) in
     (rw (was, parts.0) (ap (λ z. Ok (z ∷ x)) (same_heads h k more (x ++ y) e)), parts.1)
 
--- what some rows hold that stand first, and what those behind them hold
+-- what the first rows hold, and what those after them hold
 pub split_read : (a b : List Row) (x y : List Held) (ms : Members) → length x ≡ held_count a
     → read_attributes (a ++ b) ms ≡ Ok (x ++ y) → (read_attributes a ms ≡ Ok x) × (read_attributes b ms ≡ Ok y)
 unfolding read_attributes
@@ -88,7 +88,7 @@ split_read (r ∷ rs) b x y ms n is =
 
 -- ---- values that fit
 
--- reserved bits fit anything, and other fields want a value
+-- reserved bits fit anything, and other fields need a value
 wants : (kind : Kind) → ((holds kind ≡ 0) × ((v : Option Held) → field_fits kind v ≡ true)) ⊎ ((holds kind ≡ 1) × (field_fits kind None ≡ false))
 wants (Number n) = inr (refl, refl)
 wants (Ones n) = inl (refl, λ v. refl)

@@ -1,4 +1,4 @@
--- The table of a run is lawful.
+-- The table of a run is valid.
 use Rattle.std.proofs.Common.{◌≡◌, ℕ, zero, suc, ◌-◌, ◌<◌, ◌≤◌, Bool, true, false, List, [], ◌∷◌, ◌++◌, length, take, drop, get_or, map, refl, sym, ap, ◌∙◌, arith, subst, inl, inr}
 use Rattle.std.specs.Prelude.{◌&&◌, ◌||◌, All, Option, Some, None, Result, Ok, Err, IfOk, find, filter, option_to_list, is_some, not, nat_eq, nat_lt, nat_le, if◌then◌else◌}
 use Rattle.std.specs.declared.alloc.AllocError.{AllocError}
@@ -128,7 +128,7 @@ bytes_lawful (s ∷ ss) whole all = go (is_long s) refl
         and_from (nat_lt (table_id_of s) 255) (is_payload 4093 (body_of s)) (lt-ltb (table_id_of s) 255 (id_small s here))
         (le-leb (length (body_of s)) 4093 (short_small s here form))
 
--- ---- entries of 0
+-- ---- entries with number 0
 
 entry_within : (id pid : ℕ) → id < 65536 → nat_eq id 0 ≡ false → are_within entry_page.rows (entry_item id pid).values ≡ true
 unfolding are_within
@@ -140,7 +140,7 @@ entry_within id pid small other =
     above_by zero is = cc
     above_by (suc n) is = omega arith
 
--- entries that are none of 0 fit, and are in their ranges
+-- entries without the number 0 fit, and are in their ranges
 others_good : (xs : List ItemHolding) → list_all (item_fits entry_page) xs ≡ true
     → (list_all (item_fits entry_page) (filter (λ x. not (is_network x)) xs) ≡ true)
     × (list_all (λ x. are_within entry_page.rows x.values) (filter (λ x. not (is_network x)) xs) ≡ true)
@@ -161,7 +161,7 @@ others_good (x ∷ xs) fit =
           and_from (are_within entry_page.rows x.values) (list_all (λ y. are_within entry_page.rows y.values) ys) inside rest.1,
         )
 
--- the entry of 0, if there is one
+-- the entry with number 0, if there is one
 record Zero (o : Option ItemHolding) : Type 0 where
   pid : Option ℕ
   same : option_to_list o ≡ network_items pid

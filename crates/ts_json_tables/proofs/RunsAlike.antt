@@ -41,7 +41,7 @@ section_alike p seen place s t same =
     ap (λ n. if nat_lt p.most n then broken_at place 1 TooLong else in_section place (length (body_of s)) (read_body p seen (bits_of (body_of s)))) same.size
     ∙ ap (λ b. if nat_lt p.most (section_length_of t) then broken_at place 1 TooLong else in_section place (length b) (read_body p seen (bits_of b))) same.body
 
--- what is read behind a section
+-- what is read after a section
 abbrev more_read : TablePage → ℕ → List (List ℕ) → Result (BodyHolding × Seen) FirstBroken → Result BodyHolding FirstBroken
 more_read p place ss r = runs.◌>>=◌ r (λ x. runs.◌>>=◌ (read_sections p x.1 place ss) (λ more. Ok (joined x.0 more)))
 

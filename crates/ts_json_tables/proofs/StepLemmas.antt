@@ -1,4 +1,4 @@
--- Reading that went on, and tests.
+-- Reading that continued, and tests.
 use Rattle.std.proofs.Common.{◌≡◌, ℕ, Bool, true, false, refl, sym, ap}
 use Rattle.std.specs.Prelude.{◌&&◌, Ok, Err, List}
 use Rattle.ts_jtree.specs.declared.fault.JsonKind.{JsonKind}
@@ -11,7 +11,7 @@ pub both : (a b : Bool) → (a && b) ≡ true → (a ≡ true) × (b ≡ true)
 both true b is = (refl, is)
 both false b is = cc
 
--- where reading went on, each of its steps did
+-- where reading continued, each of its steps did
 pub then_ok : {A B P : Type 0} (read : Reading A) (next : A → Reading B) (y : B) → (read >>= next) ≡ Ok y
     → ((x : A) → read ≡ Ok x → next x ≡ Ok y → P) → P
 then_ok (Ok x) next y is goal = goal x refl is

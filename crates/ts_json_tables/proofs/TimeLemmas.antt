@@ -1,4 +1,4 @@
--- What texts tell are times and starts.
+-- What texts give are times and starts.
 use Rattle.std.proofs.Common.{◌≡◌, ℕ, ◌+◌, ◌-◌, ◌*◌, ◌/◌, ◌%◌, ◌^◌, ◌<◌, ◌≤◌, Bool, true, false, List, take, drop, refl, arith, subst}
 use Rattle.std.specs.Prelude.{◌&&◌, ◌||◌, if◌then◌else◌, Option, Some, None, Ok, bytes_eq, codes, length, nat_eq, nat_le, nat_lt, slice_index}
 use Rattle.std.proofs.lemmas.Bool.{and_from, leb-true, lt-ltb, ltb-true}

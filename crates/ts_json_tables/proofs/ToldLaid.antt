@@ -1,4 +1,4 @@
--- The sections of a table of a page tell it, and so does the section of the short form.
+-- The sections of a table of a page give it, and so does a section of the short form.
 use Rattle.std.proofs.Common.{◌≡◌, ℕ, ◌+◌, ◌<◌, ◌≤◌, Bool, true, false, List, [], ◌∷◌, ◌++◌, length, drop, refl, sym, ap, ◌∙◌, subst, arith, inl}
 use Rattle.std.specs.Prelude.{All, IsTrue, Option, Some, None, Result, Ok, Err, filter, find, not, nat_le, nat_lt, option_to_list, if◌then◌else◌}
 use Rattle.std.specs.List.{list_all}
@@ -53,7 +53,7 @@ short_bytes x s made =
     ap (λ b. if b then long (long_of x (x ∷ [])) else short (short_of x)) made.short
     ∙ ap short (same_short _ s.table_id _ s.own _ s.payload made.same_id made.same_private made.same_body)
 
--- no page is of the short form
+-- no page has the short form
 short_read : (p : TablePage) (x : List ℕ) → is_long x ≡ false → read_run p (x ∷ []) ≡ broken_at 0 0 WrongTable
 unfolding read_run
 short_read p x form = rw form refl
@@ -124,7 +124,7 @@ settled_same p t is =
     ap (λ n. table_with t n (settled_items p.one_zero t.body.items)) (sym is.extension)
     ∙ ap (table_with t t.head.extension) (items_same p.one_zero p.items t.body.items facts.zero parts.items is.within)
 
--- ---- its sections are lawful
+-- ---- its sections are valid
 
 then_written : {A B P : Type 0} (r : Result A TableRefusal) (next : A → Result B TableRefusal) (y : B) → (writing.◌>>=◌ r next) ≡ Ok y
     → ((x : A) → r ≡ Ok x → next x ≡ Ok y → P) → P
@@ -180,7 +180,7 @@ laid_lawful spelled law p t ss is =
     then_written (body_rows p t.body) (sections_with p t.head) ss written (λ rows were made.
     rows_lawful law p t rows ss (fit_parts p t is.fits) ids (bodies_are spelled p t.body rows ids.most were) made)
 
--- ---- and tell it
+-- ---- and give it
 
 read_id : (p : TablePage) (s : List ℕ) (rest : List (List ℕ)) (t : TableHolding) → read_run p (s ∷ rest) ≡ Ok t → table_id_of s ≡ t.head.table_id
 unfolding read_run

@@ -1,4 +1,4 @@
--- The sections of a table of bytes tell it, and are read as those that it is of.
+-- The sections of a table given by its bytes give it, and are read as those of the same table.
 use Rattle.std.proofs.Common.{◌≡◌, ℕ, suc, ◌+◌, ◌-◌, ◌<◌, Bool, true, false, List, [], ◌∷◌, length, get_or, map, refl, sym, ap, ◌∙◌, subst, arith, inl, inr}
 use Rattle.std.specs.Prelude.{All, Option, Some, None, Result, Ok, Err, nat_eq, nat_le, nat_lt, if◌then◌else◌}
 use Rattle.std.specs.List.{list_all}
@@ -158,7 +158,7 @@ whole_by law l parts bytes run same first false other count =
     subst (AllMembers first.first) are (λ k inside. long_member law l parts bytes first.first other first.id first.extension first.version first.current last k (omega (arith, inside, long_count l))) in
     subst IsTableRun (sym first.are) (inr (members, omega (arith, size, last, some)))
 
--- ---- they tell the table
+-- ---- they give the table
 
 abbrev long_with : ℕ → Bool → ℕ → ℕ → Bool → ℕ × ℕ → List (List ℕ) → LongHolding
 long_with version current id extension own numbers payloads =

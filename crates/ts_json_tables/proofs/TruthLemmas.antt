@@ -1,4 +1,4 @@
--- The number, and the truth value, that the attribute of one row tells.
+-- The number and the Boolean of the attribute of one row.
 use Rattle.std.proofs.Common.{◌≡◌, ℕ, Bool, true, false, [], ◌∷◌, refl, ap}
 use Rattle.std.specs.Prelude.{Ok, nat_eq}
 use Rattle.serde_json.specs.Data.{Members}

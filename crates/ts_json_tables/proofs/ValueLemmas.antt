@@ -1,4 +1,4 @@
--- Values put one behind another.
+-- Values put one after another.
 use Rattle.std.proofs.Common.{◌≡◌, List, [], ◌∷◌, ◌++◌, ap, ◌∙◌, append_assoc}
 use Rattle.ts_fields.specs.Layout.{Held}
 

@@ -1,4 +1,4 @@
--- Where an item of 0 stands.
+-- The place of an item with number 0.
 use Rattle.std.proofs.Common.{◌≡◌, ℕ, suc, ◌+◌, ◌<◌, ◌≤◌, Bool, true, false, List, [], ◌∷◌, ◌++◌, length, take, drop, get_or, map, refl, sym, ap, ◌∙◌, arith, zero-add, subst}
 use Rattle.std.specs.Prelude.{Option, Some, None, option_map, option_to_list, filter, find, not, is_some, if◌then◌else◌}
 use Rattle.std.proofs.lemmas.List.{drop_more, drop_all, take-map, drop-map, map-append, get_or-map}
@@ -52,7 +52,7 @@ unfolding zero_place
 zero_nowhere items i whole all so_far =
     sym (ap (λ l. option_map (λ n. n + i) (zero_place (map item_held l))) (drop_all i items all)) ∙ so_far
 
--- ---- the item of 0 put first
+-- ---- the item with number 0 put first
 
 one_no_more : (b : Bool) (x : ItemHolding) (xs : List ItemHolding) → is_some (if b then None else zeros_from true true xs) ≡ true
     → (is_some (zeros_from true true xs) ≡ true → filter (λ y. not (is_network y)) xs ≡ xs)
@@ -60,7 +60,7 @@ one_no_more : (b : Bool) (x : ItemHolding) (xs : List ItemHolding) → is_some (
 one_no_more true x xs left rest = cc
 one_no_more false x xs left rest = ap (λ l. x ∷ l) (rest left)
 
--- behind the item of 0 there is no other
+-- after the item with number 0 there is no other
 no_more : (xs : List ItemHolding) → is_some (zeros_from true true xs) ≡ true → filter (λ x. not (is_network x)) xs ≡ xs
 unfolding zeros_from
 no_more [] zeros = refl
@@ -73,7 +73,7 @@ some_more (Some q) p is = (q, (refl, sym_some q p is))
     sym_some : (q p : ℕ) → ◌≡◌ {A = Option ℕ} (Some (q + 1)) (Some p) → p ≡ suc q
     sym_some q p is = let e : q + 1 ≡ p = cc in omega (arith, e)
 
--- the item of 0 and the others
+-- the item with number 0 and the others
 abbrev IsSplit : List ItemHolding → ℕ → ItemHolding → Type 0
 IsSplit xs p d = (find is_network xs ≡ Some (get_or xs p d)) × (filter (λ x. not (is_network x)) xs ≡ take p xs ++ drop (suc p) xs)
 
@@ -112,7 +112,7 @@ unfolding zero_place
 nothing [] is = (refl, refl)
 nothing (x ∷ xs) is = one_nothing (is_network x) x xs is (nothing xs)
 
--- the items with that of 0 first
+-- the items with that of number 0 first
 pub zero_first : (items : List TableItem) (p : ℕ) (x : TableItem) → zero_place (map item_held items) ≡ Some p
     → p < length items → x ≡ get_or items p x → is_some (zeros_from true false (map item_held items)) ≡ true
     → map item_held (x ∷ (take p items ++ drop (suc p) items)) ≡ ordered (map item_held items)

@@ -1,5 +1,5 @@
--- What a table holds.
--- This project's own rule: a table is of a page that is known, or is kept as the bytes of its sections' bodies.
+-- The values of tables.
+-- This project's own rule: a table is of a known page, or is kept as the bytes of its sections' bodies.
 use Rattle.std.specs.Prelude.{ℕ, List, map, Bool}
 use Rattle.ts_table_rows.specs.TablePages.{TablePage, table_page}
 use Rattle.ts_table_rows.specs.TableValues.{TableHolding, table_held}
@@ -15,7 +15,7 @@ pub record ShortHolding : Type 0 where
   pub own : Bool
   pub payload : List ℕ
 
--- sections of the long form: what their heads have alike, the private bit of the first, the first number and the
+-- sections of the long form: the fields that their heads share, the private bit of the first, the first number and the
 -- last where the table keeps them, and the bodies
 pub record LongHolding : Type 0 where
   pub version : ℕ
@@ -26,19 +26,21 @@ pub record LongHolding : Type 0 where
   pub numbers : ℕ × ℕ
   pub payloads : List (List ℕ)
 
--- a table of a page, or of bytes
+-- a table of a page, or given by its bytes
 pub data TableValue : Type 0 where
   laid : TablePage → TableHolding → TableValue
   short : ShortHolding → TableValue
   long : LongHolding → TableValue
 
--- what a value of the code's is
+-- the value of a table of a layout in the code
 abbrev pub laid_value : LaidTable → TableValue
 laid_value t = laid (table_page t.layout.now) (table_held t.held)
 
+-- the value of a section of the short form in the code
 abbrev pub short_held : ShortTable → ShortHolding
 short_held t = record { table_id = t.table_id; own = t.private; payload = t.payload.items }
 
+-- the value of sections of the long form in the code
 abbrev pub long_held : LongTable → LongHolding
 long_held t = record {
   version = t.version;
@@ -50,6 +52,7 @@ long_held t = record {
   payloads = map (λ p. p.items) t.payloads.items;
 }
 
+-- the value of a table in the code
 abbrev pub table_value : Table → TableValue
 table_value (kinds.Laid t) = laid_value t
 table_value (kinds.Short t) = short (short_held t)

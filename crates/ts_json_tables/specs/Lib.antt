@@ -1,3 +1,4 @@
+-- The definitions of tables: from sections and to sections, as JSON elements, and read from them.
 pub mod KnownPages
 pub mod HeldTables
 pub mod ElementRows

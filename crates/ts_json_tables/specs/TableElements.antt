@@ -1,6 +1,6 @@
--- Tables as elements of JSON.
+-- Tables as JSON elements.
 -- This project's own rule: the attributes of `ElementRows`, and as children the table's descriptors and then its items;
--- an entry of 0, which is the first, is an attribute. A table of bytes has them in lower case.
+-- a first entry with number 0 is an attribute. Bytes are lower case hexadecimal digits.
 use Rattle.std.specs.Prelude.{ℕ, ◌&&◌, List, [], ◌∷◌, ◌++◌, map, drop, Bool, true, false, nat_eq, if◌then◌else◌, Option, Some, None}
 use Rattle.serde_json.specs.Data.{Data, object, array}
 use Rattle.serde_json.specs.View.{items_of}
@@ -17,38 +17,42 @@ use Rattle.ts_table_rows.specs.BodySpelling.{common_values, head_values}
 use Rattle.ts_json_tables.specs.ElementRows.{element_rows, is_eit_id, long_name, long_rows, section_name, section_rows, short_name, short_rows}
 use Rattle.ts_json_tables.specs.HeldTables.{ShortHolding, LongHolding, TableValue, laid, short, long}
 
--- a truth value as a field holds it
+-- a Boolean as a field holds it
 abbrev pub truth : Bool → Held
 truth b = number (truth_bit b)
 
+-- the value for the table_id of a table: none where there is one table_id; with two, whether it is the first; else it
 abbrev pub id_values : List (ℕ × ℕ) → ℕ → List Held
 id_values [] id = []
 id_values (x ∷ []) id = if nat_eq x.0 x.1 then [] else number id ∷ []
 id_values (x ∷ y ∷ more) id = truth (nat_eq id x.0) ∷ []
 
+-- the value of table_id_extension, where it is not reserved
 abbrev pub extension_values : List ℕ → ℕ → List Held
 extension_values [] extension = []
 extension_values (c ∷ cs) extension = number extension ∷ []
 
--- what the attributes of the head hold
+-- the values of the attributes of the head
 abbrev pub first_values : TablePage → TableHead → List Held
 first_values p h =
     number h.version ∷ truth h.current ∷ (id_values p.ids h.table_id ++ extension_values p.extension h.extension)
 
+-- the section numbers, where they are kept
 abbrev pub kept_values : Option (ℕ × ℕ) → List Held
 kept_values None = []
 kept_values (Some n) = number n.0 ∷ number n.1 ∷ []
 
--- whether the first item is one of 0, where such a one may stand
+-- whether the first item has the number 0, in a table that may have such an item
 abbrev pub begins_with_zero : Bool → List ItemHolding → Bool
 begins_with_zero one_zero [] = false
 begins_with_zero one_zero (x ∷ xs) = one_zero && is_zero (first_number x.values)
 
--- what such an item holds behind the 0
+-- the values after the 0 of such an item
 abbrev pub values_behind : List ItemHolding → List Held
 values_behind [] = []
 values_behind (x ∷ xs) = drop 1 x.values
 
+-- the values after the 0 of the first item, where that has the number 0
 abbrev pub network_values : Bool → List ItemHolding → List Held
 network_values one_zero items = if begins_with_zero one_zero items then values_behind items else []
 
@@ -56,7 +60,7 @@ network_values one_zero items = if begins_with_zero one_zero items then values_b
 abbrev pub shown_items : Bool → List ItemHolding → List ItemHolding
 shown_items one_zero items = if begins_with_zero one_zero items then drop 1 items else items
 
--- what the attributes of a table of a page hold
+-- the values of the attributes of a table of a page
 abbrev pub element_values : TablePage → TableHolding → List Held
 element_values p t =
     first_values p t.head
@@ -68,7 +72,7 @@ element_values p t =
 abbrev pub descrs_shown : List TaggedBody → List Data
 descrs_shown ds = map descr_shown ds
 
--- the children of an item, where it may have descriptors
+-- the children of an item, where the layout has descriptors
 abbrev pub described_shown : Bool → List TaggedBody → Option Data
 described_shown false ds = None
 described_shown true ds = Some (array (items_of (descrs_shown ds)))
@@ -77,6 +81,7 @@ described_shown true ds = Some (array (items_of (descrs_shown ds)))
 abbrev pub item_shown : ItemPage → ItemHolding → Data
 item_shown i x = object (element_members i.rows i.name (described_shown i.described x.descriptors) x.values)
 
+-- the elements of the items, where the page has items
 abbrev pub items_shown : Option ItemPage → List ItemHolding → List Data
 items_shown None items = []
 items_shown (Some i) items = map (item_shown i) items
@@ -90,10 +95,11 @@ abbrev pub laid_shown : TablePage → TableHolding → Data
 laid_shown p t = object (element_members (element_rows p (begins_with_zero p.one_zero t.body.items)) p.name
     (Some (array (items_of (children_shown p t.body)))) (element_values p t))
 
--- the element of a section of the short form
+-- the values of the attributes of a section of the short form
 abbrev pub short_values : ShortHolding → List Held
 short_values s = number s.table_id ∷ truth s.own ∷ bytes s.payload ∷ []
 
+-- the element of a section of the short form
 abbrev pub short_shown : ShortHolding → Data
 short_shown s = object (element_members short_rows short_name None (short_values s))
 
@@ -101,12 +107,13 @@ short_shown s = object (element_members short_rows short_name None (short_values
 abbrev pub section_shown : List ℕ → Data
 section_shown payload = object (element_members section_rows section_name None (bytes payload ∷ []))
 
--- the element of sections of the long form; only those of an EIT have their numbers
+-- the values of the attributes of sections of the long form; only an EIT has its numbers
 abbrev pub long_values : LongHolding → List Held
 long_values l =
     number l.version ∷ truth l.current ∷ number l.table_id ∷ number l.extension ∷ truth l.own
     ∷ kept_values (if is_eit_id l.table_id then Some l.numbers else None)
 
+-- the element of sections of the long form
 abbrev pub long_shown : LongHolding → Data
 long_shown l = object (element_members (long_rows (is_eit_id l.table_id)) long_name
     (Some (array (items_of (map section_shown l.payloads)))) (long_values l))

@@ -1,6 +1,6 @@
--- Tables from elements of JSON.
+-- Tables from JSON elements.
 -- This project's own rule: an element is checked step by step, and then its children in their order, descriptors and
--- items as they come; a fault in a child is told with the child's number from 0.
+-- items as they come; the fault of a child has the child's number, from 0, in its path.
 use Rattle.std.specs.Prelude.{ℕ, ◌+◌, ◌&&◌, List, [], ◌∷◌, ◌++◌, Bool, true, false, bytes_eq, nat_eq, nat_le, if◌then◌else◌, Option, Some, None, Ok}
 use Rattle.serde_json.specs.Data.{Data, Items, no_items, item, Members}
 use Rattle.ts_bits.specs.TaggedBody.{TaggedBody}
@@ -32,20 +32,20 @@ read_each read place (item value more) = do
   others ← read_each read (place + 1) more
   Ok (x ∷ others)
 
--- a descriptor, whose body is told by its bits
+-- a descriptor, whose body is given by its bits
 unfoldable pub read_descr : Data → Reading TaggedBody
 read_descr value = do
   d ← descr_read value
   Ok (record { tag = d.0; body = bytes_of d.1 })
 
--- the children of an item, which are descriptors where it may have some
+-- the children of an item, which are descriptors where the layout has them
 unfoldable pub read_described : Bool → Items → Reading (List TaggedBody)
 read_described false nodes = do
   _ ← no_children nodes
   Ok []
 read_described true nodes = read_each read_descr 0 nodes
 
--- an item, whose name was looked at before
+-- an item, whose name was checked before
 unfoldable pub read_item : ItemPage → Members → Reading ItemHolding
 read_item i ms = do
   _ ← keys_known i.rows ms ms
@@ -54,12 +54,12 @@ read_item i ms = do
   ds ← read_described i.described nodes
   Ok (record { values = values; descriptors = ds })
 
--- what a child of the code's is
+-- the value of a child in the code
 abbrev pub child_thing : Child → Thing
 child_thing (sorts.Own d) = own_thing d
 child_thing (sorts.Item x) = item_thing (item_held x)
 
--- things by their sort
+-- children by their kind
 abbrev pub parted : Reading (List Thing) → Reading (List TaggedBody × List ItemHolding)
 parted read = read >>= λ things. Ok (owns_in things, items_in things)
 
@@ -69,14 +69,14 @@ has_own Absent = false
 has_own Counted = true
 has_own ToEnd = true
 
--- a descriptor of the table's own, where it may have some
+-- a descriptor of the table's own, where the layout has them
 unfoldable pub read_own : Bool → Data → Reading Thing
 read_own false value = refuse name_key UnknownKey
 read_own true value = do
   d ← read_descr value
   Ok (own_thing d)
 
--- a child of this name: an item, or else a descriptor
+-- a child with this name: an item, or else a descriptor
 unfoldable pub read_named : Option ItemPage → Bool → List ℕ → Members → Data → Reading Thing
 read_named None own name ms value = read_own own value
 read_named (Some i) own name ms value =
@@ -92,7 +92,7 @@ read_child p value = do
   name ← name_of ms
   read_named p.items (has_own p.loop_form) name ms value
 
--- a table of these attributes and these children; the entry of 0 comes first
+-- a table of these attributes and these children; the entry with number 0 comes first
 abbrev pub holding_of : Heading → List TaggedBody × List ItemHolding → TableHolding
 holding_of h children = record {
   head = h.head;
@@ -103,7 +103,7 @@ holding_of h children = record {
   };
 }
 
--- a table of a page, whose name was looked at before
+-- a table of a page, whose name was checked before
 unfoldable pub read_laid : TablePage → Members → Reading TableValue
 read_laid p ms = do
   _ ← keys_known (element_rows p (names_network p.one_zero ms)) ms ms
@@ -135,20 +135,21 @@ read_section value = do
   _ ← no_children nodes
   Ok payload
 
--- how many children there are
+-- the number of children
 abbrev pub count_of : Items → ℕ
 count_of no_items = 0
 count_of (item value more) = count_of more + 1
 
--- a table has 1 to 256 sections, that of an EIT one
+-- whether a table may have this number of sections: 1 to 256, an EIT one
 abbrev pub is_lawful_count : Bool → ℕ → Bool
 is_lawful_count eit n = if eit then nat_eq n 1 else nat_le 1 n && nat_le n 256
 
+-- the children, where a table may have their number of sections
 abbrev pub sections_counted : Bool → Items → Reading Items
 sections_counted eit nodes =
     if is_lawful_count eit (count_of nodes) then Ok nodes else refuse nodes_key OutOfRange
 
--- the numbers of a table that keeps none
+-- the section numbers of a table; 0 and 0 where it keeps none
 abbrev pub kept_or_none : Option (ℕ × ℕ) → ℕ × ℕ
 kept_or_none None = (0, 0)
 kept_or_none (Some n) = n
@@ -172,7 +173,7 @@ read_long_head eit ms = do
     payloads = [];
   })
 
--- these attributes and these bodies
+-- a table with these attributes and these bodies
 abbrev pub with_payloads : LongHolding → List (List ℕ) → LongHolding
 with_payloads l rows = record l { payloads = rows }
 
@@ -186,7 +187,7 @@ read_long ms = do
   payloads ← read_each read_section 0 counted
   Ok (long (with_payloads head payloads))
 
--- a table of this name
+-- a table with this name
 abbrev pub read_by_name : List ℕ → Members → Reading TableValue
 read_by_name name ms =
     if bytes_eq name short_name then read_short ms

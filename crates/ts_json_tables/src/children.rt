@@ -1,4 +1,4 @@
-//! The children of a table's element.
+//! Reading the children of a table's element.
 
 ghost use Rattle.std.specs.Prelude.{◌≡◌, [], ◌++◌, ◌∷◌, map, option_map, true, IfOk, IsTrue, OnOk};
 ghost use Rattle.serde_json.specs.View.{view, items_view, members_view};
@@ -29,13 +29,13 @@ fn read_descr(alloc: Global, value: &Value) -> Result<Descriptor, ReadRefusal>
     ensures { Answers (λ d. d) result (TableReading.read_descr (view value.now)) }
 {
     let descriptor = json_descr(alloc, value)?;
-    // A law, which runs nothing.
+    // A law; it runs nothing.
     written_rows_are_whole();
     let _body = descriptor.body();
     Ok(descriptor)
 }
 
-/// A descriptor that is the child of this number.
+/// The descriptor that is the child with this number.
 fn read_descr_at(alloc: Global, place: usize, value: &Value) -> Result<Descriptor, ReadRefusal>
     ensures { Answers (λ d. d) result (at_child place (TableReading.read_descr (view value.now))) }
 {
@@ -45,7 +45,7 @@ fn read_descr_at(alloc: Global, place: usize, value: &Value) -> Result<Descripto
     }
 }
 
-/// Descriptors, each a child.
+/// Descriptors, each of them a child.
 fn read_descrs(alloc: Global, nodes: &[Value]) -> Result<Vec<Descriptor>, ReadRefusal>
     ensures { Answers (λ v. v.items) result
         (read_each TableReading.read_descr 0 (items_view nodes.now)) }
@@ -60,7 +60,7 @@ fn read_descrs(alloc: Global, nodes: &[Value]) -> Result<Vec<Descriptor>, ReadRe
     Ok(descriptors)
 }
 
-/// The children of an item, which are descriptors where it may have some.
+/// The children of an item, which are descriptors where the layout has them.
 #[tactic(auto, unfolding(crate::specs::TableReading::read_described))]
 fn read_described(
     alloc: Global,
@@ -76,7 +76,7 @@ fn read_described(
     read_descrs(alloc, nodes)
 }
 
-/// An item, whose name was looked at before.
+/// An item, whose name was checked before.
 #[tactic(auto, unfolding(crate::specs::TableReading::read_item))]
 fn read_item(
     alloc: Global,
@@ -116,7 +116,7 @@ fn has_own(form: LoopForm) -> bool
     }
 }
 
-/// A descriptor of the table's own, where it may have some.
+/// A descriptor of the table's own, where the layout has them.
 #[tactic(auto, unfolding(crate::specs::TableReading::read_own))]
 fn read_own(alloc: Global, own: bool, value: &Value) -> Result<Child, ReadRefusal>
     ensures { Answers child_thing result (TableReading.read_own own (view value.now)) }
@@ -128,7 +128,7 @@ fn read_own(alloc: Global, own: bool, value: &Value) -> Result<Child, ReadRefusa
     Ok(Child::Own(descriptor))
 }
 
-/// A child of this name: an item, or else a descriptor.
+/// The child with this name: an item, or else a descriptor.
 #[tactic(auto, unfolding(crate::specs::TableReading::read_named))]
 fn read_named(
     alloc: Global,
@@ -165,7 +165,7 @@ fn read_child(alloc: Global, layout: &TableLayout, value: &Value) -> Result<Chil
     read_named(alloc, layout, name, members, value)
 }
 
-/// The child of this number.
+/// The child with this number.
 fn read_child_at(
     alloc: Global,
     layout: &TableLayout,
@@ -182,7 +182,7 @@ fn read_child_at(
     }
 }
 
-/// Children by their sort, each sort in its order.
+/// Children by their kind, each kind in its order.
 #[derive(Drop)]
 pub struct Children {
     /// The table's own descriptors.
@@ -191,7 +191,7 @@ pub struct Children {
     pub items: Vec<TableItem>,
 }
 
-/// Adds a child to those of its sort.
+/// Appends a child to those of its kind.
 fn add_child(children: &mut Children, child: Child) -> Result<(), AllocError>
     ensures own { OnOk result
         (children.new.descriptors.items ≡ children.old.descriptors.items ++ owns_in (child_thing child ∷ [])) }
@@ -249,7 +249,7 @@ fn read_payload(alloc: Global, value: &Value) -> Result<Vec<u8>, ReadRefusal>
     Ok(payload)
 }
 
-/// The body that is the child of this number.
+/// The body that is the child with this number.
 fn read_payload_at(alloc: Global, place: usize, value: &Value) -> Result<Vec<u8>, ReadRefusal>
     ensures { Answers (λ row. row.items) result (at_child place (read_section (view value.now))) }
 {
@@ -259,7 +259,7 @@ fn read_payload_at(alloc: Global, place: usize, value: &Value) -> Result<Vec<u8>
     }
 }
 
-/// The bodies of sections of the long form, each a child.
+/// The bodies of sections of the long form, each of them a child.
 pub fn read_payloads(alloc: Global, nodes: &[Value]) -> Result<Vec<Vec<u8>>, ReadRefusal>
     ensures { Answers (λ v. map (λ row. row.items) v.items) result
         (read_each read_section 0 (items_view nodes.now)) }

@@ -1,4 +1,4 @@
-//! The attributes of a table's element, read one after another.
+//! Reading the attributes of a table's element, one after another.
 
 ghost use Rattle.std.specs.Prelude.{◌≡◌, ◌<◌, ◌≤◌, ◌++◌, [], ◌∷◌, map, length, option_map, IfOk, IfSome, IsTrue, true};
 ghost use Rattle.std.specs.Option.{ForSome};
@@ -21,18 +21,18 @@ use ts_fields::{Field, FieldValue};
 use ts_jtree::{JsonKind, ReadRefusal, member, number_of_value, read_attributes, refuse_key};
 use ts_table_rows::{TableHead, TableLayout};
 
-/// What the attributes of a table hold.
+/// The values of the attributes of a table.
 #[derive(Drop)]
 pub struct Heading {
-    /// What it keeps of the heads of its sections.
+    /// The fields of the section heads that the table keeps.
     pub head: TableHead,
-    /// What the fields hold that stand in no item.
+    /// The values of the fields that are outside all items.
     pub values: Vec<FieldValue>,
-    /// The PID that an entry of 0 names, if there is one.
+    /// The PID of the entry with number 0, if there is one.
     pub network: Option<u16>,
 }
 
-/// The number that one row holds.
+/// The number of a single row; 0 where there is none.
 fn only_number(values: &[FieldValue]) -> u64
     ensures { result ≡ HeadReading.only_number (map held values.now) }
 {
@@ -90,7 +90,7 @@ pub fn read_word(
     Ok(number as u16)
 }
 
-/// The attribute of a row that is a truth value.
+/// The attribute of a row that is a Boolean.
 #[tactic(auto, unfolding(crate::specs::HeadReading::read_truth))]
 pub fn read_truth(
     alloc: Global,
@@ -105,7 +105,7 @@ pub fn read_truth(
     Ok(bit == 1)
 }
 
-/// The bytes that one row holds.
+/// The bytes of a single row.
 fn only_bytes(alloc: Global, values: &[FieldValue]) -> Result<Vec<u8>, ReadRefusal>
     ensures { Answers (λ b. b.items) result (Ok (HeadReading.only_bytes (map held values.now))) }
 {
@@ -130,7 +130,7 @@ pub fn read_bytes(
     only_bytes(alloc, &values)
 }
 
-/// Which of its table_ids a table has.
+/// The table_id, of those that the layout allows.
 #[tactic(auto, unfolding(crate::specs::HeadReading::read_id))]
 fn read_id(alloc: Global, members: &Map<String, Value>, ids: &[(u8, u8)]) -> Result<u8, ReadRefusal>
     ensures { Answers (λ n. n) result (HeadReading.read_id ids.now (members_view members.now.entries)) }
@@ -151,7 +151,7 @@ fn read_id(alloc: Global, members: &Map<String, Value>, ids: &[(u8, u8)]) -> Res
     }
 }
 
-/// table_id_extension, which is ones where it is reserved.
+/// table_id_extension; all ones where it is reserved.
 #[tactic(auto, unfolding(crate::specs::HeadReading::read_extension))]
 fn read_extension(
     alloc: Global,
@@ -167,7 +167,7 @@ fn read_extension(
     read_word(alloc, members, &field)
 }
 
-/// The first number is not above the last, else `OutOfRange` on `last_section_number`.
+/// The two numbers, where the first is not above the last; else `OutOfRange` on `last_section_number`.
 fn numbers_in_order(alloc: Global, first: u8, last: u8) -> Result<(u8, u8), ReadRefusal>
     ensures { Answers (λ n. n) result (HeadReading.numbers_in_order first last) }
 {
@@ -191,7 +191,7 @@ fn read_numbers(
     Ok(Some(numbers))
 }
 
-/// section_number and last_section_number, where they are kept.
+/// section_number and last_section_number, where the table keeps them.
 #[tactic(auto, unfolding(crate::specs::HeadReading::read_kept))]
 pub fn read_kept(
     alloc: Global,
@@ -206,14 +206,14 @@ pub fn read_kept(
     read_numbers(alloc, members)
 }
 
-/// Whether the PID of an entry of 0 is there, where such a one may stand.
+/// Whether the PID of an entry with number 0 is there, in a table that may have such an entry.
 pub fn names_network(members: &Map<String, Value>, one_zero: bool) -> bool
     ensures { result ≡ HeadReading.names_network one_zero (members_view members.now.entries) }
 {
     one_zero && member(members, "network_PID").is_some()
 }
 
-/// The PID of an entry of 0.
+/// The PID of the entry with number 0.
 #[tactic(auto, unfolding(crate::specs::HeadReading::read_pid))]
 fn read_pid(alloc: Global, members: &Map<String, Value>) -> Result<Option<u16>, ReadRefusal>
     ensures { Answers (λ n. n) result (HeadReading.read_pid (members_view members.now.entries)) }
@@ -222,7 +222,7 @@ fn read_pid(alloc: Global, members: &Map<String, Value>) -> Result<Option<u16>, 
     Ok(Some(pid))
 }
 
-/// The PID of an entry of 0, where it is there.
+/// The PID of the entry with number 0, where there is one.
 #[tactic(auto, unfolding(crate::specs::HeadReading::read_network))]
 fn read_network(
     alloc: Global,
@@ -272,7 +272,7 @@ pub fn read_heading(
     })
 }
 
-/// Whether the table_id that is given is one of an EIT's.
+/// Whether the given table_id is one of an EIT.
 pub fn names_eit(members: &Map<String, Value>) -> bool
     ensures { result ≡ HeadReading.names_eit (members_view members.now.entries) }
 {

@@ -1,4 +1,4 @@
-//! The children of a table's element, as they are written.
+//! Showing the children of a table's element.
 
 ghost use Rattle.std.specs.Prelude.{◌≡◌, ◌++◌, ◌∷◌, [], map, drop, option_map, true, IfOk, OnOk, IsTrue, if◌then◌else◌};
 ghost use Rattle.std.specs.List.{list_all};
@@ -32,7 +32,7 @@ fn descrs_json(alloc: Global, descriptors: &[Descriptor]) -> Result<Vec<Value>, 
     Ok(nodes)
 }
 
-/// Puts descriptors as children, where there may be some.
+/// Puts descriptors as children, where the layout has them.
 fn put_described(
     alloc: Global,
     members: &mut Map<String, Value>,
@@ -75,7 +75,7 @@ fn items_json(alloc: Global, form: ItemForm, items: &[TableItem]) -> Result<Vec<
     Ok(nodes)
 }
 
-/// The elements of the items of a layout, which has items or none.
+/// The elements of the items of a layout, which may have no items.
 fn all_items_json(
     alloc: Global,
     form: Option<ItemForm>,
@@ -91,7 +91,7 @@ fn all_items_json(
     }
 }
 
-/// The items that are children: all but one of 0 that stands first.
+/// The items that are children: all but a first one with number 0.
 fn items_behind_zero(one_zero: bool, items: &[TableItem]) -> &[TableItem]
     ensures { map item_held result.now ≡ shown_items one_zero (map item_held items.now) }
 {
@@ -120,7 +120,7 @@ pub fn children_json(
     Ok(nodes)
 }
 
-/// Bytes as what the one field of a section holds.
+/// The value of the one field of a section: its bytes.
 fn payload_values(alloc: Global, payload: &[u8]) -> Result<Vec<FieldValue>, AllocError>
     ensures { IfOk result (λ v. map held v.items ≡ bytes payload.now ∷ []) }
 {

@@ -9,7 +9,7 @@ use ts_table_pages::{
 };
 use ts_table_rows::TableLayout;
 
-/// The layout of an element's name; none where no table has it.
+/// The layout of the table with this element name; none where no table has it.
 pub fn layout_named(name: &str) -> Option<&'static TableLayout>
     ensures page { option_map (λ l. table_page l.now) result ≡ page_named name.now }
     ensures sound { IfSome result (λ l. IsTrue (page_sound (table_page l.now))) }
@@ -26,7 +26,7 @@ pub fn layout_named(name: &str) -> Option<&'static TableLayout>
     }
 }
 
-/// The layout of a table_id; none where no table has it.
+/// The layout of the table with this table_id; none where no table has it.
 pub fn layout_with_id(id: u8) -> Option<&'static TableLayout>
     ensures page { option_map (λ l. table_page l.now) result ≡ page_with_id id }
     ensures known { IfSome result (λ l. page_named (table_page l.now).name ≡ Some (table_page l.now)) }

@@ -1,5 +1,5 @@
-//! Runs of sections and elements of JSON come in as tables, and tables go out as elements and as sections.
-//! The layer above rests on `table_of`, `to_json`, `of_json` and `table_sections`, and on `shown_table_is_read`.
+//! Tables from runs of sections and from JSON elements, and tables as JSON elements and as sections.
+//! The layer above uses `table_of`, `to_json`, `of_json` and `table_sections`, and `shown_table_is_read`.
 #![tactic(auto)]
 
 mod children;

@@ -1,4 +1,4 @@
-//! Tables from elements of JSON.
+//! Reading tables from JSON elements.
 
 ghost use Rattle.std.specs.Prelude.{◌≡◌, ◌++◌, ◌∷◌, [], map, All, IfOk, IsTrue, length};
 ghost use Rattle.serde_json.specs.View.{view, items_view, members_view};
@@ -31,7 +31,7 @@ use ts_jtree::{
 };
 use ts_table_rows::{TableBody, TableItem, TableLayout};
 
-/// The entry of 0 with this PID as an item, if there is one.
+/// The entry with number 0 and this PID as an item, if there is one.
 fn network_rows(alloc: Global, network: Option<u16>) -> Result<Vec<TableItem>, AllocError>
     ensures { IfOk result (λ v. map item_held v.items ≡ network_items network) }
 {
@@ -49,7 +49,7 @@ fn network_rows(alloc: Global, network: Option<u16>) -> Result<Vec<TableItem>, A
     Ok(items)
 }
 
-/// A table of a layout, whose name was looked at before.
+/// A table of a layout, whose name was checked before.
 #[tactic(auto, unfolding(crate::specs::TableReading::read_laid))]
 fn read_laid(
     alloc: Global,
@@ -102,7 +102,7 @@ fn read_short(alloc: Global, members: &Map<String, Value>) -> Result<ShortTable,
     })
 }
 
-/// Whether a table may have so many sections.
+/// Whether a table may have this number of sections.
 fn is_lawful_count(eit: bool, count: usize) -> bool
     ensures { result ≡ TableReading.is_lawful_count eit count }
 {
@@ -113,7 +113,7 @@ fn is_lawful_count(eit: bool, count: usize) -> bool
     }
 }
 
-/// The children of a table of bytes, 1 to 256, of an EIT one: else `OutOfRange` on `#nodes`.
+/// A table given by its bytes has 1 to 256 sections as children, an EIT one: else `OutOfRange` on `#nodes`.
 fn counted(alloc: Global, eit: bool, nodes: &[Value]) -> Result<(), ReadRefusal>
     ensures { Answers (λ _. items_view nodes.now) result (sections_counted eit (items_view nodes.now)) }
 {
@@ -123,7 +123,7 @@ fn counted(alloc: Global, eit: bool, nodes: &[Value]) -> Result<(), ReadRefusal>
     Ok(())
 }
 
-/// The numbers of a table, 0 and 0 where it keeps none.
+/// The section numbers of a table; 0 and 0 where it keeps none.
 fn numbers_or_none(numbers: Option<(u8, u8)>) -> (u8, u8)
     ensures { result ≡ kept_or_none numbers }
 {
@@ -178,7 +178,7 @@ fn read_long(alloc: Global, members: &Map<String, Value>) -> Result<LongTable, R
     Ok(table)
 }
 
-/// A table of this name.
+/// The table with this name.
 fn read_named(alloc: Global, name: &str, members: &Map<String, Value>) -> Result<Table, ReadRefusal>
     ensures { Answers table_value result (read_by_name name.now (members_view members.now.entries)) }
 {
@@ -208,7 +208,7 @@ pub fn of_json(alloc: Global, value: &Value) -> Result<Table, ReadRefusal>
     read_named(alloc, name, members)
 }
 
-/// The table that is the child of this number.
+/// The table that is the child with this number.
 fn read_table_at(alloc: Global, place: usize, value: &Value) -> Result<Table, ReadRefusal>
     ensures read { Answers table_value result (at_child place (table_read (view value.now))) }
     ensures lawful { IfOk result (λ t. IsTable (table_value t)) }
@@ -219,7 +219,7 @@ fn read_table_at(alloc: Global, place: usize, value: &Value) -> Result<Table, Re
     }
 }
 
-/// The tables of elements, each a child of one element; a fault in one is told with its number, from 0.
+/// The tables of elements, each a child of one element; a fault has the child's number, from 0, first in its path.
 pub fn tables_of_json(alloc: Global, nodes: &[Value]) -> Result<Vec<Table>, ReadRefusal>
     ensures read { Answers (λ v. map table_value v.items) result (read_each table_read 0 (items_view nodes.now)) }
     ensures lawful { IfOk result (λ v. All (λ t. IsTable (table_value t)) v.items) }

@@ -1,4 +1,4 @@
-//! The attributes of a table's element, in their order.
+//! The attributes of a table's element, in order.
 
 ghost use Rattle.std.specs.Prelude.{◌≡◌, ◌++◌, true, IfOk, OnOk};
 ghost use Rattle.ts_fields.specs.Layout.{row, rows_of};
@@ -26,7 +26,7 @@ pub static CURRENT: Field = Field {
     range: None,
 };
 
-/// Whether a table of two table_ids has the first.
+/// Whether a table of two table_ids has the first of them.
 pub static ACTUAL: Field = Field {
     name: "actual",
     kind: Kind::Flag,
@@ -34,7 +34,7 @@ pub static ACTUAL: Field = Field {
     range: None,
 };
 
-/// The bit behind section_syntax_indicator.
+/// The bit after section_syntax_indicator.
 pub static PRIVATE: Field = Field {
     name: "private",
     kind: Kind::Flag,
@@ -58,7 +58,7 @@ pub static LAST_SECTION_NUMBER: Field = Field {
     range: None,
 };
 
-/// The PID that an entry of 0 names.
+/// The PID of the entry with number 0 (network_PID).
 pub static NETWORK_PID: Field = Field {
     name: "network_PID",
     kind: Kind::Number(13),
@@ -66,7 +66,7 @@ pub static NETWORK_PID: Field = Field {
     range: None,
 };
 
-/// The table_id of a table of bytes.
+/// The table_id of a table given by its bytes.
 pub static ANY_TABLE_ID: Field = Field {
     name: "table_id",
     kind: Kind::Number(8),
@@ -74,7 +74,7 @@ pub static ANY_TABLE_ID: Field = Field {
     range: Some((0, 254)),
 };
 
-/// The table_id_extension of a table of bytes.
+/// The table_id_extension of a table given by its bytes.
 pub static ANY_EXTENSION: Field = Field {
     name: "table_id_extension",
     kind: Kind::Number(16),
@@ -98,7 +98,7 @@ pub static LONG_PAYLOAD: Field = Field {
     range: Some((0, 4084)),
 };
 
-/// The table_id of a table that has several.
+/// The table_id of a table that may have several.
 pub fn table_id_field(range: (u8, u8)) -> Field
     ensures { row result ≡ table_id_row range }
 {
@@ -110,7 +110,7 @@ pub fn table_id_field(range: (u8, u8)) -> Field
     }
 }
 
-/// table_id_extension under the table's own name.
+/// table_id_extension under the table's own name for it.
 pub fn extension_field(name: &'static str) -> Field
     ensures { row result ≡ extension_row name.now }
 {
@@ -122,7 +122,7 @@ pub fn extension_field(name: &'static str) -> Field
     }
 }
 
-/// Adds the row that tells which of its table_ids a table has.
+/// Appends the row for the table_id of a table, where it needs one.
 fn push_id(rows: &mut Vec<Field>, ids: &[(u8, u8)]) -> Result<(), AllocError>
     ensures { OnOk result (rows_of rows.new.items ≡ rows_of rows.old.items ++ id_rows ids.now) }
 {
@@ -142,7 +142,7 @@ fn push_id(rows: &mut Vec<Field>, ids: &[(u8, u8)]) -> Result<(), AllocError>
     }
 }
 
-/// Adds the row of table_id_extension, where it is not reserved.
+/// Appends the row of table_id_extension, where it is not reserved.
 fn push_extension(rows: &mut Vec<Field>, name: &'static str) -> Result<(), AllocError>
     ensures { OnOk result (rows_of rows.new.items ≡ rows_of rows.old.items ++ extension_rows name.now) }
 {
@@ -153,7 +153,7 @@ fn push_extension(rows: &mut Vec<Field>, name: &'static str) -> Result<(), Alloc
     Ok(())
 }
 
-/// Adds the rows of the section numbers.
+/// Appends the rows of the section numbers.
 fn push_numbers(rows: &mut Vec<Field>) -> Result<(), AllocError>
     ensures { OnOk result (rows_of rows.new.items ≡ rows_of rows.old.items ++ kept_rows true) }
 {
@@ -161,7 +161,7 @@ fn push_numbers(rows: &mut Vec<Field>) -> Result<(), AllocError>
     Ok(())
 }
 
-/// Adds the rows of the section numbers, where they are kept.
+/// Appends the rows of the section numbers, where they are kept.
 fn push_kept(rows: &mut Vec<Field>, kept: bool) -> Result<(), AllocError>
     ensures { OnOk result (rows_of rows.new.items ≡ rows_of rows.old.items ++ kept_rows kept) }
 {
@@ -171,7 +171,7 @@ fn push_kept(rows: &mut Vec<Field>, kept: bool) -> Result<(), AllocError>
     push_numbers(rows)
 }
 
-/// Adds the row of the PID that an entry of 0 names, where there is one.
+/// Appends the row of the PID of the entry with number 0, where there is one.
 fn push_network(rows: &mut Vec<Field>, network: bool) -> Result<(), AllocError>
     ensures { OnOk result (rows_of rows.new.items ≡ rows_of rows.old.items ++ network_rows network) }
 {
@@ -182,7 +182,7 @@ fn push_network(rows: &mut Vec<Field>, network: bool) -> Result<(), AllocError>
     Ok(())
 }
 
-/// The attributes of a table of a layout, with or without the PID of an entry of 0.
+/// The attributes of a table of a layout, with or without the PID of the entry with number 0.
 pub fn element_rows(
     alloc: Global,
     layout: &TableLayout,

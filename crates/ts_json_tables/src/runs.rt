@@ -23,7 +23,7 @@ use std::alloc::{AllocError, Global};
 use ts_section::{LongHead, Section, TableRun};
 use ts_table_rows::{TableFault, TableHead, TableItem, TableLayout, read_table};
 
-/// table_id_extension, as ones where it is reserved.
+/// table_id_extension; all ones where it is reserved.
 fn settle_extension(name: &str, extension: u16) -> u16
     ensures { result ≡ settled_extension name.now extension }
 {
@@ -33,7 +33,7 @@ fn settle_extension(name: &str, extension: u16) -> u16
     extension
 }
 
-/// Where the first item of 0 stands, if there is one.
+/// The place of the first item with number 0, if there is one.
 fn zero_place(items: &[TableItem]) -> Option<usize>
     ensures place { result ≡ RunTables.zero_place (map item_held items.now) }
     ensures within { IfSome result (λ place. place < length items.now) }
@@ -48,7 +48,7 @@ fn zero_place(items: &[TableItem]) -> Option<usize>
     None
 }
 
-/// Puts the item of 0 first, if there is one.
+/// Moves the item with number 0 to the front, if there is one.
 fn put_zero_first(items: &mut Vec<TableItem>) -> Result<(), AllocError>
     requires { is_some (zeros_from true false (map item_held items.old.items)) ≡ true }
     ensures { OnOk result (map item_held items.new.items ≡ ordered (map item_held items.old.items)) }
@@ -113,7 +113,7 @@ fn payloads_of(alloc: Global, sections: &[Section]) -> Result<Vec<Vec<u8>>, Allo
     Ok(payloads)
 }
 
-/// The section numbers that are kept of a head.
+/// The section numbers of a head that a table keeps.
 fn numbers_of(head: &LongHead) -> (u8, u8)
     ensures { result ≡ (if ElementRows.is_eit_id head.now.table_id then (head.now.number, head.now.last) else (0, 0)) }
 {
@@ -124,7 +124,7 @@ fn numbers_of(head: &LongHead) -> (u8, u8)
     }
 }
 
-/// A run by its bytes.
+/// The table of a run, given by its bytes.
 fn bytes_table(alloc: Global, sections: &[Section]) -> Result<Table, AllocError>
     ensures { IfOk result (λ t. table_value t ≡ RunTables.bytes_table sections.now) }
 {
@@ -152,7 +152,7 @@ fn bytes_table(alloc: Global, sections: &[Section]) -> Result<Table, AllocError>
     }))
 }
 
-/// A section of the short form by its bytes.
+/// The table of a section of the short form, given by its bytes.
 fn short_table(alloc: Global, section: &Section) -> Result<Table, AllocError>
     ensures same { IfOk result (λ t. table_value t ≡ short (RunTables.short_of section.now)) }
     ensures lawful { IsSection section.now }
@@ -165,7 +165,7 @@ fn short_table(alloc: Global, section: &Section) -> Result<Table, AllocError>
     }))
 }
 
-/// The table of a run that is known by its table_id.
+/// The table of a run whose table_id has a layout.
 fn typed_table(
     alloc: Global,
     layout: &'static TableLayout,

@@ -40,7 +40,7 @@ fn one_section(alloc: Global, table: &ShortTable) -> Result<Vec<Section>, TableR
     Ok(sections)
 }
 
-/// The first section number and the last: an EIT's own, or from 0.
+/// The first and the last section number: an EIT's own, or from 0.
 fn first_and_last(table: &LongTable) -> (u8, u8)
     requires { LawfulTables.is_long (long_held table.now) ≡ true }
     ensures { result ≡ numbers_used (long_held table.now) }
@@ -77,7 +77,7 @@ fn section_with(
     Section::long(alloc, head, payload)
 }
 
-/// The sections of the long form, numbered.
+/// The sections of the long form with their numbers.
 fn numbered_sections(alloc: Global, table: &LongTable) -> Result<Vec<Section>, TableRefusal>
     requires { LawfulTables.is_long (long_held table.now) ≡ true }
     ensures { Writes (λ v. v.items) result (Ok (long_sections (long_held table.now))) }
@@ -93,8 +93,8 @@ fn numbered_sections(alloc: Global, table: &LongTable) -> Result<Vec<Section>, T
     Ok(sections)
 }
 
-/// The sections of a table. Tables of a layout are filled as `write_table` fills them; a table of bytes has the
-/// sections that it has.
+/// The sections of a table. Tables of a layout are divided as `write_table` divides them; a table given by its bytes
+/// has the sections that it was given.
 pub fn table_sections(alloc: Global, table: &Table) -> Result<Vec<Section>, TableRefusal>
     requires { IsTable (table_value table.now) }
     ensures { Writes (λ v. v.items) result (sections_of_table (table_value table.now)) }

@@ -1,4 +1,4 @@
-//! Tables as elements of JSON.
+//! Showing tables as JSON elements.
 
 ghost use Rattle.std.specs.Prelude.{◌≡◌, ◌++◌, map, true, IfOk, OnOk};
 ghost use Rattle.serde_json.specs.View.{view, members_view};

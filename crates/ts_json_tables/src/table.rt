@@ -1,13 +1,13 @@
-//! Tables: of a page that is known, or of bytes.
+//! Tables: of a known layout, or given by their bytes.
 
 use ts_table_rows::TableLayout;
 
-/// A table of a layout that is known here.
+/// A table of a known layout.
 #[derive(Drop)]
 pub struct LaidTable {
     /// Its layout.
     pub layout: &'static TableLayout,
-    /// What it holds.
+    /// Its head and its body.
     pub held: ts_table_rows::Table,
 }
 
@@ -16,9 +16,9 @@ pub struct LaidTable {
 pub struct ShortTable {
     /// table_id, 0 to 254.
     pub table_id: u8,
-    /// The bit behind section_syntax_indicator.
+    /// The bit after section_syntax_indicator.
     pub private: bool,
-    /// The bytes behind section_length, at most 4093.
+    /// The bytes after section_length, at most 4093.
     pub payload: Vec<u8>,
 }
 
@@ -33,23 +33,23 @@ pub struct LongTable {
     pub table_id: u8,
     /// table_id_extension.
     pub table_id_extension: u16,
-    /// The bit behind section_syntax_indicator, that of the first section.
+    /// The bit after section_syntax_indicator, that of the first section.
     pub private: bool,
     /// section_number of the one section of an EIT, at most the last; 0 in every other table.
     pub section_number: u8,
     /// last_section_number of the one section of an EIT; 0 in every other table.
     pub last_section_number: u8,
-    /// What stands between head and CRC in each section, at most 4084 bytes: 1 to 256 sections, of an EIT one.
+    /// The bytes between head and CRC of each section, at most 4084: 1 to 256 sections, for an EIT one.
     pub payloads: Vec<Vec<u8>>,
 }
 
 /// A table.
 #[derive(Drop)]
 pub enum Table {
-    /// PAT, CAT or PMT.
+    /// A table of a known layout: PAT, CAT, PMT, NIT, BAT, SDT or EIT.
     Laid(LaidTable),
     /// A section of the short form.
     Short(ShortTable),
-    /// Sections of the long form that are of no known table, or not of its layout.
+    /// Sections of the long form of no known table, or that its layout does not read.
     Long(LongTable),
 }

@@ -1,4 +1,4 @@
-//! Laws of tables and JSON: a function with nothing to run, called where what it ensures is wanted.
+//! Laws of tables and JSON.
 
 ghost use Rattle.std.specs.Prelude.{◌≡◌, ◌≤◌, ℕ, List, false, All, Ok};
 ghost use Rattle.serde_json.specs.Data.{Data, depth};
@@ -19,7 +19,7 @@ use ts_jtree::element_shows;
 use ts_section::made_sections_are_lawful;
 use ts_table_rows::{written_rows_are_whole, written_tables_are_read};
 
-/// Every lawful table that is shown is read again as it was.
+/// Every valid table that is shown is read again as it was. A law; it runs nothing.
 pub fn shown_table_is_read()
     ensures { (t : TableValue) → IsTable t → IsOfBytes t → table_read (table_shown t) ≡ Ok t }
 {
@@ -28,14 +28,14 @@ pub fn shown_table_is_read()
     written_rows_are_whole();
 }
 
-/// The element of a table has no number but whole ones and is at most seven arrays and objects deep, so `serde_json`
-/// tells its text and reads it again.
+/// The element of a table has only whole numbers and is at most seven arrays and objects deep, so that `serde_json`
+/// writes its text and reads it again. A law; it runs nothing.
 pub fn shown_table_is_plain()
     ensures whole { (t : TableValue) → has_float (table_shown t) ≡ false }
     ensures shallow { (t : TableValue) → depth (table_shown t) ≤ 7 }
 {}
 
-/// The table of a run of lawful sections has descriptors that are some, and bytes below 256.
+/// The table of a run of valid sections has valid descriptors, and bytes below 256. A law; it runs nothing.
 pub fn run_tables_are_of_bytes()
     ensures { (run : List (List ℕ)) → All (λ s. IsSection s) run → IsOfBytes (table_of_run run) }
 {
@@ -43,7 +43,7 @@ pub fn run_tables_are_of_bytes()
     read_bytes_are_spelled();
 }
 
-/// Every table that is read is lawful, has descriptors that are some, and bytes below 256.
+/// Every table that is read is valid, has valid descriptors, and bytes below 256. A law; it runs nothing.
 pub fn read_tables_are_lawful()
     ensures { (value : Data) (t : TableValue) → table_read value ≡ Ok t → IsTable t × IsOfBytes t }
 {
@@ -51,8 +51,8 @@ pub fn read_tables_are_lawful()
     read_bytes_are_spelled();
 }
 
-/// The sections of a lawful table, where it has some, are lawful and are the whole run of one table: that table again, or,
-/// of a table of bytes whose sections read as the table of their table_id, that one.
+/// The sections of a valid table, where it has some, are valid and are the whole run of one table: that table again, or,
+/// for a table given by its bytes whose sections read as the table of their table_id, that one. A law; it runs nothing.
 pub fn sections_tell_their_table()
     ensures told { (t : TableValue) (ss : List (List ℕ)) → IsTable t → IsOfBytes t → sections_of_table t ≡ Ok ss
         → TellsTable (told_again t) ss }

@@ -1,4 +1,4 @@
-//! What the attributes of a table's element hold, in their order.
+//! The values of the attributes of a table's element, in order.
 
 ghost use Rattle.std.specs.Prelude.{◌≡◌, ◌++◌, ◌∷◌, [], map, take, drop, IfOk, OnOk, if◌then◌else◌, Some, None};
 ghost use Rattle.ts_fields.specs.Layout.{held, number};
@@ -16,7 +16,7 @@ use std::alloc::{AllocError, Global};
 use ts_fields::FieldValue;
 use ts_table_rows::{TableItem, TableLayout, held_count};
 
-/// Adds a number.
+/// Appends a number.
 fn push_number(values: &mut Vec<FieldValue>, value: u64) -> Result<(), AllocError>
     ensures { OnOk result (map held values.new.items ≡ map held values.old.items ++ number value ∷ []) }
 {
@@ -24,14 +24,14 @@ fn push_number(values: &mut Vec<FieldValue>, value: u64) -> Result<(), AllocErro
     Ok(())
 }
 
-/// Adds a truth value.
+/// Appends a Boolean.
 fn push_truth(values: &mut Vec<FieldValue>, value: bool) -> Result<(), AllocError>
     ensures { OnOk result (map held values.new.items ≡ map held values.old.items ++ truth value ∷ []) }
 {
     push_number(values, u64::from(value))
 }
 
-/// An equal value.
+/// A copy of the value.
 fn copy_of(alloc: Global, value: &FieldValue) -> Result<FieldValue, AllocError>
     ensures { IfOk result (λ v. held v ≡ held value.now) }
 {
@@ -41,7 +41,7 @@ fn copy_of(alloc: Global, value: &FieldValue) -> Result<FieldValue, AllocError>
     }
 }
 
-/// Adds values equal to these.
+/// Appends copies of these values.
 fn push_copies(
     alloc: Global,
     values: &mut Vec<FieldValue>,
@@ -56,7 +56,7 @@ fn push_copies(
     Ok(())
 }
 
-/// Adds which of its table_ids a table has.
+/// Appends the value for the table_id of a table, where it needs one.
 fn push_id(values: &mut Vec<FieldValue>, ids: &[(u8, u8)], id: u8) -> Result<(), AllocError>
     ensures { OnOk result (map held values.new.items ≡ map held values.old.items ++ id_values ids.now id) }
 {
@@ -72,7 +72,7 @@ fn push_id(values: &mut Vec<FieldValue>, ids: &[(u8, u8)], id: u8) -> Result<(),
     }
 }
 
-/// Adds table_id_extension, where it is not reserved.
+/// Appends table_id_extension, where it is not reserved.
 fn push_extension(
     values: &mut Vec<FieldValue>,
     name: &str,
@@ -87,7 +87,7 @@ fn push_extension(
     push_number(values, u64::from(extension))
 }
 
-/// Adds the section numbers, where they are kept.
+/// Appends the section numbers, where they are kept.
 fn push_kept(values: &mut Vec<FieldValue>, numbers: Option<(u8, u8)>) -> Result<(), AllocError>
     ensures { OnOk result (map held values.new.items ≡ map held values.old.items ++ kept_values numbers) }
 {
@@ -98,7 +98,7 @@ fn push_kept(values: &mut Vec<FieldValue>, numbers: Option<(u8, u8)>) -> Result<
     push_number(values, u64::from(last))
 }
 
-/// Whether the number that stands first in an item is 0.
+/// Whether the first value of an item is the number 0.
 pub fn is_zero(item: &TableItem) -> bool
     ensures { result ≡ body.is_zero (body.first_number (item_held item.now).values) }
 {
@@ -108,7 +108,7 @@ pub fn is_zero(item: &TableItem) -> bool
     }
 }
 
-/// Whether the first item is one of 0, where such a one may stand.
+/// Whether the first item has the number 0, in a table that may have such an item.
 pub fn begins_with_zero(one_zero: bool, items: &[TableItem]) -> bool
     ensures { result ≡ TableElements.begins_with_zero one_zero (map item_held items.now) }
 {
@@ -118,7 +118,7 @@ pub fn begins_with_zero(one_zero: bool, items: &[TableItem]) -> bool
     }
 }
 
-/// Adds what an item of 0, which is the first, holds behind the 0.
+/// Appends the values after the 0 of the first item, which has the number 0.
 fn push_network(
     alloc: Global,
     values: &mut Vec<FieldValue>,
@@ -152,7 +152,7 @@ fn parted(values: &[FieldValue], place: usize) -> (&[FieldValue], &[FieldValue])
     }
 }
 
-/// What the attributes of a table of a layout hold.
+/// The values of the attributes of a table of a layout.
 pub fn element_values(
     alloc: Global,
     layout: &TableLayout,
@@ -175,7 +175,7 @@ pub fn element_values(
     Ok(values)
 }
 
-/// What the attributes of a section of the short form hold.
+/// The values of the attributes of a section of the short form.
 pub fn short_values(alloc: Global, table: &ShortTable) -> Result<Vec<FieldValue>, AllocError>
     ensures { IfOk result (λ v. map held v.items ≡ TableElements.short_values (short_held table.now)) }
 {
@@ -187,14 +187,14 @@ pub fn short_values(alloc: Global, table: &ShortTable) -> Result<Vec<FieldValue>
     Ok(values)
 }
 
-/// Whether a table_id is one of an EIT's.
+/// Whether a table_id is one of an EIT.
 pub fn is_eit_id(id: u8) -> bool
     ensures { result ≡ ElementRows.is_eit_id id }
 {
     0x4E <= id && id <= 0x6F
 }
 
-/// The section numbers of a table of bytes, which only an EIT keeps.
+/// The section numbers of a table given by its bytes, which only an EIT keeps.
 fn numbers_shown(table: &LongTable) -> Option<(u8, u8)>
     ensures { result ≡ (if ElementRows.is_eit_id table.now.table_id then Some (long_held table.now).numbers else None) }
 {
@@ -205,7 +205,7 @@ fn numbers_shown(table: &LongTable) -> Option<(u8, u8)>
     }
 }
 
-/// What the attributes of sections of the long form hold.
+/// The values of the attributes of sections of the long form.
 pub fn long_values(alloc: Global, table: &LongTable) -> Result<Vec<FieldValue>, AllocError>
     ensures { IfOk result (λ v. map held v.items ≡ TableElements.long_values (long_held table.now)) }
 {

@@ -178,13 +178,13 @@ text_read : TextsTell → (key b : List ℕ) (final ms : Members) → are_bytes 
 text_read tell key b final ms fit none same same_hex =
     text_read_by tell (text_of b) key b final ms fit none refl same same_hex
 
--- what the laws of texts and times say, which are on the contracts of the crates below
+-- what the laws of texts and times say, by the contracts of the crates below
 pub record Laws : Type 0 where
   pub texts : TextsTell
   pub starts : (n : ℕ) → n < 2 ^ 40 → is_start n ≡ true → start_of (start_text n) ≡ Some n
   pub times : (hours n : ℕ) → is_time hours n ≡ true → time_of hours (time_text n) ≡ Some n
 
--- what a field keeps of a value: reserved bits none
+-- the value of a field; none for reserved bits
 abbrev kept : Kind → Option Held → Option Held
 kept (Ones count) value = None
 kept (Free count) value = None
@@ -284,7 +284,7 @@ own_key (Decimal digits) name key is = inl ((bytes_eq-Decides key name).0 is)
 own_key Language name key is = inl ((bytes_eq-Decides key name).0 is)
 own_key Hex name key is = inl ((bytes_eq-Decides key name).0 is)
 
--- a later row's key is none of an earlier row's
+-- a later row's key differs from those of an earlier row
 pub later_key : (r : Row) (rs : List Row) (key : List ℕ) (own : Bool) → is_key_of r.kind r.name key ≡ own
     → is_key rs key ≡ true → is_key rs r.name ≡ false → is_key rs (hex_key r.name) ≡ false
     → is_key_of r.kind r.name key ≡ false
@@ -294,7 +294,7 @@ later_key r rs key true is later name_not hex_not = elim (own_key r.kind r.name 
   | inr e ↦ let n = ap (is_key rs) e in cc
 ]
 
--- the first row's keys are none of the later rows'
+-- the first row's keys differ from those of the later rows
 pub record Apart (r : Row) (rs : List Row) : Type 0 where
   pub name : is_key rs r.name ≡ false
   pub hex : is_key rs (hex_key r.name) ≡ false

@@ -11,7 +11,7 @@ use Rattle.ts_jtree.specs.Attributes.{read_attribute, read_attributes}
 use Rattle.ts_jtree.specs.Faults.{Reading, Stops, ◌>>=◌}
 use Rattle.ts_jtree.proofs.RowLemmas.{rows_left}
 
--- what is read with what was read before
+-- what is read, after what was read before
 abbrev pub with_values : List Held → Reading (List Held) → Reading (List Held)
 with_values front read = read >>= λ more. Ok (front ++ more)
 

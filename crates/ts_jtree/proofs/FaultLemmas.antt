@@ -1,4 +1,4 @@
--- Reading that goes on and that stops.
+-- Reading that continues and that stops.
 use Rattle.std.proofs.Common.{◌≡◌, ℕ, List, [], ◌∷◌, refl, sym, ap}
 use Rattle.std.specs.Prelude.{Some, None, Ok, Err, slice_get}
 use Rattle.serde_json.specs.declared.value.Value.{Value}
@@ -22,7 +22,7 @@ child_stops (Json fault) (Json other) place read is at = rw is (ap Err (sym at))
 child_stops (Json fault) NoMemory place read is at = tt
 child_stops NoMemory told place read is at = rw at tt
 
--- where reading went on, each of its steps did
+-- where reading continued, each of its steps did
 pub then_ok : {A B P : Type 0} (read : Reading A) (next : A → Reading B) (y : B) → (read >>= next) ≡ Ok y
     → ((x : A) → read ≡ Ok x → next x ≡ Ok y → P) → P
 then_ok (Ok x) next y is goal = goal x refl is

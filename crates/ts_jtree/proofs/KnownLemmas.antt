@@ -1,4 +1,4 @@
--- An element that is shown has a name, known keys alone, its values and its children.
+-- An element that is shown has its name, only known keys, its values and its children.
 use Rattle.std.proofs.Common.{◌≡◌, ℕ, Bool, true, false, List, [], ◌∷◌, drop, refl, ap, ◌∙◌, Ordering, Less, Equal, Greater}
 use Rattle.std.specs.Prelude.{Option, Some, None, Ok, Err, slice_get, bytes_eq, not, ◌&&◌, if◌then◌else◌}
 use Rattle.std.specs.Ordering.{nat_cmp, match_ordering}

@@ -28,7 +28,7 @@ numeral_test radix ds = Decides-and _ _ (Decides-ltb 0 (length ds)) (digits_test
 is_some_numeral : (radix : ℕ) (ds : List ℕ) → IsNumeral radix ds → numeral radix ds ≡ Some (digits_value radix ds)
 is_some_numeral radix ds h = ap (λ b. cond b (Some (digits_value radix ds)) None) ((numeral_test radix ds).1 h)
 
--- what is no numeral of at most 64 bits has no number below 2^64
+-- what is not a numeral of at most 64 bits has no number below 2^64
 none_below : (radix : ℕ) (ds : List ℕ) → (IsNumeral radix ds × (digits_value radix ds < 2 ^ 64) → ⊥)
     → IfSome (numeral radix ds) (λ n. 2 ^ 64 ≤ n)
 none_below radix ds never =

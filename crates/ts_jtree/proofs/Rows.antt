@@ -31,12 +31,12 @@ plus-row : number_of (string (codes "+7")) ≡ None
 unfolding number_of number_of_text
 plus-row = refl
 
--- a negative number is none
+-- a negative number gives none
 negative-row : number_of (number (negative (negsuc 0))) ≡ None
 unfolding number_of
 negative-row = refl
 
--- a truth value, its word, and what is neither
+-- a Boolean, its word, and what is neither
 truth-row : bit_of (boolean true) ≡ Some 1
 unfolding bit_of
 truth-row = refl
@@ -49,7 +49,7 @@ null-row : bit_of null ≡ None
 unfolding bit_of
 null-row = refl
 
--- of two attributes that are wrong the first row's is told, whatever is wrong with it
+-- of two wrong attributes the first row's is reported, whatever is wrong with it
 first-row : read_attributes (record { name = codes "b"; kind = Number 8; absent = None; range = None } ∷ record { name = codes "a"; kind = Number 8; absent = None; range = None } ∷ [])
     (member (codes "b") (number (unsigned 256)) no_members) ≡ Err (fault_of (codes "b") OutOfRange)
 unfolding read_attributes attribute_of number_attribute number_in number_of

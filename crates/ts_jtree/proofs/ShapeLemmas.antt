@@ -1,4 +1,4 @@
--- What is read from attributes has numbers where numbers are wanted.
+-- What is read from attributes has numbers where the rows ask for numbers.
 use Rattle.std.proofs.Common.{◌≡◌, ℕ, true, List, [], ◌∷◌, ◌++◌, drop, refl}
 use Rattle.std.specs.Prelude.{Option, Some, None, Ok, Err, slice_get, option_to_list}
 use Rattle.serde_json.specs.Data.{Members}

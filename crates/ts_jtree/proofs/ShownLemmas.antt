@@ -62,7 +62,7 @@ through : (found : Option (Bor FieldValue))
 through None = refl
 through (Some x) = refl
 
--- what a value of the code's holds
+-- what a value of the code holds
 pub held_at : (found : Option (Bor FieldValue)) (values : List FieldValue) (i : ℕ)
     → option_map (λ v. v.now) found ≡ slice_get values i
     → option_map (λ v. held v.now) found ≡ slice_get (map held values) i

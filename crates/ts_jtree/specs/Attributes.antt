@@ -1,6 +1,6 @@
 -- Attributes of an element.
--- This project's own rule: the attributes of an element stand for the fields of its rows, in their order. Of
--- one it is told first that it is missing, then that it is not of its form, then that it is out of range.
+-- This project's own rule: the attributes of an element give the fields of its rows, in their order. The faults of
+-- one are looked for in this order: it is missing, it has the wrong form, it is out of range.
 use Rattle.std.specs.Prelude.{ℕ, ◌-◌, ◌^◌, ◌&&◌, List, [], ◌∷◌, ◌++◌, length, codes, Bool, true, nat_eq, nat_le, if◌then◌else◌, Option, Some, None, option_to_list, Result, Ok, Err}
 use Rattle.hex.specs.Hex.{decode_of}
 use Rattle.serde_json.specs.Data.{Data, Members}
@@ -16,7 +16,7 @@ use Rattle.ts_jtree.specs.declared.fault.JsonKind.TheVariants.{Missing, WrongKin
 use Rattle.ts_jtree.specs.Faults.{Reading, refuse, or_refuse, ◌>>=◌}
 use Rattle.ts_jtree.specs.Numbers.{number_of, bit_of}
 
--- whether a number lies in a row's range, if that has one
+-- whether a number lies in a row's range, where the row has one
 abbrev pub within : Option (ℕ × ℕ) → ℕ → Bool
 within None n = true
 within (Some x) n = nat_le x.0 n && nat_le n x.1
@@ -31,19 +31,21 @@ number_in range widest key value = do
   n ← or_refuse (number_of value) key WrongKind
   in_range range widest key n
 
--- the number at a key, or the one that stands for an absent one
+-- the number at a key, or the default of an absent one
 abbrev pub number_at : Option ℕ → Option (ℕ × ℕ) → ℕ → List ℕ → Option Data → Reading ℕ
 number_at absent range widest key None = or_refuse absent key Missing
 number_at absent range widest key (Some value) = number_in range widest key value
 
+-- the number of an attribute, or its default where the key is absent
 unfoldable pub number_attribute : Option ℕ → Option (ℕ × ℕ) → ℕ → List ℕ → Members → Reading ℕ
 number_attribute absent range widest key ms = number_at absent range widest key (get_member key ms)
 
--- the bit of the truth value at a key, or the one that stands for an absent one
+-- the bit of the Boolean at a key, or the default of an absent one
 abbrev pub flag_at : Option ℕ → List ℕ → Option Data → Reading ℕ
 flag_at absent key None = or_refuse absent key Missing
 flag_at absent key (Some value) = or_refuse (bit_of value) key WrongKind
 
+-- the bit of an attribute, or its default where the key is absent
 unfoldable pub flag_attribute : Option ℕ → List ℕ → Members → Reading ℕ
 flag_attribute absent key ms = flag_at absent key (get_member key ms)
 
@@ -71,7 +73,7 @@ language_attribute key ms = do
   text ← text_at key ms
   if nat_eq (length text) 3 && are_printable text then Ok text else refuse key WrongKind
 
--- what was decoded, without the reason where nothing was
+-- what was decoded, without the reason of an error
 abbrev pub ok_part : {A E : Type 0} → Result A E → Option A
 ok_part (Ok x) = Some x
 ok_part (Err e) = None
@@ -83,16 +85,17 @@ hex_at key (Some value) = do
   text ← or_refuse (as_str value) key WrongKind
   or_refuse (ok_part (decode_of text)) key WrongKind
 
+-- the bytes that hexadecimal digits at a key write; none where the key is absent
 unfoldable pub hex_attribute : List ℕ → Members → Reading (List ℕ)
 hex_attribute key ms = hex_at key (get_member key ms)
 
--- the same, their number in the row's range
+-- the bytes that hexadecimal digits at a key write, where their number is in the row's range
 unfoldable pub data_attribute : Option (ℕ × ℕ) → List ℕ → Members → Reading (List ℕ)
 data_attribute range key ms = do
   b ← hex_attribute key ms
   if within range (length b) then Ok b else refuse key OutOfRange
 
--- the key that has the bytes of a text which is none in JSON
+-- the key for the bytes of a text that JSON cannot show
 abbrev pub hex_key : List ℕ → List ℕ
 hex_key key = key ++ codes "_hex"
 
@@ -103,17 +106,19 @@ text_or_hex key ms (Some value) = do
   text ← or_refuse (as_str value) key WrongKind
   Ok (text_bytes text)
 
+-- the bytes of a text attribute, or else those at its key for bytes
 unfoldable pub text_attribute : List ℕ → Members → Reading (List ℕ)
 text_attribute key ms = text_or_hex key ms (get_member key ms)
 
--- what a field holds that has this number, or these bytes
+-- the value of a field with this number
 abbrev pub holds_number : Reading ℕ → Reading (Option Held)
 holds_number read = read >>= λ n. Ok (Some (rows.number n))
 
+-- the value of a field with these bytes
 abbrev pub holds_bytes : Reading (List ℕ) → Reading (Option Held)
 holds_bytes read = read >>= λ b. Ok (Some (rows.bytes b))
 
--- what a field of this kind and name holds; reserved bits have no attribute
+-- the value of a field of this kind and name; reserved bits have no attribute
 unfoldable pub attribute_of : Kind → List ℕ → Option ℕ → Option (ℕ × ℕ) → Members → Reading (Option Held)
 attribute_of (Number count) key absent range ms =
     holds_number (number_attribute absent range (2 ^ count - 1) key ms)
@@ -129,10 +134,11 @@ attribute_of CountedText key absent range ms = holds_bytes (text_attribute key m
 attribute_of Text key absent range ms = holds_bytes (text_attribute key ms)
 attribute_of Hex key absent range ms = holds_bytes (data_attribute range key ms)
 
+-- the value of the field of a row; none for reserved bits
 abbrev pub read_attribute : Row → Members → Reading (Option Held)
 read_attribute r ms = attribute_of r.kind r.name r.absent r.range ms
 
--- what the fields of some rows hold, in the order of the rows
+-- the values of the fields of some rows, in the order of the rows
 unfoldable pub read_attributes : List Row → Members → Reading (List Held)
 read_attributes [] ms = Ok []
 read_attributes (r ∷ rs) ms = do

@@ -1,6 +1,6 @@
 -- Elements: objects with a name, attributes and children.
--- This project's own rule: an element is checked in the order of its steps, a line of `read_element` each, and
--- what is wrong first is told.
+-- This project's own rule: an element is checked in the order of its steps, one line of `read_element` each, and
+-- the first fault is reported.
 use Rattle.std.specs.Prelude.{ℕ, ◌&&◌, ◌||◌, List, [], ◌∷◌, codes, Bool, false, is_none, bytes_eq, if◌then◌else◌, Option, Some, None, Ok}
 use Rattle.serde_json.specs.Data.{Data, Items, no_items, item, Members, no_members, member}
 use Rattle.serde_json.specs.Find.{get_member, as_object, as_str, as_array}
@@ -66,10 +66,11 @@ abbrev pub nodes_at : Option Data → Reading Items
 nodes_at None = Ok no_items
 nodes_at (Some value) = or_refuse (as_array value) nodes_key WrongKind
 
+-- the children of an element
 unfoldable pub nodes_of : Members → Reading Items
 nodes_of ms = nodes_at (get_member nodes_key ms)
 
--- what an element of this name holds, and its children, which are still to be checked
+-- the values of an element of this name, and its children, which are still to be checked
 unfoldable pub read_element : List ℕ → List Row → Data → Reading (List Held × Items)
 read_element wanted rs value = do
   ms ← members_of value
@@ -80,14 +81,14 @@ read_element wanted rs value = do
   nodes ← nodes_of ms
   Ok (values, nodes)
 
--- an element where no name may stand
+-- an element where no element may stand
 unfoldable pub read_stranger : Data → Reading (List (List Held))
 read_stranger value = do
   ms ← members_of value
   _ ← name_of ms
   refuse name_key UnknownKey
 
--- there are no children; the first that there is is at fault
+-- there are no children; the first of them is at fault
 unfoldable pub no_children : Items → Reading (List (List Held))
 no_children no_items = Ok []
 no_children (item value more) = at_child 0 (read_stranger value)

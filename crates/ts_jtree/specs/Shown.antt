@@ -1,6 +1,6 @@
 -- How elements are written.
--- This project's own rule: every attribute is written, whatever it is by default; numbers are numbers, flags
--- truth values, bytes lower case, and a text that is none in JSON is written by its bytes alone.
+-- This project's own rule: every attribute is written, defaults too; numbers are numbers, flags Booleans,
+-- bytes lower case hexadecimal digits, and a text that JSON cannot show is written only as its bytes.
 use Rattle.std.specs.Prelude.{ℕ, ◌&&◌, ◌||◌, List, [], ◌∷◌, drop, length, Bool, true, false, not, bytes_eq, nat_eq, slice_get, Option, Some, None}
 use Rattle.hex.specs.Hex.{encode_lower}
 use Rattle.serde_json.specs.Data.{Data, boolean, string, number, unsigned, Members, no_members, put}
@@ -15,12 +15,13 @@ use Rattle.ts_days.specs.TimeTexts.{start_text, time_text}
 use Rattle.ts_jtree.specs.Attributes.{hex_key, within}
 use Rattle.ts_jtree.specs.Elements.{name_key, nodes_key}
 
--- the members with what a number, or some bytes, are shown as
+-- the members with a number as it is shown; without one, as they are
 abbrev pub put_number : Option Held → List ℕ → Members → (ℕ → Data) → Members
 put_number None key ms show = ms
 put_number (Some (rows.number n)) key ms show = put key (show n) ms
 put_number (Some (rows.bytes b)) key ms show = ms
 
+-- the members with bytes as they are shown; without them, as they are
 abbrev pub put_bytes : Option Held → Members → (List ℕ → Members) → Members
 put_bytes None ms show = ms
 put_bytes (Some (rows.number n)) ms show = ms
@@ -30,11 +31,12 @@ put_bytes (Some (rows.bytes b)) ms show = show b
 abbrev pub put_hex : List ℕ → List ℕ → Members → Members
 put_hex key b ms = put key (string (encode_lower b)) ms
 
--- a text, or else the bytes under the key for bytes
+-- a text, or else its bytes at the key for bytes
 abbrev pub put_text_of : Option (List ℕ) → List ℕ → List ℕ → Members → Members
 put_text_of (Some text) key b ms = put key (string text) ms
 put_text_of None key b ms = put_hex (hex_key key) b ms
 
+-- the bytes of a text, as a text where JSON can show it, or else at the key for bytes
 abbrev pub put_text : List ℕ → List ℕ → Members → Members
 put_text key b ms = put_text_of (text_of b) key b ms
 
@@ -58,11 +60,12 @@ put_attributes [] values ms = ms
 put_attributes (r ∷ rs) values ms =
     put_attributes rs (drop (holds r.kind) values) (put_attribute r.kind r.name (slice_get values 0) ms)
 
--- a language is shown as it is where it is printable
+-- a language is shown where it is printable
 abbrev pub is_shown : Kind → Option Held → Bool
 is_shown Language (Some (rows.bytes b)) = are_printable b
 is_shown _ _ = true
 
+-- all values can be shown
 unfoldable pub are_shown : List Row → List Held → Bool
 are_shown [] values = true
 are_shown (r ∷ rs) values = is_shown r.kind (slice_get values 0) && are_shown rs (drop (holds r.kind) values)
@@ -75,6 +78,7 @@ is_key_of CountedText name key = bytes_eq key name || bytes_eq key (hex_key name
 is_key_of Text name key = bytes_eq key name || bytes_eq key (hex_key name)
 is_key_of _ name key = bytes_eq key name
 
+-- the keys that the fields of some rows may be written under
 abbrev pub is_key : List Row → List ℕ → Bool
 is_key [] key = false
 is_key (r ∷ rs) key = is_key_of r.kind r.name key || is_key rs key

@@ -1,4 +1,4 @@
-//! Attributes of an element.
+//! Reading the attributes of an element.
 
 ghost use Rattle.std.specs.Prelude.{◌≡◌, ◌++◌, ◌-◌, ◌^◌, ◌<◌, map, option_map, option_to_list, IfOk, OnOk, IsTrue};
 ghost use Rattle.std.specs.String.{string_bytes};
@@ -25,7 +25,7 @@ pub fn member<'a>(members: &'a Map<String, Value>, key: &str) -> Option<&'a Valu
     members.get(key)
 }
 
-/// The number that stands for an absent one.
+/// The default number of an absent attribute; `Missing` where there is no default.
 fn absent_number(alloc: Global, key: &str, absent: Option<u64>) -> Result<u64, ReadRefusal>
     ensures { Answers (λ n. n) result (or_refuse absent key.now Missing) }
 {
@@ -35,7 +35,7 @@ fn absent_number(alloc: Global, key: &str, absent: Option<u64>) -> Result<u64, R
     }
 }
 
-/// Whether a number lies in a range, if there is one.
+/// Whether a number lies in the range, where there is one.
 fn is_within(range: Option<(u64, u64)>, number: u64) -> bool
     ensures { result ≡ within range number }
 {
@@ -45,7 +45,7 @@ fn is_within(range: Option<(u64, u64)>, number: u64) -> bool
     }
 }
 
-/// A number that is at most `widest` and in its range.
+/// The number where it is at most `widest` and in its range; else `OutOfRange`.
 fn check_number(
     alloc: Global,
     key: &str,
@@ -64,7 +64,7 @@ fn check_number(
     Ok(number)
 }
 
-/// The number of a value, at most `widest` and in its range.
+/// The number that a value is, at most `widest` and in its range.
 fn read_present(
     alloc: Global,
     key: &str,
@@ -100,7 +100,7 @@ fn read_number(
     read_present(alloc, field.name, field.range, widest, value)
 }
 
-/// The truth value at a key, as a bit.
+/// The Boolean at a key, as a bit.
 #[tactic(auto, unfolding(crate::specs::Attributes::flag_attribute))]
 fn read_flag(alloc: Global, members: &Map<String, Value>, field: &Field) -> Result<u64, ReadRefusal>
     ensures { Answers (λ n. n) result (flag_attribute field.now.absent field.now.name.now
@@ -177,7 +177,7 @@ fn read_language(
     Ok(Vec::from_slice(alloc, text.as_bytes())?)
 }
 
-/// The bytes that hexadecimal digits at a key write; none where the key is absent.
+/// The bytes that the hexadecimal digits at a key write; none where the key is absent.
 #[tactic(auto, unfolding(crate::specs::Attributes::hex_attribute))]
 fn read_hex(alloc: Global, members: &Map<String, Value>, key: &str) -> Result<Vec<u8>, ReadRefusal>
     ensures { Answers (λ b. b.items) result (hex_attribute key.now (members_view members.now.entries)) }
@@ -195,7 +195,7 @@ fn read_hex(alloc: Global, members: &Map<String, Value>, key: &str) -> Result<Ve
     }
 }
 
-/// The same, their number in the row's range.
+/// The bytes that the hexadecimal digits at a key write, where their number is in the row's range.
 #[tactic(auto, unfolding(crate::specs::Attributes::data_attribute))]
 fn read_data(
     alloc: Global,
@@ -228,7 +228,7 @@ fn read_text(alloc: Global, members: &Map<String, Value>, key: &str) -> Result<V
     Ok(text_bytes(alloc, text)?)
 }
 
-/// The key that has the bytes of a text which is none in JSON.
+/// The key for the bytes of a text that JSON cannot show.
 pub(crate) fn hex_key(alloc: Global, key: &str) -> Result<String, AllocError>
     ensures { IfOk result (λ text. string_bytes text ≡ Attributes.hex_key key.now) }
 {
@@ -237,7 +237,7 @@ pub(crate) fn hex_key(alloc: Global, key: &str) -> Result<String, AllocError>
     Ok(hex_key)
 }
 
-/// What a field holds by its attribute; none where its bits are reserved.
+/// The value of a field by its attribute; none where its bits are reserved.
 #[tactic(auto, unfolding(crate::specs::Attributes::attribute_of))]
 fn read_attribute(
     alloc: Global,
@@ -285,7 +285,7 @@ fn read_attribute(
     }
 }
 
-/// What the fields of some rows hold by their attributes, in the order of the rows; reserved bits are left
+/// The values of the fields of some rows by their attributes, in the order of the rows; reserved bits are left
 /// out.
 pub fn read_attributes(
     alloc: Global,
@@ -304,7 +304,7 @@ pub fn read_attributes(
     Ok(values)
 }
 
-/// Adds what a field holds, if its bits are not reserved.
+/// Appends the value of a field, where its bits are not reserved.
 fn add(
     values: &mut Vec<FieldValue>,
     value: Option<FieldValue>,

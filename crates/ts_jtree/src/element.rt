@@ -1,4 +1,4 @@
-//! An element, step by step.
+//! Reading an element, step by step.
 
 ghost use Rattle.std.specs.Prelude.{◌≡◌, ◌||◌, [], map, IsTrue, is_none, bytes_eq};
 ghost use Rattle.serde_json.specs.View.{view, items_view, members_view};
@@ -21,7 +21,7 @@ const NAME: &str = "#name";
 /// The key of an element's children.
 const NODES: &str = "#nodes";
 
-/// The members of an element: `WrongKind` on `#name` where the value is no object.
+/// The members of an element: `WrongKind` on `#name` where the value is not an object.
 pub fn members(alloc: Global, value: &Value) -> Result<&Map<String, Value>, ReadRefusal>
     ensures { Answers (λ m. members_view m.now.entries) result (members_of (view value.now)) }
 {
@@ -31,7 +31,7 @@ pub fn members(alloc: Global, value: &Value) -> Result<&Map<String, Value>, Read
     }
 }
 
-/// The name of an element: `Missing` or `WrongKind` on `#name` where it has none, or one that is no text.
+/// The name of an element: `Missing` on `#name` where it has none, `WrongKind` where the name is not a text.
 #[tactic(auto, unfolding(crate::specs::Elements::name_of))]
 pub fn element_name(alloc: Global, members: &Map<String, Value>) -> Result<&str, ReadRefusal>
     ensures { Answers (λ name. name.now) result (name_of (members_view members.now.entries)) }
@@ -45,7 +45,7 @@ pub fn element_name(alloc: Global, members: &Map<String, Value>) -> Result<&str,
     }
 }
 
-/// The name is the one that may stand here, else `UnknownKey` on `#name`.
+/// Checks that the name is the one that may stand here; else `UnknownKey` on `#name`.
 pub fn check_name(alloc: Global, wanted: &str, name: &str) -> Result<(), ReadRefusal>
     ensures { Answers (λ _. []) result (named wanted.now name.now) }
 {
@@ -55,7 +55,7 @@ pub fn check_name(alloc: Global, wanted: &str, name: &str) -> Result<(), ReadRef
     Ok(())
 }
 
-/// Every key is known, else `UnknownKey` on the first that is not, in byte order.
+/// Checks that every key is known; else `UnknownKey` on the first that is not, in byte order.
 pub fn check_keys(
     alloc: Global,
     rows: &[Field],
@@ -73,14 +73,14 @@ pub fn check_keys(
     Ok(())
 }
 
-/// Whether a key is one of an element with these rows.
+/// Whether a key is known in an element with these rows.
 fn is_known_key(rows: &[Field], members: &Map<String, Value>, key: &str) -> bool
     ensures { result ≡ is_known (rows_of rows.now) (members_view members.now.entries) key.now }
 {
     key == NAME || key == NODES || is_some_field_key(rows, members, key)
 }
 
-/// Whether a key is one of these rows.
+/// Whether a key belongs to one of these rows.
 fn is_some_field_key(rows: &[Field], members: &Map<String, Value>, key: &str) -> bool
     ensures { result ≡ names_some (rows_of rows.now) (members_view members.now.entries) key.now }
 {
@@ -92,7 +92,7 @@ fn is_some_field_key(rows: &[Field], members: &Map<String, Value>, key: &str) ->
     false
 }
 
-/// Whether a key is one of a field.
+/// Whether a key belongs to a field.
 fn is_field_key(field: &Field, members: &Map<String, Value>, key: &str) -> bool
     ensures { result
         ≡ names_field (row field.now).kind (row field.now).name (members_view members.now.entries) key.now }
@@ -107,7 +107,7 @@ fn is_field_key(field: &Field, members: &Map<String, Value>, key: &str) -> bool
     }
 }
 
-/// Whether a key is the one for the bytes of a text of this name.
+/// Whether a key is the one for the bytes of the text with this name.
 fn is_hex_key(name: &str, key: &str) -> bool
     ensures { result ≡ bytes_eq key.now (Attributes.hex_key name.now) }
 {
@@ -122,7 +122,7 @@ fn is_hex_key(name: &str, key: &str) -> bool
     back == b"_hex".as_slice()
 }
 
-/// The children of an element, none where `#nodes` is absent: `WrongKind` on `#nodes` where it is no array.
+/// The children of an element, none where `#nodes` is absent: `WrongKind` on `#nodes` where it is not an array.
 #[tactic(auto, unfolding(crate::specs::Elements::nodes_of))]
 pub fn children(alloc: Global, members: &Map<String, Value>) -> Result<&[Value], ReadRefusal>
     ensures { Answers (λ nodes. items_view nodes.now) result (nodes_of (members_view members.now.entries)) }
@@ -136,7 +136,7 @@ pub fn children(alloc: Global, members: &Map<String, Value>) -> Result<&[Value],
     }
 }
 
-/// Why a child is refused where no name may stand.
+/// Why a child is refused where no child may stand.
 #[tactic(auto, unfolding(crate::specs::Elements::read_stranger))]
 fn refuse_stranger(alloc: Global, value: &Value) -> ReadRefusal
     ensures { Stops result (read_stranger (view value.now)) }
@@ -151,7 +151,7 @@ fn refuse_stranger(alloc: Global, value: &Value) -> ReadRefusal
     }
 }
 
-/// There are no children; the first that there is is refused.
+/// Checks that there are no children; else the first of them is refused.
 pub fn no_children(alloc: Global, nodes: &[Value]) -> Result<(), ReadRefusal>
     ensures { Answers (λ _. []) result (Elements.no_children (items_view nodes.now)) }
 {
@@ -161,7 +161,7 @@ pub fn no_children(alloc: Global, nodes: &[Value]) -> Result<(), ReadRefusal>
     Err(at_child(alloc, 0, refuse_stranger(alloc, value)))
 }
 
-/// What an element of this name holds, in the order of the rows, and its children, which are still to be
+/// The values of an element of this name, in the order of the rows, and its children, which are still to be
 /// checked. The steps come in this order: an object, its name, the name that may stand here, known keys, the
 /// attributes one after another, children that are an array.
 #[tactic(auto, unfolding(crate::specs::Elements::read_element))]

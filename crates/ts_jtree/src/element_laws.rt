@@ -1,4 +1,4 @@
-//! Laws of elements: functions with nothing to run, called where what they ensure is wanted.
+//! Laws of elements.
 
 ghost use Rattle.std.specs.Prelude.{◌≡◌, List, ℕ, true, [], None, Ok, Option};
 ghost use Rattle.serde_json.specs.Data.{Data, Members};
@@ -12,7 +12,7 @@ ghost use Rattle.ts_jtree.specs.Shown.{put_attributes, are_within, are_shown, ke
 use ts_days::texts_tell_numbers;
 use ts_fields::texts_tell_bytes;
 
-/// Attributes that are shown are read again as they were.
+/// Attributes that are shown are read again as they were. A law; it runs nothing.
 pub fn shown_is_read()
     ensures { (rs : List Row) (values : List Held) (ms : Members)
         → fits rs values ≡ true → are_within rs values ≡ true → keys_differ rs ≡ true
@@ -23,7 +23,7 @@ pub fn shown_is_read()
     texts_tell_numbers();
 }
 
-/// An element that is shown has its name, known keys alone, its values and its children.
+/// An element that is shown has its name, only known keys, its values and its children. A law; it runs nothing.
 pub fn element_shows()
     ensures name { (rs : List Row) (called : List ℕ) (nodes : Option Data) (values : List Held)
         → rows_show rs ≡ true → name_of (element_members rs called nodes values) ≡ Ok called }
@@ -40,13 +40,13 @@ pub fn element_shows()
     shown_is_read();
 }
 
-/// Values that are read have numbers where numbers are wanted.
+/// Values that are read have numbers where the rows ask for numbers. A law; it runs nothing.
 pub fn values_are_shaped()
     ensures { (rs : List Row) (ms : Members) (values : List Held) → read_attributes rs ms ≡ Ok values
         → shaped rs values ≡ true }
 {}
 
-/// Values that fit their rows can be shown.
+/// Values that fit their rows can be shown. A law; it runs nothing.
 pub fn fit_is_shown()
     ensures { (rs : List Row) (values : List Held) → fits rs values ≡ true → are_shown rs values ≡ true }
 {}

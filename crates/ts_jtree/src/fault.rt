@@ -1,4 +1,4 @@
-//! The first fault of a JSON text.
+//! The first fault of a JSON value.
 
 ghost use Rattle.std.specs.Prelude.{◌≡◌, ◌∷◌, IfOk};
 ghost use Rattle.std.specs.String.{string_bytes};
@@ -11,18 +11,18 @@ use std::marker::Model;
 /// What is wrong with a key.
 #[derive(Debug, Clone, Copy, PartialEq, Eq)]
 pub enum JsonKind {
-    /// It has to be there and is not.
+    /// The key is required and absent.
     Missing,
-    /// Its value is not of its form.
+    /// Its value does not have the form that is asked for.
     WrongKind,
-    /// Its value is of its form and outside its range.
+    /// Its value has the right form and is outside its range.
     OutOfRange,
-    /// No such key, or no element of such a name, may stand here.
+    /// This key, or an element of this name, may not stand here.
     UnknownKey,
 }
 
-/// The way to an element: the numbers of children from the value that was read, each from 0. Seen as their
-/// list.
+/// The path to an element: the numbers of children from the value that was read, each from 0. Contracts see the
+/// list of them.
 #[derive(Debug, Drop)]
 pub struct PathList {
     places: Vec<usize>,
@@ -37,14 +37,14 @@ impl Model for PathList {
 }
 
 impl PathList {
-    /// Keeps the numbers, and takes no memory.
+    /// The path of these numbers. Allocates nothing.
     pub fn of(places: Vec<usize>) -> PathList
         ensures { result ≡ places.items }
     {
         PathList { places }
     }
 
-    /// Lends the numbers.
+    /// The numbers as a slice.
     pub fn as_slice(&self) -> &[usize]
         ensures { result.now ≡ self.now }
     {
@@ -52,7 +52,7 @@ impl PathList {
     }
 }
 
-/// A key of an element, seen as the bytes of its UTF-8 form.
+/// A key of an element, which contracts see as the bytes of its UTF-8 form.
 #[derive(Debug, Drop)]
 pub struct KeyText {
     text: String,
@@ -68,14 +68,14 @@ impl Model for KeyText {
 }
 
 impl KeyText {
-    /// Keeps a text as it is, and takes no memory.
+    /// The key with this text. Allocates nothing.
     pub fn of(text: String) -> KeyText
         ensures { result ≡ string_bytes text }
     {
         KeyText { text }
     }
 
-    /// Lends the text.
+    /// The text as a `str`.
     pub fn as_str(&self) -> &str
         ensures { result.now ≡ self.now }
     {
@@ -86,7 +86,7 @@ impl KeyText {
 /// The first fault of a value that was read.
 #[derive(Debug, Drop)]
 pub struct JsonFault {
-    /// The way to the faulty element.
+    /// The path to the faulty element.
     pub path: PathList,
     /// Its faulty key; `#name` where the element itself is at fault, and `#nodes` for its children.
     pub key: KeyText,
@@ -99,7 +99,7 @@ pub struct JsonFault {
 pub enum ReadRefusal {
     /// The value has this first fault.
     Json(JsonFault),
-    /// Memory was wanting; nothing is left behind.
+    /// Out of memory.
     NoMemory,
 }
 
@@ -119,7 +119,7 @@ impl<T: Drop> From<AllocFailed<T>> for ReadRefusal {
     }
 }
 
-/// The refusal of a key of the value that was read.
+/// The refusal of a key of the value that was read; `NoMemory` where there is no memory for it.
 pub fn refuse_key(alloc: Global, key: &str, kind: JsonKind) -> ReadRefusal
     ensures { IsRefusal result key.now kind }
 {
@@ -133,7 +133,7 @@ pub fn refuse_key(alloc: Global, key: &str, kind: JsonKind) -> ReadRefusal
     }
 }
 
-/// The refusal of a child as one of its parent: the child's number stands first in its path.
+/// A child's refusal as a refusal of its parent: the child's number comes first in its path.
 pub fn at_child(alloc: Global, place: usize, refusal: ReadRefusal) -> ReadRefusal
     ensures { IsAtChild refusal place result }
 {
@@ -155,7 +155,7 @@ fn with_path(fault: JsonFault, path: PathList) -> JsonFault
     JsonFault { path, key, kind }
 }
 
-/// A path with a place in front of it.
+/// A path with one number put before it.
 fn longer_path(alloc: Global, place: usize, path: &PathList) -> Result<PathList, AllocError>
     ensures { IfOk result (λ p. p ≡ place ∷ path.now) }
 {

@@ -1,5 +1,5 @@
-//! Elements of JSON and rows of fields come in; values or the first fault go out, and values as elements.
-//! The layer above rests on `read_element` and `show_attributes`, and on `element_shows`, which ties them.
+//! JSON elements by rows of fields: an element is read as its values, or its first fault, and values are shown as one.
+//! The layer above uses `read_element` and `show_attributes`, and `element_shows`, the law that ties them.
 #![tactic(auto)]
 
 mod attribute;

@@ -1,4 +1,4 @@
-//! Numbers and truth values of JSON, and the same as texts.
+//! Numbers and Booleans of JSON, and the same as texts.
 
 ghost use Rattle.std.specs.Prelude.{◌≡◌, ◌⊎◌, ◌≤◌, ◌^◌, IfNone, IfSome, option_map};
 ghost use Rattle.serde_json.specs.View.{view};
@@ -7,13 +7,13 @@ ghost use Rattle.ts_jtree.specs.Numbers.{numeral, capped, number_of, bit_of, bit
 
 use serde_json::Value;
 
-/// The number that digits write; none where it is above 64 bits or they are none.
+/// The number that digits write; none where it does not fit in 64 bits or they are not digits.
 fn read_numeral(digits: &str, radix: u32) -> Option<u64>
     requires { (radix ≡ 10) ⊎ (radix ≡ 16) }
     ensures some { IfSome result (λ n. numeral radix digits.now ≡ Some n) }
     ensures none { IfNone result (IfSome (numeral radix digits.now) (λ n. 2 ^ 64 ≤ n)) }
 {
-    // A sign is no digit here, but std would take one.
+    // A sign is not a digit here, but std accepts one.
     if digits.starts_with('+') {
         return None;
     }
@@ -33,7 +33,7 @@ fn are_digits(digits: &[u8], radix: u32) -> bool
     true
 }
 
-/// The number that digits write, capped to 64 bits.
+/// The number that digits write, or `u64::MAX` where it is greater; none where they are not digits.
 fn number_of_digits(digits: &str, radix: u32) -> Option<u64>
     requires { (radix ≡ 10) ⊎ (radix ≡ 16) }
     ensures { result ≡ option_map capped (numeral radix digits.now) }
@@ -50,7 +50,7 @@ fn number_of_digits(digits: &str, radix: u32) -> Option<u64>
     }
 }
 
-/// The number of a text, capped to 64 bits.
+/// The number that a text writes, or `u64::MAX` where it is greater; none where it is not a number.
 fn number_of_text(text: &str) -> Option<u64>
     ensures { result ≡ option_map capped (Numbers.number_of_text text.now) }
 {
@@ -61,7 +61,7 @@ fn number_of_text(text: &str) -> Option<u64>
 }
 
 /// The number of a value: a whole number that is not negative, or a text of decimal digits, or of `0x` and
-/// hexadecimal digits. Of a text of a greater number it is `u64::MAX`.
+/// hexadecimal digits. For a text of a greater number it is `u64::MAX`.
 #[tactic(auto, unfolding(crate::specs::Numbers::number_of))]
 pub fn number_of_value(value: &Value) -> Option<u64>
     ensures { result ≡ option_map capped (number_of (view value.now)) }
@@ -73,7 +73,7 @@ pub fn number_of_value(value: &Value) -> Option<u64>
     number_of_text(text)
 }
 
-/// The truth value of a word, as a bit.
+/// The Boolean of a word, as a bit.
 fn bit_of_text(text: &str) -> Option<u64>
     ensures { result ≡ bit_of_word text.now }
 {
@@ -86,7 +86,7 @@ fn bit_of_text(text: &str) -> Option<u64>
     None
 }
 
-/// The truth value of a value, as a bit: `true`, `false`, or these words as text.
+/// The Boolean of a value, as a bit: `true`, `false`, or these words as text.
 #[tactic(auto, unfolding(crate::specs::Numbers::bit_of))]
 pub fn truth_of_value(value: &Value) -> Option<u64>
     ensures { result ≡ bit_of (view value.now) }

@@ -1,4 +1,4 @@
-//! Elements as they are written.
+//! Writing elements.
 
 ghost use Rattle.std.specs.Prelude.{◌≡◌, map, slice_get, option_map, OnOk, true};
 ghost use Rattle.hex.specs.Hex.{encode_lower};
@@ -16,7 +16,7 @@ use std::alloc::{AllocError, Global};
 use ts_days::{start_text, time_text};
 use ts_fields::{Field, FieldValue, Kind, text_of};
 
-/// Puts a value at a key, in place of one that stands there.
+/// Puts a value at a key, in place of one that is there.
 pub fn put_member(
     alloc: Global,
     members: &mut Map<String, Value>,
@@ -58,7 +58,7 @@ fn put_hex(
     put_member(alloc, members, key, Value::String(text))
 }
 
-/// Puts the bytes of a language at a key as the text that they are.
+/// Puts the bytes of a language at a key as a text.
 fn put_language(
     alloc: Global,
     members: &mut Map<String, Value>,
@@ -89,7 +89,7 @@ fn put_start(
     put_member(alloc, members, key, Value::String(text))
 }
 
-/// Puts the bytes of a text at a key as the text that they are, or else at the key for bytes.
+/// Puts the bytes of a text at a key as a text, or else at the key for bytes.
 fn put_text_or_hex(
     alloc: Global,
     members: &mut Map<String, Value>,
@@ -106,7 +106,7 @@ fn put_text_or_hex(
     put_text(alloc, members, key, text)
 }
 
-/// Puts the attribute of a field that holds this.
+/// Puts the attribute of a field with this value.
 #[tactic(auto, unfolding(crate::specs::Shown::put_attribute))]
 fn show_attribute(
     alloc: Global,
@@ -143,7 +143,7 @@ fn show_attribute(
     }
 }
 
-/// Puts the attributes of some rows that hold these values, in the order of the rows; defaults are put too.
+/// Puts the attributes of some rows with these values, in the order of the rows; defaults are put too.
 pub fn show_attributes(
     alloc: Global,
     members: &mut Map<String, Value>,
