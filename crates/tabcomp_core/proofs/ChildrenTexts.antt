@@ -16,7 +16,7 @@ closed_text later (d ∷ ds) =
     ∙ ap (λ l. comma_if later ++ l) (sym (append_assoc (compact_text d) (children_text true ds) (93 ∷ [])))
     ∙ sym (append_assoc (comma_if later) (compact_text d ++ children_text true ds) (93 ∷ []))
 
--- whether a child behind these has a comma
+-- whether a child after these has a comma
 abbrev pub has_before : {A : Type 0} → Bool → List A → Bool
 has_before later [] = later
 has_before later (x ∷ xs) = true

@@ -1,4 +1,4 @@
--- Lawful sections one after another are cut into the same again.
+-- Valid sections one after another are cut into the same again.
 use Rattle.std.proofs.Common.{◌≡◌, ℕ, ◌+◌, List, [], ◌∷◌, ◌++◌, length, take, drop, refl, sym, ap, ◌∙◌, arith}
 use Rattle.std.specs.Prelude.{All, Ok}
 use Rattle.std.specs.List.{concat}

@@ -10,7 +10,7 @@ use Rattle.tabcomp_core.specs.declared.fault.DecompileFault.{DecompileFault}
 use Rattle.tabcomp_core.specs.declared.fault.DecompileFault.TheVariants as faults
 use Rattle.tabcomp_core.specs.Cutting.{CutsAt, CutsFront, FaultAt, before_more, if_lawful, sections_from, sections_in}
 
--- what is cut with what was cut before
+-- what is cut, after what was cut before
 abbrev pub with_front : List (List ℕ) → Result (List (List ℕ)) FaultAt → Result (List (List ℕ)) FaultAt
 with_front front (Ok more) = Ok (front ++ more)
 with_front front (Err fault) = Err fault

@@ -10,7 +10,7 @@ use Rattle.tabcomp_core.specs.declared.dividing.NoRuns.{NoRuns}
 use Rattle.tabcomp_core.specs.declared.dividing.NoRuns.TheVariants as faults
 use Rattle.tabcomp_core.specs.Dividing.{ClosesRun, DividesAt, before_runs, begun_size, is_full, is_member, members_from, runs_from, shared_fields, whole_size}
 
--- what is divided with what was divided before
+-- what is divided, after what was divided before
 abbrev pub with_runs : List (List (List ℕ)) → Result (List (List (List ℕ))) ℕ → Result (List (List (List ℕ))) ℕ
 with_runs front (Ok more) = Ok (front ++ more)
 with_runs front (Err place) = Err place
@@ -61,7 +61,7 @@ member_is first s place told =
       counted = leb-true place (last_number_of first) numbers.1;
     }
 
--- ---- how many go on
+-- ---- how many continue
 
 -- the sections of a list are members from a place on
 abbrev pub MembersFrom : List ℕ → ℕ → List (List ℕ) → ℕ → Type 0
@@ -91,7 +91,7 @@ count_all first place (x ∷ xs) rest members =
     cond-true (is_member first place x) (members_from first (place + 1) (xs ++ rest) + 1) 0 (members_here first place x xs (length xs) members)
     ∙ omega (arith, more, at)
 
--- members before one that is none
+-- members before one that is not
 count_to : (first : List ℕ) (place : ℕ) (xs : List (List ℕ)) (n : ℕ) → n < length xs → MembersFrom first place xs n
     → (IsMember first (place + n) (get_or xs n []) → ⊥) → members_from first place xs ≡ n
 unfolding members_from
@@ -198,7 +198,7 @@ stop_within first xs rest p inside members other =
     (λ k early. subst (IsMember first (0 + k)) (sym (get_or_append_left xs rest [] k (omega (arith, early, inside)))) (members k early))
     (λ m. other (subst (IsMember first (0 + p)) (get_or_append_left xs rest [] p inside) m))
 
--- a run that stops to be one, with all that it has or before nothing
+-- a run that stops being one, with all that it has or before nothing
 pub fault_begun : (s : List ℕ) (r rest : List (List ℕ)) (p : ℕ) → IsRunFault (s ∷ r) p → length (s ∷ r) ≤ whole_size s
     → (length (s ∷ r) ≡ whole_size s) ⊎ (rest ≡ []) → (begun_size ((s ∷ r) ++ rest) ≡ p) × (p < whole_size s)
 fault_begun s r rest p fault room ends =

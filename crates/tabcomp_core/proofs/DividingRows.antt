@@ -1,4 +1,4 @@
--- Worked rows: sections and the runs that they are.
+-- Worked rows: sections and their runs.
 use Rattle.std.proofs.Common.{◌≡◌, ℕ, List, [], ◌∷◌, refl}
 use Rattle.std.specs.Prelude.{Ok, Err}
 use Rattle.bit_rows.specs.BitRow.{bit_of, field}

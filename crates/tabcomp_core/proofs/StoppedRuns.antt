@@ -1,4 +1,4 @@
--- Where sections are no runs.
+-- Where sections are not runs.
 use Rattle.std.proofs.Common.{◌≡◌, ℕ, zero, suc, ◌+◌, ◌<◌, ◌≤◌, true, false, List, [], ◌∷◌, ◌++◌, length, take, drop, get_or, refl, sym, ap, ◌∙◌, subst, inl, inr, ◌⊎◌, arith, append_assoc}
 use Rattle.std.specs.Prelude.{Result, Ok, Err, nat_eq}
 use Rattle.std.proofs.lemmas.Bool.{cases_Bool, cases_lt, cond-true, cond-false, eqb-true, eqb-false}
@@ -73,7 +73,7 @@ first_stops s ss few =
       some = omega (arith, ap length (take-append-drop n (s ∷ ss)), length-append (take n (s ∷ ss)) (drop n (s ∷ ss)));
     }
 
--- ---- behind whole runs
+-- ---- after whole runs
 
 behind_run : (run rest l : List (List ℕ)) (q : ℕ) → IsTableRun run → run ++ rest ≡ l → StopsAt rest q → StopsAt l (length run + q)
 behind_run run rest l q whole joins stops = record {
@@ -92,7 +92,7 @@ behind_run run rest l q whole joins stops = record {
 same_place : {A : Type 0} (x y : ℕ) → ◌≡◌ {A = Result A ℕ} (Err x) (Err y) → x ≡ y
 same_place x y is = cc is
 
--- a place told from another one on
+-- a place counted from another one on
 abbrev StopsFrom : ℕ → List (List ℕ) → ℕ → Type 0
 StopsFrom place l p = (q : ℕ) × (p ≡ place + q) × StopsAt l q
 

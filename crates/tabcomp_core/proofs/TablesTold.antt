@@ -1,4 +1,4 @@
--- The sections of tables one after another are the runs of the tables that they tell.
+-- The sections of tables one after another are the runs of the tables that they give.
 use Rattle.std.proofs.Common.{◌≡◌, ℕ, ◌+◌, List, [], ◌∷◌, ◌++◌, map, refl, sym, ap, ◌∙◌, subst}
 use Rattle.std.specs.Prelude.{All, Option, Some, None, Result, Ok, Err}
 use Rattle.std.specs.List.{concat}
@@ -25,7 +25,7 @@ use Rattle.tabcomp_core.specs.ToldAgain.{IsSameAgain, IsToldAgain}
 use Rattle.tabcomp_core.proofs.CutAgain.{sections_cut}
 use Rattle.tabcomp_core.proofs.ToldRuns.{only_runs}
 
--- bytes are the lawful sections of whole runs, whose tables are these
+-- bytes are the valid sections of whole runs, whose tables are these
 record AreTold (told : List TableValue) (bytes : List ℕ) : Type 0 where
   pub runs : List (List (List ℕ))
   pub joined : concat (join runs) ≡ bytes
@@ -40,7 +40,7 @@ told_text told bytes are =
     ∙ ap (λ r. text_or_fault (of_runs ss r)) (only_runs ss are.runs (record { joined = refl; whole = are.whole }))
     ∙ ap (λ ts. Ok (tables_text ts)) are.tables
 
--- the sections of a table, where it has some, tell what becomes of it
+-- the sections of a table, where it has some, give what it becomes
 abbrev Tells : (TableValue → TableValue) → TableValue → Type 0
 Tells again t = (ss : List (List ℕ)) → sections_of_table t ≡ Ok ss → TellsTable (again t) ss
 
@@ -75,7 +75,7 @@ tables_told again place (t ∷ ts) bytes tell is =
 
 -- ---- the tables of a text
 
--- what the layer below ensures of tables that are read, and of the sections of lawful tables
+-- what the layer below ensures of tables that are read, and of the sections of valid tables
 abbrev pub ReadLawful : Type 0
 ReadLawful = (value : Data) (t : TableValue) → table_read value ≡ Ok t → IsTable t × IsOfBytes t
 

@@ -10,7 +10,7 @@ use Rattle.ts_table_rows.specs.Filling.{join}
 use Rattle.tabcomp_core.specs.Dividing.{AreRuns, before_runs, begun_size, is_member, members_from, runs_from, runs_in, whole_size}
 use Rattle.tabcomp_core.proofs.DivideLemmas.{MembersFrom, member_is, members_here, members_behind, one_run, whole_some}
 
--- ---- whole runs are told
+-- ---- whole runs are found
 
 runs_told : (runs : List (List (List ℕ))) (place : ℕ) → All IsTableRun runs → runs_from (length (join runs)) place (join runs) ≡ Ok runs
 unfolding runs_from
@@ -23,7 +23,7 @@ runs_told ((s ∷ r) ∷ runs) place whole =
 pub only_runs : (ss : List (List ℕ)) (runs : List (List (List ℕ))) → AreRuns runs ss → runs_in ss ≡ Ok runs
 only_runs ss runs are = subst (λ l. runs_in l ≡ Ok runs) are.joined (runs_told runs 0 are.whole)
 
--- ---- what is told are whole runs
+-- ---- what is found are whole runs
 
 pub counted_members : (first : List ℕ) (place : ℕ) (xs : List (List ℕ)) → MembersFrom first place xs (members_from first place xs)
 unfolding members_from

@@ -24,11 +24,12 @@ tables_read value = do
   root ← read_element root_name [] value
   read_each table_read 0 root.1
 
--- the value that bytes are as JSON: none where they are no UTF-8 or no JSON
+-- the JSON value of bytes; none where they are not UTF-8 or not JSON
 abbrev pub text_read : Option (List ℕ) → Option Data
 text_read None = None
 text_read (Some text) = read text
 
+-- the JSON value of bytes as UTF-8
 abbrev pub json_of : List ℕ → Option Data
 json_of text = text_read (if is_utf8 text then Some text else None)
 
@@ -43,18 +44,21 @@ unfoldable pub tables_bytes : ℕ → List TableValue → Result (List ℕ) Comp
 tables_bytes place [] = Ok []
 tables_bytes place (t ∷ ts) = before_others place (sections_of_table t) (tables_bytes (place + 1) ts)
 
+-- the value; `NotJson` where there is none
 abbrev pub value_or_not : Option Data → Result Data CompileFault
 value_or_not None = Err NotJson
 value_or_not (Some value) = Ok value
 
--- a value, or that there is none
+-- the JSON value of a text, or `NotJson`
 abbrev pub json_value : List ℕ → Result Data CompileFault
 json_value text = value_or_not (json_of text)
 
+-- the bytes of the sections of the tables, or why there are none
 abbrev pub of_tables : Reading (List TableValue) → Result (List ℕ) CompileFault
 of_tables (Err fault) = Err (Json fault)
 of_tables (Ok tables) = tables_bytes 0 tables
 
+-- the bytes of the sections of the tables of a value; `NotJson` where there is none
 abbrev pub of_value : Option Data → Result (List ℕ) CompileFault
 of_value None = Err NotJson
 of_value (Some value) = of_tables (tables_read value)
@@ -63,18 +67,19 @@ of_value (Some value) = of_tables (tables_read value)
 abbrev pub compiled : List ℕ → Result (List ℕ) CompileFault
 compiled text = of_value (json_of text)
 
--- what a call answered is what compiling gives; want of memory says nothing of the text
+-- a call refused what compiling refuses; out of memory says nothing about the text
 abbrev pub Refuses : {A : Type 0} → CompileFault → Result A CompileFault → Type 0
 Refuses NotJson result = result ≡ Err NotJson
 Refuses (Json fault) result = result ≡ Err (Json fault)
 Refuses (TooLarge place refusal) result = result ≡ Err (TooLarge place refusal)
 Refuses NoMemory result = Unit {0}
 
+-- the result of a call is what compiling gives; out of memory says nothing about the text
 abbrev pub Compiles : {X A : Type 0} → (X → A) → Result X CompileFault → Result A CompileFault → Type 0
 Compiles view (Ok x) result = result ≡ Ok (view x)
 Compiles view (Err fault) result = Refuses fault result
 
--- a call added the bytes of a table's sections, or refused as that table's writing does
+-- a call appended the bytes of a table's sections, or refused as the writing of that table does
 abbrev pub TakesTable : ℕ → List ℕ → List ℕ → Result (List (List ℕ)) TableRefusal → Result Unit CompileFault → Type 0
 TakesTable place old new sections (Ok x) = (ss : List (List ℕ)) × (sections ≡ Ok ss) × (new ≡ old ++ concat ss)
 TakesTable place old new sections (Err (TooLarge at refusal)) = (at ≡ place) × (sections ≡ Err refusal)

@@ -1,6 +1,6 @@
 -- Bytes as sections one after another.
--- ISO/IEC 13818-1, 2.4.4: a section is three bytes and section_length more. Where the first faulty one begins is told
--- by this project's own rule.
+-- ISO/IEC 13818-1, 2.4.4: a section is three bytes and section_length more. That a fault is reported with the place
+-- where the first invalid one begins is this project's own rule.
 use Rattle.std.specs.Prelude.{◌≡◌, ℕ, zero, suc, ◌+◌, List, [], ◌∷◌, length, drop, Option, Some, None, Result, Ok, Err}
 use Rattle.ts_section.specs.declared.fault.SectionFault.{SectionFault}
 use Rattle.ts_section.specs.FirstBroken.{first_broken}
@@ -13,16 +13,17 @@ pub record FaultAt : Type 0 where
   pub offset : ℕ
   pub fault : SectionFault
 
--- a section before those behind it
+-- a section before those after it
 abbrev pub before_more : List ℕ → Result (List (List ℕ)) FaultAt → Result (List (List ℕ)) FaultAt
 before_more s (Ok more) = Ok (s ∷ more)
 before_more s (Err fault) = Err fault
 
+-- the fault of a section at this offset, or the section before those after it
 abbrev pub if_lawful : Option SectionFault → ℕ → List ℕ → Result (List (List ℕ)) FaultAt → Result (List (List ℕ)) FaultAt
 if_lawful (Some fault) offset s more = Err (record { offset = offset; fault = fault })
 if_lawful None offset s more = before_more s more
 
--- the sections that bytes are, the first of which stands at this offset; there are no more of them than bytes
+-- the sections in the bytes, the first of which has this offset; `most` is at least the number of bytes
 unfoldable pub sections_from : ℕ → ℕ → List ℕ → Result (List (List ℕ)) FaultAt
 sections_from most offset [] = Ok []
 sections_from zero offset (b ∷ bs) = Ok []
@@ -30,21 +31,22 @@ sections_from (suc most) offset (b ∷ bs) =
     if_lawful (first_broken (front_of (b ∷ bs))) offset (front_of (b ∷ bs))
     (sections_from most (offset + length (front_of (b ∷ bs))) (drop (length (front_of (b ∷ bs))) (b ∷ bs)))
 
--- the sections that bytes are, or the first that is none
+-- the sections in the bytes, or the first that is invalid
 abbrev pub sections_in : List ℕ → Result (List (List ℕ)) FaultAt
 sections_in bytes = sections_from (length bytes) 0 bytes
 
--- what a call answered is what the bytes are; want of memory says nothing of them
+-- a call refused what cutting refuses; out of memory says nothing about the bytes
 abbrev pub CutsAt : DecompileFault → Result (List (List ℕ)) FaultAt → Type 0
 CutsAt (faults.Section offset fault) cut = cut ≡ Err (record { offset = offset; fault = fault })
 CutsAt (faults.Sequence offset) cut = ⊥
 CutsAt faults.NoMemory cut = Unit {0}
 
+-- the result of a call is what cutting gives; out of memory says nothing about the bytes
 abbrev pub Cuts : {X : Type 0} → (X → List (List ℕ)) → Result X DecompileFault → Result (List (List ℕ)) FaultAt → Type 0
 Cuts view (Ok x) cut = cut ≡ Ok (view x)
 Cuts view (Err fault) cut = CutsAt fault cut
 
--- a call answered the section that bytes begin with, or the first rule that it breaks
+-- a call returned the section at the beginning of the bytes, or the first rule that it breaks
 abbrev pub CutsFront : ℕ → List ℕ → {X : Type 0} → (X → List ℕ) → Result X DecompileFault → Type 0
 CutsFront offset bytes view (Ok x) = (first_broken (front_of bytes) ≡ None) × (view x ≡ front_of bytes)
 CutsFront offset bytes view (Err (faults.Section at fault)) = (at ≡ offset) × (first_broken (front_of bytes) ≡ Some fault)

@@ -18,10 +18,11 @@ use Rattle.tabcomp_core.specs.TableRuns.{table_runs}
 abbrev pub root_shown : List TableValue → Data
 root_shown tables = object (element_members [] root_name (Some (array (items_of (map table_shown tables)))) [])
 
--- the text of tables
+-- the text of some tables
 abbrev pub tables_text : List TableValue → List ℕ
 tables_text tables = compact_text (root_shown tables)
 
+-- the text of the tables of runs, or the fault
 abbrev pub text_or_fault : Result (List (List (List ℕ))) DecompileFault → Result (List ℕ) DecompileFault
 text_or_fault (Ok runs) = Ok (tables_text (map table_of_run runs))
 text_or_fault (Err fault) = Err fault

@@ -1,5 +1,5 @@
--- The text of the root by the texts of its children.
--- RFC 8259, 4 and 5, with no space: a name and its value have a colon between them, and commas stand between members and
+-- The text of the root from the texts of its children.
+-- RFC 8259, 4 and 5, without spaces: a colon stands between a name and its value, and commas stand between members and
 -- between elements.
 use Rattle.std.specs.Prelude.{◌≡◌, ℕ, List, [], ◌∷◌, ◌++◌, codes, Bool, true, Some}
 use Rattle.json.specs.Tree.{HasNumbers}
@@ -7,15 +7,15 @@ use Rattle.serde_json.specs.Data.{Data}
 use Rattle.serde_json.specs.Read.{of_json}
 use Rattle.serde_json.specs.Written.{comma_if, compact_text, outline}
 
--- what stands before the first child
+-- the text before the first child
 abbrev pub head_text : List ℕ
 head_text = codes "{\"#name\":\"tsduck\",\"#nodes\":["
 
--- what stands behind the last
+-- the text after the last child
 abbrev pub tail_text : List ℕ
 tail_text = codes "]}"
 
--- children, each behind a comma where others stand before it
+-- children, each after a comma where others stand before it
 abbrev pub children_text : Bool → List Data → List ℕ
 children_text later [] = []
 children_text later (d ∷ ds) = comma_if later ++ (compact_text d ++ children_text true ds)

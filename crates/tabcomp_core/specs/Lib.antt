@@ -1,3 +1,4 @@
+-- The definitions of compiling and decompiling: sections, runs, tables and their texts.
 pub mod Compiling
 pub mod Cutting
 pub mod Decompiling

@@ -1,6 +1,6 @@
 -- What compiled sections are decompiled to.
 -- This project's own rule: the sections of a text's tables are decompiled to the text of the tables that these sections
--- tell: the same tables, but for one of bytes whose sections read as the table of their table_id.
+-- give: the same tables, except one given by its bytes whose sections read as the table of their table_id.
 use Rattle.std.specs.Prelude.{◌≡◌, ℕ, List, map, Some, Ok}
 use Rattle.serde_json.specs.Data.{Data}
 use Rattle.ts_json_tables.specs.HeldTables.{TableValue}
@@ -8,7 +8,7 @@ use Rattle.ts_json_tables.specs.ToldTables.{told_again}
 use Rattle.tabcomp_core.specs.Compiling.{compiled, json_of, tables_read}
 use Rattle.tabcomp_core.specs.Decompiling.{decompiled, tables_text}
 
--- a text has tables, and these sections are decompiled to the text of the tables that theirs tell
+-- a text has tables, and these sections are decompiled to the text of the tables that theirs give
 pub record IsToldAgain (text sections : List ℕ) : Type 0 where
   pub value : Data
   pub tables : List TableValue

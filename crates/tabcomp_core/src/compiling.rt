@@ -1,4 +1,4 @@
-//! A JSON text to the sections of its tables.
+//! Compiling: from a JSON text to the sections of its tables.
 
 ghost use Rattle.std.specs.Prelude.{◌≡◌, ◌++◌, map, option_map, if◌then◌else◌, Some, None, All, OnOk, IfOk};
 ghost use Rattle.std.specs.Str.{is_utf8};
@@ -22,7 +22,7 @@ use ts_jtree::{ReadRefusal, read_element};
 use ts_section::Section;
 use ts_table_rows::TableRefusal;
 
-/// The text whose UTF-8 the bytes are.
+/// The text with these bytes as its UTF-8; none where they are not UTF-8.
 fn utf8_of(bytes: &[u8]) -> Option<&str>
     ensures { option_map (λ text. text.now) result ≡ (if is_utf8 bytes.now then Some bytes.now else None) }
 {
@@ -32,7 +32,7 @@ fn utf8_of(bytes: &[u8]) -> Option<&str>
     }
 }
 
-/// The value that a text is as JSON.
+/// The JSON value of a text.
 fn read_text(alloc: Global, text: &str) -> Result<Value, CompileFault>
     ensures { Compiles view result (value_or_not (read text.now)) }
 {
@@ -43,7 +43,7 @@ fn read_text(alloc: Global, text: &str) -> Result<Value, CompileFault>
     }
 }
 
-/// The value that bytes are as JSON.
+/// The JSON value of bytes.
 fn read_value(alloc: Global, text: &[u8]) -> Result<Value, CompileFault>
     ensures { Compiles view result (json_value text.now) }
 {
@@ -63,7 +63,7 @@ fn read_tables(alloc: Global, value: &Value) -> Result<Vec<Table>, ReadRefusal>
     tables_of_json(alloc, nodes)
 }
 
-/// Adds the bytes of sections.
+/// Appends the bytes of sections.
 fn push_sections(bytes: &mut Vec<u8>, sections: &[Section]) -> Result<(), AllocError>
     ensures { OnOk result (bytes.new.items ≡ bytes.old.items ++ concat sections.now) }
 {
@@ -73,7 +73,7 @@ fn push_sections(bytes: &mut Vec<u8>, sections: &[Section]) -> Result<(), AllocE
     Ok(())
 }
 
-/// Adds the bytes of the sections of a table, which has this number.
+/// Appends the bytes of the sections of the table with this number.
 fn push_table(
     alloc: Global,
     bytes: &mut Vec<u8>,
@@ -97,7 +97,7 @@ fn push_table(
     Ok(())
 }
 
-/// The sections of tables, or the first table that has none.
+/// The bytes of the sections of tables, or the first table that has none.
 fn write_tables(alloc: Global, tables: &[Table]) -> Result<Vec<u8>, CompileFault>
     requires { All (λ t. IsTable (table_value t)) tables.now }
     ensures { Compiles (λ v. v.items) result (tables_bytes 0 (map table_value tables.now)) }
@@ -111,7 +111,7 @@ fn write_tables(alloc: Global, tables: &[Table]) -> Result<Vec<u8>, CompileFault
     Ok(bytes)
 }
 
-/// The sections of the tables of a value.
+/// The bytes of the sections of the tables of a value.
 fn write_value(alloc: Global, value: &Value) -> Result<Vec<u8>, CompileFault>
     ensures { Compiles (λ v. v.items) result (of_tables (Compiling.tables_read (view value.now))) }
 {
@@ -122,8 +122,8 @@ fn write_value(alloc: Global, value: &Value) -> Result<Vec<u8>, CompileFault>
     }
 }
 
-/// The sections of the tables of a text, joined. `NotJson` comes first, then the first fault of the value, then the
-/// first table that has no sections.
+/// The bytes of the sections of the tables of a text, joined. `NotJson` comes first, then the first fault of the value,
+/// then the first table that has no sections.
 pub fn compile(alloc: Global, text: &[u8]) -> Result<Vec<u8>, CompileFault>
     ensures { Compiles (λ v. v.items) result (compiled text.now) }
 {

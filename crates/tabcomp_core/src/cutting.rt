@@ -1,4 +1,4 @@
-//! Bytes as sections one after another.
+//! Cutting bytes into sections.
 
 ghost use Rattle.std.specs.Prelude.{◌≡◌, ◌<◌, length, Some, IfOk};
 ghost use Rattle.std.specs.List.{concat};
@@ -11,7 +11,7 @@ use crate::fault::DecompileFault;
 use std::alloc::Global;
 use ts_section::{Section, SectionFault};
 
-/// The section that bytes begin with; `offset` is told of a fault.
+/// The section at the beginning of the bytes; a fault is reported at `offset`.
 fn first_section(alloc: Global, bytes: &[u8], offset: usize) -> Result<Section, DecompileFault>
     ensures { CutsFront offset bytes.now (λ s. s) result }
 {
@@ -22,7 +22,7 @@ fn first_section(alloc: Global, bytes: &[u8], offset: usize) -> Result<Section, 
     }
 }
 
-/// How many bytes a section has, at least three.
+/// The size of a section in bytes, at least three.
 fn size_of(section: &Section) -> usize
     ensures size { result ≡ length section.now }
     ensures some { 0 < result }
@@ -31,7 +31,7 @@ fn size_of(section: &Section) -> usize
     bytes.len()
 }
 
-/// The sections that bytes are, one after another; or where the first begins that is none, and the first rule that it
+/// The sections in the bytes, one after another; or where the first invalid one begins, and the first rule that it
 /// breaks. Each is what `Section::parse_front` reads from there.
 pub fn sections_of(alloc: Global, bytes: &[u8]) -> Result<Vec<Section>, DecompileFault>
     ensures cut { Cuts (λ v. v.items) result (sections_in bytes.now) }

@@ -1,4 +1,4 @@
-//! Bytes to the JSON text of the tables that they are.
+//! Decompiling: from bytes to the JSON text of their tables.
 
 ghost use Rattle.std.specs.Prelude.{◌≡◌, ◌++◌, List, ℕ, false, All, map, Ok, IfOk, OnOk, string_bytes};
 ghost use Rattle.serde_json.specs.View.{view};
@@ -24,10 +24,10 @@ use ts_json_tables::{
 use ts_jtree::element_shows;
 use ts_section::TableRun;
 
-/// What stands before the tables.
+/// The text before the tables.
 const HEAD: &str = "{\"#name\":\"tsduck\",\"#nodes\":[";
 
-/// What stands behind them.
+/// The text after the tables.
 const TAIL: &str = "]}";
 
 /// The element of the table of a run, which is read as that table.
@@ -37,7 +37,7 @@ fn run_json(alloc: Global, run: &TableRun) -> Result<Value, AllocError>
     ensures kept { IfOk result (λ v. IsKept run.now) }
 {
     let table = table_of(alloc, run)?;
-    // Laws, which run nothing, and that a run's sections are lawful.
+    // Laws; they run nothing. They need valid sections, as `sections` returns.
     run_tables_are_of_bytes();
     shown_table_is_read();
     sections_tell_their_table();
@@ -51,12 +51,12 @@ fn run_text(alloc: Global, run: &TableRun) -> Result<String, AllocError>
     ensures faithful { IfOk result (λ text. IsFaithful run.now) }
 {
     let node = run_json(alloc, run)?;
-    // A law, which runs nothing.
+    // A law; it runs nothing.
     shown_table_is_plain();
     node.to_string(alloc)
 }
 
-/// Adds a comma, where tables stand before.
+/// Appends a comma, where tables came before.
 fn push_comma(text: &mut String, later: bool) -> Result<(), AllocError>
     ensures { OnOk result (string_bytes text.new ≡ string_bytes text.old ++ comma_if later) }
 {
@@ -66,8 +66,8 @@ fn push_comma(text: &mut String, later: bool) -> Result<(), AllocError>
     Ok(())
 }
 
-/// Adds the text of the table of a run. Its element is gone behind it: of all tables, one is held as an element at a
-/// time.
+/// Appends the text of the table of a run. Its element is dropped afterwards, so that one table at a time is held as an
+/// element.
 fn push_run(alloc: Global, text: &mut String, later: bool, run: &TableRun) -> Result<(), AllocError>
     ensures text { OnOk result (string_bytes text.new
         ≡ string_bytes text.old ++ (comma_if later ++ compact_text (table_shown (table_of_run run.now)))) }
@@ -79,7 +79,7 @@ fn push_run(alloc: Global, text: &mut String, later: bool, run: &TableRun) -> Re
     Ok(())
 }
 
-/// The texts of the tables of runs, behind what stands before them.
+/// The texts of the tables of runs, after the text before the tables.
 fn open_text(alloc: Global, runs: &[TableRun]) -> Result<String, AllocError>
     ensures text { IfOk result (λ text. string_bytes text
         ≡ head_text ++ children_text false (map table_shown (map table_of_run runs.now))) }
@@ -103,16 +103,16 @@ fn runs_text(alloc: Global, runs: &[TableRun]) -> Result<String, AllocError>
 {
     let mut text = open_text(alloc, runs)?;
     text.push_str(TAIL)?;
-    // Laws, which run nothing.
+    // Laws; they run nothing.
     shown_table_is_plain();
     element_shows();
     Ok(text)
 }
 
-/// The JSON text of the tables that bytes are: the compact text of an element `tsduck` with one child for each run of
-/// sections, in order. The first bytes that are no section are told before the first section, or the end, at which no
-/// run of a table goes on. The text is compiled to the sections of these tables, where they have some, and these are
-/// decompiled to the same text.
+/// The JSON text of the tables in the bytes: the compact text of an element `tsduck` with one child for each run of
+/// sections, in order. The first bytes that are not a section are reported before the first section, or the end, at
+/// which no run of a table continues. The text is compiled to the sections of these tables, where they have some, and
+/// these are decompiled to the same text.
 pub fn decompile(alloc: Global, bytes: &[u8]) -> Result<String, DecompileFault>
     ensures text { Decompiles string_bytes result (decompiled bytes.now) }
     ensures again { IfOk result (λ text. (runs : List (List (List ℕ))) → table_runs bytes.now ≡ Ok runs →

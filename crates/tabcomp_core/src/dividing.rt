@@ -1,4 +1,4 @@
-//! Sections as the runs of whole tables.
+//! Dividing sections into the runs of whole tables.
 
 ghost use Rattle.std.specs.Prelude.{◌≡◌, ◌+◌, ◌++◌, ◌∷◌, [], ◌^◌, ◌<◌, ◌≤◌, length, List, ℕ, Ok, Err, IfOk, IfErr};
 ghost use Rattle.ts_section.specs.LawfulSection.{IsSection};
@@ -11,12 +11,12 @@ use std::alloc::{AllocError, AllocFailed, Global};
 use std::mem;
 use ts_section::{RunFault, Section, TableRun};
 
-/// Why sections are no runs.
+/// Why sections are not runs.
 #[derive(Debug, Clone, Copy, PartialEq, Eq)]
 pub enum NoRuns {
-    /// At this section, or at the end, no run goes on.
+    /// At this section, or at the end, no run continues.
     Place(usize),
-    /// Memory was wanting; nothing is left behind.
+    /// Out of memory.
     NoMemory,
 }
 
@@ -36,7 +36,7 @@ impl<T: Drop> From<AllocFailed<T>> for NoRuns {
     }
 }
 
-/// How many sections the run has that begins with this one.
+/// The number of sections of the run that begins with this one.
 fn whole_size(first: &Section) -> usize
     ensures { result ≡ Dividing.whole_size first.now }
 {
@@ -47,7 +47,7 @@ fn whole_size(first: &Section) -> usize
     }
 }
 
-/// Whether the sections of a run are as many as it has.
+/// Whether a run that has begun has all its sections.
 fn is_full(begun: &[Section]) -> bool
     ensures { result ≡ Dividing.is_full begun.now }
 {
@@ -57,7 +57,7 @@ fn is_full(begun: &[Section]) -> bool
     }
 }
 
-/// The run that sections are, the first of which stands at this place.
+/// The run of these sections, the first of which has this index.
 fn run_at(place: usize, sections: Vec<Section>) -> Result<TableRun, NoRuns>
     requires { place + length sections.items < 2 ^ 64 }
     ensures { ClosesRun place sections.items (λ run. run) result }
@@ -68,7 +68,7 @@ fn run_at(place: usize, sections: Vec<Section>) -> Result<TableRun, NoRuns>
     }
 }
 
-/// The runs that sections are, one after another; or the place at which no run goes on.
+/// The runs of the sections, one after another; or the place at which no run continues.
 pub fn runs_of(alloc: Global, sections: Vec<Section>) -> Result<Vec<TableRun>, NoRuns>
     ensures divided { Divides (λ v. v.items) result (runs_in sections.items) }
     ensures within { IfErr result (IsWithin (length sections.items)) }
@@ -94,8 +94,8 @@ pub fn runs_of(alloc: Global, sections: Vec<Section>) -> Result<Vec<TableRun>, N
     Ok(runs)
 }
 
-/// The runs of sections are told exactly: they are whole runs that join to the sections, there are no others, and
-/// where none are told no run goes on. A law: it runs nothing.
+/// Sections are divided in one way: the runs are whole runs that join to the sections, there are no others, and
+/// where there are none, no run continues. A law; it runs nothing.
 pub fn runs_are_told()
     ensures whole { (ss : List (List ℕ)) (runs : List (List (List ℕ))) → runs_in ss ≡ Ok runs → AreRuns runs ss }
     ensures only { (ss : List (List ℕ)) (runs : List (List (List ℕ))) → AreRuns runs ss → runs_in ss ≡ Ok runs }

@@ -1,4 +1,4 @@
-//! Why a text has no sections, and why bytes are no sections.
+//! Why a text has no sections, and why bytes are not sections of tables.
 
 ghost use Rattle.std.specs.Prelude.{◌≡◌};
 ghost use Rattle.tabcomp_core.specs.declared.fault.CompileFault.TheVariants.{NoMemory};
@@ -12,13 +12,13 @@ use ts_table_rows::TableRefusal;
 /// Why a text was not compiled.
 #[derive(Debug, Drop)]
 pub enum CompileFault {
-    /// It is no UTF-8, or no JSON.
+    /// The text is not UTF-8, or not JSON.
     NotJson,
     /// Its value is not the root of tables: the first fault.
     Json(JsonFault),
-    /// The table of this number, from 0, is the first that has no sections.
+    /// The table with this number, from 0, is the first that has no sections.
     TooLarge { table: usize, refusal: TableRefusal },
-    /// Memory was wanting; nothing is left behind.
+    /// Out of memory.
     NoMemory,
 }
 
@@ -41,11 +41,11 @@ impl<T: Drop> From<AllocFailed<T>> for CompileFault {
 /// Why bytes were not decompiled.
 #[derive(Debug, Clone, Copy, PartialEq, Eq)]
 pub enum DecompileFault {
-    /// What begins at `offset` is the first that is no section.
+    /// The bytes at `offset` are the first that are not a section.
     Section { offset: usize, fault: SectionFault },
-    /// The section at `offset`, or the end of the bytes, is the first that goes on with no run of a table.
+    /// The section at `offset`, or the end of the bytes, is the first at which no run of a table continues.
     Sequence { offset: usize },
-    /// Memory was wanting; nothing is left behind.
+    /// Out of memory.
     NoMemory,
 }
 

@@ -1,5 +1,5 @@
-//! A JSON text comes in and the sections of its tables go out; bytes come in and the JSON text of their tables goes out.
-//! The layer above rests on `compile`, `sections_of` and `decompile`.
+//! Compiling a JSON text to the sections of its tables, and decompiling bytes to the JSON text of their tables.
+//! The layer above uses `compile`, `sections_of` and `decompile`.
 #![tactic(auto)]
 
 mod compile_laws;

@@ -1,4 +1,4 @@
-//! Bytes as the runs of tables.
+//! Reading bytes as the runs of tables.
 
 ghost use Rattle.std.specs.Prelude.{◌≡◌, ◌^◌, ◌<◌, length, IfOk};
 ghost use Rattle.std.specs.List.{concat};
@@ -11,7 +11,7 @@ use crate::fault::DecompileFault;
 use std::alloc::{AllocError, Global};
 use ts_section::{Section, TableRun};
 
-/// Where each section begins, and where the last ends.
+/// Where each section begins, and where the last one ends.
 fn starts_of(alloc: Global, sections: &[Section]) -> Result<Vec<usize>, AllocError>
     requires { length (concat sections.now) < 2 ^ 64 }
     ensures { IfOk result (λ v. AreStarts sections.now v.items) }
@@ -26,7 +26,7 @@ fn starts_of(alloc: Global, sections: &[Section]) -> Result<Vec<usize>, AllocErr
     Ok(starts)
 }
 
-/// The runs that bytes are, or the first fault: one of a section before one of a run.
+/// The runs in the bytes, or the first fault: that of a section before that of a run.
 pub fn runs_of_bytes(alloc: Global, bytes: &[u8]) -> Result<Vec<TableRun>, DecompileFault>
     ensures { Decompiles (λ v. v.items) result (TableRuns.table_runs bytes.now) }
 {

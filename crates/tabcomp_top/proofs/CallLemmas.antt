@@ -8,7 +8,7 @@ use Rattle.tabcomp_top.specs.TabCall.{DoesJob, IsRead, asked_input, no_memory_to
 use Rattle.tabcomp_top.specs.declared.status.TabStatus.{TabStatus}
 use Rattle.tabcomp_top.specs.declared.status.TabStatus.TheVariants.{Done, NoMemory, Words, ReadFault, WriteFault, Compile, Decompile, TooMany}
 
--- the conversion was put into the output
+-- the conversion was written to the output
 pub does-put : (job : Job) (old mid new : DeskView) (bytes text : List ℕ) (status : TabStatus)
     → IsRead job old bytes → mid ≡ asked_input job old → converted job.task bytes ≡ Ok text → Puts job.output text mid new status
     → DoesJob job old new status
@@ -19,7 +19,7 @@ does-put job old mid new bytes text status read asked conversion puts = record {
   desk_is = puts.desk_is ∙ ap (λ (d : DeskView). desk_after_put d job.output text puts.end) asked;
 }
 
--- there is no conversion, or there was no memory for it
+-- there is no conversion, or it ran out of memory
 pub does-refuse : (job : Job) (old mid : DeskView) (bytes : List ℕ) (status : TabStatus)
     → IsRead job old bytes → mid ≡ asked_input job old → RefusesAs status (converted job.task bytes) → DoesJob job old mid status
 does-refuse job old mid bytes NoMemory read asked refusal = record { end = no_memory_to_convert; can_end = tt; status_is = refl; desk_is = asked }

@@ -100,7 +100,7 @@ declined told task.Compile bytes fault gives = absurd (compiled-told fault (comp
 declined told task.Decompile bytes fault gives = refl
 declined told task.Canonical bytes fault gives = absurd (canonical-told told bytes fault gives)
 
--- what the status of an end tells: of one whose conversion is refused
+-- what the status of an end says: of one whose conversion is refused
 tells-refused : IsDecompiled → (job : Job) (old new : DeskView) (bytes : List ℕ) (why : TabStatus) → IsRefusal why → IsRead job old bytes
     → converted job.task bytes ≡ Err why → new.outputs ≡ old.outputs → TellsCause job old new why
 tells-refused told job old new bytes (Compile fault) kind read is same = record { bytes = bytes; read = read; no_conversion = is; nothing_written = same }
@@ -135,7 +135,7 @@ tells told job old new line (put bytes text end) can is = tells-put job old new 
 tells told job old new line no_memory_to_read can is = (kept _ new line is).outputs
 tells told job old new line no_memory_to_convert can is = (kept _ new line is).outputs
 
--- want of memory and a failed reading come with any conversion
+-- running out of memory and a failed reading come with any conversion
 comes-no_memory : (r : Result (List ℕ) TabStatus) → ComesOf r NoMemory
 comes-no_memory (Ok text) = inl refl
 comes-no_memory (Err why) = inl refl
@@ -189,11 +189,11 @@ causes told words job old new status is call =
     theorem-causes told job old new status
     (subst (λ (r : Result Job ℕ). MatchResult r (λ j. TabTheorem j old new status) (λ word. RefusesWords word old new status)) is call)
 
--- where no fault happened there is none to tell
+-- where no fault happened there is none to report
 no_cause : (old new : ℕ) → IsQuiet old new → HasCause old new → ⊥
 no_cause old new quiet cause = let rise = cause.rose quiet.below in let same = quiet.same in absurd (omega arith)
 
--- without faults outside a conversion is put, or memory was wanting
+-- without faults outside, a conversion is written, or memory ran out
 done : (job : Job) (old new : DeskView) (status : TabStatus) (text : List ℕ) → TellsCause job old new status → NothingFails old new
     → ComesOf (Ok text) status → (status ≡ Done) ⊎ (status ≡ NoMemory)
 done job old new status text cause fine (inl is) = inr is

@@ -46,7 +46,7 @@ closes (Err fault) old new opened sink name bytes fresh whole is = (
       ∙ ap (λ (b : List ℕ). closed_short old name b) (sym (take_all (length bytes) bytes (le_refl (length bytes)))),
 )
 
--- the writing failed behind the first bytes, whatever the closing answered
+-- writing failed after the first bytes, whatever the closing returned
 pub closes-short : (failed : Bool) (old new : DeskView) (opened sink : SinkView) (name bytes : List ℕ) (count : ℕ)
     → opened ≡ new_sink old name → count < length bytes → sink ≡ write_failed (took opened (take count bytes))
     → new ≡ output_closed old sink failed

@@ -1,4 +1,4 @@
--- The table of causes of `tstabcomp`: what each status tells, and when it comes. This project's own rule.
+-- The table of causes of `tstabcomp`: what each status says, and when it comes. This project's own rule.
 use Rattle.std.specs.Prelude.{◌≡◌, ◌⊎◌, ℕ, ◌<◌, ◌≤◌, List, [], ◌∷◌, length, take, IfSome, Result, Ok, Err}
 use Rattle.ts_outside.specs.Count.{HasCause}
 use Rattle.ts_outside.specs.Told.{grown}
@@ -36,7 +36,7 @@ pub record IsCutShort (job : Job) (old new : DeskView) : Type 0 where
       ⊎ ((count : ℕ) × (count ≤ length text) × (new.outputs ≡ grown old.outputs ((job.output, take count text) ∷ [])))
   pub rose : HasCause old.write_faults new.write_faults
 
--- what a status tells of a call whose words ask for this job; the sections that a text was compiled to are never refused
+-- what a status says of a call whose words ask for this job; sections that a text was compiled to are never refused
 abbrev pub TellsCause : Job → DeskView → DeskView → TabStatus → Type 0
 TellsCause job old new Done = IsConverted job old new
 TellsCause job old new NoMemory = new.outputs ≡ old.outputs
@@ -49,14 +49,14 @@ TellsCause job old new (Decompile fault) = IsRefused job old new (Decompile faul
 TellsCause job old new TooMany =
     IfSome (content old job.input) (λ file. most_bytes < length file) × (new.outputs ≡ old.outputs)
 
--- what comes of an input by its conversion: want of memory, a failed reading, and else exactly the refusal,
--- or that the conversion is put
+-- the status of an input by its conversion: out of memory, a failed read, and else exactly the refusal,
+-- or the status of writing the result
 abbrev pub ComesOf : Result (List ℕ) TabStatus → TabStatus → Type 0
 ComesOf (Err why) status = (status ≡ NoMemory) ⊎ ((status ≡ ReadFault) ⊎ (status ≡ why))
 ComesOf (Ok text) status =
     (status ≡ NoMemory) ⊎ ((status ≡ ReadFault) ⊎ ((status ≡ Done) ⊎ (status ≡ WriteFault)))
 
--- when a status comes, for an input that the desk tells
+-- when a status comes, for an input that the desk has
 pub record ComesExactly (job : Job) (file : List ℕ) (status : TabStatus) : Type 0 where
   pub too_many : most_bytes < length file → (status ≡ NoMemory) ⊎ ((status ≡ ReadFault) ⊎ (status ≡ TooMany))
   pub within : length file ≤ most_bytes → ComesOf (converted job.task file) status

@@ -1,4 +1,4 @@
--- What `tstabcomp` makes of the bytes that it read. This project's own rule.
+-- The conversion of the bytes that `tstabcomp` reads. This project's own rule.
 use Rattle.std.specs.Prelude.{◌≡◌, ℕ, List, Result, Ok, Err}
 use Rattle.tabcomp_core.specs.declared.fault.CompileFault.{CompileFault}
 use Rattle.tabcomp_core.specs.declared.fault.DecompileFault.{DecompileFault}
@@ -24,17 +24,18 @@ abbrev pub canonical : Result (List ℕ) CompileFault → Result (List ℕ) TabS
 canonical (Ok sections) = of_decompiled (decompiled sections)
 canonical (Err fault) = Err (Compile fault)
 
--- the conversion of bytes, or the status that tells why there is none
+-- the conversion of bytes, or the status that says why there is none
 unfoldable pub converted : Task → List ℕ → Result (List ℕ) TabStatus
 converted task.Compile bytes = of_compiled (compiled bytes)
 converted task.Decompile bytes = of_decompiled (decompiled bytes)
 converted task.Canonical bytes = canonical (compiled bytes)
 
--- a call refused as the conversion does; want of memory says nothing of the bytes
+-- a call refused as the conversion does; out of memory says nothing about the bytes
 abbrev pub RefusesAs : TabStatus → Result (List ℕ) TabStatus → Type 0
 RefusesAs NoMemory result = Unit {0}
 RefusesAs status result = result ≡ Err status
 
+-- the result of a call is the conversion; out of memory says nothing about the bytes
 abbrev pub Converts : {X : Type 0} → (X → List ℕ) → Result X TabStatus → Result (List ℕ) TabStatus → Type 0
 Converts view (Ok x) result = result ≡ Ok (view x)
 Converts view (Err status) result = RefusesAs status result

@@ -14,7 +14,7 @@ use Rattle.tabcomp_top.specs.declared.status.TabStatus.TheVariants.{Done, NoMemo
 abbrev pub closed : DeskView → List ℕ → List ℕ → DeskView
 closed desk name bytes = record desk { outputs = grown desk.outputs ((name, bytes) ∷ []) }
 
--- the same, but its writing or its closing failed
+-- the same, but writing or closing it failed
 abbrev pub closed_short : DeskView → List ℕ → List ℕ → DeskView
 closed_short desk name bytes =
     record desk {
@@ -22,18 +22,18 @@ closed_short desk name bytes =
       write_faults = raised desk.write_faults;
     }
 
--- how the putting of an output ended
+-- how the writing of an output ended
 pub data PutEnd : Type 0 where
   -- it was not opened
   not_opened : PutEnd
-  -- it was opened, and its writing or its closing failed behind the first `count` bytes
+  -- it was opened, and writing or closing it failed after the first `count` bytes
   cut_short : (count : ℕ) → PutEnd
   -- all was written, and it was closed
   written : PutEnd
-  -- memory was wanted for the opening
+  -- out of memory at the opening
   out_of_memory : PutEnd
 
--- the status that tells it
+-- the status of that end
 abbrev pub status_of_put : PutEnd → TabStatus
 status_of_put not_opened = WriteFault
 status_of_put (cut_short count) = WriteFault
@@ -52,7 +52,7 @@ abbrev pub CanPut : List ℕ → PutEnd → Type 0
 CanPut bytes (cut_short count) = count ≤ length bytes
 CanPut bytes _ = Unit {0}
 
--- a call put these bytes into an output of this name, or ended as it may
+-- a call wrote these bytes to an output of this name, or ended as it may
 pub record Puts (name bytes : List ℕ) (old new : DeskView) (status : TabStatus) : Type 0 where
   pub end : PutEnd
   pub can_end : CanPut bytes end
@@ -68,8 +68,8 @@ new_sink desk name =
       faults = 0;
     }
 
--- an output of this name, open with nothing taken, took these bytes and was closed; or its writing or its
--- closing failed
+-- an output of this name, open and empty, took these bytes and was closed; or writing or closing it
+-- failed
 abbrev pub Closes : {T : Type 0} → List ℕ → List ℕ → DeskView → DeskView → Result T Failed → Type 0
 Closes name bytes old new (Ok x) = new ≡ closed old name bytes
 Closes name bytes old new (Err fault) = (count : ℕ) × (count ≤ length bytes) × (new ≡ closed_short old name (take count bytes))

@@ -1,8 +1,9 @@
--- The exit number of each status of `tstabcomp`, and the line that is reported. This project's own rule.
+-- The exit status for each status of `tstabcomp`, and the line that is reported. This project's own rule.
 use Rattle.std.specs.Prelude.{ℕ, List, [], ◌∷◌, ◌++◌, codes}
 use Rattle.tabcomp_top.specs.declared.status.TabStatus.{TabStatus}
 use Rattle.tabcomp_top.specs.declared.status.TabStatus.TheVariants.{Done, NoMemory, Words, ReadFault, WriteFault, Compile, Decompile, TooMany}
 
+-- the exit status of the program
 abbrev pub exit_number : TabStatus → ℕ
 exit_number Done = 0
 exit_number NoMemory = 1
@@ -17,7 +18,7 @@ exit_number TooMany = 7
 abbrev pub line : List ℕ → List ℕ
 line text = text ++ 10 ∷ []
 
--- the line of a status; nothing where all was written, and nothing where memory was wanting
+-- the line of a status; empty where all was written, and where memory ran out
 abbrev pub line_of : TabStatus → List ℕ
 line_of Done = []
 line_of NoMemory = []

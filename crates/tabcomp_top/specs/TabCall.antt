@@ -1,4 +1,4 @@
--- What a call of `tstabcomp` does: the words are read, then the input, and what becomes of it is written.
+-- A call of `tstabcomp`: it reads the words and the input, converts it and writes the output.
 -- This project's own rule.
 use Rattle.std.specs.Prelude.{◌≡◌, ℕ, ◌<◌, ◌≤◌, List, length, IfSome, Ok, Err, MatchResult}
 use Rattle.ts_outside.specs.declared.requests.Purpose.TheVariants.{File}
@@ -11,11 +11,11 @@ use Rattle.tabcomp_top.specs.Putting.{PutEnd, status_of_put, desk_after_put, Can
 use Rattle.tabcomp_top.specs.declared.status.TabStatus.{TabStatus}
 use Rattle.tabcomp_top.specs.declared.status.TabStatus.TheVariants.{NoMemory, Words, ReadFault, TooMany}
 
--- the most bytes that an input may have
+-- the greatest size of an input in bytes
 abbrev pub most_bytes : ℕ
 most_bytes = 16777216
 
--- how a call ended whose words are lawful
+-- how a call with valid words ended
 pub data TabEnd : Type 0 where
   -- the input was not read
   not_read : TabEnd
@@ -23,15 +23,15 @@ pub data TabEnd : Type 0 where
   too_long : TabEnd
   -- these bytes were read, and their conversion is refused with this status
   refused : (bytes : List ℕ) → (why : TabStatus) → TabEnd
-  -- these bytes were read and converted to this text, which was put into the output, or the putting ended in
+  -- these bytes were read and converted to this text, which was written to the output, or the writing ended in
   -- another way
   put : (bytes text : List ℕ) → (end : PutEnd) → TabEnd
-  -- memory was wanted before the input was read
+  -- out of memory before the input was read
   no_memory_to_read : TabEnd
-  -- memory was wanted for the conversion
+  -- out of memory in the conversion
   no_memory_to_convert : TabEnd
 
--- the status that tells it
+-- the status of that end
 abbrev pub status_of : TabEnd → TabStatus
 status_of not_read = ReadFault
 status_of too_long = TooMany
@@ -40,11 +40,11 @@ status_of (put bytes text end) = status_of_put end
 status_of no_memory_to_read = NoMemory
 status_of no_memory_to_convert = NoMemory
 
--- the desk after the input was asked for
+-- the desk after a request for the input
 abbrev pub asked_input : Job → DeskView → DeskView
 asked_input job desk = asked_well desk File job.input
 
--- the desk after that end, before the line is reported; the output is asked for only where there is a
+-- the desk after that end, before the line is reported; the output is requested only where there is a
 -- conversion
 abbrev pub desk_after : Job → DeskView → TabEnd → DeskView
 desk_after job desk not_read = asked_in_vain desk File job.input
@@ -54,7 +54,7 @@ desk_after job desk (put bytes text end) = desk_after_put (asked_input job desk)
 desk_after job desk no_memory_to_read = desk
 desk_after job desk no_memory_to_convert = asked_input job desk
 
--- these bytes were read: those of the input, where the desk tells them, and no more than an input may have
+-- these bytes were read: those of the input, where the desk has it, and no more than an input may have
 pub record IsRead (job : Job) (desk : DeskView) (bytes : List ℕ) : Type 0 where
   pub told : IfSome (content desk job.input) (λ file. bytes ≡ file)
   pub within : length bytes ≤ most_bytes
@@ -77,11 +77,11 @@ pub record DoesJob (job : Job) (old new : DeskView) (status : TabStatus) : Type 
 pub record TabTheorem (job : Job) (old new : DeskView) (status : TabStatus) : Type 0 where
   -- how it ended
   pub end : TabEnd
-  -- that is an end to which the job comes with this input
+  -- an end that this job can have with this input
   pub can_end : CanEnd job old end
-  -- the status tells it
+  -- the status is that of the end
   pub status_is : status ≡ status_of end
-  -- all that was asked for, written and counted is what belongs to that end, and then the line of the status
+  -- all requests, outputs and counts are those of that end, and then the line of the status
   -- is reported
   pub desk_is : Tells (desk_after job old end) new (line_of status)
 

@@ -6,7 +6,7 @@ use Rattle.tabcomp_top.specs.declared.task.Task.{Task}
 use Rattle.tabcomp_top.specs.declared.task.Task.TheVariants.{Compile, Decompile, Canonical}
 use Rattle.tabcomp_top.specs.declared.job.Job as held
 
--- what is to be done: the task, and the names of the input and of the output
+-- the task, and the names of the input and of the output
 pub record Job : Type 0 where
   pub task : Task
   pub input : List ℕ
@@ -19,7 +19,7 @@ task_of word =
     else (if bytes_eq word (codes "--decompile") then Some Decompile
     else (if bytes_eq word (codes "--canonical") then Some Canonical else None))
 
--- the task with the names behind its word. An absent name is the empty one, and that is the standard stream;
+-- the task with the names after its word. An absent name is the empty one, and that is the standard stream;
 -- of three names or more the third, which is word 3, is one too many
 abbrev pub job_with : Task → List (List ℕ) → Result Job ℕ
 job_with task [] = Ok (record { task = task; input = []; output = [] })
@@ -27,12 +27,12 @@ job_with task (input ∷ []) = Ok (record { task = task; input = input; output =
 job_with task (input ∷ (output ∷ [])) = Ok (record { task = task; input = input; output = output })
 job_with task (input ∷ (output ∷ (third ∷ more))) = Err 3
 
+-- the task with the names after its word, or the refusal of that word
 abbrev pub job_behind : Option Task → List (List ℕ) → Result Job ℕ
 job_behind None names = Err 0
 job_behind (Some task) names = job_with task names
 
--- what the words ask for, or the number of the first, from 0, that breaks the form; where there is no word,
--- their number
+-- what the words ask for, or the number, from 0, of the first that breaks the form; 0 where there is no word
 abbrev pub job_of : List (List ℕ) → Result Job ℕ
 job_of [] = Err 0
 job_of (word ∷ names) = job_behind (task_of word) names
@@ -41,7 +41,7 @@ job_of (word ∷ names) = job_behind (task_of word) names
 abbrev pub meant : held.Job → Job
 meant job = record { task = job.task; input = job.input.now; output = job.output.now }
 
--- a call answered what the words ask for, or the word that breaks the form
+-- a call returned what the words ask for, or the word that breaks the form
 abbrev pub MeansJob : Result held.Job ℕ → Result Job ℕ → Type 0
 MeansJob (Ok job) asked = asked ≡ Ok (meant job)
 MeansJob (Err word) asked = asked ≡ Err word

@@ -1,4 +1,4 @@
-//! The top call: the words are read, then the input, and what becomes of it is written.
+//! The top call of `tstabcomp`: it reads the words and the input, converts it and writes the output.
 ghost use Rattle.std.specs.Prelude.{◌≡◌, map};
 ghost use Rattle.std.specs.String.{string_bytes};
 ghost use Rattle.ts_outside.specs.Desk.{DeskView};
@@ -13,10 +13,10 @@ use crate::telling::tell;
 use std::alloc::Global;
 use ts_outside::{Desk, FileFault};
 
-/// The most bytes that an input may have.
+/// The greatest size of an input in bytes.
 const MOST_BYTES: usize = 16_777_216;
 
-/// Converts bytes that were read, and writes what becomes of them.
+/// Converts bytes that were read, and writes the result.
 fn convert_and_put<D: Desk>(alloc: Global, job: Job<'_>, desk: &mut D, bytes: &[u8]) -> TabStatus
     ensures { (old : DeskView) → IsRead (meant job.entry) old bytes.now
         → D.seen desk.old ≡ asked_input (meant job.entry) old
@@ -28,7 +28,7 @@ fn convert_and_put<D: Desk>(alloc: Global, job: Job<'_>, desk: &mut D, bytes: &[
     }
 }
 
-/// Reads the input, converts it, and writes what becomes of it.
+/// Reads the input, converts it, and writes the result.
 fn do_job<D: Desk>(alloc: Global, job: Job<'_>, desk: &mut D) -> TabStatus
     ensures { DoesJob (meant job.entry) (D.seen desk.old) (D.seen desk.new) result }
 {
@@ -40,13 +40,13 @@ fn do_job<D: Desk>(alloc: Global, job: Job<'_>, desk: &mut D) -> TabStatus
     }
 }
 
-/// Does what the words of a command line ask for, given without the program's name.
+/// Does what the words of a command line, without the program's name, ask for.
 ///
 /// The words are a task, `--compile`, `--decompile` or `--canonical`, and then at most two names, that of the
 /// input and that of the output. Any word is a name there; an absent or empty one is the standard stream. The
-/// input is read whole, it is converted, and only then the output is opened, written and closed. The statuses
+/// input is read whole and converted, and only then is the output opened, written and closed. The statuses
 /// come in this order: `Words`; `ReadFault` or `TooMany`; `Compile` or `Decompile`; `WriteFault`, at the
-/// opening, the writing or the closing. The line of the status is reported; that this fails changes no
+/// opening, the writing or the closing. The line of the status is reported; a failure of this changes no
 /// status. `NoMemory` may come in each step up to the opening, and leaves no output.
 pub fn tabcomp_call<D: Desk>(alloc: Global, words: &[String], desk: &mut D) -> TabStatus
     ensures { CallsTab (map string_bytes words.now) (D.seen desk.old) (D.seen desk.new) result }

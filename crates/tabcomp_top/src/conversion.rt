@@ -1,4 +1,4 @@
-//! What becomes of the bytes that were read.
+//! The conversion of the bytes that were read.
 ghost use Rattle.std.specs.Prelude.{◌≡◌};
 ghost use Rattle.tabcomp_core.specs.Compiling.{compiled};
 ghost use Rattle.tabcomp_core.specs.Decompiling.{decompiled};
@@ -9,7 +9,7 @@ use crate::task::Task;
 use std::alloc::Global;
 use tabcomp_core::{CompileFault, DecompileFault, compile, decompile};
 
-/// The sections of the tables of a text.
+/// The bytes of the sections of the tables of a text.
 fn compiled_bytes(alloc: Global, text: &[u8]) -> Result<Vec<u8>, TabStatus>
     ensures { Converts (λ v. v.items) result (of_compiled (compiled text.now)) }
 {
@@ -31,7 +31,7 @@ fn decompiled_bytes(alloc: Global, sections: &[u8]) -> Result<Vec<u8>, TabStatus
     }
 }
 
-/// The conversion of bytes for a task, or the status that tells why there is none.
+/// The conversion of bytes for a task, or the status that says why there is none.
 #[tactic(auto, unfolding(crate::specs::Conversion::converted))]
 pub(crate) fn convert(alloc: Global, task: Task, bytes: &[u8]) -> Result<Vec<u8>, TabStatus>
     ensures { Converts (λ v. v.items) result (converted task bytes.now) }

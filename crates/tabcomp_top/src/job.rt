@@ -1,11 +1,11 @@
-//! The words of a command line as a task and two names.
+//! Reading the words of a command line: a task and two names.
 ghost use Rattle.std.specs.Prelude.{map};
 ghost use Rattle.std.specs.String.{string_bytes};
 ghost use Rattle.tabcomp_top.specs.TabWords.{MeansJob, job_of, job_with};
 
 use crate::task::Task;
 
-/// What is to be done, on which input, and the output for what comes of it. An empty name is the standard
+/// The task, the name of its input and the name of the output for the result. An empty name is the standard
 /// stream.
 #[derive(Drop, Clone, Copy)]
 pub(crate) struct Job<'a> {
@@ -14,7 +14,7 @@ pub(crate) struct Job<'a> {
     pub(crate) output: &'a str,
 }
 
-/// The task with the names behind its word, or the number of the word that is one name too many.
+/// The task with the names after its word; or the number of the first word too many.
 fn job_with(task: Task, names: &[String]) -> Result<Job<'_>, usize>
     ensures { MeansJob result (job_with task (map string_bytes names.now)) }
 {
@@ -31,7 +31,7 @@ fn job_with(task: Task, names: &[String]) -> Result<Job<'_>, usize>
     })
 }
 
-/// What the words ask for, or the number of the first that breaks the form, from 0.
+/// What the words ask for, or the number, from 0, of the first word that breaks the form; 0 where there is no word.
 pub(crate) fn read_words(words: &[String]) -> Result<Job<'_>, usize>
     ensures { MeansJob result (job_of (map string_bytes words.now)) }
 {

@@ -1,4 +1,4 @@
-//! What follows from the clause of `tabcomp_call`, as laws: facts and no code.
+//! Laws that follow from the clause of `tabcomp_call`.
 ghost use Rattle.std.specs.Prelude.{◌≡◌, ◌≢◌, ◌⊎◌, ◌≤◌, ℕ, List, Ok, Err, Some, length};
 ghost use Rattle.tabcomp_core.specs.declared.fault.DecompileFault.{DecompileFault};
 ghost use Rattle.ts_outside.specs.Desk.{DeskView, content};
@@ -13,9 +13,10 @@ ghost use Rattle.tabcomp_top.specs.declared.task.Task.TheVariants.{Canonical};
 
 use tabcomp_core::compiled_is_decompiled;
 
-/// The table of causes: words that break the form are told exactly by the first that does, and of all other
-/// calls each status tells its cause and comes exactly where that is so, want of memory and failed reads and
-/// writes apart. The sections of a text are never refused: `--canonical` does not end with `Decompile`.
+/// The table of causes. Words that break the form are reported exactly, by the first that does. For all other
+/// calls each status says its cause and comes exactly where that cause is there, apart from running out of memory and
+/// failed reads and writes. The sections of a text are never refused: `--canonical` does not end with `Decompile`.
+/// A law; it runs nothing.
 pub fn causes()
     ensures words { (words : List (List ℕ)) (word : ℕ) (old new : DeskView) (status : TabStatus)
         → job_of words ≡ Err word → CallsTab words old new status → status ≡ Words word }
@@ -27,8 +28,8 @@ pub fn causes()
     compiled_is_decompiled();
 }
 
-/// A call with lawful words, whose input is told, is no longer than it may be and has a conversion, and that
-/// meets no fault outside, answers `Done`, or that memory was wanting.
+/// A call with valid words, whose input is known, within its greatest size and convertible, and that meets no fault
+/// outside, returns `Done` or `NoMemory`. A law; it runs nothing.
 pub fn completeness()
     ensures { (words : List (List ℕ)) (job : Job) (file text : List ℕ)
         (old new : DeskView) (status : TabStatus)

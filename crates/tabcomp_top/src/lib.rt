@@ -1,5 +1,5 @@
-//! The top call of `tstabcomp`: words and a desk come in; sections or a JSON text go out, and a status comes
-//! back. The program uses the clauses of `tabcomp_call` and of `TabStatus::exit_code`, and nothing else.
+//! The top call of `tstabcomp`: words and a desk are given; the output is a file of sections or a JSON text, and
+//! a status is returned. The program uses the clauses of `tabcomp_call` and of `TabStatus::exit_code`, and nothing else.
 #![tactic(auto)]
 
 mod call;

@@ -1,11 +1,11 @@
-//! The output: opened, written and closed.
+//! Opening, writing and closing the output.
 ghost use Rattle.std.specs.Prelude.{◌≡◌, ℕ, List};
 ghost use Rattle.tabcomp_top.specs.Putting.{Closes, Puts, new_sink};
 
 use crate::status::TabStatus;
 use ts_outside::{Desk, Failed, OpenFault, write_whole};
 
-/// Writes all bytes into an open output, and closes it in any case.
+/// Writes all bytes to an open output, and closes it in any case.
 fn write_and_close<D: Desk>(desk: &mut D, output: D::Out, bytes: &[u8]) -> Result<(), Failed>
     ensures { (name : List ℕ) → D.Out.seen output ≡ new_sink (D.seen desk.old) name
         → Closes name bytes.now (D.seen desk.old) (D.seen desk.new) result }

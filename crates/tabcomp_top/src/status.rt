@@ -1,3 +1,4 @@
+//! The status of a call of `tstabcomp`.
 ghost use Rattle.std.specs.Prelude.{◌≡◌};
 ghost use Rattle.tabcomp_top.specs.StatusText.{exit_number, line_of};
 
@@ -6,16 +7,16 @@ use tabcomp_core::{CompileFault, DecompileFault};
 /// How a call of `tstabcomp` ended.
 #[derive(Debug, Drop)]
 pub enum TabStatus {
-    /// The input was converted, and all of that was written.
+    /// The input was converted, and the whole result was written.
     Done,
-    /// Memory was wanting. Nothing was written.
+    /// Out of memory. Nothing was written.
     NoMemory,
-    /// The words are no command line: this one, from 0, is the first that breaks the form, or it is the
-    /// number of words where there is none. Nothing was read.
+    /// The words are not a command line: this word, from 0, is the first that breaks the form; it is 0 where there is
+    /// no word. Nothing was read.
     Words { word: usize },
     /// The input was not read.
     ReadFault,
-    /// The output was not opened, or its writing or its closing failed. A first part of it may have been
+    /// The output was not opened, or writing or closing it failed. A first part of it may have been
     /// written.
     WriteFault,
     /// The text was read, and has no sections.
@@ -27,7 +28,7 @@ pub enum TabStatus {
 }
 
 impl TabStatus {
-    /// The program's exit number.
+    /// The program's exit status.
     pub fn exit_code(&self) -> u8
         ensures { result ≡ exit_number self.now }
     {
@@ -43,7 +44,7 @@ impl TabStatus {
         }
     }
 
-    /// The line that is reported; none where all was written, and none where memory was wanting.
+    /// The line that is reported; empty where all was written, and where memory ran out.
     pub(crate) fn line(&self) -> &'static str
         ensures { result.now ≡ line_of self.now }
     {

@@ -1,3 +1,4 @@
+//! The task of a call of `tstabcomp`.
 ghost use Rattle.std.specs.Prelude.{◌≡◌};
 ghost use Rattle.tabcomp_top.specs.TabWords.{task_of};
 
@@ -13,7 +14,7 @@ pub(crate) enum Task {
 }
 
 impl Task {
-    /// The task of a word.
+    /// The task of a word; none where no task has it.
     pub(crate) fn of(word: &str) -> Option<Task>
         ensures { result ≡ task_of word.now }
     {

@@ -1,4 +1,4 @@
--- Want of memory is no fault of a file.
+-- Running out of memory is not a fault of a file.
 use Rattle.std.proofs.Common.{◌≡◌, ℕ, ◌+◌, List, [], ◌∷◌, ◌<◌, length, arith, Bool, true, false, if◌then◌else◌, nat_lt, Option, None, Some, Result, Ok, Err}
 use Rattle.std.proofs.lemmas.Bool.{cond-true}
 use Rattle.std.proofs.lemmas.Bool.Decides.{nat_tests}

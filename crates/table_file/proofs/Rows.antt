@@ -24,7 +24,7 @@ too-short = refl
 standard-input : is_json_name [] ≡ false
 standard-input = refl
 
--- a file of no byte is a row of no section
+-- a file without bytes has no sections, and is valid
 empty-file : sections_of_file (codes "e.bin") [] ≡ Ok []
 unfolding sections_of_file sections_from
 empty-file = refl

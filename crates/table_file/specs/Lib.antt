@@ -1,1 +1,2 @@
+-- The definition of the sections in a file of tables.
 pub mod TableFiles

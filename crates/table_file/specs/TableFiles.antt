@@ -1,6 +1,6 @@
--- The sections that a file of tables has. This project's own rule: a file whose name ends in `.json` is a text of
--- tables, and has the sections that it is compiled to; any other file is these sections one after another. Neither
--- has more bytes than there may be, and an empty row of sections is one.
+-- The sections of a file of tables. This project's own rule: a file whose name ends in `.json` is a text of
+-- tables, and has the sections that it is compiled to; any other file is sections one after another. Neither
+-- has more bytes than `most_bytes`; a file without bytes is valid and has no sections.
 use Rattle.std.specs.Prelude.{◌≡◌, ℕ, List, length, drop, ◌-◌, Bool, bytes_eq, nat_lt, codes, if◌then◌else◌, Result, Ok, Err}
 use Rattle.tabcomp_core.specs.declared.fault.CompileFault.{CompileFault}
 use Rattle.tabcomp_core.specs.declared.fault.DecompileFault.TheVariants.{Section}
@@ -11,18 +11,19 @@ use Rattle.table_file.specs.declared.fault.TableFileFault.TheVariants.{TooMany, 
 use Rattle.table_file.specs.declared.fault.NoTables.{NoTables}
 use Rattle.table_file.specs.declared.fault.NoTables.TheVariants.{Refused, NoMemory}
 
--- the most bytes that a file of tables may have
+-- the greatest size of a file of tables in bytes
 abbrev pub most_bytes : ℕ
 most_bytes = 16777216
 
--- how the name of a text of tables ends, letter by letter
+-- the ending of the name of a JSON text of tables
 abbrev pub json_ending : List ℕ
 json_ending = codes ".json"
 
+-- whether a name ends as that of a JSON text of tables
 abbrev pub is_json_name : List ℕ → Bool
 is_json_name name = bytes_eq (drop (length name - length json_ending) name) json_ending
 
--- the sections that bytes are, or the first that is none
+-- the sections in the bytes, or the first that is invalid
 abbrev pub of_sections : Result (List (List ℕ)) FaultAt → Result (List (List ℕ)) TableFileFault
 of_sections (Ok sections) = Ok sections
 of_sections (Err fault) = Err (Sections (Section fault.offset fault.fault))
@@ -38,7 +39,7 @@ sections_of_file name bytes =
     if nat_lt most_bytes (length bytes) then Err TooMany
     else (if is_json_name name then of_compiled (compiled bytes) else of_sections (sections_in bytes))
 
--- what a call answered is what the file has; want of memory says nothing of it
+-- the result is what the file has; out of memory says nothing about it
 abbrev pub TellsSections : {X : Type 0} → (X → List (List ℕ)) → Result X NoTables → Result (List (List ℕ)) TableFileFault → Type 0
 TellsSections view (Ok x) file = file ≡ Ok (view x)
 TellsSections view (Err (Refused fault)) file = file ≡ Err fault

@@ -1,26 +1,27 @@
+//! Why a file has no sections of tables.
 ghost use Rattle.std.specs.Prelude.{◌≡◌};
 ghost use Rattle.table_file.specs.declared.fault.NoTables.TheVariants.{NoMemory};
 
 use std::alloc::{AllocError, AllocFailed};
 use tabcomp_core::{CompileFault, DecompileFault};
 
-/// Why a file has no tables, whatever memory there is.
+/// Why a file has no sections of tables, whatever memory there is.
 #[derive(Debug, Drop)]
 pub enum TableFileFault {
     /// It has more than 16,777,216 bytes.
     TooMany,
-    /// It is a JSON text by its name, and is not compiled.
+    /// By its name it is a JSON text, and it is not compiled.
     Compile(CompileFault),
     /// Its bytes, or those that its text is compiled to, are not sections one after another.
     Sections(DecompileFault),
 }
 
-/// Why the sections of a file were not told.
+/// Why the sections of a file are not returned.
 #[derive(Debug, Drop)]
 pub enum NoTables {
     /// It has none, for this reason.
     Refused(TableFileFault),
-    /// Memory was wanting; nothing is left behind.
+    /// Out of memory.
     NoMemory,
 }
 

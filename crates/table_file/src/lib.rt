@@ -1,5 +1,5 @@
-//! The sections of the tables of a file, whose name tells in which of two forms they stand there.
-//! The layer above reads the file, and rests on `table_sections`.
+//! The sections in a file of tables, whose name says whether it is a JSON text or sections.
+//! The layer above reads the file, and uses `table_sections`.
 #![tactic(auto)]
 
 mod fault;

@@ -1,4 +1,4 @@
-//! What a file has by its name and its bytes.
+//! The sections of a file, from its name and its bytes.
 ghost use Rattle.std.specs.Prelude.{◌≡◌};
 ghost use Rattle.tabcomp_core.specs.Compiling.{compiled};
 ghost use Rattle.tabcomp_core.specs.Cutting.{sections_in};
@@ -9,17 +9,17 @@ use std::alloc::Global;
 use tabcomp_core::{CompileFault, DecompileFault, compile, sections_of};
 use ts_section::Section;
 
-/// The most bytes that a file of tables may have.
+/// The greatest size of a file of tables in bytes.
 pub const MOST_BYTES: usize = 16_777_216;
 
-/// Whether a file of this name is a text of tables: the name ends in `.json`, in small letters.
+/// Whether a file of this name is a JSON text of tables: the name ends in `.json`, in lower case.
 fn is_text(name: &str) -> bool
     ensures { result ≡ is_json_name name.now }
 {
     name.as_bytes().ends_with(b".json")
 }
 
-/// The sections that bytes are, one after another.
+/// The sections in the bytes, one after another.
 fn cut(alloc: Global, bytes: &[u8]) -> Result<Vec<Section>, NoTables>
     ensures { TellsSections (λ v. v.items) result (of_sections (sections_in bytes.now)) }
 {
@@ -44,8 +44,8 @@ fn compile_and_cut(alloc: Global, text: &[u8]) -> Result<Vec<Section>, NoTables>
 /// The sections of the file of this name with these bytes.
 ///
 /// A file whose name ends in `.json` is a JSON text of tables, and has the sections that it is compiled to; any other
-/// is its sections one after another. `Refused` comes exactly where it has more than 16,777,216 bytes or is neither;
-/// a file of no section has an empty row of them.
+/// file is sections one after another. `Refused` comes exactly where it has more than 16,777,216 bytes or is neither;
+/// a file without bytes has no sections, and is not refused.
 #[tactic(auto, unfolding(crate::specs::TableFiles::sections_of_file))]
 pub fn table_sections(alloc: Global, name: &str, bytes: &[u8]) -> Result<Vec<Section>, NoTables>
     ensures { TellsSections (λ v. v.items) result (sections_of_file name.now bytes.now) }

@@ -1,4 +1,4 @@
-//! Calls over a desk in memory: what is written, what is reported, and how a call ends whose desk fails.
+//! Calls over a desk in memory: what is written, what is reported, and how a call on a failing desk ends.
 ghost use Rattle.std.specs.Prelude.{◌≡◌, IfOk};
 
 use crate::compared::{same, same_bytes};
@@ -8,7 +8,7 @@ use std::test::Fail;
 use tabcomp_top::{TabStatus, tabcomp_call};
 use ts_outside::{FailPlan, FileBytes, FileList, MemoryDesk, NameText, NumberList};
 
-/// A PAT of one service, written as one would by hand.
+/// A PAT of one service, as written by hand.
 const PAT: &[u8] =
     br##"{"#name":"tsduck","#nodes":[{"#name":"PAT","transport_stream_id":1,"#nodes":[{"#name":"service","service_id":1,"program_map_PID":"0x1000"}]}]}"##;
 
@@ -23,14 +23,14 @@ fn files(alloc: Global) -> Result<FileList, AllocError> {
     Ok(FileList::of(vec![in alloc; (name, bytes)]?))
 }
 
-/// A desk with that file, on which the closing of this number fails.
+/// A desk with that file, on which the closing with this number fails.
 fn desk(alloc: Global, failing: u64) -> Result<Box<MemoryDesk>, AllocError> {
     let files = files(alloc)?;
     let plan = plan(alloc, failing)?;
     Ok(Box::new(alloc, MemoryDesk::new(alloc, files, plan)?)?)
 }
 
-/// A plan by which that closing fails, and nothing else.
+/// A plan by which only that closing fails.
 fn plan(alloc: Global, failing: u64) -> Result<FailPlan, AllocError>
     ensures { IfOk result (λ p. (p.read_piece ≡ 100) × (p.write_piece ≡ 70)) }
 {
@@ -40,7 +40,7 @@ fn plan(alloc: Global, failing: u64) -> Result<FailPlan, AllocError>
     Ok(plan)
 }
 
-/// The words of a text, which stand between spaces.
+/// The words of a text, separated by spaces.
 fn words_of(alloc: Global, text: &str) -> Result<Vec<String>, AllocError> {
     let mut words = Vec::new(alloc);
     for word in text.split(' ') {
@@ -49,12 +49,12 @@ fn words_of(alloc: Global, text: &str) -> Result<Vec<String>, AllocError> {
     Ok(words)
 }
 
-/// Looks at the first output, if there is to be one.
+/// Checks the first output, if there is to be one.
 fn is_written(rt: &impl Abort, desk: &MemoryDesk, wanted: Option<&[u8]>) {
     assert_eq!(rt; desk.output(0).map(|(_, bytes)| bytes), wanted);
 }
 
-/// Makes a call, and looks at its exit number, at what it reported and at what it wrote.
+/// Makes a call, and checks its exit status, its report and its output.
 fn calls(
     rt: &(impl Abort + AllocGlobal),
     words: &[String],
@@ -92,7 +92,7 @@ fn a_failing_close_is_told(rt: HostRuntime) -> Result<(), Fail> {
     Ok(())
 }
 
-/// Looks which word of a call is told as faulty.
+/// Checks which word of a call is reported as faulty.
 fn is_faulty(
     rt: &(impl Abort + AllocGlobal),
     words: &[String],

@@ -1,19 +1,19 @@
-//! What the tests compare with. An assertion that is written out has many steps, and a call of these has one.
+//! Comparisons for the tests. An assertion that is written out has many steps, and a call of these has one.
 
 use std::fmt::Debug;
 use std::process::Abort;
 
-/// Looks whether a value is the wanted one.
+/// Checks that a value is the wanted one.
 pub(crate) fn same<T: Copy + PartialEq + Debug>(rt: &impl Abort, found: T, wanted: T) {
     assert_eq!(rt; found, wanted);
 }
 
-/// Looks whether bytes are the wanted ones.
+/// Checks that bytes are the wanted ones.
 pub(crate) fn same_bytes(rt: &impl Abort, found: &[u8], wanted: &[u8]) {
     assert_eq!(rt; found, wanted);
 }
 
-/// Looks whether a text is the wanted one.
+/// Checks that a text is the wanted one.
 pub(crate) fn same_text(rt: &impl Abort, found: &str, wanted: &str) {
     assert_eq!(rt; found, wanted);
 }

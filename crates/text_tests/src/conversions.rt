@@ -1,4 +1,4 @@
-//! Texts compiled, and bytes cut and decompiled, each call that takes memory once with enough of it.
+//! Texts compiled, and bytes cut and decompiled; each call that allocates is made once with enough memory.
 
 use crate::compared::{same, same_bytes};
 use crate::faults::{is_refused, json_fault, tells};
@@ -8,11 +8,11 @@ use tabcomp_core::{CompileFault, DecompileFault, compile, decompile, sections_of
 use ts_jtree::JsonKind;
 use ts_section::SectionFault;
 
-/// A PAT of one service, as text and as its section.
+/// The text of a PAT of one service.
 const PAT: &[u8] =
     br##"{"#name":"tsduck","#nodes":[{"#name":"PAT","transport_stream_id":1,"#nodes":[{"#name":"service","service_id":1,"program_map_PID":"0x1000"}]}]}"##;
 
-/// What a text is compiled to.
+/// The bytes that a text is compiled to.
 fn compiled(alloc: Global, text: &[u8]) -> Result<Vec<u8>, Fail> {
     match compile(alloc, text) {
         Ok(bytes) => Ok(bytes),
@@ -20,7 +20,7 @@ fn compiled(alloc: Global, text: &[u8]) -> Result<Vec<u8>, Fail> {
     }
 }
 
-/// How many sections bytes are.
+/// The number of sections in bytes.
 fn section_count(alloc: Global, bytes: &[u8]) -> Result<usize, DecompileFault> {
     Ok(sections_of(alloc, bytes)?.len())
 }
@@ -39,11 +39,11 @@ fn a_text_is_compiled(rt: HostRuntime) -> Result<(), Fail> {
     Ok(())
 }
 
-/// A service of number 0.
+/// A PAT with a service of number 0.
 const ZERO: &[u8] =
     br##"{"#name":"tsduck","#nodes":[{"#name":"PAT","transport_stream_id":1,"#nodes":[{"#name":"service","service_id":0,"program_map_PID":1}]}]}"##;
 
-/// Whether a text is no JSON.
+/// Whether a text is not JSON.
 fn is_no_json(alloc: Global, text: &[u8]) -> bool {
     matches!(compile(alloc, text), Err(CompileFault::NotJson))
 }
@@ -56,14 +56,14 @@ fn the_first_fault_is_told(rt: HostRuntime) -> Result<(), Fail> {
     Ok(())
 }
 
-/// A PAT with its CRC, which stands in ISO/IEC 13818-1's polynomial.
+/// A PAT of one service with its CRC.
 const PAT_BYTES: &[u8] = b"\x00\xB0\x0D\x00\x01\xC1\x00\x00\x00\x01\xF0\x00\x2A\xB1\x04\xB2";
 
 /// Its text.
 const PAT_TEXT: &str =
     r##"{"#name":"tsduck","#nodes":[{"#name":"PAT","#nodes":[{"#name":"service","program_map_PID":4096,"service_id":1}],"current":true,"transport_stream_id":1,"version":0}]}"##;
 
-/// A section of the short form, of table_id 0x72, as text.
+/// A section of the short form, with table_id 0x72, as text.
 const SHORT_TEXT: &str =
     r##"{"#name":"tsduck","#nodes":[{"#name":"generic_short_table","payload":"aa","private":true,"table_id":114}]}"##;
 
@@ -83,7 +83,7 @@ fn bytes_are_decompiled(rt: HostRuntime) -> Result<(), Fail> {
     Ok(())
 }
 
-/// The two one after another.
+/// The two, one after another.
 const BOTH: &[u8] =
     b"\x72\x70\x01\xAA\x00\xB0\x0D\x00\x01\xC1\x00\x00\x00\x01\xF0\x00\x2A\xB1\x04\xB2";
 
@@ -91,7 +91,7 @@ const BOTH: &[u8] =
 const BOTH_TEXT: &str =
     r##"{"#name":"tsduck","#nodes":[{"#name":"generic_short_table","payload":"aa","private":true,"table_id":114},{"#name":"PAT","#nodes":[{"#name":"service","program_map_PID":4096,"service_id":1}],"current":true,"transport_stream_id":1,"version":0}]}"##;
 
-/// The PAT's body in a table of bytes.
+/// The PAT's body in a table given by its bytes.
 const PAT_AS_BYTES: &[u8] =
     br##"{"#name":"tsduck","#nodes":[{"#name":"generic_long_table","table_id":0,"table_id_extension":1,"private":false,"#nodes":[{"#name":"section","payload":"0001f000"}]}]}"##;
 

@@ -9,7 +9,7 @@ const PAT: [u8; 16] = [
     0x00, 0xB0, 0x0D, 0x00, 0x01, 0xC1, 0x00, 0x00, 0x00, 0x01, 0xF0, 0x00, 0x2A, 0xB1, 0x04, 0xB2,
 ];
 
-/// Three bytes tell how long a section is.
+/// Three bytes are needed to know the length of a section.
 #[test]
 fn each_first_part_is_short(rt: HostRuntime) -> Result<(), Fail> {
     for found in 1..16 {

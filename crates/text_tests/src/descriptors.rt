@@ -1,4 +1,4 @@
-//! Descriptors as JSON texts and back, each call that takes memory once with enough of it.
+//! Descriptors as JSON texts and back; each call that allocates is made once with enough memory.
 
 ghost use Rattle.std.specs.Prelude.{◌≤◌, length};
 
@@ -17,7 +17,7 @@ static CABLE: [u8; 11] = [
     0x03, 0x46, 0x00, 0x00, 0xFF, 0xF2, 0x03, 0x00, 0x68, 0x75, 0x0F,
 ];
 
-/// The same with a digit ten, which is no decimal digit.
+/// The same with a digit ten, which is not a decimal digit.
 static NO_CABLE: [u8; 11] = [
     0x0A, 0x46, 0x00, 0x00, 0xFF, 0xF2, 0x03, 0x00, 0x68, 0x75, 0x0F,
 ];
@@ -42,7 +42,7 @@ fn read(alloc: Global, text: &str) -> Result<Descriptor, Fail> {
     Ok(json_descr(alloc, &value)?)
 }
 
-/// Looks at the JSON text of a descriptor.
+/// Checks the JSON text of a descriptor.
 fn is_shown(
     rt: &(impl Abort + AllocGlobal),
     tag: u8,
@@ -56,7 +56,7 @@ fn is_shown(
     Ok(())
 }
 
-/// Looks at the body of the descriptor of a JSON text.
+/// Checks the body of the descriptor of a JSON text.
 fn is_read(rt: &(impl Abort + AllocGlobal), text: &str, body: &[u8]) -> Result<(), Fail> {
     let back = read(rt.alloc(), text)?;
     same_bytes(rt, back.body(), body);
@@ -75,11 +75,11 @@ fn a_generic_one_is_shown_and_read(rt: HostRuntime) -> Result<(), Fail> {
     is_read(&rt, NO_CABLE_TEXT, &NO_CABLE)
 }
 
-/// A CA descriptor's second system has no value.
+/// A CA_identifier_descriptor whose second system has no value.
 const NO_SYSTEM: &str =
     r##"{"#name":"CA_identifier_descriptor","#nodes":[{"#name":"CA_system_id","value":1},{"#name":"CA_system_id"}]}"##;
 
-/// The fault of a text that is no descriptor.
+/// The fault of a text that is not a descriptor.
 fn fault(alloc: Global, text: &str) -> Result<JsonFault, Fail> {
     let value = Value::from_str(alloc, text)?;
     match json_descr(alloc, &value) {

@@ -1,4 +1,4 @@
-//! Elements read and shown, each call that takes memory once with enough of it.
+//! Elements read and shown; each call that allocates is made once with enough memory.
 
 use crate::compared::same_text;
 use crate::faults::kind_words;
@@ -35,12 +35,12 @@ fn refusal_text(alloc: Global, refusal: &ReadRefusal) -> Result<String, Fail> {
     }
 }
 
-/// How many values and children there are, as text.
+/// The numbers of values and children, as text.
 fn count_text(alloc: Global, values: usize, nodes: usize) -> Result<String, Fail> {
     Ok(format!(in alloc; "{values} values, {nodes} nodes")?)
 }
 
-/// How many values and children are read of an element, or its fault, as text.
+/// The numbers of values and children that are read from an element, or its fault, as text.
 fn read_text(alloc: Global, text: &str) -> Result<String, Fail> {
     let value = Value::from_str(alloc, text)?;
     match read_element(alloc, "event", EVENT, &value) {
@@ -49,7 +49,7 @@ fn read_text(alloc: Global, text: &str) -> Result<String, Fail> {
     }
 }
 
-/// Elements, and what is read of them.
+/// Elements, and what is read from them.
 static ELEMENTS: [(&str, &str); 8] = [
     (
         r##"{"#name":"event","event_id":"0x1F","start_time":"undefined","duration":"01:45:30"}"##,
@@ -79,12 +79,12 @@ static ELEMENTS: [(&str, &str); 8] = [
     ),
 ];
 
-/// The elements. What a `static` holds is written into each function that names it.
+/// The elements. The content of a `static` is written into each function that names it.
 fn elements() -> &'static [(&'static str, &'static str)] {
     &ELEMENTS
 }
 
-/// Looks what is read of an element.
+/// Checks what is read from an element.
 fn is_read(rt: &(impl Abort + AllocGlobal), text: &str, wanted: &str) -> Result<(), Fail> {
     let told = read_text(rt.alloc(), text)?;
     same_text(rt, told.as_str(), wanted);

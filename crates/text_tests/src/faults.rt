@@ -1,4 +1,4 @@
-//! What several tests look at of faults.
+//! Checks of faults that several tests use.
 
 use crate::compared::{same, same_text};
 use std::alloc::Global;
@@ -7,7 +7,7 @@ use std::test::Fail;
 use tabcomp_core::{CompileFault, DecompileFault, compile, decompile};
 use ts_jtree::{JsonFault, JsonKind};
 
-/// The fault of a text that is JSON, and no text of tables.
+/// The fault of a text that is JSON, and not a text of tables.
 pub(crate) fn json_fault(alloc: Global, text: &[u8]) -> Result<JsonFault, Fail> {
     match compile(alloc, text) {
         Err(CompileFault::Json(fault)) => Ok(fault),
@@ -15,7 +15,7 @@ pub(crate) fn json_fault(alloc: Global, text: &[u8]) -> Result<JsonFault, Fail> 
     }
 }
 
-/// Looks at all that a fault tells.
+/// Checks all that a fault reports.
 pub(crate) fn tells(rt: &impl Abort, fault: &JsonFault, path: &[usize], key: &str, kind: JsonKind) {
     assert_eq!(rt; fault.path.as_slice(), path);
     same_text(rt, fault.key.as_str(), key);
@@ -32,7 +32,7 @@ pub(crate) fn kind_words(kind: JsonKind) -> &'static str {
     }
 }
 
-/// Looks why bytes are not decompiled.
+/// Checks why bytes are not decompiled.
 pub(crate) fn is_refused(rt: &(impl Abort + AllocGlobal), bytes: &[u8], wanted: DecompileFault) {
     let told = decompile(rt.alloc(), bytes).err();
     same(rt, told, Some(wanted));

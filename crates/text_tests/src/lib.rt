@@ -1,4 +1,4 @@
-//! The tests of the crates of JSON and of the table compiler, in a crate of their own: a crate with tests is proved twice,
+//! The tests of the JSON crates and of the table compiler, in a crate of their own: a crate with tests is proved twice,
 //! and this one takes little time.
 #![tactic(auto)]
 

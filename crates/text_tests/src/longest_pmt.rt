@@ -1,14 +1,14 @@
-//! A text of a PMT without components, whose four descriptors of a private tag just fit, and one of a byte more.
+//! A text of a PMT without components, whose four private descriptors just fit, and one that is a byte longer.
 use crate::compared::same;
 use std::alloc::{AllocError, Global};
 use std::test::Fail;
 use tabcomp_core::{CompileFault, compile};
 use ts_table_rows::TableRefusal;
 
-/// What stands before the descriptors.
+/// The text before the descriptors.
 const HEAD: &[u8] = br##"{"#name":"tsduck","#nodes":[{"#name":"PMT","service_id":1,"#nodes":["##;
 
-/// Puts a descriptor of so many bytes behind the text.
+/// Appends a descriptor of this size to the text.
 fn push_descriptor(text: &mut Vec<u8>, count: usize) -> Result<(), AllocError> {
     text.extend_from_slice(br##"{"#name":"generic_descriptor","tag":128,"data":""##)?;
     for _ in 0..count {
@@ -38,7 +38,7 @@ fn compiled(alloc: Global, text: &[u8]) -> Result<Vec<u8>, Fail> {
     }
 }
 
-/// Its section_length is 13 + 771 + 237 = 1021, the most that a PMT may have.
+/// Its section_length is 13 + 771 + 237 = 1021, the greatest of a PMT.
 #[test]
 fn the_longest_pmt_is_compiled(rt: HostRuntime) -> Result<(), Fail> {
     let text = pmt_text(rt.alloc(), 235)?;

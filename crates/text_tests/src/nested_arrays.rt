@@ -4,7 +4,7 @@ use std::test::Fail;
 use tabcomp_core::{CompileFault, compile};
 use ts_jtree::{JsonFault, JsonKind};
 
-/// So many arrays, each in the one before.
+/// This number of arrays, each in the one before.
 fn nested(alloc: Global, depth: usize) -> Result<Vec<u8>, AllocError> {
     let mut text = Vec::new(alloc);
     for _ in 0..depth {
@@ -16,14 +16,14 @@ fn nested(alloc: Global, depth: usize) -> Result<Vec<u8>, AllocError> {
     Ok(text)
 }
 
-/// Whether the value that was read is no element.
+/// Whether the fault is that the value itself is not an element.
 fn is_of_root(fault: &JsonFault) -> bool {
     fault.path.as_slice().is_empty()
         && fault.key.as_str() == "#name"
         && fault.kind == JsonKind::WrongKind
 }
 
-/// Whether a text is read as JSON, which then is no element.
+/// Whether a text is read as JSON, which is then not an element.
 fn is_read(alloc: Global, text: &[u8]) -> Result<bool, Fail> {
     let Err(fault) = compile(alloc, text) else {
         return Err(Fail::from("it has tables"));
@@ -41,7 +41,7 @@ fn is_read(alloc: Global, text: &[u8]) -> Result<bool, Fail> {
     }
 }
 
-/// Whether so many nested arrays are read as JSON.
+/// Whether this number of nested arrays is read as JSON.
 fn is_json(alloc: Global, depth: usize) -> Result<bool, Fail> {
     let text = nested(alloc, depth)?;
     is_read(alloc, &text)

@@ -1,4 +1,4 @@
-//! Tables as JSON texts and sections, each call that takes memory once with enough of it.
+//! Tables as JSON texts and sections; each call that allocates is made once with enough memory.
 
 ghost use Rattle.std.specs.Prelude.{IfOk};
 ghost use Rattle.ts_json_tables.specs.HeldTables.{table_value};
@@ -28,14 +28,14 @@ fn written(alloc: Global, text: &str) -> Result<TableRun, Fail> {
     Ok(TableRun::of(table_sections(alloc, &table)?)?)
 }
 
-/// What a text is shown as that is read, written as sections and read again.
+/// The text that a table is shown as after it is read, written as sections and read again.
 fn again(alloc: Global, text: &str) -> Result<String, Fail> {
     let run = written(alloc, text)?;
     let back = table_of(alloc, &run)?;
     Ok(to_json(alloc, &back)?.to_string(alloc)?)
 }
 
-/// Texts, and what they are in canonical form.
+/// Texts, and their canonical forms.
 static TEXTS: [(&str, &str); 8] = [
     (
         r##"{"#name":"PAT","transport_stream_id":1,"#nodes":[{"#name":"service","service_id":1,"program_map_PID":"0x1000"}]}"##,
@@ -71,12 +71,12 @@ static TEXTS: [(&str, &str); 8] = [
     ),
 ];
 
-/// The texts. What a `static` holds is written into each function that names it.
+/// The texts. The content of a `static` is written into each function that names it.
 fn texts() -> &'static [(&'static str, &'static str)] {
     &TEXTS
 }
 
-/// Looks at the canonical form of a text.
+/// Checks the canonical form of a text.
 fn comes_back(rt: &(impl Abort + AllocGlobal), text: &str, canonical: &str) -> Result<(), Fail> {
     let back = again(rt.alloc(), text)?;
     same_text(rt, back.as_str(), canonical);
@@ -91,7 +91,7 @@ fn tables_come_back(rt: HostRuntime) -> Result<(), Fail> {
     Ok(())
 }
 
-/// The fault of a text that is no table.
+/// The fault of a text that is not a table.
 fn fault(alloc: Global, text: &str) -> Result<JsonFault, Fail> {
     let value = Value::from_str(alloc, text)?;
     match of_json(alloc, &value) {
@@ -100,7 +100,7 @@ fn fault(alloc: Global, text: &str) -> Result<JsonFault, Fail> {
     }
 }
 
-/// The way, the key and the kind of a fault, as text.
+/// The path, the key and the kind of a fault, as text.
 fn fault_text(alloc: Global, text: &str) -> Result<String, Fail> {
     let fault = fault(alloc, text)?;
     let kind = kind_words(fault.kind);
@@ -150,7 +150,7 @@ fn faults() -> &'static [(&'static str, &'static str)] {
     &FAULTS
 }
 
-/// Looks at the first fault of a text.
+/// Checks the first fault of a text.
 fn is_faulty(rt: &(impl Abort + AllocGlobal), text: &str, told: &str) -> Result<(), Fail> {
     let fault = fault_text(rt.alloc(), text)?;
     same_text(rt, fault.as_str(), told);
