@@ -1,19 +1,20 @@
+//! Reading sources in memory to their end.
 use form_source::FormSource;
 use packet_forms::Form;
 use ts_outside::{Desk, Failed, Source};
 
-/// What came of a source until its end or a failed read.
+/// What a source gave until its end or a failed read.
 #[derive(Clone, Copy, Debug, PartialEq, Eq)]
 pub(crate) struct Came {
-    /// How many bytes.
+    /// The number of bytes.
     count: u64,
-    /// Their sum, that of the bytes before each times 31, modulo 2^32.
+    /// Their sum modulo 2^32: for each byte, the sum so far times 31 plus the byte.
     sum: u32,
     /// Whether a read failed.
     failed: bool,
 }
 
-/// The sum of some bytes behind others.
+/// The sum of some bytes, after a sum before them.
 fn sum_of(before: u32, bytes: &[u8]) -> u32 {
     let mut sum = before;
     for byte in bytes {

@@ -1,10 +1,11 @@
+//! The files and desks of the rows.
 ghost use Rattle.std.specs.Prelude.{◌<◌};
 
 use anyhow::Result;
 use std::alloc::{AllocError, Global};
 use ts_outside::{FailPlan, FileBytes, FileList, MemoryDesk, NameText, NumberList, SteadyDesk};
 
-/// One file `a` of so many bytes: byte number n is n modulo 251.
+/// One file `a` of this size: byte number n is n modulo 251.
 fn files(alloc: Global, size: usize) -> Result<FileList, AllocError> {
     let mut bytes = Vec::new(alloc);
     for number in 0..size {
@@ -22,7 +23,7 @@ pub(crate) fn steady_desk(alloc: Global, size: usize) -> Result<SteadyDesk> {
     Ok(SteadyDesk::new(alloc, files)?)
 }
 
-/// A desk at which a read moves so many bytes at most, and the reads of these numbers fail, counted from 1.
+/// A desk at which a read moves at most this number of bytes, and the reads with these numbers, from 1, fail.
 pub(crate) fn slow_desk(
     alloc: Global,
     size: usize,

@@ -1,6 +1,6 @@
-//! Reads files in memory through each form of packets, with as many places a read as a row says, and prints how many bytes
-//! of packets came, and a sum of them. Further rows have a read that fails, what is left of the file itself, and reads that
-//! bring every number of bytes from 1 to 1,000.
+//! Reads files in memory in each packet form, with as many bytes a read as a row says, and prints the number of bytes
+//! of packets and a sum of them. Further rows have a read that fails, what is left of the file itself, and reads that
+//! return at most 1 to 1,000 bytes.
 #![tactic(auto)]
 
 ghost use Rattle.std.specs.Prelude.{◌<◌};
@@ -13,7 +13,7 @@ use drains::{Came, read_once, read_twice};
 use files::{slow_desk, steady_desk};
 use packet_forms::Form;
 
-/// A file of so many bytes that is read as one of a form.
+/// A file of this size that is read in this form.
 #[derive(Clone, Copy)]
 struct Row {
     form: Form,
@@ -26,8 +26,8 @@ impl Row {
     }
 }
 
-/// Two packets with their sixteen bytes, of which the last are wanting; two units and fourteen bytes; two and three; two
-/// packets and sixteen bytes.
+/// Two packets with their 16 bytes, of which the last are missing; two units and 14 bytes; two and three; two
+/// packets and 16 bytes.
 fn rows() -> [Row; 4] {
     [
         Row::of(Form::Rs204, 392),
@@ -37,7 +37,7 @@ fn rows() -> [Row; 4] {
     ]
 }
 
-/// Prints what came of a file that was read to its end or a fault, and then once more.
+/// Prints what a file gave that was read to its end or a fault, and then once more.
 fn print_twice(rt: &HostRuntime, row: Row, most: usize, came: Option<(Came, Came)>) -> Result<()> {
     let Row { form, size } = row;
     match came {
@@ -49,14 +49,14 @@ fn print_twice(rt: &HostRuntime, row: Row, most: usize, came: Option<(Came, Came
     Ok(())
 }
 
-/// What comes of a row's file with so many places a read.
+/// What a row's file gives with at most this number of bytes a read.
 fn steady_twice(rt: &HostRuntime, row: Row, most: usize) -> Result<Option<(Came, Came)>> {
     let mut room = vec![in rt.alloc(); 0u8; most]?;
     let mut desk = steady_desk(rt.alloc(), row.size)?;
     Ok(read_twice(&mut desk, row.form, &mut room))
 }
 
-/// What comes of a row's file where a read brings so many bytes at most and reads of these numbers fail.
+/// What a row's file gives where a read returns at most this number of bytes and the reads with these numbers fail.
 fn slow_twice(
     rt: &HostRuntime,
     row: Row,
@@ -70,14 +70,14 @@ fn slow_twice(
     Ok(read_twice(&mut *desk, row.form, &mut room))
 }
 
-/// What comes of one read of a row's file, and then of the file itself.
+/// What one read of a row's file gives, and then the rest of the file itself.
 fn steady_once(rt: &HostRuntime, row: Row) -> Result<Option<(usize, Came)>> {
     let mut room = vec![in rt.alloc(); 0u8; 188]?;
     let mut desk = steady_desk(rt.alloc(), row.size)?;
     Ok(read_once(&mut desk, row.form, &mut room))
 }
 
-/// How many of the reads that bring at most 1 to 1,000 bytes at a time come to this.
+/// The number of reading sizes from 1 to 1,000 bytes with which the file gives this.
 fn sizes_alike(rt: &HostRuntime, row: Row, wanted: Option<(Came, Came)>) -> Result<u32> {
     let mut alike: u32 = 0;
     for less in 0..1000usize {

@@ -1,4 +1,4 @@
--- A source that leaves bytes out, behind a read of the source behind it, and what was read of that one in all.
+-- A source that leaves bytes out, after a read of the other source, and what was read of that one in all.
 use Rattle.std.proofs.Common.{◌≡◌, ◌⊎◌, inl, inr, ℕ, ◌+◌, ◌-◌, ◌%◌, List, [], ◌++◌, Option, None, Some, IfSome, length, take, refl, ap, sym, ◌∙◌, subst, arith, append_assoc, length-append}
 use Rattle.std.specs.Option.{option_map}
 use Rattle.std.proofs.lemmas.List.{take_at, append_cancel_right, nil_from_length}

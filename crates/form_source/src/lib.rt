@@ -1,5 +1,5 @@
-//! A source of bytes of which some are left out: the packets of a file that keeps bytes before or behind each. The layer
-//! above uses `FormSource`, which is a `Source`, and `into_inner`, which tells what was read of the file itself.
+//! A source of the packets of a file that has bytes before or after each, which are left out. The layer above uses
+//! `FormSource`, which is a `Source`, and `into_inner`, which says what was read of the file itself.
 #![tactic(auto)]
 
 mod reading_forms;

@@ -1,3 +1,4 @@
+//! A source of packets over a source of units.
 ghost use Rattle.std.specs.Prelude.{◌≡◌, ◌<◌, ◌+◌, ℕ};
 ghost use Rattle.packet_forms.specs.Stripped.{unit, to_packet};
 ghost use Rattle.form_source.specs.FormView.{form_view, came, place_behind};
@@ -8,28 +9,29 @@ use packet_forms::{Form, strip};
 use std::snapshot::Snapshot;
 use ts_outside::{Failed, Source};
 
-/// The packets of another source, without the bytes that stand before and behind each.
+/// The packets of another source, without the bytes before and after each.
 ///
-/// It takes no memory: what is read goes straight into the places that the caller gives, and is moved there once. The
-/// other source is never asked for more bytes at a time than there are places.
+/// It allocates nothing: what is read goes straight into the caller's slice, and is moved there once. The
+/// other source is never asked for more bytes at a time than the slice has.
 pub struct FormSource<S: Source> {
     source: S,
     form: Form,
-    /// How many bytes of a unit came before the next one.
+    /// The number of bytes of a unit that came before the next byte.
     at: usize,
-    /// The other source as it was when it was taken: known to contracts alone, and no byte of the program.
+    /// The other source as it was when it was taken; known to contracts alone.
     first: Snapshot<S>,
     ghost in_unit: { at < unit form },
-    ghost behind: { (S.seen first.value).left ≡ before (came (S.seen first.value).left (S.seen source).left) (S.seen source).left } by { Prim.hlevel props },
+    ghost behind: { (S.seen first.value).left
+        ≡ before (came (S.seen first.value).left (S.seen source).left) (S.seen source).left } by { Prim.hlevel props },
     ghost place: { at ≡ place_behind form at (S.seen first.value).left (S.seen source).left },
 }
 
-/// What one read of the other source brought.
+/// The result of one read of the other source.
 #[derive(Clone, Copy)]
 struct Brought {
-    /// How many bytes; 0 at the end.
+    /// The number of bytes read; 0 at the end.
     count: usize,
-    /// How many of them are of packets; they stand in front.
+    /// The number of them that belong to packets; they are at the front.
     kept: usize,
 }
 
@@ -38,7 +40,7 @@ impl<S: Source> FormSource<S> {
     ghost use Rattle.ts_outside.specs.Source.{unread, read_failed};
     ghost use Rattle.form_source.specs.FormView.{ReadsThrough};
 
-    /// Takes a source whose next byte begins a unit of this form.
+    /// The packets of a source whose next byte begins a unit of this form.
     pub fn new(source: S, form: Form) -> FormSource<S>
         ensures inner { result.source ≡ source }
         ensures seen { ⟦<FormSource<S> as Source>⟧.seen result ≡ form_view form 0 (S.seen source) (S.seen source) }
@@ -52,7 +54,7 @@ impl<S: Source> FormSource<S> {
         }
     }
 
-    /// Gives the other source back as it is. What is left of it begins behind the last byte that was read, within a unit
+    /// Returns the other source as it is. What is left of it begins after the last byte that was read, within a unit
     /// or between two.
     pub fn into_inner(self) -> S
         ensures inner { result ≡ self.source }
@@ -67,7 +69,7 @@ impl<S: Source> FormSource<S> {
         source
     }
 
-    /// Reads the other source once, and moves what is of packets to the front.
+    /// Reads the other source once, and moves the bytes of packets to the front.
     fn read_once(&mut self, into: &mut [u8]) -> Result<Brought, Failed>
         requires { 0 < length into.old }
         ensures { MatchResult result
@@ -91,14 +93,15 @@ impl<S: Source> Source for FormSource<S> {
 
     ghost seen = { λ f. form_view f.form f.at (S.seen f.first.value) (S.seen f.source) };
 
-    /// Reads until there is a byte of a packet, or the other source is at its end: `Ok(0)` means that it is, and not that
-    /// the bytes of one read all stood between two packets.
+    /// Reads until there is a byte of a packet, or the other source is at its end. So `Ok(0)` means that end, and not that
+    /// the bytes of one read were all between two packets.
     fn read(&mut self, into: &mut [u8]) -> Result<usize, Failed>
         requires { 0 < length into.old }
         ensures within { IfOk result (λ n. n ≤ length into.new) }
         ensures moved { IfOk result (λ n. form_view self.old.form self.old.at (S.seen self.old.first.value) (S.seen self.old.source)
             ≡ unread (take n into.new) (form_view self.new.form self.new.at (S.seen self.new.first.value) (S.seen self.new.source))) }
-        ensures end { IfOk result (λ n. n ≡ 0 → IfSome (form_view self.old.form self.old.at (S.seen self.old.first.value) (S.seen self.old.source)).left (λ l. l ≡ [])) }
+        ensures end { IfOk result (λ n. n ≡ 0
+            → IfSome (form_view self.old.form self.old.at (S.seen self.old.first.value) (S.seen self.old.source)).left (λ l. l ≡ [])) }
         ensures failed { OnErr result (form_view self.new.form self.new.at (S.seen self.new.first.value) (S.seen self.new.source)
             ≡ read_failed (form_view self.old.form self.old.at (S.seen self.old.first.value) (S.seen self.old.source))) }
 

@@ -1,4 +1,4 @@
--- What is left of bytes without those before and behind packets: of two parts, within a packet, between packets.
+-- What is left of bytes without those before and after packets: of two parts, within a packet, between packets.
 use Rattle.std.proofs.Common.{◌⊎◌, inl, inr, ◌≡◌, ℕ, suc, ◌+◌, ◌-◌, ◌%◌, ◌<◌, ◌≤◌, Bool, true, false, if◌then◌else◌, ◌&&◌, nat_le, nat_lt, List, [], ◌∷◌, ◌++◌, length, take, drop, min, refl, ap, sym, ◌∙◌, subst, arith, append_assoc, append-nil, length-append, length-take-le, length-drop, length-take, replicate, take-add}
 use Rattle.std.proofs.lemmas.Bool.{cases_lt}
 use Rattle.std.proofs.lemmas.Bool.Decides.{nat_tests}
@@ -39,7 +39,7 @@ stripped-place form i j (x ∷ bytes) same =
     ap (λ (l : List ℕ). l ++ stripped_from form (suc i) bytes) head
     ∙ ap (λ (l : List ℕ). byte_of_packet form j x ++ l) (stripped-place form (suc i) (suc j) bytes (same-place form i j same))
 
--- before the last byte of a gap the gap goes on
+-- before the last byte of a gap the gap continues
 gap-next : (form : Form) (i : ℕ) → 0 < to_packet form (i % unit form) → to_packet form (suc i % unit form) + 1 ≡ to_packet form (i % unit form)
 gap-next Ts i some = grind (arith, nat_tests)
 gap-next M2ts i some = grind (arith, nat_tests)
@@ -60,7 +60,7 @@ stripped-between form i (x ∷ bytes) few =
     ap (λ (kept : Bool). (if kept then x ∷ [] else []) ++ stripped_from form (suc i) bytes) (gap-out form i some)
     ∙ stripped-between form (suc i) bytes (omega arith)
 
--- before the last byte of a packet the packet goes on
+-- before the last byte of a packet the packet continues
 packet-next : (form : Form) (i : ℕ) → 1 < in_packet form (i % unit form) → in_packet form (suc i % unit form) + 1 ≡ in_packet form (i % unit form)
 packet-next Ts i some = grind (arith, nat_tests)
 packet-next M2ts i some = grind (arith, nat_tests)
@@ -170,7 +170,7 @@ length-stripped_from form i (x ∷ bytes) =
     ap (λ (n : ℕ). packet_bytes form i + n) both ∙ regroup (packet_bytes form i) (length (byte_of_packet form i x)) (length (stripped_from form (suc i) bytes)) ∙ ap (λ (n : ℕ). packet_bytes form i + n + length (stripped_from form (suc i) bytes)) one ∙ ap (λ (n : ℕ). n + length (stripped_from form (suc i) bytes)) (sym next) in sum)
     ∙ rest ∙ ends
 
--- behind the bytes before a packet stands one of it
+-- after the bytes before a packet comes one of it
 behind-gap : (form : Form) (i : ℕ) → is_of_packet form (i + to_packet form (i % unit form)) ≡ true
 behind-gap Ts i = grind (arith, nat_tests)
 behind-gap M2ts i = grind (arith, nat_tests)
@@ -193,7 +193,7 @@ some-raw form i (x ∷ bytes) =
           ∙ ap (λ (l : List ℕ). x ∷ l) rest.1,
     )
 
--- of a unit what stands before its packet, the packet and what stands behind it, as far as each is there
+-- of a unit what stands before its packet, the packet and what stands after it, as far as each is there
 part-before : (form : Form) (a n : ℕ) → a ≡ min (lead form) n → a ≤ to_packet form (0 % unit form)
 part-before Ts a n is = omega arith
 part-before M2ts a n is = omega arith
@@ -229,7 +229,7 @@ one-unit form head few =
     (stripped-between form (length A + length B) C (part-behind form (length A) (length B) (length C) (length head) long_a long_b long_c few))
     ∙ append-nil B
 
--- behind a whole unit the next one begins
+-- after a whole unit the next one begins
 whole-unit : (form : Form) → unit form % unit form ≡ 0 % unit form
 whole-unit Ts = refl
 whole-unit M2ts = refl
@@ -254,7 +254,7 @@ no-bytes Ts = refl
 no-bytes M2ts = refl
 no-bytes Rs204 = refl
 
--- in the words of units: of the first unit the bytes of its packet, and what is left of those behind it
+-- in the words of units: of the first unit the bytes of its packet, and what is left of those after it
 pub stripped-unit : (form : Form) (bytes : List ℕ) → stripped form bytes ≡ take 188 (drop (lead form) (take (unit form) bytes)) ++ stripped form (drop (unit form) bytes)
 stripped-unit form bytes =
     let few : length (take (unit form) bytes) ≤ unit form = omega (arith, length-take (unit form) bytes) in
@@ -307,7 +307,7 @@ gap-nears form i (x ∷ bytes) none =
     let e : i + length (x ∷ bytes) ≡ suc i + length bytes = omega arith in
     ap (λ (n : ℕ). to_packet form (n % unit form) + length (x ∷ bytes)) e ∙ joined (to_packet form ((suc i + length bytes) % unit form)) (length bytes) (to_packet form (suc i % unit form)) (to_packet form (i % unit form)) (length (x ∷ bytes)) (omega arith) rest step
 
--- a place is one of a unit, also behind some more bytes
+-- a place is one of a unit, also after some more bytes
 pub in-unit : (form : Form) (n : ℕ) → n % unit form < unit form
 in-unit Ts n = omega arith
 in-unit M2ts n = omega arith
@@ -335,7 +335,7 @@ stripped-behind form at a b =
     ∙ ap (λ (l : List ℕ). stripped_from form at a ++ l)
     (stripped-place form (at + length a) ((at + length a) % unit form) b (sym (place-in-unit form ((at + length a) % unit form) (in-unit form (at + length a)))))
 
--- the length of the unit tells the form
+-- the length of the unit gives the form
 pub same-form : (form other : Form) → unit form ≡ unit other → form ≡ other
 same-form Ts Ts e = refl
 same-form Ts M2ts e = absurd (omega arith)

@@ -1,20 +1,21 @@
+//! The packet forms of files.
 ghost use Rattle.std.specs.Prelude.{◌≡◌, ◌<◌};
 
-/// How a file keeps its packets: what stands before and behind each of them.
+/// How a file stores its packets: with which bytes before and after each of them.
 #[derive(Clone, Copy, Debug, PartialEq, Eq)]
 pub enum Form {
-    /// Packets of 188 bytes and nothing else: ISO/IEC 13818-1.
+    /// Packets of 188 bytes and nothing else (ISO/IEC 13818-1).
     Ts,
-    /// Units of 192 bytes: four bytes of an arrival time, and a packet. So a Blu-ray disc keeps a stream.
+    /// Units of 192 bytes: four bytes of an arrival time and a packet, as on a Blu-ray disc.
     M2ts,
-    /// Units of 204 bytes: a packet, and sixteen bytes of a Reed-Solomon code. So a receiver of EN 300 421 may give it.
+    /// Units of 204 bytes: a packet and 16 bytes of a Reed-Solomon code, as a receiver of EN 300 421 may give it.
     Rs204,
 }
 
 impl Form {
     ghost use Rattle.packet_forms.specs.Stripped.{lead, unit, to_packet, in_packet};
 
-    /// How many bytes stand before the packet of a unit.
+    /// The number of bytes before the packet of a unit.
     pub fn lead(self) -> usize
         ensures { result ≡ lead self }
     {
@@ -24,7 +25,7 @@ impl Form {
         }
     }
 
-    /// How many bytes a unit has: a packet with what stands before and behind it.
+    /// The size of a unit in bytes: a packet with the bytes before and after it.
     pub fn unit(self) -> usize
         ensures { result ≡ unit self }
     {
@@ -35,7 +36,7 @@ impl Form {
         }
     }
 
-    /// How many bytes come before the next one of a packet, behind so many of a unit; 0 within a packet.
+    /// The number of bytes before the next one of a packet, after `place` bytes of a unit; 0 within a packet.
     pub(crate) fn to_packet(self, place: usize) -> usize
         requires { place < unit self }
         ensures { result ≡ to_packet self place }
@@ -50,7 +51,7 @@ impl Form {
         self.unit() - place + lead
     }
 
-    /// How many bytes of a packet are still to come, behind so many of a unit; 0 outside of it.
+    /// The number of bytes of the packet still to come, after `place` bytes of a unit; 0 outside a packet.
     pub(crate) fn in_packet(self, place: usize) -> usize
         requires { place < unit self }
         ensures { result ≡ in_packet self place }

@@ -1,5 +1,5 @@
-//! How a file keeps its packets: bare, or with some bytes before or behind each. Bytes of a file come in, those of its
-//! packets go out. The layer above uses `strip`, which does what `stripped_from` says.
+//! The packet forms of files: bare packets, or some bytes before or after each, which are stripped.
+//! The layer above uses `strip`, which does what `stripped_from` says.
 #![tactic(auto)]
 
 mod forms;

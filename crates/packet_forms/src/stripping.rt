@@ -1,10 +1,11 @@
+//! Stripping the bytes before and after packets.
 ghost use Rattle.std.specs.Prelude.{◌≡◌, ◌<◌, ◌≤◌, length, take};
 ghost use Rattle.packet_forms.specs.Stripped.{unit, stripped_from};
 
 use crate::forms::Form;
 
-/// Moves the bytes of packets to the front, in their order, and answers how many they are. Before the first of `bytes`
-/// came `at` bytes of a unit. What stands behind those that were moved may have changed.
+/// Moves the bytes of packets to the front, in their order, and returns their number. Before the first of `bytes`
+/// there were `at` bytes of a unit. The bytes after those that were moved may have changed.
 pub fn strip(form: Form, at: usize, bytes: &mut [u8]) -> usize
     requires { at < unit form }
     ensures within { result ≤ length bytes.old }

@@ -2,7 +2,7 @@
 use Rattle.std.proofs.Common.{◌≡◌, ℕ, ◌+◌, ◌-◌, ◌≤◌, List, ◌++◌, sym, ◌∙◌, ap, length, take, drop, arith, length-drop}
 use Rattle.std.proofs.lemmas.List.{take_all, take_at, drop-drop, take-append-drop}
 
--- the bytes behind `at` are those that were copied to the front of a buffer, and those behind them
+-- the bytes after `at` are those that were copied to the front of a buffer, and those after them
 pub moved-is : (bytes all part into : List ℕ) (at n : ℕ) → all ≡ bytes → part ≡ take n (take (length all - at) (drop at all)) → length part ≡ n → drop at bytes ≡ take n (part ++ drop n into) ++ drop (at + n) bytes
 moved-is bytes all part into at n same copied long =
     let behind : length (drop at all) ≤ length all - at = omega (arith, length-drop at all) in

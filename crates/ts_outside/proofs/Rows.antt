@@ -6,11 +6,11 @@ use Rattle.ts_outside.specs.Told.{before, grown}
 use Rattle.ts_outside.specs.Desk.{file_of, stream_name, with_input, with_output}
 use Rattle.ts_outside.specs.Memory.{fails_next, read_count}
 
--- a count rises by one, and stands still at its end
+-- a count rises by one, and saturates
 counts : (raised 0 ≡ 1) × (raised 18446744073709551614 ≡ 18446744073709551615) × (raised 18446744073709551615 ≡ 18446744073709551615)
 counts = (refl, refl, refl)
 
--- what is told grows at its end, and what is not told stays so
+-- a known list grows at its end, and an unknown one stays so
 told : (grown {T = ℕ} (Some (1 ∷ [])) (2 ∷ []) ≡ Some (1 ∷ 2 ∷ [])) × (grown {T = ℕ} None (2 ∷ []) ≡ None) × (before {T = ℕ} (1 ∷ []) (Some (2 ∷ [])) ≡ Some (1 ∷ 2 ∷ []))
 told = (refl, refl, refl)
 
@@ -22,10 +22,10 @@ names : (file_of files (97 ∷ []) ≡ 1 ∷ []) × (file_of files (98 ∷ []) �
 unfolding files
 names = (refl, refl, refl, refl)
 
--- a source that failed and had two bytes to come, and an output, closed where all is told and where it is not
+-- a source that failed and had two bytes to come, and an output, closed where all is known and where it is not
 closings : (with_input (Some []) (record { left = Some (5 ∷ 6 ∷ []); faults = 1; origin = own_bytes }) ≡ Some (record { left = 2; failed = true } ∷ [])) × (with_input (Some []) (record { left = None; faults = 0; origin = own_bytes }) ≡ None) × (with_output (Some []) (record { taken = Some (5 ∷ []); name = Some (97 ∷ []); faults = 0 }) ≡ Some ((97 ∷ [], 5 ∷ []) ∷ []))
 closings = (refl, refl, refl)
 
--- the second call fails where 2 stands in the list; a read of four places moves a piece of three, or what is left
+-- the second call fails where 2 is in the list; a read of four places moves a piece of three, or what is left
 plans : (fails_next (2 ∷ []) 0 ≡ false) × (fails_next (2 ∷ []) 1 ≡ true) × (read_count (record { left = 1 ∷ 2 ∷ 3 ∷ 4 ∷ 5 ∷ []; faults = 0; calls = 0; failing = []; piece = 3 }) 4 ≡ 3)
 plans = (refl, refl, refl)

@@ -1,4 +1,4 @@
--- How steps on told lists and on what is seen of sources, sinks and desks chain.
+-- How steps on known lists and on what is seen of sources, sinks and desks chain.
 use Rattle.std.proofs.Common.{◌≡◌, ℕ, ◌+◌, ◌-◌, ◌<◌, ◌≤◌, List, [], ◌++◌, Option, None, Some, refl, ap, subst, sym, le_refl, le_trans, ◌∙◌, append_assoc, append-nil, length, take, drop, arith, length-drop}
 use Rattle.std.proofs.Math.Seq.{take-add, take-append-add}
 use Rattle.std.proofs.lemmas.List.{take_all, take-append-le}
@@ -11,7 +11,7 @@ use Rattle.ts_outside.specs.Source.{SourceView, HasGiven, unread, read_failed}
 use Rattle.ts_outside.specs.Sink.{SinkView, HasTaken, took, write_failed}
 use Rattle.ts_outside.specs.Desk.{DeskView, reports}
 
--- a list that nothing was added to
+-- a list to which nothing was added
 pub grown-nil : {T : Type 0} (o : Option (List T)) → grown o [] ≡ o
 grown-nil None = refl
 grown-nil (Some l) = ap Some (append-nil l)
@@ -55,13 +55,13 @@ reports-nil d = ap (λ (o : Option (List ℕ)). record d { reported = o }) (grow
 pub reports-reports : (d : DeskView) (a b : List ℕ) → reports (reports d a) b ≡ reports d (a ++ b)
 reports-reports d a b = ap (λ (o : Option (List ℕ)). record d { reported = o }) (grown-grown d.reported a b)
 
--- the first i members, and then some of those behind them
+-- the first i members, and then some of those after them
 pub take-more : (i n : ℕ) (l : List ℕ) → take i l ++ take n (take (length l - i) (drop i l)) ≡ take (i + n) l
 take-more i n l =
     let all : length (drop i l) ≤ length l - i = omega (arith, length-drop i l) in
     ap (λ (rest : List ℕ). take i l ++ take n rest) (take_all (length l - i) (drop i l) all) ∙ sym (take-add i n l)
 
--- the first members of a list after a read into its part behind the first a: those a, and the first of what was read
+-- the first members of a list after a read into its part after the first a: those a, and the first of what was read
 pub take-filled : (a k n : ℕ) (l part : List ℕ) → a ≤ length l → n ≤ length part → take (a + n) (put_mid a k l part) ≡ take a l ++ take n part
 take-filled a k n l part fits few =
     let long : length (take a l) ≡ a = grind (arith, common_steps) in
@@ -73,7 +73,7 @@ take-filled a k n l part fits few =
 pub raised-le : (n : ℕ) → n ≤ raised n
 raised-le n = grind (arith, nat_tests)
 
--- a count rises by a fault where it is not at its end
+-- a count rises by a fault where it is not the greatest
 pub raised-lt : (n : ℕ) → n < count_end → n < raised n
 raised-lt n h = grind (arith, nat_tests)
 
@@ -88,7 +88,7 @@ HasCause-after a b c first cause =
     let rose : b < count_end → b < c = cause.rose in
     record { not_fallen = omega arith; rose = λ (h : a < count_end). grind arith }
 
--- a cause stays one where the count does not fall behind it
+-- a cause stays one where the count does not fall after it
 pub HasCause-before : (a b c : ℕ) → HasCause a b → b ≤ c → HasCause a c
 HasCause-before a b c cause behind =
     let first : a ≤ b = cause.not_fallen in

@@ -1,4 +1,4 @@
--- This project's own rule: the outside as one desk, at which files are opened and closed and lines are reported.
+-- The outside as one desk, at which files are opened and closed and lines are reported. This project's own rule.
 use Rattle.std.specs.Prelude.{ℕ, List, [], ◌∷◌, ◌++◌, Option, None, Some, Bool, true, false, ◌||◌, if◌then◌else◌, length, nat_lt, unwrap_or}
 use Rattle.std.specs.Option.{option_and_then, option_map}
 use Rattle.std.specs.Str.{bytes_eq}
@@ -12,7 +12,7 @@ use Rattle.ts_outside.specs.Source.{SourceView}
 use Rattle.ts_outside.specs.Sink.{SinkView}
 
 -- what contracts see of a desk: the files by name, the closed outputs with name and bytes, the bytes of the reports,
--- the names asked for and the closed inputs, each told or not; and three counts of faults
+-- the names requested and the closed inputs, each known or not; and three counts of faults
 pub record DeskView : Type 0 where
   pub files : Option (List (List ℕ × List ℕ))
   pub outputs : Option (List (List ℕ × List ℕ))
@@ -23,7 +23,7 @@ pub record DeskView : Type 0 where
   pub write_faults : ℕ
   pub report_faults : ℕ
 
--- the name under which a stream stands: the empty one where none was given
+-- the name of a stream: the empty one where none was given
 abbrev pub stream_name : Option (List ℕ) → List ℕ
 stream_name name = unwrap_or name []
 
@@ -32,16 +32,16 @@ abbrev pub file_of : List (List ℕ × List ℕ) → List ℕ → List ℕ
 file_of [] name = []
 file_of (f ∷ fs) name = if bytes_eq f.0 name then f.1 else file_of fs name
 
--- the bytes of a name, told where the files are
+-- the bytes of a name, known where the files are
 abbrev pub content : DeskView → List ℕ → Option (List ℕ)
 content d name = option_map (λ fs. file_of fs name) d.files
 
--- the desk after a name was asked for, and nothing went wrong
+-- the desk after a name was requested without a fault
 abbrev pub asked_well : DeskView → Purpose → List ℕ → DeskView
 asked_well d purpose name =
     record d { asked = grown d.asked (record { purpose = purpose; name = name; ok = true } ∷ []) }
 
--- the desk after a name was asked for and the answer was a fault: that of the outputs for an output, else that of the inputs
+-- the desk after a name was requested with a fault: it counts for the outputs where it is an output, else for the inputs
 abbrev pub asked_in_vain : DeskView → Purpose → List ℕ → DeskView
 asked_in_vain d Output name =
     record d {
@@ -54,12 +54,12 @@ asked_in_vain d purpose name =
       read_faults = raised d.read_faults;
     }
 
--- the closed inputs with this one behind them, told where both they and its bytes are
+-- the closed inputs with this one after them, known where both they and its bytes are
 abbrev pub with_input : Option (List ClosedInput) → SourceView → Option (List ClosedInput)
 with_input None s = None
 with_input (Some l) s = option_map (λ left. l ++ record { left = length left; failed = nat_lt 0 s.faults } ∷ []) s.left
 
--- the closed outputs with this one behind them, told where they, its name and its bytes are
+-- the closed outputs with this one after them, known where they, its name and its bytes are
 abbrev pub with_output : Option (List (List ℕ × List ℕ)) → SinkView → Option (List (List ℕ × List ℕ))
 with_output None s = None
 with_output (Some l) s = option_and_then (λ name. option_map (λ taken. l ++ (name, taken) ∷ []) s.taken) s.name

@@ -1,3 +1,4 @@
+-- The definitions of the outside of a program: desks, sources, sinks, their faults, and the ones in memory.
 pub mod Count
 pub mod Told
 pub mod Source

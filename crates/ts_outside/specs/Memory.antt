@@ -1,4 +1,4 @@
--- This project's own rule: the outside in memory, and which of its calls fail.
+-- The outside in memory, and which of its calls fail. This project's own rule.
 use Rattle.std.specs.Prelude.{ℕ, ◌==◌, ◌-◌, List, [], ◌∷◌, ◌++◌, Bool, true, false, ◌||◌, length, drop, min, nat_le, nat_lt, if◌then◌else◌, Some}
 use Rattle.std.specs.List.{list_any}
 use Rattle.ts_outside.specs.declared.closed_inputs.ClosedInput.{ClosedInput}
@@ -15,7 +15,7 @@ use Rattle.ts_outside.specs.Source.{SourceView, own_bytes}
 use Rattle.ts_outside.specs.Sink.{SinkView}
 use Rattle.ts_outside.specs.Desk.{DeskView, file_of}
 
--- whether a plan makes the next call fail, where so many were made: its number is one more, and stands in the list
+-- whether a plan makes the next call fail after so many calls: its number is one more, and is in the list
 abbrev pub fails_next : List ℕ → ℕ → Bool
 fails_next numbers calls = list_any (λ n. n == raised calls) numbers
 
@@ -27,11 +27,11 @@ pub record MemorySourceView : Type 0 where
   pub failing : List ℕ
   pub piece : ℕ
 
--- a source in memory tells everything
+-- all of a source in memory is known
 abbrev pub source_seen : MemorySourceView → SourceView
 source_seen s = record { left = Some s.left; faults = s.faults; origin = own_bytes }
 
--- how many bytes the next read moves into so many places: at most a piece, and what is there
+-- the number of bytes that the next read moves into so many places: at most a piece, and what is there
 abbrev pub read_count : MemorySourceView → ℕ → ℕ
 read_count s places = min (min places s.piece) (length s.left)
 
@@ -53,15 +53,15 @@ pub record MemorySinkView : Type 0 where
   pub piece : ℕ
   pub room : ℕ
 
--- a sink in memory tells everything
+-- all of a sink in memory is known
 abbrev pub sink_seen : MemorySinkView → SinkView
 sink_seen s = record { taken = Some s.taken; name = Some s.name; faults = s.faults }
 
--- whether the next write fails: by the plan, or since the room is full
+-- whether the next write fails: by the plan, or because the room is full
 abbrev pub write_fails : MemorySinkView → Bool
 write_fails s = fails_next s.failing s.calls || nat_le s.room (length s.taken)
 
--- how many bytes the next write takes of so many: at most a piece, and what the room has left
+-- the number of bytes that the next write takes of so many: at most a piece, and what the room has left
 abbrev pub write_count : MemorySinkView → ℕ → ℕ
 write_count s bytes = min (min bytes s.piece) (s.room - length s.taken)
 
@@ -73,17 +73,17 @@ sink_wrote s bytes = record s { taken = s.taken ++ bytes; calls = raised s.calls
 abbrev pub sink_failed : MemorySinkView → MemorySinkView
 sink_failed s = record s { faults = raised s.faults; calls = raised s.calls }
 
--- the closed inputs of a chain, the first one first
+-- the closed inputs of a chain of links, the first one first
 abbrev pub inputs_of : ClosedInputs → List ClosedInput
 inputs_of inputs.Empty = []
 inputs_of (inputs.Behind' entry p before) = inputs_of before ++ entry ∷ []
 
--- the closed outputs of a chain with their names and bytes, the first one first
+-- the closed outputs of a chain of links with their names and bytes, the first one first
 abbrev pub outputs_of : ClosedOutputs → List (List ℕ × List ℕ)
 outputs_of outputs.Empty = []
 outputs_of (outputs.Behind' name bytes p before) = outputs_of before ++ (name, bytes) ∷ []
 
--- what contracts see of a desk in memory: all of it, how many calls of each kind it answered, and its plan
+-- what contracts see of a desk in memory: all of it, the number of calls of each kind that it had, and its plan
 pub record MemoryDeskView : Type 0 where
   pub files : List (List ℕ × List ℕ)
   pub outputs : List (List ℕ × List ℕ)
@@ -98,7 +98,7 @@ pub record MemoryDeskView : Type 0 where
   pub closes : ℕ
   pub plan : FailPlan
 
--- a desk in memory tells everything
+-- all of a desk in memory is known
 abbrev pub desk_seen : MemoryDeskView → DeskView
 desk_seen d =
     record {
@@ -130,11 +130,11 @@ new_desk files plan =
       plan = plan;
     }
 
--- whether the next opening fails
+-- whether the next open fails
 abbrev pub open_fails : MemoryDeskView → Bool
 open_fails d = fails_next d.plan.opens d.opens
 
--- the desk after it answered a request other than by a fault
+-- the desk after a request without a fault
 abbrev pub opened : MemoryDeskView → Purpose → List ℕ → MemoryDeskView
 opened d purpose name =
     record d {
@@ -142,7 +142,7 @@ opened d purpose name =
       opens = raised d.opens;
     }
 
--- the desk after a request of an input or a file failed
+-- the desk after a request for an input or a file failed
 abbrev pub in_failed : MemoryDeskView → Purpose → List ℕ → MemoryDeskView
 in_failed d purpose name =
     record d {
@@ -151,7 +151,7 @@ in_failed d purpose name =
       read_faults = raised d.read_faults;
     }
 
--- the desk after a request of an output failed
+-- the desk after a request for an output failed
 abbrev pub out_failed : MemoryDeskView → List ℕ → MemoryDeskView
 out_failed d name =
     record d {
@@ -160,12 +160,12 @@ out_failed d name =
       write_faults = raised d.write_faults;
     }
 
--- the source that an opening gives
+-- the source that an open returns
 abbrev pub new_source : MemoryDeskView → List ℕ → MemorySourceView
 new_source d name =
     record { left = file_of d.files name; faults = 0; calls = 0; failing = d.plan.reads; piece = d.plan.read_piece }
 
--- the sink that an opening gives
+-- the sink that an open returns
 abbrev pub new_sink : MemoryDeskView → List ℕ → MemorySinkView
 new_sink d name =
     record {
@@ -182,11 +182,11 @@ new_sink d name =
 abbrev pub close_fails : MemoryDeskView → Bool
 close_fails d = fails_next d.plan.closes d.closes
 
--- whether the next report fails: by the plan, or since the room is full
+-- whether the next report fails: by the plan, or because the room is full
 abbrev pub report_fails : MemoryDeskView → Bool
 report_fails d = fails_next d.plan.reports d.reports || nat_le d.plan.room (length d.reported)
 
--- how many bytes the next report takes of so many: at most a piece, and what the room has left
+-- the number of bytes that the next report takes of so many: at most a piece, and what the room has left
 abbrev pub report_count : MemoryDeskView → ℕ → ℕ
 report_count d bytes = min (min bytes d.plan.write_piece) (d.plan.room - length d.reported)
 

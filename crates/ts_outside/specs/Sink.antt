@@ -1,9 +1,9 @@
--- This project's own rule: where bytes go.
+-- Sinks: where bytes go. This project's own rule.
 use Rattle.std.specs.Prelude.{ℕ, ◌≡◌, ◌≤◌, List, Option}
 use Rattle.ts_outside.specs.Count.{raised}
 use Rattle.ts_outside.specs.Told.{grown}
 
--- what contracts see of a sink: the bytes that it took and the name for which it was opened, each told or not,
+-- what contracts see of a sink: the bytes that it took and the name for which it was opened, each known or not,
 -- and the count of its faults
 pub record SinkView : Type 0 where
   pub taken : Option (List ℕ)
@@ -18,7 +18,7 @@ took s bytes = record s { taken = grown s.taken bytes }
 abbrev pub write_failed : SinkView → SinkView
 write_failed s = record s { faults = raised s.faults }
 
--- what every loop over a sink keeps: these bytes were taken since, the name is the same, what was told stays told, and
+-- what every loop over a sink keeps: these bytes were taken since, the name is the same, what was known stays known, and
 -- the count has not fallen
 pub record HasTaken (old new : SinkView) (bytes : List ℕ) : Type 0 where
   pub taken : new.taken ≡ grown old.taken bytes

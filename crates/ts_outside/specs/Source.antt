@@ -1,20 +1,20 @@
--- This project's own rule: where bytes come from.
+-- Sources: where bytes come from. This project's own rule.
 use Rattle.std.specs.Prelude.{ℕ, ◌≡◌, ◌≤◌, List, Option, None}
 use Rattle.ts_outside.specs.Count.{raised}
 use Rattle.ts_outside.specs.Told.{before}
 
--- where a source has its bytes from, where it leaves out some of what another source gives: the length of the units of
--- which it leaves some out, and the bytes that the other source had to come when it was taken, told or not
+-- the origin of a source that leaves out some bytes of another source: the length of the units in which it leaves
+-- some out, and the bytes that the other source had to come when it was taken, known or not
 pub record Origin : Type 0 where
   pub unit : ℕ
   pub bytes : Option (List ℕ)
 
--- a source that leaves out none
+-- the origin of a source that leaves out nothing
 abbrev pub own_bytes : Origin
 own_bytes = record { unit = 0; bytes = None }
 
--- what contracts see of a source: the bytes still to come, told or not, the count of its faults, and where its bytes are
--- from, which no call changes
+-- what contracts see of a source: the bytes still to come, known or not, the count of its faults, and where its bytes
+-- are from, which no call changes
 pub record SourceView : Type 0 where
   pub left : Option (List ℕ)
   pub faults : ℕ
@@ -28,7 +28,7 @@ unread bytes s = record s { left = before bytes s.left }
 abbrev pub read_failed : SourceView → SourceView
 read_failed s = record s { faults = raised s.faults }
 
--- what every loop over a source keeps: these bytes were given since, what was told stays told, and the count has not
+-- what every loop over a source keeps: these bytes were given since, what was known stays known, and the count has not
 -- fallen
 pub record HasGiven (old new : SourceView) (bytes : List ℕ) : Type 0 where
   pub given : old.left ≡ before bytes new.left

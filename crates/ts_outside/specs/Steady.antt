@@ -1,24 +1,24 @@
--- This project's own rule: the outside in memory that never fails, and keeps of what goes out the number of bytes alone.
+-- The outside in memory that never fails, and of what it takes keeps only the number of bytes. This project's own rule.
 use Rattle.std.specs.Prelude.{ℕ, ◌+◌, ◌-◌, ◌^◌, List, None, Some, min}
 use Rattle.ts_outside.specs.Source.{SourceView, own_bytes}
 use Rattle.ts_outside.specs.Sink.{SinkView}
 use Rattle.ts_outside.specs.Desk.{DeskView}
 
--- a source is its bytes still to come, and tells them
+-- a source of these bytes still to come, which are known
 abbrev pub steady_source : List ℕ → SourceView
 steady_source left = record { left = Some left; faults = 0; origin = own_bytes }
 
--- a sink is the number of bytes that it took, and tells neither bytes nor name
+-- a sink that took so many bytes; neither the bytes nor the name are known
 abbrev pub steady_sink : ℕ → SinkView
 steady_sink taken = record { taken = None; name = None; faults = 0 }
 
--- what contracts see of a steady desk: its files, and how many bytes were written by closed sinks and reported
+-- what contracts see of a steady desk: its files, and the numbers of bytes written by closed sinks and reported
 pub record SteadyDeskView : Type 0 where
   pub files : List (List ℕ × List ℕ)
   pub written : ℕ
   pub reported : ℕ
 
--- a desk tells its files alone, and nothing of it ever failed
+-- of a steady desk only the files are known, and nothing ever failed
 abbrev pub steady_desk : SteadyDeskView → DeskView
 steady_desk d =
     record {
@@ -32,6 +32,6 @@ steady_desk d =
       report_faults = 0;
     }
 
--- a number of bytes and some more; it stands still at its type's end
+-- a number of bytes and some more; it saturates at the greatest number of its type
 abbrev pub counted : ℕ → ℕ → ℕ
 counted n more = min (n + more) (2 ^ 64 - 1)

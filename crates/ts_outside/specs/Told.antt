@@ -1,5 +1,5 @@
--- This project's own rule: lists that are told or not. `None` is a list that is not told; what happens to a list
--- that is told is an equation, and a list that is not told stays so.
+-- Lists that are known or not. This project's own rule: `None` is a list that is not known and stays so; what happens to
+-- a known list is an equation.
 use Rattle.std.specs.Prelude.{List, ◌++◌, Option, None, Some}
 
 -- the list, with some members before it

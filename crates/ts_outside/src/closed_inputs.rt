@@ -1,7 +1,8 @@
-/// One source that a desk closed.
+//! The sources that a desk in memory closed.
+/// A source that a desk closed.
 #[derive(Clone, Copy, PartialEq, Eq)]
 pub struct ClosedInput {
-    /// How many bytes it had still to come.
+    /// The number of bytes that it had still to come.
     pub left: usize,
     /// Whether one of its reads had failed.
     pub failed: bool,

@@ -1,3 +1,4 @@
+//! The sinks that a desk in memory closed.
 ghost use Rattle.std.specs.Prelude.{◌≡◌, ◌+◌, ◌-◌, ◌^◌, ◌<◌, Some, length, min, slice_get};
 ghost use Rattle.ts_outside.specs.Memory.{outputs_of};
 ghost use Rattle.ts_outside.specs.Found.{MatchFound};
@@ -13,14 +14,14 @@ pub(crate) enum ClosedOutputs {
     Behind(NameText, FileBytes, Box<ClosedOutputs>),
 }
 
-/// What a search for an output gives: the output, or how far behind the last one its number stands.
+/// The result of a search for an output: the output, or by how much its number is past the last one.
 pub(crate) enum Found<'a> {
     Output(&'a str, &'a [u8]),
     Past(usize),
 }
 
 impl ClosedOutputs {
-    /// How many outputs there are; the number stands still at its type's end.
+    /// The number of outputs; it saturates at `usize::MAX`.
     pub(crate) fn count(&self) -> usize
         ensures { result ≡ min (length (outputs_of self.now)) (2 ^ 64 - 1) }
     {
@@ -30,7 +31,7 @@ impl ClosedOutputs {
         }
     }
 
-    /// The output with number `i`, from 0 on in the order of closing.
+    /// The output with number `i`, from 0 in the order of closing.
     pub(crate) fn find(&self, i: usize) -> Found<'_>
         ensures { let all = outputs_of self.now in
             MatchFound result

@@ -1,7 +1,8 @@
+//! Counts of faults.
 ghost use Rattle.std.specs.Prelude.{◌≡◌};
 ghost use Rattle.ts_outside.specs.Count.{raised};
 
-/// One more fault, but at its end a count stands still.
+/// The count after one more fault; it saturates at `u64::MAX`.
 pub fn one_more(count: u64) -> u64
     ensures { result ≡ raised count }
 {

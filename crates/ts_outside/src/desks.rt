@@ -1,3 +1,4 @@
+//! The trait of the outside of a program.
 ghost use Rattle.std.specs.Prelude.{◌≡◌, ◌<◌, ◌≤◌, [], Some, length, take, is_err, IfOk, OnErr, IfSome};
 ghost use Rattle.std.specs.Option.{option_copied, option_map};
 ghost use Rattle.ts_outside.specs.Source.{own_bytes};
@@ -13,17 +14,17 @@ use crate::sources::Source;
 
 /// The outside of a program: its files, its standard streams and its reports.
 ///
-/// No name and the empty name mean the standard stream. After each call contracts see the desk as it was before, but
-/// for what the one equation of that call names.
+/// No name and the empty name mean the standard stream. After each call contracts see the desk as it was before,
+/// except for what the one equation of that call names.
 pub trait Desk {
     type In: Source + Send;
 
     type Out: Sink + Send;
 
-    // What contracts see: files, outputs, reports, what was asked and closed, each told or not, and counts of faults.
+    // What contracts see: files, outputs, reports, requests and closed inputs, each known or not, and counts of faults.
     ghost seen: { Self → DeskView };
 
-    /// Opens a source of the bytes of a name.
+    /// Opens a source of the bytes of this name.
     ///
     /// `Failed` raises the count of faults of the inputs. `NoMemory` changes nothing.
     fn open_in(&mut self, name: Option<&str>) -> Result<Self::In, OpenFault>
@@ -35,7 +36,7 @@ pub trait Desk {
         ensures source { let named = stream_name (option_copied name.entry) in
             IfOk result (λ s. Self.In.seen s ≡ record { left = content (seen self.old) named; faults = 0; origin = own_bytes }) };
 
-    /// Opens a sink of a name, with nothing taken.
+    /// Opens a sink of this name, which has taken nothing.
     ///
     /// `Failed` raises the count of faults of the outputs. `NoMemory` changes nothing.
     fn open_out(&mut self, name: Option<&str>) -> Result<Self::Out, OpenFault>
@@ -49,17 +50,17 @@ pub trait Desk {
             IfOk result (λ s. Self.Out.seen s ≡
             record { taken = option_map (λ _. []) told; name = option_map (λ _. named) told; faults = 0 }) };
 
-    /// Closes a source, and notes how many bytes it had still to come. Takes no memory.
+    /// Closes a source, and notes how many bytes it had still to come. Allocates nothing.
     fn close_in(&mut self, input: Self::In)
         ensures { seen self.new ≡ input_closed (seen self.old) (Self.In.seen input) };
 
-    /// Closes a sink. Its name and its bytes stand behind the outputs, whatever is answered. Takes no memory.
+    /// Closes a sink. Its name and its bytes are appended to the outputs, whatever is returned. Allocates nothing.
     ///
     /// `Failed` raises the count of faults of the outputs, and so does a sink whose writes failed.
     fn close_out(&mut self, output: Self::Out) -> Result<(), Failed>
         ensures { seen self.new ≡ output_closed (seen self.old) (Self.Out.seen output) (is_err result) };
 
-    /// Reads all bytes of a name, at most `most` of them.
+    /// Reads all bytes of this name, at most `most` of them.
     ///
     /// `Failed` raises the count of faults of the inputs. `NoMemory` changes nothing.
     fn read_file(&mut self, name: Option<&str>, most: usize) -> Result<FileBytes, FileFault>
@@ -76,9 +77,9 @@ pub trait Desk {
             (Unit {0})
             (Unit {0}) };
 
-    /// Reports the first bytes of a piece, at least one, and answers how many they are.
+    /// Reports the first bytes of a piece, at least one, and returns how many.
     ///
-    /// `Failed` raises the count of faults of the reports, and no byte of the piece was taken.
+    /// `Failed` raises the count of faults of the reports, and none of the piece was taken.
     fn report(&mut self, piece: &[u8]) -> Result<usize, Failed>
         requires { 0 < length piece.now }
         ensures some { IfOk result (λ n. 0 < n) }

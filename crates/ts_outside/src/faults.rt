@@ -1,3 +1,4 @@
+//! The faults of calls on the outside.
 ghost use Rattle.std.specs.Prelude.{◌≡◌, Some, codes};
 ghost use Rattle.ts_outside.specs.OpenFault.{open_fault_text};
 ghost use Rattle.ts_outside.specs.FileFault.{file_fault_text};
@@ -25,9 +26,9 @@ impl Error for Failed {}
 /// Why a source or a sink was not opened.
 #[derive(Clone, Copy, Debug, PartialEq, Eq)]
 pub enum OpenFault {
-    /// The outside refused.
+    /// The open failed.
     Failed,
-    /// Memory was wanting.
+    /// Out of memory.
     NoMemory,
 }
 
@@ -63,11 +64,11 @@ impl<T: Drop> From<AllocFailed<T>> for OpenFault {
 /// Why a whole file was not read.
 #[derive(Clone, Copy, Debug, PartialEq, Eq)]
 pub enum FileFault {
-    /// The outside refused, at the opening or in the middle.
+    /// The open or a read failed.
     Failed,
-    /// The file has more bytes than were allowed.
+    /// The file has more bytes than are allowed.
     TooMany,
-    /// Memory was wanting.
+    /// Out of memory.
     NoMemory,
 }
 

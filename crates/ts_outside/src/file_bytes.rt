@@ -1,9 +1,10 @@
+//! The bytes of a file.
 ghost use Rattle.std.specs.Prelude.{◌≡◌, IfOk};
 
 use std::alloc::AllocError;
 use std::marker::Model;
 
-/// The whole content of a file, or another run of bytes, seen as the list of its bytes.
+/// The whole content of a file, or other bytes; contracts see the list of them.
 #[derive(Drop, Debug)]
 pub struct FileBytes {
     bytes: Vec<u8>,
@@ -18,21 +19,21 @@ impl Model for FileBytes {
 }
 
 impl FileBytes {
-    /// Keeps bytes as they are, and takes no memory.
+    /// The content with these bytes. Allocates nothing.
     pub fn of(bytes: Vec<u8>) -> FileBytes
         ensures { result ≡ bytes.items }
     {
         FileBytes { bytes }
     }
 
-    /// Lends the bytes.
+    /// The bytes as a slice.
     pub fn as_slice(&self) -> &[u8]
         ensures { result.now ≡ self.now }
     {
         self.bytes.as_slice()
     }
 
-    /// Gives the bytes back, and takes no memory.
+    /// The bytes as a `Vec`. Allocates nothing.
     pub fn into_vec(self) -> Vec<u8>
         ensures { result.items ≡ self }
     {
@@ -40,7 +41,7 @@ impl FileBytes {
         bytes
     }
 
-    /// Second bytes, equal to these. `AllocError` leaves nothing behind.
+    /// A copy of the bytes.
     pub fn copy(&self) -> Result<FileBytes, AllocError>
         ensures { IfOk result (λ b. b ≡ self.now) }
     {

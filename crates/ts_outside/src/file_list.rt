@@ -1,3 +1,4 @@
+//! Files by name.
 ghost use Rattle.std.specs.Prelude.{◌≡◌};
 ghost use Rattle.ts_outside.specs.Desk.{file_of};
 
@@ -5,9 +6,9 @@ use crate::file_bytes::FileBytes;
 use crate::name_text::NameText;
 use std::marker::Model;
 
-/// Files by their names, seen as a list of pairs of a name and its bytes.
+/// Files by their names; contracts see the list of pairs of a name and its bytes.
 ///
-/// Among the pairs of one name the first counts.
+/// Of several pairs with one name the first counts.
 #[derive(Drop)]
 pub struct FileList {
     files: Vec<(NameText, FileBytes)>,
@@ -22,21 +23,21 @@ impl Model for FileList {
 }
 
 impl FileList {
-    /// Keeps pairs as they are, and takes no memory.
+    /// The files of these pairs. Allocates nothing.
     pub fn of(files: Vec<(NameText, FileBytes)>) -> FileList
         ensures { result ≡ files.items }
     {
         FileList { files }
     }
 
-    /// Lends the pairs.
+    /// The pairs as a slice.
     pub fn as_slice(&self) -> &[(NameText, FileBytes)]
         ensures { result.now ≡ self.now }
     {
         self.files.as_slice()
     }
 
-    /// Gives the pairs back, and takes no memory.
+    /// The pairs as a `Vec`. Allocates nothing.
     pub fn into_vec(self) -> Vec<(NameText, FileBytes)>
         ensures { result.items ≡ self }
     {
@@ -44,7 +45,7 @@ impl FileList {
         files
     }
 
-    /// Lends the bytes of a name: those of its first pair, and none where there is no such pair.
+    /// The bytes of a name: those of its first pair, and none where there is no such pair.
     pub fn bytes_of(&self, name: &str) -> &[u8]
         ensures { result.now ≡ file_of self.now name.now }
     {

@@ -1,8 +1,9 @@
-/// Where a plugin's stage tells that it goes into a window and comes out of it.
+//! The gates of the stages of a chain.
+/// Is called where a plugin's stage enters a window and where it leaves it.
 ///
-/// A gate may hold a stage there: a test's gate makes two stages meet.
+/// A gate may hold a stage there: a gate of the tests makes two stages meet.
 pub trait Gate: Sync {
-    /// Before stage `stage` edits a window that is not empty: the position of its first cell, and how many cells it has.
+    /// Before stage `stage` edits a window that is not empty: the position of its first cell, and its number of cells.
     fn enter(&self, stage: usize, start: u64, len: usize);
 
     /// After stage `stage` has edited the window.

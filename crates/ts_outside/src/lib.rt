@@ -1,4 +1,4 @@
-//! The outside as three traits: bytes that come in, bytes that go out, files that are opened.
+//! The outside as three traits: sources of bytes, sinks for bytes, and a desk that opens them and takes reports.
 //! The layer above uses the clauses of `Desk`, `Source` and `Sink`, and nothing else.
 #![tactic(auto)]
 

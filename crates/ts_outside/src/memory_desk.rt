@@ -1,3 +1,4 @@
+//! A desk in memory, for tests.
 ghost use Rattle.std.specs.Prelude.{nat_lt, ◌||◌, if◌then◌else◌, ◌≡◌, ◌<◌, ◌≤◌, ◌^◌, ◌-◌, [], ◌∷◌, ◌++◌, Some, true, false, length, min, take, slice_get, is_err, IfOk, OnOk, OnErr, IfSome, MatchOption};
 ghost use Rattle.ts_outside.specs.Count.{raised};
 ghost use Rattle.std.specs.Option.{option_copied, option_map};
@@ -27,9 +28,9 @@ use std::alloc::{AllocError, Global};
 use std::marker::Model;
 use std::mem;
 
-/// A desk in memory, for tests: it keeps all that it was given and tells all of it.
+/// A desk in memory, for tests: it keeps all that it was given, and contracts know all of it.
 ///
-/// A call answers `Failed` exactly where its number stands in the plan's list; `write` and `report` also where the room
+/// A call returns `Failed` exactly where its number is in the plan's list; `write` and `report` also where the room
 /// is full. An unknown name is an empty file.
 #[derive(Drop)]
 pub struct MemoryDesk {
@@ -48,7 +49,7 @@ pub struct MemoryDesk {
     plan: FailPlan,
 }
 
-// The memory of a source.
+// What a source in memory is made of.
 #[derive(Drop)]
 struct SourceRoom {
     bytes: Vec<u8>,
@@ -56,7 +57,7 @@ struct SourceRoom {
     link: Box<ClosedInputs>,
 }
 
-// The memory of a sink.
+// What a sink in memory is made of.
 #[derive(Drop)]
 struct SinkRoom {
     bytes: Vec<u8>,
@@ -87,14 +88,14 @@ impl Model for MemoryDesk {
       plan = d.plan;
     } };
 
-    // The room of the reports was reserved at the making.
+    // The room of the reports is reserved in `new`.
     ghost invariant = { λ d.
         (0 < d.plan.read_piece) × (0 < d.plan.write_piece)
         × (vec_len d.reported ≤ d.plan.room) × (d.plan.room ≤ vec_capacity d.reported) };
 }
 
 impl MemoryDesk {
-    /// A desk with these files, of which nothing was asked yet.
+    /// A desk with these files, at which nothing was requested yet.
     pub fn new(alloc: Global, files: FileList, fails: FailPlan) -> Result<MemoryDesk, AllocError>
         requires read_piece { 0 < fails.read_piece }
         requires write_piece { 0 < fails.write_piece }
@@ -118,14 +119,14 @@ impl MemoryDesk {
         })
     }
 
-    /// How many outputs were closed; the number stands still at its type's end.
+    /// The number of outputs that were closed; it saturates at `usize::MAX`.
     pub fn output_count(&self) -> usize
         ensures { result ≡ min (length self.now.outputs) (2 ^ 64 - 1) }
     {
         self.outputs.count()
     }
 
-    /// The name and the bytes of the output with number `i`, from 0 on in the order of closing; `None` exactly past the
+    /// The name and the bytes of the output with number `i`, from 0 in the order of closing; `None` exactly past the
     /// last one.
     pub fn output(&self, i: usize) -> Option<(&str, &[u8])>
         ensures { MatchOption result
@@ -145,21 +146,21 @@ impl MemoryDesk {
         self.reported.as_slice()
     }
 
-    /// How many names were asked for.
+    /// The number of names that were requested.
     pub fn asked_count(&self) -> usize
         ensures { result ≡ length self.now.asked }
     {
         self.asked.len()
     }
 
-    /// Whether the next opening fails by the plan.
+    /// Whether the plan makes the next open fail.
     fn next_open_fails(&self) -> bool
         ensures { result ≡ open_fails self.now }
     {
         self.plan.opens.has(one_more(self.opens))
     }
 
-    /// Notes what was asked, and counts the call. `AllocError` changes nothing.
+    /// Notes a request, and counts the call. `AllocError` changes nothing.
     fn note(&mut self, purpose: Purpose, name: &str, ok: bool) -> Result<(), AllocError>
         ensures noted { OnOk result (self.new ≡ record self.old {
           asked = self.old.asked ++ record { purpose = purpose; name = name.now; ok = ok } ∷ [];
@@ -173,7 +174,7 @@ impl MemoryDesk {
         Ok(())
     }
 
-    // The memory of a source over the file of this name.
+    // The parts of a source over the file of this name.
     fn source_room(&self, named: &str) -> Result<SourceRoom, AllocError>
         ensures bytes { IfOk result (λ r. r.bytes.items ≡ file_of self.now.files named.now) }
         ensures failing { IfOk result (λ r. r.failing ≡ self.now.plan.reads) }
@@ -188,7 +189,7 @@ impl MemoryDesk {
         })
     }
 
-    // The memory of a sink with this name.
+    // The parts of a sink with this name.
     fn sink_room(&self, named: &str) -> Result<SinkRoom, AllocError>
         ensures bytes { IfOk result (λ r. r.bytes.items ≡ []) }
         ensures room { IfOk result (λ r. self.now.plan.room ≤ vec_capacity r.bytes) }
@@ -207,7 +208,7 @@ impl MemoryDesk {
         })
     }
 
-    // Counts a closing of a sink with so many faults: whether it fails by the plan.
+    // Counts the closing of a sink with so many faults, and returns whether the plan makes it fail.
     fn count_closing(&mut self, faults: u64) -> bool
         ensures planned { result ≡ close_fails self.old }
         ensures counted { self.new ≡ record self.old {
@@ -240,7 +241,7 @@ impl Desk for MemoryDesk {
         ensures source { let named = stream_name (option_copied name.entry) in
             IfOk result (λ s. source_seen s ≡ record { left = content (desk_seen self.old) named; faults = 0; origin = own_bytes }) }
 
-        // Exactly where the plan says so, but for want of memory.
+        // Exactly where the plan says so, apart from running out of memory.
         ensures planned { let named = stream_name (option_copied name.entry) in
             MatchOpen result
             (λ s. (open_fails self.old ≡ false) × (self.new ≡ opened self.old Input named) × (s ≡ new_source self.old named))
@@ -277,7 +278,7 @@ impl Desk for MemoryDesk {
             IfOk result (λ s. sink_seen s ≡
             record { taken = option_map (λ _. []) told; name = option_map (λ _. named) told; faults = 0 }) }
 
-        // Exactly where the plan says so, but for want of memory.
+        // Exactly where the plan says so, apart from running out of memory.
         ensures planned { let named = stream_name (option_copied name.entry) in
             MatchOpen result
             (λ s. (open_fails self.old ≡ false) × (self.new ≡ opened self.old Output named) × (s ≡ new_sink self.old named))
@@ -365,7 +366,7 @@ impl Desk for MemoryDesk {
             (Unit {0})
             (Unit {0}) }
 
-        // Exactly where the plan says so, but for want of memory.
+        // Exactly where the plan says so, apart from running out of memory.
         ensures planned { let named = stream_name (option_copied name.entry) in
             MatchFile result
             (λ _. (open_fails self.old ≡ false) × (self.new ≡ opened self.old File named))

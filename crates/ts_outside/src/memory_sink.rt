@@ -1,3 +1,4 @@
+//! A sink of a desk in memory.
 ghost use Rattle.std.specs.Prelude.{◌≡◌, ◌<◌, ◌≤◌, length, take, is_err, IfOk, OnErr};
 ghost use Rattle.ts_outside.specs.Sink.{took, write_failed};
 ghost use Rattle.ts_outside.specs.Memory.{sink_failed, sink_seen, sink_wrote, write_count, write_fails};
@@ -19,7 +20,7 @@ pub struct MemorySink {
     pub(crate) failing: NumberList,
     pub(crate) piece: usize,
     pub(crate) room: usize,
-    // the link that the closing fills
+    // The link that closing it fills.
     pub(crate) link: Box<ClosedOutputs>,
 }
 
@@ -40,7 +41,7 @@ impl Model for MemorySink {
       room = s.room;
     } };
 
-    // The room was reserved at the opening.
+    // The room is reserved when it is opened.
     ghost invariant = { λ s. (0 < s.piece) × (vec_len s.bytes ≤ s.room) × (s.room ≤ vec_capacity s.bytes) };
 }
 

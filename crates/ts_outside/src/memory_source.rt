@@ -1,3 +1,4 @@
+//! A source of a desk in memory.
 ghost use Rattle.std.specs.Prelude.{◌≡◌, ◌<◌, ◌≤◌, [], length, take, is_err, IfOk, OnErr, IfSome};
 ghost use Rattle.ts_outside.specs.Source.{read_failed, unread};
 ghost use Rattle.ts_outside.specs.Memory.{fails_next, read_count, source_failed, source_read, source_seen};
@@ -17,7 +18,7 @@ pub struct MemorySource {
     pub(crate) calls: u64,
     pub(crate) failing: NumberList,
     pub(crate) piece: usize,
-    // the link that the closing fills
+    // The link that closing it fills.
     pub(crate) link: Box<ClosedInputs>,
 }
 

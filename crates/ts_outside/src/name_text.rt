@@ -1,10 +1,11 @@
+//! A name on the command line.
 ghost use Rattle.std.specs.Prelude.{◌≡◌, IfOk};
 ghost use Rattle.std.specs.String.{string_bytes};
 
 use std::alloc::AllocError;
 use std::marker::Model;
 
-/// A name or another short text of the command line, seen as the bytes of its UTF-8 form.
+/// A name or another short text of the command line; contracts see the bytes of its UTF-8 form.
 ///
 /// The empty name means the standard stream.
 #[derive(Drop, Debug)]
@@ -22,21 +23,21 @@ impl Model for NameText {
 }
 
 impl NameText {
-    /// Keeps a text as it is, and takes no memory.
+    /// The name with this text. Allocates nothing.
     pub fn of(text: String) -> NameText
         ensures { result ≡ string_bytes text }
     {
         NameText { text }
     }
 
-    /// Lends the text.
+    /// The text as a `str`.
     pub fn as_str(&self) -> &str
         ensures { result.now ≡ self.now }
     {
         self.text.as_str()
     }
 
-    /// Gives the text back, and takes no memory.
+    /// The text as a `String`. Allocates nothing.
     pub fn into_string(self) -> String
         ensures { string_bytes result ≡ self }
     {
@@ -44,7 +45,7 @@ impl NameText {
         text
     }
 
-    /// A second text with the same bytes. `AllocError` leaves nothing behind.
+    /// A copy of the text.
     pub fn copy(&self) -> Result<NameText, AllocError>
         ensures { IfOk result (λ t. t ≡ self.now) }
     {

@@ -1,10 +1,11 @@
+//! A list of numbers.
 ghost use Rattle.std.specs.Prelude.{◌≡◌, ◌==◌, ◌↔◌, IsTrue, Contains, IfOk};
 ghost use Rattle.std.specs.List.{list_any};
 
 use std::alloc::AllocError;
 use std::marker::Model;
 
-/// Numbers, seen as the list of them: in a `FailPlan` the calls that fail, counted from 1.
+/// Numbers; contracts see the list of them. In a `FailPlan` they are the calls that fail, counted from 1.
 #[derive(Drop)]
 pub struct NumberList {
     numbers: Vec<u64>,
@@ -19,21 +20,21 @@ impl Model for NumberList {
 }
 
 impl NumberList {
-    /// Keeps numbers as they are, and takes no memory.
+    /// The list of these numbers. Allocates nothing.
     pub fn of(numbers: Vec<u64>) -> NumberList
         ensures { result ≡ numbers.items }
     {
         NumberList { numbers }
     }
 
-    /// Lends the numbers.
+    /// The numbers as a slice.
     pub fn as_slice(&self) -> &[u64]
         ensures { result.now ≡ self.now }
     {
         self.numbers.as_slice()
     }
 
-    /// Gives the numbers back, and takes no memory.
+    /// The numbers as a `Vec`. Allocates nothing.
     pub fn into_vec(self) -> Vec<u64>
         ensures { result.items ≡ self }
     {
@@ -41,7 +42,7 @@ impl NumberList {
         numbers
     }
 
-    /// A second list, equal to this one. `AllocError` leaves nothing behind.
+    /// A copy of the list.
     pub fn copy(&self) -> Result<NumberList, AllocError>
         ensures { IfOk result (λ l. l ≡ self.now) }
     {

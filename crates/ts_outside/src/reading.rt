@@ -1,3 +1,4 @@
+//! Reading a whole source.
 ghost use Rattle.std.specs.Prelude.{◌≡◌, ◌<◌, ◌≤◌, List, ℕ, length, IfSome};
 ghost use Rattle.ts_outside.specs.FileFault.{MatchFile};
 ghost use Rattle.ts_outside.specs.Source.{read_failed, unread};
@@ -7,12 +8,12 @@ use crate::file_bytes::FileBytes;
 use crate::sources::Source;
 use std::alloc::Global;
 
-/// How many bytes one call asks for.
+/// The number of bytes that one call asks for.
 const CHUNK: usize = 4096;
 
 /// Reads a source to its end, where it has at most `most` bytes.
 ///
-/// After each answer some bytes of the source are read, and only `Failed` raised its count, by one.
+/// Whatever is returned, some bytes of the source were read, and only `Failed` raised its count of faults, by one.
 #[tactic(auto, using(crate::proofs::Views::views))]
 pub fn read_to_end<S: Source>(
     alloc: Global,

@@ -1,6 +1,7 @@
+//! The requests to a desk.
 use crate::name_text::NameText;
 
-/// For what a desk was asked to open a name.
+/// What a name is requested for.
 #[derive(Clone, Copy, PartialEq, Eq)]
 pub enum Purpose {
     /// A source, by `open_in`.
@@ -11,12 +12,13 @@ pub enum Purpose {
     File,
 }
 
-/// One name that a desk was asked for.
+/// A name that was requested of a desk.
 #[derive(Drop)]
 pub struct Asked {
+    /// What it was requested for.
     pub purpose: Purpose,
     /// The name; the empty one is the standard stream.
     pub name: NameText,
-    /// False exactly where the answer was `Failed`.
+    /// False exactly where `Failed` was returned.
     pub ok: bool,
 }

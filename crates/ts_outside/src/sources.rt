@@ -1,3 +1,4 @@
+//! The trait of sources.
 ghost use Rattle.std.specs.Prelude.{◌≡◌, ◌<◌, ◌≤◌, [], length, take, IfOk, OnErr, IfSome};
 ghost use Rattle.ts_outside.specs.Source.{SourceView, read_failed, unread};
 
@@ -5,15 +6,15 @@ use crate::faults::Failed;
 
 /// Where bytes come from: an opened file, a standard stream, or a list in memory.
 ///
-/// A source is no `Drop`: it has to be handed to `Desk::close_in`.
+/// A source is not `Drop`: it has to be passed to `Desk::close_in`.
 pub trait Source {
-    // What contracts see: the bytes still to come, told or not, the count of faults, and where the bytes are from.
+    // What contracts see: the bytes still to come, known or not, the count of faults, and where the bytes are from.
     ghost seen: { Self → SourceView };
 
-    /// Moves the next bytes into the front of `into` and answers how many they are. What stands behind them there may
+    /// Moves the next bytes to the front of `into` and returns how many. The bytes after them in `into` may
     /// have changed.
     ///
-    /// `Ok(0)` means the end. `Failed` raises the count of faults, and no byte is lost by it.
+    /// `Ok(0)` means the end. `Failed` raises the count of faults, and loses no byte.
     fn read(&mut self, into: &mut [u8]) -> Result<usize, Failed>
         requires { 0 < length into.old }
         ensures within { IfOk result (λ n. n ≤ length into.new) }

@@ -1,3 +1,4 @@
+//! A desk in memory that never fails.
 ghost use Rattle.std.specs.Prelude.{◌≡◌, ◌<◌, ◌≤◌, [], length, take, is_err, IsOk, IfOk, OnErr, IfSome};
 ghost use Rattle.std.specs.Option.{option_copied, option_map};
 ghost use Rattle.ts_outside.specs.declared.requests.Purpose.TheVariants.{Input, Output, File};
@@ -17,8 +18,8 @@ use crate::stream_names::stream;
 use std::alloc::{AllocError, Global};
 use std::marker::Model;
 
-/// A desk in memory that never fails: it tells its files and what its sources have still to come, and keeps of what goes
-/// out the number of bytes alone.
+/// A desk in memory that never fails: its files and what its sources have still to come are known, and of its outputs
+/// and reports it keeps only the number of bytes.
 ///
 /// An unknown name is an empty file.
 #[derive(Drop)]
@@ -50,14 +51,14 @@ impl SteadyDesk {
         })
     }
 
-    /// How many bytes the closed sinks took; the number stands still at its type's end.
+    /// The number of bytes that the closed sinks took; it saturates at `u64::MAX`.
     pub fn written_count(&self) -> u64
         ensures { result ≡ self.now.written }
     {
         self.written
     }
 
-    /// How many bytes were reported; the number stands still at its type's end.
+    /// The number of bytes that were reported; it saturates at `u64::MAX`.
     pub fn reported_count(&self) -> u64
         ensures { result ≡ self.now.reported }
     {

@@ -1,3 +1,4 @@
+//! A sink of a steady desk.
 ghost use Rattle.std.specs.Prelude.{◌≡◌, ◌<◌, ◌≤◌, length, take, IfOk, OnErr};
 ghost use Rattle.ts_outside.specs.Sink.{took, write_failed};
 ghost use Rattle.ts_outside.specs.Steady.{counted, steady_sink};
@@ -6,7 +7,7 @@ use crate::faults::Failed;
 use crate::sinks::Sink;
 use std::marker::Model;
 
-/// A sink that keeps the number of its bytes alone, and is seen as that number. It never fails.
+/// A sink that keeps only the number of its bytes, which contracts see. It never fails.
 pub struct SteadySink {
     pub(crate) taken: u64,
 }
@@ -29,7 +30,7 @@ impl Sink for SteadySink {
         ensures taken { IfOk result (λ n. steady_sink self.new ≡ took (steady_sink self.old) (take n piece.now)) }
         ensures failed { OnErr result (steady_sink self.new ≡ write_failed (steady_sink self.old)) }
 
-        // It never fails, and takes all.
+        // It never fails, and takes all bytes.
         ensures steady { result ≡ Ok (length piece.now) }
         ensures count { self.new ≡ counted self.old (length piece.now) }
     {

@@ -1,3 +1,4 @@
+//! A source of a steady desk.
 ghost use Rattle.std.specs.Prelude.{◌≡◌, ◌<◌, ◌≤◌, [], drop, length, min, take, IfOk, IsOk, OnErr, IfSome};
 ghost use Rattle.ts_outside.specs.Source.{read_failed, unread};
 ghost use Rattle.ts_outside.specs.Steady.{steady_source};
@@ -6,7 +7,7 @@ use crate::faults::Failed;
 use crate::sources::Source;
 use std::marker::Model;
 
-/// A source over bytes in memory, seen as those still to come. It never fails.
+/// A source over bytes in memory, which contracts see as those still to come. It never fails.
 pub struct SteadySource {
     pub(crate) bytes: Vec<u8>,
     pub(crate) at: usize,
@@ -32,7 +33,7 @@ impl Source for SteadySource {
         ensures end { IfOk result (λ n. n ≡ 0 → IfSome (steady_source self.old).left (λ l. l ≡ [])) }
         ensures failed { OnErr result (steady_source self.new ≡ read_failed (steady_source self.old)) }
 
-        // It never fails, and moves as much as there is and has a place.
+        // It never fails, and moves as many bytes as there are and have a place.
         ensures steady { IsOk result }
         ensures count { IfOk result (λ n. n ≡ min (length into.new) (length self.old)) }
         ensures rest { IfOk result (λ n. self.new ≡ drop n self.old) }

@@ -1,3 +1,4 @@
+//! The name of a stream.
 ghost use Rattle.std.specs.Prelude.{◌≡◌};
 ghost use Rattle.std.specs.Option.{option_copied};
 ghost use Rattle.ts_outside.specs.Desk.{stream_name};

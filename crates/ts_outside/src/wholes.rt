@@ -1,3 +1,4 @@
+//! Writing and reporting a piece as a whole.
 ghost use Rattle.std.specs.Prelude.{◌≡◌, ◌<◌, length, take, OnOk, IfErr};
 ghost use Rattle.ts_outside.specs.Sink.{took, write_failed};
 ghost use Rattle.ts_outside.specs.Desk.{reports, report_failed};
@@ -6,16 +7,16 @@ use crate::desks::Desk;
 use crate::faults::Failed;
 use crate::sinks::Sink;
 
-/// A piece was not taken whole: a call failed behind its first bytes.
+/// A piece was not taken whole: a call failed after its first bytes.
 #[derive(Clone, Copy, PartialEq, Eq)]
 pub struct CutShort {
-    /// How many bytes were taken before the failure.
+    /// The number of bytes that were taken before the failure.
     pub taken: usize,
 }
 
-/// Writes all of a piece, in as many calls as the sink wants; an empty one in none.
+/// Writes all of a piece, in as many calls as the sink needs; no call for an empty piece.
 ///
-/// A failure comes with the number of bytes that were taken before it. There is one failed call at most.
+/// A failure is returned with the number of bytes that were taken before it. At most one call fails.
 #[tactic(auto, using(crate::proofs::Views::views))]
 pub fn write_whole<K: Sink>(sink: &mut K, piece: &[u8]) -> Result<(), CutShort>
     ensures whole { OnOk result (K.seen sink.new ≡ took (K.seen sink.old) piece.now) }
@@ -32,9 +33,9 @@ pub fn write_whole<K: Sink>(sink: &mut K, piece: &[u8]) -> Result<(), CutShort>
     Ok(())
 }
 
-/// Reports all of a piece, in as many calls as the desk wants; an empty one in none.
+/// Reports all of a piece, in as many calls as the desk needs; no call for an empty piece.
 ///
-/// A failure comes with the number of bytes that were taken before it. There is one failed call at most.
+/// A failure is returned with the number of bytes that were taken before it. At most one call fails.
 #[tactic(auto, using(crate::proofs::Views::views))]
 pub fn report_whole<D: Desk>(desk: &mut D, piece: &[u8]) -> Result<(), CutShort>
     ensures whole { OnOk result (D.seen desk.new ≡ reports (D.seen desk.old) piece.now) }

@@ -44,7 +44,7 @@ clock_laid clock counter old payload e f =
     ap (λ t. front ++ (payload ++ t)) (ap (λ k. drop k (clock_packet counter clock old)) n ∙ drop_of_length-le old {i = 176} (omega (arith, e)))
     ∙ ap (λ t. front ++ t) (append-nil payload)
 
--- the header of a packet with a payload alone
+-- the header of a packet with only a payload
 pub plain_header :
     (pid counter : ℕ) → pid < 8191 → counter < 16 →
     with_counter (with_pid null_packet pid) counter ≡ 0x47 ∷ pid / 256 ∷ pid % 256 ∷ (16 + counter) ∷ replicate 184 0xFF
@@ -54,7 +54,7 @@ plain_header pid counter h k =
     ap (λ t. 0x47 ∷ t ∷ pid % 256 ∷ byte_with 0x10 4 4 counter ∷ replicate 184 0xFF) second
     ∙ ap (λ t. 0x47 ∷ pid / 256 ∷ pid % 256 ∷ t ∷ replicate 184 0xFF) (fourth_plain counter k)
 
--- and the payload behind it
+-- and the payload after it
 pub plain_laid :
     (pid counter : ℕ) (payload : List ℕ) → length payload ≡ 184 →
     with_piece (0x47 ∷ pid / 256 ∷ pid % 256 ∷ (16 + counter) ∷ replicate 184 0xFF) 4 payload

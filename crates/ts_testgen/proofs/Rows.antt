@@ -1,4 +1,4 @@
--- Worked rows: packets of the generated stream of the seed 1, computed. The bytes beside them were reckoned
+-- Worked rows: packets of the generated stream of the seed 1, computed. The bytes beside them were computed
 -- by other means.
 use Rattle.std.proofs.Common.{◌≡◌, ℕ, List, [], ◌∷◌, ◌++◌, length, map, replicate, refl}
 use Rattle.std.specs.List.{concat}

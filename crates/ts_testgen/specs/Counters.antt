@@ -1,4 +1,4 @@
--- What a generator keeps: the counters of the PIDs, and the packets of the tables. This project's own rule.
+-- The state of a generator: the counters of the PIDs, and the packets of the tables. This project's own rule.
 use Rattle.std.specs.Prelude.{◌≡◌, ℕ, ◌%◌, List, [], ◌∷◌, map}
 use Rattle.ts_testgen.specs.GeneratedTables.{pat_section, first_pmt_section, second_pmt_section, sdt_section}
 use Rattle.ts_testgen.specs.Rules.{earlier}

@@ -11,12 +11,12 @@ use Rattle.ts_testgen.specs.Rules.{rule_at, pid_by, pid_at, earlier}
 use Rattle.ts_testgen.specs.declared.rule.Rule.{Rule}
 use Rattle.ts_testgen.specs.declared.rule.Rule.TheVariants.{Pat, FirstPmt, SecondPmt, Sdt, Clock, Null, Payload}
 
--- what contracts see of a generator: its seed, and how many packets it has given
+-- what contracts see of a generator: its seed, and the number of packets it has given
 pub record Generator : Type 0 where
   pub seed : ℕ
   pub given : ℕ
 
--- the packet that carries a section, which is one for each section of the stream
+-- the packet that carries a section; each section of the stream fits one packet
 abbrev pub table_packet : ℕ → List ℕ → List ℕ
 table_packet pid section = slice_index_or (packets_of pid (section ∷ [])) 0 null_packet
 
@@ -24,14 +24,14 @@ table_packet pid section = slice_index_or (packets_of pid (section ∷ [])) 0 nu
 abbrev pub clock_at : ℕ → ℕ
 clock_at i = 3000 * i % 2576980377600
 
--- The packet on PID 256 with an adaptation field, of length 7 and with the PCR flag alone,
+-- The packet on PID 256 with an adaptation field, of length 7 and with only the PCR flag set,
 -- and 176 bytes of payload.
 abbrev pub clock_packet : ℕ → ℕ → List ℕ → List ℕ
 clock_packet counter clock payload =
     SYNC_BYTE ∷ 256 / 256 ∷ 256 % 256 ∷ (48 + counter) ∷ 7 ∷ 0x10 ∷
     clock_bytes (clock / 300) (clock % 300) ++ payload
 
--- a rule's packet, by the number's mix, the number and the counter
+-- a rule's packet, by the mix, the number and the counter
 abbrev pub packet_by : Rule → ℕ → ℕ → ℕ → List ℕ
 packet_by Pat r i counter = with_counter (table_packet 0 pat_section) counter
 packet_by FirstPmt r i counter = with_counter (table_packet 4096 first_pmt_section) counter
@@ -42,7 +42,7 @@ packet_by Null r i counter = null_packet
 packet_by Payload r i counter =
     packet_with (pid_by Payload r) counter (record { unit_start = false; payload = mixed_bytes r 184 })
 
--- the counter of the packet with a number: how many earlier packets are on its PID, modulo 16
+-- the counter of the packet with a number: the number of earlier packets on its PID, modulo 16
 abbrev pub counter_at : ℕ → ℕ → ℕ
 counter_at seed i = earlier seed (pid_at seed i) i % 16
 

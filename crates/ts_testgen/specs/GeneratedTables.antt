@@ -1,6 +1,6 @@
 -- The four sections of the generated stream.
--- This project's own rule: stream 1 of network 1 has the services 1 and 2; versions are 0, tables are current.
--- Their layouts: ISO/IEC 13818-1, 2.4.4.3 (PAT) and 2.4.4.8 (PMT); ETSI EN 300 468, 5.2.3 (SDT) and
+-- This project's own rule: transport stream 1 of network 1 has the services 1 and 2; versions are 0, tables are current.
+-- Layouts: ISO/IEC 13818-1, 2.4.4.3 (PAT) and 2.4.4.8 (PMT); ETSI EN 300 468, 5.2.3 (SDT) and
 -- 6.2.33 (service descriptor). Reserved bits are ones.
 use Rattle.std.specs.Prelude.{ℕ, ◌+◌, ◌*◌, ◌/◌, ◌%◌, Bool, true, false, List, [], ◌∷◌, ◌++◌, length}
 use Rattle.ts_section.specs.declared.long_head.LongHead.{LongHead}
@@ -19,7 +19,7 @@ only_head table_id «private» extension =
       last = 0;
     }
 
--- 16 bits
+-- two bytes, highest first
 abbrev pub two_bytes : ℕ → List ℕ
 two_bytes n = n / 256 ∷ n % 256 ∷ []
 
@@ -50,13 +50,15 @@ abbrev pub sdt_service : ℕ → List ℕ → List ℕ
 sdt_service service_id descriptors =
     two_bytes service_id ++ 0xFC ∷ two_bytes (4 * 8192 + length descriptors) ++ descriptors
 
--- the texts `test`, `one` and `two`
+-- the text `test`
 abbrev pub provider_text : List ℕ
 provider_text = 0x74 ∷ 0x65 ∷ 0x73 ∷ 0x74 ∷ []
 
+-- the text `one`
 abbrev pub one_text : List ℕ
 one_text = 0x6F ∷ 0x6E ∷ 0x65 ∷ []
 
+-- the text `two`
 abbrev pub two_text : List ℕ
 two_text = 0x74 ∷ 0x77 ∷ 0x6F ∷ []
 
@@ -64,6 +66,7 @@ two_text = 0x74 ∷ 0x77 ∷ 0x6F ∷ []
 abbrev pub pat_body : List ℕ
 pat_body = pat_entry 1 4096 ++ pat_entry 2 4097
 
+-- the section of the PAT
 unfoldable pub pat_section : List ℕ
 pat_section = long_section (only_head 0x00 false 1) pat_body
 
@@ -71,6 +74,7 @@ pat_section = long_section (only_head 0x00 false 1) pat_body
 abbrev pub first_pmt_body : List ℕ
 first_pmt_body = pid_bytes 256 ++ no_descriptors ++ component 2 256 ++ component 3 257
 
+-- the section of the PMT of service 1
 unfoldable pub first_pmt_section : List ℕ
 first_pmt_section = long_section (only_head 0x02 false 1) first_pmt_body
 
@@ -78,14 +82,16 @@ first_pmt_section = long_section (only_head 0x02 false 1) first_pmt_body
 abbrev pub second_pmt_body : List ℕ
 second_pmt_body = pid_bytes 256 ++ no_descriptors ++ component 2 258 ++ component 3 259
 
+-- the section of the PMT of service 2
 unfoldable pub second_pmt_section : List ℕ
 second_pmt_section = long_section (only_head 0x02 false 2) second_pmt_body
 
--- the SDT of the actual stream: network 1, and the services 1 and 2
+-- the SDT of the actual transport stream: network 1, and the services 1 and 2
 abbrev pub sdt_body : List ℕ
 sdt_body =
     two_bytes 1 ++ 0xFF ∷ sdt_service 1 (service_descriptor provider_text one_text)
     ++ sdt_service 2 (service_descriptor provider_text two_text)
 
+-- the section of the SDT
 unfoldable pub sdt_section : List ℕ
 sdt_section = long_section (only_head 0x42 true 1) sdt_body

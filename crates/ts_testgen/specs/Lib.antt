@@ -1,3 +1,4 @@
+-- The definitions of the generated stream.
 pub mod Mixed
 pub mod GeneratedTables
 pub mod Rules

@@ -1,4 +1,4 @@
--- Which packet stands at a number, and on which PID. This project's own rule.
+-- Which packet has a number, and on which PID. This project's own rule.
 use Rattle.std.specs.Prelude.{ℕ, zero, suc, ◌+◌, ◌/◌, ◌%◌, ◌^◌, ◌==◌, if◌then◌else◌}
 use Rattle.ts_testgen.specs.Mixed.{mixed}
 use Rattle.ts_testgen.specs.declared.rule.Rule.{Rule}
@@ -29,11 +29,11 @@ pid_by Payload r = 256 + r / 2 ^ 33 % 4
 abbrev pub pid_at : ℕ → ℕ → ℕ
 pid_at seed i = pid_by (rule_at i) (mixed seed i)
 
--- one more where two PIDs are the same
+-- one more where two PIDs are equal
 abbrev pub counted : ℕ → ℕ → ℕ → ℕ
 counted found pid count = if found == pid then count + 1 else count
 
--- how many packets before a number are on a PID
+-- the number of packets before a number that are on a PID
 unfoldable pub earlier : ℕ → ℕ → ℕ → ℕ
 earlier seed pid zero = 0
 earlier seed pid (suc i) = counted (pid_at seed i) pid (earlier seed pid i)

@@ -1,4 +1,4 @@
-//! The packets with a PCR and with a payload alone.
+//! The packets with a PCR, and those with only a payload.
 ghost use Rattle.std.specs.Prelude.{◌≡◌, ◌+◌, ◌<◌, ◌*◌, ◌^◌, false, replicate};
 ghost use Rattle.ts_packetize.specs.Packets.{packet_with};
 ghost use Rattle.ts_testgen.specs.Generated.{clock_at, clock_packet};
@@ -7,18 +7,20 @@ ghost use Rattle.ts_testgen.specs.Mixed as mix;
 use crate::mixed::mixed_bytes;
 use ts_packet::{PAYLOAD_SIZE, Packet};
 
-/// The PID of PCRs, the first of the four with payloads.
+/// The PID of PCRs, the first of the four PIDs with payloads.
 pub(crate) const FIRST_PID: u16 = 256;
-/// The bytes of a header, and of an adaptation field that has a PCR and nothing else.
+/// The size of a packet's header in bytes.
 const HEADER: u8 = 4;
 
+/// The size in bytes of an adaptation field with a PCR and nothing else.
 const CLOCK_FIELD: u8 = 8;
-/// The PCR counts on by so much a packet, and returns to 0 at 2^33 times 300.
+/// The step of the PCR from one packet number to the next, in units of 27 MHz.
 const CLOCK_STEP: u64 = 3000;
 
+/// The modulus of the PCR: 2^33 times 300.
 const CLOCK_END: u64 = 2576980377600;
 
-/// The PCR of the packet with a number, in units of 27 MHz. It comes again after 2^32 packets.
+/// The PCR of the packet with this number, in units of 27 MHz. It repeats after 2^32 packets.
 fn clock_at(i: u64) -> u64
     ensures clock { result ≡ clock_at i }
     ensures range { result < 2 ^ 33 * 300 }
@@ -26,7 +28,7 @@ fn clock_at(i: u64) -> u64
     CLOCK_STEP * (i % (1 << 32)) % CLOCK_END
 }
 
-/// The packet with the PCR of a number and, behind it, the bytes of the number's mix.
+/// The packet with the PCR of this number, followed by the bytes of the mix `r`.
 pub(crate) fn clock_packet(r: u64, i: u64, counter: u8) -> Packet
     requires { counter < 16 }
     ensures { result ≡ clock_packet counter (clock_at i) (mix.mixed_bytes r 176) }
@@ -38,7 +40,7 @@ pub(crate) fn clock_packet(r: u64, i: u64, counter: u8) -> Packet
     packet
 }
 
-/// The packet with a PCR, counter 0, and a payload of 0xFF alone.
+/// The packet with a PCR, continuity counter 0, and a payload of 0xFF alone.
 fn clocked(clock: u64) -> Packet
     requires { clock < 2 ^ 33 * 300 }
     ensures { result ≡ clock_packet 0 clock (replicate 176 0xFF) }
@@ -51,7 +53,7 @@ fn clocked(clock: u64) -> Packet
     packet
 }
 
-/// The packet with the bytes of a mix alone, on the PID 256 + `component`.
+/// The packet with only the bytes of the mix `r`, on PID 256 + `component`.
 pub(crate) fn payload_packet(r: u64, component: u8, counter: u8) -> Packet
     requires component { component < 4 }
     requires counter { counter < 16 }

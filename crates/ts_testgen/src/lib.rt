@@ -1,5 +1,5 @@
-//! A seed comes in; a lawful stream with tables, PCRs, payloads and null packets goes out, packet by packet.
-//! The layer above rests on `TestGen::next_packet`, which gives `generated seed given` of `specs/`.
+//! The generated stream: tables, PCRs, payloads and null packets made from a seed, packet by packet.
+//! The layer above uses `TestGen::next_packet`, which returns `generated seed given` of `specs/`.
 #![tactic(auto)]
 
 mod carriers;

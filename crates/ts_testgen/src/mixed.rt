@@ -1,10 +1,10 @@
-//! The number from which a packet's payload and PID are taken.
+//! The mix: the pseudo-random number from which a packet's payload and PID are taken.
 ghost use Rattle.std.specs.Prelude.{◌≡◌, ◌<◌, ◌^◌, ◌%◌};
 ghost use Rattle.ts_testgen.specs.Mixed as mix;
 
 use ts_packet::PAYLOAD_SIZE;
 
-/// The mix of the packet with the number `i`.
+/// The mix of the packet with number `i`.
 pub(crate) fn mixed(seed: u64, i: u64) -> u64
     requires { i < 2 ^ 60 }
     ensures { result ≡ mix.mixed seed i }
@@ -14,7 +14,7 @@ pub(crate) fn mixed(seed: u64, i: u64) -> u64
         .wrapping_add(1442695040888963407)
 }
 
-/// The bytes of the mix, lowest first, over and over.
+/// The eight bytes of the mix, lowest first, repeated.
 pub(crate) fn mixed_bytes(r: u64) -> [u8; PAYLOAD_SIZE]
     ensures { result ≡ mix.mixed_bytes r PAYLOAD_SIZE }
 {
@@ -25,7 +25,7 @@ pub(crate) fn mixed_bytes(r: u64) -> [u8; PAYLOAD_SIZE]
     bytes
 }
 
-/// The byte of the mix that stands at a place.
+/// The byte of the mix at a place, as `mixed_bytes` repeats them.
 fn mixed_byte(r: u64, k: usize) -> u8
     ensures { result ≡ mix.mixed_byte r k }
 {

@@ -1,9 +1,9 @@
-//! Which packet stands at a number.
+//! The kind of the packet with a number.
 ghost use Rattle.std.specs.Prelude.{◌≡◌, ◌<◌, ◌/◌, ◌%◌, ◌^◌, slice_index};
 ghost use Rattle.ts_testgen.specs.Counters.{counted_pids};
 ghost use Rattle.ts_testgen.specs.Rules.{rule_at, pid_by};
 
-/// What the packet with a number is.
+/// The kind of a packet of the generated stream.
 #[derive(Clone, Copy, PartialEq, Eq)]
 pub enum Rule {
     /// The PAT.
@@ -12,13 +12,13 @@ pub enum Rule {
     FirstPmt,
     /// The PMT of service 2.
     SecondPmt,
-    /// The SDT of the actual stream.
+    /// The SDT of the actual transport stream.
     Sdt,
     /// A packet with a PCR and a payload.
     Clock,
     /// The null packet.
     Null,
-    /// A packet with a payload alone, on one of four PIDs.
+    /// A packet with only a payload, on one of four PIDs.
     Payload,
 }
 
@@ -39,7 +39,7 @@ impl Rule {
         }
     }
 
-    /// The place of its packet's PID in the row of counters; `r` is the number's mix.
+    /// The index of its packet's PID in the counters; `r` is the mix.
     pub(crate) fn place(self, r: u64) -> usize
         ensures place { slice_index counted_pids result ≡ pid_by self r }
         ensures range { result < 9 }
@@ -56,7 +56,7 @@ impl Rule {
     }
 }
 
-/// Which of the four PIDs from 256 on the payload packet with this mix is on.
+/// Which of the four PIDs from 256 on the payload packet with the mix `r` is on.
 pub(crate) fn component(r: u64) -> u8
     ensures component { result ≡ r / 2 ^ 33 % 4 }
     ensures range { result < 4 }

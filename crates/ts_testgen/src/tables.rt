@@ -10,29 +10,33 @@ use ts_packet::{NULL_PID, Packet};
 use ts_packetize::packets;
 use ts_section::{LongHead, Section};
 
-/// Services 1 on PID 4096 and 2 on PID 4097.
+/// Service 1 with the PMT on PID 4096, service 2 with the PMT on PID 4097.
 const PAT_BODY: [u8; 8] = [0, 1, 0xF0, 0x00, 0, 2, 0xF0, 0x01];
-/// PCR_PID 256, no descriptors; types 2 on PID 256 and 3 on PID 257, without descriptors.
+/// PCR_PID 256; stream types 2 on PID 256 and 3 on PID 257; no descriptors.
 const FIRST_PMT_BODY: [u8; 14] = [
     0xE1, 0x00, 0xF0, 0, 2, 0xE1, 0x00, 0xF0, 0, 3, 0xE1, 0x01, 0xF0, 0,
 ];
-/// The same of types 2 on PID 258 and 3 on PID 259.
+/// PCR_PID 256; stream types 2 on PID 258 and 3 on PID 259; no descriptors.
 const SECOND_PMT_BODY: [u8; 14] = [
     0xE1, 0x00, 0xF0, 0, 2, 0xE1, 0x02, 0xF0, 0, 3, 0xE1, 0x03, 0xF0, 0,
 ];
-/// Network 1; services 1 and 2, running, each with a service descriptor: type 1, provider and name.
+/// Original network 1; services 1 and 2, running, each with a service descriptor: type 1, provider and name.
 const SDT_BODY: [u8; 37] = [
     0, 1, 0xFF, //
     0, 1, 0xFC, 0x80, 12, 0x48, 10, 1, 4, b't', b'e', b's', b't', 3, b'o', b'n', b'e', //
     0, 2, 0xFC, 0x80, 12, 0x48, 10, 1, 4, b't', b'e', b's', b't', 3, b't', b'w', b'o',
 ];
 
-/// The packets of the tables, with counter 0.
+/// The packets of the tables, with continuity counter 0.
 #[derive(Clone, Copy)]
 pub(crate) struct Tables {
+    /// The PAT.
     pub pat: Packet,
+    /// The PMT of service 1.
     pub first_pmt: Packet,
+    /// The PMT of service 2.
     pub second_pmt: Packet,
+    /// The SDT of the actual transport stream.
     pub sdt: Packet,
 }
 
@@ -50,7 +54,7 @@ impl Tables {
     }
 }
 
-/// The packet of the PID that carries the one section of a table.
+/// The packet of this PID that carries the one section of a table.
 fn table_packet(
     alloc: Global,
     pid: u16,

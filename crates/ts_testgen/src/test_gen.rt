@@ -1,4 +1,4 @@
-//! The generated stream, packet by packet.
+//! The generator of a stream.
 ghost use Rattle.std.specs.Prelude.{◌≡◌, ◌+◌, ◌<◌, ◌%◌, ◌^◌, IfOk, slice_index, slice_set};
 ghost use Rattle.ts_packet.specs.Header.{with_counter};
 ghost use Rattle.ts_packet.specs.Packet.{IsPacket};
@@ -13,14 +13,14 @@ use std::alloc::{AllocError, Global};
 use std::marker::Model;
 use ts_packet::Packet;
 
-/// Gives the packets of the generated stream of a seed, in order.
+/// Generates the packets of the stream of a seed, in order.
 ///
-/// Contracts see the seed, and how many packets it has given.
+/// Contracts see the seed and the number of packets it has given.
 #[derive(Drop)]
 pub struct TestGen {
     seed: u64,
     given: u64,
-    /// The counter that the next packet has on each PID, in the order of `counted_pids`.
+    /// The continuity counter of the next packet on each PID, in the order of `counted_pids`.
     counters: [u8; 9],
     tables: Tables,
 }
@@ -34,11 +34,12 @@ impl Model for TestGen {
 
     ghost view = { λ g. record { seed = g.seed; given = g.given } };
 
-    ghost invariant = { λ g. (g.counters ≡ counters_at g.seed g.given) × AreTables g.tables.pat g.tables.first_pmt g.tables.second_pmt g.tables.sdt };
+    ghost invariant = { λ g. (g.counters ≡ counters_at g.seed g.given)
+        × AreTables g.tables.pat g.tables.first_pmt g.tables.second_pmt g.tables.sdt };
 }
 
 impl TestGen {
-    /// A generator that has given no packet. It takes room while it packs the tables, and keeps none.
+    /// A generator that has given no packet. It allocates while it packs the tables, and keeps nothing allocated.
     pub fn new(alloc: Global, seed: u64) -> Result<TestGen, AllocError>
         ensures { IfOk result (λ generator. generator ≡ record { seed = seed; given = 0 }) }
     {
@@ -50,7 +51,7 @@ impl TestGen {
         })
     }
 
-    /// The next packet, of at most 2^60. Takes no memory.
+    /// The next packet, of at most 2^60. Allocates nothing.
     pub fn next_packet(&mut self) -> Packet
         requires { self.old.given < 2 ^ 60 }
         ensures packet { result ≡ generated self.old.seed self.old.given }
@@ -68,7 +69,7 @@ impl TestGen {
     }
 }
 
-/// A rule's packet with a counter; `r` is the mix of the number `i`.
+/// A rule's packet with this continuity counter; `r` is the mix of the number `i`.
 fn packet_by(tables: &Tables, rule: Rule, r: u64, i: u64, counter: u8) -> Packet
     requires tables { AreTables tables.now.pat tables.now.first_pmt tables.now.second_pmt tables.now.sdt }
     requires counter { counter < 16 }
@@ -86,7 +87,7 @@ fn packet_by(tables: &Tables, rule: Rule, r: u64, i: u64, counter: u8) -> Packet
     }
 }
 
-/// The packet with a counter.
+/// The packet with this continuity counter.
 fn counted(packet: Packet, counter: u8) -> Packet
     requires { counter < 16 }
     ensures row { result ≡ with_counter packet counter }
@@ -97,7 +98,7 @@ fn counted(packet: Packet, counter: u8) -> Packet
     packet
 }
 
-/// Counts one packet more at a place of the row of counters.
+/// Counts one more packet at a place of the counters, modulo 16.
 fn count(counters: &mut [u8; 9], place: usize)
     requires { place < 9 }
     ensures { counters.new ≡ slice_set counters.old place ((slice_index counters.old place + 1) % 16) }
