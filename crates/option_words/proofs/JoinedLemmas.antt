@@ -6,7 +6,7 @@ use Rattle.std.proofs.lemmas.List.Splits.{slice_split_first, slice_split_none}
 use Rattle.std.proofs.lemmas.List.Sums.{fails_before_first}
 use Rattle.option_words.specs.Joined.{if_all, is_comma, read_joined, read_parts}
 
--- items that were read, with those of the parts behind them
+-- items that were read, with those of the parts after them
 abbrev pub with_later : {X : Type 0} → List X → Option (List X) → Option (List X)
 with_later items = option_map (λ later. items ++ later)
 

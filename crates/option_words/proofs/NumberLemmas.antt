@@ -1,4 +1,4 @@
--- From std's word for what it parses to the numbers of `specs/Number.antt`.
+-- From what std parses to the numbers of `specs/Number.antt`.
 use Rattle.std.proofs.Common.{◌≡◌, ◌≢◌, ◌≤◌, ◌^◌, ℕ, Bool, true, false, List, [], ◌∷◌, length, drop, Option, Some, None, Result, Ok, Err, refl, ap, sym, ◌∙◌, subst, cond, arith, nat_lt, nat_eq, get_or, codes, ◌<◌}
 use Rattle.std.specs.Prelude.{IfNone, IfSome, option_and_then}
 use Rattle.std.proofs.lemmas.Bool.{ne_eqb}
@@ -23,7 +23,7 @@ numeral_test radix ds = Decides-and _ _ (Decides-ltb 0 (length ds)) (digits_test
 is_some_numeral : (radix : ℕ) (ds : List ℕ) → IsNumeral radix ds → numeral radix ds ≡ Some (digits_value radix ds)
 is_some_numeral radix ds h = ap (λ b. cond b (Some (digits_value radix ds)) None) ((numeral_test radix ds).1 h)
 
--- what is no numeral of at most 64 bits has no number below 2^64
+-- what is not a numeral of at most 64 bits has no number below 2^64
 none_below : (radix : ℕ) (ds : List ℕ) → (IsNumeral radix ds × (digits_value radix ds < 2 ^ 64) → ⊥) → IfSome (numeral radix ds) (λ n. 2 ^ 64 ≤ n)
 none_below radix ds never = go (is_numeral radix ds) (λ e. (numeral_test radix ds).0 e)
   where
@@ -71,7 +71,7 @@ pub within_some : (least most : ℕ) (s : List ℕ) (n : ℕ) → number_of s �
 unfolding number_within
 within_some least most s n e = ap (option_and_then (if_within least most)) e
 
--- a number of 2^64 or more lies above every most of 64 bits
+-- a number of 2^64 or more lies above every bound of 64 bits
 pub within_none : (least most : ℕ) (s : List ℕ) → most < 2 ^ 64 → IfSome (number_of s) (λ n. 2 ^ 64 ≤ n) → number_within least most s ≡ None
 unfolding number_within
 within_none least most s small h = go (number_of s) h

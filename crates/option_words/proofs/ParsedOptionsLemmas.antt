@@ -1,4 +1,4 @@
--- From what `clap` gives to findings.
+-- From what `clap` gives to what is found.
 use Rattle.std.proofs.Common.{◌≡◌, ◌∙◌, ◌==◌, ℕ, true, false, List, [], ◌∷◌, length, Option, Some, None, refl, ap, subst, inl, inr, arith, ne_eqb}
 use Rattle.std.specs.Prelude.{find, option_and_then, option_map, unwrap_or}
 use Rattle.std.specs.Option.{option_map_or}
@@ -45,7 +45,7 @@ pub found_from : (app : App) (words : List (List ℕ)) → matches_of app words 
 unfolding findings
 found_from app words = refl
 
--- an error that is not for want of memory has a kind among those of the words
+-- an error other than out of memory has a kind among those of the words
 pub kinds_from : (kinds : Kinds) (e : Error) → HasKind kinds e → (kind_of e ≡ OutOfMemory → ⊥) → kinds ≡ [] → ⊥
 kinds_from kinds e (inl memory) never none = never memory
 kinds_from kinds e (inr among) never none = subst (IsAmong (kind_of e)) none among

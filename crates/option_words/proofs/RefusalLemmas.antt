@@ -1,4 +1,4 @@
--- How a reader of findings answers, where a table has many rows.
+-- What a reader returns where a table has many rows.
 use Rattle.std.proofs.Common.{◌≡◌, ◌∙◌, ◌&&◌, Bool, true, false, not, cond, List, Some, None, Result, Ok, Err, refl, ap, ap₂, sym, subst, ℕ, zero, suc, [], ◌∷◌}
 use Rattle.std.specs.Prelude.{slice_get}
 use Rattle.std.specs.Result.{IsErrAnd}
@@ -23,12 +23,12 @@ malformed (r ∷ rows) found (suc k) row at e = go (is_well_formed r.name r.kind
 pub all_true : (a b : Bool) → a ≡ true → b ≡ true → (a && b) ≡ true
 all_true a b e f = ap₂ (λ x y. x && y) e f
 
--- a value is out of its form
+-- a value does not have its form
 pub value_broken : {C : Type 0} (p : OptionTable C) (found : List Row) → p.has_needed found ≡ true → are_well_formed p.rows found ≡ false → first_broken (tests_of_parsed p found) ≡ Some Value
 value_broken p found needed formed =
     ap₂ (λ a b. cond (not a) (Some Missing) (cond (not b) (Some Value) (cond (not (p.go_together found)) (Some Conflict) None))) needed formed
 
--- an error that is handed on, and says that a value is out of its form
+-- an error that is passed on, and says that a value does not have its form
 pub value_refused : {C : Type 0} (p : OptionTable C) (found : List Row) (reason : Type 0) (e : Refusal) (r : Result C Refusal) → IsErrAnd r (λ y. y ≡ e) → IsRefusedBy Value reason e
     → p.has_needed found ≡ true → (reason → are_well_formed p.rows found ≡ false) → ReadsParsed p found r
 value_refused p found reason e (Ok conf) is refused needed why = absurd is

@@ -9,7 +9,7 @@ two-pairs : pairs_of 47 (1, 65535) (0, 8191) (codes "1/256,0x2/257") ≡ Some ((
 unfolding number_of number_within pair_of pairs_of
 two-pairs = refl
 
--- a comma behind the last pair leaves an empty part
+-- a comma after the last pair leaves an empty part
 empty-part : pairs_of 47 (1, 65535) (0, 8191) (codes "1/256,") ≡ None
 unfolding number_of number_within pair_of pairs_of
 empty-part = refl

@@ -6,18 +6,19 @@ use Rattle.option_words.specs.Number.{number_within}
 use Rattle.option_words.specs.Pairs.{pair_of, pairs_of}
 use Rattle.option_words.specs.Ranges.{ranges_of, ranges_within}
 
+-- the form of a value
 pub data Form : Type 0 where
-  -- a number from a least to a most
+  -- a number from a least to a greatest
   number : ℕ → ℕ → Form
-  -- numbers and ranges joined by commas, none above a most
+  -- numbers and ranges joined by commas, none above a greatest
   ranges : ℕ → Form
-  -- numbers and ranges joined by commas, none below a least or above a most
+  -- numbers and ranges joined by commas, none below a least or above a greatest
   ranges_from : ℕ → ℕ → Form
-  -- two numbers joined by a sign, each with its least and its most
+  -- two numbers joined by a sign, each with its least and its greatest
   pair : ℕ → ℕ × ℕ → ℕ × ℕ → Form
   -- such pairs joined by commas
   pairs : ℕ → ℕ × ℕ → ℕ × ℕ → Form
-  -- bytes as hexadecimal digits, from a least number of bytes to a most
+  -- bytes as hexadecimal digits, of a least to a greatest number of bytes
   bytes : ℕ → ℕ → Form
   -- a word that this test knows
   known : (List ℕ → Bool) → Form

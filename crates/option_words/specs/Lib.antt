@@ -1,3 +1,4 @@
+-- The definitions of options as words: numbers, ranges, pairs, bytes, tables of options, and the rules they break.
 pub mod Forms
 pub mod HexText
 pub mod Joined

@@ -1,4 +1,4 @@
--- What a plugin, an input, an output or the general options take, and which rule their words break.
+-- The options of a plugin, an input, an output or the general options, and the rule that their words break.
 -- This project's own rule.
 use Rattle.std.specs.Prelude.{ℕ, Bool, List, [], ◌∷◌, None, Option, Some, if◌then◌else◌, not}
 use Rattle.clap.specs.Walk.{Row}
@@ -6,15 +6,15 @@ use Rattle.option_words.specs.Options.{OptionRow, are_well_formed, command_of, f
 use Rattle.option_words.specs.declared.words_rule.WordsRule.{WordsRule}
 use Rattle.option_words.specs.declared.words_rule.WordsRule.TheVariants.{Conflict, Missing, Shape, Value}
 
--- a table of options; what of them has to be given; the settings that the findings make; and whether
--- what is found goes together
+-- a table of options; which of them are required; the settings made from what is found; and whether
+-- what is found can be combined
 pub record OptionTable (C : Type 0) : Type 0 where
   pub rows : List OptionRow
   pub has_needed : List Row → Bool
   pub settings : List Row → C
   pub go_together : List Row → Bool
 
--- the same options, with something else made of their settings
+-- the same options, with something else made from their settings
 abbrev pub made_into : {C D : Type 0} → (C → D) → OptionTable C → OptionTable D
 made_into make table = record {
   rows = table.rows;
@@ -28,7 +28,7 @@ abbrev pub first_broken : List (WordsRule × Bool) → Option WordsRule
 first_broken [] = None
 first_broken (test ∷ tests) = if test.1 then Some test.0 else first_broken tests
 
--- the settings that the words make
+-- the settings that the words give
 abbrev pub settings_of : {C : Type 0} → OptionTable C → List (List ℕ) → C
 settings_of p words = p.settings (findings (command_of p.rows) words)
 

@@ -7,14 +7,14 @@ use Rattle.option_words.specs.Options.{OptionRow, flag, operand, operands, rule_
 use Rattle.option_words.specs.declared.option_word.OptionWord.{OptionWord}
 use Rattle.option_words.specs.declared.option_word.OptionWord.TheVariants.{Flag, Operand, Operands, Value}
 
--- the row of an option; the form of its value is nothing to the command
+-- the row of an option; the command does not depend on the form of its value
 abbrev pub row_of_word : OptionWord → OptionRow
 row_of_word (Flag name) = record { name = name.now; kind = flag }
 row_of_word (Value name) = record { name = name.now; kind = value text }
 row_of_word (Operand name) = record { name = name.now; kind = operand text }
 row_of_word (Operands name) = record { name = name.now; kind = operands text }
 
--- the argument that `clap` is given for it
+-- the argument of `clap` for it
 abbrev pub rule_of_word : OptionWord → Rule
 rule_of_word word = rule_of_kind (row_of_word word).name (row_of_word word).kind
 

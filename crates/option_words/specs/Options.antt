@@ -26,26 +26,30 @@ pub record OptionRow : Type 0 where
 
 -- ---- the command
 
--- the arguments that `clap` is given for each kind
+-- the argument of `clap` for a flag
 abbrev pub flag_rule : List ℕ → Rule
 flag_rule name = record (new_rule name) { long = Some name; action = Some SetTrue }
 
+-- the argument of `clap` for an option with a value
 abbrev pub value_rule : List ℕ → Rule
 value_rule name = record (new_rule name) { long = Some name; action = Some Set }
 
+-- the argument of `clap` for one operand
 abbrev pub operand_rule : List ℕ → Rule
 operand_rule name = record (new_rule name) { action = Some Set }
 
+-- the argument of `clap` for any number of operands
 abbrev pub operands_rule : List ℕ → Rule
 operands_rule name = record (new_rule name) { action = Some Append }
 
+-- the argument of `clap` for an option of this kind
 abbrev pub rule_of_kind : List ℕ → OptionKind → Rule
 rule_of_kind name flag = flag_rule name
 rule_of_kind name (value form) = value_rule name
 rule_of_kind name (operand form) = operand_rule name
 rule_of_kind name (operands form) = operands_rule name
 
--- a command with no name before the words, no help and no version
+-- a command without a program's name before the words, without help and version
 abbrev pub bare_command : App
 bare_command =
     on_top (λ s. record s { no_binary_name = true; disable_help_flag = true }) (new_app (codes "tsp"))
@@ -54,17 +58,17 @@ bare_command =
 abbrev pub command_of : List OptionRow → App
 command_of rows = fold (λ a row. with_rule a (rule_of_kind row.name row.kind)) bare_command rows
 
--- the command has a reading of the words
+-- whether the command can read the words
 unfoldable pub is_taken : App → List (List ℕ) → Bool
 is_taken command words = length (fault_of command words) == 0
 
--- what the command finds in the words that it takes
+-- what the command finds in words that it can read
 unfoldable pub findings : App → List (List ℕ) → List Row
 findings command words = matches_of command words
 
 -- ---- what was found
 
--- the words gave it, and no default
+-- it is from the words, and not a default
 abbrev pub is_by_words : Option ValueSource → Bool
 is_by_words (Some CommandLine) = true
 is_by_words _ = false
@@ -101,6 +105,6 @@ is_well_formed name (operands form) found = list_all (has_form form) (values_of 
 abbrev pub are_well_formed : List OptionRow → List Row → Bool
 are_well_formed rows found = list_all (λ row. is_well_formed row.name row.kind found) rows
 
--- a value read by a reader of its form, where it is given
+-- a value as a reader of its form reads it, where it is given
 abbrev pub read_value : {X : Type 0} → (List ℕ → Option X) → List ℕ → List Row → Option X
 read_value reader name found = option_and_then reader (value_of name found)

@@ -5,12 +5,12 @@ use Rattle.std.specs.List.{after_first, before_first, list_any}
 use Rattle.option_words.specs.Joined.{read_joined}
 use Rattle.option_words.specs.Number.{number_within}
 
--- both, where none is wanting
+-- both, where neither is missing
 abbrev pub both_of : Option ℕ → Option ℕ → Option (ℕ × ℕ)
 both_of (Some one) (Some other) = Some (one, other)
 both_of _ _ = None
 
--- two numbers with the sign between them, each between a least and a most of its own
+-- two numbers with the sign between them, each between its own least and greatest
 unfoldable pub pair_of : ℕ → ℕ × ℕ → ℕ × ℕ → List ℕ → Option (ℕ × ℕ)
 pair_of sign first second text =
     if list_any (λ byte. byte == sign) text
@@ -18,11 +18,11 @@ pair_of sign first second text =
     (number_within second.0 second.1 (after_first (λ byte. byte == sign) text))
     else None
 
--- such pairs joined by commas; an empty part is none
+-- such pairs joined by commas; an empty part is not a pair
 unfoldable pub pairs_of : ℕ → ℕ × ℕ → ℕ × ℕ → List ℕ → Option (List (ℕ × ℕ))
 pairs_of sign first second text = read_joined (pair_of sign first second) text
 
--- each number of a pair lies between its least and its most
+-- each number of a pair lies between its least and its greatest
 abbrev pub IsPairWithin : ℕ × ℕ → ℕ × ℕ → ℕ × ℕ → Type 0
 IsPairWithin first second pair =
     (first.0 ≤ pair.0) × (pair.0 ≤ first.1) × (second.0 ≤ pair.1) × (pair.1 ≤ second.1)

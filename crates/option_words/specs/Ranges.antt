@@ -13,12 +13,12 @@ is_dash byte = byte == 45
 abbrev pub if_ordered : ℕ → ℕ → Option (ℕ × ℕ)
 if_ordered low high = if nat_le low high then Some (low, high) else None
 
--- two numbers that may be wanting, as a range
+-- two numbers, either of which may be missing, as a range
 abbrev pub ordered_pair : Option ℕ → Option ℕ → Option (ℕ × ℕ)
 ordered_pair (Some low) (Some high) = if_ordered low high
 ordered_pair _ _ = None
 
--- `a-b` with `a` at most `b`, or `a` alone for the range from `a` to `a`; none is below a least or above a most
+-- `a-b` with `a` at most `b`, or `a` alone for the range from `a` to `a`; none is below a least or above a greatest
 unfoldable pub range_of : ℕ → ℕ → List ℕ → Option (ℕ × ℕ)
 range_of least most text =
     if list_any is_dash text
@@ -26,10 +26,10 @@ range_of least most text =
     (number_within least most (after_first is_dash text))
     else option_map (λ n. (n, n)) (number_within least most text)
 
--- numbers and ranges from 0 to a most, joined by commas; an empty part is none
+-- numbers and ranges from 0 to a greatest, joined by commas; an empty part is not one
 unfoldable pub ranges_of : ℕ → List ℕ → Option (List (ℕ × ℕ))
 ranges_of most text = read_joined (range_of 0 most) text
 
--- the same from a least
+-- the same from a least on
 unfoldable pub ranges_within : ℕ → ℕ → List ℕ → Option (List (ℕ × ℕ))
 ranges_within least most text = read_joined (range_of least most) text

@@ -1,4 +1,4 @@
--- What a reader answers of the words that it is given.
+-- What a reader returns for the words that it is given.
 -- This project's own rule.
 use Rattle.std.specs.Prelude.{◌≡◌, ℕ, List, None, Some, Result, Ok, Err}
 use Rattle.clap.specs.Walk.{Row}
@@ -7,20 +7,20 @@ use Rattle.option_words.specs.declared.refusal.Refusal.{Refusal}
 use Rattle.option_words.specs.declared.refusal.Refusal.TheVariants.{Broken, NoMemory}
 use Rattle.option_words.specs.declared.words_rule.WordsRule.{WordsRule}
 
--- memory ran out, or the rule is broken, and the reason holds
+-- out of memory, or this rule is broken for this reason
 abbrev pub IsRefusedBy : WordsRule → Type 0 → Refusal → Type 0
 IsRefusedBy rule reason (Broken r) = (r ≡ rule) × reason
 IsRefusedBy rule reason NoMemory = Unit {0}
 
--- the settings of the findings, where they break no rule; else the first broken rule, unless memory
--- ran out
+-- the settings from what is found, where it breaks no rule; else the first broken rule, or out of
+-- memory
 abbrev pub ReadsParsed : {C : Type 0} → OptionTable C → List Row → Result C Refusal → Type 0
 ReadsParsed p found (Ok conf) =
     (first_broken (tests_of_parsed p found) ≡ None) × (conf ≡ p.settings found)
 ReadsParsed p found (Err (Broken rule)) = first_broken (tests_of_parsed p found) ≡ Some rule
 ReadsParsed p found (Err NoMemory) = Unit {0}
 
--- the same of the words
+-- the same for the words
 abbrev pub Reads : {C : Type 0} → OptionTable C → List (List ℕ) → Result C Refusal → Type 0
 Reads p words (Ok conf) = (broken_option p words ≡ None) × (conf ≡ settings_of p words)
 Reads p words (Err (Broken rule)) = broken_option p words ≡ Some rule

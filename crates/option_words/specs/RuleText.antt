@@ -1,4 +1,4 @@
--- What is printed of each rule of the command line.
+-- The text that is printed for each rule of the command line.
 -- This project's own rule.
 use Rattle.std.specs.Prelude.{ℕ, List, codes}
 use Rattle.option_words.specs.declared.words_rule.WordsRule.{WordsRule}

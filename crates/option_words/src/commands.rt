@@ -1,3 +1,4 @@
+//! The commands that are passed to `clap`.
 ghost use Rattle.std.specs.Prelude.{◌≡◌, IfOk, false};
 ghost use Rattle.clap.specs.Simple.{app_of, with_rule};
 ghost use Rattle.clap.specs.Walk.{rule_of};
@@ -8,8 +9,8 @@ use crate::option_word::OptionWord;
 use clap::{Arg, ArgAction, Command};
 use std::alloc::{AllocError, Global};
 
-/// A command that has neither options nor help nor a version, and whose words begin with no name
-/// of a program.
+/// A command without options, help and version, whose words do not begin with the name of a
+/// program.
 pub fn new_command<'a>(alloc: Global) -> Command<'a>
     ensures { app_of result ≡ bare_command }
 {
@@ -18,7 +19,7 @@ pub fn new_command<'a>(alloc: Global) -> Command<'a>
         .disable_help_flag(true)
 }
 
-// The argument that `clap` is given for an option.
+// The argument of `clap` for an option.
 fn argument<'a>(alloc: Global, option: OptionWord<'a>) -> Arg<'a>
     ensures rule { rule_of result ≡ rule_of_word option.entry }
     ensures own { result.global ≡ false }

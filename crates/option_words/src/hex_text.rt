@@ -1,3 +1,4 @@
+//! Bytes as hexadecimal digits.
 ghost use Rattle.std.specs.Prelude.{◌≡◌, ◌≤◌, IfOk, IfSome, Ok, length};
 ghost use Rattle.option_words.specs.HexText.{bytes_of, if_as_many};
 
@@ -5,7 +6,7 @@ use hex::FromHexError;
 use std::alloc::{AllocError, Global};
 use ts_outside::FileBytes;
 
-/// The bytes of a text of hexadecimal digits, from a least number of them to a most.
+/// The bytes of a text of hexadecimal digits, of a least to a greatest number of bytes; none for any other text.
 #[tactic(auto, unfolding(crate::specs::HexText::bytes_of))]
 pub fn read_bytes(
     alloc: Global,

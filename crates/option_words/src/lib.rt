@@ -1,5 +1,5 @@
-//! Options as words: the words of one segment come in, what each option of its table says goes out, or the
-//! first rule that they break. The layer above makes a command of its options, and reads each by `ParsedOptions`.
+//! Options as words: the words of one segment are read by its table of options, or the first rule that they break is
+//! returned. The layer above makes a command of its options, and reads each by `ParsedOptions`.
 #![tactic(auto)]
 
 mod commands;

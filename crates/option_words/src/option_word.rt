@@ -1,12 +1,13 @@
-/// One row of a command's table of options: the option's name, by what it takes.
+//! A row of a table of options.
+/// A row of a command's table of options: the option's name, by what it takes.
 #[derive(Clone, Copy)]
 pub enum OptionWord<'a> {
-    /// Nothing: it is a flag `--name`.
+    /// A flag `--name`, without a value.
     Flag(&'a str),
-    /// A value: it is an option `--name value`.
+    /// An option `--name value`.
     Value(&'a str),
-    /// It is one operand.
+    /// One operand.
     Operand(&'a str),
-    /// It is operands, of which there may be any number.
+    /// Operands, of which there may be any number.
     Operands(&'a str),
 }

@@ -1,3 +1,4 @@
+//! Pairs of numbers as words.
 ghost use Rattle.std.specs.Prelude.{◌≡◌, ◌≤◌, ◌<◌, IfOk, IfSome, MatchResult, false, filter_map, length, map, true};
 ghost use Rattle.std.specs.List.{All, list_all};
 ghost use Rattle.option_words.specs.Forms.{has_form, pair};
@@ -13,7 +14,7 @@ use crate::words_rule::WordsRule;
 use plug_conf::PairList;
 use std::alloc::{AllocError, Global};
 
-/// Two numbers with a sign between them, each with its least and its most.
+/// Two numbers with a sign between them, each within its least and its greatest.
 pub fn read_pair(
     text: &str,
     sign: char,
@@ -31,7 +32,7 @@ pub fn read_pair(
     Some((one, other))
 }
 
-/// The pairs of texts, as `read_pair` reads each.
+/// The pairs in texts, each as `read_pair` reads it.
 pub fn read_pairs(
     alloc: Global,
     texts: &[&str],
@@ -57,7 +58,7 @@ pub fn read_pairs(
     Ok(PairList::of(pairs))
 }
 
-/// The pairs of a text, joined by commas, as `read_pair` reads each.
+/// The pairs in a text, joined by commas, each as `read_pair` reads it.
 pub fn read_pair_list(
     alloc: Global,
     text: &str,

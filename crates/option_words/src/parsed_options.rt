@@ -1,3 +1,4 @@
+//! The options of a segment as `clap` finds them.
 ghost use Rattle.std.specs.Prelude.{◌≡◌, ◌≤◌, ◌+◌, ◌==◌, ◌<◌, [], IfOk, IfSome, MatchResult, false, is_some, length, map, not, option_map, true, unwrap_or};
 ghost use Rattle.std.specs.String.{string_bytes};
 ghost use Rattle.clap.specs.Simple.{app_of};
@@ -27,7 +28,7 @@ use std::alloc::{AllocError, Global};
 use std::marker::Model;
 use ts_outside::{FileBytes, NameText};
 
-/// What `clap` finds in the words of a segment, seen as one row for each option.
+/// What `clap` finds in the words of a segment; contracts see a row for each option.
 #[derive(Drop)]
 pub struct ParsedOptions<'a> {
     matches: ArgMatches<'a>,
@@ -44,7 +45,7 @@ impl<'a> Model for ParsedOptions<'a> {
 }
 
 impl<'a> ParsedOptions<'a> {
-    /// What the command finds in the words, where it takes them.
+    /// What the command finds in the words; the rule `Shape` is broken exactly where it does not take them.
     pub fn of(command: Command<'a>, words: &'a [String]) -> Result<ParsedOptions<'a>, Refusal>
         requires { is_simple_and_free (app_of command) ≡ true }
         ensures { MatchResult result
@@ -68,7 +69,7 @@ impl<'a> ParsedOptions<'a> {
         is_from_words(self.matches.value_source(name))
     }
 
-    /// The value of an option or of an operand.
+    /// The value of an option or of an operand; none where it is not given.
     pub fn value(&self, name: &str) -> Option<&'a str>
         ensures { option_map (λ text. text.now) result ≡ value_of name.now self.now }
     {
@@ -82,7 +83,7 @@ impl<'a> ParsedOptions<'a> {
         self.value(name).is_some()
     }
 
-    /// The number of an option or of an operand, from a least to a most, where it is given.
+    /// The number of an option or of an operand, from a least to a greatest; none where it is not given.
     pub fn number(&self, name: &str, least: u64, most: u64) -> Result<Option<u64>, Refusal>
         ensures reads { MatchResult result
             (λ n. (is_formed (number least most) name.now self.now ≡ true)
@@ -100,7 +101,7 @@ impl<'a> ParsedOptions<'a> {
         }
     }
 
-    /// The same, with the number that holds where none is given.
+    /// The number of an option or of an operand, from a least to a greatest; `default` where it is not given.
     pub fn number_or(&self, name: &str, least: u64, most: u64, default: u64) -> Result<u64, Refusal>
         requires low { least ≤ default }
         requires high { default ≤ most }
@@ -114,7 +115,7 @@ impl<'a> ParsedOptions<'a> {
         Ok(number.unwrap_or(default))
     }
 
-    /// The two numbers of an option, joined by a sign, where it is given.
+    /// The two numbers of an option, joined by a sign; none where it is not given.
     pub fn pair(
         &self,
         name: &str,
@@ -139,7 +140,7 @@ impl<'a> ParsedOptions<'a> {
         }
     }
 
-    /// The numbers and ranges of an option, none above a most; none at all where it is not given.
+    /// The numbers and ranges of an option, none above a greatest; an empty set where it is not given.
     #[tactic(auto, unfolding(crate::specs::Ranges::ranges_of))]
     pub fn ranges(&self, alloc: Global, name: &str, most: u64) -> Result<NumberSet, Refusal>
         ensures reads { MatchResult result
@@ -158,7 +159,7 @@ impl<'a> ParsedOptions<'a> {
         }
     }
 
-    /// The same, none below a least.
+    /// The numbers and ranges of an option, from a least to a greatest; an empty set where it is not given.
     #[tactic(auto, unfolding(crate::specs::Ranges::ranges_within))]
     pub fn ranges_from(
         &self,
@@ -184,7 +185,7 @@ impl<'a> ParsedOptions<'a> {
         }
     }
 
-    /// The pairs of an option, joined by commas, each of two numbers joined by a sign; none at all where it is not
+    /// The pairs of an option, joined by commas, each of two numbers joined by a sign; an empty list where it is not
     /// given.
     #[tactic(auto, unfolding(crate::specs::Pairs::pairs_of))]
     pub fn pair_list(
@@ -212,7 +213,7 @@ impl<'a> ParsedOptions<'a> {
         }
     }
 
-    /// The bytes of an operand, from a least number of them to a most; none where it is not given.
+    /// The bytes of an operand, of a least to a greatest number of bytes; none where it is not given.
     pub fn bytes(
         &self,
         alloc: Global,
@@ -236,7 +237,7 @@ impl<'a> ParsedOptions<'a> {
         }
     }
 
-    /// The operands, of which there may be any number; `None` is none too.
+    /// The operands, of which there may be any number; `None` where there is none.
     fn values(&self, name: &str) -> Option<&[&'a str]>
         ensures { unwrap_or (option_map (λ texts. map (λ text. text.now) texts.now) result) [] ≡ values_of name.now self.now }
     {
@@ -253,7 +254,7 @@ impl<'a> ParsedOptions<'a> {
         }
     }
 
-    /// The pairs that the operands are, each of two numbers joined by a sign.
+    /// The operands as pairs, each of two numbers joined by a sign.
     pub fn pairs(
         &self,
         alloc: Global,
@@ -286,7 +287,7 @@ impl<'a> ParsedOptions<'a> {
         }
     }
 
-    /// The text of an option, where it is given; an empty text is one.
+    /// The text of an option, which may be empty; none where it is not given.
     pub fn optional_text(&self, alloc: Global, name: &str) -> Result<Option<NameText>, AllocError>
         ensures reads { IfOk result (λ given. given ≡ value_of name.now self.now) }
         ensures formed { is_formed any_text name.now self.now ≡ true }
@@ -298,7 +299,7 @@ impl<'a> ParsedOptions<'a> {
     }
 }
 
-// Whether the words gave it, and no default.
+// Whether it is from the words, and not a default.
 fn is_from_words(source: Option<ValueSource>) -> bool
     ensures { result ≡ is_by_words source }
 {

@@ -1,3 +1,4 @@
+//! Ranges of numbers as words.
 ghost use Rattle.std.specs.Prelude.{◌≡◌, ◌≤◌, ◌+◌, ◌<◌, IfOk, IfSome, length};
 ghost use Rattle.std.specs.List.{All};
 ghost use Rattle.plug_conf.specs.NumberSet.{AllBelow};
@@ -9,7 +10,7 @@ use crate::signs::split_at_sign;
 use plug_conf::NumberSet;
 use std::alloc::{AllocError, Global};
 
-/// The range of a text, a number or two with `-` between, none of them below a least or above a most.
+/// The range of a text: a number, or two with `-` between, none of them below a least or above a greatest.
 fn read_range(text: &str, least: u64, most: u64) -> Option<(u64, u64)>
     ensures value { result ≡ range_of least most text.now }
     ensures range { IfSome result (λ pair. (least ≤ pair.0) × (pair.0 ≤ pair.1) × (pair.1 ≤ most)) }
@@ -23,7 +24,7 @@ fn read_range(text: &str, least: u64, most: u64) -> Option<(u64, u64)>
     if low <= high { Some((low, high)) } else { None }
 }
 
-/// The numbers and ranges of a text, joined by commas, none of them below a least or above a most.
+/// The numbers and ranges of a text, joined by commas, none of them below a least or above a greatest.
 pub fn read_ranges(
     alloc: Global,
     text: &str,

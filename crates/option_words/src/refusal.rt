@@ -1,10 +1,11 @@
+//! Why words are refused.
 ghost use Rattle.option_words.specs.declared.refusal.Refusal.TheVariants.{NoMemory};
 ghost use Rattle.std.specs.Prelude.{◌≡◌};
 
 use crate::words_rule::WordsRule;
 use std::alloc::{AllocError, AllocFailed};
 
-/// Why a segment is not read: a rule that it breaks, or want of memory.
+/// Why a segment is not read: a rule that it breaks, or running out of memory.
 #[derive(Drop, Debug, Clone, Copy, PartialEq, Eq)]
 pub enum Refusal {
     Broken(WordsRule),

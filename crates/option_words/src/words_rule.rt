@@ -1,7 +1,8 @@
+//! The rules of a command line.
 ghost use Rattle.std.specs.Prelude.{◌≡◌};
 ghost use Rattle.option_words.specs.RuleText.{rule_text};
 
-/// The rules of a command line, in the order in which a segment is held against them.
+/// The rules of a command line, in the order in which a segment is checked against them.
 #[derive(Drop, Debug, Clone, Copy, PartialEq, Eq)]
 pub enum WordsRule {
     /// A second `-I`, or a second `-O`.
@@ -10,21 +11,21 @@ pub enum WordsRule {
     NoName,
     /// There is no plugin, input or output of this name.
     UnknownPlugin,
-    /// The plugin is the 63rd.
+    /// It is the 63rd plugin.
     TooMany,
-    /// The options are none that the segment has, stand twice, or lack their value; or there are
+    /// The options are not options of the segment, are given twice, or lack their value; or there are
     /// more operands than it takes.
     Shape,
-    /// An option or operand is wanting that the segment has to have.
+    /// An option or operand is missing that the segment must have.
     Missing,
-    /// A value is not of its form, or out of its range.
+    /// A value does not have its form, or is out of its range.
     Value,
-    /// The options do not go together.
+    /// The options cannot be combined.
     Conflict,
 }
 
 impl WordsRule {
-    /// What is printed of a broken rule.
+    /// The text that is printed for a broken rule.
     pub fn text(self) -> &'static str
         ensures { result.now ≡ rule_text self }
     {

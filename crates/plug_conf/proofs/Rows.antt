@@ -10,7 +10,7 @@ seven-inside = refl
 eight-outside : has_number ((5, 7) ∷ (9, 9) ∷ []) 8 ≡ false
 eight-outside = refl
 
--- the labels of 0-1 and 3 are 0, 1 and 3, told by 1 + 2 + 8
+-- the labels of 0-1 and 3 are 0, 1 and 3, given as 1 + 2 + 8
 three-labels : label_set ((0, 1) ∷ (3, 3) ∷ []) ≡ 11
 unfolding label_set
 three-labels = refl

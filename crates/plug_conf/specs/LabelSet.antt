@@ -1,4 +1,4 @@
--- The labels that a list of ranges names. This project's own rule.
+-- The labels in a list of ranges. This project's own rule.
 use Rattle.std.specs.Prelude.{ℕ, List}
 use Rattle.ts_packet.specs.Labels.{labels_below}
 use Rattle.ts_packet.specs.declared.labels.TheConstants.{LABEL_COUNT}

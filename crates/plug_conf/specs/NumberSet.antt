@@ -3,7 +3,7 @@
 use Rattle.std.specs.Prelude.{ℕ, ◌&&◌, ◌≤◌, ◌<◌, Bool, List, nat_le}
 use Rattle.std.specs.List.{All, list_any}
 
--- a range: a least number and a most, which may be one number
+-- a range: a least number and a greatest, which may be equal
 abbrev pub IsOrderedPair : ℕ × ℕ → Type 0
 IsOrderedPair pair = pair.0 ≤ pair.1
 

@@ -1,3 +1,4 @@
+//! The labels of an option.
 ghost use Rattle.std.specs.Prelude.{◌≡◌, ◌==◌, IfOk, length};
 ghost use Rattle.plug_conf.specs.LabelSet.{label_set};
 
@@ -6,7 +7,7 @@ use std::alloc::{AllocError, Global};
 use std::marker::Model;
 use ts_packet::Labels;
 
-/// The labels that an option lists, seen as its ranges. They are kept as one set, which is not searched.
+/// The labels that an option lists; contracts see its ranges. They are kept as one set, so that no search is needed.
 #[derive(Drop)]
 pub struct LabelList {
     ranges: NumberSet,
@@ -25,7 +26,7 @@ impl Model for LabelList {
 }
 
 impl LabelList {
-    /// The labels of these ranges. It takes a copy of the ranges.
+    /// The labels of these ranges. Keeps a copy of the ranges.
     pub fn of(alloc: Global, ranges: &NumberSet) -> Result<LabelList, AllocError>
         ensures { IfOk result (λ list. list ≡ ranges.now) }
     {
@@ -34,7 +35,7 @@ impl LabelList {
         Ok(LabelList { ranges, labels })
     }
 
-    /// The labels.
+    /// The labels as a set.
     #[inline]
     pub fn labels(&self) -> Labels
         ensures { result ≡ label_set self.now }

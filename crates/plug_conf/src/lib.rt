@@ -1,5 +1,5 @@
-//! What settings of plugins are made of: numbers with their limits, sets of numbers, PIDs and labels, lists of pairs.
-//! The layer above uses `PidSet::has`, which answers as the ranges of the set do.
+//! The values of plugin settings: limits of numbers, sets of numbers, of PIDs and of labels, lists of pairs.
+//! The layer above uses `PidSet::has`, which returns what the ranges of the set say.
 #![tactic(auto)]
 
 mod label_list;

@@ -1,3 +1,4 @@
+//! A set of numbers.
 ghost use Rattle.std.specs.Prelude.{◌≡◌, ◌==◌, length};
 ghost use Rattle.std.specs.List.{All};
 ghost use Rattle.plug_conf.specs.LabelSet.{label_set};
@@ -6,7 +7,7 @@ ghost use Rattle.plug_conf.specs.NumberSet.{IsOrderedPair, has_number};
 use std::marker::Model;
 use ts_packet::{LABEL_COUNT, Labels};
 
-/// A set of numbers, kept as ranges and seen as the list of their pairs of a least and a most.
+/// A set of numbers, kept as ranges; contracts see the list of their pairs of least and greatest.
 ///
 /// An option that is not given leaves an empty set.
 #[derive(Drop)]
@@ -27,8 +28,8 @@ impl Model for NumberSet {
 }
 
 impl NumberSet {
-    /// Keeps ranges as they are, and takes no memory. In each the first number is at most the
-    /// second.
+    /// The set of these ranges, in each of which the first number is at most the second. Allocates
+    /// nothing.
     pub fn of(pairs: Vec<(u64, u64)>) -> NumberSet
         requires { All IsOrderedPair pairs.items }
         ensures { result ≡ pairs.items }
@@ -36,7 +37,7 @@ impl NumberSet {
         NumberSet { pairs }
     }
 
-    /// Lends the ranges.
+    /// The ranges as a slice.
     pub fn as_slice(&self) -> &[(u64, u64)]
         ensures value { result.now ≡ self.now }
         ensures ordered { All IsOrderedPair result.now }

@@ -1,8 +1,9 @@
+//! A list of pairs of numbers.
 ghost use Rattle.std.specs.Prelude.{◌≡◌};
 
 use std::marker::Model;
 
-/// Pairs of numbers in their order, as `remap` has them of a source and a target.
+/// Pairs of numbers in order, as `remap` has them of a source and a target.
 #[derive(Drop)]
 pub struct PairList {
     pairs: Vec<(u64, u64)>,
@@ -17,14 +18,14 @@ impl Model for PairList {
 }
 
 impl PairList {
-    /// Keeps pairs as they are, and takes no memory.
+    /// The list of these pairs. Allocates nothing.
     pub fn of(pairs: Vec<(u64, u64)>) -> PairList
         ensures { result ≡ pairs.items }
     {
         PairList { pairs }
     }
 
-    /// Lends the pairs.
+    /// The pairs as a slice.
     pub fn as_slice(&self) -> &[(u64, u64)]
         ensures { result.now ≡ self.now }
     {

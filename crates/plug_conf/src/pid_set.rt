@@ -1,3 +1,4 @@
+//! A set of PIDs.
 ghost use Rattle.std.specs.Prelude.{◌≡◌, ◌==◌, ◌<◌, IfOk, length};
 ghost use Rattle.plug_conf.specs.PidTable.{IsTableOf};
 ghost use Rattle.plug_conf.specs.Selection.{is_selected};
@@ -8,7 +9,7 @@ use std::alloc::{AllocError, Global};
 use std::marker::Model;
 use ts_packet::PID_COUNT;
 
-/// A set of PIDs, seen as its ranges. Whether a PID is in it is looked up, and not searched.
+/// A set of PIDs; contracts see its ranges. A table says whether a PID is in it, so that no search is needed.
 #[derive(Drop)]
 pub struct PidSet {
     ranges: NumberSet,
@@ -27,7 +28,7 @@ impl Model for PidSet {
 }
 
 impl PidSet {
-    /// The set of these ranges. It takes 8 KiB and a copy of the ranges, and asks them 8192 times.
+    /// The set of these ranges. It allocates a table of 8 KiB and a copy of the ranges, and looks up 8192 PIDs in them.
     pub fn of(alloc: Global, ranges: &NumberSet) -> Result<PidSet, AllocError>
         ensures { IfOk result (λ set. set ≡ ranges.now) }
     {
@@ -63,7 +64,7 @@ impl PidSet {
     }
 }
 
-// Of each PID, whether it is in one of the ranges.
+// For each PID, whether it is in one of the ranges.
 fn table_of(alloc: Global, ranges: &NumberSet) -> Result<Vec<bool>, AllocError>
     ensures { IfOk result (λ table. IsTableOf ranges.now table.items) }
 {
