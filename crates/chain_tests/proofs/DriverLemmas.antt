@@ -1,4 +1,4 @@
--- What the core was told by a visit.
+-- Lemmas on what the core receives by a visit.
 use Rattle.std.proofs.Common.{◌≡◌, ◌≢◌, ℕ, suc, ◌+◌, List, length, replicate, Option, inl, inr, sym, refl, ap, ◌∙◌, arith}
 use Rattle.std.proofs.lemmas.Bool.{cases_eq}
 use Rattle.std.proofs.lemmas.List.{length-replicate}
@@ -52,7 +52,7 @@ module _ (changes : (plan : CorePlan) (state : ChainState) (visit : Visit) → C
   pub told_other : stage ≢ suc old.plan.plugins → new.told ≡ old.told
   told_other is = stands.told ∙ (changes old.plan (state_of old) visit).not_told is
 
-  -- what the output was last told, by the cases of the stage
+  -- the limit that the output received last, by the cases of the stage
   pub told_is : (plugins : ℕ) (before result : Option ℕ) → plugins ≡ old.plan.plugins → old.told ≡ before → (stage ≡ plugins + 1 → result ≡ news.limit) → (stage ≢ plugins + 1 → result ≡ before) → new.told ≡ result
   told_is plugins before result same was output other =
       elim (cases_eq stage (plugins + 1)) [

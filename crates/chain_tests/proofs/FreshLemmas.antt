@@ -1,4 +1,4 @@
--- Parts that were just made, and parts that have worked once: they may work on.
+-- Lemmas on new parts, and on parts that have worked once: they may work on.
 use Rattle.std.proofs.Common.{◌≡◌, ℕ, ◌+◌, ◌≤◌, List, length, ap, subst, Option, None, refl, arith, length-append}
 use Rattle.std.proofs.lemmas.List.{length-take-le}
 use Rattle.ts_packet.specs.declared.cell.Cell.{Cell}
@@ -41,7 +41,7 @@ module _ (stands : PartLists → Option StageEnd → Type 0) where
   fresh-output seen (output.Stream sink) each = fresh-works any-source (seen sink) (each any-source (seen sink) 0 refl)
   fresh-output seen output.Discard each = fresh-works any-source any-sink (each any-source any-sink 0 tt)
 
-  -- what has worked and has not ended may work behind what was done
+  -- what has worked and has not ended may work after what was done
   pub works-on : (old : PartLists → Option StageEnd → Type 0) (Does : PartLists → Type 0) (at : ℕ) (before : MayWorkOnSome old at 0) (written : ℕ) (cells cells_new : List Cell) (work : Work)
       → written ≡ 0 → (MayWork old at written before.lists → Works stands Does before.lists written cells cells_new work)
       → work.word.ended ≡ None → work.done ≤ length cells → length cells_new ≡ length cells

@@ -1,4 +1,4 @@
--- Seats of stages that have not ended: what they may visit, and what they are behind a visit.
+-- Lemmas on seats of stages that have not ended: which visits they may make, and what they are after a visit.
 use Rattle.std.proofs.Common.{◌≡◌, ℕ, suc, ◌+◌, ◌<◌, ◌≤◌, ◌^◌, List, [], ◌∷◌, ◌++◌, length, map, None, Some, sym, refl, ap, ◌∙◌, subst, arith}
 use Rattle.std.specs.Prelude.{IsSome}
 use Rattle.std.proofs.lemmas.List.{length-take-le}
@@ -53,7 +53,7 @@ module _ (key : Key) (table : TableId) (seat : StageSeat) (goes : GoesOn key tab
   sound : Sound key.plan now
   sound = run-sound key.plan (users_from key.plan goes.lawful.users) (seen_of seat) goes.seat_is.run
 
-  -- it may give the first cells in hand and tell no agreement
+  -- it may give the first cells in hand, without an agreement
   pub may_visit : (done : ℕ) (word : StageWord) → done ≤ length seat.hand.cells → word.agreed ≡ None → (word.ended ≡ Some Followed → ⊥) → IsAt key table seat done word
   may_visit done word within none not_follows = record {
     seat_is = goes.seat_is;
@@ -106,7 +106,7 @@ module _ (laws : SeatLaws) (changes : (plan : CorePlan) (state : ChainState) (vi
   told_now : ((state_after key.plan (seen_of new)).stages old.stage).ended ≡ word.ended
   told_now = subst (λ l. ((state_after key.plan l).stages old.stage).ended ≡ word.ended) (sym seen_now) told
 
-  -- a stage that told no end goes on
+  -- a stage that has not ended by its word goes on
   pub goes_again : word.ended ≡ None → GoesOn key table new
   goes_again untold = record {
     seat_is = laws.again key table old new done word news went stage of_table goes.seat_is;
@@ -118,7 +118,7 @@ module _ (laws : SeatLaws) (changes : (plan : CorePlan) (state : ChainState) (vi
     goes_on = subst (λ k. ((state_after key.plan (seen_of new)).stages k).ended ≡ None) (sym stage) (told_now ∙ untold);
   }
 
-  -- a stage that told its end has ended
+  -- a stage that has ended by its word is done
   pub is_done : IsSome word.ended → IsDone key table old.stage new
   is_done over = record {
     stage = stage;

@@ -1,1 +1,2 @@
+-- The definitions of `chain_tests`: seats of stages that go on.
 pub mod Going

@@ -1,4 +1,4 @@
-//! A block of values that is cut and joined.
+//! Tests of blocks of values that are split and joined.
 
 use ts_land::land;
 

@@ -1,4 +1,4 @@
-//! Generic callers, for tests: what they ensure shows that the clauses of the traits chain through loops and calls.
+//! Generic callers, for tests: their contracts show that the clauses of the traits combine through loops and calls.
 
 ghost use Rattle.std.specs.Prelude.{◌≡◌, ◌<◌, ◌≤◌, [], ◌∷◌, ◌++◌, List, ℕ, Some, true, codes, length, take, IfOk, IfErr, IfSome, OnOk};
 ghost use Rattle.std.specs.Option.{option_copied};
@@ -11,7 +11,7 @@ ghost use Rattle.ts_outside.specs.Desk.{file_of, stream_name};
 
 use ts_outside::{CutShort, Desk, Failed, OpenFault, Sink, Source, report_whole, write_whole};
 
-// Reads one packet in as many calls as the source wants. Fewer than 188 bytes mean that the source has ended.
+// Reads one packet in as many calls as the source needs. Fewer than 188 bytes mean that the source has ended.
 #[tactic(auto, using(ts_outside::proofs::Views::views))]
 fn read_packet<S: Source>(source: &mut S, packet: &mut [u8; 188]) -> Result<usize, CutShort>
     ensures within { IfOk result (λ n. n ≤ 188) }
@@ -40,7 +40,7 @@ pub(crate) enum CopyEnd {
     NoMemory,
 }
 
-// Copies whole packets until the source ends, and the bytes behind the last one too.
+// Copies whole packets until the source ends, and the bytes after the last one too.
 #[tactic(auto, using(ts_outside::proofs::Views::views))]
 fn pump<S: Source, K: Sink>(source: &mut S, sink: &mut K) -> Result<bool, CutShort>
     ensures moved { OnOk result ((bytes : List ℕ)

@@ -1,19 +1,19 @@
-//! What the tests compare with. An assertion that is written out has many steps, and a call of these has one.
+//! Comparisons of the tests. An assertion written out has many steps, and a call of these has one.
 
 use std::fmt::Debug;
 use std::process::Abort;
 
-/// Looks whether a value is the wanted one.
+/// Aborts unless a value is the expected one.
 pub(crate) fn same<T: Copy + PartialEq + Debug>(rt: &impl Abort, found: T, wanted: T) {
     assert_eq!(rt; found, wanted);
 }
 
-/// Looks whether something holds.
+/// Aborts unless a condition holds.
 pub(crate) fn holds(rt: &impl Abort, what: bool) {
     assert!(rt; what);
 }
 
-/// Looks whether bytes are the wanted ones.
+/// Aborts unless bytes are the expected ones.
 pub(crate) fn same_bytes(rt: &impl Abort, found: &[u8], wanted: &[u8]) {
     assert_eq!(rt; found, wanted);
 }

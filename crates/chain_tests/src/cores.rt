@@ -1,4 +1,4 @@
-//! A plain driver over lists of visits, and rows of joint termination, ends and faults.
+//! Tests of the core over lists of visits: joint termination, ends and faults.
 
 ghost use Rattle.std.specs.Prelude.{◌≡◌, ◌⊎◌, ◌≤◌, ◌<◌, ◌+◌, ℕ, [], ◌∷◌, All, IsTrue, IfOk};
 ghost use Rattle.chain_core.specs.Stages.{stages_of};
@@ -54,7 +54,7 @@ macro_rules! news {
     };
 }
 
-/// Runs a core of two plugins over the visits, and compares its close.
+/// Runs a core of two plugins over the visits, and compares where and why it was closed.
 fn row(
     rt: &impl Abort,
     alloc: Global,
@@ -115,7 +115,7 @@ fn agreeing() -> &'static [Step] {
     &JOINT_TERMINATION_AGREEING
 }
 
-/// The same words with joint termination ignored: the chain goes on to the input's end.
+/// The same visits with joint termination ignored: the chain goes on to the input's end.
 static JOINT_TERMINATION_IGNORED: [Step; 11] = [
     gives!(0, 0),
     ends!(0, 8, StageEnd::Input(INPUT_END)),
@@ -181,7 +181,7 @@ fn first_plugin() -> StageSet
     StageSet::none().with(1)
 }
 
-/// A last packet at the joint cut: joint termination comes first.
+/// A last packet at the joint cut: joint termination has priority.
 static ENDS_AT_ONE_PLACE_LAST: [Step; 11] = [
     gives!(0, 0),
     gives!(0, 8),
@@ -200,7 +200,7 @@ fn last() -> &'static [Step] {
     &ENDS_AT_ONE_PLACE_LAST
 }
 
-/// Two last packets: the first plugin's. Two other ends: the last stage's.
+/// Two last packets: the first plugin's counts. Two other ends: the last stage's counts.
 static ENDS_AT_ONE_PLACE_TWO_LASTS: [Step; 10] = [
     gives!(0, 0),
     gives!(0, 8),
@@ -235,7 +235,7 @@ fn two_ends() -> &'static [Step] {
     &ENDS_AT_ONE_PLACE_TWO_ENDS
 }
 
-/// Plugin 1 is far ahead of the cut, at which plugin 2 refuses a packet.
+/// Plugin 1 is far after the cut, at which plugin 2 refuses a packet.
 static ENDS_AT_ONE_PLACE_AHEAD: [Step; 11] = [
     gives!(0, 0),
     gives!(0, 8),
@@ -254,7 +254,7 @@ fn ahead() -> &'static [Step] {
     &ENDS_AT_ONE_PLACE_AHEAD
 }
 
-/// Three packets with four stop nulls behind them, and an agreement at two.
+/// Three packets followed by four null packets of the stop stuffing, and an agreement at two.
 static ENDS_AT_ONE_PLACE_NULLS: [Step; 10] = [
     gives!(0, 0),
     ends!(0, 7, StageEnd::Input(INPUT_END)),
@@ -510,7 +510,7 @@ fn faults_at_the_cut(rt: HostRuntime) -> Result<(), Fail> {
     Ok(())
 }
 
-/// Visits with their news. Before anything was written eight cells may be made, six with a visit.
+/// Visits with their news. Before anything is written eight cells may be made, six of them with a visit.
 static NEWS: [(Step, News); 9] = [
     (gives!(0, 0), news!(6, None, 0)),
     (gives!(0, 6), news!(8, None, 0)),
@@ -527,7 +527,7 @@ fn news_rows() -> &'static [(Step, News)] {
     &NEWS
 }
 
-/// The output ends; the plugin before it is told, and then that the plugin before that has ended.
+/// The output ends; the plugin before it receives that, and then that the plugin before has ended.
 fn tells_ends(rt: &impl Abort, driver: &mut Driver) {
     let _ = told(rt, driver, ends!(3, 0, StageEnd::WriteFault));
     let over = told(rt, driver, gives!(2, 2));

@@ -1,4 +1,4 @@
-//! A core that is driven visit by visit: each visit is looked at before it is made.
+//! A core that is driven visit by visit; each visit is checked before it is made.
 
 ghost use Rattle.std.specs.Prelude.{◌≡◌, ◌≢◌, ◌⊎◌, ◌≤◌, ◌<◌, ◌+◌, ℕ, suc, Some, IsTrue, IsSome, IfOk};
 ghost use Rattle.chain_core.specs.declared.stage_end.StageEnd.TheVariants.{Followed};
@@ -11,7 +11,7 @@ use chain_core::{Closed, Core, CorePlan, News, Progress, StageEnd, StageWord, on
 use std::alloc::{AllocError, Global};
 use std::marker::Model;
 
-/// A visit: so many cells are given, and a word is told.
+/// A visit: so many cells are given, with a word to the core.
 #[derive(Clone, Copy)]
 pub(crate) struct Step {
     pub(crate) stage: usize,
@@ -19,7 +19,7 @@ pub(crate) struct Step {
     pub(crate) word: StageWord,
 }
 
-/// A core, its plan, the limit that its output was last told, and the limit of the last news.
+/// A core, its plan, the limit that its output received last, and the limit of the last news.
 #[derive(Drop)]
 pub(crate) struct Driver {
     core: Core,
@@ -42,7 +42,7 @@ impl Model for Driver {
 }
 
 impl Driver {
-    /// A core in which nothing was given or taken.
+    /// A core in which no cell was given or taken.
     pub(crate) fn new(alloc: Global, plan: &CorePlan) -> Result<Driver, AllocError>
         requires { IsLawfulPlan plan.now }
         ensures { IfOk result (λ d. d.plan ≡ plan.now) }
@@ -73,7 +73,7 @@ impl Driver {
             && self.may_follow(step.stage, step.word.ended, now)
     }
 
-    /// Whether a stage that has given so many cells may end so.
+    /// Whether a stage that has given so many cells may end in this way.
     fn may_follow(&self, stage: usize, ended: Option<StageEnd>, now: u64) -> bool
         requires { stage ≤ suc self.now.plan.plugins }
         ensures { IsTrue result → ended ≡ Some Followed
@@ -87,7 +87,7 @@ impl Driver {
         }
     }
 
-    /// Whether the stage before has ended, and this one has given on all its cells.
+    /// Whether the stage before has ended, and this one has passed on all its cells.
     fn is_before_over(&self, stage: usize) -> bool
         requires { stage ≤ suc self.now.plan.plugins }
         ensures { result ≡ is_before_over (progress_of_core self.now) stage }
@@ -99,7 +99,7 @@ impl Driver {
         before.ended.is_some() && self.core.progress(stage).given == before.given
     }
 
-    /// Whether the stage behind has ended.
+    /// Whether the stage after has ended.
     fn is_after_over(&self, stage: usize) -> bool
         requires { stage ≤ suc self.now.plan.plugins }
         ensures { result ≡ is_after_over self.now.plan (progress_of_core self.now) stage }
@@ -107,12 +107,12 @@ impl Driver {
         stage <= self.plan.plugins && self.core.progress(stage + 1).ended.is_some()
     }
 
-    /// The visit.
+    /// Makes the visit, and returns its news.
     pub(crate) fn visit(&mut self, step: Step) -> News
         requires { MayVisit self.old.plan (progress_of_core self.old) self.old.told step.stage step.done step.word }
         ensures { self.new.plan ≡ self.old.plan }
     {
-        // Runs nothing: the proof cites it.
+        // It runs nothing: the proof cites it.
         one_visit();
         let news = self.core.visit(step.stage, step.done, step.word);
         self.told = told_by(step.stage, self.plan.plugins + 1, news.limit, self.told);
@@ -132,7 +132,7 @@ impl Driver {
         true
     }
 
-    /// Where the chain was cut and why.
+    /// Where and why the chain was cut.
     pub(crate) fn close(self) -> Closed
         requires { AllEnded self.plan (progress_of_core self) }
         ensures { result ≡ closed_of self.plan (progress_of_core self) }
@@ -141,7 +141,7 @@ impl Driver {
     }
 }
 
-/// What the output was last told: the limit by a visit of its own, and by another what it was told before.
+/// The limit that the output received last: that of a visit of its own, else the one before.
 fn told_by(stage: usize, output: usize, limit: Option<u64>, before: Option<u64>) -> Option<u64>
     ensures output { stage ≡ output → result ≡ limit }
     ensures other { stage ≢ output → result ≡ before }

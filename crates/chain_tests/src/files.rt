@@ -1,3 +1,4 @@
+//! Tests of files of the real desk.
 use crate::compared::{same, same_bytes};
 use std::process::Abort;
 use std::test::Fail;
@@ -5,7 +6,7 @@ use std::{env, fs, process};
 use ts_os::OsDesk;
 use ts_outside::{Desk, Failed, FileFault, OpenFault, Sink, Source, write_whole};
 
-// Why a name does not open as an input; `None` where it does.
+// Why an input of this name does not open; `None` if it does.
 fn input_fault(desk: &mut OsDesk, name: &str) -> Option<OpenFault> {
     match desk.open_in(Some(name)) {
         Ok(source) => {
@@ -16,7 +17,7 @@ fn input_fault(desk: &mut OsDesk, name: &str) -> Option<OpenFault> {
     }
 }
 
-// Why a name does not open as an output; `None` where it does.
+// Why an output of this name does not open; `None` if it does.
 fn output_fault(desk: &mut OsDesk, name: &str) -> Option<OpenFault> {
     match desk.open_out(Some(name)) {
         Ok(sink) => match desk.close_out(sink) {
@@ -27,7 +28,7 @@ fn output_fault(desk: &mut OsDesk, name: &str) -> Option<OpenFault> {
     }
 }
 
-// What one read of an input gives, and then a second one.
+// How many bytes one read of an input gives, and then a second one.
 fn read_twice(desk: &mut OsDesk, name: &str, into: &mut [u8; 4]) -> Result<[usize; 2], Failed> {
     let Ok(mut source) = desk.open_in(Some(name)) else {
         return Err(Failed);
@@ -51,12 +52,12 @@ fn write(desk: &mut OsDesk, name: &str, bytes: &[u8]) -> Result<(), Failed> {
     }
 }
 
-// Why a whole file of a name is not read; `None` where it is.
+// Why the whole file of this name is not read; `None` if it is.
 fn whole_fault(desk: &mut OsDesk, name: &str, most: usize) -> Option<FileFault> {
     desk.read_file(Some(name), most).err()
 }
 
-// An opening that fails, of an input, an output and a whole file.
+// Opening an input, an output and a whole file fails.
 #[test]
 fn desk_fails(rt: HostRuntime) {
     let mut desk = OsDesk::new(rt);
@@ -95,7 +96,7 @@ fn is_written(rt: &impl Abort, desk: &mut OsDesk, name: &str) -> Result<(), Fail
     Ok(())
 }
 
-// Reads it whole, and with room for a byte less.
+// Reads it whole, and with room for one byte less.
 fn is_whole(rt: &impl Abort, desk: &mut OsDesk, name: &str) -> Result<(), Fail> {
     same(rt, whole_fault(desk, name, 5), Some(FileFault::TooMany));
     let whole = desk.read_file(Some(name), 6).ok().ok_or("read")?;
@@ -103,7 +104,7 @@ fn is_whole(rt: &impl Abort, desk: &mut OsDesk, name: &str) -> Result<(), Fail> 
     Ok(())
 }
 
-// What was written is read again, in pieces and whole, and a second writing leaves nothing of the first.
+// What was written is read back, in pieces and whole, and a second writing leaves nothing of the first.
 #[test]
 fn round_trip(rt: HostRuntime) -> Result<(), Fail> {
     let folder = env::temp_dir(&rt)?.into_string();
@@ -116,7 +117,7 @@ fn round_trip(rt: HostRuntime) -> Result<(), Fail> {
     Ok(())
 }
 
-// The empty name is a standard stream, and a report is taken whole.
+// The empty name is a standard stream, and a report is taken as a whole.
 #[test]
 fn standard_streams(rt: HostRuntime) {
     let mut desk = OsDesk::new(rt);

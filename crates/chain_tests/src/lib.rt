@@ -1,5 +1,5 @@
-//! The tests of the crates of the chain, of the block and the ring and of the outside, in a crate of their own: a crate with
-//! tests is proved twice, and this one takes little time.
+//! The tests of the crates of the chain, of the block, the ring and the outside, in a crate of their own: a crate
+//! with tests is proved twice, and this one takes little time.
 #![tactic(auto)]
 
 #[cfg(test)]

@@ -1,3 +1,4 @@
+//! Tests of the desk in memory, and of a desk whose calls never fail.
 ghost use Rattle.std.specs.Prelude.{◌≡◌, IfOk};
 
 use crate::callers::{CopyEnd, copy};
@@ -10,7 +11,7 @@ use ts_outside::{
     OpenGate, SteadyDesk, read_to_end,
 };
 
-// The one call that fails: its kind, and its number.
+// The one call that fails: its kind, and its number, counted from 1.
 #[derive(Clone, Copy)]
 enum Fails {
     Never,
@@ -34,7 +35,7 @@ fn file(alloc: Global, name: &str, count: usize) -> Result<(NameText, FileBytes)
     Ok((name, FileBytes::of(bytes)))
 }
 
-// Two files, the first of 400 bytes and twice there.
+// Three files: `long` of 400 bytes, `short` of 5, and a second `long` without bytes.
 fn files(alloc: Global) -> Result<FileList, AllocError> {
     let mut files = Vec::new(alloc);
     files.push(file(alloc, "long", 400)?)?;
@@ -43,7 +44,7 @@ fn files(alloc: Global) -> Result<FileList, AllocError> {
     Ok(FileList::of(files))
 }
 
-// The number of the call that fails, counted from 1; 0 where none does.
+// The number of the failing call, counted from 1; 0 if none fails.
 fn number_of(fails: Fails) -> u64 {
     match fails {
         Fails::Never => 0,
@@ -78,12 +79,12 @@ fn planned(alloc: Global, fails: Fails, room: usize) -> Result<Box<MemoryDesk>, 
     Ok(Box::new(alloc, MemoryDesk::new(alloc, files, plan)?)?)
 }
 
-// Copies a file, and says of it no more than its end.
+// Copies a file, and returns only the end of the copy.
 fn copied<D: Desk>(desk: &mut D, from: &str, to: Option<&str>) -> CopyEnd {
     copy(desk, Some(from), to)
 }
 
-// How many bytes an output has, and none where there is no such output.
+// How many bytes an output has; `None` without such an output.
 fn output_len(desk: &MemoryDesk, i: usize) -> usize {
     match desk.output(i) {
         Some((_, bytes)) => bytes.len(),
@@ -91,8 +92,8 @@ fn output_len(desk: &MemoryDesk, i: usize) -> usize {
     }
 }
 
-// A copy of the long file: which call fails, how much room outputs have, and what is told afterwards: the end, how many
-// outputs there are, and how many bytes the first has.
+// A copy of the long file: which call fails, how much room outputs have, and the result: the end, how many outputs
+// there are, and how many bytes the first has.
 #[derive(Drop)]
 struct CopyRow {
     fails: Fails,
@@ -116,7 +117,7 @@ fn is_so(alloc: Global, row: &CopyRow) -> Result<bool, AllocError> {
     Ok(end == row.end && desk.output_count() == row.outputs && output_len(&desk, 0) == row.bytes)
 }
 
-// Looks at a desk from which a file was copied and one that is not there.
+// Checks the records of a desk from which a file was copied and one that does not exist.
 fn tells_two(rt: &impl Abort, desk: &mut MemoryDesk) {
     same(rt, copied(desk, "long", None), CopyEnd::Done);
     same(rt, copied(desk, "unknown", Some("to")), CopyEnd::Done);
@@ -134,7 +135,7 @@ fn a_copy_is_told(rt: HostRuntime) -> Result<(), Fail> {
     Ok(())
 }
 
-// Looks at the name and the bytes of the first output.
+// Checks the name and the bytes of the first output.
 fn is_output(rt: &impl Abort, desk: &MemoryDesk, name: &str, bytes: &[u8]) {
     let Some((found_name, found_bytes)) = desk.output(0) else {
         panic!(rt; "no output");
@@ -151,7 +152,7 @@ fn an_output_has_its_name(rt: HostRuntime) -> Result<(), Fail> {
     Ok(())
 }
 
-// The long file is read as two packets and a rest, by 100 and 88, by 100 and 88, and by 24; then comes its end.
+// The long file is read as two packets and a rest, by 100 and 88, by 100 and 88, and by 24 bytes; then it ends.
 static COPIES: [CopyRow; 10] = rows![
     Fails::Never, 1000, CopyEnd::Done, 1, 400;
     Fails::Open(1), 1000, CopyEnd::ReadFault, 0, 0;
@@ -177,12 +178,12 @@ fn calls_fail_where_the_plan_or_the_room_says_so(rt: HostRuntime) -> Result<(), 
     Ok(())
 }
 
-// How many bytes a file has, where it has no more than `most`.
+// How many bytes a file has, if it has at most `most`.
 fn read<D: Desk>(desk: &mut D, name: Option<&str>, most: usize) -> Result<usize, FileFault> {
     Ok(desk.read_file(name, most)?.as_slice().len())
 }
 
-// Looks how a short file is read whole, of which the third opening fails.
+// Checks how a short file is read whole; its third opening fails.
 fn reads_whole(rt: &impl Abort, desk: &mut MemoryDesk) {
     same(rt, read(desk, Some("short"), 5), Ok(5));
     same(rt, read(desk, Some("short"), 4), Err(FileFault::TooMany));
@@ -198,13 +199,13 @@ fn files_are_read_whole(rt: HostRuntime) -> Result<(), Fail> {
     Ok(())
 }
 
-// A desk on which nothing fails, in a box: it is large.
+// A desk on which no call fails, in a box, since it is large.
 fn steady(alloc: Global) -> Result<Box<SteadyDesk>, AllocError> {
     let files = files(alloc)?;
     Ok(Box::new(alloc, SteadyDesk::new(alloc, files)?)?)
 }
 
-// Looks at what such a desk counts.
+// Checks the counts of such a desk.
 fn counts(rt: &impl Abort, desk: &mut SteadyDesk) {
     same(rt, copied(desk, "long", Some("to")), CopyEnd::Done);
     same(rt, copied(desk, "short", Some("to")), CopyEnd::Done);
@@ -258,14 +259,14 @@ fn sources_and_sinks_may_cross_threads(rt: HostRuntime) -> Result<(), Fail> {
     Ok(())
 }
 
-// How long the name and the bytes of a file are that were copied.
+// The lengths of the name and of the bytes of a copied file.
 fn copied_lens(alloc: Global) -> Result<(usize, usize), AllocError> {
     let (name, bytes) = file(alloc, "a b", 3)?;
     let name_len = name.copy()?.into_string().len();
     Ok((name_len, bytes.copy()?.into_vec().len()))
 }
 
-// Looks at a list of 3 and 1.
+// Checks a list of 3 and 1.
 fn has_numbers(rt: &impl Abort, list: &NumberList) {
     same(rt, (list.has(1), list.has(2)), (true, false));
 }

@@ -1,4 +1,4 @@
-//! A ring from its making to its close, and cells in hand that wrap round the block's end.
+//! Tests of a ring from its making to its close, and of cells in hand that wrap at the block's end.
 
 ghost use Rattle.std.specs.Prelude.{◌≡◌, ◌≤◌, ℕ, suc, [], length, IsTrue, IfSome};
 ghost use Rattle.chain_core.specs.CoreNumbers.{IsLawfulPlan};
@@ -12,7 +12,7 @@ use chain_core::{CorePlan, StageEnd, StageSet, StageWord, news_promises, one_vis
 use std::process::Abort;
 use window_ring::{NewRing, Ring, StageSeat, Visited, new_ring, seat_laws};
 
-/// A seat of a new ring goes on. There is nothing to run.
+/// A law; it runs nothing. A seat of a new ring goes on.
 fn begins(ring: &Ring, seat: &StageSeat)
     requires table { ((table_of ring.now).words ≡ 1) × ((table_of ring.now).slots ≡ 1) }
     requires lawful { IsLawfulPlan (key_of ring.now).plan }
@@ -34,14 +34,14 @@ struct FrontCells {
     next: u64,
 }
 
-/// Where the cells in hand up to the block's end stand, how many they are, and the position behind them.
+/// Where the cells in hand up to the block's end begin, how many they are, and the position after them.
 fn front(ring: &Ring, seat: &mut StageSeat) -> FrontCells
     requires goes { GoesOn (key_of ring.now) (table_of ring.now) seat.old }
     ensures goes { GoesOn (key_of ring.now) (table_of ring.now) seat.new }
     ensures within { result.len ≤ length seat.new.hand.cells }
     ensures stage { seat.new.stage ≡ seat.old.stage }
 {
-    // Runs nothing: the proof cites it.
+    // It runs nothing: the proof cites it.
     news_promises();
     let _ring = ring;
     match seat.lift_front() {
@@ -62,13 +62,13 @@ fn front(ring: &Ring, seat: &mut StageSeat) -> FrontCells
     }
 }
 
-/// A visit that gives so many of the first cells in hand, and tells nothing: whether it was made.
+/// A visit that gives so many of the first cells in hand, without a word; returns whether it was made.
 fn gives(ring: &Ring, seat: &mut StageSeat, done: usize) -> bool
     requires { GoesOn (key_of ring.now) (table_of ring.now) seat.old }
     ensures goes { IsTrue result → GoesOn (key_of ring.now) (table_of ring.now) seat.new }
     ensures stage { seat.new.stage ≡ seat.old.stage }
 {
-    // They run nothing: the proof cites them.
+    // It runs nothing: the proof cites it.
     one_visit();
     seat_laws();
     let front = front(ring, seat);
@@ -85,12 +85,12 @@ fn gives(ring: &Ring, seat: &mut StageSeat, done: usize) -> bool
     }
 }
 
-/// A visit that tells that the stage ends: whether it was made.
+/// A visit by which the stage ends; returns whether it was made.
 fn ends(ring: &Ring, seat: &mut StageSeat) -> bool
     requires { GoesOn (key_of ring.now) (table_of ring.now) seat.old }
     ensures { IsTrue result → IsDone (key_of ring.now) (table_of ring.now) seat.old.stage seat.new }
 {
-    // They run nothing: the proof cites them.
+    // It runs nothing: the proof cites it.
     one_visit();
     seat_laws();
     let word = StageWord {
@@ -103,7 +103,7 @@ fn ends(ring: &Ring, seat: &mut StageSeat) -> bool
     }
 }
 
-/// A visit that takes cells and one that gives so many of them: whether they were made.
+/// A visit that takes cells, and one that gives so many of them; returns whether they were made.
 fn takes_and_gives(ring: &Ring, seat: &mut StageSeat, done: usize) -> bool
     requires { GoesOn (key_of ring.now) (table_of ring.now) seat.old }
     ensures goes { IsTrue result → GoesOn (key_of ring.now) (table_of ring.now) seat.new }
@@ -115,7 +115,7 @@ fn takes_and_gives(ring: &Ring, seat: &mut StageSeat, done: usize) -> bool
     gives(ring, seat, done)
 }
 
-/// The same, and a visit that tells the end.
+/// The same, and a visit by which the stage ends.
 fn gives_and_ends(ring: &Ring, seat: &mut StageSeat, done: usize) -> bool
     requires { GoesOn (key_of ring.now) (table_of ring.now) seat.old }
     ensures { IsTrue result → IsDone (key_of ring.now) (table_of ring.now) seat.old.stage seat.new }
@@ -126,7 +126,7 @@ fn gives_and_ends(ring: &Ring, seat: &mut StageSeat, done: usize) -> bool
     ends(ring, seat)
 }
 
-/// A visit that takes cells, what is then in hand up to the block's end, and a visit that tells the end.
+/// A visit that takes cells, what is in hand up to the block's end then, and a visit by which the stage ends.
 fn takes_and_ends(ring: &Ring, seat: &mut StageSeat) -> Option<FrontCells>
     requires { GoesOn (key_of ring.now) (table_of ring.now) seat.old }
     ensures { IfSome result (λ _. IsDone (key_of ring.now) (table_of ring.now) seat.old.stage seat.new) }
@@ -141,7 +141,7 @@ fn takes_and_ends(ring: &Ring, seat: &mut StageSeat) -> Option<FrontCells>
     Some(front)
 }
 
-/// Looks whether a visit was made.
+/// Aborts unless a visit was made.
 fn was_made(rt: &impl Abort, made: bool)
     ensures { IsTrue made }
 {
@@ -174,10 +174,10 @@ fn wraps(rt: HostRuntime) {
     assert!(&rt; closed.cut == 2);
 }
 
-// The ring is shared by threads.
+// Requires that a ring can be shared by threads.
 fn shared<T: Sync>(_ring: &T) {}
 
-// A seat goes to a thread.
+// Requires that a seat can be sent to a thread.
 fn sent<T: Send>(_seat: &T) {}
 
 #[test]
@@ -199,7 +199,7 @@ fn opens_and_closes(rt: HostRuntime) {
     begins(&ring, &seats[1]);
     let heard = ring.heard(1);
     was_made(&rt, ends(&ring, &mut seats[0]));
-    // The end of the input has rung for the output: this returns.
+    // The end of the input has woken the output: this returns.
     ring.wait_news(&rt, 1, heard);
     was_made(&rt, ends(&ring, &mut seats[1]));
     let closed = ring.close(root, seats);

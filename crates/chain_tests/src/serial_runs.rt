@@ -1,3 +1,4 @@
+//! Tests of chains that run in one thread.
 ghost use Rattle.std.specs.Prelude.{◌≡◌, ◌≤◌, length, IfOk};
 ghost use Rattle.std.specs.List.{All};
 ghost use Rattle.chain_core.specs.CoreNumbers.{IsLawfulPlan};
@@ -11,14 +12,14 @@ use std::alloc::{AllocError, Global};
 use std::test::Fail;
 use ts_outside::{Desk, FailPlan, FileList, MemoryDesk, MemorySink, MemorySource, OpenGate};
 
-/// A desk without files, at which no call fails.
+/// A desk without files, on which no call fails.
 fn desk(alloc: Global) -> Result<Box<MemoryDesk>, AllocError> {
     let files = FileList::of(Vec::new(alloc));
     let plan = FailPlan::none(alloc, 1000, 1000, 1000);
     Ok(Box::new(alloc, MemoryDesk::new(alloc, files, plan)?)?)
 }
 
-/// The cut and the cause; what was opened goes back to the desk.
+/// The cut and the cause of a chain; what was opened is given back to the desk.
 fn closed_of(
     desk: &mut MemoryDesk,
     end: RunEnd<MemorySource, MemorySink, StopsAt>,
@@ -46,7 +47,7 @@ fn closed_of(
     closed
 }
 
-/// Null packets, so many, through a plugin that stops at a position, to nothing.
+/// Passes so many null packets through a plugin that stops at a position, to an output that drops them.
 fn run(
     alloc: Global,
     packets: u64,
@@ -86,7 +87,7 @@ fn run(
     closed_of(&mut *desk, end)
 }
 
-/// The input's end and the plugin's stop, with sizes of several kinds.
+/// The input's end and the plugin's stop, with several sizes.
 #[test]
 fn a_run_ends_by_its_input_or_its_plugin(rt: HostRuntime) -> Result<(), Fail> {
     let whole = run(rt.alloc(), 5, 100, 3, &[1, 3, 2])?;

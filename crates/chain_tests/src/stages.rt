@@ -1,3 +1,4 @@
+//! Tests of the stages of a chain, each by itself.
 ghost use Rattle.std.specs.Prelude.{◌≡◌, ◌+◌, ◌<◌, ◌≤◌, [], None, IfOk, length, false};
 ghost use Rattle.stage_run.specs.Seeing.{seeing};
 ghost use Rattle.stage_run.specs.PartStands.{PartStands, MayWorkOnSome, kind_of, an_input, a_plugin, an_output};
@@ -25,7 +26,7 @@ fn packet() -> Packet {
     packet
 }
 
-/// A file `in` of so many packets on PID 256.
+/// A file `in` with so many packets on PID 256.
 fn files(alloc: Global, packets: usize) -> Result<FileList, AllocError> {
     let mut bytes = Vec::new(alloc);
     for _ in 0..packets {
@@ -37,7 +38,7 @@ fn files(alloc: Global, packets: usize) -> Result<FileList, AllocError> {
     Ok(FileList::of(files))
 }
 
-/// A plan by which a read of this number fails, and a write of that one; one write takes at most 300 bytes.
+/// A plan in which the read and the write with these numbers fail; one write takes at most 300 bytes.
 fn plan(alloc: Global, read: u64, write: u64) -> Result<FailPlan, AllocError>
     ensures { IfOk result (λ p. (p.read_piece ≡ 1000) × (p.write_piece ≡ 300)) }
 {
@@ -49,7 +50,7 @@ fn plan(alloc: Global, read: u64, write: u64) -> Result<FailPlan, AllocError>
     Ok(plan)
 }
 
-/// A desk with a file `in` of so many packets, of which one read gives so many bytes.
+/// A desk with a file `in` of so many packets, of which a read gives so many bytes at most.
 fn slow_desk(alloc: Global, packets: usize, piece: usize) -> Result<Box<MemoryDesk>, AllocError>
     requires { 0 < piece }
 {
@@ -58,7 +59,7 @@ fn slow_desk(alloc: Global, packets: usize, piece: usize) -> Result<Box<MemoryDe
     Ok(Box::new(alloc, MemoryDesk::new(alloc, files, plan)?)?)
 }
 
-/// A desk with a file `in` of so many packets. Calls are numbered from 1, so that with 0 none fails.
+/// A desk with a file `in` of so many packets. Calls are numbered from 1, so none fails with 0.
 fn desk(
     alloc: Global,
     packets: usize,
@@ -120,7 +121,7 @@ fn plugin<S: Source, K: Sink, P: Plugin>(plugin: P) -> StagePart<S, K, P>
     StagePart::of_plugin(plugin)
 }
 
-/// A stage's work on cells behind `at` others. It may work behind these too, unless it has ended.
+/// The work of a stage on cells after `at` others. It may work on the next ones too, unless it has ended.
 fn work<S: Source, K: Sink, P: Plugin>(
     part: &mut StagePart<S, K, P>,
     at: u64,
@@ -139,7 +140,7 @@ fn work<S: Source, K: Sink, P: Plugin>(
     part.work(1, at, cells, &news(limit), &OpenGate)
 }
 
-/// Closes the source of an input. The answer is how many packets an input without a source has.
+/// Closes the source of an input. Returns how many packets an input without a source has.
 fn close_input(desk: &mut MemoryDesk, part: InputPart<MemorySource>) -> Option<u64> {
     match part {
         InputPart::Stream(source) => {
@@ -154,7 +155,7 @@ fn close_input(desk: &mut MemoryDesk, part: InputPart<MemorySource>) -> Option<u
     }
 }
 
-/// Closes the sink of an output. The answer is whether there was one.
+/// Closes the sink of an output. Returns whether there was one.
 fn close_output(desk: &mut MemoryDesk, part: OutputPart<MemorySink>) -> bool {
     match part {
         OutputPart::Stream(sink) => {
@@ -173,7 +174,7 @@ struct Windows {
     third: [Cell; 2],
 }
 
-/// What an input did with three windows; nothing with those behind the one in which it ended.
+/// What an input did with three windows; nothing with those after the one in which it ended.
 #[derive(Drop)]
 struct Gave {
     first: Work,
@@ -182,7 +183,7 @@ struct Gave {
     windows: Windows,
 }
 
-/// Works on three windows, each behind the cells that were put before it.
+/// Works on three windows, each after the cells that were put before it.
 fn gives<S: Source, K: Sink, P: Plugin>(part: &mut StagePart<S, K, P>) -> Gave
     requires may { MayWorkOnSome (PartStands (seeing S.seen K.seen P.rule P.stands_for P.steady) part.old) 0 0 }
     ensures kind { kind_of part.new ≡ kind_of part.old }
@@ -212,7 +213,7 @@ fn gives<S: Source, K: Sink, P: Plugin>(part: &mut StagePart<S, K, P>) -> Gave
     gave
 }
 
-/// Works on three windows with an input, and gives the input back.
+/// Works on three windows with an input, and returns the input.
 fn gives_and_ends<S: Source, K: Sink, P: Plugin>(
     part: InputPart<S>,
     start: u64,
@@ -238,12 +239,12 @@ fn read_file(alloc: Global, mut desk: Box<MemoryDesk>, start: u64) -> Result<Gav
     Ok(gave)
 }
 
-/// Two cells without packets.
+/// Two dropped cells.
 fn two() -> [Cell; 2] {
     [Cell::dropped(), Cell::dropped()]
 }
 
-/// The PID of a cell's packet, and none of a dropped cell.
+/// The PID of a cell's packet; `None` for a dropped cell.
 fn pid(cell: &Cell) -> Option<u16> {
     cell.live().map(|live| live.packet.pid())
 }
@@ -251,12 +252,12 @@ fn pid(cell: &Cell) -> Option<u16> {
 /// How many cells were done in a window, and how the stage ended in it.
 type Did = (usize, Option<StageEnd>);
 
-/// Looks at what was done with cells.
+/// Checks what was done with cells.
 fn did(rt: &impl Abort, work: Work, wanted: Did) {
     same(rt, done_by(work), wanted);
 }
 
-/// Looks at what was done with three windows, of which those behind an end were not worked on.
+/// Checks what was done with three windows; those after an end were not worked on.
 fn did_all(rt: &impl Abort, gave: &Gave, wanted: [Option<Did>; 3]) {
     let found = [
         Some(done_by(gave.first)),
@@ -271,7 +272,7 @@ fn done_by(work: Work) -> Did {
     (work.done, work.word.ended)
 }
 
-/// Looks at the PIDs of a window's packets.
+/// Checks the PIDs of a window's packets.
 fn are_on(rt: &impl Abort, window: &[Cell; 2], pids: [Option<u16>; 2]) {
     same(rt, [pid(&window[0]), pid(&window[1])], pids);
 }
@@ -301,7 +302,7 @@ fn what_one_read_gave_is_handed_on(rt: HostRuntime) -> Result<(), Fail> {
     Ok(())
 }
 
-// A packet is whole after two reads.
+// A packet is complete after two reads.
 #[test]
 fn half_a_packet_is_not_handed_on(rt: HostRuntime) -> Result<(), Fail> {
     let desk = slow_desk(rt.alloc(), 2, 94)?;
@@ -311,7 +312,7 @@ fn half_a_packet_is_not_handed_on(rt: HostRuntime) -> Result<(), Fail> {
     Ok(())
 }
 
-// The first read gives one packet and half of the next one, the second read the rest of that and one more.
+// The first read gives one packet and a half, the second read the rest of that and one more.
 #[test]
 fn half_a_packet_waits_for_the_rest(rt: HostRuntime) -> Result<(), Fail> {
     let desk = slow_desk(rt.alloc(), 3, 282)?;
@@ -341,7 +342,7 @@ fn a_read_fails_behind_the_first_window(rt: HostRuntime) -> Result<(), Fail> {
     Ok(())
 }
 
-/// What an input of one null packet gives, and how many packets it then says it has.
+/// The cells that an input of one null packet gives, and how many packets it then has.
 fn nulls(alloc: Global) -> Result<(Option<u64>, Gave), Fail> {
     let room = IoBuffer::new(alloc, 1)?;
     let mut desk = desk(alloc, 0, 0, 0)?;
@@ -359,7 +360,7 @@ fn an_input_of_null_packets_ends(rt: HostRuntime) -> Result<(), Fail> {
     Ok(())
 }
 
-/// What an input of three generated packets gives, and how many packets it then says it has.
+/// The cells that an input of three generated packets gives, and how many packets it then has.
 fn generated(alloc: Global) -> Result<(Option<u64>, Gave), Fail> {
     let room = IoBuffer::new(alloc, 1)?;
     let mut desk = desk(alloc, 0, 0, 0)?;
@@ -383,7 +384,7 @@ fn an_input_of_generated_packets_ends(rt: HostRuntime) -> Result<(), Fail> {
     Ok(())
 }
 
-/// Works on four cells with a plugin, and gives the plugin back.
+/// Works on four cells with a plugin, and returns the plugin.
 fn edits<S: Source, K: Sink, P: Plugin>(stage: P, cells: &mut [Cell; 4]) -> (P, Work)
     requires fresh { P.stands_for stage [] 0 }
 {
@@ -402,7 +403,7 @@ fn four() -> [Cell; 4] {
     ]
 }
 
-/// Works on four cells with a plugin that stops at a position, which it keeps.
+/// Works on four cells with a plugin that stops at a position, and returns its position.
 fn stops(alloc: Global, position: u64, cells: &mut [Cell; 4]) -> (u64, Work) {
     let stops = StopsAt { position, alloc };
     let (stops, work) = edits::<MemorySource, MemorySink, StopsAt>(stops, cells);
@@ -420,7 +421,7 @@ fn a_plugin_passes_and_stops(rt: HostRuntime) -> Result<(), Fail> {
     Ok(())
 }
 
-/// Works on four cells with an output, and gives the output back.
+/// Works on four cells with an output, and returns the output.
 fn writes<S: Source, K: Sink, P: Plugin>(
     part: OutputPart<K>,
     room: IoBuffer,
@@ -432,7 +433,7 @@ fn writes<S: Source, K: Sink, P: Plugin>(
     (part.into_output(), work)
 }
 
-/// Writes four cells, and tells how many bytes the sink took. A write of this number fails.
+/// Writes four cells, and returns how many bytes the sink took. A write with this number fails.
 fn written(alloc: Global, limit: Option<u64>, write: u64) -> Result<(usize, Work), Fail> {
     let room = IoBuffer::new(alloc, 4)?;
     let mut desk = desk(alloc, 0, 0, write)?;
@@ -468,7 +469,7 @@ fn an_output_ends_at_the_limit(rt: HostRuntime) -> Result<(), Fail> {
     Ok(())
 }
 
-// The first write takes 300 bytes: a packet, and a part of the one behind the dropped cell.
+// The first write takes 300 bytes: a packet, and part of the one after the dropped cell.
 #[test]
 fn a_write_fails_within_a_packet(rt: HostRuntime) -> Result<(), Fail> {
     let (bytes, work) = written(rt.alloc(), None, 2)?;
@@ -477,7 +478,7 @@ fn a_write_fails_within_a_packet(rt: HostRuntime) -> Result<(), Fail> {
     Ok(())
 }
 
-/// What an output to nothing does with four cells, and whether it has a sink.
+/// What an output that drops packets does with four cells, and whether it has a sink.
 fn discarded(alloc: Global) -> Result<(bool, Work), Fail> {
     let room = IoBuffer::new(alloc, 1)?;
     let mut desk = desk(alloc, 0, 0, 0)?;

@@ -1,8 +1,9 @@
+//! A plugin for tests that stops at a position.
 use plugin_trait::{Line, Outcome, Plugin, silent_report};
 use std::alloc::{AllocError, Global};
 use ts_packet::Cell;
 
-/// Passes the packets before a position, and stops at the first one from there on.
+/// Passes the packets before a position, and stops at the first packet from there on.
 #[derive(Drop)]
 pub(crate) struct StopsAt {
     pub(crate) position: u64,

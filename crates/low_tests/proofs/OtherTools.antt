@@ -1,8 +1,8 @@
--- Worked rows: each page of a descriptor computed on bytes that other people's tools wrote, with the values that others read.
--- The bytes stand in tests/data/bits_si.ts, which the encoders of biTStream made, and in tests/data/dvbpsi_si.ts, made by
--- those of libdvbpsi. The values are those that tshark 4.0.17 shows of them; where it shows Hz, MHz, GHz, Msymbol/s or degrees,
--- they are in the units of the field (ETSI EN 300 468, 6.2.13). Of several languages or countries tshark shows one
--- alone: those rows have the values that libdvbpsi shows.
+-- Worked rows: each descriptor's page computed on bytes that other tools wrote, with the values that other tools
+-- read. The bytes are in tests/data/bits_si.ts, which the encoders of biTStream made, and in tests/data/dvbpsi_si.ts,
+-- made by those of libdvbpsi. The values are those that tshark 4.0.17 shows; where it shows Hz, MHz, GHz, Msymbol/s
+-- or degrees, they are in the units of the field (ETSI EN 300 468, 6.2.13). Of several languages or countries tshark
+-- shows only one: those rows have the values that libdvbpsi shows.
 use Rattle.std.proofs.Common.{◌≡◌, ◌∷◌, [], refl}
 use Rattle.std.specs.Prelude.{Some, codes}
 use Rattle.ts_fields.specs.Bits.{bits, number_of}
@@ -55,7 +55,7 @@ languages-row : read_typed pages (record {
 unfolding read_typed read_page read_behind read_items read_rows read_field read_number read_bytes read_decimal read_rest bits number_of
 languages-row = refl
 
--- 0x0E: in units of 50 bytes a second, in bits_si.ts
+-- 0x0E: in units of 50 bytes per second, in bits_si.ts
 bitrate-row : read_typed pages (record { tag = 0x0E; body = 0xC1 ∷ 0xE2 ∷ 0x40 ∷ [] })
     ≡ Some (typed_fields maximum_bitrate (number 123456 ∷ []))
 unfolding read_typed read_page read_behind read_items read_rows read_field read_number read_bytes read_decimal read_rest bits number_of
@@ -138,7 +138,7 @@ short-event-row : read_typed pages (record {
 unfolding read_typed read_page read_behind read_items read_rows read_field read_number read_bytes read_decimal read_rest bits number_of
 short-event-row = refl
 
--- 0x50: sound in English, in bits_si.ts
+-- 0x50: audio in English, in bits_si.ts
 component-row : read_typed pages (record {
   tag = 0x50;
   body = 0xF2 ∷ 0x03 ∷ 0x2E ∷ 0x65 ∷ 0x6E ∷ 0x67 ∷ 0x53 ∷ 0x74
@@ -149,7 +149,7 @@ component-row : read_typed pages (record {
 unfolding read_typed read_page read_behind read_items read_rows read_field read_number read_bytes read_decimal read_rest bits number_of
 component-row = refl
 
--- 0x52: a component's tag, in bits_si.ts
+-- 0x52: a component_tag, in bits_si.ts
 stream-identifier-row : read_typed pages (record { tag = 0x52; body = 0x2E ∷ [] })
     ≡ Some (typed_fields stream_identifier (number 46 ∷ []))
 unfolding read_typed read_page read_behind read_items read_rows read_field read_number read_bytes read_decimal read_rest bits number_of
@@ -218,7 +218,7 @@ terrestrial-row : read_typed pages (record {
 unfolding read_typed read_page read_behind read_items read_rows read_field read_number read_bytes read_decimal read_rest bits number_of
 terrestrial-row = refl
 
--- 0x5F: whose private descriptors follow, in bits_si.ts
+-- 0x5F: a specifier of the private descriptors after it, in bits_si.ts
 private-data-specifier-row : read_typed pages (record { tag = 0x5F; body = 0xAA ∷ 0xBB ∷ 0xCC ∷ 0xDD ∷ [] })
     ≡ Some (typed_fields private_data_specifier (number 2864434397 ∷ []))
 unfolding read_typed read_page read_behind read_items read_rows read_field read_number read_bytes read_decimal read_rest bits number_of

@@ -1,4 +1,5 @@
-//! Worked rows, and each call that takes memory once with enough of it.
+//! Tests of bit fields, BCD numbers and descriptor loops: worked rows, and each call that allocates, once with enough
+//! memory.
 
 use crate::compared::{are_so_many, same, same_bytes};
 use std::alloc::Global;
@@ -9,7 +10,7 @@ use ts_bits::{
     read_loop, write_loop,
 };
 
-/// The head of a null packet.
+/// The header of a null packet.
 const NULL_HEAD: [u8; 4] = [0x47, 0x1F, 0xFF, 0x10];
 
 #[test]
@@ -62,7 +63,7 @@ fn a_duration(rt: HostRuntime) {
 /// Two descriptors, the second without a body.
 static TWO: [u8; 8] = [0x09, 0x04, 0x0B, 0x00, 0xE1, 0x00, 0x0A, 0x00];
 
-/// Looks whether descriptors are these.
+/// Checks that descriptors are these.
 fn are_two(rt: &impl Abort, descriptors: &[Descriptor]) {
     are_so_many(rt, descriptors.len(), 2);
     same(rt, (descriptors[0].tag(), descriptors[1].tag()), (9, 10));
@@ -70,7 +71,7 @@ fn are_two(rt: &impl Abort, descriptors: &[Descriptor]) {
     same(rt, descriptors[1].body().len(), 0);
 }
 
-/// The bytes of a copy.
+/// The bytes that a copy of a list is written as.
 fn written_copy(alloc: Global, list: &DescriptorList) -> Result<Vec<u8>, Fail> {
     let copied = list.copy()?;
     Ok(write_loop(alloc, copied.as_slice())?)
@@ -95,18 +96,18 @@ fn cut_descriptors(rt: HostRuntime) {
     same(&rt, fault(alloc, &[]), None);
 }
 
-/// Why bytes are no loop.
+/// Why bytes are not a descriptor loop; `None` if they are.
 fn fault(alloc: Global, bytes: &[u8]) -> Option<LoopFault> {
     read_loop(alloc, bytes).err()
 }
 
-/// The copy of a descriptor of one byte, put into a list and taken out again.
+/// The copy of a descriptor of one byte, appended to a list and taken out again.
 fn copied(alloc: Global) -> Result<Vec<Descriptor>, Fail> {
     let descriptor = Descriptor::new(alloc, 0x52, &[7])?.copy()?;
     Ok(DescriptorList::of(vec![in alloc; descriptor]?).into_vec())
 }
 
-/// Looks whether it is the only one.
+/// Checks that it is the only one.
 fn is_alone(rt: &impl Abort, made: &[Descriptor]) {
     are_so_many(rt, made.len(), 1);
     same(rt, made[0].tag(), 0x52);

@@ -1,3 +1,4 @@
+//! Tests of the packets of sections, and of their cycle.
 ghost use Rattle.std.specs.Prelude.{◌<◌};
 
 use crate::compared::{are_so_many, same};
@@ -8,7 +9,7 @@ use ts_packet::Packet;
 use ts_packetize::{Cycle, packets};
 use ts_section::Section;
 
-/// A short section of 100 bytes without a byte 0xFF.
+/// A short section of 100 bytes without the byte 0xFF.
 fn short(alloc: Global, table_id: u8) -> Result<Option<Section>, AllocError> {
     let mut body = Vec::new(alloc);
     for _ in 0..97 {
@@ -20,7 +21,7 @@ fn short(alloc: Global, table_id: u8) -> Result<Option<Section>, AllocError> {
     Ok(Some(Section::short(alloc, table_id, true, body.as_slice())?))
 }
 
-/// A list of so many of these sections.
+/// The short sections with these table_ids.
 fn shorts(alloc: Global, table_ids: &[u8]) -> Result<Vec<Section>, Fail> {
     let mut sections = Vec::new(alloc);
     for table_id in table_ids {
@@ -29,12 +30,12 @@ fn shorts(alloc: Global, table_ids: &[u8]) -> Result<Vec<Section>, Fail> {
     Ok(sections)
 }
 
-/// Looks at a byte of a packet's payload.
+/// Checks a byte of a packet's payload.
 fn has_byte(rt: &impl Abort, packet: &Packet, at: usize, wanted: u8) {
     same(rt, packet.payload().get(at).copied(), Some(wanted));
 }
 
-/// Looks at the packets of two short sections.
+/// Checks the packets of two short sections.
 fn are_two_packets(rt: &impl Abort, list: &[Packet]) {
     are_so_many(rt, list.len(), 2);
     let first = &list[0];
@@ -55,12 +56,12 @@ fn two_short_sections(rt: HostRuntime) -> Result<(), Fail> {
     Ok(())
 }
 
-/// A cycle in a box: it is large.
+/// A cycle in a box, since it is large.
 fn cycle(alloc: Global) -> Result<Box<Cycle>, AllocError> {
     Ok(Box::new(alloc, Cycle::new(alloc, 32)?)?)
 }
 
-/// Looks at the counter and at a byte of the cycle's next packet, which is asked for with a counter.
+/// Takes the next packet of the cycle with a counter, and checks its counter and a byte.
 fn goes_on(rt: &impl Abort, cycle: &mut Cycle, counter: u8, byte: Option<u8>) -> Result<(), Fail>
     requires { counter < 16 }
 {

@@ -1,11 +1,11 @@
-//! Days and starts with numbers from outside, each call once.
+//! Tests of days and start times with values from other sources, each call once.
 
 use crate::compared::same;
 use std::process::Abort;
 use std::test::Fail;
 use ts_days::{day_of, day_text, start_of, start_text, time_of, time_text};
 
-/// Days with their numbers: the first and the last, Unix's first, and the example of ETSI EN 300 468,
+/// Days with their numbers (MJD): the first and the last, the first of Unix time, and the example of ETSI EN 300 468,
 /// annex C.
 static DAYS: [(&str, u16); 4] = [
     ("1858-11-17", 0),
@@ -14,7 +14,7 @@ static DAYS: [(&str, u16); 4] = [
     ("2038-04-22", 65_535),
 ];
 
-/// Texts of no day.
+/// Texts that are not a day.
 static NO_DAYS: [&str; 6] = [
     "1993-02-29",
     "1993-13-01",
@@ -24,13 +24,13 @@ static NO_DAYS: [&str; 6] = [
     "1993/10/13",
 ];
 
-/// Looks whether a text and a number are those of one day.
+/// Checks that a text and a number are those of the same day.
 fn are_of_a_day(rt: &impl Abort, text: &str, number: u16) {
     same(rt, day_of(text), Some(number));
     is_text(rt, day_text(number).as_str(), text);
 }
 
-/// Looks whether a text is the wanted one.
+/// Checks that a text is the expected one.
 fn is_text(rt: &impl Abort, found: &str, wanted: &str) {
     assert_eq!(rt; found, wanted);
 }

@@ -1,4 +1,4 @@
-//! A descriptor read and written again, each call that takes memory once with enough of it.
+//! A delivery system descriptor is read and written back; each call that allocates, once with enough memory.
 
 use std::test::Fail;
 use ts_bits::Descriptor;

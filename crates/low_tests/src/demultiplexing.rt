@@ -1,3 +1,4 @@
+//! Tests of the demultiplexer and of the assembly of tables.
 ghost use Rattle.std.specs.Prelude.{◌<◌};
 
 use crate::compared::same;
@@ -11,7 +12,7 @@ use ts_section::{LongHead, Section};
 
 const PID: u16 = 256;
 
-/// The PAT section of transport stream 1, version 1, with service 1 on PID 4096 and this number of 0 to 1.
+/// The PAT section of transport stream 1, version 1, with service 1 on PID 4096, and this section_number of 0 to 1.
 fn pat(alloc: Global, number: u8) -> Result<Option<Section>, AllocError> {
     if number > 1 {
         return Ok(None);
@@ -39,7 +40,7 @@ fn begun() -> Packet {
     packet
 }
 
-/// The packet behind it.
+/// The packet after it.
 fn ended() -> Packet {
     let mut packet = Packet::null();
     packet.set_pid(PID);
@@ -47,12 +48,12 @@ fn ended() -> Packet {
     packet
 }
 
-/// A demultiplexer in a box: it is large.
+/// A demultiplexer in a box, since it is large.
 fn demux(alloc: Global) -> Result<Box<Demux>, AllocError> {
     Ok(Box::new(alloc, Demux::new(alloc, PID)?)?)
 }
 
-/// Looks how many sections each of these packets completes.
+/// Checks how many sections each of these packets completes.
 fn completes(
     rt: &impl Abort,
     demux: &mut Demux,
@@ -64,7 +65,7 @@ fn completes(
     Ok(())
 }
 
-/// How many bytes the next section has.
+/// How many bytes the next section has; `None` without one.
 fn next_len(demux: &mut Demux) -> Option<usize> {
     Some(demux.next_section()?.bytes().len())
 }
@@ -79,18 +80,18 @@ fn section_over_two_packets(rt: HostRuntime) -> Result<(), Fail> {
     Ok(())
 }
 
-/// An assembly in a box: it is large.
+/// An assembly in a box, since it is large.
 fn assembly(alloc: Global) -> Result<Box<Assembly>, AllocError> {
     Ok(Box::new(alloc, Assembly::new(alloc)?)?)
 }
 
-/// How many sections the table has that a section completes, if it does.
+/// How many sections the table has that a section completes; `None` if it completes none.
 fn completed(assembly: &mut Assembly, section: Section) -> Result<Option<usize>, Fail> {
     let table = assembly.add(section)?;
     Ok(table.map(|table| table.sections().len()))
 }
 
-/// The section of that number.
+/// The section with this section_number.
 fn numbered(alloc: Global, number: u8) -> Result<Section, Fail> {
     Ok(pat(alloc, number)?.ok_or("pat")?)
 }
@@ -137,7 +138,7 @@ fn two_packets(alloc: Global) -> Result<(Packet, Packet), Fail> {
     }
 }
 
-/// The packet with this counter.
+/// The packet with this continuity counter.
 fn counted(packet: Packet, counter: u8) -> Packet
     requires { counter < 16 }
 {

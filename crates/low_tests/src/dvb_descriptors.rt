@@ -1,4 +1,4 @@
-//! Worked rows, and each call that takes memory once with enough of it.
+//! Tests of DVB descriptors: worked rows, and each call that allocates, once with enough memory.
 
 use crate::compared::{same, same_bytes};
 use std::alloc::Global;
@@ -7,10 +7,10 @@ use std::test::Fail;
 use ts_bits::Descriptor;
 use ts_descr_dvb::{DvbDescr, text_bytes, text_of};
 
-/// A service of type 1, of the provider `p`, with the name `Été`.
+/// A service_descriptor body: type 1, provider `p`, name `Été`.
 static SERVICE: [u8; 10] = [0x01, 0x01, b'p', 0x06, 0x15, 0xC3, 0x89, 0x74, 0xC3, 0xA9];
 
-/// What is read of it.
+/// The descriptor that is read from it.
 fn service(alloc: Global) -> Result<DvbDescr, Fail> {
     let descriptor = Descriptor::new(alloc, 0x48, &SERVICE)?;
     Ok(DvbDescr::read(alloc, &descriptor)?.ok_or("no page")?)
@@ -23,7 +23,7 @@ fn a_service_is_written_again(rt: HostRuntime) -> Result<(), Fail> {
     Ok(())
 }
 
-/// Looks at the text of bytes.
+/// Checks the text of bytes.
 fn is_text(rt: &(impl Abort + AllocGlobal), bytes: &[u8], wanted: &str) -> Result<(), Fail> {
     let text = text_of(rt.alloc(), bytes)?.ok_or("no text")?;
     assert_eq!(rt; text.as_str(), wanted);

@@ -1,4 +1,4 @@
-//! Worked rows, and each call that takes memory once with enough of it.
+//! Tests of the EIT: worked rows, and each call that allocates, once with enough memory.
 
 use crate::compared::{are_so_many, same};
 use crate::tables_of_bytes::{is_one_section, is_one_section_of, long_descriptors, run_of};
@@ -9,28 +9,28 @@ use ts_eit::{Eit, Event, EventList, Start};
 use ts_section::TableRun;
 use ts_table_rows::{TableFault, TableRefusal, TableRule};
 
-/// An EIT of service 0x0101, section 1 of 0 to 2, with two events: the first on 1993-10-13 at 12:45:00 for
-/// 1:45:30, the second without a start.
+/// An EIT of service 0x0101, section 1 of 0 to 2, with two events: the first on 1993-10-13 at 12:45:00 for 1:45:30,
+/// the second without a start time.
 const EIT: [u8; 47] = [
     0x4E, 0xF0, 0x2C, 0x01, 0x01, 0xC3, 0x01, 0x02, 0x00, 0x01, 0x20, 0xFA, 0x02, 0x4E, 0x00, 0x07,
     0xC0, 0x79, 0x12, 0x45, 0x00, 0x01, 0x45, 0x30, 0x90, 0x00, 0x00, 0x08, 0xFF, 0xFF, 0xFF, 0xFF,
     0xFF, 0x99, 0x59, 0x59, 0x00, 0x05, 0x41, 0x03, 0x00, 0x01, 0x01, 0xE9, 0x9C, 0x28, 0xF3,
 ];
 
-/// An EIT as libdvbpsi writes it where a start is undefined: not all of its bits are ones.
+/// An EIT as libdvbpsi writes it with an undefined start time: not all of its bits are ones.
 const NO_START: [u8; 46] = [
     0x4E, 0xF0, 0x2B, 0x01, 0x03, 0xC3, 0x00, 0x00, 0x12, 0x34, 0x30, 0x01, 0x00, 0x4E, 0x60, 0x01,
     0x00, 0xFF, 0xFF, 0xF0, 0x00, 0x02, 0x00, 0x00, 0x00, 0x10, 0x4D, 0x0E, 0x65, 0x6E, 0x67, 0x09,
     0x4F, 0x6E, 0x20, 0x64, 0x65, 0x6D, 0x61, 0x6E, 0x64, 0x00, 0x01, 0x9A, 0x52, 0x34,
 ];
 
-/// The EIT of these bytes, copied.
+/// A copy of the EIT of these bytes.
 fn copied_eit(alloc: Global) -> Result<Eit, Fail> {
     let run = run_of(alloc, &EIT)?;
     Ok(Eit::read(alloc, &run)?.copy()?)
 }
 
-/// Looks at the fields of that EIT.
+/// Checks the fields of that EIT.
 fn is_the_eit(rt: &impl Abort, eit: &Eit) {
     let ids = (eit.table_id, eit.service_id, eit.stream_id);
     same(rt, ids, (0x4E, 0x0101, 1));
@@ -38,7 +38,7 @@ fn is_the_eit(rt: &impl Abort, eit: &Eit) {
     are_its_events(rt, eit.events.as_slice());
 }
 
-/// Looks at its events.
+/// Checks its events.
 fn are_its_events(rt: &impl Abort, events: &[Event]) {
     are_so_many(rt, events.len(), 2);
     let start = events[0].start.map(|start| (start.day, start.second));

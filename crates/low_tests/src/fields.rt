@@ -1,4 +1,4 @@
-//! Rows of every kind read and written, each call that takes memory once with enough of it.
+//! Tests of fields: rows of every kind are read and written; each call that allocates, once with enough memory.
 
 ghost use Rattle.std.specs.Prelude.{◌≤◌, length, IsTrue};
 ghost use Rattle.ts_fields.specs.Bodies.{page, page_sound};
@@ -53,7 +53,7 @@ static OF_EACH_KIND: [u8; 26] = [
     b't', b'o', b' ', b't', b'h', b'e', b' ', b'e', b'n', b'd',
 ];
 
-/// What is read and written again.
+/// What is written after reading.
 fn again(alloc: Global, layout: &Layout, from: &[u8]) -> Result<Vec<u8>, NotRead>
     requires short { length from.now ≤ 4096 }
     requires sound { IsTrue (page_sound (page layout.now)) }
@@ -64,7 +64,7 @@ fn again(alloc: Global, layout: &Layout, from: &[u8]) -> Result<Vec<u8>, NotRead
     Ok(bytes)
 }
 
-/// Looks what becomes of a body of each kind.
+/// Checks that a body, read and written back, gives the bytes `OF_EACH_KIND`.
 fn is_kept(rt: &(impl Abort + AllocGlobal), from: &[u8]) -> Result<(), Fail>
     requires { length from.now ≤ 4096 }
 {

@@ -1,8 +1,9 @@
+//! Tests of the generated stream.
 use crate::compared::same_bytes;
 use std::test::Fail;
 use ts_testgen::TestGen;
 
-/// The first bytes of some packets of the stream of seed 1.
+/// The first five bytes of packet number `i` of the stream of seed 1.
 fn front_at(i: u64) -> Option<[u8; 5]> {
     match i {
         0 => Some([0x47, 0x40, 0x00, 0x10, 0x00]),

@@ -1,5 +1,5 @@
-//! PMTs with a right CRC whose numbers of descriptor bytes pass the end of the section: each fault stands at the byte with
-//! the first bits of that number.
+//! Tests of PMTs with a correct CRC whose descriptor lengths exceed the end of the section: each fault is at the byte
+//! with the first bits of that length.
 use std::alloc::Global;
 use std::test::Fail;
 use ts_psi::Pmt;
@@ -18,7 +18,7 @@ const LONG_PROGRAM_INFO: [u8; 21] = [
     0x00, 0x15, 0x34, 0x12, 0x0B,
 ];
 
-/// Why a section is no PMT.
+/// Why a section is not a PMT.
 fn fault_of(alloc: Global, bytes: &[u8]) -> Result<Option<TableFault>, Fail> {
     let mut sections = Vec::new(alloc);
     sections.push(Section::parse(alloc, bytes)?)?;
@@ -26,7 +26,7 @@ fn fault_of(alloc: Global, bytes: &[u8]) -> Result<Option<TableFault>, Fail> {
     Ok(Pmt::read(alloc, &run).err())
 }
 
-/// A loop of the first section that passes its end, told at this byte.
+/// A descriptor loop of the first section that exceeds its end, reported at this byte.
 fn loop_at(offset: usize) -> Option<TableFault> {
     Some(TableFault::Broken {
         section: 0,

@@ -1,11 +1,11 @@
-//! Pointers of packets that begin a section: those within the payload, and those beyond it.
+//! Tests of the pointer_field of packets that begin a section: values within the payload, and values beyond it.
 use std::alloc::{AllocError, Global};
 use std::test::Fail;
 use ts_demux::Demux;
 use ts_packet::Packet;
 
-/// How many sections a packet of PID 0 completes by itself that has unit start and this pointer, a section of five bytes
-/// behind it, and then 0xFF.
+/// How many sections one packet of PID 0 completes that has payload_unit_start_indicator and this pointer_field,
+/// followed by a section of five bytes, and then 0xFF.
 fn completed(alloc: Global, pointer: u8) -> Result<usize, AllocError> {
     let mut packet = Packet::null();
     packet.set_pid(0);
@@ -15,7 +15,7 @@ fn completed(alloc: Global, pointer: u8) -> Result<usize, AllocError> {
     demux.feed(&packet)
 }
 
-/// The payload has 184 bytes, the pointer among them.
+/// The payload has 184 bytes, including the pointer_field.
 #[test]
 fn pointers_beyond_the_payload(rt: HostRuntime) -> Result<(), Fail> {
     for (pointer, want) in [(0, 1), (183, 0), (184, 0), (255, 0)] {
@@ -24,8 +24,8 @@ fn pointers_beyond_the_payload(rt: HostRuntime) -> Result<(), Fail> {
     Ok(())
 }
 
-/// How many sections two packets complete of which the first has this pointer and the other no unit start. Before them came
-/// the first 183 bytes of a section of 366; all other bytes are 0xFF.
+/// How many sections two packets complete, of which the first has this pointer_field and the other no
+/// payload_unit_start_indicator. Before them came the first 183 bytes of a section of 366; all other bytes are 0xFF.
 fn completed_behind(alloc: Global, pointer: u8) -> Result<(usize, usize), AllocError> {
     let mut packet = Packet::null();
     packet.set_pid(0);
@@ -41,8 +41,8 @@ fn completed_behind(alloc: Global, pointer: u8) -> Result<(usize, usize), AllocE
     Ok((pointed, demux.feed(&packet)?))
 }
 
-/// Behind pointer 183 nothing begins, and the bytes before it end the section. One more is beyond the payload, and gives
-/// the section up.
+/// After pointer_field 183 no section begins, and the bytes before that place end the section. One more is beyond the
+/// payload, and the section is discarded.
 #[test]
 fn the_last_pointer_and_the_one_beyond(rt: HostRuntime) -> Result<(), Fail> {
     for (pointer, want) in [(183, (1, 0)), (184, (0, 0))] {

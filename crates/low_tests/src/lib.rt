@@ -1,5 +1,5 @@
-//! The tests of the crates of packets, sections, fields, tables and descriptors, in a crate of their own: a crate with tests
-//! is proved twice, and this one takes little time.
+//! The tests of the crates of packets, sections, fields, tables and descriptors, in a crate of their own: a crate
+//! with tests is proved twice, and this one takes little time.
 #![tactic(auto)]
 
 #[cfg(test)]

@@ -1,4 +1,4 @@
-//! A descriptor read and written again, each call that takes memory once with enough of it.
+//! An MPEG descriptor is read and written back; each call that allocates, once with enough memory.
 
 use crate::compared::{same, same_bytes};
 use std::alloc::Global;
@@ -9,7 +9,7 @@ use ts_descr_mpeg::MpegDescr;
 /// The languages `eng` and `fra`.
 static LANGUAGES: [u8; 8] = [b'e', b'n', b'g', 0x00, b'f', b'r', b'a', 0x03];
 
-/// What is read of them.
+/// The descriptor that is read from them.
 fn languages(alloc: Global) -> Result<MpegDescr, Fail> {
     let descriptor = Descriptor::new(alloc, 0x0A, &LANGUAGES)?;
     Ok(MpegDescr::read(alloc, &descriptor)?.ok_or("no page")?)

@@ -1,3 +1,4 @@
+//! Tests of packets: header fields, adaptation field, payload and labels.
 use crate::compared::{same, same_bytes};
 use std::process::Abort;
 use ts_packet::{Cell, Labels, NoSync, PACKET_SIZE, Packet};
@@ -6,7 +7,7 @@ const NULL_HEAD: [u8; 12] = [
     0x47, 0x1F, 0xFF, 0x10, 0xFF, 0xFF, 0xFF, 0xFF, 0xFF, 0xFF, 0xFF, 0xFF,
 ];
 
-/// The packet that begins with these bytes and goes on in 0xFF.
+/// The packet that begins with these bytes and continues with 0xFF.
 fn packet(rt: &impl Abort, head: [u8; 12]) -> Packet {
     let mut row = [0xFF; PACKET_SIZE];
     row[..12].copy_from_slice(&head);
@@ -22,8 +23,8 @@ struct HeaderRow {
     counter: u8,
 }
 
-/// Headers from streams of other makers: a null packet, a program association, and packets with
-/// an error indicator, a priority and scrambling.
+/// Headers from streams of other makers: a null packet, a PAT packet, and packets with transport_error_indicator,
+/// transport_priority and scrambling.
 static HEADERS: [HeaderRow; 3] = [
     HeaderRow {
         head: NULL_HEAD,
@@ -50,12 +51,12 @@ static HEADERS: [HeaderRow; 3] = [
     },
 ];
 
-/// The headers. What a `static` holds is written into each function that names it.
+/// The headers, in a function: the content of a `static` is written into each function that names it.
 fn headers() -> &'static [HeaderRow] {
     &HEADERS
 }
 
-/// Looks at the fields of a packet that has this header.
+/// Checks the fields of a packet that has this header.
 fn has_header(rt: &impl Abort, read: &Packet, row: &HeaderRow) {
     same(rt, read.pid(), row.pid);
     let flags = [read.error_indicator(), read.unit_start(), read.priority()];
@@ -82,8 +83,8 @@ struct FieldRow {
     pcr: Option<u64>,
 }
 
-/// Adaptation fields: the first PCR of a muxer's stream, the greatest PCR, one with its extension,
-/// an empty field, lawful and unlawful lengths, and a discontinuity.
+/// Adaptation fields: the first PCR of a multiplexer's stream, the greatest PCR, one with its extension, an empty
+/// field, valid and invalid lengths, and a discontinuity.
 static FIELDS: [FieldRow; 7] = [
     FieldRow {
         head: [
@@ -156,7 +157,7 @@ fn fields() -> &'static [FieldRow] {
     &FIELDS
 }
 
-/// Looks at the adaptation field and the payload of a packet.
+/// Checks the adaptation field and the payload of a packet.
 fn has_fields(rt: &impl Abort, read: &Packet, row: &FieldRow) {
     same(rt, read.adaptation_length(), row.length);
     same(rt, read.payload_start(), row.start);
@@ -174,7 +175,7 @@ fn adaptation_fields(rt: HostRuntime) {
     }
 }
 
-/// A null packet that each writer but that of the PCR wrote into once.
+/// A null packet after one call of each setter but that of the PCR.
 fn written() -> Packet {
     let mut written = Packet::null();
     written.set_error_indicator(true);
@@ -188,7 +189,7 @@ fn written() -> Packet {
     written
 }
 
-/// Each writer once, on the null packet and on one with a PCR.
+/// Each setter once, on the null packet and on one with a PCR.
 #[test]
 fn fields_written(rt: HostRuntime) {
     let wanted = [0x47, 0xE1, 1, 0xF6, 1, 0xE0, 0xFF];
@@ -209,7 +210,7 @@ fn sync_byte(rt: HostRuntime) {
     same(&rt, Packet::null(), packet(&rt, NULL_HEAD));
 }
 
-/// Labels are found again, two sets meet in one of theirs, and a cell with them takes 196 bytes.
+/// Labels are found again, two sets intersect in one label, and a cell with labels takes 196 bytes.
 #[test]
 fn labels_of_a_cell(rt: HostRuntime) {
     let labels = Labels::none().with(3).with(31);

@@ -1,4 +1,4 @@
-//! Worked rows, and each call that takes memory once with enough of it.
+//! Tests of PAT, CAT and PMT: worked rows, and each call that allocates, once with enough memory.
 
 ghost use Rattle.std.specs.Prelude.{◌≡◌, IfOk};
 ghost use Rattle.ts_psi.specs.CatTables.{cat_held};
@@ -20,7 +20,7 @@ const PAT: [u8; 16] = [
     0x00, 0xB0, 0x0D, 0x00, 0x01, 0xC1, 0x00, 0x00, 0x00, 0x01, 0xF0, 0x00, 0x2A, 0xB1, 0x04, 0xB2,
 ];
 
-/// A PAT through its sections.
+/// A PAT after writing and reading its sections.
 fn pat_again(alloc: Global, pat: &Pat) -> Result<Pat, Fail>
     ensures { IfOk result (λ p. pat_held p ≡ pat_held pat.now) }
 {
@@ -28,7 +28,7 @@ fn pat_again(alloc: Global, pat: &Pat) -> Result<Pat, Fail>
     Ok(Pat::read(alloc, &run)?)
 }
 
-/// A CAT through its sections.
+/// A CAT after writing and reading its sections.
 fn cat_again(alloc: Global, cat: &Cat) -> Result<Cat, Fail>
     ensures { IfOk result (λ c. cat_held c ≡ cat_held cat.now) }
 {
@@ -36,7 +36,7 @@ fn cat_again(alloc: Global, cat: &Cat) -> Result<Cat, Fail>
     Ok(Cat::read(alloc, &run)?)
 }
 
-/// A PMT through its section.
+/// A PMT after writing and reading its section.
 fn pmt_again(alloc: Global, pmt: &Pmt) -> Result<Pmt, Fail>
     ensures { IfOk result (λ p. pmt_held p ≡ pmt_held pmt.now) }
 {
@@ -44,13 +44,13 @@ fn pmt_again(alloc: Global, pmt: &Pmt) -> Result<Pmt, Fail>
     Ok(Pmt::read(alloc, &run)?)
 }
 
-/// The PAT of these bytes, copied.
+/// A copy of the PAT of these bytes.
 fn copied_pat(alloc: Global) -> Result<Pat, Fail> {
     let run = run_of(alloc, &PAT)?;
     Ok(Pat::read(alloc, &run)?.copy()?)
 }
 
-/// Looks at the fields of that PAT.
+/// Checks the fields of that PAT.
 fn is_the_pat(rt: &impl Abort, pat: &Pat) {
     same(rt, (pat.version, pat.current, pat.stream_id), (0, true, 1));
     same(rt, pat.network_pid, None);
@@ -84,7 +84,7 @@ fn with_a_network(alloc: Global) -> Result<Pat, Fail> {
     })
 }
 
-/// Looks whether there is one section, with this body.
+/// Checks that there is one section, with this body.
 fn is_one_body(rt: &impl Abort, sections: &[Section], body: &[u8]) {
     are_so_many(rt, sections.len(), 1);
     same_bytes(rt, sections[0].body(), body);
@@ -110,7 +110,7 @@ fn empty_cat(alloc: Global) -> Cat {
     }
 }
 
-/// The sections of a copy of it.
+/// The sections of a copy of that CAT.
 fn empty_sections(alloc: Global) -> Result<Vec<Section>, Fail> {
     Ok(empty_cat(alloc).copy()?.sections(alloc)?)
 }
@@ -150,13 +150,13 @@ fn pmt_with(alloc: Global, last: usize) -> Result<Pmt, Fail> {
     })
 }
 
-/// The sections of a copy of the longest one.
+/// The sections of a copy of the longest PMT.
 fn longest_sections(alloc: Global) -> Result<Vec<Section>, Fail> {
     let pmt = pmt_with(alloc, 230)?;
     Ok(pmt.copy()?.sections(alloc)?)
 }
 
-/// The longest one through its section.
+/// The longest PMT after writing and reading its section.
 fn longest_again(alloc: Global) -> Result<Pmt, Fail> {
     let pmt = pmt_with(alloc, 230)?;
     pmt_again(alloc, &pmt)

@@ -1,4 +1,5 @@
-//! Worked rows, sections that other tools wrote, and each call that takes memory once with enough of it.
+//! Tests of sections: worked rows, sections that other tools wrote, and each call that allocates, once with enough
+//! memory.
 
 use crate::compared::{are_so_many, same, same_bytes};
 use std::alloc::{AllocError, Global};
@@ -20,7 +21,7 @@ const CAT: [u8; 12] = [
 /// A TDT as biTStream writes it.
 const TDT: [u8; 8] = [0x70, 0x70, 0x05, 0xD6, 0x5B, 0x23, 0x31, 0x30];
 
-/// Why bytes are no section.
+/// Why bytes are not a section.
 fn fault(alloc: Global, bytes: &[u8]) -> Option<SectionFault> {
     Section::parse(alloc, bytes).err()
 }
@@ -84,7 +85,7 @@ fn a_wrong_crc(rt: HostRuntime) {
     same(&rt, fault(rt.alloc(), &bytes), Some(want));
 }
 
-/// The head of that PAT.
+/// The header fields of that PAT.
 const PAT_HEAD: LongHead = LongHead {
     table_id: 0,
     private: false,
@@ -95,7 +96,7 @@ const PAT_HEAD: LongHead = LongHead {
     last: 0,
 };
 
-/// Looks whether a section is that PAT.
+/// Checks that a section is that PAT.
 fn is_the_pat(rt: &impl Abort, section: &Section) {
     same_bytes(rt, section.bytes(), &PAT);
     same(rt, (section.table_id(), section.is_long()), (0, true));
@@ -112,7 +113,7 @@ fn a_pat(rt: HostRuntime) -> Result<(), Fail> {
     Ok(())
 }
 
-/// The TDT, which stands in front of the CAT.
+/// The TDT, read from bytes in which the CAT follows it.
 fn in_front(alloc: Global) -> Result<Section, Fail> {
     let mut bytes = Vec::from_slice(alloc, &TDT)?;
     bytes.extend_from_slice(&CAT)?;
@@ -142,7 +143,7 @@ fn a_tdt(rt: HostRuntime) -> Result<(), Fail> {
     Ok(())
 }
 
-/// The section of this number, at most 2, of an EIT or an SDT whose last number is 2.
+/// The section with this section_number, at most 2, of an EIT or an SDT whose last_section_number is 2.
 fn numbered(alloc: Global, eit: bool, number: u8) -> Result<Section, AllocError> {
     let head = LongHead {
         table_id: if eit { 0x6F } else { 0x42 },
@@ -156,7 +157,7 @@ fn numbered(alloc: Global, eit: bool, number: u8) -> Result<Section, AllocError>
     Section::long(alloc, head, &[])
 }
 
-/// Where sections with these numbers stop to be a run.
+/// The index at which sections with these section_numbers stop being one table; `None` if they are one.
 fn place(alloc: Global, eit: bool, numbers: &[u8]) -> Result<Option<usize>, AllocError> {
     let mut sections = Vec::new(alloc);
     for number in numbers {
@@ -184,14 +185,14 @@ fn runs(rt: HostRuntime) -> Result<(), Fail> {
     Ok(())
 }
 
-/// A copy of the run of the PAT.
+/// A copy of the sections of the PAT.
 fn copied_run(alloc: Global) -> Result<TableRun, Fail> {
     let section = Section::parse(alloc, &PAT)?;
     let sections = vec![in alloc; section]?;
     Ok(TableRun::of(sections)?.copy()?)
 }
 
-/// Looks whether the PAT is the only section.
+/// Checks that the PAT is the only section.
 fn has_the_pat(rt: &impl Abort, sections: &[Section]) {
     are_so_many(rt, sections.len(), 1);
     same_bytes(rt, sections[0].bytes(), &PAT);

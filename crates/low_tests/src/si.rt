@@ -1,4 +1,4 @@
-//! Worked rows, and each call that takes memory once with enough of it.
+//! Tests of NIT, SDT and BAT: worked rows, and each call that allocates, once with enough memory.
 
 use crate::compared::{are_so_many, same};
 use crate::tables_of_bytes::{is_one_section, run_of};
@@ -9,8 +9,8 @@ use ts_bits::DescriptorList;
 use ts_section::TableRun;
 use ts_si::{Bat, Nit, NitStream, NitStreamList, Sdt};
 
-/// A NIT of network 0x3001, another than the actual one, with a name and two transport streams, the second of
-/// which has a list of services.
+/// A NIT of network 0x3001, of another than the actual network, with a name and two transport streams, the second of
+/// which has a service_list_descriptor.
 const NIT: [u8; 38] = [
     0x41, 0xF0, 0x23, 0x30, 0x01, 0xCB, 0x00, 0x00, 0xF0, 0x05, 0x40, 0x03, 0x6E, 0x65, 0x74, 0xF0,
     0x11, 0x00, 0x01, 0x20, 0xFA, 0xF0, 0x00, 0x00, 0x02, 0x20, 0xFB, 0xF0, 0x05, 0x41, 0x03, 0x00,
@@ -31,13 +31,13 @@ const BAT: [u8; 22] = [
     0xF0, 0x00, 0x12, 0x01, 0x74, 0x32,
 ];
 
-/// The NIT of these bytes, copied.
+/// A copy of the NIT of these bytes.
 fn copied_nit(alloc: Global) -> Result<Nit, Fail> {
     let run = run_of(alloc, &NIT)?;
     Ok(Nit::read(alloc, &run)?.copy()?)
 }
 
-/// Looks at the fields of that NIT.
+/// Checks the fields of that NIT.
 fn is_the_nit(rt: &impl Abort, nit: &Nit) {
     same(rt, (nit.actual, nit.version, nit.current), (false, 5, true));
     same(rt, nit.network_id, 0x3001);
@@ -61,13 +61,13 @@ fn a_nit(rt: HostRuntime) -> Result<(), Fail> {
     Ok(())
 }
 
-/// The SDT of these bytes, copied.
+/// A copy of the SDT of these bytes.
 fn copied_sdt(alloc: Global) -> Result<Sdt, Fail> {
     let run = run_of(alloc, &SDT)?;
     Ok(Sdt::read(alloc, &run)?.copy()?)
 }
 
-/// Looks at the fields of that SDT.
+/// Checks the fields of that SDT.
 fn is_the_sdt(rt: &impl Abort, sdt: &Sdt) {
     let ids = (sdt.actual, sdt.stream_id, sdt.original_id);
     same(rt, ids, (true, 0x0451, 0x20FA));
@@ -88,7 +88,7 @@ fn an_sdt(rt: HostRuntime) -> Result<(), Fail> {
     Ok(())
 }
 
-/// One stream without descriptors.
+/// One transport stream without descriptors.
 fn one_stream(alloc: Global) -> Result<NitStreamList, Fail> {
     let stream = NitStream {
         stream_id: 1,
@@ -98,7 +98,7 @@ fn one_stream(alloc: Global) -> Result<NitStreamList, Fail> {
     Ok(NitStreamList::of(vec![in alloc; stream]?))
 }
 
-/// A copy of a BAT of that stream.
+/// A copy of a BAT of that transport stream.
 fn copied_bat(alloc: Global) -> Result<Bat, Fail> {
     let streams = one_stream(alloc)?;
     let bat = Bat {

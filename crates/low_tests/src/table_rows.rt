@@ -1,4 +1,4 @@
-//! Tables of made-up layouts read and written, each call once with enough memory.
+//! Tests of tables with made-up layouts, which are read and written; each call once with enough memory.
 
 ghost use Rattle.std.specs.Prelude.{IsTrue};
 ghost use Rattle.ts_table_rows.specs.TablePages.{table_page, page_sound};
@@ -40,7 +40,7 @@ static ENTRIES: TableLayout = TableLayout {
     one_zero: true,
 };
 
-/// Descriptors and streams, both counted, as a NIT has them.
+/// Descriptors and transport streams, both with a length before them, as in a NIT.
 static STREAMS: TableLayout = TableLayout {
     name: "streams",
     ids: &[(0x40, 0x41)],
@@ -61,7 +61,7 @@ static STREAMS: TableLayout = TableLayout {
     one_zero: false,
 };
 
-/// Services below a number that all sections have alike, as an SDT has them.
+/// Services after a number that all sections have in common, as in an SDT.
 static SERVICES: TableLayout = TableLayout {
     name: "services",
     ids: &[(0x42, 0x42), (0x46, 0x46)],
@@ -89,7 +89,7 @@ static SERVICES: TableLayout = TableLayout {
     one_zero: false,
 };
 
-/// The run of sections with these bodies.
+/// The sections with these bodies, as one table.
 fn run_of(alloc: Global, table_id: u8, bodies: &[&[u8]]) -> Result<TableRun, Fail> {
     let last = u8::try_from(bodies.len().saturating_sub(1)).unwrap_or(255);
     let mut sections = Vec::new(alloc);
@@ -122,7 +122,7 @@ fn fault(
     Ok(read_table(alloc, layout, &run).err())
 }
 
-/// The bodies of the sections that a table read from sections with these bodies is written as.
+/// The bodies of the sections as which a table is written that was read from sections with these bodies.
 fn again(
     alloc: Global,
     layout: &TableLayout,
@@ -136,10 +136,10 @@ fn again(
     Ok(write_table(alloc, layout, &table)?)
 }
 
-/// A table, its sections' bodies, and where they break which rule.
+/// A table, the bodies of its sections, and where they break which rule.
 type BrokenRow = (u8, &'static [&'static [u8]], (usize, usize, TableRule));
 
-/// Looks at the faults of entries.
+/// Checks the faults of entries.
 fn entries_break(rt: &(impl Abort + AllocGlobal)) -> Result<(), Fail> {
     let rows: [BrokenRow; 3] = [
         (1, &[&[]], (0, 0, TableRule::WrongTable)),
@@ -157,7 +157,7 @@ fn entries_break(rt: &(impl Abort + AllocGlobal)) -> Result<(), Fail> {
     Ok(())
 }
 
-/// Looks at the faults of streams.
+/// Checks the faults of streams.
 fn streams_break(rt: &(impl Abort + AllocGlobal)) -> Result<(), Fail> {
     let rows: [BrokenRow; 3] = [
         (0x40, &[&[0xF0]], (0, 8, TableRule::Short)),
@@ -175,7 +175,7 @@ fn streams_break(rt: &(impl Abort + AllocGlobal)) -> Result<(), Fail> {
     Ok(())
 }
 
-/// Looks at the faults of services.
+/// Checks the faults of services.
 fn services_break(rt: &(impl Abort + AllocGlobal)) -> Result<(), Fail> {
     let rows: [BrokenRow; 2] = [
         (0x42, &[&[0, 7, 0xFF], &[0, 8]], (1, 8, TableRule::Mixed)),
@@ -205,7 +205,7 @@ fn broken_rules(rt: HostRuntime) -> Result<(), Fail> {
     services_break(&rt)
 }
 
-/// Looks at the bodies of sections.
+/// Checks the bodies of sections.
 fn have_bodies(rt: &impl Abort, sections: &[Section], bodies: &[&[u8]]) {
     are_so_many(rt, sections.len(), bodies.len());
     for (section, body) in sections.iter().zip(bodies) {
@@ -213,7 +213,7 @@ fn have_bodies(rt: &impl Abort, sections: &[Section], bodies: &[&[u8]]) {
     }
 }
 
-/// Looks what is written of entries.
+/// Checks how entries are written.
 fn entries_fill(rt: &(impl Abort + AllocGlobal)) -> Result<(), Fail> {
     let bodies: [&[u8]; 2] = [&[0, 1, 0, 2], &[0, 2, 0, 3, 0, 3, 0, 4, 0, 4, 0, 5]];
     let entries = again(rt.alloc(), &ENTRIES, 0, &bodies)?;

@@ -1,4 +1,4 @@
-//! Tables that several tests make of bytes, and of many descriptors.
+//! Tables that several tests make from bytes, and of many descriptors.
 
 use crate::compared::{are_so_many, same_bytes};
 use std::alloc::Global;
@@ -7,25 +7,25 @@ use std::test::Fail;
 use ts_bits::{Descriptor, DescriptorList};
 use ts_section::{Section, TableRun};
 
-/// The run of one section.
+/// A table of one section with these bytes.
 pub(crate) fn run_of(alloc: Global, bytes: &[u8]) -> Result<TableRun, Fail> {
     let section = Section::parse(alloc, bytes)?;
     Ok(TableRun::of(vec![in alloc; section]?)?)
 }
 
-/// Looks whether there is one section, of these bytes.
+/// Checks that there is one section, with these bytes.
 pub(crate) fn is_one_section(rt: &impl Abort, sections: &[Section], bytes: &[u8]) {
     are_so_many(rt, sections.len(), 1);
     same_bytes(rt, sections[0].bytes(), bytes);
 }
 
-/// Looks whether there is one section, of so many bytes.
+/// Checks that there is one section, with so many bytes.
 pub(crate) fn is_one_section_of(rt: &impl Abort, sections: &[Section], len: usize) {
     are_so_many(rt, sections.len(), 1);
     are_so_many(rt, sections[0].bytes().len(), len);
 }
 
-/// So many descriptors of 255 bytes, and one of `last`.
+/// So many descriptors of 255 bytes, and one of `last` bytes.
 pub(crate) fn long_descriptors(
     alloc: Global,
     count: usize,

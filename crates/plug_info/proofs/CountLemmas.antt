@@ -1,4 +1,4 @@
--- What was counted, one cell after another.
+-- Lemmas on the counts, cell by cell.
 use Rattle.std.proofs.Common.{◌≡◌, ℕ, ◌<◌, ◌≤◌, ◌^◌, List, [], ◌∷◌, ◌++◌, length, map, filter, ap, sym, subst, ◌∙◌, refl, Bool, true, false, not, if◌then◌else◌, ◌==◌, append-nil, Option, None, Some, arith}
 use Rattle.std.proofs.lemmas.Grind.{flat_map-append}
 use Rattle.std.proofs.lemmas.List.{length-map, map-append}
@@ -22,14 +22,14 @@ use Rattle.plug_analyze.specs.AnalyzeRule.{all_pids, fault_pids, is_scrambled}
 use Rattle.plug_info.specs.TotalsOf.{AreCounted, AreWhole, HasRoom}
 use Rattle.plug_info.specs.declared.totals.Totals.{Totals}
 
--- the packets with one cell more
+-- the packets with one more cell
 pub live-live : (history : List Cell) (packet : List ℕ) (labels : ℕ) → live_packets (history ++ Live packet labels ∷ []) ≡ live_packets history ++ packet ∷ []
 live-live history packet labels = flat_map-append packet_in history (Live packet labels ∷ [])
 
 pub live-dropped : (history : List Cell) → live_packets (history ++ Dropped ∷ []) ≡ live_packets history
 live-dropped history = flat_map-append packet_in history (Dropped ∷ []) ∙ append-nil (live_packets history)
 
--- the PIDs of packets of one kind with one packet more
+-- the PIDs of packets of one kind with one more packet
 kind-more : (kind : List ℕ → Bool) (history : List Cell) (packet : List ℕ) (labels : ℕ)
     → map pid_of (filter kind (live_packets (history ++ Live packet labels ∷ []))) ≡ map pid_of (filter kind (live_packets history)) ++ (if kind packet then pid_of packet ∷ [] else [])
 kind-more kind history packet labels =
@@ -42,7 +42,7 @@ kind-more kind history packet labels =
     last true = refl
     last false = refl
 
--- a fault is on its packet's PID
+-- a fault has the PID of its packet
 fault_pid : (at : ℕ) (last : Option (List ℕ)) (packet : List ℕ) (w : Bool)
     → map (λ (e : ContinuityError). e.pid) (if w then error_behind at last packet else []) ≡ (if is_any (if w then error_behind at last packet else []) then pid_of packet ∷ [] else [])
 fault_pid at last packet false = refl
@@ -54,7 +54,7 @@ fault_pid at (Some before) packet true =
       | false ↦ refl
     ]
 
--- the PIDs of faults with one packet more
+-- the PIDs of faults with one more packet
 faults-more : (history : List Cell) (packet : List ℕ) (labels : ℕ)
     → fault_pids (history ++ Live packet labels ∷ []) ≡ fault_pids history ++ (if is_fault_at history packet then pid_of packet ∷ [] else [])
 faults-more history packet labels =
@@ -87,7 +87,7 @@ few_kind kind cells =
     let live = few_live cells in
     omega (arith, live, length-map (filter kind (live_packets cells)) pid_of, length-filter kind (live_packets cells), count_by-le-length kind (live_packets cells))
 
--- one more can be counted
+-- one more packet can be counted
 room_in : (tally : Tally) (pids : List ℕ) → IsCounted tally pids → length pids < 2 ^ 63 → HasRoomIn tally
 room_in tally pids t few = record { pids = pids; tally = t; few = few }
 
@@ -99,7 +99,7 @@ has_room totals cells t few = record {
   errored = room_in totals.errored _ t.errored (omega (arith, few, few_kind error_indicator_of cells));
 }
 
--- each tally has its numbers
+-- each tally has its counts
 pub are_whole : (totals : Totals) (cells : List Cell) → AreCounted totals cells → AreWhole totals
 are_whole totals cells t = record { packets = t.packets.whole; scrambled = t.scrambled.whole; faults = t.faults.whole }
 
@@ -112,7 +112,7 @@ counted_dropped totals cells t = record {
   errored = subst (IsCounted totals.errored) (ap (λ (ps : List (List ℕ)). map pid_of (filter error_indicator_of ps)) (sym (live-dropped cells))) t.errored;
 }
 
--- a packet is counted by what it is
+-- a packet is counted by its kind
 pub counted_live : (totals totals_new : Totals) (cells : List Cell) (packet : List ℕ) (labels : ℕ) → AreCounted totals cells
     → (pid : ℕ) (scrambled fault errored : Bool) → pid ≡ pid_of packet → scrambled ≡ is_scrambled packet → fault ≡ is_fault_at cells packet → errored ≡ error_indicator_of packet
     → ((pids : List ℕ) → IsCounted totals.packets pids → IsCounted totals_new.packets (pids ++ pid ∷ []))

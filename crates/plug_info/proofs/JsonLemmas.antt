@@ -1,4 +1,4 @@
--- Items behind items, and the parts of objects.
+-- Lemmas on lists of items in JSON, and on the parts of objects.
 use Rattle.std.proofs.Common.{◌≡◌, ℕ, ◌<◌, ◌+◌, List, [], ◌∷◌, ◌++◌, length, take, drop, map, ap, ap₂, sym, ◌∙◌, refl, false, true≢false, eqb, append_assoc, append-nil, Option, None, get_or, codes}
 use Rattle.std.specs.Fmt.{decimal}
 use Rattle.std.specs.List.{flat_map, starts_with}
@@ -29,7 +29,7 @@ unstripped s [] h is = is
 unstripped s (text ∷ texts) h is =
     absurd (true≢false (sym (starts_text false (codes ",") s h ∙ ap (λ (z : List ℕ). starts_with eqb z (codes ",")) is)))
 
--- what is made of what is made of each
+-- a map within a `flat_map`
 pub flat_map_map : {X Y Z : Type 0} (g : Y → List Z) (f : X → Y) (xs : List X) → flat_map (λ x. g (f x)) xs ≡ flat_map g (map f xs)
 flat_map_map g f [] = refl
 flat_map_map g f (x ∷ xs) = ap (λ zs. g (f x) ++ zs) (flat_map_map g f xs)
@@ -44,7 +44,7 @@ languages_flat (d ∷ ds) =
     ap₂ (λ (xs ys : List ℕ). xs ++ ys) (flat_flat behind_comma (language_at (language_step d.tag) d.body) (numbers_below (length d.body))) (languages_flat ds)
     ∙ sym (flat_map-append behind_comma (languages_in d) (languages_of ds))
 
--- a text with what is made of one thing more
+-- a text with one more item
 pub item_more : {X : Type 0} (f : X → List ℕ) (xs ys : List X) (x : X) (old now new item : List ℕ) → ys ≡ xs ++ x ∷ [] → item ≡ f x → now ≡ old ++ flat_map f xs
     → new ≡ now ++ item → new ≡ old ++ flat_map f ys
 item_more f xs ys x old now new item more item_is so_far pushed =
@@ -56,7 +56,7 @@ item_more f xs ys x old now new item more item_is so_far pushed =
 pub taken_more : {X : Type 0} (xs : List X) (i : ℕ) (x : X) → i < length xs → x ≡ get_or xs i x → take (i + 1) xs ≡ take i xs ++ x ∷ []
 taken_more xs i x lt x_is = take_more xs i x lt ∙ ap (λ y. take i xs ++ y ∷ []) (sym x_is)
 
--- parts of objects, each of which is told
+-- the end of a component's object, each part of which is known
 pub tail_is : (scene scene_new : Scene) (numbers numbers_new : PidNumbers) (users users_new : ℕ) → scene ≡ scene_new → numbers ≡ numbers_new → users ≡ users_new
     → component_tail scene numbers users ≡ component_tail scene_new numbers_new users_new
 tail_is scene scene_new numbers numbers_new users users_new a b c =
@@ -76,7 +76,7 @@ whole_is stream stream_new sdt sdt_new services services_new pids pids_new a b c
     ∙ (ap (λ (x : List ℕ). whole_json stream_new x services pids) b
     ∙ (ap (λ (x : List ℕ). whole_json stream_new sdt_new x pids) c ∙ ap (whole_json stream_new sdt_new services_new) d))
 
--- the first half of the stream's object, each part of which is told
+-- the first half of the stream's object, each part of which is known
 abbrev pub head_parts : ℕ → ℕ → List ℕ → List ℕ → List ℕ
 head_parts packets bytes id rate = codes "{\"packets\":" ++ (decimal packets ++ (codes ",\"bytes\":" ++ (decimal bytes
     ++ (codes ",\"transport_stream_id\":" ++ (id ++ (codes ",\"bitrate\":" ++ rate))))))
@@ -87,7 +87,7 @@ head_is packets bytes bytes_new id id_new rate rate_new a b c =
     ap (λ (n : ℕ). head_parts packets n id rate) a
     ∙ (ap (λ (x : List ℕ). head_parts packets bytes_new x rate) b ∙ ap (head_parts packets bytes_new id_new) c)
 
--- a PID's object, each part of which is told
+-- the object of a PID, each part of which is known
 abbrev pub pid_parts : ℕ → List ℕ → List ℕ → List ℕ → List ℕ
 pid_parts pid purpose portion troubles = codes "{\"pid\":" ++ (decimal pid ++ (codes ",\"use\":\"" ++ (purpose ++ (codes "\"," ++ (portion
     ++ (troubles ++ codes "}"))))))
@@ -98,6 +98,6 @@ pid_is pid purpose purpose_new portion portion_new troubles troubles_new a b c =
     ap (λ (x : List ℕ). pid_parts pid x portion troubles) a
     ∙ (ap (λ (x : List ℕ). pid_parts pid purpose_new x troubles) b ∙ ap (pid_parts pid purpose_new portion_new) c)
 
--- the head of a component's object, whose name is told
+-- the head of a component's object, whose name is known
 abbrev pub kind_parts : ℕ → ℕ → List ℕ → List ℕ
 kind_parts pid kind name = codes "{\"pid\":" ++ (decimal pid ++ (codes ",\"stream_type\":" ++ (decimal kind ++ (codes ",\"stream_type_name\":" ++ name))))

@@ -1,4 +1,4 @@
--- The cells that were met, one cell and one mark after another.
+-- Lemmas on the cells that were processed, cell by cell and mark by mark.
 use Rattle.std.proofs.Common.{◌≡◌, ℕ, zero, suc, ◌+◌, ◌<◌, ◌≤◌, List, [], ◌∷◌, ◌++◌, length, take, drop, ap, sym, subst, ◌∙◌, refl, arith, length-append, drop-drop, get_or}
 use Rattle.std.proofs.lemmas.List.{drop-append-le, length-take-le, take-append-le, take_more}
 use Rattle.ts_packet.specs.declared.cell.Cell.{Cell}
@@ -13,11 +13,11 @@ use Rattle.plug_info.specs.declared.info_conf.InfoConf.{InfoConf}
 use Rattle.plug_info.specs.declared.met_cells.MetCells.{MetCells}
 use Rattle.plug_info.specs.declared.tracker.Tracker.{Tracker}
 
--- no cell was met
+-- no cell yet
 pub met_none : (met : MetCells) → met.waiting.items ≡ [] → met.mark ≡ 0 → Tracks met.tracker [] → HasMet met [] 0
 met_none met none at_zero tracks = record { tracks = tracks; waits = none; marked = at_zero; within = omega arith; short = omega arith }
 
--- one cell more
+-- one more cell
 pub met_more : (met met_new : MetCells) (history : List Cell) (mark : ℕ) (cell : Cell) → HasMet met history mark → length history < POSITION_LIMIT
     → met_new.tracker ≡ met.tracker → met_new.mark ≡ met.mark → met_new.waiting.items ≡ met.waiting.items ++ cell ∷ [] → HasMet met_new (history ++ cell ∷ []) mark
 met_more met met_new history mark cell w few same marked pushed = record {
@@ -47,7 +47,7 @@ module _ (met : MetCells) (history : List Cell) (mark : ℕ) (w : HasMet met his
   upto : take mark history ++ cell ∷ [] ≡ take (mark + 1) history
   upto = ap (λ (c : Cell). take mark history ++ c ∷ []) (sym its.0) ∙ sym (take_more history mark cell its.1)
 
-  -- it can be taken
+  -- it can be counted
   pub takes_some : TracksSome met.tracker met.mark
   takes_some = record {
     cells = take mark history;
@@ -56,7 +56,7 @@ module _ (met : MetCells) (history : List Cell) (mark : ℕ) (w : HasMet met his
     few = omega (arith, length-take-le mark history w.within, its.1, w.short);
   }
 
-  -- it was taken
+  -- it was counted
   pub met_taken : (met_new : MetCells) → met_new.waiting.items ≡ rest → met_new.mark ≡ met.mark + 1
       → ((cells : List Cell) → Tracks met.tracker cells → length cells ≡ met.mark → Tracks met_new.tracker (cells ++ cell ∷ [])) → HasMet met_new history (met.mark + 1)
   met_taken met_new left next tracks =
@@ -72,7 +72,7 @@ module _ (met : MetCells) (history : List Cell) (mark : ℕ) (w : HasMet met his
       behind : rest ≡ drop (mark + 1) history
       behind = ap (drop 1) (sym front ∙ w.waits) ∙ (drop-drop 1 mark history ∙ ap (λ (n : ℕ). drop n history) (let same : mark + 1 ≡ mark + 1 = refl in same))
 
--- a rule without lines has none
+-- a rule without lines per packet has none
 placed_none : (conf : InfoConf) (history cells : List Cell) → placed_after (info_rule conf) history cells ≡ []
 placed_none conf history [] = refl
 placed_none conf history (Live packet labels ∷ cells) = placed_none conf (history ++ Live packet labels ∷ []) cells

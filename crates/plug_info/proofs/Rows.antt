@@ -11,7 +11,7 @@ use Rattle.plug_info.specs.InfoTexts.{component_text, hundredths, percent, pid_t
 use Rattle.plug_info.specs.PcrRate.{rate_over}
 use Rattle.plug_info.specs.SdtInForce.{name_in}
 
--- 90 positions in a hundredth of a second; a clock that stands still and one that is too fast tell none
+-- 90 positions in a hundredth of a second; a clock that stands still and one that is too fast give no rate
 rate-row : rate_over 90 270000 ≡ Some 13536000
 rate-row = refl
 
@@ -21,11 +21,11 @@ rate-none = refl
 rate-beyond : rate_over 90 1 ≡ None
 rate-beyond = refl
 
--- a PCR that begins again at 0
+-- a PCR that wraps to 0
 wrap-row : units_behind 2576980377500 200 ≡ 300
 wrap-row = refl
 
--- shares are rounded down, and nothing has a share of nothing
+-- shares are rounded down, and any share of nothing is 0
 share-row : percent (hundredths 1 3) ≡ codes "33.33%"
 unfolding digits
 share-row = refl
@@ -38,7 +38,7 @@ share-none : percent (hundredths 0 0) ≡ codes "0.00%"
 unfolding digits
 share-none = refl
 
--- a name in ASCII, one behind 0x15, one of another table, and one with a quotation mark
+-- a name in ASCII, one after 0x15, one in another character table, and one with a quotation mark
 plain-row : shown (codes "BBC 1") ≡ codes "\"BBC 1\""
 plain-row = refl
 
@@ -54,7 +54,7 @@ quote-row : shown (codes "a\"b") ≡ codes "0x612262"
 unfolding encode_with
 quote-row = refl
 
--- a service_descriptor, and one whose name is cut
+-- a service_descriptor, and one whose name is truncated
 abbrev body : List ℕ
 body = 0x01 ∷ 0x03 ∷ (codes "BBC" ++ (0x01 ∷ codes "1"))
 
@@ -69,7 +69,7 @@ tail-row : service_tail 4096 None (portion_text (record { whole = 4; rate = Some
 unfolding digits
 tail-row = refl
 
--- a component that two services have, and a PID of a table, where no PCR tells a rate
+-- a component that two services have, and a PID of a table, without a rate
 component-row : component_text (record { whole = 8; rate = None }) 256 1 27 (codes " codec AVC") (record { packets = 4; scrambled = 1; faults = 2 }) 2
     ≡ codes "component 256 service 1 stream_type 27 (AVC video) codec AVC packets 4 share 50.00% bitrate none scrambled 1 faults 2 shared 2"
 unfolding digits
@@ -80,7 +80,7 @@ pid-row : pid_text 17 (codes "SDT") (portion_text (record { whole = 8; rate = No
 unfolding digits
 pid-row = refl
 
--- an SDT of another stream than the PAT's is said, and one of the same stream is not
+-- an SDT of another transport stream than the PAT's is reported, and one of the same is not
 sdt-row : sdt_texts (Some 1) (Some 2) ≡ codes "sdt of transport_stream_id 2" ∷ []
 unfolding digits
 sdt-row = refl
@@ -88,14 +88,14 @@ sdt-row = refl
 sdt-same : sdt_texts (Some 1) (Some 1) ≡ []
 sdt-same = refl
 
--- arrays of none and of two
+-- arrays of no items and of two
 array-none : array [] ≡ codes "[]"
 array-none = refl
 
 array-two : array (codes "1" ∷ codes "2" ∷ []) ≡ codes "[1,2]"
 array-two = refl
 
--- a name that is a text, bytes of another table, a quotation mark, and no name
+-- a name that is a text, bytes in another character table, a quotation mark, and no name
 json-plain : bytes_field (codes "name") (Some (codes "BBC 1")) ≡ codes "\"name\":\"BBC 1\""
 json-plain = refl
 
@@ -110,7 +110,7 @@ json-quote = refl
 json-none : bytes_field (codes "name") None ≡ codes "\"name\":null"
 json-none = refl
 
--- a component with a language and no codec, which two services have, where no PCR tells a rate
+-- a component with a language and no codec, which two services have, without a rate
 json-component : component_json (record { whole = 8; rate = None }) 256 3 (record { tag = 0x0A; body = codes "eng" ++ (0 ∷ []) } ∷ []) (record { packets = 4; scrambled = 1; faults = 2 }) 2
     ≡ codes "{\"pid\":256,\"stream_type\":3,\"stream_type_name\":\"MPEG-1 audio\",\"languages\":[\"eng\"],\"codecs\":[],\"packets\":4,\"bitrate\":null,\"scrambled\":1,\"faults\":2,\"services\":2}"
 unfolding digits numbers_below

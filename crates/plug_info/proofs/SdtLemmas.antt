@@ -1,4 +1,4 @@
--- The SDT in force, one packet after another.
+-- Lemmas on the SDT in force, packet by packet.
 use Rattle.std.proofs.Common.{◌≡◌, ℕ, ◌==◌, ◌&&◌, false, List, [], ◌∷◌, ◌++◌, Option, None, sym, ◌∙◌, ap}
 use Rattle.std.specs.Prelude.{fold, is_some, not, option_map}
 use Rattle.std.proofs.lemmas.List.Sums.{fold-append}
@@ -33,7 +33,7 @@ unfolding sdt_of last_found
 sdt-more fed packet tables completes =
     ap (last_found current_sdt) completes ∙ fold-append (λ (old : Option TableHolding) (table : List (List ℕ)). newer old (current_sdt table)) None (tables_on 17 fed) tables
 
--- a packet of another PID counts for none
+-- a packet on another PID does not count
 apart : (packet : List ℕ) → (pid_of packet == 17) ≡ false → counts 17 packet ≡ false
 apart packet other = ap (λ b. b && ((scrambling_of packet == 0) && (not (error_indicator_of packet) && is_some (payload_start_of packet)))) other
 

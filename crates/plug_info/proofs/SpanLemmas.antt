@@ -1,4 +1,4 @@
--- The clocks of PIDs, one cell after another.
+-- Lemmas on the PCRs of PIDs, cell by cell.
 use Rattle.std.proofs.Common.{◌≡◌, ℕ, ◌+◌, ◌-◌, ◌<◌, List, [], ◌∷◌, ◌++◌, length, map, filter, get_or, set, ap, ap₂, sym, subst, ◌∙◌, inl, inr, refl, Bool, true, false, ◌&&◌, if◌then◌else◌, ◌==◌, append_assoc, append-nil, Option, None, Some, arith, length-set, get_or-set_same, get_or-set_other, eq-eqb}
 use Rattle.std.specs.List.{fold, sum}
 use Rattle.std.specs.Option.{option_or}
@@ -24,7 +24,7 @@ use Rattle.plug_info.specs.declared.clock_span.ClockSpan.{ClockSpan}
 use Rattle.plug_info.specs.declared.clock_span.MetClock.{MetClock}
 use Rattle.plug_info.specs.declared.spans.Spans.{Spans}
 
--- the ways with one packet more
+-- the intervals with one more packet
 ways-more : (first : Met) (rows : List Met) (x : Met) → ways_behind first (rows ++ x ∷ []) ≡ ways_behind first rows ++ way_between (last_behind first rows) x
 ways-more first [] x = append-nil (way_between first x)
 ways-more first (row ∷ rows) x =
@@ -35,7 +35,7 @@ last-more : (first : Met) (rows : List Met) (x : Met) → last_behind first (row
 last-more first [] x = refl
 last-more first (row ∷ rows) x = last-more row rows x
 
--- sums over two lists of ways
+-- sums over two lists of intervals
 positions-append : (xs ys : List Way) → positions_in (xs ++ ys) ≡ positions_in xs + positions_in ys
 positions-append xs ys =
     ap sum (map-append (λ (w : Way). w.positions) xs ys) ∙ sum_by-append (λ (x : ℕ). x) (map (λ (w : Way). w.positions) xs) (map (λ (w : Way). w.positions) ys)
@@ -47,7 +47,7 @@ units-append xs ys =
 zero-add : (n : ℕ) → 0 + n ≡ n
 zero-add n = omega arith
 
--- the parts of one way
+-- the parts of one interval
 way-positions : (before row : Met) → positions_in (way_between before row) ≡ (way_parts (Some (met_clock before)) (met_clock row) (discontinuity_of row.packet)).0
 way-positions before row =
     elim (discontinuity_of row.packet) as (λ b. positions_in (if b then [] else (let w : Way = record { positions = row.at - before.at; units = units_behind (clock_of before.packet) (clock_of row.packet) } in w) ∷ [])
@@ -72,7 +72,7 @@ parts last last_new p p_new u u_new a b c =
     ∙ (ap (λ (x : ℕ). let s : ClockSpan = record { last = last_new; positions = x; units = u } in s) b
     ∙ ap (λ (x : ℕ). let s : ClockSpan = record { last = last_new; positions = p_new; units = x } in s) c)
 
--- what is kept with one packet more
+-- what is kept with one more packet
 pub span-more : (rows : List Met) (row : Met) → span_of (rows ++ row ∷ []) ≡ span_with (span_of rows) (met_clock row) (discontinuity_of row.packet)
 span-more [] row = refl
 span-more (first ∷ rows) row =
@@ -85,11 +85,11 @@ span-more (first ∷ rows) row =
     ∙ (units-append (ways_behind first rows) (way_between (last_behind first rows) row)
     ∙ ap (λ (n : ℕ). units_in (ways_behind first rows) + n) (way-units (last_behind first rows) row)))
 
--- what stands at a position
+-- a packet at a position, with its position
 row_at : ℕ → List ℕ → ℕ → Met
 row_at at packet labels = record { at = at; packet = packet; labels = labels }
 
--- the packets with a PCR on a PID with one cell more
+-- the packets with a PCR on a PID with one more cell
 clocks_on-live : (pid : ℕ) (history : List Cell) (packet : List ℕ) (labels : ℕ)
     → clocks_on pid (history ++ Live packet labels ∷ [])
     ≡ clocks_on pid history ++ (if (pid_of packet == pid) && has_pcr_of packet then row_at (length history) packet labels ∷ [] else [])
@@ -114,7 +114,7 @@ and-no : (a b : Bool) → b ≡ false → (a && b) ≡ false
 and-no true b e = e
 and-no false b e = refl
 
--- no PCR was met
+-- no PCR yet
 pub spans_none : (spans : Spans) → length spans.spans.items ≡ PID_COUNT → ((pid : ℕ) → get_or spans.spans.items pid no_span ≡ no_span) → AreSpans spans []
 spans_none spans whole none = record { whole = whole; each = λ pid below. none pid }
 
@@ -179,7 +179,7 @@ span_is_of spans packet cells kept span met pid breaks is kept_is pid_is count c
     (ap (λ (n : ℕ). let m : MetClock = record { at = n; clock = met.clock } in m) (sym count) ∙ ap (λ (k : ℕ). let m : MetClock = record { at = length cells; clock = k } in m) clock)
     ∙ ap (λ (b : Bool). span_with (get_or spans.spans.items (pid_of packet) no_span) (let m : MetClock = record { at = length cells; clock = clock_of packet } in m) b) breaks_is))
 
--- the rate with one PID more
+-- the rate with one more PID
 pub rate_more : (cells : List Cell) (pid : ℕ) (rate rate_new on : Option ℕ)
     → rate ≡ fold (λ (r : Option ℕ) (q : ℕ). option_or r (rate_on q cells)) None (numbers_below pid) → on ≡ rate_on pid cells → rate_new ≡ option_or rate on
     → rate_new ≡ fold (λ (r : Option ℕ) (q : ℕ). option_or r (rate_on q cells)) None (numbers_below (pid + 1))
@@ -190,7 +190,7 @@ rate_more cells pid rate rate_new on so_far on_is is =
     ∙ (sym (fold-append step None (numbers_below pid) (pid ∷ []))
     ∙ ap (fold step None) (sym (numbers_below_more pid))))
 
--- what was set on the packet's PID
+-- what was set for the packet's PID
 pub set_at : (spans spans_new : Spans) (packet : List ℕ) (pid : ℕ) (span : ClockSpan) → pid ≡ pid_of packet → spans_new.spans.items ≡ set spans.spans.items pid span
     → spans_new.spans.items ≡ set spans.spans.items (pid_of packet) span
 set_at spans spans_new packet pid span pid_is is = is ∙ ap (λ (q : ℕ). set spans.spans.items q span) pid_is

@@ -1,4 +1,4 @@
--- What is known of the cells that were taken, one cell after another.
+-- Lemmas on what is kept of the cells that were counted, cell by cell.
 use Rattle.std.proofs.Common.{ℕ, List, [], ◌∷◌, ◌++◌, sym, subst}
 use Rattle.ts_packet.specs.declared.cell.Cell.{Cell}
 use Rattle.ts_packet.specs.Cells.{Live, Dropped, live_packets}
@@ -14,7 +14,7 @@ use Rattle.plug_info.specs.declared.tracker.Tracker.{Tracker}
 use Rattle.plug_info.proofs.CountLemmas.{are_whole, counted_dropped, live-dropped, live-live}
 use Rattle.plug_info.proofs.SpanLemmas.{spans_dropped}
 
--- each table has its places
+-- each table has its entries
 pub is_ready : (t : Tracker) (cells : List Cell) → Tracks t cells → IsReady t
 is_ready t cells w = record { totals = are_whole t.totals cells w.counted; spans = w.spans_are.whole }
 

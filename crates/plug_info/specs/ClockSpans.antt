@@ -12,12 +12,12 @@ use Rattle.plug_info.specs.declared.clock_span.ClockSpan.{ClockSpan}
 use Rattle.plug_info.specs.declared.clock_span.MetClock.{MetClock}
 use Rattle.plug_info.specs.declared.spans.Spans.{Spans}
 
--- the positions and units from the last PCR to one that is met
+-- the positions and units from the last PCR to the next one; both 0 across a discontinuity, and before the first PCR
 abbrev pub way_parts : Option MetClock → MetClock → Bool → ℕ × ℕ
 way_parts None met breaks = (0, 0)
 way_parts (Some last) met breaks = if breaks then (0, 0) else (met.at - last.at, units_behind last.clock met.clock)
 
--- what is kept with one PCR more
+-- what is kept after one more PCR
 abbrev pub span_with : ClockSpan → MetClock → Bool → ClockSpan
 span_with span met breaks = record {
   last = Some met;
@@ -25,20 +25,20 @@ span_with span met breaks = record {
   units = span.units + (way_parts span.last met breaks).1;
 }
 
--- no PCR was met
+-- no PCR yet
 abbrev pub no_span : ClockSpan
 no_span = record { last = None; positions = 0; units = 0 }
 
--- of a packet with a PCR its position and its PCR
+-- the position and the PCR of a packet with a PCR
 abbrev pub met_clock : Met → MetClock
 met_clock row = record { at = row.at; clock = clock_of row.packet }
 
--- the last of a row and those that follow it
+-- the last of a packet and those after it
 abbrev pub last_behind : Met → List Met → Met
 last_behind first [] = first
 last_behind first (row ∷ rows) = last_behind row rows
 
--- the last row, where there is one
+-- the last packet, if there is one
 abbrev pub last_row : List Met → Option Met
 last_row [] = None
 last_row (first ∷ rows) = Some (last_behind first rows)
@@ -51,7 +51,7 @@ span_of rows = record {
   units = units_in (ways_of rows);
 }
 
--- of each PID that of its packets with a PCR is kept
+-- what is kept of each PID is that of its packets with a PCR
 pub record AreSpans (spans : Spans) (cells : List Cell) : Type 0 where
   pub whole : length spans.spans.items ≡ PID_COUNT
   pub each : (pid : ℕ) → pid < PID_COUNT → slice_index_or spans.spans.items pid no_span ≡ span_of (clocks_on pid cells)

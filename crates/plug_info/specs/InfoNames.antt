@@ -1,8 +1,8 @@
--- Names of stream types, of PIDs that tables have, and of codecs that descriptors tell.
--- ISO/IEC 13818-1, table 2-34 and 2.4.3.3; ETSI EN 300 468, 5.1.3, 6.1 and annex D. The words are this project's own.
+-- Names of stream types, of the PIDs of tables, and of codecs that descriptors identify. ISO/IEC 13818-1, table 2-34
+-- and 2.4.3.3; ETSI EN 300 468, 5.1.3, 6.1 and annex D. The names are this project's own.
 use Rattle.std.specs.Prelude.{ℕ, ◌==◌, List, [], ◌∷◌, Option, None, Some, codes, if◌then◌else◌}
 
--- the text of the first row with a number
+-- the name in the first row with this number
 abbrev pub text_for : List (ℕ × List ℕ) → ℕ → Option (List ℕ)
 text_for [] n = None
 text_for (row ∷ rows) n = if row.0 == n then Some row.1 else text_for rows n
@@ -35,7 +35,7 @@ stream_type_names = (0x01, codes "MPEG-1 video")
     ∷ (0x33, codes "VVC video")
     ∷ []
 
--- descriptors that name a codec or what a component has
+-- descriptors that identify a codec or the kind of a component
 abbrev pub codec_names : List (ℕ × List ℕ)
 codec_names = (0x28, codes "AVC")
     ∷ (0x2B, codes "MPEG-2 AAC")
@@ -48,7 +48,7 @@ codec_names = (0x28, codes "AVC")
     ∷ (0x7C, codes "AAC")
     ∷ []
 
--- PIDs that the standards give to tables, and that of null packets
+-- PIDs that the standards assign to tables, and that of null packets
 abbrev pub pid_names : List (ℕ × List ℕ)
 pid_names = (0, codes "PAT")
     ∷ (1, codes "CAT")

@@ -1,6 +1,5 @@
--- The rule of `info`: what is in a stream, on one screen.
--- This project's own rule, over the header fields of ISO/IEC 13818-1, 2.4.3.2, the tables of 2.4.4.3 and 2.4.4.8, and
--- the SDT of ETSI EN 300 468, 5.2.3.
+-- The rule of `info`: what is in a stream, on one screen. This project's own rule, over the header fields of ISO/IEC
+-- 13818-1, 2.4.3.2, the tables of 2.4.4.3 and 2.4.4.8, and the SDT of ETSI EN 300 468, 5.2.3.
 use Rattle.std.specs.Prelude.{ℕ, ◌+◌, ◌==◌, ◌&&◌, Bool, false, not, List, [], ◌∷◌, ◌++◌, length, map, filter, fold, count_by, drop, Option, None, Some, option_map, unwrap_or, codes, if◌then◌else◌}
 use Rattle.std.specs.List.{flat_map, list_any}
 use Rattle.ts_packet.specs.declared.cell.Cell.{Cell}
@@ -31,7 +30,7 @@ numbers_on pid cells = record {
   faults = count_by (λ q. q == pid) (fault_pids cells);
 }
 
--- all packets, and the bit rate of the stream: what shares are of
+-- the number of all packets, and the bit rate of the stream: shares are parts of these
 abbrev pub scene_of : List Cell → Scene
 scene_of cells = record { whole = length (live_packets cells); rate = rate_of cells }
 
@@ -64,7 +63,7 @@ abbrev pub pcr_pid_in : Option TableHolding → Option ℕ
 pcr_pid_in None = None
 pcr_pid_in (Some pmt) = first_number pmt.body.values
 
--- the packets of a service: those on the PIDs of its components, each PID once
+-- the number of packets of a service: those on the PIDs of its components, each PID once
 abbrev pub service_packets : Option TableHolding → List (List ℕ) → ℕ
 service_packets pmt packets = fold (λ n pid. n + (if has_component pmt pid then packets_on pid packets else 0)) 0 (numbers_below PID_COUNT)
 
@@ -75,7 +74,7 @@ component_line cells service x =
     component_text (scene_of cells) pid service (unwrap_or (first_number x.values) 0) (marks_text x.descriptors) (numbers_on pid cells)
     (users_of (live_packets cells) pid)
 
--- the line of an entry of the PAT in force, with what the SDT in force tells of it
+-- the line of an entry of the PAT in force, with its description in the SDT in force
 abbrev pub service_line : List Cell → ℕ × ℕ → List ℕ
 service_line cells service =
     let body = service_body (sdt_of (live_packets cells)) service.0 in
@@ -88,18 +87,19 @@ abbrev pub service_lines : List Cell → ℕ × ℕ → List (List ℕ)
 service_lines cells service =
     service_line cells service ∷ map (component_line cells service.0) (items_in (pmt_of service.0 (live_packets cells)))
 
--- what a PID is, that no component has: that of a PMT, one that the standards give to tables, or none of these
+-- the use of a PID that no component has: that of a PMT, that of a table by the standards, or none of these
 abbrev pub use_of : List (List ℕ) → ℕ → List ℕ
 use_of packets pid = if names (pat_of packets) pid then codes "PMT" else unwrap_or (text_for pid_names pid) (codes "unnamed")
 
--- the line of a PID that has packets and is no component's
+-- the line of a PID that has packets and is not a component's
 abbrev pub pid_lines : List Cell → ℕ → List (List ℕ)
 pid_lines cells pid =
     if not (packets_on pid (live_packets cells) == 0) && (users_of (live_packets cells) pid == 0)
     then pid_text pid (use_of (live_packets cells) pid) (portion_text (scene_of cells) (packets_on pid (live_packets cells))) (numbers_on pid cells) ∷ []
     else []
 
--- what is said of a list of cells: the stream, the services of the PAT in force with their components, and the other PIDs
+-- the report on a list of cells: the stream, the services of the PAT in force with their components, and the other
+-- PIDs
 abbrev pub info_on : List Cell → List (List ℕ)
 info_on cells =
     (stream_text (stream_numbers cells)
@@ -121,14 +121,14 @@ service_object cells service =
     (portion_json (scene_of cells) (service_packets pmt (live_packets cells)))
     (array (map (component_object cells) (items_in pmt)))
 
--- the object of a PID that has packets and is no component's
+-- the object of a PID that has packets and is not a component's
 abbrev pub pid_objects : List Cell → ℕ → List (List ℕ)
 pid_objects cells pid =
     if not (packets_on pid (live_packets cells) == 0) && (users_of (live_packets cells) pid == 0)
     then pid_json pid (use_of (live_packets cells) pid) (portion_json (scene_of cells) (packets_on pid (live_packets cells))) (numbers_on pid cells) ∷ []
     else []
 
--- the same of a list of cells as one JSON object
+-- the report on a list of cells as one JSON object
 abbrev pub json_on : List Cell → List ℕ
 json_on cells =
     whole_json (stream_json (stream_numbers cells))
@@ -136,11 +136,11 @@ json_on cells =
     (array (map (service_object cells) (services_in (pat_of (live_packets cells)))))
     (array (flat_map (pid_objects cells) (numbers_below PID_COUNT)))
 
--- what is said of a list of cells in the form that is wanted
+-- the report on a list of cells in the form that is wanted
 abbrev pub report_in : Bool → List Cell → List (List ℕ)
 report_in json cells = if json then json_on cells ∷ [] else info_on cells
 
--- every packet passes, and the summary tells of them
+-- every packet passes, and the summary is the report on them
 abbrev pub info_rule : InfoConf → PluginRule
 info_rule conf = record {
   outcome_of = λ _ packet _. passes packet;

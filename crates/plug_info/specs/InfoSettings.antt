@@ -1,7 +1,6 @@
--- Lawful settings of `info`.
--- This project's own rule.
+-- Valid settings of `info`. This project's own rule.
 use Rattle.plug_info.specs.declared.info_conf.InfoConf.{InfoConf}
 
--- both settings are
+-- both values of its setting are valid
 abbrev pub IsLawfulInfo : InfoConf → Type 0
 IsLawfulInfo c = Unit {0}

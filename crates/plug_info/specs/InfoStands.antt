@@ -9,10 +9,10 @@ use Rattle.plug_info.specs.declared.info.Info.{Info}
 abbrev pub conf_of : Info → InfoConf
 conf_of s = record { json = s.json }
 
--- whether memory was wanting
+-- whether a step ran out of memory
 abbrev pub has_failed : Info → Bool
 has_failed s = s.failed
 
--- the cells were met, and this is the greatest mark
+-- these cells were processed, and this is the greatest mark
 abbrev pub StandsFor : Info → List Cell → ℕ → Type 0
 StandsFor s history mark = HasMet s.met history mark

@@ -13,16 +13,16 @@ use Rattle.plug_info.specs.declared.pid_numbers.PidNumbers.{PidNumbers}
 use Rattle.plug_info.specs.declared.scene.Scene.{Scene}
 use Rattle.plug_info.specs.declared.stream_numbers.StreamNumbers.{StreamNumbers}
 
--- A byte that may stand in a text between quotation marks: neither a control character of ASCII nor a quotation mark or
--- a backslash.
+-- A byte that may stand in a text in quotation marks: not a control character of ASCII, a quotation mark or a
+-- backslash.
 abbrev pub is_plain : ℕ → Bool
 is_plain byte = nat_le 0x20 byte && (not (byte == 0x22) && (not (byte == 0x5C) && not (byte == 0x7F)))
 
--- bytes as hexadecimal digits behind `0x`
+-- bytes as hexadecimal digits after `0x`
 abbrev pub hex_text : List ℕ → List ℕ
 hex_text bytes = codes "0x" ++ encode_lower bytes
 
--- a text between quotation marks, where all its bytes are plain, else the bytes that it stands for
+-- a text in quotation marks, if all its bytes are plain, else the bytes that it was read from, as digits
 abbrev pub quoted_or_hex : List ℕ → Option (List ℕ) → List ℕ
 quoted_or_hex bytes None = hex_text bytes
 quoted_or_hex bytes (Some text) = if list_all is_plain text then codes "\"" ++ (text ++ codes "\"") else hex_text bytes
@@ -31,7 +31,7 @@ quoted_or_hex bytes (Some text) = if list_all is_plain text then codes "\"" ++ (
 abbrev pub shown : List ℕ → List ℕ
 shown bytes = quoted_or_hex bytes (text_of bytes)
 
--- bytes or a number that may be missing
+-- bytes, or `none`; a number, or `none`
 abbrev pub shown_or_none : Option (List ℕ) → List ℕ
 shown_or_none None = codes "none"
 shown_or_none (Some bytes) = shown bytes
@@ -40,14 +40,14 @@ abbrev pub number_or_none : Option ℕ → List ℕ
 number_or_none None = codes "none"
 number_or_none (Some n) = decimal n
 
--- a share in hundredths of a percent, rounded down
+-- a share in hundredths of a percent, rounded down; 0 of nothing
 abbrev pub hundredths : ℕ → ℕ → ℕ
 hundredths part whole = if whole == 0 then 0 else part * 10000 / whole
 
 abbrev pub percent : ℕ → List ℕ
 percent h = decimal (h / 100) ++ (codes "." ++ (decimal (h / 10 % 10) ++ (decimal (h % 10) ++ codes "%")))
 
--- the part of the stream's bit rate that so many of all its packets take, rounded down
+-- the part of the stream's bit rate for so many of all its packets, rounded down, in bits per second
 abbrev pub rate_part : ℕ → ℕ → ℕ → ℕ
 rate_part rate part whole = if whole == 0 then 0 else rate * part / whole
 
@@ -60,8 +60,8 @@ abbrev pub portion_text : Scene → ℕ → List ℕ
 portion_text scene packets = codes " packets " ++ (decimal packets ++ (codes " share " ++ (percent (hundredths packets scene.whole)
     ++ (codes " bitrate " ++ rate_text scene.rate packets scene.whole))))
 
--- `stream packets <n> bytes <n> transport_stream_id <id> bitrate <n> nulls <n> share <percent> errored <n> scrambled <n>
--- faults <n>`
+-- the line of the stream: `stream packets <n> bytes <n> transport_stream_id <id> bitrate <n> nulls <n> share
+-- <percent> errored <n> scrambled <n> faults <n>`; first its half up to the bit rate
 abbrev pub stream_head : StreamNumbers → List ℕ
 stream_head s = codes "stream packets " ++ (decimal s.packets ++ (codes " bytes " ++ (decimal (s.packets * PACKET_SIZE)
     ++ (codes " transport_stream_id " ++ (number_or_none s.stream_id ++ (codes " bitrate " ++ number_or_none s.rate))))))
@@ -74,30 +74,31 @@ stream_tail s = codes " nulls " ++ (decimal s.nulls ++ (codes " share " ++ (perc
 abbrev pub stream_text : StreamNumbers → List ℕ
 stream_text s = stream_head s ++ stream_tail s
 
--- `sdt of transport_stream_id <id>`, where that is another than the PAT's
+-- `sdt of transport_stream_id <id>`, if it is another one than the PAT's
 abbrev pub sdt_texts : Option ℕ → Option ℕ → List (List ℕ)
 sdt_texts None sdt = []
 sdt_texts (Some pat) None = []
 sdt_texts (Some pat) (Some sdt) = if pat == sdt then [] else (codes "sdt of transport_stream_id " ++ decimal sdt) ∷ []
 
--- `service <id> type <n> name <text> provider <text>`, of the body of its service_descriptor
+-- `service <id> type <n> name <text> provider <text>`, from the body of its service_descriptor
 abbrev pub service_head : ℕ → Option (List ℕ) → List ℕ
 service_head id body = codes "service " ++ (decimal id ++ (codes " type " ++ (number_or_none (type_in body)
     ++ (codes " name " ++ (shown_or_none (name_in body) ++ (codes " provider " ++ shown_or_none (provider_in body)))))))
 
--- ` pmt <pid> pcr <pid>` and its portion
+-- ` pmt <pid> pcr <pid>` and its share
 abbrev pub service_tail : ℕ → Option ℕ → List ℕ → List ℕ
 service_tail pmt pcr portion = codes " pmt " ++ (decimal pmt ++ (codes " pcr " ++ (number_or_none pcr ++ portion)))
 
 abbrev pub service_text : ℕ → ℕ → Option (List ℕ) → Option ℕ → List ℕ → List ℕ
 service_text id pmt body pcr portion = service_head id body ++ service_tail pmt pcr portion
 
--- how many bytes each language of a descriptor takes: ISO_639_language_descriptor (ISO/IEC 13818-1, 2.6.18),
--- teletext_descriptor and subtitling_descriptor (ETSI EN 300 468, 6.2.43 and 6.2.41)
+-- the size of an entry with a language, in bytes: ISO_639_language_descriptor (ISO/IEC 13818-1, 2.6.18),
+-- teletext_descriptor and subtitling_descriptor (ETSI EN 300 468, 6.2.43 and 6.2.41); 256, more than any body has,
+-- for other tags
 abbrev pub language_step : ℕ → ℕ
 language_step tag = if tag == 0x0A then 4 else (if tag == 0x56 then 5 else (if tag == 0x59 then 8 else 256))
 
--- whether a language stands at a place of a descriptor's body: a whole entry does
+-- a whole entry begins at this offset of a descriptor's body
 abbrev pub is_entry : ℕ → ℕ → ℕ → Bool
 is_entry step size place = (place % step == 0) && nat_le (place + step) size
 
@@ -106,23 +107,23 @@ abbrev pub language_at : ℕ → List ℕ → ℕ → List ℕ
 language_at step body place =
     if is_entry step (length body) place then codes " language " ++ shown (take 3 (drop place body)) else []
 
--- all of them
+-- the languages of a descriptor's body
 abbrev pub language_texts : ℕ → List ℕ → List ℕ
 language_texts step body = flat_map (language_at step body) (numbers_below (length body))
 
--- ` codec <name>`, where the descriptor names one
+-- ` codec <name>`, if the descriptor names one
 abbrev pub codec_text : Option (List ℕ) → List ℕ
 codec_text None = []
 codec_text (Some name) = codes " codec " ++ name
 
--- what a descriptor of a component tells
+-- the codec and the languages of a descriptor; and those of a list of descriptors
 abbrev pub mark_text : TaggedBody → List ℕ
 mark_text d = codec_text (text_for codec_names d.tag) ++ language_texts (language_step d.tag) d.body
 
 abbrev pub marks_text : List TaggedBody → List ℕ
 marks_text ds = flat_map mark_text ds
 
--- a name, or that it is not known
+-- a name, or `unknown`
 abbrev pub name_or_unknown : Option (List ℕ) → List ℕ
 name_or_unknown None = codes "unknown"
 name_or_unknown (Some name) = name
@@ -131,7 +132,7 @@ name_or_unknown (Some name) = name
 abbrev pub troubles_text : PidNumbers → List ℕ
 troubles_text numbers = codes " scrambled " ++ (decimal numbers.scrambled ++ (codes " faults " ++ decimal numbers.faults))
 
--- ` shared <services>`, where more than one service has it
+-- ` shared <services>`, if more than one service has it
 abbrev pub shared_text : ℕ → List ℕ
 shared_text users = if nat_lt 1 users then codes " shared " ++ decimal users else []
 
@@ -140,14 +141,14 @@ abbrev pub component_head : ℕ → ℕ → ℕ → List ℕ
 component_head pid service kind = codes "component " ++ (decimal pid ++ (codes " service " ++ (decimal service
     ++ (codes " stream_type " ++ (decimal kind ++ (codes " (" ++ (name_or_unknown (text_for stream_type_names kind) ++ codes ")")))))))
 
--- its portion, its troubles, and how many services share it
+-- its share, its scrambled and faulty packets, and how many services share it
 abbrev pub component_tail : Scene → PidNumbers → ℕ → List ℕ
 component_tail scene numbers users = portion_text scene numbers.packets ++ (troubles_text numbers ++ shared_text users)
 
--- both, with its languages and codecs between them
+-- the whole line, with its languages and codecs between both
 abbrev pub component_text : Scene → ℕ → ℕ → ℕ → List ℕ → PidNumbers → ℕ → List ℕ
 component_text scene pid service kind marks numbers users = component_head pid service kind ++ (marks ++ component_tail scene numbers users)
 
--- `pid <pid> (<use>)`, its portion and its troubles
+-- `pid <pid> (<use>)`, its share, its scrambled and faulty packets
 abbrev pub pid_text : ℕ → List ℕ → List ℕ → PidNumbers → List ℕ
 pid_text pid purpose portion numbers = codes "pid " ++ (decimal pid ++ (codes " (" ++ (purpose ++ (codes ")" ++ (portion ++ troubles_text numbers)))))

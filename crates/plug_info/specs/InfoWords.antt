@@ -1,5 +1,4 @@
--- The words of `info`.
--- This project's own rule.
+-- The options of `info`. This project's own rule.
 use Rattle.std.specs.Prelude.{List, [], ◌∷◌, true, codes}
 use Rattle.plug_info.specs.declared.info_conf.InfoConf.{InfoConf}
 use Rattle.option_words.specs.Options.{OptionRow, flag, has_flag}
@@ -9,7 +8,7 @@ use Rattle.option_words.specs.OptionTable.{OptionTable}
 abbrev pub info_rows : List OptionRow
 info_rows = record { name = codes "json"; kind = flag } ∷ []
 
--- nothing has to be given
+-- no option is mandatory
 abbrev pub info : OptionTable InfoConf
 info = record {
   rows = info_rows;

@@ -1,4 +1,5 @@
--- How the array of languages is put together: each with a comma in front, of which the first goes. This project's own rule.
+-- How the code builds the array of languages: each with a comma before it, of which the first is removed. This
+-- project's own rule.
 use Rattle.std.specs.Prelude.{ℕ, List, length}
 use Rattle.std.specs.List.{flat_map}
 use Rattle.ts_bits.specs.TaggedBody.{TaggedBody}
@@ -6,11 +7,11 @@ use Rattle.plugin_notes.specs.PidPackets.{numbers_below}
 use Rattle.plug_info.specs.InfoJson.{behind_comma, language_at}
 use Rattle.plug_info.specs.InfoTexts.{language_step}
 
--- the language at a place, if one stands there
+-- the language at an offset, if an entry begins there, after a comma
 abbrev pub item_at : ℕ → List ℕ → ℕ → List ℕ
 item_at step body place = flat_map behind_comma (language_at step body place)
 
--- all of them
+-- all of them in a body
 abbrev pub items_in : ℕ → List ℕ → List ℕ
 items_in step body = flat_map (item_at step body) (numbers_below (length body))
 

@@ -1,3 +1,4 @@
+-- The definitions of `plug_info`: the rule, texts and state of `info`.
 pub mod ClockSpans
 pub mod Components
 pub mod InfoJson

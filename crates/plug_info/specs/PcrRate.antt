@@ -1,7 +1,6 @@
--- The bit rate of a stream by its program clock references.
--- ISO/IEC 13818-1, 2.4.3.5: a PCR tells the time of its place in the stream in units of 27 MHz, and begins again at its
--- period; behind a discontinuity_indicator (2.4.3.4) the clock is another one. Which PID counts, and that places are
--- positions, is this project's own rule.
+-- The bit rate of a stream by its program clock references. ISO/IEC 13818-1, 2.4.3.5: a PCR is the time of its place
+-- in the stream in units of 27 MHz, and wraps at its period; after a discontinuity_indicator (2.4.3.4) the time base
+-- is another one. Which PID counts, and that places are positions, is this project's own rule.
 use Rattle.std.specs.Prelude.{ℕ, ◌-◌, ◌*◌, ◌/◌, ◌==◌, List, [], ◌∷◌, ◌++◌, map, fold, Option, None, Some, nat_le, if◌then◌else◌}
 use Rattle.std.specs.List.{sum}
 use Rattle.std.specs.Option.{option_or}
@@ -15,47 +14,48 @@ use Rattle.plug_pcr.specs.ClockFaults.{clocks_on}
 use Rattle.plug_pcr.specs.ClockJitter.{units_behind}
 use Rattle.plug_pcr.specs.declared.limits.TheConstants.{MOST_BITRATE, PACKET_UNITS}
 
--- the way from one PCR to the next: so many positions, in so many units of the clock
+-- the interval from one PCR to the next: so many positions, in so many units of the clock
 pub record Way : Type 0 where
   pub positions : ℕ
   pub units : ℕ
 
--- the way from a packet with a PCR to the next one on its PID; there is none across a discontinuity
+-- the interval from a packet with a PCR to the next one on its PID; there is none across a discontinuity
 abbrev pub way_between : Met → Met → List Way
 way_between before row =
     if discontinuity_of row.packet
     then []
     else record { positions = row.at - before.at; units = units_behind (clock_of before.packet) (clock_of row.packet) } ∷ []
 
--- the ways from a packet on, through those behind it
+-- the intervals from a packet on, through those after it
 abbrev pub ways_behind : Met → List Met → List Way
 ways_behind before [] = []
 ways_behind before (row ∷ rows) = way_between before row ++ ways_behind row rows
 
--- the ways between packets with a PCR
+-- the intervals between packets with a PCR
 abbrev pub ways_of : List Met → List Way
 ways_of [] = []
 ways_of (first ∷ rows) = ways_behind first rows
 
--- how many positions they are, and how many units of the clock
+-- the sum of their positions, and the sum of their units
 abbrev pub positions_in : List Way → ℕ
 positions_in ways = sum (map (λ way. way.positions) ways)
 
 abbrev pub units_in : List Way → ℕ
 units_in ways = sum (map (λ way. way.units) ways)
 
--- a bit rate, where it is no greater than the greatest one
+-- a bit rate, unless it is above the greatest one
 abbrev pub rate_within : ℕ → Option ℕ
 rate_within rate = if nat_le rate MOST_BITRATE then Some rate else None
 
--- the whole bits per second of so many positions, each of 188 bytes, in so many units of the clock
+-- the bit rate of so many positions, each of 188 bytes, in so many units of the clock: whole bits per second, rounded
+-- down
 abbrev pub rate_over : ℕ → ℕ → Option ℕ
 rate_over positions units = if units == 0 then None else rate_within (positions * PACKET_UNITS / units)
 
--- the bit rate by the PCRs of a PID, where there are two at least
+-- the bit rate by the PCRs of a PID; there is none if the intervals between them have no units, or if it is too great
 abbrev pub rate_on : ℕ → List Cell → Option ℕ
 rate_on pid cells = rate_over (positions_in (ways_of (clocks_on pid cells))) (units_in (ways_of (clocks_on pid cells)))
 
--- the bit rate: by the PCRs of the least PID that tells one
+-- the bit rate by the PCRs of the lowest PID that has one
 abbrev pub rate_of : List Cell → Option ℕ
 rate_of cells = fold (λ rate pid. option_or rate (rate_on pid cells)) None (numbers_below PID_COUNT)

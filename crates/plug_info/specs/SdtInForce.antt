@@ -1,7 +1,6 @@
--- The SDT in force, and what it tells of a service.
--- ETSI EN 300 468, 5.1.3, 5.2.3 and 6.2.33: the SDT of the actual transport stream is on PID 17 with table_id 0x42, and
--- the service_descriptor, tag 0x48, has the type, the provider and the name of a service. Which table counts is this
--- project's own rule, the same as for a PAT.
+-- The SDT in force, and its description of a service. ETSI EN 300 468, 5.1.3, 5.2.3 and 6.2.33: the SDT of the actual
+-- transport stream is on PID 17 with table_id 0x42, and the service_descriptor, tag 0x48, has the type, the provider
+-- and the name of a service. Which table counts is this project's own rule, the same as for a PAT.
 use Rattle.std.specs.Prelude.{ℕ, ◌==◌, Bool, false, List, [], ◌∷◌, length, take, drop, nat_le, Option, None, Some, if◌then◌else◌}
 use Rattle.ts_bits.specs.TaggedBody.{TaggedBody}
 use Rattle.ts_table_rows.specs.BodyReading.{first_number}
@@ -11,26 +10,26 @@ use Rattle.ts_table_pages.specs.SiPages.{sdt_page}
 use Rattle.plug_psi.specs.InForce.{current_in}
 use Rattle.plug_psi.specs.LastFound.{last_found, tables_on}
 
--- an SDT, where it is of the actual transport stream
+-- an SDT, if it is of the actual transport stream
 abbrev pub of_actual : Option TableHolding → Option TableHolding
 of_actual None = None
 of_actual (Some sdt) = if sdt.head.table_id == 0x42 then Some sdt else None
 
--- the SDT of the actual stream that a table is, where it reads as one and is current
+-- the SDT of the actual transport stream that a table is, if it is a current one
 abbrev pub current_sdt : List (List ℕ) → Option TableHolding
 current_sdt run = of_actual (current_in (read_run sdt_page run))
 
--- The SDT in force after some packets of any PID: the last complete table on PID 17 that is a current SDT of the actual
--- stream.
+-- The SDT in force after some packets of any PID: the last complete table on PID 17 that is a current SDT of the
+-- actual transport stream.
 unfoldable pub sdt_of : List (List ℕ) → Option TableHolding
 sdt_of packets = last_found current_sdt (tables_on 17 packets)
 
--- a field holds this number
+-- a field has this number
 abbrev pub is_number : ℕ → Option ℕ → Bool
 is_number n None = false
 is_number n (Some m) = m == n
 
--- the descriptors of the first item of a number
+-- the descriptors of the first item with this number
 abbrev pub described_in : ℕ → List ItemHolding → List TaggedBody
 described_in id [] = []
 described_in id (x ∷ xs) = if is_number id (first_number x.values) then x.descriptors else described_in id xs
@@ -49,12 +48,12 @@ items_in (Some table) = table.body.items
 abbrev pub service_body : Option TableHolding → ℕ → Option (List ℕ)
 service_body sdt id = body_with 0x48 (described_in id (items_in sdt))
 
--- the bytes behind a number of one byte that says how many they are, where all are there
+-- the bytes after a length of one byte, if all are there
 abbrev pub counted_text : List ℕ → Option (List ℕ)
 counted_text [] = None
 counted_text (n ∷ bytes) = if nat_le n (length bytes) then Some (take n bytes) else None
 
--- what stands behind them
+-- the bytes after these
 abbrev pub behind_text : List ℕ → List ℕ
 behind_text [] = []
 behind_text (n ∷ bytes) = drop n bytes

@@ -1,4 +1,4 @@
--- What was counted by PID, once for each kind of packets. This project's own rule.
+-- The counts by PID, one for each kind of packets. This project's own rule.
 use Rattle.std.specs.Prelude.{List, map, filter}
 use Rattle.ts_packet.specs.declared.cell.Cell.{Cell}
 use Rattle.ts_packet.specs.Cells.{live_packets}
@@ -14,14 +14,14 @@ pub record AreCounted (totals : Totals) (cells : List Cell) : Type 0 where
   pub faults : IsCounted totals.faults (fault_pids cells)
   pub errored : IsCounted totals.errored (map pid_of (filter error_indicator_of (live_packets cells)))
 
--- one more can be counted
+-- one more packet can be counted
 pub record HasRoom (totals : Totals) : Type 0 where
   pub packets : HasRoomIn totals.packets
   pub scrambled : HasRoomIn totals.scrambled
   pub faults : HasRoomIn totals.faults
   pub errored : HasRoomIn totals.errored
 
--- each tally has a number for each PID
+-- each tally has a count for each PID
 pub record AreWhole (totals : Totals) : Type 0 where
   pub packets : IsWhole totals.packets
   pub scrambled : IsWhole totals.scrambled

@@ -1,4 +1,4 @@
--- What is known of the cells that were taken. This project's own rule.
+-- What the tracker keeps of the cells that count. This project's own rule.
 use Rattle.std.specs.Prelude.{◌≡◌, ◌<◌, ℕ, List, length}
 use Rattle.ts_packet.specs.declared.cell.Cell.{Cell}
 use Rattle.ts_packet.specs.Cells.{live_packets}
@@ -20,14 +20,14 @@ pub record Tracks (tracker : Tracker) (cells : List Cell) : Type 0 where
   pub has_sdt : HasFedSdt tracker.sdt (live_packets cells)
   pub fed : forcing.StandsFor tracker.force (live_packets cells)
 
--- they stand for some list of just so many cells, which may be one more
+-- the parts stand for some list of exactly so many cells, and one more cell is allowed
 pub record TracksSome (tracker : Tracker) (at : ℕ) : Type 0 where
   pub cells : List Cell
   pub tracks : Tracks tracker cells
   pub count : length cells ≡ at
   pub few : length cells < POSITION_LIMIT
 
--- each table has a place for each PID
+-- each table has an entry for each PID
 pub record IsReady (tracker : Tracker) : Type 0 where
   pub totals : AreWhole tracker.totals
   pub spans : length tracker.spans.spans.items ≡ PID_COUNT

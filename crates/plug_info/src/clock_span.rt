@@ -6,7 +6,7 @@ ghost use Rattle.plug_info.specs.ClockSpans.{span_with, way_parts};
 
 use plug_pcr::{CLOCK_PERIOD, MOST_BITRATE, PACKET_UNITS};
 
-/// A PCR that was met.
+/// A PCR and its position.
 #[derive(Clone, Copy, PartialEq, Eq)]
 pub struct MetClock {
     /// The position of its packet.
@@ -18,16 +18,16 @@ pub struct MetClock {
 /// What is kept of the PCRs on a PID.
 #[derive(Clone, Copy, PartialEq, Eq)]
 pub struct ClockSpan {
-    /// The last of them.
+    /// The last PCR, if there was one.
     pub last: Option<MetClock>,
-    /// The positions between them, but for those across a discontinuity.
+    /// The sum of the positions between them, without those across a discontinuity.
     pub positions: u64,
-    /// The units of the clock between them, likewise.
+    /// The sum of the units of the 27 MHz clock between them, without those across a discontinuity.
     pub units: u64,
 }
 
 impl ClockSpan {
-    /// What is kept with one PCR more; none where a sum would pass 64 bits, which is after 20,000 years.
+    /// What is kept after one more PCR; `None` if a sum exceeds 64 bits, which takes 20,000 years.
     pub fn with(&self, met: MetClock, breaks: bool) -> Option<ClockSpan>
         ensures { IfSome result (λ span. span ≡ span_with self.now met breaks) }
     {
@@ -39,7 +39,8 @@ impl ClockSpan {
         })
     }
 
-    /// The bit rate, in bits per second, where there is one.
+    /// The bit rate, in bits per second, rounded down; `None` if there are no units, or if it is above
+    /// 10,000,000,000.
     pub fn rate(&self) -> Option<u64>
         ensures { result ≡ rate_over self.now.positions self.now.units }
     {
@@ -55,7 +56,7 @@ impl ClockSpan {
     }
 }
 
-// The positions and units from the last PCR to one that is met.
+// The positions and units from the last PCR to the next one.
 fn way_to(last: Option<MetClock>, met: MetClock, breaks: bool) -> (u64, u64)
     ensures { result ≡ way_parts last met breaks }
 {
@@ -71,7 +72,7 @@ fn way_to(last: Option<MetClock>, met: MetClock, breaks: bool) -> (u64, u64)
     )
 }
 
-// The units of the clock from one PCR to another, wherever it begins again.
+// The units of the clock from one PCR to another, modulo its period.
 fn units_between(before: u64, clock: u64) -> u64
     ensures { result ≡ units_behind before clock }
 {

@@ -1,3 +1,4 @@
+//! The plugin `info`.
 ghost use Rattle.std.specs.Prelude.{◌≡◌, IfOk, [], None};
 ghost use Rattle.plug_info.specs.InfoRule.{info_rule};
 
@@ -8,9 +9,9 @@ use plugin_trait::{Line, Outcome, Plugin};
 use std::alloc::{AllocError, Global};
 use ts_packet::Cell;
 
-/// Tells what is in the stream: its services by name, their components, and how much of the rate each takes.
+/// Reports what is in the stream: its services by name, their components, and how much of the rate each takes.
 ///
-/// A step may want memory, and then every later step does, and nothing is told.
+/// If a step runs out of memory, every later step does too, and nothing is reported.
 #[derive(Drop)]
 pub struct Info {
     json: bool,
@@ -27,8 +28,8 @@ impl Info {
     ghost use Rattle.plug_info.specs.InfoSettings.{IsLawfulInfo};
     ghost use Rattle.plug_info.specs.InfoStands.{StandsFor, has_failed};
 
-    /// A plugin that met no cell yet. It takes room for its tables, and for as many cells as the buffer holds; the tables
-    /// in force grow with the stream.
+    /// A new plugin, which has processed no cell. It allocates its tables, and room for as many cells as the buffer
+    /// holds; the tables in force grow with the stream.
     pub fn new(alloc: Global, conf: &InfoConf, buffer: usize) -> Result<Info, AllocError>
         requires { IsLawfulInfo conf.now }
         ensures rule { IfOk result (λ plugin. ⟦<Info as Plugin>⟧.rule plugin ≡ info_rule conf.now) }
@@ -43,7 +44,7 @@ impl Info {
         })
     }
 
-    // Meets the next cell, as long as memory was there.
+    // Processes the next cell, unless memory ran out before.
     #[inline]
     fn meet(&mut self, cell: &Cell) -> Result<(), AllocError>
         ensures met { OnOk result ((history : List GivenCell) (mark : ℕ) → StandsFor self.old history mark → length history < POSITION_LIMIT
@@ -76,7 +77,7 @@ impl Plugin for Info {
 
     ghost steady = { λ s. None };
 
-    // Else the loop of `steps` has a call for each cell.
+    // Inlined always: otherwise the loop of `steps` has a call for each cell.
     #[inline(always)]
     fn step(&mut self, _at: u64, cell: &mut Cell) -> Outcome {
         match self.meet(cell) {

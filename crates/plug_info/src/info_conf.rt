@@ -1,6 +1,7 @@
+//! The settings of `info`.
 /// Settings of `info`.
 #[derive(Drop)]
 pub struct InfoConf {
-    /// The summary is one JSON object on one line.
+    /// Whether the summary is one JSON object on one line.
     pub json: bool,
 }

@@ -1,3 +1,4 @@
+//! The options of `info`.
 ghost use Rattle.std.specs.Prelude.{◌≡◌, IfOk};
 ghost use Rattle.clap.specs.Simple.{app_of};
 ghost use Rattle.plug_info.specs.InfoSettings.{IsLawfulInfo};
@@ -13,14 +14,14 @@ use std::alloc::{AllocError, Global};
 // The options of `info`.
 static INFO: [OptionWord; 1] = [OptionWord::Flag("json")];
 
-/// The command of `info`, which has its options.
+/// The command of `info`, with its options.
 pub fn info_command<'a>(alloc: Global) -> Result<Command<'a>, AllocError>
     ensures { IfOk result (λ c. app_of c ≡ command_of info_rows) }
 {
     command_with(alloc, &INFO)
 }
 
-/// Reads the settings of `info` from what its command found in the words.
+/// Reads the settings of `info` from the options that its command found.
 pub fn info_settings(_alloc: Global, found: &ParsedOptions) -> Result<InfoConf, Refusal>
     ensures reads { ReadsParsed info found.now result }
     ensures lawful { IfOk result IsLawfulInfo }

@@ -1,4 +1,4 @@
-//! The summary of what was met, as one JSON object.
+//! The summary of `info` as one JSON object.
 ghost use Rattle.std.specs.Prelude.{◌≡◌, ◌<◌, ◌++◌, ◌∷◌, [], List, IfOk, OnOk, map, option_map};
 ghost use Rattle.std.specs.List.{flat_map};
 ghost use Rattle.std.specs.Option.{option_copied};
@@ -36,7 +36,7 @@ use std::alloc::{AllocError, Global};
 use ts_packet::PID_COUNT;
 use ts_psi::{Component, Pmt};
 
-/// Puts the object behind other lines: the stream, the services in force with their components, and the other PIDs.
+/// Appends the object as a line: the stream, the services in force with their components, and the other PIDs.
 pub fn push_json(lines: &mut Vec<Line>, cut: u64, tracker: &Tracker) -> Result<(), AllocError>
     requires { IsReady tracker.now }
     ensures { OnOk result ((cells : List GivenCell) → Tracks tracker.now cells → lines.new.items ≡ lines.old.items ++ placed_at cut (json_on cells ∷ [])) }
@@ -47,7 +47,7 @@ pub fn push_json(lines: &mut Vec<Line>, cut: u64, tracker: &Tracker) -> Result<(
     Ok(())
 }
 
-// The object.
+// The whole object.
 fn whole_json(alloc: Global, tracker: &Tracker) -> Result<LineText, AllocError>
     requires { IsReady tracker.now }
     ensures { IfOk result (λ text. (cells : List GivenCell) → Tracks tracker.now cells → text ≡ json_on cells) }
@@ -77,7 +77,7 @@ fn stream_json(alloc: Global, s: &StreamNumbers) -> Result<String, AllocError>
     Ok(text)
 }
 
-// Its first half: how much there is.
+// Its first half: numbers of the stream.
 fn stream_head(alloc: Global, s: &StreamNumbers) -> Result<String, AllocError>
     ensures { IfOk result (λ text. string_bytes text ≡ InfoJson.stream_head s.now) }
 {
@@ -91,7 +91,7 @@ fn stream_head(alloc: Global, s: &StreamNumbers) -> Result<String, AllocError>
     Ok(text)
 }
 
-// Its second half: null packets and troubles.
+// Its second half: null packets, errors and faults.
 fn stream_tail(alloc: Global, s: &StreamNumbers) -> Result<String, AllocError>
     ensures { IfOk result (λ text. string_bytes text ≡ InfoJson.stream_tail s.now) }
 {
@@ -114,7 +114,7 @@ fn services_json(alloc: Global, tracker: &Tracker, scene: &Scene) -> Result<Stri
     Ok(text)
 }
 
-// Puts the services behind other items.
+// Appends the services to the items.
 fn push_services(
     alloc: Global,
     items: &mut String,
@@ -158,7 +158,7 @@ fn service_json(
     Ok(text)
 }
 
-// Its first half: what the SDT tells.
+// Its first half: its description in the SDT.
 fn service_head(alloc: Global, id: u16, body: Option<&[u8]>) -> Result<String, AllocError>
     ensures { IfOk result (λ text. string_bytes text ≡ InfoJson.service_head id (option_map (λ b. b.now) body.entry)) }
 {
@@ -169,7 +169,7 @@ fn service_head(alloc: Global, id: u16, body: Option<&[u8]>) -> Result<String, A
     Ok(text)
 }
 
-// Its second half: its PIDs, its portion and its components.
+// Its second half: its PIDs, its share and its components.
 fn service_tail(
     alloc: Global,
     scene: &Scene,
@@ -205,7 +205,7 @@ fn components_json(
     Ok(text)
 }
 
-// The components of a PMT, none where there is none.
+// The components of a PMT; none without one.
 fn components_of(pmt: Option<&Pmt>) -> &[Component]
     ensures { map component_item result.now ≡ items_in (option_map pmt_held (option_copied pmt.entry)) }
 {
@@ -215,7 +215,7 @@ fn components_of(pmt: Option<&Pmt>) -> &[Component]
     }
 }
 
-// Puts components behind other items.
+// Appends components to the items.
 fn push_components(
     alloc: Global,
     items: &mut String,
@@ -254,7 +254,7 @@ fn component_json(
     Ok(text)
 }
 
-// Its beginning: what it is.
+// Its beginning: PID and stream type.
 fn component_head(alloc: Global, pid: u16, kind: u8) -> Result<String, AllocError>
     ensures { IfOk result (λ text. string_bytes text ≡ InfoJson.component_head pid kind) }
 {
@@ -265,7 +265,7 @@ fn component_head(alloc: Global, pid: u16, kind: u8) -> Result<String, AllocErro
     Ok(text)
 }
 
-// Its end: its portion and its troubles, and how many services have it.
+// Its end: its share, its scrambled and faulty packets, and how many services have it.
 fn component_tail(
     alloc: Global,
     scene: &Scene,
@@ -280,7 +280,7 @@ fn component_tail(
     Ok(text)
 }
 
-// The array of the PIDs that have packets and are no component's.
+// The array of the PIDs that have packets and are not a component's.
 fn pids_json(alloc: Global, tracker: &Tracker, scene: &Scene) -> Result<String, AllocError>
     requires { IsReady tracker.now }
     ensures { IfOk result (λ text. (cells : List GivenCell) → Tracks tracker.now cells → scene.now ≡ scene_of cells
@@ -292,7 +292,7 @@ fn pids_json(alloc: Global, tracker: &Tracker, scene: &Scene) -> Result<String, 
     Ok(text)
 }
 
-// Puts them behind other items.
+// Appends them to the items.
 fn push_pids(
     alloc: Global,
     items: &mut String,
@@ -309,7 +309,7 @@ fn push_pids(
     Ok(())
 }
 
-// Puts a PID behind other items, where it has packets and is no component's.
+// Appends a PID to the items, if it has packets and is not a component's.
 fn push_pid(
     alloc: Global,
     items: &mut String,

@@ -1,4 +1,4 @@
-//! What the descriptors of a component tell, as JSON.
+//! The languages and codecs in the descriptors of a component, as JSON.
 ghost use Rattle.std.specs.Prelude.{◌≡◌, ◌≤◌, ◌<◌, ◌++◌, IfOk, OnOk, length, option_map};
 ghost use Rattle.std.specs.List.{flat_map};
 ghost use Rattle.std.specs.String.{string_bytes};
@@ -31,7 +31,7 @@ fn languages_json(alloc: Global, descriptors: &[Descriptor]) -> Result<String, A
     Ok(text)
 }
 
-// The languages, each with a comma in front.
+// The languages, each with a comma before it.
 fn language_items(alloc: Global, descriptors: &[Descriptor]) -> Result<String, AllocError>
     ensures { IfOk result (λ items. string_bytes items ≡ flat_map items_of descriptors.now) }
 {
@@ -42,7 +42,7 @@ fn language_items(alloc: Global, descriptors: &[Descriptor]) -> Result<String, A
     Ok(items)
 }
 
-// Puts the languages of a descriptor behind others.
+// Appends the languages of a descriptor.
 fn push_described(
     alloc: Global,
     items: &mut String,
@@ -55,7 +55,7 @@ fn push_described(
     Ok(())
 }
 
-// Puts the languages of its body behind others.
+// Appends the languages of its body.
 fn push_languages(
     alloc: Global,
     items: &mut String,
@@ -72,7 +72,7 @@ fn push_languages(
     Ok(())
 }
 
-// Puts the language at a place behind others, if one stands there.
+// Appends the language at an offset, if an entry begins there.
 fn push_language(
     alloc: Global,
     items: &mut String,
@@ -102,7 +102,7 @@ fn codecs_json(alloc: Global, descriptors: &[Descriptor]) -> Result<String, Allo
     Ok(text)
 }
 
-// The codecs, each with a comma in front.
+// The codecs, each with a comma before it.
 fn codec_items(alloc: Global, descriptors: &[Descriptor]) -> Result<String, AllocError>
     ensures { IfOk result (λ items. string_bytes items ≡ flat_map (λ d. flat_map behind_comma (codec_in d)) descriptors.now) }
 {
@@ -113,7 +113,7 @@ fn codec_items(alloc: Global, descriptors: &[Descriptor]) -> Result<String, Allo
     Ok(items)
 }
 
-// Puts a codec behind others, if there is one.
+// Appends a codec, if there is one.
 fn push_codec(alloc: Global, items: &mut String, name: Option<&str>) -> Result<(), AllocError>
     ensures { OnOk result (string_bytes items.new ≡ string_bytes items.old ++ flat_map behind_comma (named_codec (option_map (λ n. n.now) name.entry))) }
 {

@@ -1,4 +1,4 @@
-//! Parts of the JSON form.
+//! Parts of the JSON texts.
 ghost use Rattle.std.specs.Prelude.{◌≡◌, ◌++◌, IfOk, OnOk, List, ℕ, option_map};
 ghost use Rattle.std.specs.List.{flat_map};
 ghost use Rattle.std.specs.String.{string_bytes};
@@ -13,7 +13,7 @@ use crate::shown::{are_plain, hex_text};
 use std::alloc::{AllocError, Global};
 use ts_fields::text_of;
 
-/// Puts an item behind others, with a comma in front.
+/// Appends an item after a comma.
 pub fn push_item(items: &mut String, item: &str) -> Result<(), AllocError>
     ensures { OnOk result (string_bytes items.new ≡ string_bytes items.old ++ behind_comma item.now) }
 {
@@ -22,7 +22,7 @@ pub fn push_item(items: &mut String, item: &str) -> Result<(), AllocError>
     Ok(())
 }
 
-/// The array of items, each of which has a comma in front.
+/// The array of items, each of which has a comma before it.
 pub fn array(alloc: Global, items: &str) -> Result<String, AllocError>
     ensures { IfOk result (λ text. (texts : List (List ℕ)) → items.now ≡ flat_map behind_comma texts → string_bytes text ≡ InfoJson.array texts) }
 {
@@ -31,7 +31,7 @@ pub fn array(alloc: Global, items: &str) -> Result<String, AllocError>
     Ok(text)
 }
 
-// The items without the first comma, where there is one.
+// The items without the first comma, if there is one.
 fn without_comma(items: &str) -> &str
     ensures { (texts : List (List ℕ)) → items.now ≡ flat_map behind_comma texts → result.now ≡ joined texts }
 {
@@ -41,7 +41,7 @@ fn without_comma(items: &str) -> &str
     }
 }
 
-/// A number, or that there is none.
+/// A number, or `null`.
 pub fn number_or_null(alloc: Global, number: Option<u64>) -> Result<String, AllocError>
     ensures { IfOk result (λ text. string_bytes text ≡ InfoJson.number_or_null number) }
 {
@@ -52,7 +52,7 @@ pub fn number_or_null(alloc: Global, number: Option<u64>) -> Result<String, Allo
     Ok(text)
 }
 
-/// A name, or that there is none.
+/// A name in quotation marks, or `null`.
 pub fn name_or_null(alloc: Global, name: Option<&str>) -> Result<String, AllocError>
     ensures { IfOk result (λ text. string_bytes text ≡ InfoJson.name_or_null (option_map (λ n. n.now) name.entry)) }
 {
@@ -63,7 +63,7 @@ pub fn name_or_null(alloc: Global, name: Option<&str>) -> Result<String, AllocEr
     Ok(text)
 }
 
-/// A key and its bytes: as a text, as digits, or that there are none.
+/// A key and its bytes: as a text, as digits, or `null`.
 pub fn bytes_field(alloc: Global, key: &str, bytes: Option<&[u8]>) -> Result<String, AllocError>
     ensures { IfOk result (λ text. string_bytes text ≡ InfoJson.bytes_field key.now (option_map (λ b. b.now) bytes.entry)) }
 {
@@ -74,7 +74,7 @@ pub fn bytes_field(alloc: Global, key: &str, bytes: Option<&[u8]>) -> Result<Str
     Ok(text)
 }
 
-// A key and its bytes, as a text where they are one that may stand between quotation marks.
+// A key and its bytes: as a text, if they are one that may stand in quotation marks, else as digits.
 fn text_field(alloc: Global, key: &str, bytes: &[u8]) -> Result<String, AllocError>
     ensures { IfOk result (λ text. string_bytes text ≡ InfoJson.text_field key.now bytes.now (text_that_is bytes.now)) }
 {
@@ -99,7 +99,7 @@ fn hex_field(alloc: Global, key: &str, bytes: &[u8]) -> Result<String, AllocErro
     Ok(field)
 }
 
-/// Bytes between quotation marks, as digits where they are no text that may stand there.
+/// Bytes in quotation marks: as a text, if they are one that may stand there, else as digits.
 pub fn text_or_hex(alloc: Global, bytes: &[u8]) -> Result<String, AllocError>
     ensures { IfOk result (λ text. string_bytes text ≡ InfoJson.text_or_hex bytes.now (text_that_is bytes.now)) }
 {
@@ -115,7 +115,7 @@ pub fn text_or_hex(alloc: Global, bytes: &[u8]) -> Result<String, AllocError>
     Ok(quoted)
 }
 
-// Digits between quotation marks.
+// Digits in quotation marks.
 fn quoted_hex(alloc: Global, bytes: &[u8]) -> Result<String, AllocError>
     ensures { IfOk result (λ text. string_bytes text ≡ InfoJson.quoted_hex bytes.now) }
 {
@@ -124,7 +124,7 @@ fn quoted_hex(alloc: Global, bytes: &[u8]) -> Result<String, AllocError>
     Ok(quoted)
 }
 
-// The part of the stream's bit rate that packets take.
+// The part of the stream's bit rate for so many packets, or `null`.
 fn rate_json(alloc: Global, scene: &Scene, packets: u64) -> Result<String, AllocError>
     ensures { IfOk result (λ text. string_bytes text ≡ InfoJson.rate_json scene.now.rate packets scene.now.whole) }
 {
@@ -144,7 +144,7 @@ pub fn portion_json(alloc: Global, scene: &Scene, packets: u64) -> Result<String
     Ok(text)
 }
 
-/// How many packets are scrambled, and how many have a counter that is a fault.
+/// How many packets are scrambled, and how many have a faulty counter.
 pub fn troubles_json(alloc: Global, numbers: &PidNumbers) -> Result<String, AllocError>
     ensures { IfOk result (λ text. string_bytes text ≡ InfoJson.troubles_json numbers.now) }
 {

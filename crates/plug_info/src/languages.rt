@@ -1,4 +1,4 @@
-//! What the descriptors of a component tell.
+//! The languages and codecs in the descriptors of a component.
 ghost use Rattle.std.specs.Prelude.{◌≡◌, ◌≤◌, ◌<◌, ◌+◌, ◌++◌, [], IfOk, OnOk, length, take, drop, option_map, option_to_list};
 ghost use Rattle.std.specs.String.{string_bytes};
 ghost use Rattle.plug_info.specs.InfoTexts;
@@ -8,10 +8,10 @@ use crate::shown::shown;
 use std::alloc::{AllocError, Global};
 use ts_bits::Descriptor;
 
-/// How many bytes a language code has.
+/// The size of a language code, in bytes.
 const LANGUAGE_SIZE: usize = 3;
 
-/// What the descriptors of a component tell: codecs and languages.
+/// The codecs and languages of a component.
 pub fn marks_text(alloc: Global, descriptors: &[Descriptor]) -> Result<String, AllocError>
     ensures { IfOk result (λ text. string_bytes text ≡ InfoTexts.marks_text descriptors.now) }
 {
@@ -22,7 +22,7 @@ pub fn marks_text(alloc: Global, descriptors: &[Descriptor]) -> Result<String, A
     Ok(text)
 }
 
-// Puts behind a text what a descriptor tells.
+// Appends the codec and the languages of a descriptor to a text.
 fn push_mark(alloc: Global, text: &mut String, descriptor: &Descriptor) -> Result<(), AllocError>
     ensures { OnOk result (string_bytes text.new ≡ string_bytes text.old ++ InfoTexts.mark_text descriptor.now) }
 {
@@ -32,7 +32,7 @@ fn push_mark(alloc: Global, text: &mut String, descriptor: &Descriptor) -> Resul
     Ok(())
 }
 
-// Puts a codec behind a text, if there is one.
+// Appends a codec to a text, if there is one.
 fn push_codec(text: &mut String, name: Option<&str>) -> Result<(), AllocError>
     ensures { OnOk result (string_bytes text.new ≡ string_bytes text.old ++ InfoTexts.codec_text (option_map (λ n. n.now) name.entry)) }
 {
@@ -43,7 +43,7 @@ fn push_codec(text: &mut String, name: Option<&str>) -> Result<(), AllocError>
     Ok(())
 }
 
-/// How many bytes each language of a descriptor takes.
+/// The size of an entry with a language, in bytes; 256, more than any body has, if the tag has none.
 pub fn language_step(tag: u8) -> usize
     ensures step { result ≡ InfoTexts.language_step tag }
     ensures least { 3 ≤ result }
@@ -58,7 +58,7 @@ pub fn language_step(tag: u8) -> usize
     if tag == 0x59 { 8 } else { 256 }
 }
 
-// Puts the languages of a descriptor behind a text.
+// Appends the languages of a descriptor to a text.
 fn push_languages(
     alloc: Global,
     text: &mut String,
@@ -75,7 +75,7 @@ fn push_languages(
     Ok(())
 }
 
-// Puts the language at a place behind a text, if one stands there.
+// Appends the language at an offset to a text, if an entry begins there.
 fn push_language(
     alloc: Global,
     text: &mut String,
@@ -97,7 +97,7 @@ fn push_language(
     Ok(())
 }
 
-/// Whether a language stands at a place.
+/// Whether a whole entry begins at this offset.
 pub fn is_entry(step: usize, size: usize, place: usize) -> bool
     requires least { 3 ≤ step }
     requires most { step ≤ 256 }
@@ -108,7 +108,7 @@ pub fn is_entry(step: usize, size: usize, place: usize) -> bool
     place % step == 0 && place + step <= size
 }
 
-/// The language that stands at a place.
+/// The language at an offset: three bytes.
 pub fn language_in(body: &[u8], place: usize) -> &[u8]
     requires { place + 3 ≤ length body.now }
     ensures { result.now ≡ take 3 (drop place body.now) }

@@ -1,7 +1,7 @@
-//! The plugin `info`: packets come in and pass; what is in the stream comes out as its summary, on one screen or as one
-//! JSON object: the services by name, their components, how much of the rate each takes, and the other PIDs. The layer
-//! above reads settings of words, makes the plugin, and uses it by the clauses of `Plugin`, which hold the summary to the
-//! cells that count.
+//! The plugin `info`. Packets come in and pass; the content of the stream goes out as the summary, on one screen or
+//! as one JSON object: the services by name, their components, how much of the rate each takes, and the other PIDs.
+//! The layer above reads its settings from words, makes the plugin, and uses it by the clauses of `Plugin`, which
+//! relate the summary to the cells that count.
 #![tactic(auto)]
 
 mod clock_span;

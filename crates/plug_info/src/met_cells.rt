@@ -1,4 +1,4 @@
-//! The cells that were met, on their way to be counted.
+//! The cells that are not counted yet.
 ghost use Rattle.std.specs.Prelude.{◌≡◌, ◌∷◌, IfSome};
 
 use crate::tracker::Tracker;
@@ -7,7 +7,7 @@ use plugin_notes::push_note;
 use std::alloc::{AllocError, Global};
 use ts_packet::Cell;
 
-/// The cells from the greatest mark on, which may still stand behind the cut, and what is known of those below it.
+/// The cells from the greatest mark on, which may still stand after the cut, and the tracker of those below it.
 #[derive(Drop)]
 pub struct MetCells {
     waiting: HeapCircularBuffer<Cell>,
@@ -23,7 +23,7 @@ impl MetCells {
     ghost use Rattle.plugin_trait.specs.Marks.{AllowsMark};
     ghost use Rattle.plug_info.specs.MetState.{HasMet};
 
-    /// No cell was met. It takes room for as many cells as the buffer holds.
+    /// No cell yet. It allocates room for as many cells as the buffer holds.
     pub fn new(alloc: Global, buffer: usize) -> Result<MetCells, AllocError>
         ensures { IfOk result (λ met. HasMet met [] 0) }
     {
@@ -36,7 +36,7 @@ impl MetCells {
         })
     }
 
-    /// Meets the next cell. Where the buffer is full it answers `AllocError`.
+    /// Appends the next cell. If the buffer is full it returns `AllocError`.
     #[inline]
     pub fn push(&mut self, cell: &Cell) -> Result<(), AllocError>
         ensures { OnOk result ((history : List GivenCell) (mark : ℕ) → HasMet self.old history mark → length history < POSITION_LIMIT
@@ -46,7 +46,7 @@ impl MetCells {
         push_note(&mut self.waiting, copy)
     }
 
-    /// Takes the cells below a later mark. After `AllocError` no more is to be asked.
+    /// Counts the cells below a later mark. After `AllocError` it is not to be used any more.
     pub fn take_below(&mut self, mark: u64) -> Result<(), AllocError>
         requires { AllowsMark (HasMet self.old) mark }
         ensures { OnOk result ((history : List GivenCell) (before : ℕ) → HasMet self.old history before → before ≤ mark → mark ≤ length history
@@ -63,7 +63,7 @@ impl MetCells {
     }
 }
 
-// Takes the first cell off, where there is one.
+// Removes and returns the first cell, if there is one.
 #[inline]
 fn next_cell(waiting: &mut HeapCircularBuffer<Cell>) -> Option<Cell>
     ensures { IfSome result (λ cell. waiting.old.items ≡ cell ∷ waiting.new.items) }

@@ -1,4 +1,4 @@
-//! Names of numbers.
+//! Names of stream types, codecs and PIDs.
 ghost use Rattle.std.specs.Prelude.{◌≡◌, map, option_map};
 ghost use Rattle.plug_info.specs.InfoNames.{codec_names, pid_names, stream_type_names, text_for};
 ghost use Rattle.plug_info.specs.NameRows.{named};
@@ -6,7 +6,7 @@ ghost use Rattle.plug_info.specs.NameRows.{named};
 /// A number and its name.
 #[derive(Clone, Copy)]
 pub enum NameRow<'a> {
-    /// This number has this name.
+    /// A number with its name.
     Named(u16, &'a str),
 }
 
@@ -38,7 +38,7 @@ static STREAM_TYPES: [NameRow; 24] = [
     NameRow::Named(0x33, "VVC video"),
 ];
 
-// Names of what descriptors tell of a component.
+// Names of codecs and kinds of components, by descriptor tag.
 static CODECS: [NameRow; 9] = [
     NameRow::Named(0x28, "AVC"),
     NameRow::Named(0x2B, "MPEG-2 AAC"),
@@ -66,7 +66,7 @@ static PIDS: [NameRow; 11] = [
     NameRow::Named(8191, "null"),
 ];
 
-// The name of a number in some rows.
+// The name of a number in the first row that has it, if there is one.
 fn name_for<'a>(rows: &[NameRow<'a>], wanted: u16) -> Option<&'a str>
     ensures { option_map (λ name. name.now) result ≡ text_for (map named rows.entry.now) wanted }
 {
@@ -86,7 +86,7 @@ pub fn stream_type_name(kind: u8) -> Option<&'static str>
     name_for(&STREAM_TYPES, u16::from(kind))
 }
 
-/// What a descriptor of this tag tells of a component.
+/// The codec or kind of component that a descriptor of this tag identifies.
 pub fn codec_name(tag: u8) -> Option<&'static str>
     ensures { option_map (λ name. name.now) result ≡ text_for codec_names tag }
 {

@@ -1,4 +1,5 @@
-/// How many packets on a PID are of each kind.
+//! The counts of a PID.
+/// How many packets of each kind a PID has.
 #[derive(Clone, Copy, PartialEq, Eq)]
 pub struct PidNumbers {
     /// All of them.

@@ -1,4 +1,4 @@
-//! What part of the stream packets are.
+//! The shares of packets in the stream, as text.
 ghost use Rattle.std.specs.Prelude.{◌≡◌, IfOk};
 ghost use Rattle.std.specs.String.{string_bytes};
 ghost use Rattle.plug_info.specs.InfoTexts;
@@ -17,7 +17,7 @@ fn hundredths(part: u64, whole: u64) -> u128
     u128::from(part) * 10_000 / u128::from(whole)
 }
 
-/// A share, as percent with two digits behind the point.
+/// A share, in percent with two decimals.
 pub fn percent(alloc: Global, part: u64, whole: u64) -> Result<String, AllocError>
     ensures { IfOk result (λ text. string_bytes text ≡ InfoTexts.percent (InfoTexts.hundredths part whole)) }
 {
@@ -26,7 +26,7 @@ pub fn percent(alloc: Global, part: u64, whole: u64) -> Result<String, AllocErro
     Ok(text)
 }
 
-/// The part of a bit rate that so many of all packets take, rounded down.
+/// The part of a bit rate for so many of all packets, rounded down, in bits per second.
 pub fn rate_part(rate: u64, part: u64, whole: u64) -> u128
     ensures { result ≡ InfoTexts.rate_part rate part whole }
 {
@@ -36,7 +36,7 @@ pub fn rate_part(rate: u64, part: u64, whole: u64) -> u128
     u128::from(rate) * u128::from(part) / u128::from(whole)
 }
 
-// That part as it is shown.
+// The part of the stream's bit rate, or `none`.
 fn rate_text(alloc: Global, scene: &Scene, packets: u64) -> Result<String, AllocError>
     ensures { IfOk result (λ text. string_bytes text ≡ InfoTexts.rate_text scene.now.rate packets scene.now.whole) }
 {
@@ -57,7 +57,7 @@ pub fn portion_text(alloc: Global, scene: &Scene, packets: u64) -> Result<String
     Ok(text)
 }
 
-/// How many packets are scrambled, and how many have a counter that is a fault.
+/// How many packets are scrambled, and how many have a faulty counter.
 pub fn troubles_text(alloc: Global, numbers: &PidNumbers) -> Result<String, AllocError>
     ensures { IfOk result (λ text. string_bytes text ≡ InfoTexts.troubles_text numbers.now) }
 {

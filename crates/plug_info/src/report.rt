@@ -1,3 +1,4 @@
+//! The report of `info` at the end.
 ghost use Rattle.std.specs.Prelude.{◌≡◌, ◌++◌, List, OnOk};
 ghost use Rattle.ts_packet.specs.declared.cell.Cell.{Cell as GivenCell};
 ghost use Rattle.plugin_trait.specs.PlacedLines.{placed_at};
@@ -10,7 +11,7 @@ use crate::tracker::Tracker;
 use plugin_trait::Line;
 use std::alloc::AllocError;
 
-/// Puts what is told at the end behind other lines, as one JSON object where that is wanted.
+/// Appends the report, as one JSON object if that is wanted. Out of memory it returns `AllocError`.
 pub fn push_report(
     lines: &mut Vec<Line>,
     cut: u64,

@@ -1,4 +1,4 @@
-//! The SDT of the packets on PID 17.
+//! The SDT in force.
 ghost use Rattle.std.specs.Prelude.{◌≡◌, ◌++◌, ◌∷◌, [], ℕ, List, IfOk, OnOk, fold, option_map};
 ghost use Rattle.ts_si.specs.SiTables.{sdt_held};
 ghost use Rattle.plug_psi.specs.LastFound.{newer};
@@ -15,7 +15,7 @@ use ts_table_rows::TableFault;
 /// The PID of the SDT (ETSI EN 300 468, 5.1.3).
 const SDT_PID: u16 = 17;
 
-/// The SDT in force of all packets that were fed.
+/// The SDT in force after all packets that were fed.
 #[derive(Drop)]
 pub struct SdtInForce {
     pub(crate) sdt: Option<Sdt>,
@@ -39,14 +39,14 @@ impl SdtInForce {
         })
     }
 
-    /// Takes the next packet, of any PID. After `AllocError` no more is to be asked.
+    /// Takes the next packet, of any PID. After `AllocError` it is not to be used any more.
     #[inline]
     pub fn feed(&mut self, packet: &Packet) -> Result<(), AllocError>
         ensures { OnOk result ((fed : List (List ℕ)) → HasFedSdt self.old fed → HasFedSdt self.new (fed ++ packet.now ∷ [])) }
     {
         uncounted_packets_change_nothing();
         other_packets_complete_nothing();
-        // Nearly all packets are of other PIDs.
+        // Nearly all packets are on other PIDs.
         if packet.pid() != SDT_PID {
             return Ok(());
         }
@@ -56,7 +56,7 @@ impl SdtInForce {
     }
 }
 
-// Keeps the last of the tables that is a current SDT of the actual stream, if one is.
+// Keeps the last of the tables that is a current SDT of the actual transport stream, if there is one.
 fn keep_sdts(alloc: Global, sdt: &mut Option<Sdt>, tables: &[TableRun]) -> Result<(), AllocError>
     ensures { OnOk result (option_map sdt_held sdt.new ≡ fold (λ old table. newer old (current_sdt table)) (option_map sdt_held sdt.old) tables.now) }
 {
@@ -66,7 +66,7 @@ fn keep_sdts(alloc: Global, sdt: &mut Option<Sdt>, tables: &[TableRun]) -> Resul
     Ok(())
 }
 
-// Keeps the SDT that a table is, if it is a current one of the actual stream.
+// Keeps the SDT that a table is, if it is a current one of the actual transport stream.
 fn keep_sdt(alloc: Global, sdt: &mut Option<Sdt>, table: &TableRun) -> Result<(), AllocError>
     ensures { OnOk result (option_map sdt_held sdt.new ≡ newer (option_map sdt_held sdt.old) (current_sdt table.now)) }
 {
@@ -76,7 +76,7 @@ fn keep_sdt(alloc: Global, sdt: &mut Option<Sdt>, table: &TableRun) -> Result<()
     Ok(())
 }
 
-// The SDT of the actual stream that a table is, where it reads as one and is current.
+// The SDT of the actual transport stream that a table is, if it is a current one.
 fn read_current(alloc: Global, table: &TableRun) -> Result<Option<Sdt>, AllocError>
     ensures { IfOk result (λ sdt. option_map sdt_held sdt ≡ current_sdt table.now) }
 {
@@ -87,7 +87,7 @@ fn read_current(alloc: Global, table: &TableRun) -> Result<Option<Sdt>, AllocErr
     }
 }
 
-// An SDT, where it is current and of the actual stream.
+// An SDT, if it is current and of the actual transport stream.
 fn current_actual(sdt: Sdt) -> Option<Sdt>
     ensures { option_map sdt_held result ≡ actual_one (sdt_held sdt) }
 {

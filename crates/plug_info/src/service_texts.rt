@@ -1,4 +1,4 @@
-//! What the SDT in force tells of a service.
+//! The description of a service in the SDT in force.
 ghost use Rattle.std.specs.Prelude.{◌≡◌, drop, map, option_map};
 ghost use Rattle.std.specs.Option.{option_copied};
 ghost use Rattle.ts_si.specs.SiTables.{sdt_held, service_item};
@@ -17,7 +17,7 @@ pub fn service_body(sdt: Option<&Sdt>, id: u16) -> Option<&[u8]>
     body_with(SERVICE_TAG, described_in(sdt?.services.as_slice(), id))
 }
 
-// The descriptors of the first service with a number.
+// The descriptors of the first service with a service_id.
 fn described_in(services: &[SdtService], id: u16) -> &[Descriptor]
     ensures { result.now ≡ described_in id (map service_item services.now) }
 {
@@ -63,7 +63,7 @@ pub fn name_in(body: Option<&[u8]>) -> Option<&[u8]>
     counted_text(behind_text(behind_first(body?)))
 }
 
-// The bytes behind the first.
+// The bytes after the first one.
 fn behind_first(bytes: &[u8]) -> &[u8]
     ensures { result.now ≡ drop 1 bytes.now }
 {
@@ -73,7 +73,7 @@ fn behind_first(bytes: &[u8]) -> &[u8]
     }
 }
 
-// The bytes behind a number of one byte that says how many they are, where all are there.
+// The bytes after a length of one byte, if all are there.
 fn counted_text(bytes: &[u8]) -> Option<&[u8]>
     ensures { option_map (λ b. b.now) result ≡ counted_text bytes.now }
 {
@@ -86,7 +86,7 @@ fn counted_text(bytes: &[u8]) -> Option<&[u8]>
     }
 }
 
-// What stands behind them.
+// The bytes after these.
 fn behind_text(bytes: &[u8]) -> &[u8]
     ensures { result.now ≡ behind_text bytes.now }
 {

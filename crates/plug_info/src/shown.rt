@@ -1,4 +1,4 @@
-//! Bytes, numbers that may be missing, and shares, as they are shown.
+//! Bytes and numbers that may be missing, as text.
 ghost use Rattle.std.specs.Prelude.{◌≡◌, IfOk, option_map};
 ghost use Rattle.std.specs.Option.{option_copied};
 ghost use Rattle.std.specs.List.{list_all};
@@ -8,22 +8,22 @@ ghost use Rattle.plug_info.specs.InfoTexts;
 use std::alloc::{AllocError, Global};
 use ts_fields::text_of;
 
-// Whether a byte may stand in a text between quotation marks.
+// Whether a byte may stand in a text in quotation marks.
 fn is_plain(byte: u8) -> bool
     ensures { result ≡ InfoTexts.is_plain byte }
 {
     0x20 <= byte && byte != 0x22 && byte != 0x5C && byte != 0x7F
 }
 
-/// Whether all bytes may.
+/// Whether all bytes may stand in a text in quotation marks.
 pub fn are_plain(bytes: &[u8]) -> bool
     ensures { result ≡ list_all InfoTexts.is_plain bytes.now }
 {
     bytes.iter().all(|byte| is_plain(*byte))
 }
 
-/// Bytes as they are shown: the text that they are between quotation marks, where each of its bytes may stand there,
-/// else as hexadecimal digits.
+/// Bytes as they are shown: as a text in quotation marks, if they are one and each of its bytes may stand there, else
+/// as hexadecimal digits.
 pub fn shown(alloc: Global, bytes: &[u8]) -> Result<String, AllocError>
     ensures { IfOk result (λ text. string_bytes text ≡ InfoTexts.shown bytes.now) }
 {
@@ -39,7 +39,7 @@ pub fn shown(alloc: Global, bytes: &[u8]) -> Result<String, AllocError>
     Ok(hex)
 }
 
-/// Bytes as hexadecimal digits behind `0x`.
+/// Bytes as hexadecimal digits after `0x`.
 pub fn hex_text(alloc: Global, bytes: &[u8]) -> Result<String, AllocError>
     ensures { IfOk result (λ text. string_bytes text ≡ InfoTexts.hex_text bytes.now) }
 {
@@ -48,7 +48,7 @@ pub fn hex_text(alloc: Global, bytes: &[u8]) -> Result<String, AllocError>
     Ok(text)
 }
 
-/// Bytes as they are shown, or that there are none.
+/// Bytes as they are shown, or `none`.
 pub fn shown_or_none(alloc: Global, bytes: Option<&[u8]>) -> Result<String, AllocError>
     ensures { IfOk result (λ text. string_bytes text ≡ InfoTexts.shown_or_none (option_map (λ b. b.now) bytes.entry)) }
 {
@@ -59,7 +59,7 @@ pub fn shown_or_none(alloc: Global, bytes: Option<&[u8]>) -> Result<String, Allo
     Ok(text)
 }
 
-/// A number, or that there is none.
+/// A number, or `none`.
 pub fn number_or_none(alloc: Global, number: Option<u64>) -> Result<String, AllocError>
     ensures { IfOk result (λ text. string_bytes text ≡ InfoTexts.number_or_none number) }
 {

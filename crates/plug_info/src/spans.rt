@@ -1,4 +1,4 @@
-//! The clocks of all PIDs.
+//! The PCRs of all PIDs.
 ghost use Rattle.std.specs.Prelude.{◌≡◌, ℕ, IfOk, length};
 ghost use Rattle.std.specs.List.{slice_index_or};
 ghost use Rattle.plug_info.specs.ClockSpans.{no_span};
@@ -23,7 +23,7 @@ impl Spans {
     ghost use Rattle.plug_info.specs.ClockSpans.{AreSpans, no_span};
     ghost use Rattle.plug_info.specs.PcrRate.{rate_of, rate_on};
 
-    /// No PCR was met on any PID. It takes 320 KiB.
+    /// No PCR yet on any PID. Allocates 320 KiB.
     pub fn new(alloc: Global) -> Result<Spans, AllocError>
         ensures { IfOk result (λ spans. AreSpans spans []) }
     {
@@ -32,7 +32,7 @@ impl Spans {
         })
     }
 
-    /// Meets the packet at a position.
+    /// Processes the packet at a position.
     #[inline]
     pub fn meet(&mut self, at: u64, packet: &Packet) -> Result<(), AllocError>
         requires { length self.old.spans.items ≡ PID_COUNT }
@@ -61,7 +61,7 @@ impl Spans {
         Ok(())
     }
 
-    // What is kept of a PID.
+    // What is kept for a PID.
     fn on(&self, pid: u16) -> ClockSpan
         requires on_pid { pid < PID_COUNT }
         requires whole { length self.now.spans.items ≡ PID_COUNT }
@@ -70,7 +70,7 @@ impl Spans {
         self.spans[usize::from(pid)]
     }
 
-    // Keeps this of a PID.
+    // Sets what is kept for a PID.
     fn set(&mut self, pid: u16, span: ClockSpan)
         requires on_pid { pid < PID_COUNT }
         requires whole { length self.old.spans.items ≡ PID_COUNT }
@@ -79,7 +79,7 @@ impl Spans {
         self.spans[usize::from(pid)] = span;
     }
 
-    // The bit rate by the PCRs of a PID.
+    // The bit rate by the PCRs of a PID, in bits per second.
     fn rate_on(&self, pid: u16) -> Option<u64>
         requires on_pid { pid < PID_COUNT }
         requires whole { length self.now.spans.items ≡ PID_COUNT }
@@ -88,7 +88,7 @@ impl Spans {
         self.spans[usize::from(pid)].rate()
     }
 
-    /// The bit rate, in bits per second, where PCRs tell one.
+    /// The bit rate, in bits per second, by the PCRs of the lowest PID that has one.
     pub fn rate(&self) -> Option<u64>
         requires { length self.now.spans.items ≡ PID_COUNT }
         ensures { (cells : List GivenCell) → AreSpans self.now cells → result ≡ rate_of cells }
@@ -101,7 +101,7 @@ impl Spans {
     }
 }
 
-// No PCR on any PID.
+// A table without PCRs.
 fn no_spans(alloc: Global) -> Result<Vec<ClockSpan>, AllocError>
     ensures { IfOk result (λ spans. (length spans.items ≡ PID_COUNT) × ((pid : ℕ) → slice_index_or spans.items pid no_span ≡ no_span)) }
 {

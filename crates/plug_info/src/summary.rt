@@ -1,4 +1,4 @@
-//! The summary of what was met.
+//! The summary of `info` as lines.
 ghost use Rattle.std.specs.Prelude.{◌≡◌, ◌<◌, ◌+◌, ◌*◌, Some, ◌++◌, ◌∷◌, [], ℕ, List, IfOk, OnOk, length, map, option_map, fold, if◌then◌else◌};
 ghost use Rattle.std.specs.List.{flat_map};
 ghost use Rattle.std.specs.Option.{option_copied};
@@ -35,7 +35,7 @@ use std::alloc::{AllocError, Global};
 use ts_packet::{NULL_PID, PID_COUNT};
 use ts_psi::{Component, Pmt};
 
-/// Puts the summary behind other lines: the stream, the services in force with their components, and the other PIDs.
+/// Appends the summary: the stream, the services in force with their components, and the other PIDs.
 pub fn push_summary(lines: &mut Vec<Line>, cut: u64, tracker: &Tracker) -> Result<(), AllocError>
     requires { IsReady tracker.now }
     ensures { OnOk result ((cells : List GivenCell) → Tracks tracker.now cells → lines.new.items ≡ lines.old.items ++ placed_at cut (info_on cells)) }
@@ -100,7 +100,7 @@ fn stream_text(alloc: Global, s: &StreamNumbers) -> Result<LineText, AllocError>
     Ok(LineText::of(text))
 }
 
-// Its first half: how much there is.
+// Its first half: numbers of the stream.
 fn stream_head(alloc: Global, s: &StreamNumbers) -> Result<String, AllocError>
     ensures { IfOk result (λ text. string_bytes text ≡ InfoTexts.stream_head s.now) }
 {
@@ -114,7 +114,7 @@ fn stream_head(alloc: Global, s: &StreamNumbers) -> Result<String, AllocError>
     Ok(text)
 }
 
-// Its second half: null packets and troubles.
+// Its second half: null packets, errors and faults.
 fn stream_tail(alloc: Global, s: &StreamNumbers) -> Result<String, AllocError>
     ensures { IfOk result (λ text. string_bytes text ≡ InfoTexts.stream_tail s.now) }
 {
@@ -126,14 +126,14 @@ fn stream_tail(alloc: Global, s: &StreamNumbers) -> Result<String, AllocError>
     Ok(text)
 }
 
-/// How many bytes packets have.
+/// How many bytes so many packets have, at 188 bytes each.
 pub fn bytes_of(packets: u64) -> u128
     ensures { result ≡ packets * PACKET_SIZE }
 {
     u128::from(packets) * 188
 }
 
-/// The same number, if there is one.
+/// The same number with 64 bits, if there is one.
 pub fn widened(number: Option<u16>) -> Option<u64>
     ensures { result ≡ number }
 {
@@ -143,7 +143,7 @@ pub fn widened(number: Option<u16>) -> Option<u64>
     }
 }
 
-// Puts a line on the SDT behind others, where it is of another stream than the PAT.
+// Appends a line on the SDT, if it is of another transport stream than the PAT.
 fn push_sdt(
     lines: &mut Vec<Line>,
     cut: u64,
@@ -162,7 +162,7 @@ fn push_sdt(
     Ok(())
 }
 
-// Puts a line on the SDT behind others, where its number is another than the PAT's.
+// Appends a line on the SDT, if its transport_stream_id is another one than the PAT's.
 fn push_other(lines: &mut Vec<Line>, cut: u64, pat: u16, sdt: u16) -> Result<(), AllocError>
     ensures { OnOk result (lines.new.items ≡ lines.old.items ++ placed_at cut (sdt_texts (Some pat) (Some sdt))) }
 {
@@ -175,7 +175,7 @@ fn push_other(lines: &mut Vec<Line>, cut: u64, pat: u16, sdt: u16) -> Result<(),
     Ok(())
 }
 
-// Puts the lines of the services of the PAT in force behind others.
+// Appends the lines of the services of the PAT in force.
 fn push_services(
     lines: &mut Vec<Line>,
     cut: u64,
@@ -197,7 +197,7 @@ fn push_services(
     Ok(())
 }
 
-// Puts the lines of a service behind others.
+// Appends the lines of a service.
 fn push_service(
     lines: &mut Vec<Line>,
     cut: u64,
@@ -242,7 +242,7 @@ fn service_text(
     Ok(LineText::of(text))
 }
 
-// Its first half: what the SDT tells.
+// Its first half: its description in the SDT.
 fn service_head(alloc: Global, id: u16, body: Option<&[u8]>) -> Result<String, AllocError>
     ensures { IfOk result (λ text. string_bytes text ≡ InfoTexts.service_head id (option_map (λ b. b.now) body.entry)) }
 {
@@ -256,7 +256,7 @@ fn service_head(alloc: Global, id: u16, body: Option<&[u8]>) -> Result<String, A
     Ok(text)
 }
 
-// Its second half: its PIDs and its portion.
+// Its second half: its PIDs and its share.
 fn service_tail(
     alloc: Global,
     scene: &Scene,
@@ -282,7 +282,7 @@ pub fn pcr_pid_in(pmt: Option<&Pmt>) -> Option<u64>
     }
 }
 
-/// The packets on the PIDs of the components of a PMT.
+/// How many packets are on the PIDs of the components of a PMT, each PID counted once.
 pub fn service_packets(tracker: &Tracker, pmt: Option<&Pmt>) -> Result<u64, AllocError>
     requires { IsReady tracker.now }
     ensures { IfOk result (λ n. (cells : List GivenCell) → Tracks tracker.now cells
@@ -295,7 +295,7 @@ pub fn service_packets(tracker: &Tracker, pmt: Option<&Pmt>) -> Result<u64, Allo
     Ok(packets)
 }
 
-// The packets on a PID, if they are counted.
+// How many packets are on a PID, if they are counted; else 0.
 fn packets_if(tracker: &Tracker, is_one: bool, pid: u16) -> u64
     requires ready { IsReady tracker.now }
     requires on_pid { pid < PID_COUNT }
@@ -308,7 +308,7 @@ fn packets_if(tracker: &Tracker, is_one: bool, pid: u16) -> u64
     }
 }
 
-// A sum, which never passes 64 bits: it counts packets.
+// A sum of numbers of packets, which never exceeds 64 bits.
 fn plus(a: u64, b: u64) -> Result<u64, AllocError>
     ensures { IfOk result (λ n. n ≡ a + b) }
 {
@@ -318,7 +318,7 @@ fn plus(a: u64, b: u64) -> Result<u64, AllocError>
     }
 }
 
-// Puts the lines of components behind others.
+// Appends the lines of components.
 fn push_components(
     lines: &mut Vec<Line>,
     cut: u64,
@@ -360,7 +360,7 @@ fn component_text(
     Ok(LineText::of(text))
 }
 
-// Its beginning: what it is.
+// Its beginning: PID, service and stream type.
 fn component_head(alloc: Global, pid: u16, service: u16, kind: u8) -> Result<String, AllocError>
     ensures { IfOk result (λ text. string_bytes text ≡ InfoTexts.component_head pid service kind) }
 {
@@ -369,7 +369,7 @@ fn component_head(alloc: Global, pid: u16, service: u16, kind: u8) -> Result<Str
     Ok(text)
 }
 
-// A name, or that it is not known.
+// A name, or `unknown`.
 fn name_or_unknown(name: Option<&'static str>) -> &'static str
     ensures { result.now ≡ InfoTexts.name_or_unknown (option_map (λ n. n.now) name.entry) }
 {
@@ -379,7 +379,7 @@ fn name_or_unknown(name: Option<&'static str>) -> &'static str
     }
 }
 
-// Its end: its portion and its troubles.
+// Its end: its share, its scrambled and faulty packets, and how many services share it.
 fn component_tail(
     alloc: Global,
     scene: &Scene,
@@ -395,7 +395,7 @@ fn component_tail(
     Ok(text)
 }
 
-// That more than one service has a component.
+// How many services have a component, if it is more than one.
 fn shared_text(alloc: Global, users: u64) -> Result<String, AllocError>
     ensures { IfOk result (λ text. string_bytes text ≡ shared_text users) }
 {
@@ -406,7 +406,7 @@ fn shared_text(alloc: Global, users: u64) -> Result<String, AllocError>
     Ok(String::new(alloc))
 }
 
-// Puts the lines of the PIDs that have packets and are no component's behind others.
+// Appends the lines of the PIDs that have packets and are not a component's.
 fn push_pids(
     lines: &mut Vec<Line>,
     cut: u64,
@@ -423,7 +423,7 @@ fn push_pids(
     Ok(())
 }
 
-// Puts the line of a PID behind others, where it has packets and is no component's.
+// Appends the line of a PID, if it has packets and is not a component's.
 fn push_pid(
     lines: &mut Vec<Line>,
     cut: u64,
@@ -467,7 +467,7 @@ fn pid_text(
     Ok(LineText::of(text))
 }
 
-/// What a PID is, that is no component's.
+/// The use of a PID that is not a component's.
 pub fn use_of(tracker: &Tracker, pid: u16) -> &'static str
     ensures { (cells : List GivenCell) → Tracks tracker.now cells → result.now ≡ use_of (live_packets cells) pid }
 {

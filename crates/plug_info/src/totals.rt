@@ -1,10 +1,11 @@
+//! The counts of all packets, by PID and kind.
 ghost use Rattle.std.specs.Prelude.{◌≡◌, ◌<◌, ◌++◌, ◌∷◌, [], List, IfOk};
 
 use crate::pid_numbers::PidNumbers;
 use plugin_notes::Tally;
 use std::alloc::{AllocError, Global};
 
-/// The packets that were counted, by their PIDs, once for each kind.
+/// The packets that were counted, by PID, once for each kind.
 #[derive(Drop)]
 pub struct Totals {
     packets: Tally,
@@ -19,7 +20,7 @@ impl Totals {
     ghost use Rattle.plugin_notes.specs.Tallies.{IsCounted};
     ghost use Rattle.plug_info.specs.TotalsOf.{AreCounted, HasRoom};
 
-    /// Nothing counted yet. It takes 256 KiB.
+    /// Nothing counted yet. Allocates 256 KiB.
     pub fn new(alloc: Global) -> Result<Totals, AllocError>
         ensures { IfOk result (λ totals. AreCounted totals []) }
     {
@@ -31,7 +32,7 @@ impl Totals {
         })
     }
 
-    /// Counts one packet more.
+    /// Counts one more packet.
     #[inline]
     pub fn add(&mut self, pid: u16, is_scrambled: bool, is_fault: bool, is_errored: bool)
         requires on_pid { pid < PID_COUNT }
@@ -59,7 +60,7 @@ impl Totals {
     ghost use Rattle.plug_info.specs.InfoRule.{numbers_on};
     ghost use Rattle.plug_info.specs.TotalsOf.{AreCounted, AreWhole};
 
-    /// How many packets were counted in all.
+    /// How many packets were counted in total.
     pub fn packets(&self) -> u64
         ensures { (cells : List GivenCell) → AreCounted self.now cells → result ≡ length (live_packets cells) }
     {
@@ -73,14 +74,14 @@ impl Totals {
         self.scrambled.total()
     }
 
-    /// How many of them have a counter that is a fault.
+    /// How many of them have a faulty counter.
     pub fn faults(&self) -> u64
         ensures { (cells : List GivenCell) → AreCounted self.now cells → result ≡ length (fault_pids cells) }
     {
         self.faults.total()
     }
 
-    /// How many of them have an error indicator.
+    /// How many of them have the transport_error_indicator.
     pub fn errored(&self) -> u64
         ensures { (cells : List GivenCell) → AreCounted self.now cells → result ≡ length (filter error_indicator_of (live_packets cells)) }
     {

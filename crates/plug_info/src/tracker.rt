@@ -1,4 +1,4 @@
-//! What is known of the cells that count.
+//! What `info` keeps of the cells that count.
 use crate::counters::meet_counter;
 use crate::sdt_in_force::SdtInForce;
 use crate::spans::Spans;
@@ -8,7 +8,7 @@ use plugin_notes::LastPackets;
 use std::alloc::{AllocError, Global};
 use ts_packet::{Cell, Packet};
 
-/// What is known of all cells that were taken.
+/// What is kept of all cells that were counted.
 #[derive(Drop)]
 pub struct Tracker {
     last: LastPackets,
@@ -24,7 +24,7 @@ impl Tracker {
     ghost use Rattle.ts_packet.specs.Cells.{Live};
     ghost use Rattle.plug_info.specs.Tracked.{Tracks, TracksSome};
 
-    /// No cell was taken. It takes 616 KiB, and room for the tables in force, which grow with the stream.
+    /// No cell yet. Allocates 616 KiB; the tables in force grow with the stream.
     pub fn new(alloc: Global) -> Result<Tracker, AllocError>
         ensures { IfOk result (λ tracker. Tracks tracker []) }
     {
@@ -43,7 +43,7 @@ impl Tracker {
         })
     }
 
-    /// Takes the cell at a position. After `AllocError` no more is to be asked.
+    /// Counts the cell at a position. After `AllocError` it is not to be used any more.
     pub fn take(&mut self, at: u64, cell: &Cell) -> Result<(), AllocError>
         requires { TracksSome self.old at }
         ensures { OnOk result ((cells : List GivenCell) → Tracks self.old cells → length cells ≡ at → Tracks self.new (cells ++ cell.now ∷ [])) }
@@ -54,7 +54,7 @@ impl Tracker {
         }
     }
 
-    // Takes the packet at a position.
+    // Counts the packet at a position.
     #[inline]
     fn take_packet(&mut self, at: u64, packet: &Packet) -> Result<(), AllocError>
         requires { TracksSome self.old at }

@@ -35,7 +35,7 @@ pub fn has_component(pmt: Option<&Pmt>, pid: u16) -> bool
     }
 }
 
-/// The number and the PID of a service.
+/// The service_id and the PMT PID of an entry of the PAT.
 pub fn parts(service: &PatService) -> (u16, u16)
     ensures { service_in (service_item service.now) ≡ Some (result.0, result.1) }
 {
@@ -58,7 +58,7 @@ pub fn users_of(force: &InForce, pid: u16) -> u64
     users
 }
 
-// One for what is counted.
+// 1 if it is counted, else 0.
 fn one_if(is_one: bool) -> u64
     ensures is { result ≡ cond is_one 1 0 }
     ensures most { result ≤ 1 }

@@ -1,4 +1,4 @@
--- The places at which packets are put in, one after another along the packets that were met.
+-- Lemmas on the places at which packets are inserted, packet by packet.
 use Rattle.std.proofs.Common.{◌≡◌, ◌≢◌, ℕ, zero, suc, ◌+◌, ◌-◌, ◌<◌, ◌≤◌, ◌%◌, Bool, true, false, not, ◌&&◌, List, [], ◌∷◌, ◌++◌, length, take, get_or, slice_index, slice_get, Option, Some, refl, ap, sym, ◌∙◌, arith, append-nil}
 use Rattle.std.specs.Prelude.{if◌then◌else◌, nat_lt, reverse, unwrap_or}
 use Rattle.std.specs.Option.{option_map}
@@ -21,16 +21,16 @@ use Rattle.plug_inject.specs.declared.inject_conf.InjectMode.TheVariants.{InterP
 use Rattle.plug_inject.specs.InjectState.{wait_among}
 use Rattle.plug_inject.proofs.TurnLemmas.{some-waits, wait-less}
 
--- what goes on in the place of packets behind others
+-- the output in the place of packets after others
 abbrev made : Injection → List (List ℕ) → List (List ℕ) → List (List ℕ)
 made how older [] = []
 made how older (packet ∷ packets) = injected how older packet ∷ made how (packet ∷ older) packets
 
--- packet k of a cycle that begins over and over again, with its counter
+-- packet k of a repeated cycle, with its counter
 abbrev pub cycle_packet : List (List ℕ) → ℕ → List ℕ
 cycle_packet contents k = with_counter (get_or contents (k % length contents) []) (k % 16)
 
--- one packet more was met, or a dropped cell
+-- one more packet was processed, or a dropped cell
 older-live : (history : List Cell) (packet : List ℕ) (labels : ℕ) → reverse (live_packets (history ++ Live packet labels ∷ [])) ≡ packet ∷ reverse (live_packets history)
 older-live history packet labels =
     ap (λ (packets : List (List ℕ)). reverse packets) (flat_map-append packet_in history (Live packet labels ∷ []))
@@ -40,7 +40,7 @@ older-dropped : (history : List Cell) → reverse (live_packets (history ++ Drop
 older-dropped history =
     ap (λ (packets : List (List ℕ)). reverse packets) (flat_map-append packet_in history (Dropped ∷ []) ∙ append-nil (live_packets history))
 
--- what the rule gives for cells behind others
+-- the output of the rule for cells after others
 made-of : (how : Injection) (history cells : List Cell) → live_packets (apply_after (injecting_rule how) history cells).cells ≡ made how (reverse (live_packets history)) (live_packets cells)
 made-of how history [] = refl
 made-of how history (Live packet labels ∷ cells) =
@@ -69,8 +69,8 @@ cycle-some (packet ∷ packets) k e =
 not-below : (n : ℕ) → nat_lt 0 n ≡ false → n ≡ 0
 not-below n e = let none : n ≤ 0 = ltb-false 0 n e in omega arith
 
--- a packet behind others that is replaced, or stays, and what is kept of it: how many were put in, and how many have yet to
--- be met before one may be replaced
+-- a packet after others that is replaced or not, and what is kept of it: how many were inserted, and how many more
+-- packets have to pass before one may be replaced
 module _ (how : Injection) (older : List (List ℕ)) (packet : List ℕ) where
   put-packet : is_replaced how (replaced_among how older) packet ≡ true → injected how older packet ≡ cycle_packet how.contents (put_in_among (replaced_among how older))
   put-packet e =
@@ -100,12 +100,12 @@ module _ (how : Injection) (older : List (List ℕ)) (packet : List ℕ) where
   unfolding replaced_among wait_among
   wait-kept e = ap (λ (b : Bool). wait_among how.kept (b ∷ replaced_among how older)) e ∙ wait-less how.kept (replaced_among how older)
 
--- at number k of the places, which are counted from a start, stands the packet of the cycle with that number
+-- at number k of the places, counted from a start, stands the packet of the cycle with that number
 abbrev PutAt : List ℕ → List (List ℕ) → List (List ℕ) → ℕ → ℕ → ℕ → Type 0
 PutAt places packets contents start before k =
     (j : ℕ) × (slice_index places k ≡ start + j) × (slice_get packets j ≡ Some (cycle_packet contents (before + k)))
 
--- so it is with one packet more in front, which is replaced or not
+-- the same with one more packet in front, which is replaced or not
 put-front : (is : Bool) (start before more : ℕ) (places : List ℕ) (next : List ℕ) (packets contents : List (List ℕ))
     → (is ≡ true → next ≡ cycle_packet contents before) → more ≡ (if is then 1 else 0) + before
     → ((k : ℕ) → k < length places → PutAt places packets contents (suc start) more k)
@@ -139,7 +139,7 @@ other-front false start places next packet given packets kept rest zero others =
 other-front false start places next packet given packets kept rest (suc i) others =
     rest i (λ k lt e. others k lt (let on : slice_index places k ≡ start + suc i = e ∙ omega arith in on))
 
--- each place is so far behind the start as packets have yet to be met, with one more in front
+-- each place is as far after the start as packets still have to pass, with one more in front
 far-front : (is : Bool) (start wait left : ℕ) (places : List ℕ) → (is ≡ true → wait ≡ 0) → (is ≡ false → left ≡ wait - 1)
     → ((k : ℕ) → k < length places → suc start + left ≤ slice_index places k)
     → (k : ℕ) → k < length (if is then start ∷ places else places) → start + wait ≤ slice_index (if is then start ∷ places else places) k
@@ -161,7 +161,7 @@ apart-front true start least places first rest zero (suc k) less lt = first refl
 apart-front true start least places first rest (suc j) (suc k) less lt = rest j k (omega arith) (omega arith)
 apart-front false start least places first rest j k less lt = rest j k less lt
 
--- the same of any packets behind others
+-- the same for any packets after others
 module _ (how : Injection) where
   put-at : (older packets : List (List ℕ)) (k : ℕ) → k < length (places_behind how older packets)
       → PutAt (places_behind how older packets) (made how older packets) how.contents (length older) (put_in_among (replaced_among how older)) k

@@ -1,4 +1,4 @@
--- Worked rows of `inject`, computed on the definitions. Packets of four bytes do as well as whole ones here.
+-- Worked rows of `inject`, computed on the definitions. Packets of four bytes are enough here.
 use Rattle.std.proofs.Common.{◌≡◌, ℕ, List, [], ◌∷◌, replicate, None, refl}
 use Rattle.bit_rows.specs.BitRow.{bit_of, field}
 use Rattle.ts_packet.specs.Cells.{Live, Dropped, live_packets}
@@ -43,13 +43,13 @@ each-third_places : places_behind (how (InterPacket 3) (table 0x10 ∷ [])) [] (
 unfolding field bit_of replaced_among
 each-third_places = refl
 
--- with `--inter-packet 1` every one is, whatever its bytes, and the labels stay
+-- with `--inter-packet 1` every null packet is, whatever its bytes, and the labels stay
 each-one : apply (injecting_rule (how (InterPacket 1) (table 0x10 ∷ []))) (Live null 0 ∷ Live other_null 4 ∷ Live on_257 0 ∷ Live null 0 ∷ [])
     ≡ record { cells = Live (table 0x10) 0 ∷ Live (table 0x11) 4 ∷ Live on_257 0 ∷ Live (table 0x12) 0 ∷ []; ended = None }
 unfolding field bit_of with_counter replaced_among
 each-one = refl
 
--- a live packet in between counts for the distance, and a dropped one does not
+-- a live packet between them counts for the distance, and a dropped one does not
 live-counts : apply (injecting_rule (how (InterPacket 3) (table 0x10 ∷ [])))
     (Live on_257 0 ∷ Live null 0 ∷ Live on_257 0 ∷ Live null 0 ∷ Live null 0 ∷ Dropped ∷ Live null 0 ∷ Dropped ∷ Live null 0 ∷ Live null 0 ∷ [])
     ≡ record { cells = Live on_257 0 ∷ Live (table 0x10) 0 ∷ Live on_257 0 ∷ Live null 0 ∷ Live (table 0x11) 0 ∷ Dropped ∷ Live null 0 ∷ Dropped ∷ Live null 0 ∷ Live (table 0x12) 0 ∷ []; ended = None }
@@ -63,7 +63,7 @@ on-pid : apply (injecting_rule (how Replace (table 0x1F ∷ second 0x1F ∷ []))
 unfolding field bit_of with_counter replaced_among
 on-pid = refl
 
--- the numbers are those of live packets alone
+-- the numbers are those of live packets only
 on-pid_places : places_behind (how Replace (table 0x1F ∷ [])) [] (live_packets (Dropped ∷ Live on_257 0 ∷ Dropped ∷ Live (table 0x15) 0 ∷ Live (second 0x15) 0 ∷ [])) ≡ 1 ∷ 2 ∷ []
 unfolding field bit_of replaced_among
 on-pid_places = refl

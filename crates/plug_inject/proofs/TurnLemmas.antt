@@ -1,4 +1,4 @@
--- Whose turn it is, and what a packet makes of the numbers that are kept.
+-- Lemmas on when a packet is replaced, and on how a packet changes the kept numbers.
 use Rattle.std.proofs.Common.{◌≡◌, ◌≢◌, ℕ, ◌-◌, ◌+◌, ◌≤◌, ◌<◌, zero, suc, Bool, true, false, not, ◌&&◌, ◌==◌, List, [], ◌∷◌, take, Some, refl, sym, ◌∙◌, ap, arith, zero-le}
 use Rattle.std.specs.Prelude.{if◌then◌else◌, nat_lt, unwrap_or}
 use Rattle.std.proofs.lemmas.Bool.{eq-eqb, lt-ltb, ne_eqb}
@@ -7,7 +7,7 @@ use Rattle.ts_packet.specs.Header.{pid_of}
 use Rattle.plug_inject.specs.InjectRule.{Injection, has_packets, injected, is_replaced, packet_behind, put_in_among, replaced_among, some_replaced}
 use Rattle.plug_inject.specs.InjectState.{Counts, Stands, wait_among}
 
--- one packet fewer has to be met
+-- one packet fewer has to pass
 pub wait-less : (kept : ℕ) (marks : List Bool) → wait_among (kept - 1) marks ≡ wait_among kept marks - 1
 unfolding wait_among
 wait-less kept [] = refl
@@ -20,7 +20,7 @@ wait-none [] = refl
 wait-none (true ∷ older) = refl
 wait-none (false ∷ older) = wait-none older
 
--- one of the packets next before was replaced exactly where some have yet to be met
+-- one of the packets just before was replaced exactly if some still have to pass
 pub some-waits : (kept : ℕ) (marks : List Bool) → some_replaced (take kept marks) ≡ nat_lt 0 (wait_among kept marks)
 unfolding wait_among
 some-waits zero marks = ap (nat_lt 0) (sym (wait-none marks))
@@ -37,7 +37,7 @@ and_true : (a b : Bool) → a ≡ true → b ≡ true → (a && b) ≡ true
 and_true a b e f = ap (λ x. x && b) e ∙ f
 
 module _ {how : Injection} {put_in wait : ℕ} {older : List (List ℕ)} (counts : Counts how put_in wait older) (packet : List ℕ) where
-  -- packets have yet to be met
+  -- packets still have to pass
   pub kept_waiting : 0 < wait → is_replaced how (replaced_among how older) packet ≡ false
   kept_waiting waits =
       let marks = replaced_among how older in
@@ -51,7 +51,7 @@ module _ {how : Injection} {put_in wait : ℕ} {older : List (List ℕ)} (counts
       let elsewhere : (pid_of packet == how.target) ≡ false = ap (λ p. p == how.target) (sym is) ∙ ne_eqb pid how.target other in
       and_false (has_packets how.contents) _ (ap (λ b. b && not (some_replaced (take how.kept (replaced_among how older)))) elsewhere)
 
-  -- there is nothing to put in
+  -- there is nothing to insert
   pub kept_empty : false ≡ has_packets how.contents → is_replaced how (replaced_among how older) packet ≡ false
   kept_empty e = ap (λ b. b && ((pid_of packet == how.target) && not (some_replaced (take how.kept (replaced_among how older))))) (sym e)
 
@@ -94,7 +94,7 @@ module _ {how : Injection} {put_in wait : ℕ} {older : List (List ℕ)} (counts
         turn = ap (λ b. wait_among how.kept (b ∷ marks)) (sym e);
       }
 
--- before a cell is met
+-- before the first cell
 pub at_first : (how : Injection) → Stands how 0 0 [] 0
 unfolding replaced_among wait_among
 at_first how = record { counts = record { number = refl; few = zero-le; turn = refl }; live = zero-le; marked = zero-le }

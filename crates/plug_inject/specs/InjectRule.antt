@@ -1,6 +1,6 @@
--- The rule of `inject`. This project's own rule, over the PID of ISO/IEC 13818-1, 2.4.3.2, and over the packets that carry
--- sections (2.4.4).
--- Packets stand here with the newest first: those next before a packet are then the first of the others.
+-- The rule of `inject`. This project's own rule, over the PID of ISO/IEC 13818-1, 2.4.3.2, and over the packets that
+-- carry sections (2.4.4). Lists of packets are in reverse order here, the newest first, so that the packets just
+-- before a packet are the first of the list.
 use Rattle.std.specs.Prelude.{ℕ, ◌-◌, ◌%◌, ◌==◌, ◌&&◌, not, Bool, List, [], ◌∷◌, length, take, reverse, count_by, Option, unwrap_or, is_some, slice_get, if◌then◌else◌}
 use Rattle.std.specs.List.{list_any}
 use Rattle.std.specs.Option.{option_map}
@@ -14,25 +14,25 @@ use Rattle.plug_inject.specs.declared.inject_conf.InjectConf.{InjectConf}
 use Rattle.plug_inject.specs.declared.inject_conf.InjectMode.{InjectMode}
 use Rattle.plug_inject.specs.declared.inject_conf.InjectMode.TheVariants.{Replace, InterPacket}
 
--- what is put in, and where: the packets of a cycle, the PID whose packets may be replaced, and how many packets before
--- one that is replaced were not
+-- what is inserted, and where: the packets of a cycle, the PID whose packets may be replaced, and how many packets
+-- just before a replaced one were not replaced
 pub record Injection : Type 0 where
   pub contents : List (List ℕ)
   pub target : ℕ
   pub kept : ℕ
 
--- the PID whose packets may be replaced: that of the sections, or with a distance that of null packets, whatever their
--- bytes
+-- the PID whose packets may be replaced: that of the sections, or with a distance that of null packets, whatever
+-- their bytes
 abbrev pub target_of : InjectMode → ℕ → ℕ
 target_of Replace pid = pid
 target_of (InterPacket distance) pid = NULL_PID
 
--- how many packets before one that is replaced were not: with a distance all that it has but one
+-- how many packets just before a replaced one were not replaced: with a distance, one less than the distance
 abbrev pub kept_before : InjectMode → ℕ
 kept_before Replace = 0
 kept_before (InterPacket distance) = distance - 1
 
--- what the settings and the sections of their file mean: a cycle has the packets of these sections on the PID
+-- what the settings and the sections of their file mean: a cycle is the packets of these sections on the PID
 abbrev pub injection_of : InjectConf → List (List ℕ) → Injection
 injection_of conf sections = record {
   contents = packets_of conf.pid sections;
@@ -40,7 +40,7 @@ injection_of conf sections = record {
   kept = kept_before conf.mode;
 }
 
--- a cycle has packets
+-- the cycle has packets
 abbrev pub has_packets : List (List ℕ) → Bool
 has_packets contents = is_some (slice_get contents 0)
 
@@ -48,38 +48,39 @@ has_packets contents = is_some (slice_get contents 0)
 abbrev pub some_replaced : List Bool → Bool
 some_replaced marks = list_any (λ mark. mark) marks
 
--- A packet is replaced, behind others of which is told whether they were: there are contents, it is on the PID, and none
--- of the packets next before it was replaced, of which there may be fewer at the beginning.
+-- A packet is replaced, given of the packets before it whether they were replaced: the cycle has packets, the packet
+-- is on the target PID, and none of the packets just before it was replaced; at the beginning there may be fewer of
+-- them.
 abbrev pub is_replaced : Injection → List Bool → List ℕ → Bool
 is_replaced how marks packet =
     has_packets how.contents && (pid_of packet == how.target && not (some_replaced (take how.kept marks)))
 
--- of a list of packets, which are replaced
+-- whether each of the packets is replaced
 unfoldable pub replaced_among : Injection → List (List ℕ) → List Bool
 replaced_among how [] = []
 replaced_among how (packet ∷ older) =
     (let marks = replaced_among how older in is_replaced how marks packet ∷ marks)
 
--- how many packets were put in
+-- how many packets were inserted
 abbrev pub put_in_among : List Bool → ℕ
 put_in_among marks = count_by (λ mark. mark) marks
 
--- the packet that is put in behind so many others: the one at its place of the cycle, which begins over and over again,
--- with their number as its counter, modulo 16
+-- the packet that is inserted after so many others: the one at its place of the cycle, which is repeated, with their
+-- number, modulo 16, as its continuity counter
 abbrev pub packet_behind : List (List ℕ) → ℕ → Option (List ℕ)
 packet_behind contents before =
     option_map (λ packet. with_counter packet (before % 16)) (slice_get contents (before % length contents))
 
--- what goes on in the place of a packet, behind others of which is told whether they were replaced
+-- the output in the place of a packet, given of the packets before it whether they were replaced
 abbrev pub put_for : Injection → List Bool → List ℕ → List ℕ
 put_for how marks packet =
     if is_replaced how marks packet then unwrap_or (packet_behind how.contents (put_in_among marks)) packet else packet
 
--- what goes on in the place of a packet, behind others
+-- the output in the place of a packet, given the packets before it
 abbrev pub injected : Injection → List (List ℕ) → List ℕ → List ℕ
 injected how older packet = put_for how (replaced_among how older) packet
 
--- every packet passes, or another in its place; labels stay
+-- every packet passes, or another one in its place; labels stay
 abbrev pub injecting_rule : Injection → PluginRule
 injecting_rule how = silent_rule (λ history packet. passes (injected how (reverse (live_packets history)) packet))
 

@@ -1,6 +1,5 @@
--- Lawful settings of `inject`.
--- ISO/IEC 13818-1, 2.4.3.2: PID 8191 is that of null packets, which carry nothing.
--- This project's own rule: a distance is at least 1.
+-- Valid settings of `inject`. ISO/IEC 13818-1, 2.4.3.2: PID 8191 is that of null packets, which carry no data. This
+-- project's own rule: a distance is at least 1.
 use Rattle.std.specs.Prelude.{ℕ, ◌<◌, ◌≤◌, Option, None, Some}
 use Rattle.plug_conf.specs.declared.limits.TheConstants.{MOST_NUMBER}
 use Rattle.ts_packet.specs.declared.numbers.TheConstants.{NULL_PID}
@@ -8,7 +7,7 @@ use Rattle.plug_inject.specs.declared.inject_conf.InjectConf.{InjectConf}
 use Rattle.plug_inject.specs.declared.inject_conf.InjectMode.{InjectMode}
 use Rattle.plug_inject.specs.declared.inject_conf.InjectMode.TheVariants.{Replace, InterPacket}
 
--- the mode by the distance that is given, or that of none
+-- the mode given by an optional distance
 abbrev pub mode_of : Option ℕ → InjectMode
 mode_of None = Replace
 mode_of (Some distance) = InterPacket distance
@@ -18,7 +17,7 @@ abbrev pub IsLawfulMode : InjectMode → Type 0
 IsLawfulMode Replace = Unit {0}
 IsLawfulMode (InterPacket distance) = (1 ≤ distance) × (distance ≤ MOST_NUMBER)
 
--- the PID carries sections, and a distance is in its range
+-- the PID may carry sections, and a distance is in its range
 pub record IsLawfulInject (c : InjectConf) : Type 0 where
   pub carrier : c.pid < NULL_PID
   pub mode : IsLawfulMode c.mode

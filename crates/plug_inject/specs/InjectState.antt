@@ -5,28 +5,28 @@ use Rattle.ts_packet.specs.Cells.{live_packets}
 use Rattle.plug_inject.specs.InjectRule.{Injection, put_in_among, replaced_among}
 use Rattle.plug_inject.specs.declared.inject.Inject.{Inject}
 
--- what the plugin puts in, and where
+-- what the plugin inserts, and where
 abbrev pub how_of : Inject → Injection
 how_of s = record { contents = s.contents; target = s.target; kept = s.kept }
 
--- how many packets have yet to be met, where so many have to be behind one that was replaced
+-- how many more packets have to pass before one may be replaced, if so many have to pass after each replaced one
 unfoldable pub wait_among : ℕ → List Bool → ℕ
 wait_among kept [] = 0
 wait_among kept (true ∷ older) = kept
 wait_among kept (false ∷ older) = wait_among (kept - 1) older
 
--- the numbers that are kept are those of the packets that were met, the newest first
+-- the kept numbers are those of the packets that were processed, the newest first
 pub record Counts (how : Injection) (put_in wait : ℕ) (older : List (List ℕ)) : Type 0 where
   pub number : put_in ≡ put_in_among (replaced_among how older)
   pub few : put_in ≤ length older
   pub turn : wait ≡ wait_among how.kept (replaced_among how older)
 
--- the same of the cells that were met
+-- the same for a history of cells
 pub record Stands (how : Injection) (put_in wait : ℕ) (history : List Cell) (mark : ℕ) : Type 0 where
   pub counts : Counts how put_in wait (reverse (live_packets history))
   pub live : length (live_packets history) ≤ length history
   pub marked : mark ≤ length history
 
--- and of a value of the plugin
+-- and for a value of the plugin
 abbrev pub Meant : Inject → List Cell → ℕ → Type 0
 Meant s history mark = Stands (how_of s) s.put_in s.wait history mark

@@ -1,5 +1,4 @@
--- The words of `inject`.
--- This project's own rule.
+-- The options of `inject`. This project's own rule.
 use Rattle.std.specs.Prelude.{List, [], ◌∷◌, ◌&&◌, ◌||◌, not, codes, unwrap_or}
 use Rattle.clap.specs.Walk.{Row}
 use Rattle.option_words.specs.Forms.{number, text}
@@ -19,7 +18,7 @@ inject_rows = record { name = codes "operand"; kind = operand text }
     ∷ record { name = codes "inter-packet"; kind = value (number 1 MOST_NUMBER) }
     ∷ []
 
--- the settings of what is found
+-- the settings given by the options that were found
 abbrev pub inject_settings : List Row → InjectConf
 inject_settings found = record {
   file = unwrap_or (value_of (codes "operand") found) [];
@@ -27,7 +26,7 @@ inject_settings found = record {
   mode = mode_of (read_value (number_within 1 MOST_NUMBER) (codes "inter-packet") found);
 }
 
--- the file and the PID have to be given, and one of the two modes, but not both
+-- the file and the PID are mandatory, and so is exactly one of the two modes
 abbrev pub inject : OptionTable InjectConf
 inject = record {
   rows = inject_rows;

@@ -1,3 +1,4 @@
+-- The definitions of `plug_inject`: the rule, options and state of `inject`.
 pub mod InjectRule
 pub mod InjectState
 pub mod InjectSettings

@@ -1,3 +1,4 @@
+//! The plugin `inject`.
 ghost use Rattle.std.specs.Prelude.{◌≡◌, ◌<◌, ◌^◌, ◌∷◌, ℕ, List, [], None, IfOk, is_some};
 ghost use Rattle.plug_inject.specs.InjectRule.{inject_rule, injected, has_packets, packet_behind};
 ghost use Rattle.plug_inject.specs.InjectSettings.{IsLawfulInject};
@@ -10,24 +11,24 @@ use ts_packet::{Cell, NULL_PID, Packet};
 use ts_packetize::{PacketList, packets};
 use ts_section::Section;
 
-/// Puts the packets of some sections, over and over again, in the place of packets on their PID, or of null packets.
+/// Inserts the packets of some sections repeatedly in the place of packets on their PID, or of null packets.
 #[derive(Drop)]
 pub struct Inject {
     /// The PID of the packets that may be replaced.
     target: u16,
-    /// So many packets before one that is replaced were not.
+    /// How many packets just before a replaced one were not replaced.
     kept: u64,
     contents: PacketList,
-    /// How many packets were put in.
+    /// How many packets were inserted.
     put_in: u64,
-    /// How many packets have yet to be met before one may be replaced.
+    /// How many more packets have to pass before one may be replaced.
     wait: u64,
     alloc: Global,
 }
 
 impl Inject {
-    /// A plugin that met no cell yet. It takes room for the packets of the sections, and its steps take none: none of
-    /// them answers `NoMemory`.
+    /// A new plugin, which has processed no cell. It allocates the packets of the sections; its steps allocate
+    /// nothing, and none of them returns `NoMemory`.
     pub fn new(
         alloc: Global,
         conf: &InjectConf,
@@ -54,7 +55,7 @@ impl Inject {
         })
     }
 
-    /// The packet that is put in next, if there are contents.
+    /// The packet that is inserted next, if the cycle has packets.
     fn next_packet(&self) -> Option<Packet>
         ensures next { result ≡ packet_behind self.now.contents self.now.put_in }
         ensures some { is_some result ≡ has_packets self.now.contents }
@@ -68,7 +69,7 @@ impl Inject {
         Some(packet)
     }
 
-    /// Meets the next packet, and puts another in its place where it is replaced.
+    /// Processes the next packet, and replaces it if it is its turn.
     #[inline]
     fn meet(&mut self, packet: &mut Packet)
         requires { self.old.put_in < 2 ^ 63 }
@@ -109,7 +110,7 @@ impl Plugin for Inject {
 
     ghost steady = { λ s. None };
 
-    /// The clauses are those of `Plugin`, whose ghost members have no names here, and one more: no step wants memory.
+    /// The clauses of `Plugin`, whose ghost members have no names here, and one more: no step returns `NoMemory`.
     #[inline]
     fn step(&mut self, _at: u64, cell: &mut Cell) -> Outcome
         requires met { MeetsCells (Meant self.old) _at }

@@ -1,16 +1,17 @@
+//! The settings of `inject`.
 ghost use Rattle.std.specs.Prelude.{◌≡◌};
 ghost use Rattle.plug_inject.specs.InjectSettings.{mode_of};
 
 use ts_outside::NameText;
 use ts_packet::NULL_PID;
 
-/// The greatest PID that carries sections.
+/// The greatest PID that may carry sections.
 pub const LAST_CARRIER: u64 = NULL_PID as u64 - 1;
 
-/// Settings of `inject`, which puts packets of sections in the place of others.
+/// Settings of `inject`, which replaces packets by those of sections.
 #[derive(Drop)]
 pub struct InjectConf {
-    /// The name of the file with the sections; the empty name is standard input.
+    /// The name of the file with the sections; the empty name is the standard input.
     pub file: NameText,
     /// The PID on which the sections are carried, 0 to 8190.
     pub pid: u64,
@@ -23,12 +24,12 @@ pub struct InjectConf {
 pub enum InjectMode {
     /// Every packet on the PID of the sections.
     Replace,
-    /// A null packet where none of the packets next before it was replaced. With it they are so many, 1 to 2^60.
+    /// Each null packet for which none of the N - 1 packets just before it was replaced. N is 1 to 2^60.
     InterPacket(u64),
 }
 
 impl InjectMode {
-    /// The mode by the distance that is given, or that of none.
+    /// The mode given by an optional distance.
     pub fn of(inter_packet: Option<u64>) -> InjectMode
         ensures { result ≡ mode_of inter_packet }
     {

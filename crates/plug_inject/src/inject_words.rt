@@ -1,3 +1,4 @@
+//! The options of `inject`.
 ghost use Rattle.std.specs.Prelude.{◌≡◌, IfOk};
 ghost use Rattle.clap.specs.Simple.{app_of};
 ghost use Rattle.option_words.specs.Options.{command_of};
@@ -19,7 +20,7 @@ static INJECT: [OptionWord; 4] = [
     OptionWord::Value("inter-packet"),
 ];
 
-/// The command of `inject`, which has its options.
+/// The command of `inject`, with its options.
 pub fn inject_command<'a>(alloc: Global) -> Result<Command<'a>, AllocError>
     ensures { IfOk result (λ c. app_of c ≡ command_of inject_rows) }
 {
@@ -42,7 +43,7 @@ fn goes_together(found: &ParsedOptions) -> bool
     !(found.has_flag("replace") && found.has_value("inter-packet"))
 }
 
-/// Reads the settings of `inject` from what its command found in the words.
+/// Reads the settings of `inject` from the options that its command found.
 pub fn inject_settings(alloc: Global, found: &ParsedOptions) -> Result<InjectConf, Refusal>
     ensures reads { ReadsParsed inject found.now result }
     ensures lawful { IfOk result IsLawfulInject }

@@ -1,4 +1,4 @@
-//! Which packets `inject` puts in, and how far apart: laws on a whole list of cells, and no code.
+//! Laws on a whole list of cells: which packets `inject` inserts, and how far apart. They run nothing.
 ghost use Rattle.std.specs.Prelude.{◌≡◌, ◌≢◌, ◌<◌, ◌≤◌, ◌+◌, ◌%◌, ℕ, List, [], Some, length, slice_get, slice_index, slice_index_or};
 ghost use Rattle.ts_packet.specs.declared.cell.Cell.{Cell};
 ghost use Rattle.ts_packet.specs.Cells.{live_packets};
@@ -8,9 +8,9 @@ ghost use Rattle.plug_inject.specs.InjectedPlaces.{injected_packets, places_in};
 ghost use Rattle.plug_inject.specs.declared.inject_conf.InjectConf.{InjectConf};
 ghost use Rattle.plug_inject.specs.declared.inject_conf.InjectMode.TheVariants.{InterPacket};
 
-/// The packets of the sections are put in one after another, over and over again. Number k of those that are put in,
-/// counted from 0, is packet k modulo n of the n packets of a cycle, with counter k modulo 16. In all other places the
-/// packets stay as they were. With a distance two that are put in are at least so many packets apart.
+/// A law; it runs nothing. The packets of the sections are inserted one after another, repeatedly. Inserted packet
+/// number k, counted from 0, is packet k modulo n of the n packets of a cycle, with continuity counter k modulo 16.
+/// All other packets stay unchanged. With a distance, two inserted packets are at least so many packets apart.
 pub fn cycles_are_put_in()
     ensures put_in { (conf : InjectConf) (sections : List (List ℕ)) (cells : List Cell) (k : ℕ)
         → k < length (places_in conf sections cells)

@@ -1,5 +1,5 @@
-//! The plugin that puts packets of sections in the place of others, with its options: `inject`.
-//! The layer above reads settings of words, makes it of its settings and of the sections of their file, and uses it by the
+//! The plugin `inject`, which replaces packets by those of sections, with its options. The layer above reads its
+//! settings from words, makes the plugin of its settings and of the sections of their file, and uses it by the
 //! clauses of `Plugin`.
 #![tactic(auto)]
 

@@ -1,4 +1,4 @@
--- Faults of PCRs by what is kept, and how many PCRs were noted.
+-- Lemmas on faults of PCRs by what is kept, and on the number of noted PCRs.
 use Rattle.std.proofs.Common.{◌≡◌, ℕ, ◌-◌, List, [], ◌∷◌, ◌++◌, length, filter, ap, sym, ◌∙◌, inl, inr, refl, Bool, true, false, nat_lt, if◌then◌else◌, Option, None, Some, option_map, arith}
 use Rattle.ts_packet.specs.declared.cell.Cell.{Cell}
 use Rattle.ts_packet.specs.Cells.{Live, Dropped, live_packets}
@@ -18,7 +18,7 @@ use Rattle.plug_pcr.specs.declared.clock_note.ClockNote.{ClockNote}
 use Rattle.plug_pcr.specs.declared.last_clock.LastClock.{LastClock}
 use Rattle.plug_pcr.specs.declared.pcrverify_conf.PcrverifyConf.{PcrverifyConf}
 
--- a PCR that was read
+-- a packet of which a PCR was read
 pub pcr_reads : (packet : List ℕ) (clock : ℕ) → pcr_of packet ≡ (let s : Option ℕ = Some clock in s) → (has_pcr_of packet ≡ true) × (clock ≡ clock_of packet)
 unfolding pcr_of
 pcr_reads packet clock read = there (has_pcr_of packet) read
@@ -27,7 +27,7 @@ pcr_reads packet clock read = there (has_pcr_of packet) read
     there true is = (refl, cc)
     there false is = cc
 
--- none that was read
+-- a packet without a PCR
 pub pcr_none : (packet : List ℕ) → pcr_of packet ≡ (let n : Option ℕ = None in n) → has_pcr_of packet ≡ false
 unfolding pcr_of
 pcr_none packet read = there (has_pcr_of packet) read
@@ -36,13 +36,13 @@ pcr_none packet read = there (has_pcr_of packet) read
     there true is = cc
     there false is = refl
 
--- behind what is kept of a packet a fault is that behind the packet
+-- the fault after what is kept of a packet is that after the packet
 after_kept : (conf : PcrverifyConf) (at : ℕ) (before : Option Met) (packet : List ℕ)
     → fault_after conf.bitrate conf.jitter_max at (option_map kept_of before) packet (clock_of packet) ≡ fault_behind conf at before packet
 after_kept conf at None packet = refl
 after_kept conf at (Some before) packet = refl
 
--- the fault of a packet is known from what is kept
+-- the fault of a packet follows from what is kept
 pub fault_is : (conf : PcrverifyConf) (history : List Cell) (packet : List ℕ) (kept : Option LastClock) (clock at : ℕ) → is_clocked conf packet ≡ true
     → kept ≡ kept_on (pid_of packet) history → clock ≡ clock_of packet → length history ≡ at
     → fault_after conf.bitrate conf.jitter_max at kept packet clock ≡ fault_on conf history packet
@@ -53,7 +53,7 @@ fault_is conf history packet kept clock at is_one kept_is clock_is count =
     ∙ (after_kept conf (length history) (last_clock_on (pid_of packet) history) packet
     ∙ sym (ap (λ (b : Bool). if b then fault_behind conf (length history) (last_clock_on (pid_of packet) history) packet else []) is_one))))
 
--- one fault at most
+-- at most one fault
 one_with : (jitter_max at : ℕ) (packet : List ℕ) (jitter : ℕ) → IsNoteAt place_of_fault at (fault_with jitter_max at packet jitter)
 one_with jitter_max at packet jitter =
     let fault : ClockFault = record { at = at; pid = pid_of packet; jitter = jitter } in
@@ -79,7 +79,7 @@ one_fault conf history packet =
       | false ↦ record { one = inl refl }
     ]
 
--- one note at most
+-- at most one note
 pub one_note : (conf : PcrverifyConf) (history : List Cell) (packet : List ℕ) → IsNoteAt place_of_note (length history) (note_on conf history packet)
 one_note conf history packet =
     let note : ClockNote = record { at = length history } in

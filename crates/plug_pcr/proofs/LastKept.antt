@@ -1,4 +1,4 @@
--- What is kept of the last PCR on each PID, one cell after another.
+-- Lemmas on what is kept of the last PCR on each PID, cell by cell.
 use Rattle.std.proofs.Common.{◌≡◌, ℕ, ◌-◌, ◌<◌, ◌≤◌, List, [], ◌∷◌, ◌++◌, length, filter, get_or, set, ap, ap₂, sym, subst, ◌∙◌, inl, inr, refl, Bool, true, false, ◌&&◌, if◌then◌else◌, ◌==◌, append-nil, Option, None, Some, option_map, slice_get, arith, length-append, length-set, get_or-set_same, get_or-set_other, eq-eqb}
 use Rattle.std.proofs.lemmas.List.Elements.{filter-append}
 use Rattle.std.proofs.lemmas.Bool.{cases_eq, ne_eqb}
@@ -18,18 +18,18 @@ use Rattle.plug_pcr.specs.declared.last_clock.LastClock.{LastClock}
 use Rattle.plug_pcr.specs.declared.last_clocks.LastClocks.{LastClocks}
 use Rattle.plug_pcr.specs.declared.pcrverify_conf.PcrverifyConf.{PcrverifyConf}
 
--- the last of a row with one more is that one
+-- the last item of a list with one more item is that one
 last_seam : {X : Type 0} (xs : List X) (x : X) → slice_get (xs ++ x ∷ []) (length (xs ++ x ∷ []) - 1) ≡ Some x
 last_seam {X} xs x =
     ap (slice_get (xs ++ x ∷ [])) (let same : length (xs ++ x ∷ []) - 1 ≡ length xs = omega (arith, length-append xs (x ∷ [])) in same)
     ∙ (slice_get-get_or (xs ++ x ∷ []) (length xs) x (let more : length xs < length (xs ++ x ∷ []) = omega (arith, length-append xs (x ∷ [])) in more)
     ∙ ap (λ (y : X). let s : Option X = Some y in s) (get_or-append_seam xs x [] x))
 
--- the last of the rows, as it is kept
+-- the last of the packets, as it is kept
 last_kept : List Met → Option LastClock
 last_kept rows = option_map kept_of (slice_get rows (length rows - 1))
 
--- what stands at a position
+-- a packet at a position, with its position
 row_at : ℕ → List ℕ → ℕ → Met
 row_at at packet labels = record { at = at; packet = packet; labels = labels }
 
@@ -70,12 +70,12 @@ kept_with history packet labels has =
     (ap₂ (λ (a b : Bool). a && b) (eq-eqb (pid_of packet) (pid_of packet) refl) has))
     ∙ ap (option_map kept_of) (last_seam rows row)
 
--- what came before a position came before a later one
+-- what is at most a position is at most a later one
 later : (n m : ℕ) → n ≤ m → (kept : Option LastClock) → IsEarlier n kept → IsEarlier m kept
 later n m le None earlier = earlier
 later n m le (Some last) earlier = let so : last.at ≤ m = omega (arith, earlier, le) in so
 
--- of a packet that is not clocked no PID that is looked at has a PCR
+-- a packet that is not checked has no PCR on a checked PID
 not_on : (conf : PcrverifyConf) (packet : List ℕ) (pid : ℕ) → is_selected conf.pid false pid ≡ true → is_clocked conf packet ≡ false
     → ((pid_of packet == pid) && has_pcr_of packet) ≡ false
 not_on conf packet pid selected none =
@@ -98,7 +98,7 @@ set_at_packet clocks clocks_new packet history pid at clock is pid_is count cloc
     ∙ (ap (λ (n : ℕ). set clocks (pid_of packet) (let s : Option LastClock = Some (record { at = n; clock = clock }) in s)) (sym count)
     ∙ ap (λ (k : ℕ). set clocks (pid_of packet) (let s : Option LastClock = Some (record { at = length history; clock = k }) in s)) clock_is))
 
--- where nothing was kept
+-- if nothing was kept
 pub remembers_none : (conf : PcrverifyConf) (last : LastClocks) → length last.clocks.items ≡ PID_COUNT → ((pid : ℕ) → get_or last.clocks.items pid None ≡ None)
     → Remembers conf last []
 remembers_none conf last whole none = record {
@@ -107,7 +107,7 @@ remembers_none conf last whole none = record {
 }
 
 module _ (conf : PcrverifyConf) (last : LastClocks) (history : List Cell) (r : Remembers conf last history) where
-  -- with one cell more
+  -- with one more cell
   one_more : (cell : Cell) → length history ≤ length (history ++ cell ∷ [])
   one_more cell = omega (arith, length-append history (cell ∷ []))
 
@@ -126,7 +126,7 @@ module _ (conf : PcrverifyConf) (last : LastClocks) (history : List Cell) (r : R
   pub remembers_dropped : Remembers conf last (history ++ Dropped ∷ [])
   remembers_dropped = remembers_cell Dropped (λ pid selected. kept_dropped pid history)
 
-  -- a packet that is not clocked
+  -- a packet that is not checked
   pub remembers_other : (packet : List ℕ) (labels : ℕ) → is_clocked conf packet ≡ false → Remembers conf last (history ++ Live packet labels ∷ [])
   remembers_other packet labels none =
       remembers_cell (Live packet labels) (λ pid selected. kept_other pid history packet labels (not_on conf packet pid selected none))
@@ -134,7 +134,7 @@ module _ (conf : PcrverifyConf) (last : LastClocks) (history : List Cell) (r : R
   module _ (packet : List ℕ) (labels : ℕ) (last_new : LastClocks) (has : has_pcr_of packet ≡ true) (below : pid_of packet < PID_COUNT)
       (set_is : last_new.clocks.items
       ≡ set last.clocks.items (pid_of packet) (let s : Option LastClock = Some (record { at = length history; clock = clock_of packet }) in s)) where
-    -- at the packet's place
+    -- at the packet's PID
     at_place : get_or last_new.clocks.items (pid_of packet) None ≡ (let s : Option LastClock = Some (record { at = length history; clock = clock_of packet }) in s)
     at_place =
         ap (λ (ks : List (Option LastClock)). get_or ks (pid_of packet) None) set_is
@@ -146,7 +146,7 @@ module _ (conf : PcrverifyConf) (last : LastClocks) (history : List Cell) (r : R
         ap (λ (ks : List (Option LastClock)). get_or ks pid None) set_is
         ∙ get_or-set_other last.clocks.items (pid_of packet) pid _ None other
 
-    -- a packet with a PCR is remembered
+    -- a packet with a PCR is kept
     pub remembers_live : Remembers conf last_new (history ++ Live packet labels ∷ [])
     remembers_live =
         let next = history ++ Live packet labels ∷ [] in

@@ -1,4 +1,4 @@
--- Worked rows of `pcrverify`, computed on the definitions. Packets of twelve bytes do as well as whole ones here.
+-- Worked rows of `pcrverify`, computed on the definitions. Packets of twelve bytes are enough here.
 use Rattle.std.proofs.Common.{◌≡◌, ℕ, ◌+◌, ◌-◌, ◌*◌, ◌^◌, ◌/◌, ◌%◌, List, [], ◌∷◌, codes, refl}
 use Rattle.std.specs.Fmt.{digits}
 use Rattle.bit_rows.specs.BitRow.{bit_of, field}
@@ -17,7 +17,7 @@ use Rattle.plug_pcr.specs.declared.pcrverify_conf.PcrverifyConf.{PcrverifyConf}
 abbrev packet_with : ℕ → ℕ → List ℕ
 packet_with flags clock = 0x47 ∷ 0x01 ∷ 0x00 ∷ 0x30 ∷ 7 ∷ flags ∷ clock_bytes (clock / 300) (clock % 300)
 
--- with the flag of a PCR alone, and with that of a discontinuity too
+-- with the PCR_flag only, and with the discontinuity_indicator too
 abbrev clocked : ℕ → Cell
 clocked clock = Live (packet_with 0x10 clock) 0
 
@@ -49,14 +49,14 @@ one-packet = refl
 fifty-packets : jitter_of 13000000 50 0 150000 ≡ 6184
 fifty-packets = refl
 
--- the clock begins again at 2^33 * 300; an extension of 511 takes a PCR beyond it
+-- the clock wraps at 2^33 * 300; an extension of 511 takes a PCR beyond it
 begins-again : jitter_of 13536000 1 (CLOCK_PERIOD - 1000) 2000 ≡ 0
 begins-again = refl
 
 beyond-it : jitter_of 13536000 1 (CLOCK_PERIOD + 211) 3211 ≡ 0
 beyond-it = refl
 
--- half a period is the greatest jitter, whichever way
+-- half a period is the greatest jitter, in either direction
 half-way : jitter_of 13536000 1 0 (CLOCK_PERIOD / 2 + 3000) ≡ 1288490188800
 half-way = refl
 
@@ -65,12 +65,12 @@ exact : said_of (pcrverify_rule checks) (clocked 7000 ∷ clocked 10000 ∷ bare
 unfolding digits field bit_of adaptation_length_of discontinuity_of has_pcr_of clock_of
 exact = refl
 
--- one that is moved by the greatest jitter that is no fault
+-- one that is off by the greatest jitter that is no fault
 moved : said_of (pcrverify_rule checks) (clocked 7000 ∷ clocked 11000 ∷ clocked 13000 ∷ []) ≡ codes "pcr 3 faults 0" ∷ []
 unfolding digits field bit_of adaptation_length_of discontinuity_of has_pcr_of clock_of
 moved = refl
 
--- and by one more: it is a fault, and so is the exact one behind it, which is held to it
+-- and by one more: it is a fault, and so is the exact one after it, which is compared with it
 moved-too_far : said_of (pcrverify_rule checks) (clocked 7000 ∷ clocked 11001 ∷ clocked 13000 ∷ [])
     ≡ codes "packet 1 pid 256 jitter 1001" ∷ codes "packet 2 pid 256 jitter 1001" ∷ codes "pcr 3 faults 2" ∷ []
 unfolding digits field bit_of adaptation_length_of discontinuity_of has_pcr_of clock_of
@@ -81,7 +81,7 @@ moved-place : placed_of (pcrverify_rule checks) (Dropped ∷ clocked 7000 ∷ cl
 unfolding digits field bit_of adaptation_length_of discontinuity_of has_pcr_of clock_of
 moved-place = refl
 
--- with its flag a PCR may be any, and the next one is held to it
+-- with a discontinuity_indicator any PCR is allowed, and the next one is compared with it
 flagged-no_fault : said_of (pcrverify_rule checks) (clocked 7000 ∷ flagged 999000 ∷ clocked 1002000 ∷ []) ≡ codes "pcr 3 faults 0" ∷ []
 unfolding digits field bit_of adaptation_length_of discontinuity_of has_pcr_of clock_of
 flagged-no_fault = refl
@@ -91,7 +91,7 @@ dropped-takes_time : said_of (pcrverify_rule checks) (clocked 7000 ∷ Dropped �
 unfolding digits field bit_of adaptation_length_of discontinuity_of has_pcr_of clock_of
 dropped-takes_time = refl
 
--- PIDs that are not listed are not looked at
+-- PIDs that are not listed are not checked
 other-pid : said_of (pcrverify_rule (record checks { pid = (257, 300) ∷ [] })) (clocked 7000 ∷ clocked 7000 ∷ []) ≡ codes "pcr 0 faults 0" ∷ []
 unfolding digits field bit_of adaptation_length_of discontinuity_of has_pcr_of clock_of
 other-pid = refl

@@ -1,4 +1,4 @@
--- What a value of `pcrverify` keeps, one cell after another, and what it reports.
+-- Lemmas on what a value of `pcrverify` keeps, cell by cell, and on its report.
 use Rattle.std.proofs.Common.{◌≡◌, ℕ, ◌+◌, ◌<◌, ◌≤◌, List, [], ◌∷◌, ◌++◌, length, take, map, ap, sym, ◌∙◌, Bool, true, false, nat_lt, if◌then◌else◌, append-nil, arith, length-append, length-take}
 use Rattle.std.specs.List.{take_while}
 use Rattle.std.proofs.lemmas.List.{length-map, length-take-le}
@@ -26,7 +26,7 @@ use Rattle.plug_pcr.proofs.LastKept.{remembers_dropped, remembers_other}
 
 module _ (conf : PcrverifyConf) (last : LastClocks) (met : List ClockNote) (faults : List ClockFault) (count : ℕ) (lines : List Line) (history : List Cell) (mark : ℕ)
     (w : Verifies conf last met faults count lines history mark) where
-  -- one cell more, whose notes stand behind the others
+  -- one more cell, whose notes are appended
   verifies_cell : (cell : Cell) (last_new : LastClocks) (met_new : List ClockNote) (faults_new : List ClockFault) → length history < POSITION_LIMIT
       → Remembers conf last_new (history ++ cell ∷ []) → met_new ≡ met ++ notes_after (note_on conf) history (cell ∷ [])
       → faults_new ≡ faults ++ notes_after (fault_on conf) history (cell ∷ []) → Verifies conf last_new met_new faults_new count lines (history ++ cell ∷ []) mark
@@ -46,7 +46,7 @@ module _ (conf : PcrverifyConf) (last : LastClocks) (met : List ClockNote) (faul
       verifies_cell Dropped last met faults few (remembers_dropped conf last history w.remembers) (sym (append-nil met)) (sym (append-nil faults))
 
   module _ (packet : List ℕ) (labels : ℕ) (few : length history < POSITION_LIMIT) where
-    -- a packet without a PCR, or on a PID that is not looked at
+    -- a packet without a PCR, or on a PID that is not checked
     pub verifies_other : is_clocked conf packet ≡ false → Verifies conf last met faults count lines (history ++ Live packet labels ∷ []) mark
     verifies_other none =
         let note : ClockNote = record { at = length history } in
@@ -54,7 +54,7 @@ module _ (conf : PcrverifyConf) (last : LastClocks) (met : List ClockNote) (faul
         (sym (ap (λ (b : Bool). met ++ ((if b then note ∷ [] else []) ++ [])) none ∙ append-nil met))
         (sym (ap (λ (b : Bool). faults ++ ((if b then fault_behind conf (length history) (last_clock_on (pid_of packet) history) packet else []) ++ [])) none ∙ append-nil faults))
 
-    -- a packet with a PCR that is looked at
+    -- a packet with a PCR on a checked PID
     pub verifies_live : (last_new : LastClocks) (met_new : List ClockNote) (faults_new its : List ClockFault) (at : ℕ) → is_clocked conf packet ≡ true
         → Remembers conf last_new (history ++ Live packet labels ∷ []) → length history ≡ at → met_new ≡ met ++ (let note : ClockNote = record { at = at } in note) ∷ []
         → faults_new ≡ faults ++ its → its ≡ fault_on conf history packet → Verifies conf last_new met_new faults_new count lines (history ++ Live packet labels ∷ []) mark
@@ -66,7 +66,7 @@ module _ (conf : PcrverifyConf) (last : LastClocks) (met : List ClockNote) (faul
         ∙ sym (ap (λ (b : Bool). met ++ ((if b then note ∷ [] else []) ++ [])) is_one)))
         (pushed ∙ ap (λ (fs : List ClockFault). faults ++ fs) (its_are ∙ sym (append-nil (fault_on conf history packet))))
 
-  -- those that were counted and those that are noted are no more than the cells
+  -- the counted and the noted packets together are no more than the cells
   pub few_clocks : count + length met ≤ POSITION_LIMIT
   few_clocks = omega (
     arith,

@@ -1,5 +1,5 @@
--- PCRs that are checked, and their faults.
--- This project's own rule, over the program clock reference of ISO/IEC 13818-1, 2.4.3.5.
+-- PCRs that are checked, and their faults. This project's own rule, over the program_clock_reference of ISO/IEC
+-- 13818-1, 2.4.3.5.
 use Rattle.std.specs.Prelude.{ℕ, ◌-◌, List, [], ◌∷◌, ◌++◌, length, filter, Bool, false, ◌==◌, ◌&&◌, nat_lt, Option, None, Some, slice_get, codes, if◌then◌else◌}
 use Rattle.std.specs.Fmt.{decimal}
 use Rattle.ts_packet.specs.declared.cell.Cell.{Cell}
@@ -14,29 +14,29 @@ use Rattle.plug_pcr.specs.ClockJitter.{jitter_of}
 use Rattle.plug_pcr.specs.declared.clock_fault.ClockFault.{ClockFault}
 use Rattle.plug_pcr.specs.declared.pcrverify_conf.PcrverifyConf.{PcrverifyConf}
 
--- the packet has a PCR, and its PID is looked at
+-- the packet has a PCR, and its PID is checked
 abbrev pub is_clocked : PcrverifyConf → List ℕ → Bool
 is_clocked conf packet = is_selected conf.pid false (pid_of packet) && has_pcr_of packet
 
--- the packet of a row is on the PID and has a PCR
+-- the packet, given with its position, is on the PID and has a PCR
 abbrev pub has_clock_on : ℕ → Met → Bool
 has_clock_on pid row = (pid_of row.packet == pid) && has_pcr_of row.packet
 
--- the packets on a PID that have a PCR, each with its position: dropped cells have positions too
+-- the packets on a PID that have a PCR, each with its position; dropped cells count as positions too
 abbrev pub clocks_on : ℕ → List Cell → List Met
 clocks_on pid cells = filter (has_clock_on pid) (met_rows cells)
 
--- the last of them, where there is one
+-- the last of them, if there is one
 abbrev pub last_clock_on : ℕ → List Cell → Option Met
 last_clock_on pid cells = slice_get (clocks_on pid cells) (length (clocks_on pid cells) - 1)
 
--- the fault of a packet at a position with a jitter, where that is above the greatest that is none
+-- the fault of a packet at a position with this jitter: there is one if the jitter is above the limit
 abbrev pub fault_with : ℕ → ℕ → List ℕ → ℕ → List ClockFault
 fault_with jitter_max at packet jitter =
     if nat_lt jitter_max jitter then record { at = at; pid = pid_of packet; jitter = jitter } ∷ [] else []
 
--- the fault of a packet at a position behind the last packet on its PID that has a PCR; with the discontinuity flag
--- it is not checked, nor is the first one
+-- the fault of a packet at a position, given the last packet with a PCR before it on its PID; with the
+-- discontinuity_indicator it is not checked, nor is the first packet with a PCR
 abbrev pub fault_behind : PcrverifyConf → ℕ → Option Met → List ℕ → List ClockFault
 fault_behind conf at None packet = []
 fault_behind conf at (Some before) packet =
@@ -45,7 +45,7 @@ fault_behind conf at (Some before) packet =
     else fault_with conf.jitter_max at packet
     (jitter_of conf.bitrate (at - before.at) (clock_of before.packet) (clock_of packet))
 
--- the fault of a packet behind a history
+-- the fault of a packet after a history of cells
 abbrev pub fault_on : PcrverifyConf → List Cell → List ℕ → List ClockFault
 fault_on conf history packet =
     if is_clocked conf packet

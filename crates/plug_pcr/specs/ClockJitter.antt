@@ -1,13 +1,13 @@
--- How far a PCR is from the one that a constant bit rate wants.
--- This project's own rule, over the program clock reference of ISO/IEC 13818-1, 2.4.3.5.
+-- How far a PCR is from the value expected at a constant bit rate. This project's own rule, over the
+-- program_clock_reference of ISO/IEC 13818-1, 2.4.3.5.
 use Rattle.std.specs.Prelude.{ℕ, ◌+◌, ◌-◌, ◌*◌, ◌/◌, ◌%◌, nat_le, if◌then◌else◌}
 use Rattle.plug_pcr.specs.declared.limits.TheConstants.{CLOCK_PERIOD, PACKET_UNITS}
 
--- the whole units of the clock that so many packets take at a bit rate
+-- the whole units of the 27 MHz clock that so many packets take at a bit rate
 abbrev pub units_taken : ℕ → ℕ → ℕ
 units_taken bitrate packets = packets * PACKET_UNITS / bitrate
 
--- by how many units a PCR stands behind a value of the clock, which begins again at its period
+-- by how many units a PCR is ahead of a value of the clock, which wraps at its period
 abbrev pub units_behind : ℕ → ℕ → ℕ
 units_behind wanted clock = (clock + (CLOCK_PERIOD - wanted % CLOCK_PERIOD)) % CLOCK_PERIOD
 
@@ -15,10 +15,10 @@ units_behind wanted clock = (clock + (CLOCK_PERIOD - wanted % CLOCK_PERIOD)) % C
 abbrev pub least_way : ℕ → ℕ
 least_way units = if nat_le units (CLOCK_PERIOD - units) then units else CLOCK_PERIOD - units
 
--- the jitter of a PCR so many packets behind another: how far it is from that one with the units of these packets
+-- the jitter of a PCR so many packets after another one: its distance from that one plus the units of these packets
 abbrev pub jitter_of : ℕ → ℕ → ℕ → ℕ → ℕ
 jitter_of bitrate packets before clock = least_way (units_behind (before + units_taken bitrate packets) clock)
 
--- the clock at a position of a stream with a constant bit rate, whose first packet has this one
+-- the clock at a position of a stream of a constant bit rate, given the clock of its first packet
 abbrev pub clock_at : ℕ → ℕ → ℕ → ℕ
 clock_at bitrate start position = (start + units_taken bitrate position) % CLOCK_PERIOD

@@ -14,7 +14,7 @@ use Rattle.plug_pcr.specs.declared.last_clock.LastClock.{LastClock}
 use Rattle.plug_pcr.specs.declared.last_clocks.LastClocks.{LastClocks}
 use Rattle.plug_pcr.specs.declared.pcrverify_conf.PcrverifyConf.{PcrverifyConf}
 
--- of a packet with a PCR its position and its PCR
+-- the position and the PCR of a packet with a PCR
 abbrev pub kept_of : Met → LastClock
 kept_of row = record { at = row.at; clock = clock_of row.packet }
 
@@ -22,7 +22,7 @@ kept_of row = record { at = row.at; clock = clock_of row.packet }
 abbrev pub kept_on : ℕ → List Cell → Option LastClock
 kept_on pid history = option_map kept_of (last_clock_on pid history)
 
--- the fault of a packet at a position with this PCR, behind what is kept
+-- the fault of a packet at a position with this PCR, after the last PCR that is kept
 abbrev pub fault_after : ℕ → ℕ → ℕ → Option LastClock → List ℕ → ℕ → List ClockFault
 fault_after bitrate jitter_max at None packet clock = []
 fault_after bitrate jitter_max at (Some last) packet clock =
@@ -30,16 +30,16 @@ fault_after bitrate jitter_max at (Some last) packet clock =
     then []
     else fault_with jitter_max at packet (jitter_of bitrate (at - last.at) last.clock clock)
 
--- what is kept came with no position from a count on
+-- the position of the kept PCR is at most this number
 abbrev pub IsEarlier : ℕ → Option LastClock → Type 0
 IsEarlier count kept = IfSome kept (λ last. last.at ≤ count)
 
--- there is a place for each PID, and what is kept came before a position
+-- there is an entry for each PID, and the positions of the kept PCRs are at most this number
 pub record IsTable (last : LastClocks) (count : ℕ) : Type 0 where
   pub whole : length last.clocks.items ≡ PID_COUNT
   pub earlier : (pid : ℕ) → IsEarlier count (slice_index_or last.clocks.items pid None)
 
--- what is kept of each PID that is looked at is that of the last packet with a PCR on it
+-- what is kept of each checked PID is that of the last packet with a PCR on it
 pub record Remembers (conf : PcrverifyConf) (last : LastClocks) (history : List Cell) : Type 0 where
   pub table : IsTable last (length history)
   pub each : (pid : ℕ) → pid < PID_COUNT → is_selected conf.pid false pid ≡ true

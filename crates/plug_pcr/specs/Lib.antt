@@ -1,3 +1,4 @@
+-- The definitions of `plug_pcr`: the rule, options and state of `pcrverify`.
 pub mod ClockFaults
 pub mod ClockJitter
 pub mod ClockNotes

@@ -1,4 +1,4 @@
--- The settings that a value of `pcrverify` has, and the cells that it stands for. This project's own rule.
+-- The settings of a value of `pcrverify`, and the cells that it stands for. This project's own rule.
 use Rattle.std.specs.Prelude.{ℕ, List}
 use Rattle.ts_packet.specs.declared.cell.Cell.{Cell}
 use Rattle.plug_pcr.specs.PcrverifyState.{Verifies}
@@ -9,6 +9,6 @@ use Rattle.plug_pcr.specs.declared.pcrverify.Pcrverify.{Pcrverify}
 abbrev pub conf_of : Pcrverify → PcrverifyConf
 conf_of s = record { bitrate = s.bitrate; jitter_max = s.jitter_max; pid = s.pids }
 
--- its parts stand for the cells that were met, and for the greatest mark
+-- its parts stand for the cells that were processed, and for the greatest mark
 abbrev pub StandsFor : Pcrverify → List Cell → ℕ → Type 0
 StandsFor s history mark = Verifies (conf_of s) s.last s.noted.met.items s.noted.faults.items s.count s.lines.items history mark

@@ -1,5 +1,4 @@
--- The rule of `pcrverify`.
--- This project's own rule, over the program clock reference of ISO/IEC 13818-1, 2.4.3.5.
+-- The rule of `pcrverify`. This project's own rule, over the program_clock_reference of ISO/IEC 13818-1, 2.4.3.5.
 use Rattle.std.specs.Prelude.{ℕ, List, [], ◌∷◌, ◌++◌, length, filter, map, false, codes}
 use Rattle.std.specs.Fmt.{decimal}
 use Rattle.ts_packet.specs.declared.cell.Cell.{Cell}
@@ -8,7 +7,7 @@ use Rattle.chain_model.specs.PluginRule.{PluginRule, passes}
 use Rattle.plug_pcr.specs.declared.pcrverify_conf.PcrverifyConf.{PcrverifyConf}
 pub use Rattle.plug_pcr.specs.ClockFaults.{fault_on, faults_in, is_clocked, text_of_fault}
 
--- the packets that have a PCR on a PID that is looked at, of a list of cells
+-- the packets with a PCR on a checked PID, in a list of cells
 abbrev pub clocked : PcrverifyConf → List Cell → List (List ℕ)
 clocked conf cells = filter (is_clocked conf) (live_packets cells)
 

@@ -12,8 +12,8 @@ use Rattle.plug_pcr.specs.declared.clock_note.ClockNote.{ClockNote}
 use Rattle.plug_pcr.specs.declared.last_clocks.LastClocks.{LastClocks}
 use Rattle.plug_pcr.specs.declared.pcrverify_conf.PcrverifyConf.{PcrverifyConf}
 
--- the last PCRs are remembered; the PCRs before the mark are in the number and their faults in the lines, and those
--- from the mark on are in the notes
+-- the last PCRs are kept; the PCRs before the mark are in the count and their faults in the lines, and those from the
+-- mark on are in the notes
 pub record Verifies (conf : PcrverifyConf) (last : LastClocks) (met : List ClockNote) (faults : List ClockFault) (count : ℕ) (lines : List Line) (history : List Cell) (mark : ℕ) : Type 0 where
   pub some_rate : 1 ≤ conf.bitrate
   pub remembers : Remembers conf last history

@@ -1,5 +1,4 @@
--- The words of `pcrverify`.
--- This project's own rule.
+-- The options of `pcrverify`. This project's own rule.
 use Rattle.std.specs.Prelude.{List, [], ◌∷◌, codes, true, unwrap_or}
 use Rattle.clap.specs.Walk.{Row}
 use Rattle.plug_conf.specs.declared.limits.TheConstants.{LAST_PID}
@@ -18,7 +17,7 @@ pcrverify_rows = record { name = codes "bitrate"; kind = value (number 1 MOST_BI
     ∷ record { name = codes "pid"; kind = value (ranges LAST_PID) }
     ∷ []
 
--- the settings of what is found
+-- the settings given by the options that were found
 abbrev pub pcrverify_settings : List Row → PcrverifyConf
 pcrverify_settings found = record {
   bitrate = unwrap_or (read_value (number_within 1 MOST_BITRATE) (codes "bitrate") found) 1;
@@ -26,7 +25,7 @@ pcrverify_settings found = record {
   pid = unwrap_or (read_value (ranges_of LAST_PID) (codes "pid") found) [];
 }
 
--- the bit rate has to be given
+-- the bit rate is mandatory
 abbrev pub pcrverify : OptionTable PcrverifyConf
 pcrverify = record {
   rows = pcrverify_rows;

@@ -1,15 +1,16 @@
+//! A fault of a PCR, and its line in the report.
 use plugin_notes::{LineNote, PacketNote};
 use plugin_trait::{Line, LineText};
 use std::alloc::{AllocError, Global};
 
-/// That a packet's PCR was too far from the one that the bit rate wants.
+/// A packet whose PCR is too far from the one expected at the bit rate.
 #[derive(Clone, Copy, PartialEq, Eq)]
 pub struct ClockFault {
     /// The position of the packet.
     pub at: u64,
     /// Its PID.
     pub pid: u16,
-    /// How far its PCR is from the one wanted, in units of the 27 MHz clock.
+    /// How far its PCR is from the expected one, in units of the 27 MHz clock.
     pub jitter: u64,
 }
 

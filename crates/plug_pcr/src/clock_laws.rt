@@ -1,11 +1,11 @@
-//! Laws of the jitter, each a fact and no code.
+//! Laws of the jitter. They run nothing.
 
 ghost use Rattle.std.specs.Prelude.{◌≡◌, ◌≤◌, ◌+◌, ◌%◌, ◌⊎◌, ℕ};
 ghost use Rattle.plug_pcr.specs.ClockJitter.{clock_at, jitter_of, units_taken};
 ghost use Rattle.plug_pcr.specs.declared.limits.TheConstants.{CLOCK_PERIOD};
 
-/// The jitter is the least number of units by which the PCR or the wanted one has to go on for both to be the same value
-/// of the clock, which begins again at its period.
+/// A law; it runs nothing. The jitter is the least number of units by which the PCR or the expected one has to be
+/// increased for both to be the same value of the clock, which wraps at its period.
 pub fn jitter_is_the_least_change()
     ensures moves { (bitrate packets before clock : ℕ)
         → (((before + units_taken bitrate packets) + jitter_of bitrate packets before clock) % CLOCK_PERIOD ≡ clock % CLOCK_PERIOD)
@@ -18,8 +18,8 @@ pub fn jitter_is_the_least_change()
         → jitter_of bitrate packets before clock ≤ units }
 {}
 
-/// PCRs of a constant bit rate, each with the whole units that all packets before it take, are at most one unit from those
-/// that are wanted at that rate, wherever the clock begins again.
+/// A law; it runs nothing. PCRs at a constant bit rate, each computed with the whole units that all packets before it
+/// take, are at most one unit from those expected at that rate, wherever the clock wraps.
 pub fn constant_rate_is_exact_to_a_unit()
     ensures { (bitrate start before packets : ℕ) → 1 ≤ bitrate
         → jitter_of bitrate packets (clock_at bitrate start before) (clock_at bitrate start (before + packets)) ≤ 1 }

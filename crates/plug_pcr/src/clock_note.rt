@@ -1,6 +1,7 @@
+//! A packet with a PCR, noted to be counted.
 use plugin_notes::PacketNote;
 
-/// That a packet with a PCR was met.
+/// A packet with a PCR on a checked PID.
 #[derive(Clone, Copy, PartialEq, Eq)]
 pub struct ClockNote {
     /// The position of the packet.

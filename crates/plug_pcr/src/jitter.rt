@@ -1,11 +1,11 @@
-//! How far a PCR is from the one that the bit rate wants.
+//! How far a PCR is from the one expected at the bit rate.
 ghost use Rattle.std.specs.Prelude.{◌≡◌, ◌<◌, ◌≤◌};
 ghost use Rattle.plug_pcr.specs.ClockJitter.{jitter_of};
 ghost use Rattle.plug_pcr.specs.declared.limits.TheConstants.{CLOCK_PERIOD as PERIOD};
 
 use crate::limits::{CLOCK_PERIOD, PACKET_UNITS};
 
-/// The jitter of a PCR that stands so many packets behind another, in units of the 27 MHz clock.
+/// The jitter of a PCR that stands so many packets after another one, in units of the 27 MHz clock.
 pub fn jitter(bitrate: u64, packets: u64, before: u64, clock: u64) -> u64
     requires { 1 ≤ bitrate }
     ensures is { result ≡ jitter_of bitrate packets before clock }

@@ -1,3 +1,4 @@
+//! The last PCR on a PID, and the fault of the next one.
 ghost use Rattle.std.specs.Prelude.{◌≡◌, ◌≤◌, IfSome, option_to_list};
 ghost use Rattle.plug_pcr.specs.LastClocks.{fault_after};
 
@@ -14,7 +15,7 @@ pub struct LastClock {
     pub clock: u64,
 }
 
-/// The fault of the packet at a position with this PCR, if it is one, behind the last PCR on its PID.
+/// The fault of the packet at a position with this PCR, if it is one, given the last PCR on its PID.
 #[inline]
 pub fn fault_behind(
     bitrate: u64,

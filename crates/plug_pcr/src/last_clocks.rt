@@ -6,7 +6,7 @@ use crate::last_clock::LastClock;
 use std::alloc::{AllocError, Global};
 use ts_packet::PID_COUNT;
 
-/// The last PCR on each PID, where there was one.
+/// The last PCR on each PID, if there was one.
 #[derive(Drop)]
 pub struct LastClocks {
     clocks: Vec<Option<LastClock>>,
@@ -18,7 +18,7 @@ impl LastClocks {
     ghost use Rattle.plug_pcr.specs.LastClocks.{Remembers};
     ghost use Rattle.plug_pcr.specs.declared.pcrverify_conf.PcrverifyConf.{PcrverifyConf as GivenConf};
 
-    /// No PCR was met on any PID. It takes 192 KiB.
+    /// No PCR yet on any PID. Allocates 192 KiB.
     pub fn new(alloc: Global) -> Result<LastClocks, AllocError>
         ensures { IfOk result (λ last. (conf : GivenConf) → Remembers conf last []) }
     {
@@ -27,7 +27,7 @@ impl LastClocks {
         })
     }
 
-    /// The last PCR on a PID, where there was one.
+    /// The last PCR on a PID, if there was one.
     #[inline]
     pub fn on(&self, pid: u16) -> Option<LastClock>
         requires on_pid { pid < PID_COUNT }
@@ -48,7 +48,7 @@ impl LastClocks {
     }
 }
 
-// No PCR on any PID.
+// A table without PCRs.
 fn no_clocks(alloc: Global) -> Result<Vec<Option<LastClock>>, AllocError>
     ensures { IfOk result (λ clocks. (length clocks.items ≡ PID_COUNT) × ((pid : ℕ) → slice_index_or clocks.items pid None ≡ None)) }
 {

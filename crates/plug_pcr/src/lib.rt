@@ -1,6 +1,6 @@
-//! The plugin `pcrverify`: packets come in and pass; where a PCR is too far from the one that a constant bit rate wants,
-//! a line comes out, and the summary has the numbers. The layer above reads settings of words, makes the plugin, and uses
-//! it by the clauses of `Plugin`, which hold lines and summary to the cells that count.
+//! The plugin `pcrverify`. Packets come in and pass; a line goes out for each PCR that is too far from the one
+//! expected at a constant bit rate, and the summary has the numbers. The layer above reads its settings from words,
+//! makes the plugin, and uses it by the clauses of `Plugin`, which relate lines and summary to the cells that count.
 #![tactic(auto)]
 
 mod clock_fault;

@@ -1,4 +1,4 @@
-//! Packets with a PCR that are still to be counted, and the faults among them.
+//! Packets with a PCR that are not counted yet, and the faults among them.
 use crate::clock_fault::ClockFault;
 use crate::clock_note::ClockNote;
 use circular_buffer::HeapCircularBuffer;
@@ -6,7 +6,7 @@ use plugin_notes::{drop_below, push_lines_below, push_note};
 use plugin_trait::Line;
 use std::alloc::{AllocError, Global};
 
-/// Notes of the packets with a PCR from the greatest mark on, and of the faults among them.
+/// Notes on the packets with a PCR from the greatest mark on, and on the faults among them.
 #[derive(Drop)]
 pub struct NotedClocks {
     met: HeapCircularBuffer<ClockNote>,
@@ -20,7 +20,7 @@ impl NotedClocks {
     ghost use Rattle.plug_pcr.specs.ClockFaults.{line_of_fault, place_of_fault};
     ghost use Rattle.plug_pcr.specs.ClockNotes.{place_of_note};
 
-    /// Nothing was noted. It takes room for notes on as many packets as the buffer holds.
+    /// Nothing is noted. It allocates room for notes on as many packets as the buffer holds.
     pub fn new(alloc: Global, buffer: usize) -> Result<NotedClocks, AllocError>
         ensures met { IfOk result (λ noted. noted.met.items ≡ []) }
         ensures faults { IfOk result (λ noted. noted.faults.items ≡ []) }
@@ -31,8 +31,8 @@ impl NotedClocks {
         })
     }
 
-    /// Notes a packet with a PCR, and its fault, if it is one. Where the room is used up it answers `AllocError`, and
-    /// the notes are as they were.
+    /// Notes a packet with a PCR, and its fault, if it has one. If the room is used up it returns `AllocError`, and
+    /// the notes are unchanged.
     pub fn push(&mut self, note: ClockNote, fault: Option<ClockFault>) -> Result<(), AllocError>
         ensures met { OnOk result (self.new.met.items ≡ self.old.met.items ++ note ∷ []) }
         ensures faults { OnOk result (self.new.faults.items ≡ self.old.faults.items ++ option_to_list fault) }
@@ -48,7 +48,7 @@ impl NotedClocks {
         Ok(())
     }
 
-    /// Puts the lines of the faults below a position behind others. Where memory is wanted the lines are as they were.
+    /// Appends the lines of the faults below a position. Out of memory the lines are unchanged.
     pub fn push_lines_below(&self, lines: &mut Vec<Line>, mark: u64) -> Result<(), AllocError>
         ensures ok { OnOk result (lines.new.items ≡ lines.old.items ++ map line_of_fault (take_while (λ fault. nat_lt (place_of_fault fault) mark) self.now.faults.items)) }
         ensures err { OnErr result (lines.new.items ≡ lines.old.items) }
@@ -56,7 +56,7 @@ impl NotedClocks {
         push_lines_below(lines, &self.faults, mark)
     }
 
-    /// Takes the notes below a position off, and answers on how many packets they were.
+    /// Removes the notes below a position, and returns how many packets with a PCR they were.
     pub fn drop_below(&mut self, mark: u64) -> u64
         ensures met { TakesBelow place_of_note mark self.old.met.items self.new.met.items }
         ensures faults { TakesBelow place_of_fault mark self.old.faults.items self.new.faults.items }

@@ -1,3 +1,4 @@
+//! The plugin `pcrverify`.
 ghost use Rattle.std.specs.Prelude.{◌≡◌, IfOk, [], None};
 ghost use Rattle.plug_pcr.specs.PcrverifyRule.{pcrverify_rule};
 
@@ -13,7 +14,7 @@ use std::alloc::{AllocError, Global};
 use std::mem;
 use ts_packet::{Cell, Packet};
 
-/// Reports packets whose PCR is too far from the one that a constant bit rate wants.
+/// Reports packets whose PCR is too far from the one expected at a constant bit rate.
 #[derive(Drop)]
 pub struct Pcrverify {
     bitrate: u64,
@@ -22,9 +23,9 @@ pub struct Pcrverify {
     last: LastClocks,
     /// The packets with a PCR from the greatest mark on, and the faults among them.
     noted: NotedClocks,
-    /// How many packets with a PCR stand below it.
+    /// How many packets with a PCR stand below the mark.
     count: u64,
-    /// The lines of the faults below it.
+    /// The lines of the faults below the mark.
     lines: Vec<Line>,
     alloc: Global,
 }
@@ -43,8 +44,8 @@ impl Pcrverify {
     ghost use Rattle.plug_pcr.specs.PcrverifyRule.{pcrverify_rule};
     ghost use Rattle.plug_pcr.specs.PcrverifyConfOf.{StandsFor, conf_of};
 
-    /// A plugin that met no cell yet. It takes room for its tables, and for notes on as many packets as the buffer
-    /// holds; the lines of its faults grow with the stream.
+    /// A new plugin, which has processed no cell. It allocates its tables, and room for notes on as many packets as
+    /// the buffer holds; the lines of its faults grow with the stream.
     pub fn new(alloc: Global, conf: &PcrverifyConf, buffer: usize) -> Result<Pcrverify, AllocError>
         requires { IsLawfulPcrverify conf.now }
         ensures rule { IfOk result (λ plugin. ⟦<Pcrverify as Plugin>⟧.rule plugin ≡ pcrverify_rule conf.now) }
@@ -63,7 +64,7 @@ impl Pcrverify {
         })
     }
 
-    // Looks at the packet at a position.
+    // Checks the packet at a position.
     #[inline(always)]
     fn look(&mut self, at: u64, packet: &Packet) -> Result<(), AllocError>
         requires met { MeetsCells (StandsFor self.old) at }
@@ -82,7 +83,7 @@ impl Pcrverify {
         }
     }
 
-    // Meets the packet at a position, which has this PCR and is on a PID that is looked at.
+    // Processes the packet at a position, which has this PCR and is on a checked PID.
     fn meet(&mut self, at: u64, packet: &Packet, clock: u64) -> Result<(), AllocError>
         requires met { MeetsCells (StandsFor self.old) at }
         requires in_range { at < POSITION_LIMIT }
@@ -101,8 +102,8 @@ impl Pcrverify {
         Ok(())
     }
 
-    // Takes the notes below a position off, counts them, and puts the lines of their faults behind the others. Where
-    // memory was wanted all is as it was.
+    // Removes the notes below a position, counts them, and appends the lines of their faults. Out of memory nothing
+    // is changed.
     fn fold(&mut self, mark: u64) -> Result<(), AllocError>
         requires { AllowsMark (StandsFor self.old) mark }
         ensures notes { Notes (StandsFor self.old) (StandsFor self.new) mark result }
@@ -125,7 +126,7 @@ impl Plugin for Pcrverify {
 
     ghost steady = { λ s. None };
 
-    // Else the loop of `steps` has a call for each cell.
+    // Inlined always: otherwise the loop of `steps` has a call for each cell.
     #[inline(always)]
     fn step(&mut self, at: u64, cell: &mut Cell) -> Outcome {
         let Some(live) = cell.live() else {

@@ -1,3 +1,4 @@
+//! The options of `pcrverify`.
 ghost use Rattle.std.specs.Prelude.{◌≡◌, IfOk};
 ghost use Rattle.clap.specs.Simple.{app_of};
 ghost use Rattle.option_words.specs.Options.{command_of};
@@ -19,14 +20,14 @@ static PCRVERIFY: [OptionWord; 3] = [
     OptionWord::Value("pid"),
 ];
 
-/// The command of `pcrverify`, which has its options.
+/// The command of `pcrverify`, with its options.
 pub fn pcrverify_command<'a>(alloc: Global) -> Result<Command<'a>, AllocError>
     ensures { IfOk result (λ c. app_of c ≡ command_of pcrverify_rows) }
 {
     command_with(alloc, &PCRVERIFY)
 }
 
-/// Reads the settings of `pcrverify` from what its command found in the words.
+/// Reads the settings of `pcrverify` from the options that its command found.
 pub fn pcrverify_settings(alloc: Global, found: &ParsedOptions) -> Result<PcrverifyConf, Refusal>
     ensures reads { ReadsParsed pcrverify found.now result }
     ensures lawful { IfOk result IsLawfulPcrverify }

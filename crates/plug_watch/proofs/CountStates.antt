@@ -1,4 +1,4 @@
--- What a value of `count` keeps, one cell after another, and what it reports.
+-- Lemmas on what a value of `count` keeps, cell by cell, and on its report.
 use Rattle.std.proofs.Common.{◌≡◌, ℕ, ◌+◌, ◌<◌, ◌≤◌, ◌^◌, List, [], ◌∷◌, ◌++◌, length, take, map, ap, sym, subst, ◌∙◌, refl, Bool, true, false, nat_lt, if◌then◌else◌, append-nil, None, Some, arith, length-append}
 use Rattle.std.specs.List.{take_while}
 use Rattle.std.proofs.lemmas.List.{length-map, length-take-le}
@@ -22,7 +22,7 @@ use Rattle.plugin_notes.proofs.Noting.{placed_at-notes, placed_after-notes}
 use Rattle.plug_watch.proofs.Counting.{one_note, line_on-notes, on_pids, pids_of-notes}
 use Rattle.plugin_notes.proofs.Keeping as keeping
 
--- one more can be counted
+-- one more packet can be counted
 pub has_room : (tally : Tally) (notes : List Note) → IsTallied tally notes → length notes < 2 ^ 63 → HasRoomIn tally
 has_room tally notes tallied few = record { pids = map pid_in notes; tally = tallied; few = omega (arith, few, length-map notes pid_in) }
 
@@ -52,7 +52,7 @@ placed_all conf cells all =
     ∙ placed_at-notes place_of text_on (length h) (note_on conf h packet) (one_note conf h packet))
     [] cells
 
--- the lines that are kept are the rule's
+-- the kept lines are the rule's
 placed_is : (conf : CountConf) (cells : List Cell) (b : Bool) → conf.all ≡ b
     → (if b then map line_of_note (notes_after (note_on conf) [] cells) else []) ≡ placed_after (count_rule conf) [] cells
 placed_is conf cells true all = sym (placed_all conf cells all)
@@ -66,7 +66,7 @@ module _ (conf : CountConf) (notes : List Note) (tally : Tally) (lines : List Li
   can_fold =
       keeping.can_fold (note_on conf) place_of (one_note conf) notes history mark w.keeps pid_in IsTallied tally w.tallied w.short (on_pids conf)
 
-  -- one cell more, whose notes stand behind the others
+  -- one more cell, whose notes are appended
   counts_cell : (cell : Cell) (notes_new : List Note) → length history < POSITION_LIMIT → notes_new ≡ notes ++ notes_after (note_on conf) history (cell ∷ [])
       → Counts conf notes_new tally lines (history ++ cell ∷ []) mark
   counts_cell cell notes_new few is =
@@ -90,7 +90,7 @@ module _ (conf : CountConf) (notes : List Note) (tally : Tally) (lines : List Li
         counts_cell (Live packet labels) notes few
         (sym (ap (λ (b : Bool). notes ++ ((if b then note ∷ [] else []) ++ [])) other ∙ append-nil notes))
 
-    -- one that is counted has one
+    -- a counted one has one
     pub counts_live : (note : Note) (notes_new : List Note) → is_counted conf packet ≡ true
         → note ≡ (let n : Note = record { at = length history; pid = pid_of packet } in n) → notes_new ≡ notes ++ note ∷ []
         → Counts conf notes_new tally lines (history ++ Live packet labels ∷ []) mark
@@ -116,11 +116,11 @@ module _ (conf : CountConf) (notes : List Note) (tally : Tally) (lines : List Li
     short = w.short;
   }
 
-  -- where memory was wanted
+  -- out of memory nothing is changed
   pub counts_same : (lines_new : List Line) → lines_new ≡ lines → Counts conf notes tally lines_new history mark
   counts_same lines_new same = record { keeps = w.keeps; tallied = w.tallied; lined = same ∙ w.lined; short = w.short }
 
-  -- a position for which room was made finds the notes not full
+  -- if there is room up to a position, the notes are not full there
   pub not_full : (capacity room at : ℕ) (b : Bool) → (if b then None else Some capacity) ≡ Some room
       → length history ≡ at → at < mark + room → capacity ≤ length notes → ⊥
   not_full capacity room at true steady count within full = cc

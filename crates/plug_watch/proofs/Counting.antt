@@ -1,4 +1,4 @@
--- Notes on packets that are counted, and the numbers that they come to.
+-- Lemmas on notes on counted packets, and on their counts.
 use Rattle.std.proofs.Common.{◌≡◌, ℕ, ◌+◌, ◌<◌, List, [], ◌∷◌, ◌++◌, length, map, filter, ap, inl, inr, refl, true, false, if◌then◌else◌, arith}
 use Rattle.std.specs.List.{All}
 use Rattle.std.proofs.lemmas.List.Elements.{All-push}
@@ -14,7 +14,7 @@ use Rattle.plug_watch.specs.CountRule.{is_counted, counted, line_on, packet_text
 use Rattle.plug_watch.specs.CountNotes.{note_on, pid_in, place_of, text_on}
 use Rattle.plugin_notes.proofs.Noting.{IsNoteAt}
 
--- one note at most
+-- at most one note
 pub one_note : (conf : CountConf) (history : List Cell) (packet : List ℕ) → IsNoteAt place_of (length history) (note_on conf history packet)
 one_note conf history packet =
     let note : Note = record { at = length history; pid = pid_of packet } in
@@ -44,7 +44,7 @@ on_pids conf history packet =
     none : All (λ (n : Note). pid_in n < PID_COUNT) []
     none = λ k d lt. absurd (let less : ⊥ = omega (arith, lt) in less)
 
--- the notes bear the PIDs of the packets that are counted
+-- the PIDs of the notes are those of the counted packets
 pub pids_of-notes : (conf : CountConf) (history cells : List Cell) → map pid_in (notes_after (note_on conf) history cells) ≡ map pid_of (counted conf cells)
 pids_of-notes conf history [] = refl
 pids_of-notes conf history (Live packet labels ∷ cells) =

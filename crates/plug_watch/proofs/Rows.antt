@@ -1,5 +1,4 @@
--- Worked rows of `count` and `continuity`, computed on the definitions. Packets of a few bytes do as well as whole ones
--- here.
+-- Worked rows of `count` and `continuity`, computed on the definitions. Packets of a few bytes are enough here.
 use Rattle.std.proofs.Common.{◌≡◌, ℕ, ◌+◌, List, [], ◌∷◌, ◌++◌, true, false, codes, refl}
 use Rattle.std.specs.Fmt.{digits}
 use Rattle.std.specs.List.{flat_map}
@@ -44,12 +43,12 @@ no-pid-line : pid_lines (live_packets cells) 257 ≡ []
 unfolding field bit_of
 no-pid-line = refl
 
--- with `--total` the total alone
+-- with `--total` only the total
 total-line : said_of (count_rule (record counts { total = true })) cells ≡ codes "total 5" ∷ []
 unfolding digits field bit_of
 total-line = refl
 
--- the PIDs ascend
+-- the PIDs are ascending
 pids-ascend : flat_map (pid_lines (on_3 ∷ on_1 ∷ on_3 ∷ [])) (numbers_below 5) ≡ codes "pid 1 packets 1" ∷ codes "pid 3 packets 2" ∷ []
 unfolding digits field bit_of numbers_below
 pids-ascend = refl
@@ -59,7 +58,7 @@ whole-summary : (count_rule counts).summary_of cells ≡ flat_map (pid_lines (on
 unfolding digits field bit_of
 whole-summary = refl
 
--- with `--all` each packet that is counted has its line, at its position
+-- with `--all` each counted packet has its line, at its position
 each-line : said_of (count_rule (record counts { negate = true; all = true; total = true })) cells ≡ codes "packet 3 pid 1" ∷ codes "total 1" ∷ []
 unfolding digits field bit_of
 each-line = refl
@@ -69,8 +68,8 @@ each-place : placed_of (count_rule (record counts { negate = true; all = true; t
 unfolding digits field bit_of
 each-place = refl
 
--- a packet on PID 256 with payload and this counter, one without payload, and one whose adaptation field has the
--- discontinuity indicator
+-- a packet on PID 256 with a payload and this counter, one without a payload, and one whose adaptation field has the
+-- discontinuity_indicator set
 abbrev numbered : ℕ → List ℕ
 numbered counter = 0x47 ∷ 0x01 ∷ 0x00 ∷ (0x10 + counter) ∷ []
 
@@ -87,28 +86,28 @@ watches = record { pid = []; fix = false }
 abbrev fixes : ContinuityConf
 fixes = record { pid = []; fix = true }
 
--- behind 15 comes 0; a duplicate has the counter of the packet before it, and so has a packet without payload
+-- after 15 comes 0; a duplicate has the counter of the packet before it, and so has a packet without a payload
 no-fault : faults_in watches (Live (numbered 15) 0 ∷ Live (numbered 0) 0 ∷ Live (numbered 0) 0 ∷ Live (bare 0) 0 ∷ Live (numbered 1) 0 ∷ []) ≡ []
 unfolding field bit_of adaptation_length_of discontinuity_of
 no-fault = refl
 
--- with its flag a counter may be any
+-- with a discontinuity_indicator any counter is allowed
 flagged-no_fault : faults_in watches (Live (numbered 3) 0 ∷ Live (flagged 9) 0 ∷ Live (numbered 10) 0 ∷ []) ≡ []
 unfolding field bit_of adaptation_length_of discontinuity_of
 flagged-no_fault = refl
 
--- a counter is left out; the dropped cell has a position
+-- a counter is missing; the dropped cell has a position
 counter-fault : said_of (continuity_rule watches) (Live (numbered 3) 0 ∷ Dropped ∷ Live (numbered 5) 0 ∷ Live (numbered 6) 0 ∷ [])
     ≡ codes "packet 2 pid 256 counter 5 wanted 4" ∷ codes "faults 1" ∷ []
 unfolding digits field bit_of adaptation_length_of discontinuity_of
 counter-fault = refl
 
--- a packet without payload whose counter goes on
+-- a packet without a payload whose counter is incremented
 bare-fault : faults_in watches (Live (numbered 3) 0 ∷ Live (bare 4) 0 ∷ []) ≡ codes "packet 1 pid 256 counter 4 wanted 3" ∷ []
 unfolding digits field bit_of adaptation_length_of discontinuity_of
 bare-fault = refl
 
--- null packets are not looked at, nor are other PIDs where some are listed
+-- null packets are not checked, nor are other PIDs where some are listed
 abbrev null : ℕ → Cell
 null counter = Live (0x47 ∷ 0x1F ∷ 0xFF ∷ (0x10 + counter) ∷ []) 0
 
@@ -120,8 +119,8 @@ other-no_fault : faults_in (record watches { pid = (257, 300) ∷ [] }) (Live (n
 unfolding field bit_of adaptation_length_of discontinuity_of
 other-no_fault = refl
 
--- counters put right: the first one's go on, a duplicate keeps that of the packet before it, and so does a packet
--- without payload
+-- corrected counters: they count on from the first one; a duplicate keeps the counter of the packet before it, and so
+-- does a packet without a payload
 counters-fixed : (apply (continuity_rule fixes) (Live (numbered 14) 0 ∷ Live (numbered 4) 0 ∷ Live (numbered 4) 0 ∷ Live (bare 9) 0 ∷ null 7 ∷ Live (numbered 6) 0 ∷ [])).cells
     ≡ Live (numbered 14) 0 ∷ Live (numbered 15) 0 ∷ Live (numbered 15) 0 ∷ Live (bare 15) 0 ∷ null 7 ∷ Live (numbered 0) 0 ∷ []
 unfolding field bit_of adaptation_length_of discontinuity_of with_counter

@@ -1,4 +1,4 @@
--- The lines of a summary, one PID after another.
+-- Lemmas on the lines of a summary, PID by PID.
 use Rattle.std.proofs.Common.{◌≡◌, ℕ, ◌+◌, ◌<◌, List, [], ◌∷◌, ◌++◌, map, ap, sym, ◌∙◌, ◌==◌, if◌then◌else◌, append_assoc, append-nil, get_or}
 use Rattle.std.specs.List.{flat_map}
 use Rattle.std.proofs.lemmas.Grind.{flat_map-append}
@@ -11,7 +11,7 @@ use Rattle.plugin_notes.specs.PidPackets.{numbers_below, packets_on}
 use Rattle.plug_watch.specs.CountRule.{pid_lines, pid_text}
 use Rattle.plugin_notes.proofs.PidLemmas.{numbers_below_more, packets_on-pids, placed_at-append}
 
--- the lines with those of one PID more
+-- the lines with those of one more PID
 pub pid_lines_more : (packets : List (List ℕ)) (counts : List ℕ) (total cut pid count : ℕ) (before lines lines_new : List Line)
     → IsTally counts total (map pid_of packets) → pid < PID_COUNT → count ≡ get_or counts pid 0
     → lines ≡ before ++ placed_at cut (flat_map (pid_lines packets) (numbers_below pid))

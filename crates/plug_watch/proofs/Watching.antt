@@ -1,4 +1,4 @@
--- What a value of `continuity` keeps, one cell after another, and what it reports.
+-- Lemmas on what a value of `continuity` keeps, cell by cell, and on its report.
 use Rattle.std.proofs.Common.{◌≡◌, ℕ, ◌+◌, ◌≤◌, List, [], ◌∷◌, ◌++◌, length, map, ap, ap₂, sym, ◌∙◌, refl, Bool, true, false, if◌then◌else◌, append-nil, Option, None, Some, length-append, take, nat_lt}
 use Rattle.std.specs.List.{take_while}
 use Rattle.std.proofs.lemmas.List.{length-take-le, length-map}
@@ -23,7 +23,7 @@ use Rattle.plugin_notes.proofs.Remembering.{one_fault, remembers_dropped, rememb
 
 module _ (conf : ContinuityConf) (last : LastPackets) (notes : List ContinuityError) (lines : List Line) (history : List Cell) (mark : ℕ)
     (w : Watches conf last notes lines history mark) where
-  -- one cell more, whose faults stand behind the others
+  -- one more cell, whose errors are appended
   pub watches_cell : (cell : Cell) (last_new : LastPackets) (notes_new : List ContinuityError) → Remembers conf last_new (history ++ cell ∷ [])
       → notes_new ≡ notes ++ notes_after (error_on conf) history (cell ∷ []) → Watches conf last_new notes_new lines (history ++ cell ∷ []) mark
   watches_cell cell last_new notes_new remembers is = record {
@@ -36,13 +36,13 @@ module _ (conf : ContinuityConf) (last : LastPackets) (notes : List ContinuityEr
   pub watches_dropped : Watches conf last notes lines (history ++ Dropped ∷ []) mark
   watches_dropped = watches_cell Dropped last notes (remembers_dropped conf last history w.remembers) (sym (append-nil notes))
 
-  -- a packet on a PID that is not looked at
+  -- a packet on a PID that is not checked
   pub watches_other : (packet : List ℕ) (labels : ℕ) → is_watched conf (pid_of packet) ≡ false → Watches conf last notes lines (history ++ Live packet labels ∷ []) mark
   watches_other packet labels unwatched =
       watches_cell (Live packet labels) last notes (remembers_other conf last history w.remembers packet labels unwatched)
       (sym (ap (λ (b : Bool). notes ++ ((if b then error_behind (length history) (last_of (pid_of packet) history) packet else []) ++ [])) unwatched ∙ append-nil notes))
 
-  -- a packet that is looked at
+  -- a packet that is checked
   pub watches_live : (packet : List ℕ) (labels : ℕ) (last_new : LastPackets) (notes_new faults : List ContinuityError)
       → Remembers conf last_new (history ++ Live packet labels ∷ []) → faults ≡ error_on conf history packet → notes_new ≡ notes ++ faults
       → Watches conf last_new notes_new lines (history ++ Live packet labels ∷ []) mark
@@ -61,11 +61,11 @@ module _ (conf : ContinuityConf) (last : LastPackets) (notes : List ContinuityEr
     lined = keeping.lines_below (error_on conf) place_of_error (one_fault conf) notes history mark w.keeps to notes_new le within takes line_of_error lines lines_new w.lined pushed;
   }
 
-  -- where memory was wanted
+  -- out of memory nothing is changed
   pub watches_same : (lines_new : List Line) → lines_new ≡ lines → Watches conf last notes lines_new history mark
   watches_same lines_new same = record { remembers = w.remembers; keeps = w.keeps; lined = same ∙ w.lined }
 
--- the rule's line of a packet is that of its fault
+-- the rule's line of a packet is that of its error
 texts_behind : (at : ℕ) (before : Option (List ℕ)) (packet : List ℕ) → fault_behind at before packet ≡ map text_of_error (error_behind at before packet)
 texts_behind at None packet = refl
 texts_behind at (Some before) packet =
@@ -83,7 +83,7 @@ texts_on conf history packet =
       | false ↦ refl
     ]
 
--- there are as many lines as faults
+-- there are as many lines as errors
 same_number : (conf : ContinuityConf) (history cells : List Cell) → length (notes_after (fault_on conf) history cells) ≡ length (notes_after (error_on conf) history cells)
 same_number conf history [] = refl
 same_number conf history (Live packet labels ∷ cells) =

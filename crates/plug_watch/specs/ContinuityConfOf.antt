@@ -1,4 +1,4 @@
--- The settings that a value of `continuity` has, and the cells that it stands for. This project's own rule.
+-- The settings of a value of `continuity`, and the cells that it stands for. This project's own rule.
 use Rattle.std.specs.Prelude.{ℕ, List}
 use Rattle.ts_packet.specs.declared.cell.Cell.{Cell}
 use Rattle.plug_watch.specs.ContinuitySeen.{Watches}
@@ -9,6 +9,6 @@ use Rattle.plug_watch.specs.declared.continuity.Continuity.{Continuity}
 abbrev pub conf_of : Continuity → ContinuityConf
 conf_of s = record { pid = s.pids; fix = s.fix }
 
--- its parts stand for the cells that were met, and for the greatest mark
+-- its parts stand for the cells that were processed, and for the greatest mark
 abbrev pub StandsFor : Continuity → List Cell → ℕ → Type 0
 StandsFor s history mark = Watches (conf_of s) s.last s.notes.items s.lines.items history mark

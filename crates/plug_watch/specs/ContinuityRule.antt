@@ -8,7 +8,7 @@ use Rattle.plugin_notes.specs.declared.continuity_conf.ContinuityConf.{Continuit
 use Rattle.plugin_notes.specs.Notes.{notes_after}
 pub use Rattle.plugin_notes.specs.Counters.{is_watched, packets_of, is_duplicate, wanted_behind, is_fault, fault_text, last_behind, last_in, last_of, step_behind, steps_behind, right_counter}
 
--- the line of a packet at a position, behind the packet before it on its PID: where it is a fault
+-- the line of a packet at a position, after the packet before it on its PID, if its counter is a fault
 abbrev pub fault_behind : ℕ → Option (List ℕ) → List ℕ → List (List ℕ)
 fault_behind at None packet = []
 fault_behind at (Some before) packet =
@@ -16,7 +16,7 @@ fault_behind at (Some before) packet =
     then fault_text at (pid_of packet) (counter_of packet) (wanted_behind before packet) ∷ []
     else []
 
--- the line of a packet behind a history, where its PID is looked at
+-- the line of a packet after a history of cells, if its PID is checked
 abbrev pub fault_on : ContinuityConf → List Cell → List ℕ → List (List ℕ)
 fault_on conf history packet =
     if is_watched conf (pid_of packet)
@@ -27,7 +27,7 @@ fault_on conf history packet =
 abbrev pub faults_in : ContinuityConf → List Cell → List (List ℕ)
 faults_in conf cells = notes_after (fault_on conf) [] cells
 
--- the packet with its counter put right: that field is set, and nothing else (`with_counter-sets` of `ts_packet`)
+-- the packet with its counter corrected: that field is set, and nothing else (`with_counter-sets` of `ts_packet`)
 abbrev pub fixed : List Cell → List ℕ → List ℕ
 fixed history packet = with_counter packet (right_counter (packets_of (pid_of packet) history ++ packet ∷ []))
 
@@ -35,7 +35,7 @@ fixed history packet = with_counter packet (right_counter (packets_of (pid_of pa
 abbrev pub faults_text : ℕ → List ℕ
 faults_text n = codes "faults " ++ decimal n
 
--- each fault has a line, and the summary has their number; with `fix` the counters are put right
+-- each fault has a line, and the summary has their number; with `fix` the counters are corrected
 abbrev pub continuity_rule : ContinuityConf → PluginRule
 continuity_rule conf = record {
   outcome_of = λ history packet _.

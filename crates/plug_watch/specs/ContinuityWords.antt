@@ -1,5 +1,4 @@
--- The words of `continuity`.
--- This project's own rule.
+-- The options of `continuity`. This project's own rule.
 use Rattle.std.specs.Prelude.{List, [], ◌∷◌, codes, true, unwrap_or}
 use Rattle.plugin_notes.specs.declared.continuity_conf.ContinuityConf.{ContinuityConf}
 use Rattle.plug_conf.specs.declared.limits.TheConstants.{LAST_PID}
@@ -14,7 +13,7 @@ continuity_rows = record { name = codes "pid"; kind = value (ranges LAST_PID) }
     ∷ record { name = codes "fix"; kind = flag }
     ∷ []
 
--- nothing has to be given
+-- no option is mandatory
 abbrev pub continuity : OptionTable ContinuityConf
 continuity = record {
   rows = continuity_rows;

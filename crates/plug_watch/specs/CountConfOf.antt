@@ -1,4 +1,4 @@
--- The settings that a value of `count` has, and the cells that it stands for. This project's own rule.
+-- The settings of a value of `count`, and the cells that it stands for. This project's own rule.
 use Rattle.std.specs.Prelude.{ℕ, List}
 use Rattle.ts_packet.specs.declared.cell.Cell.{Cell}
 use Rattle.plug_watch.specs.CountState.{Counts}
@@ -9,6 +9,6 @@ use Rattle.plug_watch.specs.declared.count.Count.{Count}
 abbrev pub conf_of : Count → CountConf
 conf_of s = record { pid = s.pids; negate = s.negate; all = s.all; total = s.total }
 
--- its parts stand for the cells that were met, and for the greatest mark
+-- its parts stand for the cells that were processed, and for the greatest mark
 abbrev pub StandsFor : Count → List Cell → ℕ → Type 0
 StandsFor s history mark = Counts (conf_of s) s.notes.items s.tally s.lines.items history mark

@@ -1,4 +1,4 @@
--- Notes of packets that were counted, and their lines. This project's own rule.
+-- Notes on counted packets, and their lines. This project's own rule.
 use Rattle.std.specs.Prelude.{ℕ, List, [], ◌∷◌, length, map, if◌then◌else◌}
 use Rattle.ts_packet.specs.declared.cell.Cell.{Cell}
 use Rattle.ts_packet.specs.Header.{pid_of}
@@ -9,7 +9,7 @@ use Rattle.plug_watch.specs.declared.count_conf.CountConf.{CountConf}
 use Rattle.plug_watch.specs.declared.note.Note.{Note}
 use Rattle.plugin_notes.specs.declared.tally.Tally.{Tally}
 
--- a packet that is counted is noted with its position and its PID
+-- a counted packet is noted with its position and its PID
 abbrev pub note_on : CountConf → List Cell → List ℕ → List Note
 note_on conf history packet =
     if is_counted conf packet then record { at = length history; pid = pid_of packet } ∷ [] else []
@@ -28,6 +28,6 @@ text_on note = packet_text note.at note.pid
 abbrev pub line_of_note : Note → Line
 line_of_note note = record { at = note.at; text = text_on note }
 
--- the numbers are those of these notes
+-- the counts are those of these notes
 abbrev pub IsTallied : Tally → List Note → Type 0
 IsTallied tally notes = IsCounted tally (map pid_in notes)

@@ -12,42 +12,42 @@ use Rattle.plug_conf.specs.Selection.{is_selected}
 pub use Rattle.plugin_notes.specs.PidPackets.{packets_on}
 unfoldable pub use Rattle.plugin_notes.specs.PidPackets.{numbers_below}
 
--- the packet is one of those that are counted
+-- the packet is counted
 abbrev pub is_counted : CountConf → List ℕ → Bool
 is_counted conf packet = is_selected conf.pid conf.negate (pid_of packet)
 
--- the packets that are counted, of a list of cells
+-- the counted packets in a list of cells
 abbrev pub counted : CountConf → List Cell → List (List ℕ)
 counted conf cells = filter (is_counted conf) (live_packets cells)
 
--- the line on a packet: `packet <position> pid <pid>`
+-- the line of a packet: `packet <position> pid <pid>`
 abbrev pub packet_text : ℕ → ℕ → List ℕ
 packet_text at pid = codes "packet " ++ (decimal at ++ (codes " pid " ++ decimal pid))
 
--- the line on a PID with so many packets: `pid <pid> packets <n>`
+-- the line of a PID with its number of packets: `pid <pid> packets <n>`
 abbrev pub pid_text : ℕ → ℕ → List ℕ
 pid_text pid n = codes "pid " ++ (decimal pid ++ (codes " packets " ++ decimal n))
 
--- the line on all that were counted: `total <n>`
+-- the line of all counted packets: `total <n>`
 abbrev pub total_text : ℕ → List ℕ
 total_text n = codes "total " ++ decimal n
 
--- a PID that has packets has its line
+-- the line of a PID, if it has packets
 abbrev pub pid_lines : List (List ℕ) → ℕ → List (List ℕ)
 pid_lines packets pid = if packets_on pid packets == 0 then [] else pid_text pid (packets_on pid packets) ∷ []
 
--- the PIDs with their packets, ascending, and then the total; with `total` that alone
+-- the PIDs with their packets, ascending, and then the total; with `total` the total only
 abbrev pub summary_on : Bool → List (List ℕ) → List (List ℕ)
 summary_on total packets =
     (if total then [] else flat_map (pid_lines packets) (numbers_below PID_COUNT))
     ++ total_text (length packets) ∷ []
 
--- the line of a packet behind a history, where it is counted
+-- the line of a packet after a history of cells, if it is counted
 abbrev pub line_on : CountConf → List Cell → List ℕ → List (List ℕ)
 line_on conf history packet =
     if is_counted conf packet then packet_text (length history) (pid_of packet) ∷ [] else []
 
--- every packet passes; with `all` each one that is counted has a line; the summary counts them
+-- every packet passes; with `all` each counted packet has a line; the summary has the counts
 abbrev pub count_rule : CountConf → PluginRule
 count_rule conf = record {
   outcome_of = λ _ packet _. passes packet;

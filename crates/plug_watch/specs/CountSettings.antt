@@ -1,9 +1,9 @@
--- Lawful settings of `count`.
+-- Valid settings of `count`.
 -- This project's own rule.
 use Rattle.ts_packet.specs.declared.numbers.TheConstants.{PID_COUNT}
 use Rattle.plug_conf.specs.NumberSet.{AllBelow}
 use Rattle.plug_watch.specs.declared.count_conf.CountConf.{CountConf}
 
--- the settings have what `count` needs, each number in its range, and no two that exclude each other
+-- every setting is there, each number is in its range, and no two settings exclude each other
 pub record IsLawfulCount (c : CountConf) : Type 0 where
   pub pids : AllBelow PID_COUNT c.pid

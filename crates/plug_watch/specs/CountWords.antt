@@ -1,5 +1,4 @@
--- The words of `count`.
--- This project's own rule.
+-- The options of `count`. This project's own rule.
 use Rattle.std.specs.Prelude.{List, [], ◌∷◌, codes, true, unwrap_or}
 use Rattle.plug_watch.specs.declared.count_conf.CountConf.{CountConf}
 use Rattle.plug_conf.specs.declared.limits.TheConstants.{LAST_PID}
@@ -16,7 +15,7 @@ count_rows = record { name = codes "pid"; kind = value (ranges LAST_PID) }
     ∷ record { name = codes "total"; kind = flag }
     ∷ []
 
--- nothing has to be given
+-- no option is mandatory
 abbrev pub count : OptionTable CountConf
 count = record {
   rows = count_rows;

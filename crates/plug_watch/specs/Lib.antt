@@ -1,3 +1,4 @@
+-- The definitions of `plug_watch`: the rules, options and states of `count` and `continuity`.
 pub use Rattle.plugin_notes.specs.Notes
 pub mod CountRule
 pub mod CountNotes

@@ -1,3 +1,4 @@
+//! The plugin `continuity`.
 ghost use Rattle.std.specs.Prelude.{◌≡◌, IfOk, [], None};
 ghost use Rattle.plug_watch.specs.ContinuityRule.{continuity_rule};
 
@@ -12,15 +13,15 @@ use std::alloc::{AllocError, Global};
 use std::mem;
 use ts_packet::{Cell, NULL_PID, PID_COUNT, Packet};
 
-/// Reports packets whose continuity counter is not the one wanted, and with `fix` puts counters right.
+/// Reports packets whose continuity counter is not the expected one, and with `fix` corrects the counters.
 #[derive(Drop)]
 pub struct Continuity {
     pids: PidSet,
     fix: bool,
     last: LastPackets,
-    /// The faults from the greatest mark on.
+    /// The errors from the greatest mark on.
     notes: HeapCircularBuffer<ContinuityError>,
-    /// The lines of those below it.
+    /// The lines of the errors below the mark.
     lines: Vec<Line>,
     alloc: Global,
 }
@@ -37,8 +38,8 @@ impl Continuity {
     ghost use Rattle.plugin_notes.specs.Counters.{is_watched};
     ghost use Rattle.plug_watch.specs.ContinuityConfOf.{StandsFor, conf_of};
 
-    /// A plugin that met no cell yet. It takes room for its tables, and for notes on as many packets as the buffer
-    /// holds; the lines of its faults grow with the stream.
+    /// A new plugin, which has processed no cell. It allocates its tables, and room for notes on as many packets as
+    /// the buffer holds; the lines of the errors grow with the stream.
     pub fn new(
         alloc: Global,
         conf: &ContinuityConf,
@@ -60,7 +61,7 @@ impl Continuity {
         })
     }
 
-    // Whether the packets of a PID are looked at.
+    // Whether the packets of a PID are checked.
     fn watches(&self, pid: u16) -> bool
         requires { pid < PID_COUNT }
         ensures { result ≡ is_watched (conf_of self.now) pid }
@@ -68,7 +69,7 @@ impl Continuity {
         self.pids.selects(false, pid) && pid != NULL_PID
     }
 
-    // Looks at a packet that is watched, and puts its counter right with `fix`.
+    // Checks a packet, and with `fix` corrects its counter.
     fn watch(&mut self, at: u64, packet: &mut Packet) -> Result<(), AllocError>
         requires watched { is_watched (conf_of self.old) (pid_of packet.old) ≡ true }
         requires met { MeetsCells (StandsFor self.old) at }
@@ -89,8 +90,7 @@ impl Continuity {
         Ok(())
     }
 
-    // Takes the notes below a position off, and puts their lines behind the others. Where memory was wanted all is as
-    // it was.
+    // Removes the notes below a position, and appends their lines. Out of memory nothing is changed.
     fn fold(&mut self, mark: u64) -> Result<(), AllocError>
         requires { AllowsMark (StandsFor self.old) mark }
         ensures notes { Notes (StandsFor self.old) (StandsFor self.new) mark result }
@@ -114,7 +114,7 @@ impl Plugin for Continuity {
 
     ghost steady = { λ s. None };
 
-    // Else the loop of `steps` has a call for each cell.
+    // Inlined always: otherwise the loop of `steps` has a call for each cell.
     #[inline(always)]
     fn step(&mut self, at: u64, cell: &mut Cell) -> Outcome {
         let Some(live) = cell.live_mut() else {

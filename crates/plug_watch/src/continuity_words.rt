@@ -1,3 +1,4 @@
+//! The options of `continuity`.
 ghost use Rattle.std.specs.Prelude.{◌≡◌, IfOk};
 ghost use Rattle.clap.specs.Simple.{app_of};
 ghost use Rattle.plug_watch.specs.ContinuitySettings.{IsLawfulContinuity};
@@ -14,14 +15,14 @@ use std::alloc::{AllocError, Global};
 // The options of `continuity`.
 static CONTINUITY: [OptionWord; 2] = [OptionWord::Value("pid"), OptionWord::Flag("fix")];
 
-/// The command of `continuity`, which has its options.
+/// The command of `continuity`, with its options.
 pub fn continuity_command<'a>(alloc: Global) -> Result<Command<'a>, AllocError>
     ensures { IfOk result (λ c. app_of c ≡ command_of continuity_rows) }
 {
     command_with(alloc, &CONTINUITY)
 }
 
-/// Reads the settings of `continuity` from what its command found in the words.
+/// Reads the settings of `continuity` from the options that its command found.
 pub fn continuity_settings(alloc: Global, found: &ParsedOptions) -> Result<ContinuityConf, Refusal>
     ensures reads { ReadsParsed continuity found.now result }
     ensures lawful { IfOk result IsLawfulContinuity }

@@ -1,3 +1,4 @@
+//! The plugin `count`.
 ghost use Rattle.std.specs.Prelude.{◌≡◌, ◌++◌, IfOk, OnOk, OnErr, IsOk, [], None, Some, false, map, nat_lt, if◌then◌else◌};
 ghost use Rattle.std.specs.List.{take_while};
 ghost use Rattle.plug_watch.specs.CountNotes.{IsTallied, line_of_note, pid_in, place_of};
@@ -15,16 +16,16 @@ use std::alloc::{AllocError, Global};
 use std::mem;
 use ts_packet::Cell;
 
-/// Counts packets by PID, and with `all` has a line for each.
+/// Counts packets by PID, and with `all` reports a line for each.
 #[derive(Drop)]
 pub struct Count {
     pids: PidSet,
     negate: bool,
     all: bool,
     total: bool,
-    /// What was counted below the greatest mark.
+    /// The counts below the greatest mark.
     tally: Tally,
-    /// The packets from the mark on, which are still to be counted.
+    /// The packets from the mark on, which are not counted yet.
     notes: HeapCircularBuffer<Note>,
     /// With `all`, the lines of the packets below the mark.
     lines: Vec<Line>,
@@ -39,8 +40,8 @@ impl Count {
     ghost use Rattle.plugin_trait.specs.Marks.{Notes};
     ghost use Rattle.plugin_trait.specs.Steps.{MeetsSome};
 
-    /// A plugin that met no cell yet. It takes room for its tables, and for notes on as many packets as the buffer
-    /// holds; with `all` its lines grow with the stream.
+    /// A new plugin, which has processed no cell. It allocates its tables, and room for notes on as many packets as
+    /// the buffer holds; with `all` its lines grow with the stream.
     pub fn new(alloc: Global, conf: &CountConf, buffer: usize) -> Result<Count, AllocError>
         requires { IsLawfulCount conf.now }
         ensures rule { IfOk result (λ plugin. ⟦<Count as Plugin>⟧.rule plugin ≡ count_rule conf.now) }
@@ -59,8 +60,8 @@ impl Count {
         })
     }
 
-    // Counts the notes below a position and takes them off; with `all` their lines come behind the others. Where
-    // memory was wanted for the lines, all is as it was.
+    // Counts the notes below a position and removes them; with `all` their lines are appended. If there is no memory
+    // for the lines, nothing is changed.
     fn fold(&mut self, mark: u64) -> Result<(), AllocError>
         requires { MeetsSome (StandsFor self.old) }
         ensures notes { Notes (StandsFor self.old) (StandsFor self.new) mark result }
@@ -74,7 +75,7 @@ impl Count {
     }
 }
 
-// Puts the lines of the notes below a position behind others, if lines are wanted.
+// Appends the lines of the notes below a position, if lines are wanted.
 fn push_lines_if(
     wanted: bool,
     lines: &mut Vec<Line>,
@@ -91,7 +92,7 @@ fn push_lines_if(
     push_lines_below(lines, notes, mark)
 }
 
-// Counts the notes below a position, and takes them off.
+// Counts the notes below a position, and removes them.
 fn fold_below(notes: &mut HeapCircularBuffer<Note>, tally: &mut Tally, mark: u64)
     requires { CanFold pid_in IsTallied notes.old.items tally.old }
     ensures folds { Folds place_of IsTallied mark notes.old.items notes.new.items tally.old tally.new }

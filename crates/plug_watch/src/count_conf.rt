@@ -1,14 +1,15 @@
+//! The settings of `count`.
 use plug_conf::NumberSet;
 
 /// Settings of `count`, which counts packets by PID.
 #[derive(Drop)]
 pub struct CountConf {
-    /// The PIDs that are counted; none where all are.
+    /// The PIDs that are counted, 0 to 8191; if empty, all.
     pub pid: NumberSet,
-    /// The other PIDs are counted in place of those.
+    /// Whether the other PIDs are counted in place of those.
     pub negate: bool,
-    /// Each packet that is counted has a line of its own.
+    /// Whether each counted packet has a line of its own.
     pub all: bool,
-    /// The summary has the total alone.
+    /// Whether the summary has the total only.
     pub total: bool,
 }

@@ -1,3 +1,4 @@
+//! The options of `count`.
 ghost use Rattle.std.specs.Prelude.{◌≡◌, IfOk};
 ghost use Rattle.clap.specs.Simple.{app_of};
 ghost use Rattle.plug_watch.specs.CountSettings.{IsLawfulCount};
@@ -19,14 +20,14 @@ static COUNT: [OptionWord; 4] = [
     OptionWord::Flag("total"),
 ];
 
-/// The command of `count`, which has its options.
+/// The command of `count`, with its options.
 pub fn count_command<'a>(alloc: Global) -> Result<Command<'a>, AllocError>
     ensures { IfOk result (λ c. app_of c ≡ command_of count_rows) }
 {
     command_with(alloc, &COUNT)
 }
 
-/// Reads the settings of `count` from what its command found in the words.
+/// Reads the settings of `count` from the options that its command found.
 pub fn count_settings(alloc: Global, found: &ParsedOptions) -> Result<CountConf, Refusal>
     ensures reads { ReadsParsed count found.now result }
     ensures lawful { IfOk result IsLawfulCount }

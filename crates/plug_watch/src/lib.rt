@@ -1,5 +1,5 @@
-//! The plugins that look at packets: `count` counts them by PID, `continuity` checks their counters.
-//! The layer above reads settings of words, makes each of its settings, and uses it by the clauses of `Plugin`.
+//! The plugins that check packets: `count` counts them by PID, `continuity` checks their counters. The layer above
+//! reads their settings from words, makes each plugin of its settings, and uses it by the clauses of `Plugin`.
 #![tactic(auto)]
 
 mod continuity;

@@ -1,8 +1,9 @@
+//! A counted packet, and its line in the report.
 use plugin_notes::{LineNote, PacketNote};
 use plugin_trait::{Line, LineText};
 use std::alloc::{AllocError, Global};
 
-/// That a packet was counted.
+/// A packet that was counted.
 #[derive(Clone, Copy, PartialEq, Eq)]
 pub struct Note {
     /// The position of the packet.

@@ -1,4 +1,4 @@
-//! The summary of what was counted.
+//! The summary of `count`.
 ghost use Rattle.std.specs.Prelude.{◌≡◌, ◌==◌, ◌++◌, ◌∷◌, [], ℕ, List, OnOk, length, map, if◌then◌else◌};
 ghost use Rattle.std.specs.List.{flat_map};
 ghost use Rattle.ts_packet.specs.Header.{pid_of};
@@ -12,8 +12,7 @@ use plugin_trait::{Line, LineText};
 use std::alloc::AllocError;
 use ts_packet::PID_COUNT;
 
-/// Puts the summary behind other lines: a line for each PID that has packets, unless the total alone is
-/// wanted, and then the total.
+/// Appends the summary: a line for each PID that has packets, unless only the total is wanted, and then the total.
 pub fn push_summary(
     lines: &mut Vec<Line>,
     cut: u64,
@@ -31,7 +30,7 @@ pub fn push_summary(
     push_line(lines, cut, LineText::of(text))
 }
 
-// Puts a line for each PID that has packets behind other lines.
+// Appends a line for each PID that has packets.
 fn push_pid_lines(lines: &mut Vec<Line>, cut: u64, tally: &Tally) -> Result<(), AllocError>
     requires { IsWhole tally.now }
     ensures { OnOk result ((packets : List (List ℕ)) → IsCounted tally.now (map pid_of packets)
@@ -43,7 +42,7 @@ fn push_pid_lines(lines: &mut Vec<Line>, cut: u64, tally: &Tally) -> Result<(), 
     Ok(())
 }
 
-// Puts the line of a PID behind other lines, if it has packets.
+// Appends the line of a PID, if it has packets.
 fn push_pid_line(lines: &mut Vec<Line>, cut: u64, pid: u16, count: u64) -> Result<(), AllocError>
     ensures { OnOk result (lines.new.items ≡ lines.old.items ++ placed_at cut (if count == 0 then [] else pid_text pid count ∷ [])) }
 {

@@ -1,4 +1,4 @@
--- How each step of `compact` changes what its delay line keeps, and that it keeps what its definition says.
+-- Lemmas on how each step of `compact` changes what its delay line keeps.
 use Rattle.std.proofs.Common.{◌≡◌, ℕ, zero, suc, ◌+◌, ◌-◌, ◌*◌, ◌/◌, ◌%◌, ◌<◌, ◌≤◌, nat_lt, ◌==◌, List, [], ◌∷◌, ◌++◌, length, take, drop, filter, slice_get, Bool, true, false, not, Option, None, if◌then◌else◌, refl, ap, sym, ◌∙◌, subst, arith, append_assoc, append-nil, length-append, length-drop, add-one}
 use Rattle.std.proofs.lemmas.Bool.{cond-true, cond-false, lt-ltb, le-ltb, ltb-true, ltb-false, eqb-true, eqb-false}
 use Rattle.std.proofs.lemmas.Nat.{div-mul-add, mod-mul-add}
@@ -42,7 +42,7 @@ module _ {X : Type 0} (last : X → Bool) where
   nought : (k : ℕ) → 0 ≡ 0 - k
   nought k = omega arith
 
-  -- the next item of the block that is given is taken out
+  -- the next item of the block that is output is taken out
   keeps-shift : (given taken : List X) (m : ℕ) (packets nulls : List X) (collected left : ℕ) → m < length given
       → Keeps last given taken m (record { packets = packets; nulls = nulls; collected = collected; left = left; gives = true })
       → Keeps last given taken (suc m) (shifted (record { packets = packets; nulls = nulls; collected = collected; left = left; gives = true }))
@@ -65,7 +65,7 @@ module _ {X : Type 0} (last : X → Bool) where
         left_is = omega arith;
       }
 
-  -- an item is put behind those that are collected
+  -- an item is appended to those that are collected
   keeps-fill : (given taken : List X) (m : ℕ) (s : Collected X) (x : X) → Keeps last given taken m s → Keeps last given (taken ++ x ∷ []) m (filled last x s)
   keeps-fill given taken m s x k = record {
     packets_are = ap (λ (row : List X). row ++ ahead last (x ∷ [])) k.packets_are
@@ -77,7 +77,7 @@ module _ {X : Type 0} (last : X → Bool) where
     left_is = k.left_is;
   }
 
-  -- the next item of the block that is given is the first of its kind: of the packets while one of the block is left
+  -- the next item of the block that is output is the first of its kind: of the packets while one of the block is left
   member : (given taken packets nulls : List X) (collected left : ℕ) → collected < length given
       → Keeps last given taken collected (record { packets = packets; nulls = nulls; collected = collected; left = left; gives = true })
       → (if nat_lt 0 left then slice_get packets 0 else slice_get nulls 0) ≡ slice_get (parted last given) collected
@@ -102,7 +102,7 @@ module _ {X : Type 0} (last : X → Bool) where
   )
 
   module _ (n : ℕ) where
-    -- a count while a block is given: the items collected become the block that is given, or wait
+    -- counting while a block is output: the collected items become the block that is output, or wait
     counts-gives : (before given taken came : List X) (blocks : ℕ) (packets nulls : List X) (collected left : ℕ)
         → came ≡ before ++ (given ++ taken) → length before ≡ blocks * n → length given ≡ n → length taken ≡ suc collected → collected < n
         → Keeps last given taken (suc collected) (record { packets = packets; nulls = nulls; collected = collected; left = left; gives = true })
@@ -149,7 +149,7 @@ module _ {X : Type 0} (last : X → Bool) where
               (record { packets_are = packets_left; nulls_are = nulls_left; left_is = k.left_is });
         })
 
-    -- a count before the first block is whole
+    -- counting before the first block is complete
     counts-starts : (came : List X) (packets nulls : List X) (collected left : ℕ)
         → length came ≡ suc collected → collected < n → packets ≡ ahead last came → nulls ≡ filter last came
         → Collects last n came (counted n (record { packets = packets; nulls = nulls; collected = collected; left = left; gives = false }))
@@ -177,7 +177,7 @@ module _ {X : Type 0} (last : X → Bool) where
         (λ no_. let other : collected + 1 ≡ n → ⊥ = eqb-false (collected + 1) n no_ in
         record { count = count ∙ sym (add-one collected); below = omega arith; packets_are = first; nulls_are = second })
 
-    -- one turn: what was kept of the items that came becomes what is kept of them and one more
+    -- one turn: what is kept of the items that came in becomes what is kept of them and one more
     pub turned : (came : List X) (x : X) (packets nulls : List X) (collected left : ℕ) (gives : Bool)
         → CollectsWhere gives last n came (record { packets = packets; nulls = nulls; collected = collected; left = left; gives = gives })
         → Collects last n (came ++ x ∷ []) (counted n (filled last x (shifted (record { packets = packets; nulls = nulls; collected = collected; left = left; gives = gives }))))
@@ -196,7 +196,7 @@ module _ {X : Type 0} (last : X → Bool) where
         (ap (λ (row : List X). row ++ ahead last (x ∷ [])) h.packets_are ∙ sym (filter-append (λ y. not (last y)) came (x ∷ [])))
         (ap (λ (row : List X). row ++ filter last (x ∷ [])) h.nulls_are ∙ sym (filter-append last came (x ∷ [])))
 
-    -- the member of the block before which the rule gives, where the items that came are told as blocks
+    -- the item of the block before that the rule outputs, if the items that came in are given as blocks
     pub in_block : (before given taken came : List X) (blocks : ℕ) (x : X) → came ≡ before ++ (given ++ taken) → length before ≡ blocks * n → length given ≡ n → length taken < n
         → compacted last n came x ≡ slice_get (parted last given) (length taken)
     in_block before given taken came blocks x is behind all less =
@@ -218,7 +218,7 @@ module _ {X : Type 0} (last : X → Bool) where
         ∙ (ap (λ (row : List X). slice_get (parted last row) (length came % n)) is_block
         ∙ ap (slice_get (parted last given)) place))
 
-    -- what the line gives is what the rule gives
+    -- the line outputs what the rule outputs
     pub first-is : (came : List X) (x : X) (packets nulls : List X) (collected left : ℕ) (gives : Bool)
         → CollectsWhere gives last n came (record { packets = packets; nulls = nulls; collected = collected; left = left; gives = gives })
         → first_of (record { packets = packets; nulls = nulls; collected = collected; left = left; gives = gives }) ≡ compacted last n came x
@@ -234,7 +234,7 @@ module _ {X : Type 0} (last : X → Bool) where
         let less : collected < n = h.below in
         sym (cond-true (nat_lt (length came) n) None _ (lt-ltb (length came) n (omega arith)))
 
-    -- either kind has a free place for the next item
+    -- either queue has a free place for the next item
     pub has_room : (came : List X) (packets nulls : List X) (collected left : ℕ) (gives : Bool)
         → CollectsWhere gives last n came (record { packets = packets; nulls = nulls; collected = collected; left = left; gives = gives })
         → let s = shifted (record { packets = packets; nulls = nulls; collected = collected; left = left; gives = gives }) in (length s.packets < n) × (length s.nulls < n)

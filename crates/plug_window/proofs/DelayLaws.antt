@@ -1,4 +1,5 @@
--- What `apply` gives for a rule that gives earlier packets: in rows, and for the two plugins in packets alone.
+-- Lemmas on the result of `apply` for a rule that outputs earlier packets: in rows, and for the two plugins in
+-- packets.
 use Rattle.std.proofs.Common.{◌≡◌, ℕ, zero, suc, ◌+◌, ◌*◌, ◌≤◌, List, [], ◌∷◌, ◌++◌, length, map, take, drop, filter, replicate, Bool, true, false, not, Option, None, Some, if◌then◌else◌, refl, ap, sym, ◌∙◌, append-nil}
 use Rattle.std.specs.Prelude.{option_to_list}
 use Rattle.std.specs.List.{take-map, drop-map}
@@ -27,11 +28,11 @@ goes stuffing (Some row) = tt
 goes true None = tt
 goes false None = tt
 
--- a packet passes or is dropped, whatever is given
+-- a packet passes or is dropped, whatever is output
 pub never-ends : (stuffing : Bool) (given : List Labelled → Labelled → Option Labelled) → NeverEnds (delay_rule stuffing given)
 never-ends stuffing given = record { goes_on = λ history packet labels. goes stuffing (given (live_rows history) (labelled packet labels)) }
 
--- one place gives what is given in it, or nothing
+-- one place outputs what is put in it, or nothing
 slot : (given : Option Labelled) (labels : ℕ) (rest : StageList)
     → live_rows (onto (outcome_of_live (fate false (given_packet given)) (labels_left labels given)) rest).cells ≡ option_to_list given ++ live_rows rest.cells
 slot None labels rest = refl
@@ -55,7 +56,7 @@ pub one-by-one : (given : List Labelled → Labelled → Option Labelled) (cells
     → live_rows (apply (delay_rule false given) cells).cells ≡ all_given given [] (live_rows cells)
 one-by-one given cells = after given [] cells
 
--- without their labels the rows of cells are their packets
+-- the rows of cells without their labels are their packets
 packets-of : (cells : List Cell) → live_packets cells ≡ packets_in (live_rows cells)
 packets-of [] = refl
 packets-of (Live packet labels ∷ cells) = ap (λ (rows : List (List ℕ)). packet ∷ rows) (packets-of cells)
@@ -73,7 +74,7 @@ rows-null : (n : ℕ) → live_rows (null_cells n) ≡ map bare (replicate n nul
 rows-null zero = refl
 rows-null (suc n) = ap (λ (rows : List Labelled). bare null_packet ∷ rows) (rows-null n)
 
--- the rows of packets with null packets behind them
+-- the rows of packets followed by null packets
 rows-all : (n : ℕ) (packets : List (List ℕ)) → live_rows (with_nulls_behind n packets) ≡ map bare packets ++ map bare (replicate n null_packet)
 rows-all n packets =
     flat_map-append row_in (map (λ packet. Live packet no_labels) packets) (null_cells n)
@@ -84,7 +85,7 @@ packets-bare : (packets : List (List ℕ)) → packets_in (map bare packets) ≡
 packets-bare [] = refl
 packets-bare (packet ∷ packets) = ap (λ (rows : List (List ℕ)). packet ∷ rows) (packets-bare packets)
 
--- what is parted by a test on what is seen of the items is seen parted by the test
+-- parting commutes with a map, if the test is one on the mapped items
 module _ {X Y : Type 0} (view : X → Y) where
   picks : (b : Bool) (x : X) (xs : List X) (ys : List Y) → map view xs ≡ ys → map view (if b then x ∷ xs else xs) ≡ (if b then view x ∷ ys else ys)
   picks true x xs ys e = ap (λ (row : List Y). view x ∷ row) e

@@ -1,4 +1,4 @@
--- What is given, item by item, over a whole list: blocks for `compact`, items that are kept for `rmorphan`.
+-- Lemmas on the output, item by item, over a whole list: blocks for `compact`, kept items for `rmorphan`.
 use Rattle.std.proofs.Common.{◌≡◌, ℕ, zero, suc, ◌+◌, ◌-◌, ◌*◌, ◌<◌, ◌≤◌, nat_lt, List, [], ◌∷◌, ◌++◌, length, take, drop, filter, slice_get, Bool, Option, None, Some, refl, ap, sym, ◌∙◌, arith, append_assoc, append-nil, length-append, length-drop, length-take}
 use Rattle.std.specs.Prelude.{option_to_list}
 use Rattle.std.proofs.lemmas.Bool.{cond-true, cond-false, lt-ltb, le-ltb}
@@ -12,7 +12,7 @@ module _ {X : Type 0} where
   length_take : (n : ℕ) (xs : List X) → n ≤ length xs → length (take n xs) ≡ n
   length_take n xs le = let h = length-take n xs in omega (arith, h)
 
-  -- what is given with two lists, one behind the other, is what is given with each
+  -- the output with two lists, one after the other, is the output with each
   pub gives-behind : (given : List X → X → Option X) (before xs ys : List X) → all_given given before (xs ++ ys) ≡ all_given given before xs ++ all_given given (before ++ xs) ys
   gives-behind given before [] ys = ap (λ (row : List X). all_given given row ys) (sym (append-nil before))
   gives-behind given before (x ∷ xs) ys =
@@ -20,7 +20,7 @@ module _ {X : Type 0} where
       ∙ (sym (append_assoc (option_to_list (given before x)) (all_given given (before ++ x ∷ []) xs) (all_given given ((before ++ x ∷ []) ++ xs) ys))
       ∙ ap (λ (row : List X). (option_to_list (given before x) ++ all_given given (before ++ x ∷ []) xs) ++ all_given given row ys) (append_assoc before (x ∷ []) xs))
 
-  -- with the first `n` items nothing is given, where nothing is given behind fewer than `n`
+  -- with the first `n` items nothing is output, if nothing is output after fewer than `n`
   pub gives-none : (given : List X → X → Option X) (n : ℕ) → ((before : List X) (x : X) → length before < n → given before x ≡ None) → (before xs : List X) → length before + length xs ≤ n → all_given given before xs ≡ []
   gives-none given n none_ before [] le = refl
   gives-none given n none_ before (x ∷ xs) le =
@@ -28,7 +28,7 @@ module _ {X : Type 0} where
       ap (λ (o : Option X). option_to_list o ++ all_given given (before ++ x ∷ []) xs) (none_ before x (omega arith))
       ∙ gives-none given n none_ (before ++ x ∷ []) xs (omega arith)
 
-  -- an item of a list and then some behind it are one more of the list
+  -- an item of a list and then the next `k` are the next `k` + 1 of the list
   take_next : (row : List X) (j k : ℕ) → option_to_list (slice_get row j) ++ take k (drop (suc j) row) ≡ take (suc k) (drop j row)
   take_next [] zero k = take_all k [] (omega arith)
   take_next [] (suc j) k = take_all k [] (omega arith)
@@ -42,7 +42,7 @@ module _ {X : Type 0} (last : X → Bool) (n : ℕ) where
   long_parted : (given : List X) → length (parted last given) ≡ length given
   long_parted given = length-append (ahead last given) (filter last given) ∙ kinds last given
 
-  -- in the middle of a block: with further items of it, those of the block before are given from their place on
+  -- in the middle of a block: with further items of it, those of the block before are output from their place on
   gives-within : (front given taken xs : List X) (blocks : ℕ) → length front ≡ blocks * n → length given ≡ n → length taken + length xs ≤ n
       → all_given (compacted last n) (front ++ (given ++ taken)) xs ≡ take (length xs) (drop (length taken) (parted last given))
   gives-within front given taken [] blocks behind whole le = refl
@@ -55,7 +55,7 @@ module _ {X : Type 0} (last : X → Bool) (n : ℕ) where
       ∙ (ap (λ (k : ℕ). option_to_list (slice_get (parted last given) (length taken)) ++ take (length xs) (drop k (parted last given))) next
       ∙ take_next (parted last given) (length taken) (length xs))))
 
-  -- with a whole block, the whole block before it
+  -- with a complete block, the complete block before it
   gives-block : (front given xs : List X) (blocks : ℕ) → length front ≡ blocks * n → length given ≡ n → length xs ≡ n → all_given (compacted last n) (front ++ given) xs ≡ parted last given
   gives-block front given xs blocks behind whole long =
       let same : length (parted last given) ≡ length given = long_parted given in
@@ -79,7 +79,7 @@ module _ {X : Type 0} (last : X → Bool) (n : ℕ) where
       ∙ (ap (λ (row : List X). row ++ all_given (compacted last n) ((front ++ given) ++ take n xs) (drop n xs ++ more)) (gives-block front given (take n xs) blocks behind whole first)
       ∙ ap (λ (row : List X). parted last given ++ row) (gives-blocks count (front ++ given) (take n xs) (drop n xs) more (suc blocks) (omega arith) first left rest)))
 
-  -- with whole blocks and one block more, each of the blocks
+  -- with complete blocks and one block more, each of the blocks
   pub blocks-given : (count : ℕ) (xs more : List X) → 1 ≤ n → length xs ≡ count * n → length more ≡ n
       → all_given (compacted last n) [] (xs ++ more) ≡ blocks_parted last n count xs
   blocks-given zero xs more some long rest =
@@ -99,7 +99,7 @@ module _ {X : Type 0} (keeps : List X → X → Bool) (n : ℕ) where
   none_first : (before : List X) (x : X) → length before < n → delayed keeps n before x ≡ None
   none_first before x lt = cond-true (nat_lt (length before) n) None _ (lt-ltb (length before) n lt)
 
-  -- of items of which the first has the number `i` among all, those that are kept by the first i + n + 1 of all
+  -- of items of which the first has the number `i` among all: those to be kept given the first i + n + 1 of all
   abbrev pub kept_rows : List X → ℕ → List X → List X
   kept_rows all i [] = []
   kept_rows all i (y ∷ ys) = option_to_list (picked (keeps (take (i + n + 1) all)) (Some y)) ++ kept_rows all (i + 1) ys
@@ -136,7 +136,7 @@ module _ {X : Type 0} (keeps : List X → X → Bool) (n : ℕ) where
       ∙ (ap (λ (k : ℕ). kept_rows (before ++ x ∷ xs) k (take (length xs) ((mid ++ x ∷ []) ++ xs))) on
       ∙ ap (λ (row : List X). kept_rows (before ++ x ∷ xs) (length done + 1) (take (length xs) row)) (append_assoc mid (x ∷ []) xs)))))
 
-  -- with items and `n` more behind them, those of the items that are kept
+  -- with items and `n` more after them, those of the items that are kept
   pub late-given : (xs more : List X) → 1 ≤ n → length more ≡ n → all_given (delayed keeps n) [] (xs ++ more) ≡ kept_rows (xs ++ more) 0 xs
   late-given xs more some long =
       let whole : length (xs ++ more) ≡ length xs + length more = length-append xs more in

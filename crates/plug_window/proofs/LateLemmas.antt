@@ -1,4 +1,4 @@
--- The item that a full delay line gives up.
+-- Lemmas on the item that a full delay line gives up.
 use Rattle.std.proofs.Common.{◌≡◌, ℕ, ◌+◌, ◌-◌, ◌≤◌, nat_lt, List, [], ◌∷◌, ◌++◌, length, slice_get, Bool, Option, None, if◌then◌else◌, ap, sym, ◌∙◌, arith, drop, length-append, length-drop, inl, inr}
 use Rattle.std.proofs.lemmas.Bool.{cond-true, cond-false, lt-ltb, le-ltb, cases_lt}
 use Rattle.std.proofs.lemmas.List.{drop-append-le, drop-drop}
@@ -7,7 +7,7 @@ use Rattle.plug_window.specs.RmorphanRule.{picked}
 use Rattle.plug_window.specs.LateState.{leaves}
 use Rattle.plug_window.proofs.BlockLemmas.{front_at, within_first}
 
--- the last items, with one more behind them, have the last items of all
+-- the last items, with one more appended, have the last items of all
 pub kept-last : {X : Type 0} (n : ℕ) (rows : List X) (x : X) → keep_last n (keep_last n rows ++ x ∷ []) ≡ keep_last n (rows ++ x ∷ [])
 kept-last n rows x =
     let last : length (keep_last n rows) ≡ length rows - (length rows - n) = length-drop (length rows - n) rows in
@@ -18,7 +18,7 @@ kept-last n rows x =
     ∙ ap (λ (k : ℕ). drop k (rows ++ x ∷ [])) (omega arith))
 
 module _ {X : Type 0} (test : X → Bool) (n : ℕ) (rows : List X) (x : X) where
-  -- it is the one that came `n` items before, and a line that is not full gives up none
+  -- it is the one that came `n` items before; a line that is not full gives up none
   pub given-up : (items : List X) (late : Option X) → 1 ≤ n → items ≡ keep_last n rows → late ≡ leaves n items x
       → picked test late ≡ (if nat_lt (length rows) n then None else picked test (slice_get (rows ++ x ∷ []) (length rows - n)))
   given-up items late some is gives =

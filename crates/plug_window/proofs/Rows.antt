@@ -1,5 +1,5 @@
--- Worked rows of the rules, computed on the definitions. Where labels do not matter the items are numbers, of which 0 is
--- a null packet; packets of four bytes do as well as whole ones here.
+-- Worked rows of the rules, computed on the definitions. Where labels do not matter the items are numbers, of which 0
+-- is a null packet; packets of four bytes are enough here.
 use Rattle.std.proofs.Common.{◌≡◌, ℕ, ◌==◌, nat_le, ◌||◌, List, [], ◌∷◌, Bool, true, refl, lit≤}
 use Rattle.bit_rows.specs.BitRow.{bit_of, field}
 use Rattle.ts_packet.specs.Cells.{Live, Dropped}
@@ -13,7 +13,7 @@ use Rattle.plug_window.specs.WindowSettings.{IsLawfulWindow, plain_window}
 abbrev null : ℕ → Bool
 null x = x == 0
 
--- `compact --window 3`: two blocks of three, and three null packets behind them
+-- `compact --window 3`: two blocks of three, followed by three null packets
 two-blocks : all_given (compacted null 3) [] (256 ∷ 0 ∷ 257 ∷ 0 ∷ 0 ∷ 256 ∷ 0 ∷ 0 ∷ 0 ∷ []) ≡ 256 ∷ 257 ∷ 0 ∷ 256 ∷ 0 ∷ 0 ∷ []
 two-blocks = refl
 
@@ -21,15 +21,15 @@ two-blocks = refl
 two-parted : blocks_parted null 3 2 (256 ∷ 0 ∷ 257 ∷ 0 ∷ 0 ∷ 256 ∷ []) ≡ 256 ∷ 257 ∷ 0 ∷ 256 ∷ 0 ∷ 0 ∷ []
 two-parted = refl
 
--- of the last block only as many are given as packets come behind it
+-- of the last block only as many are output as packets come after it
 part-given : all_given (compacted null 3) [] (0 ∷ 256 ∷ 257 ∷ 258 ∷ 0 ∷ []) ≡ 256 ∷ 257 ∷ []
 part-given = refl
 
--- `compact --window 1` gives every packet one later
+-- `compact --window 1` outputs every packet one later
 one-later : all_given (compacted null 1) [] (0 ∷ 256 ∷ 0 ∷ 257 ∷ []) ≡ 0 ∷ 256 ∷ 0 ∷ []
 one-later = refl
 
--- 300 is named by the third item on, and 1 and 2 always
+-- the third item and all after it refer to 300; 1 and 2 are always referred to
 abbrev keeps : List ℕ → ℕ → Bool
 keeps (a ∷ (b ∷ (c ∷ rest))) x = nat_le x 2 || x == 300
 keeps _ x = nat_le x 2
@@ -61,18 +61,18 @@ labels-taken_along : (apply (compact_rule (plain_window 2)) (Live on_8191 1 ∷ 
 unfolding field bit_of
 labels-taken_along = refl
 
--- with `--stuffing` a null packet that is put in has the labels of its place
+-- with `--stuffing` a null packet that is put in keeps the labels of its place
 labels-left : (apply (compact_rule (record (plain_window 2) { stuffing = true })) (Live on_8191 1 ∷ Live on_256 2 ∷ Dropped ∷ Live on_257 4 ∷ Live on_8191 8 ∷ [])).cells
     ≡ Live null_packet 1 ∷ Live null_packet 2 ∷ Dropped ∷ Live on_256 2 ∷ Live on_8191 1 ∷ []
 unfolding field bit_of
 labels-left = refl
 
--- `rmorphan --window 1`, over PIDs to which no table has to refer
+-- `rmorphan --window 1`, with PIDs that need no table to refer to them
 fixed-given : (apply (rmorphan_rule (plain_window 1)) (Live on_16 1 ∷ Dropped ∷ Live on_8191 2 ∷ Live on_256 4 ∷ [])).cells
     ≡ Dropped ∷ Dropped ∷ Live on_16 1 ∷ Live on_8191 2 ∷ []
 unfolding field bit_of
 fixed-given = refl
 
--- a window of 100,000 packets is the largest
+-- the largest window has 100,000 packets
 most-packets : IsLawfulWindow (plain_window 100000)
 most-packets = record { some_packet = lit≤ tt; bounded = lit≤ tt }

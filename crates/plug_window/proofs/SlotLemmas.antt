@@ -1,4 +1,4 @@
--- The cells that a plugin met, after a step that leaves the list going on.
+-- Lemmas on the cells that a plugin has processed, after a step after which the list goes on.
 use Rattle.std.proofs.Common.{◌≡◌, ℕ, ◌+◌, ◌≤◌, List, [], ◌∷◌, ◌++◌, length, refl, ap, ◌∙◌, arith, length-append}
 use Rattle.std.proofs.lemmas.Grind.{flat_map-append}
 use Rattle.ts_packet.specs.declared.cell.Cell.{Cell}
@@ -12,11 +12,11 @@ goes_on-met : (left : Cell) (history : List Cell) (cell : Cell) → met_after (o
 goes_on-met (Live packet labels) history cell = refl
 goes_on-met Dropped history cell = refl
 
--- the step has met its cell
+-- the step has processed its cell
 pub met-always : (result : Outcome) (left : Cell) (history : List Cell) (cell : Cell) → result ≡ outcome_word left → met_after result history cell ≡ history ++ cell ∷ []
 met-always result left history cell told = ap (λ (word : Outcome). met_after word history cell) told ∙ goes_on-met left history cell
 
--- a live cell is one row more
+-- a live cell adds one row
 pub rows-more : (history : List Cell) (cell : Cell) (packet : List ℕ) (labels : ℕ) → cell ≡ Live packet labels → live_rows (history ++ cell ∷ []) ≡ live_rows history ++ labelled packet labels ∷ []
 rows-more history cell packet labels is =
     ap (λ (x : Cell). live_rows (history ++ x ∷ [])) is ∙ flat_map-append row_in history (Live packet labels ∷ [])

@@ -15,30 +15,30 @@ ahead last xs = filter (λ x. not (last x)) xs
 abbrev pub parted : {X : Type 0} → (X → Bool) → List X → List X
 parted last xs = ahead last xs ++ filter last xs
 
--- of blocks of `n` items, that of number `b`, counted from 0
+-- block number `b`, counted from 0, of blocks of `n` items
 abbrev pub block : {X : Type 0} → ℕ → ℕ → List X → List X
 block n b xs = take n (drop (b * n) xs)
 
--- what is given with `x`, where others came before it: nothing with the first block, and then, with the items of each
--- block, those of the block before, parted; the number of `x` is the number of those that came before
+-- the output with `x`, given the items that came before it: nothing with the first block, and then with the items of
+-- each block those of the block before, parted; the number of `x` is the number of items before it
 abbrev pub compacted : {X : Type 0} → (X → Bool) → ℕ → List X → X → Option X
 compacted last n before x =
     if nat_lt (length before) n then None
     else slice_get (parted last (block n (length before / n - 1) (before ++ x ∷ []))) (length before % n)
 
--- so many blocks of `n` items, one behind the other, each parted
+-- so many blocks of `n` items, one after the other, each parted
 abbrev pub blocks_parted : {X : Type 0} → (X → Bool) → ℕ → ℕ → List X → List X
 blocks_parted last n zero xs = []
 blocks_parted last n (suc count) xs = parted last (take n xs) ++ blocks_parted last n count (drop n xs)
 
--- a packet is on the null PID
+-- a packet is a null packet: its PID is 8191
 abbrev pub on_null_pid : List ℕ → Bool
 on_null_pid packet = pid_of packet == NULL_PID
 
--- the packet of a row is on the null PID
+-- the packet of a row is a null packet
 abbrev pub is_null : Labelled → Bool
 is_null row = on_null_pid row.packet
 
--- the packets are given in blocks of the window, with the null packets of each block last
+-- the packets are output in blocks of the window's size, each with its null packets last
 abbrev pub compact_rule : WindowConf → PluginRule
 compact_rule conf = delay_rule conf.stuffing (compacted is_null conf.window)

@@ -1,4 +1,4 @@
--- The settings that a value of `compact` has, and the cells that it stands for. This project's own rule.
+-- The settings of a value of `compact`, and the cells that it stands for. This project's own rule.
 use Rattle.std.specs.Prelude.{ℕ, ◌≤◌, List, length}
 use Rattle.ts_packet.specs.declared.cell.Cell.{Cell}
 use Rattle.ts_packet.specs.LiveRows.{live_rows}
@@ -10,6 +10,6 @@ use Rattle.plug_window.specs.declared.window_conf.WindowConf.{WindowConf}
 abbrev pub conf_of : Compact → WindowConf
 conf_of s = record { window = s.line.window; stuffing = s.stuffing }
 
--- its line stands for the packets of the cells that it met, with their labels
+-- its delay line stands for the packets of the cells that it processed, with their labels
 abbrev pub MeetsHistory : Compact → List Cell → ℕ → Type 0
 MeetsHistory s history mark = StandsFor s.line (live_rows history) × (mark ≤ length history)

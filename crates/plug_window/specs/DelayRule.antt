@@ -1,4 +1,4 @@
--- The rule of a plugin that gives an earlier packet in the place of one that comes. This project's own rule.
+-- The rule of a plugin that outputs an earlier packet in the place of the current one. This project's own rule.
 use Rattle.std.specs.Prelude.{ℕ, List, [], ◌∷◌, ◌++◌, Bool, Option, None, Some, map, option_map, option_to_list}
 use Rattle.ts_packet.specs.declared.cell.Cell.{Cell}
 use Rattle.ts_packet.specs.declared.labelled.Labelled.{Labelled}
@@ -10,26 +10,26 @@ use Rattle.chain_model.specs.Stuffed.{null_cells}
 use Rattle.plugin_trait.specs.Fates.{fate}
 use Rattle.plugin_trait.specs.SilentRule.{silent_rule_with}
 
--- the packet that is given, if one is
+-- the packet that is output, if there is one
 abbrev pub given_packet : Option Labelled → Option (List ℕ)
 given_packet given = option_map (λ row. row.packet) given
 
--- the labels that the place has then: those that the packet had when it came, or where none is given its own
+-- the labels of the place afterwards: those that the packet had when it came in, or the place's own if none is output
 abbrev pub labels_left : ℕ → Option Labelled → ℕ
 labels_left labels None = labels
 labels_left labels (Some row) = row.labels
 
--- with each packet that comes, the rule passes what is given behind the packets that came before; dropped cells are none
+-- with each packet the rule passes what is output given the packets before it; dropped cells do not count
 abbrev pub delay_rule : Bool → (List Labelled → Labelled → Option Labelled) → PluginRule
 delay_rule stuffing given = silent_rule_with
     (λ history packet labels. fate stuffing (given_packet (given (live_rows history) (labelled packet labels))))
     (λ history packet labels. labels_left labels (given (live_rows history) (labelled packet labels)))
 
--- what is given, in turn, with each of the items that come behind others
+-- what is output, in turn, with each of the items that come after others
 abbrev pub all_given : {X : Type 0} → (List X → X → Option X) → List X → List X → List X
 all_given given before [] = []
 all_given given before (x ∷ xs) = option_to_list (given before x) ++ all_given given (before ++ x ∷ []) xs
 
--- packets as the input gives them, without labels, and behind them so many null packets
+-- packets as the input gives them, without labels, followed by so many null packets
 abbrev pub with_nulls_behind : ℕ → List (List ℕ) → List Cell
 with_nulls_behind n packets = map (λ packet. Live packet no_labels) packets ++ null_cells n

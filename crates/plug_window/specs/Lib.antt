@@ -1,3 +1,4 @@
+-- The definitions of `plug_window`: the rules, options and delay lines of `compact` and `rmorphan`.
 pub mod DelayRule
 pub mod Slots
 pub mod CompactRule

@@ -8,13 +8,13 @@ use Rattle.plug_psi.specs.Referred.{refers}
 use Rattle.plug_window.specs.DelayRule.{delay_rule}
 use Rattle.plug_window.specs.declared.window_conf.WindowConf.{WindowConf}
 
--- the item, where there is one that passes a test
+-- the item, if there is one and it passes a test
 abbrev pub picked : {X : Type 0} → (X → Bool) → Option X → Option X
 picked test None = None
 picked test (Some x) = if test x then Some x else None
 
--- what is given with `x`, where others came before it: nothing with the first `n`, and then the item that came `n` before
--- it, where it is to be kept by all that came, `x` too
+-- the output with `x`, given the items that came before it: nothing with the first `n`, and then the item `n` before
+-- it, if it is to be kept given all items up to `x`
 abbrev pub delayed : {X : Type 0} → (List X → X → Bool) → ℕ → List X → X → Option X
 delayed keeps n before x =
     if nat_lt (length before) n then None
@@ -28,11 +28,11 @@ refers_to packets row = refers packets (pid_of row.packet)
 abbrev pub is_referred : List Labelled → Labelled → Bool
 is_referred rows row = refers_to (packets_in rows) row
 
--- each packet is given the window later, where its PID is referred to by then
+-- each packet is output a window later, if its PID is referred to by then
 abbrev pub rmorphan_rule : WindowConf → PluginRule
 rmorphan_rule conf = delay_rule conf.stuffing (delayed is_referred conf.window)
 
--- of packets of which the first has the number `i` among all, those whose PID is referred to by the first i + n + 1 of all
+-- of packets of which the first has the number `i` among all: those whose PID the first i + n + 1 of all refer to
 abbrev pub kept_packets : ℕ → List (List ℕ) → ℕ → List (List ℕ) → List (List ℕ)
 kept_packets n all i [] = []
 kept_packets n all i (packet ∷ packets) =

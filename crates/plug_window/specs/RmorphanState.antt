@@ -1,4 +1,4 @@
--- The settings that a value of `rmorphan` has, and the cells that it stands for. This project's own rule.
+-- The settings of a value of `rmorphan`, and the cells that it stands for. This project's own rule.
 use Rattle.std.specs.Prelude.{◌≡◌, ℕ, ◌≤◌, List, false, length}
 use Rattle.ts_packet.specs.declared.cell.Cell.{Cell}
 use Rattle.ts_packet.specs.LiveRows.{live_rows}
@@ -11,7 +11,8 @@ use Rattle.plug_window.specs.declared.window_conf.WindowConf.{WindowConf}
 abbrev pub conf_of : Rmorphan → WindowConf
 conf_of s = record { window = s.line.late.capacity; stuffing = s.stuffing }
 
--- its line stands for the packets of the cells that it met, with their labels, as long as no memory was wanting
+-- its delay line stands for the packets of the cells that it processed, with their labels, unless it ran out of
+-- memory
 abbrev pub MeetsHistory : Rmorphan → List Cell → ℕ → Type 0
 MeetsHistory s history mark =
     (has_failed s.line.referred ≡ false → StandsFor s.line (live_rows history)) × (mark ≤ length history)

@@ -1,4 +1,4 @@
--- What a cell is seen as in which an earlier packet is given. This project's own rule.
+-- The cell in whose place an earlier packet is output. This project's own rule.
 use Rattle.std.specs.Prelude.{ℕ}
 use Rattle.ts_packet.specs.declared.cell.Cell.{Cell}
 use Rattle.ts_packet.specs.Cells.{Live, Dropped}
@@ -11,7 +11,7 @@ abbrev pub labels_in : Cell → ℕ
 labels_in (Live packet labels) = labels
 labels_in Dropped = no_labels
 
--- the outcome of a step that leaves this cell, behind which the list goes on
+-- the outcome of a step that leaves this cell, after which the list goes on
 abbrev pub outcome_word : Cell → Outcome
 outcome_word (Live packet labels) = Pass
 outcome_word Dropped = Drop

@@ -1,14 +1,13 @@
--- Lawful settings of `compact` and of `rmorphan`.
--- This project's own rule.
+-- Valid settings of `compact` and `rmorphan`. This project's own rule.
 use Rattle.std.specs.Prelude.{◌≤◌, ℕ, false}
 use Rattle.plug_conf.specs.declared.limits.TheConstants.{MOST_WINDOW}
 use Rattle.plug_window.specs.declared.window_conf.WindowConf.{WindowConf}
 
--- the window has a packet, and not more than the most
+-- the window has at least one packet and at most 100,000
 pub record IsLawfulWindow (c : WindowConf) : Type 0 where
   pub some_packet : 1 ≤ c.window
   pub bounded : c.window ≤ MOST_WINDOW
 
--- the settings of a window alone: a packet in whose place none is given is dropped
+-- the settings of a window without `stuffing`: a packet is dropped if none is output in its place
 abbrev pub plain_window : ℕ → WindowConf
 plain_window window = record { window = window; stuffing = false }

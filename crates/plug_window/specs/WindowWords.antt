@@ -1,5 +1,4 @@
--- The words of `compact` and of `rmorphan`.
--- This project's own rule.
+-- The options of `compact` and `rmorphan`. This project's own rule.
 use Rattle.std.specs.Prelude.{List, [], ◌∷◌, codes, true, unwrap_or}
 use Rattle.plug_conf.specs.declared.limits.TheConstants.{MOST_WINDOW}
 use Rattle.option_words.specs.Forms.{number}
@@ -14,7 +13,7 @@ window_rows = record { name = codes "window"; kind = value (number 1 MOST_WINDOW
     ∷ record { name = codes "stuffing"; kind = flag }
     ∷ []
 
--- the window, 1 to 100,000 packets, has to be given
+-- the window, 1 to 100,000 packets, is mandatory
 abbrev pub window : OptionTable WindowConf
 window = record {
   rows = window_rows;

@@ -1,4 +1,4 @@
-//! The delay line of `compact`: a block of packets is collected while the block before it is given.
+//! The delay line of `compact`: a block of packets is collected while the block before it is output.
 ghost use Rattle.std.specs.Prelude.{◌≡◌, IfOk, []};
 ghost use Rattle.plug_window.specs.BlockState.{StandsFor};
 
@@ -6,22 +6,22 @@ use circular_buffer::HeapCircularBuffer;
 use std::alloc::{AllocError, Global};
 use ts_packet::{Labelled, NULL_PID};
 
-/// The packets of the block that is given and of the one that is collected, those on the null PID apart.
+/// The packets of the block that is output and of the one that is collected, null packets apart.
 ///
-/// Each packet that came leaves as many behind it as a block has, so either row has places for one block.
+/// At most as many packets are kept as a block has, so each of the two queues has room for one block.
 #[derive(Drop)]
 pub struct BlockLine {
-    /// Those on other PIDs, of the block that is given first.
+    /// Those on other PIDs; those of the block that is output come first.
     packets: HeapCircularBuffer<Labelled>,
-    /// Those on the null PID, of the block that is given first.
+    /// The null packets; those of the block that is output come first.
     nulls: HeapCircularBuffer<Labelled>,
     /// How many packets a block has.
     window: usize,
     /// How many packets of the next block are collected.
     collected: usize,
-    /// How many of `packets` belong to the block that is given.
+    /// How many of `packets` belong to the block that is output.
     left: usize,
-    /// Whether a block is whole, so that with each packet that comes one is given.
+    /// Whether a block is complete, so that a packet is output with each one that comes in.
     gives: bool,
 }
 
@@ -31,7 +31,7 @@ impl BlockLine {
     ghost use Rattle.plug_window.specs.CompactRule.{is_null, compacted};
     ghost use Rattle.plug_window.specs.BlockState.{StandsFor, StandsForSome, HasSize, state_of, first_of, shifted, filled, counted};
 
-    /// A line to which no packet came. All its memory is taken here.
+    /// A line without packets. All its memory is allocated here.
     pub fn new(alloc: Global, window: usize) -> Result<BlockLine, AllocError>
         requires { 1 ≤ window }
         ensures fresh { IfOk result (λ line. StandsFor line []) }
@@ -47,8 +47,8 @@ impl BlockLine {
         })
     }
 
-    /// Takes a packet in, and gives the one that takes its place, where a block was whole before it. No memory is
-    /// wanted.
+    /// Takes a packet in, and returns the one that takes its place, if a block was complete before it. Allocates
+    /// nothing.
     #[inline]
     pub fn turn(&mut self, came: Labelled) -> Option<Labelled>
         requires { StandsForSome self.old }
@@ -62,7 +62,7 @@ impl BlockLine {
         given
     }
 
-    // Takes the next packet of the block that is given out: while it has packets on other PIDs one of these.
+    // Takes the next packet out of the block that is output: one on another PID while it has any, then a null packet.
     #[inline]
     fn give(&mut self) -> Option<Labelled>
         ensures given { result ≡ first_of (state_of self.old) }
@@ -79,7 +79,7 @@ impl BlockLine {
         self.nulls.pop_front()
     }
 
-    // Puts a packet behind those of its kind.
+    // Appends a packet to those of its kind.
     #[inline]
     fn put(&mut self, came: Labelled)
         requires packets { length self.old.packets.items < self.old.packets.capacity }
@@ -94,7 +94,7 @@ impl BlockLine {
         }
     }
 
-    // Counts a packet of the block that is collected. A block that is whole is the next one to be given.
+    // Counts a packet of the block that is collected. A complete block is the next one that is output.
     #[inline]
     fn count(&mut self)
         requires { self.old.collected < self.old.window }

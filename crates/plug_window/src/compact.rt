@@ -1,3 +1,4 @@
+//! The plugin `compact`.
 ghost use Rattle.std.specs.Prelude.{◌≡◌, IfOk, [], Some};
 ghost use Rattle.plug_window.specs.CompactRule.{compact_rule};
 
@@ -8,14 +9,14 @@ use plugin_trait::{Line, Outcome, Plugin, silent_report};
 use std::alloc::{AllocError, Global};
 use ts_packet::{Cell, Labelled};
 
-/// Gives the packets in blocks of as many as the window has, each block in the place of the one behind it, with its null
-/// packets last. A packet is given with the labels that it had when it came.
+/// Outputs the packets in blocks of the window's size, each in the place of the block after it, with its null packets
+/// last. A packet is output with the labels that it had when it came in.
 #[derive(Drop)]
 pub struct Compact {
     line: BlockLine,
-    /// Where no packet is given a null packet stands, and none is dropped.
+    /// Whether a null packet is put in the place if no packet is output; else the place is dropped.
     stuffing: bool,
-    /// For how many positions behind the last mark there is room.
+    /// For how many positions after the last mark there is room.
     buffer: usize,
     alloc: Global,
 }
@@ -23,7 +24,7 @@ pub struct Compact {
 impl Compact {
     ghost use Rattle.plug_window.specs.WindowSettings.{IsLawfulWindow};
 
-    /// A plugin that met no cell yet. It takes its memory here, and its steps take none.
+    /// A new plugin, which has processed no cell. All memory is allocated here; its steps allocate nothing.
     pub fn new(alloc: Global, conf: &WindowConf, buffer: usize) -> Result<Compact, AllocError>
         requires { IsLawfulWindow conf.now }
         ensures rule { IfOk result (λ plugin. ⟦<Compact as Plugin>⟧.rule plugin ≡ compact_rule conf.now) }
@@ -53,7 +54,8 @@ impl Plugin for Compact {
 
     ghost steady = { λ s. Some s.buffer };
 
-    /// The clauses are those of `Plugin`, whose ghost members have no names here, and one more: no step wants memory.
+    /// The clauses are those of `Plugin`, whose ghost members have no names here, and one more: no step returns
+    /// `NoMemory`.
     #[inline]
     fn step(&mut self, at: u64, cell: &mut Cell) -> Outcome
         requires met { MeetsCells (MeetsHistory self.old) at }

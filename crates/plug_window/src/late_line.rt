@@ -1,4 +1,4 @@
-//! The delay line of `rmorphan`: each packet is given a window later, where its PID is referred to by then.
+//! The delay line of `rmorphan`: each packet is output a window later, if its PID is referred to by then.
 ghost use Rattle.std.specs.Prelude.{◌≡◌, IfOk, []};
 ghost use Rattle.plug_window.specs.LateState.{StandsFor};
 
@@ -7,12 +7,12 @@ use plug_psi::Referred;
 use std::alloc::{AllocError, Global};
 use ts_packet::Labelled;
 
-/// The last packets, as many as the window has, and the PIDs that all packets which came refer to.
+/// The last packets, as many as the window has, and the PIDs that all packets so far refer to.
 #[derive(Drop)]
 pub struct LateLine {
-    /// The last packets. Their ring is as large as the window, so that a full one gives up the packet that is due.
+    /// The last packets. The buffer is as large as the window, so that a full one gives up the packet that is due.
     late: HeapCircularBuffer<Labelled>,
-    /// The PIDs that are referred to.
+    /// The PIDs that tables refer to.
     referred: Referred,
 }
 
@@ -24,7 +24,7 @@ impl LateLine {
     ghost use Rattle.plug_window.specs.RmorphanRule.{is_referred, delayed, picked, refers_to};
     ghost use Rattle.plug_window.specs.LateState.{StandsFor, leaves};
 
-    /// A line to which no packet came. The room of the window is taken here, and the first of the room for tables.
+    /// A line without packets. The room of the window is allocated here; that for tables grows later.
     pub fn new(alloc: Global, window: usize) -> Result<LateLine, AllocError>
         requires { 1 ≤ window }
         ensures fresh { IfOk result (λ line. StandsFor line []) }
@@ -35,8 +35,8 @@ impl LateLine {
         Ok(LateLine { late, referred })
     }
 
-    /// Takes a packet in, and gives the one that came a window before it, where it is to be kept: what is referred to
-    /// with the packet that came decides. After `AllocError` every later call answers `AllocError`.
+    /// Takes a packet in, and returns the one that came in a window before it, if the packets up to the current one
+    /// refer to its PID. After `AllocError` every later call returns `AllocError`.
     #[inline]
     pub fn turn(&mut self, came: Labelled) -> Result<Option<Labelled>, AllocError>
         ensures given { IfOk result (λ given. (rows : List Row) → StandsFor self.old rows
@@ -51,7 +51,7 @@ impl LateLine {
         Ok(given)
     }
 
-    // Puts a packet behind the others, and gives the one that leaves the line for it, where it is to be kept.
+    // Appends a packet, and returns the one that leaves the line for it, if its PID is referred to.
     #[inline]
     fn shift(&mut self, came: Labelled) -> Option<Labelled>
         ensures given { (packets : List (List ℕ)) → Refers self.old.referred packets
@@ -64,7 +64,7 @@ impl LateLine {
         self.kept(late)
     }
 
-    // The packet, where there is one and its PID is referred to.
+    // The packet, if there is one and its PID is referred to.
     #[inline]
     fn kept(&self, late: Option<Labelled>) -> Option<Labelled>
         ensures { (packets : List (List ℕ)) → Refers self.now.referred packets → result ≡ picked (refers_to packets) late }

@@ -1,4 +1,4 @@
-//! Laws of the plugins that see further packets, each a fact and no code.
+//! Laws of the plugins that delay packets. They run nothing.
 
 ghost use Rattle.std.specs.Prelude.{◌≡◌, ◌≤◌, ◌*◌, ◌++◌, ℕ, Bool, List, [], false, length, Option, replicate};
 ghost use Rattle.ts_packet.specs.declared.cell.Cell.{Cell};
@@ -13,29 +13,30 @@ ghost use Rattle.plug_window.specs.CompactRule.{compact_rule, blocks_parted, on_
 ghost use Rattle.plug_window.specs.RmorphanRule.{rmorphan_rule, kept_packets};
 ghost use Rattle.plug_window.specs.WindowSettings.{plain_window};
 
-/// Between the rule and the delay line: over a list of cells, whatever labels they have and whichever are dropped, the
-/// rule gives what the line gives with each live packet in turn, in that order and with those labels.
+/// A law; it runs nothing. It relates the rule to the delay line: for a list of cells, whatever their labels and
+/// whichever are dropped, the rule outputs what the line outputs with each live packet in turn, in that order and
+/// with those labels.
 pub fn given_one_by_one()
     ensures { (given : List Row → Row → Option Row) (cells : List Cell)
         → live_rows (apply (delay_rule false given) cells).cells ≡ all_given given [] (live_rows cells) }
 {}
 
-/// No rule of a delay line ends its list: so each cell that it gives is told by `each_position_by_itself` of
-/// `chain_model`.
+/// A law; it runs nothing. No rule of a delay line ends its list, so `each_position_by_itself` of `chain_model`
+/// describes each cell that it outputs.
 pub fn delays_never_end()
     ensures { (stuffing : Bool) (given : List Row → Row → Option Row) → NeverEnds (delay_rule stuffing given) }
 {}
 
-/// Of whole blocks of packets, with null packets for one block more behind them, `compact` gives each block with its
-/// null packets last, and nothing else.
+/// A law; it runs nothing. For complete blocks of packets followed by one more block of null packets, `compact`
+/// outputs each block with its null packets last, and nothing else.
 pub fn compact_gives_blocks()
     ensures { (window count : ℕ) (packets : List (List ℕ)) → 1 ≤ window → length packets ≡ count * window
         → live_packets (apply (compact_rule (plain_window window)) (with_nulls_behind window packets)).cells
         ≡ blocks_parted on_null_pid window count packets }
 {}
 
-/// Of packets with as many null packets behind them as the window has, `rmorphan` gives, in their order, those and only
-/// those of the packets whose PID is referred to by all packets up to the window's end behind them.
+/// A law; it runs nothing. For packets followed by as many null packets as the window has, `rmorphan` outputs, in
+/// their order, exactly those packets whose PID is referred to by the packets up to the end of the window after them.
 pub fn rmorphan_gives_referred()
     ensures { (window : ℕ) (packets : List (List ℕ)) → 1 ≤ window
         → live_packets (apply (rmorphan_rule (plain_window window)) (with_nulls_behind window packets)).cells

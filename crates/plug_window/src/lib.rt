@@ -1,5 +1,6 @@
-//! The plugins that see further packets before they give one: `compact` and `rmorphan`, each with its options.
-//! The layer above reads settings of words, makes each of its settings, and uses it by the clauses of `Plugin`.
+//! The plugins that need later packets before they output one: `compact` and `rmorphan`, with their options. The
+//! layer above reads their settings from words, makes each plugin of its settings, and uses it by the clauses of
+//! `Plugin`.
 #![tactic(auto)]
 
 mod block_line;

@@ -1,3 +1,4 @@
+//! The plugin `rmorphan`.
 ghost use Rattle.std.specs.Prelude.{◌≡◌, IfOk, [], None};
 ghost use Rattle.plug_window.specs.RmorphanRule.{rmorphan_rule};
 
@@ -8,12 +9,12 @@ use plugin_trait::{Line, Outcome, Plugin, silent_report};
 use std::alloc::{AllocError, Global};
 use ts_packet::{Cell, Labelled};
 
-/// Gives each packet a window of packets later, and drops those on PIDs that nothing refers to by then. A packet is given
-/// with the labels that it had when it came.
+/// Outputs each packet a window of packets later, and drops those on PIDs that nothing refers to by then. A packet is
+/// output with the labels that it had when it came in.
 #[derive(Drop)]
 pub struct Rmorphan {
     line: LateLine,
-    /// Where no packet is given a null packet stands, and none is dropped.
+    /// Whether a null packet is put in the place if no packet is output; else the place is dropped.
     stuffing: bool,
     alloc: Global,
 }
@@ -21,7 +22,8 @@ pub struct Rmorphan {
 impl Rmorphan {
     ghost use Rattle.plug_window.specs.WindowSettings.{IsLawfulWindow};
 
-    /// A plugin that met no cell yet. The room of the window is taken here; its steps take memory for tables alone.
+    /// A new plugin, which has processed no cell. The room of the window is allocated here; its steps allocate for
+    /// tables only.
     pub fn new(alloc: Global, conf: &WindowConf) -> Result<Rmorphan, AllocError>
         requires { IsLawfulWindow conf.now }
         ensures rule { IfOk result (λ plugin. ⟦<Rmorphan as Plugin>⟧.rule plugin ≡ rmorphan_rule conf.now) }

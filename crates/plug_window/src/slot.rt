@@ -1,4 +1,4 @@
-//! The cell of a packet, in which an earlier packet is given.
+//! The cell of a packet, in whose place an earlier packet is output.
 ghost use Rattle.std.specs.Prelude.{◌≡◌};
 ghost use Rattle.chain_model.specs.Apply.{outcome_of_live, goes_on};
 ghost use Rattle.plugin_trait.specs.Fates.{fate};
@@ -9,8 +9,8 @@ ghost use Rattle.plug_window.specs.Slots.{labels_in, outcome_word};
 use plugin_trait::Outcome;
 use ts_packet::{Cell, Labelled, Packet};
 
-/// Puts the packet that is given into a live cell. Where none is, the cell's packet is dropped, or a null packet with
-/// the cell's labels takes its place.
+/// Puts the packet that is output into a live cell. If there is none, the cell is dropped, or with `stuffing` gets a
+/// null packet and keeps its labels.
 #[inline]
 pub(crate) fn fill_slot(cell: &mut Cell, given: Option<Labelled>, stuffing: bool) -> Outcome
     requires { IsLive cell.old }

@@ -1,8 +1,9 @@
-/// Settings of `compact` and of `rmorphan`, which give each packet a window of packets later.
+//! The settings of `compact` and `rmorphan`.
+/// Settings of `compact` and of `rmorphan`, which output packets a window of packets later.
 #[derive(Drop)]
 pub struct WindowConf {
     /// How many packets the window has, 1 to 100,000.
     pub window: u64,
-    /// Where no packet is given a null packet stands, and none is dropped.
+    /// Whether a null packet is put in the place if no packet is output; else the place is dropped.
     pub stuffing: bool,
 }

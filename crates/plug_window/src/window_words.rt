@@ -1,3 +1,4 @@
+//! The options of `compact` and `rmorphan`.
 ghost use Rattle.std.specs.Prelude.{◌≡◌, IfOk};
 ghost use Rattle.clap.specs.Simple.{app_of};
 ghost use Rattle.plug_window.specs.WindowSettings.{IsLawfulWindow};
@@ -14,14 +15,14 @@ use std::alloc::{AllocError, Global};
 // The options of `compact` and of `rmorphan`.
 static WINDOW: [OptionWord; 2] = [OptionWord::Value("window"), OptionWord::Flag("stuffing")];
 
-/// The command of `compact` and of `rmorphan`, which has their options.
+/// The command of `compact` and of `rmorphan`, with their options.
 pub fn window_command<'a>(alloc: Global) -> Result<Command<'a>, AllocError>
     ensures { IfOk result (λ c. app_of c ≡ command_of window_rows) }
 {
     command_with(alloc, &WINDOW)
 }
 
-/// Reads the settings of `compact` or of `rmorphan` from what the command found in the words.
+/// Reads the settings of `compact` or of `rmorphan` from the options that their command found.
 pub fn window_settings(found: &ParsedOptions) -> Result<WindowConf, Refusal>
     ensures reads { ReadsParsed window found.now result }
     ensures lawful { IfOk result IsLawfulWindow }

@@ -1,4 +1,4 @@
--- Notes that are taken off the front one after another.
+-- Lemmas on removing notes from the front, one after another.
 use Rattle.std.proofs.Common.{◌≡◌, ℕ, ◌<◌, ◌^◌, List, [], ◌∷◌, ◌++◌, length, drop, Bool, ap, sym, subst, ◌∙◌, refl, true, ◌&&◌, nat_lt, append_assoc, append-nil, arith, length-append}
 use Rattle.std.specs.List.{All, list_all}
 use Rattle.std.proofs.lemmas.List.Folds.{list_all-append}
@@ -8,7 +8,7 @@ use Rattle.ts_packet.specs.declared.numbers.TheConstants.{PID_COUNT}
 use Rattle.plugin_notes.specs.NotesKept.{CanFold, Folds, StartsFrom, TakesBelow}
 use Rattle.plugin_notes.proofs.Noting.{is_below}
 
--- some notes below the position were taken off the front; others may follow
+-- some notes below the position were removed from the front; others may follow
 pub record IsTaking {N : Type 0} (at : N → ℕ) (mark : ℕ) (old new : List N) : Type 0 where
   pub taken : List N
   pub split : old ≡ taken ++ new
@@ -20,11 +20,11 @@ pub record IsFolding {N S : Type 0} (at : N → ℕ) (Counted : S → List N →
   pub counted : (before : List N) → Counted sums before → Counted sums_new (before ++ taking.taken)
 
 module _ {N : Type 0} (at : N → ℕ) (mark : ℕ) where
-  -- none is taken yet
+  -- none is removed yet
   abbrev pub none_taken : (notes : List N) → IsTaking at mark notes notes
   none_taken notes = record { taken = []; split = refl; below = refl }
 
-  -- one more is taken
+  -- one more is removed
   abbrev pub one_taken : (old new : List N) → IsTaking at mark old new → (note : N) (rest : List N) → new ≡ note ∷ rest → at note < mark → IsTaking at mark old rest
   one_taken old new so_far note rest is below = record {
     taken = so_far.taken ++ note ∷ [];
@@ -33,7 +33,7 @@ module _ {N : Type 0} (at : N → ℕ) (mark : ℕ) where
         ∙ (ap (λ (b : Bool). b && (nat_lt (at note) mark && true)) so_far.below ∙ ap (λ (b : Bool). b && true) (is_below (at note) mark below));
   }
 
-  -- all are taken that are below the position
+  -- all below the position are removed
   pub all_taken : (old new rest : List N) → IsTaking at mark old new → rest ≡ new → StartsFrom at mark new → TakesBelow at mark old rest
   all_taken old new rest so_far same left =
       subst (λ (ns : List N). TakesBelow at mark old ns) (sym same)
@@ -47,7 +47,7 @@ module _ {N : Type 0} (at : N → ℕ) (mark : ℕ) where
       counted = λ before counted. subst (Counted sums) (sym (append-nil before)) counted;
     }
 
-    -- all are counted that are below the position
+    -- all below the position are counted
     pub all_folded : (old new rest : List N) (sums sums_new : S) → IsFolding at Counted mark old new sums sums_new → rest ≡ new → StartsFrom at mark new
         → Folds at Counted mark old rest sums sums_new
     all_folded old new rest sums sums_new so_far same left =
@@ -68,7 +68,7 @@ module _ {N : Type 0} (at : N → ℕ) (mark : ℕ) where
       }
 
       module _ (pid : N → ℕ) (can : CanFold pid Counted old sums) where
-        -- what was counted, and how much it is
+        -- what was counted, and how many
         pub counted_now : Counted sums_new (can.before ++ so_far.taking.taken)
         counted_now = so_far.counted can.before can.counted
 

@@ -1,4 +1,4 @@
--- Notes that are kept, one cell and one mark after another.
+-- Lemmas on kept notes, cell by cell and mark by mark.
 use Rattle.std.proofs.Common.{◌≡◌, ℕ, ◌+◌, ◌-◌, ◌<◌, ◌≤◌, List, [], ◌∷◌, ◌++◌, length, take, drop, map, ap, sym, subst, ◌∙◌, refl, true, not, nat_lt, arith, length-append, length-take, length-drop, drop-drop}
 use Rattle.std.specs.List.{All, take_while}
 use Rattle.std.proofs.Math.Seq.{take-add}
@@ -13,26 +13,26 @@ use Rattle.plugin_notes.specs.Notes.{notes_after}
 use Rattle.plugin_notes.specs.NotesKept.{CanFold, KeepsNotes, StartsFrom, TakesBelow, notes_below}
 use Rattle.plugin_notes.proofs.Noting.{IsNoteAt, fails_first, length-notes_after, not_below, notes_after-append, take_while-notes_after, take_while-split}
 
--- the first note fails the test that it does not meet
+-- the first note, which is not below the mark, fails the test of being below it
 starts_failing : {N : Type 0} (at : N → ℕ) (mark : ℕ) (notes : List N) → StartsFrom at mark notes → fails_first (λ n. nat_lt (at n) mark) notes ≡ true
 starts_failing at mark [] starts = refl
 starts_failing at mark (note ∷ notes) starts = ap not (not_below (at note) mark starts)
 
--- so much of a list, and so much more of the rest
+-- the first items of a list, and then the next ones of the rest
 take-to : (n m : ℕ) (cells : List Cell) → n ≤ m → take n cells ++ take (m - n) (drop n cells) ≡ take m cells
 take-to n m cells le =
     sym (take-add n (m - n) cells) ∙ ap (λ (k : ℕ). take k cells) (let same : n + (m - n) ≡ m = omega arith in same)
 
--- the rest behind so much of the rest
+-- what is left after removing items twice
 drop-to : (n m : ℕ) (cells : List Cell) → n ≤ m → drop (m - n) (drop n cells) ≡ drop m cells
 drop-to n m cells le = drop-drop (m - n) n cells ∙ ap (λ (k : ℕ). drop k cells) (let same : n + (m - n) ≡ m = omega arith in same)
 
--- a cell more is a cell more
+-- the mark stays within a history that is one cell longer
 pub longer : (history : List Cell) (cell : Cell) (mark : ℕ) → mark ≤ length history → mark ≤ length (history ++ cell ∷ [])
 longer history cell mark le = omega (arith, length-append history (cell ∷ []))
 
 module _ {N : Type 0} (note : List Cell → List ℕ → List N) where
-  -- what stands before the mark stays with a cell more
+  -- the notes below the mark stay the same with one more cell
   pub below_cell : (history : List Cell) (mark : ℕ) (cell : Cell) → mark ≤ length history → notes_below note mark history ≡ notes_below note mark (history ++ cell ∷ [])
   below_cell history mark cell le = ap (notes_after note []) (sym (take-append-le mark history (cell ∷ []) le))
 
@@ -66,7 +66,7 @@ module _ {N : Type 0} (note : List Cell → List ℕ → List N) where
       on_pids = subst (All (λ (n : N). pid n < PID_COUNT)) (sym w.kept) (all_on_pids pid each (take mark history) (drop mark history));
     }
 
-    -- one cell more, whose notes stand behind the others
+    -- one more cell, whose notes are appended
     pub keeps_cell : (cell : Cell) (notes_new : List N) → notes_new ≡ notes ++ notes_after note history (cell ∷ []) → KeepsNotes note notes_new (history ++ cell ∷ []) mark
     keeps_cell cell notes_new is = record {
       kept = is
@@ -79,13 +79,13 @@ module _ {N : Type 0} (note : List Cell → List ℕ → List N) where
     }
 
     module _ (to : ℕ) (notes_new : List N) (le : mark ≤ to) (within : to ≤ length history) (takes : TakesBelow at to notes notes_new) where
-      -- the notes that were taken are those below the position
+      -- the removed notes are those below the position
       pub front_is : take_while (λ (n : N). nat_lt (at n) to) notes ≡ takes.taken
       front_is =
           ap (take_while (λ (n : N). nat_lt (at n) to)) takes.split
           ∙ take_while-split (λ (n : N). nat_lt (at n) to) takes.taken notes_new takes.below (starts_failing at to notes_new takes.left)
 
-      -- they are those on the cells between
+      -- they are those on the cells between the marks
       taken_is : takes.taken ≡ notes_after note (take mark history) (take (to - mark) (drop mark history))
       taken_is =
           sym front_is
@@ -101,7 +101,7 @@ module _ {N : Type 0} (note : List Cell → List ℕ → List N) where
           ∙ (sym (notes_after-append note at one [] (take mark history) (take (to - mark) (drop mark history)))
           ∙ ap (notes_after note []) (take-to mark to history le))
 
-      -- those that are left are kept
+      -- the remaining notes are kept
       pub keeps_left : KeepsNotes note notes_new history to
       keeps_left = record {
         kept = append_cancel_left takes.taken notes_new _
@@ -119,7 +119,7 @@ module _ {N : Type 0} (note : List Cell → List ℕ → List N) where
       pub counted_below : {S : Type 0} (Counted : S → List N → Type 0) (sums : S) → Counted sums (notes_below note mark history ++ takes.taken) → Counted sums (notes_below note to history)
       counted_below Counted sums counted = subst (Counted sums) below_taken counted
 
-      -- the lines of those below the position, behind those of the notes before the mark
+      -- the lines of those below the position, after those of the notes before the mark
       pub lines_below : (line : N → Line) (lines lines_new : List Line) → lines ≡ map line (notes_below note mark history)
           → lines_new ≡ lines ++ map line (take_while (λ (n : N). nat_lt (at n) to) notes) → lines_new ≡ map line (notes_below note to history)
       lines_below line lines lines_new lined pushed =

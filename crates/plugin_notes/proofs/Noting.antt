@@ -1,4 +1,4 @@
--- Notes on a list of cells, cut at a position, and the lines that they stand for.
+-- Lemmas on the notes of a list of cells, cut at a position, and on their lines.
 use Rattle.std.proofs.Common.{◌≡◌, ℕ, suc, ◌-◌, ◌<◌, ◌≤◌, List, [], ◌∷◌, ◌++◌, length, take, map, ap, sym, subst, ◌∙◌, ◌⊎◌, inl, inr, refl, Bool, true, false, nat_lt, not, ◌&&◌, if◌then◌else◌, append_assoc, append-nil, arith, length-append}
 use Rattle.std.specs.List.{take_while, list_all}
 use Rattle.std.proofs.lemmas.Bool.{not-true, false≢true}
@@ -14,7 +14,7 @@ use Rattle.plugin_trait.specs.declared.line.Line.{Line}
 use Rattle.plugin_trait.specs.PlacedLines.{placed_at, placed_after}
 use Rattle.plugin_notes.specs.Notes.{notes_after}
 
--- one note at most, which bears its position
+-- at most one note, which has its position
 pub record IsNoteAt {N : Type 0} (at : N → ℕ) (position : ℕ) (notes : List N) : Type 0 where
   pub one : (notes ≡ []) ⊎ ((note : N) × (notes ≡ note ∷ []) × (at note ≡ position))
 
@@ -23,7 +23,7 @@ abbrev pub fails_first : {N : Type 0} → (N → Bool) → List N → Bool
 fails_first passes [] = true
 fails_first passes (note ∷ notes) = not (passes note)
 
--- a number that is not below another fails the test
+-- a number that is not below another one fails the test
 pub not_below : (m n : ℕ) → n ≤ m → nat_lt m n ≡ false
 not_below m n h = grind (arith, nat_tests)
 
@@ -36,7 +36,7 @@ both_pass : (a b : Bool) → (a && b) ≡ true → (a ≡ true) × (b ≡ true)
 both_pass true b h = (refl, h)
 both_pass false b h = absurd (false≢true h)
 
--- of a list that begins with passing notes and goes on with one that fails, those are in front
+-- if a list begins with passing notes and continues with a failing one, `take_while` gives the passing ones
 pub take_while-split : {N : Type 0} (passes : N → Bool) (front rest : List N) → list_all passes front ≡ true → fails_first passes rest ≡ true
     → take_while passes (front ++ rest) ≡ front
 take_while-split {N} passes [] [] pass fails = refl
@@ -46,7 +46,7 @@ take_while-split {N} passes (n ∷ front) rest pass fails =
     ∙ (ap (λ (b : Bool). if b then n ∷ take_while passes (front ++ rest) else []) (both_pass (passes n) (list_all passes front) pass).0
     ∙ ap (λ (ns : List N). n ∷ ns) (take_while-split passes front rest (both_pass (passes n) (list_all passes front) pass).1 fails))
 
--- texts of notes at their position are the notes' own lines
+-- texts of notes at their position are the lines of the notes
 pub placed_at-notes : {N : Type 0} (at : N → ℕ) (text : N → List ℕ) (position : ℕ) (notes : List N) → IsNoteAt at position notes
     → placed_at position (map text notes) ≡ map (λ (n : N). let line : Line = record { at = at n; text = text n } in line) notes
 placed_at-notes {N} at text position notes one =
@@ -58,7 +58,7 @@ placed_at-notes {N} at text position notes one =
 
 module _ {N : Type 0} (note : List Cell → List ℕ → List N) (at : N → ℕ)
     (one : (history : List Cell) (packet : List ℕ) → IsNoteAt at (length history) (note history packet)) where
-  -- the notes on two lists, one behind the other
+  -- the notes on two lists, one after the other
   pub notes_after-append : (history xs ys : List Cell) → notes_after note history (xs ++ ys) ≡ notes_after note history xs ++ notes_after note (history ++ xs) ys
   notes_after-append history [] ys = ap (λ (h : List Cell). notes_after note h ys) (sym (append-nil history))
   notes_after-append history (Live packet labels ∷ xs) ys =
@@ -79,7 +79,7 @@ module _ {N : Type 0} (note : List Cell → List ℕ → List N) (at : N → ℕ
   length-notes_after history (Dropped ∷ cells) =
       let rest : length (notes_after note (history ++ Dropped ∷ []) cells) ≤ length cells = length-notes_after (history ++ Dropped ∷ []) cells in omega arith
 
-  -- behind a history that is long enough no first note passes
+  -- after a history that is long enough no first note passes
   pub fails_first-late : (cut : ℕ) (history cells : List Cell) → cut ≤ length history → fails_first (λ n. nat_lt (at n) cut) (notes_after note history cells) ≡ true
   fails_first-late cut history [] late = refl
   fails_first-late cut history (Live packet labels ∷ cells) late =
@@ -93,7 +93,7 @@ module _ {N : Type 0} (note : List Cell → List ℕ → List N) (at : N → ℕ
   fails_first-late cut history (Dropped ∷ cells) late =
       fails_first-late cut (history ++ Dropped ∷ []) cells (omega (arith, length-append history (Dropped ∷ [])))
 
-  -- one note at most, that passes, stands in front of those that pass behind it
+  -- at most one note, which passes, comes before those that pass after it
   one_in_front : (cut : ℕ) (history : List Cell) (packet : List ℕ) (rest : List N) → length history < cut
       → take_while (λ n. nat_lt (at n) cut) (note history packet ++ rest) ≡ note history packet ++ take_while (λ n. nat_lt (at n) cut) rest
   one_in_front cut history packet rest below =
@@ -104,7 +104,7 @@ module _ {N : Type 0} (note : List Cell → List ℕ → List N) (at : N → ℕ
             ∙ ap (λ (b : Bool). if b then e.0 ∷ take_while (λ n. nat_lt (at n) cut) rest else []) (is_below (at e.0) cut (omega (arith, e.2))))
       ]
 
-  -- where the history is long enough no cell counts
+  -- after a history that is long enough no cell counts
   late_take : (cut : ℕ) (history cells : List Cell) → cut ≤ length history
       → take_while (λ n. nat_lt (at n) cut) (notes_after note history cells) ≡ notes_after note history (take (cut - length history) cells)
   late_take cut history cells late =
@@ -146,7 +146,7 @@ module _ {N : Type 0} (note : List Cell → List ℕ → List N) (at : N → ℕ
       ∙ sym (map-append line (note history packet) (notes_after note (history ++ Live packet labels ∷ []) cells)))
   placed_after-notes rule line lines history (Dropped ∷ cells) = placed_after-notes rule line lines (history ++ Dropped ∷ []) cells
 
--- of the lines of the notes below a position one more is made, that of the first
+-- one more line is made of the notes below a position, that of the first note
 pub lines_more : {N : Type 0} (at : N → ℕ) (line : N → Line) (mark : ℕ) (lines lines_new all : List Line) (left rest : List N) (note : N) (made : Line)
     → left ≡ note ∷ rest → at note < mark → made ≡ line note → lines_new ≡ lines ++ made ∷ []
     → lines ++ map line (take_while (λ n. nat_lt (at n) mark) left) ≡ all

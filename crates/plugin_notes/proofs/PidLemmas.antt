@@ -1,4 +1,4 @@
--- Packets by PID, and lines one behind another.
+-- Lemmas on packets by PID, and on lines after others.
 use Rattle.std.proofs.Common.{◌≡◌, ℕ, ◌+◌, List, [], ◌∷◌, ◌++◌, map, ap, ◌==◌, if◌then◌else◌, add-one, refl}
 use Rattle.std.specs.List.{count_by, fold}
 use Rattle.std.proofs.lemmas.List.{map-append}
@@ -7,7 +7,7 @@ use Rattle.plugin_trait.specs.declared.line.Line.{Line}
 use Rattle.plugin_trait.specs.PlacedLines.{placed_at}
 use Rattle.plugin_notes.specs.PidPackets.{numbers_below, packets_on}
 
--- the packets on a PID, counted by the PIDs alone, behind others
+-- the packets on a PID, counted by the PIDs alone, after others
 count_from : (pid n : ℕ) (packets : List (List ℕ))
     → fold (λ (a : ℕ) (q : ℕ). a + (if q == pid then 1 else 0)) n (map pid_of packets) ≡ fold (λ (a : ℕ) (p : List ℕ). a + (if pid_of p == pid then 1 else 0)) n packets
 count_from pid n [] = refl
@@ -22,6 +22,6 @@ pub numbers_below_more : (n : ℕ) → numbers_below (n + 1) ≡ numbers_below n
 unfolding numbers_below
 numbers_below_more n = ap numbers_below (add-one n)
 
--- lines at a position behind others there
+-- lines at a position after others there
 pub placed_at-append : (cut : ℕ) (xs ys : List (List ℕ)) → placed_at cut (xs ++ ys) ≡ placed_at cut xs ++ placed_at cut ys
 placed_at-append cut xs ys = map-append (λ (text : List ℕ). let line : Line = record { at = cut; text = text } in line) xs ys

@@ -1,4 +1,4 @@
--- What is kept of the packets on a PID, one packet after another.
+-- Lemmas on what is kept of the packets on a PID, packet by packet.
 use Rattle.std.proofs.Common.{◌≡◌, ℕ, ◌+◌, ◌%◌, ◌<◌, List, [], ◌∷◌, ◌++◌, length, filter, get_or, set, ap, sym, subst, ◌∙◌, inl, inr, refl, Bool, true, false, not, ◌&&◌, if◌then◌else◌, ◌==◌, append-nil, Option, None, Some, add_assoc, arith, length-set, get_or-set_same, get_or-set_other, eq-eqb}
 use Rattle.std.proofs.lemmas.Grind.{flat_map-append}
 use Rattle.std.proofs.lemmas.List.Elements.{filter-append}
@@ -16,12 +16,12 @@ use Rattle.plugin_notes.specs.Counters.{is_watched, is_duplicate, is_fault, want
 use Rattle.plugin_notes.specs.ContinuityErrors.{error_behind, error_on, place_of_error}
 use Rattle.plugin_notes.specs.LastSeen.{HasCounters, Remembers, fault_after, right_after, seen_in, seen_with}
 
--- the last one
+-- the last packet
 last_behind-append : (first : List ℕ) (rest : List (List ℕ)) (packet : List ℕ) → last_behind first (rest ++ packet ∷ []) ≡ packet
 last_behind-append first [] packet = refl
 last_behind-append first (next ∷ rest) packet = last_behind-append next rest packet
 
--- the steps of one packet more
+-- the steps with one more packet
 steps_behind-append : (first : List ℕ) (rest : List (List ℕ)) (packet : List ℕ)
     → steps_behind first (rest ++ packet ∷ []) ≡ steps_behind first rest + step_behind (last_behind first rest) packet
 steps_behind-append first [] packet = omega arith
@@ -29,12 +29,12 @@ steps_behind-append first (next ∷ rest) packet =
     ap (λ (n : ℕ). step_behind first next + n) (steps_behind-append next rest packet)
     ∙ sym (add_assoc (step_behind first next) (steps_behind next rest) (step_behind (last_behind next rest) packet))
 
--- one step more of a counter
+-- one more step of a counter
 step_more : (n : ℕ) (steps : Bool) → (n + (if steps then 1 else 0)) % 16 ≡ (if steps then (n % 16 + 1) % 16 else n % 16)
 step_more n true = omega arith
 step_more n false = omega arith
 
--- the right counter of one packet more is known from what is kept
+-- the correct counter with one more packet follows from what is kept
 pub right_counter-append : (packets : List (List ℕ)) (packet : List ℕ) → counter_of packet < 16
     → right_counter (packets ++ packet ∷ []) ≡ right_after (seen_in packets) packet
 right_counter-append [] packet small = omega arith
@@ -44,7 +44,7 @@ right_counter-append (first ∷ rest) packet small =
     ∙ step_more (counter_of first + steps_behind first rest)
     (has_payload_of packet && not (is_duplicate (last_behind first rest) packet)))
 
--- what is kept with one packet more
+-- what is kept with one more packet
 pub seen_in-append : (packets : List (List ℕ)) (packet : List ℕ) → counter_of packet < 16
     → seen_in (packets ++ packet ∷ []) ≡ Some (seen_with (seen_in packets) packet)
 seen_in-append [] packet small =
@@ -56,12 +56,12 @@ seen_in-append (first ∷ rest) packet small =
     ∙ ap (λ (n : ℕ). let s : Option LastPacket = Some (record { counter = counter_of packet; has_payload = has_payload_of packet; right = n }) in s)
     (right_counter-append (first ∷ rest) packet small)
 
--- a fault is known from what is kept
+-- an error follows from what is kept
 pub fault_after-seen : (at : ℕ) (packets : List (List ℕ)) (packet : List ℕ) → fault_after at (seen_in packets) packet ≡ error_behind at (last_in packets) packet
 fault_after-seen at [] packet = refl
 fault_after-seen at (first ∷ rest) packet = refl
 
--- the packets on a PID with one cell more
+-- the packets on a PID with one more cell
 packets_of-live : (pid : ℕ) (history : List Cell) (packet : List ℕ) (labels : ℕ)
     → packets_of pid (history ++ Live packet labels ∷ []) ≡ packets_of pid history ++ (if pid_of packet == pid then packet ∷ [] else [])
 packets_of-live pid history packet labels =
@@ -72,7 +72,7 @@ packets_of-dropped : (pid : ℕ) (history : List Cell) → packets_of pid (histo
 packets_of-dropped pid history =
     ap (filter (λ p. pid_of p == pid)) (flat_map-append packet_in history (Dropped ∷ []) ∙ append-nil (live_packets history))
 
--- one fault at most
+-- at most one error
 one_fault_behind : (at : ℕ) (before : Option (List ℕ)) (packet : List ℕ) → IsNoteAt place_of_error at (error_behind at before packet)
 one_fault_behind at None packet = record { one = inl refl }
 one_fault_behind at (Some before) packet =
@@ -97,7 +97,7 @@ module _ (conf : ContinuityConf) (last : LastPackets) (history : List Cell) (r :
     each = λ pid below watched. r.each pid below watched ∙ ap seen_in (sym (packets_of-dropped pid history));
   }
 
-  -- nor does a packet on a PID that is not looked at
+  -- nor does a packet on a PID that is not checked
   pub remembers_other : (packet : List ℕ) (labels : ℕ) → is_watched conf (pid_of packet) ≡ false → Remembers conf last (history ++ Live packet labels ∷ [])
   remembers_other packet labels unwatched = record {
     table = r.table;
@@ -115,7 +115,7 @@ module _ (conf : ContinuityConf) (last : LastPackets) (history : List Cell) (r :
     before_is : before ≡ seen_in (packets_of (pid_of packet) history)
     before_is = is ∙ r.each (pid_of packet) below watched
 
-    -- the fault of the packet
+    -- the error of the packet
     pub fault_is : (at : ℕ) → length history ≡ at → fault_after at before packet ≡ error_on conf history packet
     fault_is at count =
         ap (λ (s : Option LastPacket). fault_after at s packet) before_is
@@ -123,7 +123,7 @@ module _ (conf : ContinuityConf) (last : LastPackets) (history : List Cell) (r :
         ∙ (fault_after-seen (length history) (packets_of (pid_of packet) history) packet
         ∙ sym (ap (λ (b : Bool). if b then error_behind (length history) (last_of (pid_of packet) history) packet else []) watched)))
 
-    -- the counter that the packet is to have
+    -- the correct counter of the packet
     pub right_is : counter_of packet < 16 → right_after before packet ≡ right_counter (packets_of (pid_of packet) history ++ packet ∷ [])
     right_is few =
         ap (λ (s : Option LastPacket). right_after s packet) before_is ∙ sym (right_counter-append (packets_of (pid_of packet) history) packet few)
@@ -136,7 +136,7 @@ module _ (conf : ContinuityConf) (last : LastPackets) (history : List Cell) (r :
 
     module _ (labels : ℕ) (last_new : LastPackets) (few : counter_of packet < 16) (right_few : right_after before packet < 16)
         (set_is : last_new.seen.items ≡ set last.seen.items (pid_of packet) (Some (seen_with before packet))) where
-      -- at the packet's place
+      -- at the packet's PID
       at_place : get_or last_new.seen.items (pid_of packet) None ≡ Some (seen_with before packet)
       at_place =
           ap (λ (ss : List (Option LastPacket)). get_or ss (pid_of packet) None) set_is
@@ -148,7 +148,7 @@ module _ (conf : ContinuityConf) (last : LastPackets) (history : List Cell) (r :
           ap (λ (ss : List (Option LastPacket)). get_or ss pid None) set_is
           ∙ get_or-set_other last.seen.items (pid_of packet) pid (Some (seen_with before packet)) None other
 
-      -- a packet that is looked at is kept
+      -- a checked packet is kept
       pub remembers_live : Remembers conf last_new (history ++ Live packet labels ∷ [])
       remembers_live = record {
         table = record {

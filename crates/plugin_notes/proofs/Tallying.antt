@@ -1,4 +1,4 @@
--- Counting one packet more.
+-- Lemmas on counting one more packet.
 use Rattle.std.proofs.Common.{◌≡◌, ℕ, ◌+◌, ◌<◌, ◌≤◌, List, [], ◌∷◌, ◌++◌, length, get_or, set, ap, sym, subst, ◌∙◌, inl, inr, Bool, ◌==◌, if◌then◌else◌, arith, length-append, length-set, get_or-set_same, get_or-set_other, eq-eqb, add-zero, refl}
 use Rattle.std.specs.List.{count_by}
 use Rattle.std.proofs.lemmas.Bool.{cases_eq, ne_eqb}
@@ -6,15 +6,15 @@ use Rattle.std.proofs.lemmas.List.Sums.{count_by-le-length, fold-append}
 use Rattle.ts_packet.specs.declared.numbers.TheConstants.{PID_COUNT}
 use Rattle.plugin_notes.specs.Tallies.{IsTally}
 
--- a count with one member more
+-- a count with one more member
 count_by-last : (p : ℕ → Bool) (xs : List ℕ) (x : ℕ) → count_by p (xs ++ x ∷ []) ≡ count_by p xs + (if p x then 1 else 0)
 count_by-last p xs x = fold-append (λ (n : ℕ) (y : ℕ). n + (if p y then 1 else 0)) 0 xs (x ∷ [])
 
--- no count is above the number of all
+-- no count is above the total
 pub small_count : (counts pids : List ℕ) (total pid : ℕ) → IsTally counts total pids → pid < PID_COUNT → get_or counts pid 0 ≤ length pids
 small_count counts pids total pid tally below = subst (λ (n : ℕ). n ≤ length pids) (sym (tally.each pid below)) (count_by-le-length (λ q. q == pid) pids)
 
--- one packet more on a PID
+-- one more packet on a PID
 pub adds : (counts pids : List ℕ) (total pid : ℕ) → IsTally counts total pids → pid < PID_COUNT
     → IsTally (set counts pid (get_or counts pid 0 + 1)) (total + 1) (pids ++ pid ∷ [])
 adds counts pids total pid tally below = record {

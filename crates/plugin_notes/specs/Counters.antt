@@ -1,4 +1,5 @@
--- Continuity counters and their faults. This project's own rule, over the continuity_counter of ISO/IEC 13818-1, 2.4.3.3.
+-- Continuity counters and their errors. This project's own rule, over the continuity_counter of ISO/IEC 13818-1,
+-- 2.4.3.3.
 use Rattle.std.specs.Prelude.{ℕ, ◌+◌, ◌%◌, List, [], ◌∷◌, ◌++◌, filter, Bool, false, not, ◌==◌, ◌&&◌, Option, None, Some, codes, if◌then◌else◌}
 use Rattle.std.specs.Fmt.{decimal}
 use Rattle.ts_packet.specs.declared.cell.Cell.{Cell}
@@ -9,24 +10,25 @@ use Rattle.ts_packet.specs.declared.numbers.TheConstants.{NULL_PID}
 use Rattle.plug_conf.specs.Selection.{is_selected}
 use Rattle.plugin_notes.specs.declared.continuity_conf.ContinuityConf.{ContinuityConf}
 
--- the packets of the PID are looked at; those of 8191 never are
+-- the packets on the PID are checked; those on 8191 never are
 abbrev pub is_watched : ContinuityConf → ℕ → Bool
 is_watched conf pid = is_selected conf.pid false pid && not (pid == NULL_PID)
 
--- the packets on a PID, of a list of cells
+-- the packets on a PID in a list of cells
 abbrev pub packets_of : ℕ → List Cell → List (List ℕ)
 packets_of pid cells = filter (λ packet. pid_of packet == pid) (live_packets cells)
 
--- a packet repeats the one before it on its PID: both have payload and the same counter
+-- a packet duplicates the one before it on its PID: both have a payload and the same counter, and the second has no
+-- discontinuity_indicator
 abbrev pub is_duplicate : List ℕ → List ℕ → Bool
 is_duplicate before packet = has_payload_of before && (has_payload_of packet
     && (counter_of packet == counter_of before && not (discontinuity_of packet)))
 
--- the counter that is to follow: one more for a packet with payload
+-- the expected counter of a packet, given the one before it on its PID: one more if it has a payload, else the same
 abbrev pub wanted_behind : List ℕ → List ℕ → ℕ
 wanted_behind before packet = if has_payload_of packet then (counter_of before + 1) % 16 else counter_of before
 
--- a counter that is not the wanted one, without a flag that it may be so and without being repeated
+-- the counter is a fault: not the expected one, though the packet is no duplicate and has no discontinuity_indicator
 abbrev pub is_fault : List ℕ → List ℕ → Bool
 is_fault before packet = not (counter_of packet == wanted_behind before packet)
     && (not (is_duplicate before packet) && not (discontinuity_of packet))
@@ -36,12 +38,12 @@ abbrev pub fault_text : ℕ → ℕ → ℕ → ℕ → List ℕ
 fault_text at pid counter wanted = codes "packet " ++ (decimal at ++ (codes " pid " ++ (decimal pid
     ++ (codes " counter " ++ (decimal counter ++ (codes " wanted " ++ decimal wanted))))))
 
--- the last of a packet and those that follow it
+-- the last of a packet and those after it
 abbrev pub last_behind : List ℕ → List (List ℕ) → List ℕ
 last_behind first [] = first
 last_behind first (packet ∷ packets) = last_behind packet packets
 
--- the last packet, where there is one
+-- the last packet, if there is one
 abbrev pub last_in : List (List ℕ) → Option (List ℕ)
 last_in [] = None
 last_in (first ∷ rest) = Some (last_behind first rest)
@@ -50,16 +52,16 @@ last_in (first ∷ rest) = Some (last_behind first rest)
 abbrev pub last_of : ℕ → List Cell → Option (List ℕ)
 last_of pid history = last_in (packets_of pid history)
 
--- 1 for a packet whose counter goes on: one with payload that repeats none
+-- 1 if a packet increments the counter: it has a payload and is no duplicate
 abbrev pub step_behind : List ℕ → List ℕ → ℕ
 step_behind before packet = if has_payload_of packet && not (is_duplicate before packet) then 1 else 0
 
--- how many packets go on, of those that follow a packet on its PID
+-- how many of the packets after one on its PID increment the counter
 abbrev pub steps_behind : List ℕ → List (List ℕ) → ℕ
 steps_behind before [] = 0
 steps_behind before (packet ∷ packets) = step_behind before packet + steps_behind packet packets
 
--- the counter that the last of the packets on a PID is to have: the first one's, gone on
+-- the correct counter of the last of the packets on a PID, counted on from the first one's counter
 abbrev pub right_counter : List (List ℕ) → ℕ
 right_counter [] = 0
 right_counter (first ∷ rest) = (counter_of first + steps_behind first rest) % 16

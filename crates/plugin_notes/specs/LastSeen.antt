@@ -1,4 +1,4 @@
--- What is kept of the packets on a PID for their continuity counters. This project's own rule.
+-- What is kept of each PID to check and correct its continuity counters. This project's own rule.
 use Rattle.std.specs.Prelude.{◌≡◌, ◌<◌, ℕ, ◌+◌, ◌%◌, List, [], ◌∷◌, length, Bool, true, not, ◌==◌, ◌&&◌, Option, None, Some, if◌then◌else◌}
 use Rattle.std.specs.List.{slice_index_or}
 use Rattle.ts_packet.specs.declared.cell.Cell.{Cell}
@@ -11,7 +11,7 @@ use Rattle.plugin_notes.specs.declared.continuity_error.ContinuityError.{Continu
 use Rattle.plugin_notes.specs.declared.last_packet.LastPacket.{LastPacket}
 use Rattle.plugin_notes.specs.declared.last_packets.LastPackets.{LastPackets}
 
--- of the packets on a PID the last one's counter and payload, and the counter that it was to have
+-- of the packets on a PID: the last one's counter, whether it has a payload, and its correct counter
 abbrev pub seen_in : List (List ℕ) → Option LastPacket
 seen_in [] = None
 seen_in (first ∷ rest) = Some (record {
@@ -20,12 +20,12 @@ seen_in (first ∷ rest) = Some (record {
   right = right_counter (first ∷ rest);
 })
 
--- a packet repeats the one that was seen
+-- a packet duplicates the last one seen
 abbrev pub repeats : LastPacket → List ℕ → Bool
 repeats seen packet = seen.has_payload && (has_payload_of packet
     && (counter_of packet == seen.counter && not (discontinuity_of packet)))
 
--- the counter that is to follow
+-- the expected counter of a packet after the last one seen
 abbrev pub wanted_after : LastPacket → List ℕ → ℕ
 wanted_after seen packet = if has_payload_of packet then (seen.counter + 1) % 16 else seen.counter
 
@@ -34,7 +34,7 @@ abbrev pub is_wrong : LastPacket → List ℕ → Bool
 is_wrong seen packet = not (counter_of packet == wanted_after seen packet)
     && (not (repeats seen packet) && not (discontinuity_of packet))
 
--- the fault of a packet at a position
+-- the error of a packet at a position, after the last packet seen on its PID: at most one
 abbrev pub fault_after : ℕ → Option LastPacket → List ℕ → List ContinuityError
 fault_after at None packet = []
 fault_after at (Some seen) packet =
@@ -42,13 +42,13 @@ fault_after at (Some seen) packet =
     then record { at = at; pid = pid_of packet; counter = counter_of packet; wanted = wanted_after seen packet } ∷ []
     else []
 
--- the counter that the packet is to have
+-- the correct counter of a packet
 abbrev pub right_after : Option LastPacket → List ℕ → ℕ
 right_after None packet = counter_of packet
 right_after (Some seen) packet =
     if has_payload_of packet && not (repeats seen packet) then (seen.right + 1) % 16 else seen.right
 
--- what is kept with one packet more
+-- what is kept after one more packet
 abbrev pub seen_with : Option LastPacket → List ℕ → LastPacket
 seen_with seen packet = record {
   counter = counter_of packet;
@@ -56,17 +56,17 @@ seen_with seen packet = record {
   right = right_after seen packet;
 }
 
--- counters are below 16
+-- both counters are below 16
 abbrev pub HasCounters : Option LastPacket → Type 0
 HasCounters None = Unit {0}
 HasCounters (Some seen) = (seen.counter < 16) × (seen.right < 16)
 
--- there is a place for each PID, and counters are below 16
+-- there is an entry for each PID, and counters are below 16
 pub record IsTable (last : LastPackets) : Type 0 where
   pub whole : length last.seen.items ≡ PID_COUNT
   pub small : (pid : ℕ) → HasCounters (slice_index_or last.seen.items pid None)
 
--- what is kept of each PID that is looked at is that of the packets on it
+-- what is kept of each checked PID is that of the packets on it
 pub record Remembers (conf : ContinuityConf) (last : LastPackets) (history : List Cell) : Type 0 where
   pub table : IsTable last
   pub each : (pid : ℕ) → pid < PID_COUNT → is_watched conf pid ≡ true → slice_index_or last.seen.items pid None ≡ seen_in (packets_of pid history)

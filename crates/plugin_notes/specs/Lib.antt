@@ -1,3 +1,4 @@
+-- The definitions of `plugin_notes`: notes on packets, counts by PID and continuity counters.
 pub mod Notes
 pub mod NotesKept
 pub mod Tallies

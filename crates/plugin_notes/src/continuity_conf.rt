@@ -1,10 +1,11 @@
+//! The settings of `continuity`.
 use plug_conf::NumberSet;
 
-/// Settings of `continuity`, which looks at continuity counters.
+/// Settings of `continuity`, which checks continuity counters.
 #[derive(Drop)]
 pub struct ContinuityConf {
-    /// The PIDs that are looked at; none where all but 8191 are.
+    /// The PIDs that are checked, 0 to 8191; if empty, all but 8191.
     pub pid: NumberSet,
-    /// Counters are put right.
+    /// Whether counters are corrected.
     pub fix: bool,
 }

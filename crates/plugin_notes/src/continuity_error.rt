@@ -1,17 +1,18 @@
+//! A continuity error of a packet, and its line in the report.
 use crate::note_row::{LineNote, PacketNote};
 use plugin_trait::{Line, LineText};
 use std::alloc::{AllocError, Global};
 
-/// That a packet's continuity counter was not the one wanted.
+/// A packet whose continuity counter is not the expected one.
 #[derive(Clone, Copy, PartialEq, Eq)]
 pub struct ContinuityError {
     /// The position of the packet.
     pub at: u64,
     /// Its PID.
     pub pid: u16,
-    /// Its counter, 0 to 15.
+    /// Its continuity counter, 0 to 15.
     pub counter: u8,
-    /// The counter that was wanted.
+    /// The expected counter, 0 to 15.
     pub wanted: u8,
 }
 

@@ -1,3 +1,4 @@
+//! The last packet on a PID, as kept for its continuity counter.
 ghost use Rattle.std.specs.Prelude.{◌≡◌, ◌<◌, Some, option_to_list};
 ghost use Rattle.ts_packet.specs.Header.{counter_of, has_payload_of};
 ghost use Rattle.plugin_notes.specs.LastSeen.{repeats, wanted_after, is_wrong, fault_after, right_after, seen_with, HasCounters};
@@ -5,22 +6,22 @@ ghost use Rattle.plugin_notes.specs.LastSeen.{repeats, wanted_after, is_wrong, f
 use crate::continuity_error::ContinuityError;
 use ts_packet::Packet;
 
-/// Counters are below this number.
+/// Continuity counters are below this number.
 const COUNTER_BOUND: u8 = 16;
 
 /// What is kept of the last packet on a PID.
 #[derive(Clone, Copy, PartialEq, Eq)]
 pub struct LastPacket {
-    /// Its counter as it came, 0 to 15.
+    /// Its continuity counter as received, 0 to 15.
     pub counter: u8,
-    /// Whether it had payload.
+    /// Whether it has a payload.
     pub has_payload: bool,
-    /// The counter that it was to have, 0 to 15.
+    /// Its correct counter, 0 to 15.
     pub right: u8,
 }
 
 impl LastPacket {
-    // Whether the packet repeats the one that was seen.
+    // Whether the packet is a duplicate of the last one.
     #[inline]
     fn is_repeated_by(&self, packet: &Packet) -> bool
         ensures { result ≡ repeats self.now packet.now }
@@ -31,7 +32,7 @@ impl LastPacket {
             && !packet.discontinuity()
     }
 
-    // The counter that is wanted of a packet.
+    // The expected counter of the next packet.
     #[inline]
     fn wanted(&self, packet: &Packet) -> u8
         requires { self.now.counter < 16 }
@@ -44,7 +45,7 @@ impl LastPacket {
         }
     }
 
-    // Whether the counter of a packet is a fault.
+    // Whether the counter of the next packet is a fault.
     #[inline]
     fn is_wrong(&self, packet: &Packet) -> bool
         requires { self.now.counter < 16 }
@@ -55,7 +56,7 @@ impl LastPacket {
             && !packet.discontinuity()
     }
 
-    // The counter that a packet is to have.
+    // The correct counter of the next packet.
     #[inline]
     fn right_counter(&self, packet: &Packet) -> u8
         requires { self.now.right < 16 }
@@ -69,7 +70,7 @@ impl LastPacket {
     }
 }
 
-/// What is kept with one packet more.
+/// What is kept after one more packet.
 #[inline]
 pub fn seen_with(seen: Option<LastPacket>, packet: &Packet) -> LastPacket
     requires { HasCounters seen }
@@ -84,7 +85,7 @@ pub fn seen_with(seen: Option<LastPacket>, packet: &Packet) -> LastPacket
     }
 }
 
-// The counter that a packet is to have: its own, if it is the first on its PID.
+// The correct counter of a packet: its own, if it is the first on its PID.
 #[inline]
 fn right_counter(seen: Option<LastPacket>, packet: &Packet) -> u8
     requires { HasCounters seen }
@@ -97,7 +98,7 @@ fn right_counter(seen: Option<LastPacket>, packet: &Packet) -> u8
     }
 }
 
-/// The fault of the packet at a position, if it is one, behind what is kept of the packet before it on its PID.
+/// The continuity error of the packet at a position, if it has one, after what is kept of the last packet on its PID.
 #[inline]
 pub fn fault_behind(at: u64, seen: Option<LastPacket>, packet: &Packet) -> Option<ContinuityError>
     requires { HasCounters seen }

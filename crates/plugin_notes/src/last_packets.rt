@@ -1,4 +1,4 @@
-//! What is kept of the packets of all PIDs, for their continuity counters.
+//! What is kept of each PID for its continuity counter.
 ghost use Rattle.std.specs.Prelude.{◌≡◌, ℕ, IfOk, None, length};
 ghost use Rattle.std.specs.List.{slice_index_or};
 
@@ -24,7 +24,7 @@ impl LastPackets {
     ghost use Rattle.plugin_notes.specs.Counters.{is_watched, packets_of, right_counter};
     ghost use Rattle.plugin_notes.specs.LastSeen.{HasCounters, IsTable, Remembers};
 
-    /// No packet was met on any PID. It takes 32 KiB.
+    /// No packet yet on any PID. Allocates 32 KiB.
     pub fn new(alloc: Global) -> Result<LastPackets, AllocError>
         ensures { IfOk result (λ last. (conf : GivenConf) → Remembers conf last []) }
     {
@@ -33,7 +33,7 @@ impl LastPackets {
         })
     }
 
-    /// The fault of the packet at a position, if it is one.
+    /// The continuity error of the packet at a position, if it has one.
     #[inline]
     pub fn fault(&self, at: u64, packet: &Packet) -> Option<ContinuityError>
         requires { IsTable self.now }
@@ -43,7 +43,7 @@ impl LastPackets {
         fault_behind(at, self.on(packet.pid()), packet)
     }
 
-    /// Keeps a packet, and answers the counter that it is to have.
+    /// Keeps a packet as the last one on its PID, and returns its correct counter, 0 to 15.
     #[inline]
     pub fn keep(&mut self, packet: &Packet) -> u8
         requires { IsTable self.old }
@@ -71,7 +71,7 @@ impl LastPackets {
     }
 }
 
-// No packet on any PID.
+// A table without packets.
 fn no_packets(alloc: Global) -> Result<Vec<Option<LastPacket>>, AllocError>
     ensures { IfOk result (λ seen. (length seen.items ≡ PID_COUNT) × ((pid : ℕ) → slice_index_or seen.items pid None ≡ None)) }
 {

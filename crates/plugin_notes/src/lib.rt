@@ -1,7 +1,7 @@
-//! What plugins that look at packets share: notes on packets for as long as these may stand behind the cut, their lines,
-//! numbers by PID, and the continuity counters of all PIDs with their faults. Each comes in with a packet or a PID, and
-//! goes out as a line, a number or a fault. The layer above keeps them beside its own state; `TakesBelow`, `IsCounted` and
-//! `Remembers` tie them to the cells that were met.
+//! What plugins that check packets share: notes on packets, kept for as long as these may stand after the cut, their
+//! lines, counts by PID, and the continuity counters of all PIDs with their errors. A packet or a PID comes in; a
+//! line, a count or an error goes out. The layer above keeps them beside its own state; `TakesBelow`, `IsCounted` and
+//! `Remembers` relate them to the cells that were processed.
 #![tactic(auto)]
 
 mod continuity_conf;

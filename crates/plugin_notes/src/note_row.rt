@@ -1,5 +1,5 @@
-//! Notes on packets that are not folded yet, in a buffer of a fixed size: the oldest first.
-//! A note leaves the buffer once its packet stands before the mark, or before the cut.
+//! Notes on packets that are not counted yet, in a buffer of a fixed size, oldest first. A note leaves the buffer
+//! once its packet stands before the mark, or before the cut.
 ghost use Rattle.std.specs.Prelude.{◌≡◌, ◌<◌, ◌≤◌, ◌∷◌, ◌++◌, [], IfSome, IfNone, IfOk, OnOk, OnErr, IsErr, IsOk, None, length, map, nat_lt, option_to_list};
 ghost use Rattle.std.specs.List.{take_while};
 ghost use Rattle.plugin_notes.specs.NotesKept.{StartsFrom, TakesBelow};
@@ -8,14 +8,14 @@ use circular_buffer::HeapCircularBuffer;
 use plugin_trait::Line;
 use std::alloc::{AllocError, Global};
 
-/// What is noted of a packet.
+/// A note on a packet.
 pub trait PacketNote: Drop {
     ghost use Rattle.std.specs.Prelude.{◌≡◌, ℕ};
 
     /// The position of the packet, for contracts.
     ghost place: { Self → ℕ };
 
-    /// The position of the packet.
+    /// The position of the packet; `place` in contracts.
     fn at(&self) -> u64
         ensures { result ≡ place self.now };
 }
@@ -28,12 +28,12 @@ pub trait LineNote: PacketNote {
     /// The line, for contracts.
     ghost line_of: { Self → GivenLine };
 
-    /// The line.
+    /// The line. Out of memory it returns `AllocError`.
     fn line(&self, alloc: Global) -> Result<Line, AllocError>
         ensures { IfOk result (λ line. line ≡ line_of self.now) };
 }
 
-/// Puts a note behind the others. Where the buffer is full it answers `AllocError`, and no note is lost.
+/// Appends a note. If the buffer is full it returns `AllocError`, and the notes are unchanged.
 #[inline]
 pub fn push_note<N: Drop>(notes: &mut HeapCircularBuffer<N>, note: N) -> Result<(), AllocError>
     ensures ok { OnOk result (notes.new.items ≡ notes.old.items ++ note ∷ []) }
@@ -48,8 +48,8 @@ pub fn push_note<N: Drop>(notes: &mut HeapCircularBuffer<N>, note: N) -> Result<
     Ok(())
 }
 
-/// Puts a note behind the others, if there is one. Where there is and the buffer is full, it answers `AllocError`, and no
-/// note is lost.
+/// Appends a note, if there is one. If there is one and the buffer is full, it returns `AllocError`, and the notes
+/// are unchanged.
 #[inline]
 pub fn push_if_any<N: Drop>(
     notes: &mut HeapCircularBuffer<N>,
@@ -67,7 +67,7 @@ pub fn push_if_any<N: Drop>(
     }
 }
 
-/// Takes the first note off, where it is below a position.
+/// Removes and returns the first note, if it is below a position.
 #[inline]
 pub fn pop_below<N: PacketNote>(notes: &mut HeapCircularBuffer<N>, mark: u64) -> Option<N>
     ensures taken { IfSome result (λ note. (notes.old.items ≡ note ∷ notes.new.items) × (N.place note < mark)) }
@@ -80,7 +80,7 @@ pub fn pop_below<N: PacketNote>(notes: &mut HeapCircularBuffer<N>, mark: u64) ->
     notes.pop_front()
 }
 
-/// Takes the notes below a position off.
+/// Removes the notes below a position.
 pub fn drop_below<N: PacketNote>(notes: &mut HeapCircularBuffer<N>, mark: u64)
     ensures takes { TakesBelow N.place mark notes.old.items notes.new.items }
     ensures capacity { notes.new.capacity ≡ notes.old.capacity }
@@ -88,7 +88,7 @@ pub fn drop_below<N: PacketNote>(notes: &mut HeapCircularBuffer<N>, mark: u64)
     while let Some(_note) = pop_below(notes, mark) {}
 }
 
-/// Puts the lines of the notes below a position behind others. Where memory is wanted the lines are as they were.
+/// Appends the lines of the notes below a position. Out of memory the lines are unchanged.
 pub fn push_lines_below<N: LineNote>(
     lines: &mut Vec<Line>,
     notes: &HeapCircularBuffer<N>,

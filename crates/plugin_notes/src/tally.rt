@@ -1,9 +1,10 @@
+//! Counts of packets by PID.
 ghost use Rattle.std.specs.Prelude.{◌≡◌, ◌<◌, ◌++◌, ◌∷◌, [], ℕ, List, IfOk, slice_index, if◌then◌else◌};
 
 use std::alloc::{AllocError, Global};
 use ts_packet::PID_COUNT;
 
-/// How many packets were counted on each PID, and in all.
+/// How many packets were counted on each PID, and in total.
 #[derive(Drop)]
 pub struct Tally {
     counts: Vec<u64>,
@@ -14,7 +15,7 @@ impl Tally {
     ghost use Rattle.std.specs.Prelude.{◌≡◌, ◌<◌, ◌++◌, ◌∷◌, [], ℕ, List, IfOk, slice_index, if◌then◌else◌};
     ghost use Rattle.plugin_notes.specs.Tallies.{IsCounted, HasRoomIn, IsWhole};
 
-    /// Nothing counted yet. It takes 64 KiB.
+    /// Nothing counted yet. Allocates 64 KiB.
     pub fn new(alloc: Global) -> Result<Tally, AllocError>
         ensures { IfOk result (λ tally. IsCounted tally []) }
     {
@@ -25,7 +26,7 @@ impl Tally {
         Ok(Tally { counts, total: 0 })
     }
 
-    /// Counts one packet more on a PID.
+    /// Counts one more packet on a PID.
     #[inline]
     pub fn add(&mut self, pid: u16)
         requires on_pid { pid < PID_COUNT }
@@ -36,7 +37,7 @@ impl Tally {
         self.total += 1;
     }
 
-    /// Counts one packet more on a PID, if it is one of those that are counted.
+    /// Counts one more packet on a PID, if the condition holds.
     #[inline]
     pub fn add_if(&mut self, is_one: bool, pid: u16)
         requires on_pid { pid < PID_COUNT }
@@ -57,7 +58,7 @@ impl Tally {
         self.counts[usize::from(pid)]
     }
 
-    /// How many packets were counted in all.
+    /// How many packets were counted in total.
     pub fn total(&self) -> u64
         ensures { result ≡ self.now.total }
     {

@@ -21,7 +21,7 @@ pub(crate) fn packet(pid: u16) -> Packet
     packet
 }
 
-/// The first packet that carries the sections as which a table is written.
+/// The first packet with the sections of a table.
 pub(crate) fn packet_of(
     alloc: Global,
     pid: u16,
@@ -54,7 +54,7 @@ pub(crate) fn one_service(alloc: Global, network_pid: Option<u16>) -> Result<Pat
     })
 }
 
-/// A PMT of service 1 with one component, on whose PID its clock is.
+/// A PMT of service 1 with one component, on whose PID its PCRs are.
 pub(crate) fn one_component(alloc: Global, version: u8, component: Component) -> Result<Pmt, Fail>
     requires version { version < 32 }
     requires pid { component.pid < 8192 }
@@ -75,7 +75,7 @@ pub(crate) fn live(packet: Packet) -> Cell {
     Cell::of(packet, Labels::none())
 }
 
-/// The bytes of a cell's packet from a place on, and none of a dropped cell.
+/// The bytes of a cell's packet from an offset on; none for a dropped cell.
 pub(crate) fn bytes_from(cell: &Cell, from: usize) -> &[u8] {
     match cell.live() {
         Some(live) if from <= PACKET_SIZE => &live.packet.bytes()[from..],
@@ -83,7 +83,7 @@ pub(crate) fn bytes_from(cell: &Cell, from: usize) -> &[u8] {
     }
 }
 
-/// Looks at the bytes of each cell from a place on.
+/// Checks the bytes of each cell's packet from an offset on.
 pub(crate) fn each_shows(rt: &impl Abort, cells: &[Cell], from: usize, wanted: &[u8]) {
     for cell in cells {
         let bytes = bytes_from(cell, from);
@@ -91,12 +91,12 @@ pub(crate) fn each_shows(rt: &impl Abort, cells: &[Cell], from: usize, wanted: &
     }
 }
 
-/// The counter of a cell's packet.
+/// The continuity counter of a cell's packet; `None` for a dropped cell.
 pub(crate) fn counter_of(cell: &Cell) -> Option<u8> {
     cell.live().map(|live| live.packet.counter())
 }
 
-/// Looks whether the counters go up from 0.
+/// Checks that the counters count up from 0.
 pub(crate) fn are_counted(rt: &impl Abort, cells: &[Cell]) {
     for (i, cell) in cells.iter().enumerate() {
         assert!(rt; counter_of(cell).map(usize::from) == Some(i));

@@ -1,4 +1,4 @@
-//! Worked rows: what the editors make of packets.
+//! Tests of the editors of tables: worked rows of packets before and after.
 
 ghost use Rattle.std.specs.Prelude.{◌≡◌, []};
 
@@ -17,7 +17,7 @@ use ts_packet::{Cell, Packet};
 use ts_psi::{Cat, Component};
 use ts_si::{Nit, NitStreamList, Sdt, SdtServiceList};
 
-/// What a plugin makes of a packet that comes twice, with counters 5 and 6.
+/// The cells after a plugin processed a packet twice, with counters 5 and 6.
 fn edited<P: Plugin + Drop>(alloc: Global, mut plugin: P, packet: Packet) -> Result<Vec<Cell>, Fail>
     requires { P.stands_for plugin [] 0 }
 {
@@ -30,7 +30,7 @@ fn edited<P: Plugin + Drop>(alloc: Global, mut plugin: P, packet: Packet) -> Res
     Ok(cells)
 }
 
-/// No number.
+/// An empty set of numbers.
 fn no_numbers(alloc: Global) -> NumberSet
     ensures { result ≡ [] }
 {
@@ -47,7 +47,7 @@ fn cat_packet(alloc: Global) -> Result<Packet, Fail> {
     packet_of(alloc, 1, cat.sections(alloc))
 }
 
-/// What becomes of it with a CA system.
+/// That packet after a CA system was added.
 fn with_system(alloc: Global) -> Result<Vec<Cell>, Fail> {
     let packet = cat_packet(alloc)?;
     let added = vec![in alloc; (0x1800, 256)]?;
@@ -84,7 +84,7 @@ fn pmt_packet(alloc: Global) -> Result<Packet, Fail> {
     packet_of(alloc, 4096, pmt.sections(alloc))
 }
 
-/// What becomes of it with PID 257 moved.
+/// That packet after PID 257 was moved.
 fn with_a_pid_moved(alloc: Global) -> Result<Vec<Cell>, Fail> {
     let packet = pmt_packet(alloc)?;
     let moved = vec![in alloc; (257, 300)]?;
@@ -109,7 +109,7 @@ fn a_pid_is_moved_without_a_pat(rt: HostRuntime) -> Result<(), Fail> {
     Ok(())
 }
 
-/// What becomes of packets on the PID of a PAT that does not come.
+/// Packets on the PID of a PAT that does not come, after the plugin.
 fn without_a_pat(alloc: Global) -> Result<Vec<Cell>, Fail> {
     let conf = EditPatConf {
         add_service: PairList::of(Vec::new(alloc)),
@@ -142,7 +142,7 @@ fn nit_packet(alloc: Global) -> Result<Packet, Fail> {
     packet_of(alloc, 16, nit.sections(alloc))
 }
 
-/// What becomes of it with a name.
+/// That packet after its network name was set.
 fn with_a_network_name(alloc: Global) -> Result<Vec<Cell>, Fail> {
     let packet = nit_packet(alloc)?;
     let name = String::from_str(alloc, "net")?;
@@ -177,7 +177,7 @@ fn sdt_packet(alloc: Global) -> Result<Packet, Fail> {
     packet_of(alloc, 17, sdt.sections(alloc))
 }
 
-/// What becomes of it with a service.
+/// That packet after a service was set.
 fn with_a_service(alloc: Global) -> Result<Vec<Cell>, Fail> {
     let packet = sdt_packet(alloc)?;
     let name = String::from_str(alloc, "one")?;

@@ -1,3 +1,4 @@
+//! Tests of `until`: how it ends a list, and whether it agrees to joint termination.
 ghost use Rattle.std.specs.Prelude.{[], ◌≤◌, ◌^◌, vec_len};
 ghost use Rattle.plug_end.specs.UntilSettings.{IsLawfulUntil};
 
@@ -11,14 +12,14 @@ use ts_packet::{Cell, Labels, Packet};
 
 const NONE: Option<u64> = None;
 
-/// A null packet with or without its unit start indicator.
+/// A null packet with or without payload_unit_start_indicator.
 fn packet(unit_start: bool) -> Cell {
     let mut packet = Packet::null();
     packet.set_unit_start(unit_start);
     Cell::of(packet, Labels::none())
 }
 
-/// A dropped cell, and behind it nine packets of which every third has its unit start indicator.
+/// A dropped cell, and then nine packets of which every third has payload_unit_start_indicator.
 fn ten_cells(alloc: Global) -> Result<Vec<Cell>, Fail> {
     let cells = vec![in alloc;
         Cell::dropped(),
@@ -35,7 +36,7 @@ fn ten_cells(alloc: Global) -> Result<Vec<Cell>, Fail> {
     Ok(cells)
 }
 
-/// How a new plugin leaves a list, and whether it agrees to end behind it.
+/// How a new plugin ends a list, and whether it agrees to end after it.
 fn end_and_agreement(until: &mut Until, cells: &mut Vec<Cell>) -> (ListEnd, bool)
     requires fresh { ⟦<Until as Plugin>⟧.stands_for until.old [] 0 }
     requires in_range { vec_len cells.old ≤ 2 ^ 60 }
@@ -44,8 +45,8 @@ fn end_and_agreement(until: &mut Until, cells: &mut Vec<Cell>) -> (ListEnd, bool
     (end, until.agreed())
 }
 
-/// How a new plugin with these settings leaves the first so many of ten cells, whether it agrees behind them, and the
-/// cells that are left.
+/// How a new plugin with these settings ends the first so many of ten cells, whether it agrees after them, and the
+/// remaining cells.
 fn left_by(alloc: Global, conf: &UntilConf, met: usize) -> Result<(ListEnd, bool, Vec<Cell>), Fail>
     requires { IsLawfulUntil conf.now }
 {
@@ -56,7 +57,7 @@ fn left_by(alloc: Global, conf: &UntilConf, met: usize) -> Result<(ListEnd, bool
     Ok((end, agreed, cells))
 }
 
-/// Looks how a new plugin with these settings leaves the first so many of ten cells, and how many are left.
+/// Checks how a new plugin with these settings ends the first so many of ten cells, and how many remain.
 fn leaves(
     rt: &(impl Abort + AllocGlobal),
     conf: &UntilConf,
@@ -94,7 +95,7 @@ fn until_ends_the_list(rt: HostRuntime) -> Result<(), Fail> {
     Ok(())
 }
 
-/// Each row says of how many cells the list is, and whether the plugin agrees behind them.
+/// Each row has the number of cells of the list, and whether the plugin agrees after them.
 #[test]
 fn joint_until_agrees_and_passes_all(rt: HostRuntime) -> Result<(), Fail> {
     let rows = [

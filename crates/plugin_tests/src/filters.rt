@@ -1,3 +1,4 @@
+//! Tests of `filter`, `slice` and `pattern`.
 ghost use Rattle.std.specs.Prelude.{◌<◌, ℕ, [], IfOk, length, slice_index};
 
 use crate::cells::{each_shows, live, packet};
@@ -23,8 +24,7 @@ fn cells_on(alloc: Global, pids: &[u16]) -> Result<Vec<Cell>, AllocError>
     Ok(cells)
 }
 
-/// A letter for each cell: `p` for a packet that passed, `n` for a null packet that stands in the place of one, and
-/// `.` for one that was dropped.
+/// A letter for each cell: `p` for a packet that passed, `n` for a null packet, and `.` for a dropped cell.
 fn letters(alloc: Global, cells: &[Cell]) -> Result<String, AllocError> {
     let mut letters = String::new(alloc);
     for cell in cells {
@@ -37,7 +37,7 @@ fn letters(alloc: Global, cells: &[Cell]) -> Result<String, AllocError> {
     Ok(letters)
 }
 
-/// What a plugin makes of packets on these PIDs, as letters.
+/// What a plugin outputs for packets on these PIDs, as letters.
 fn shape<P: Plugin + Drop>(
     alloc: Global,
     mut plugin: P,
@@ -54,7 +54,7 @@ fn shape<P: Plugin + Drop>(
 
 const THREE: [u16; 3] = [256, 257, 256];
 
-/// What the filter of PID 256 makes of three packets.
+/// What the filter of PID 256 outputs for three packets.
 fn filtered(alloc: Global, negate: bool, stuffing: bool) -> Result<(String, ListEnd), Fail> {
     let pids = vec![in alloc; (256, 256)]?;
     let conf = FilterConf {
@@ -70,13 +70,13 @@ fn filtered(alloc: Global, negate: bool, stuffing: bool) -> Result<(String, List
     Ok(shape(alloc, Filter::new(alloc, &conf, 1)?, &THREE)?)
 }
 
-/// Looks what a plugin made of packets, and how it ended.
+/// Checks what a plugin output, and how it ended.
 fn is_shape(rt: &impl Abort, found: &(String, ListEnd), letters: &str, end: ListEnd) {
     assert_eq!(rt; found.0.as_str(), letters);
     same(rt, found.1, end);
 }
 
-/// Looks what the filter makes of three packets.
+/// Checks what the filter outputs for three packets.
 fn passes(
     rt: &(impl Abort + AllocGlobal),
     negate: bool,
@@ -103,8 +103,8 @@ fn skip_drops_the_first(rt: HostRuntime) -> Result<(), Fail> {
     Ok(())
 }
 
-/// A slice that drops from the second packet on, passes from the fourth, makes null packets from the fifth, and stops at
-/// the seventh.
+/// A slice that drops from the second packet on, passes from the fourth, makes null packets from the fifth, and stops
+/// at the seventh.
 fn slice(alloc: Global) -> Result<Slice, Fail>
     ensures { IfOk result (λ plugin. ⟦<Slice as Plugin>⟧.stands_for plugin [] 0) }
 {
@@ -125,7 +125,7 @@ fn slice_goes_by_starts(rt: HostRuntime) -> Result<(), Fail> {
     Ok(())
 }
 
-/// A pattern that is written from three bytes before the end on.
+/// A pattern that is written from three bytes before the end of the packet on.
 fn pattern(alloc: Global) -> Result<Pattern, Fail>
     ensures { IfOk result (λ plugin. ⟦<Pattern as Plugin>⟧.stands_for plugin [] 0) }
 {
@@ -140,7 +140,7 @@ fn pattern(alloc: Global) -> Result<Pattern, Fail>
     Ok(Pattern::new(alloc, &conf, 1)?)
 }
 
-/// A packet on PID 256 with a pattern behind it up to its end.
+/// A packet on PID 256 after a pattern was written up to its end.
 fn patterned(alloc: Global) -> Result<(ListEnd, Vec<Cell>), Fail> {
     let mut cells = vec![in alloc; live(packet(256))]?;
     let mut pattern = pattern(alloc)?;

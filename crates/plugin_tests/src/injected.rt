@@ -1,4 +1,4 @@
-//! Worked rows: null packets and packets on a PID with the packets of one PAT put in their place.
+//! Tests of `inject`: the packets of one PAT in the place of null packets and of packets on a PID.
 
 ghost use Rattle.plug_inject.specs.InjectSettings.{IsLawfulMode};
 
@@ -21,7 +21,7 @@ fn null() -> Cell {
     Cell::of(Packet::null(), Labels::none())
 }
 
-/// Seven null packets, taken through the plugin.
+/// Seven null packets, after the plugin.
 fn injected(alloc: Global, mode: InjectMode, sections: Vec<Section>) -> Result<Vec<Cell>, Fail>
     requires { IsLawfulMode mode }
 {
@@ -38,7 +38,7 @@ fn injected(alloc: Global, mode: InjectMode, sections: Vec<Section>) -> Result<V
     }
 }
 
-/// The counters of the packets on PID 0, which are the PAT's.
+/// The continuity counters of the packets on PID 0, which are the PAT's, each with its place.
 fn counters(alloc: Global, cells: &[Cell]) -> Result<Vec<(usize, u8)>, Fail> {
     let mut found = Vec::new(alloc);
     for (at, cell) in cells.iter().enumerate() {

@@ -1,5 +1,5 @@
-//! The tests of the plugins, of the editor that some of them share and of the command line, in a crate of their own: a
-//! crate with tests is proved twice, and this one takes little time.
+//! The tests of the plugins, of the editor that some of them share and of the command line, in a crate of their own:
+//! a crate with tests is proved twice, and this one takes little time.
 #![tactic(auto)]
 
 #[cfg(test)]

@@ -1,4 +1,4 @@
-//! Worked rows: what the plugin makes of packets, and each call that takes memory once with enough of it.
+//! Tests of `remap`: worked rows of packets, and each call that allocates, once with enough memory.
 
 ghost use Rattle.std.specs.Prelude.{◌<◌, [], IfOk};
 
@@ -14,7 +14,7 @@ use ts_bits::{Descriptor, DescriptorList};
 use ts_packet::{Cell, NULL_PID};
 use ts_psi::{Cat, Component};
 
-/// The plugin that moves PIDs 256 and 257, and no tables.
+/// The plugin that moves PIDs 256 and 257, without tables.
 fn remap_of_two(alloc: Global, unchecked: bool) -> Result<Remap, Fail>
     ensures { IfOk result (λ plugin. ⟦<Remap as Plugin>⟧.stands_for plugin [] 0) }
 {
@@ -27,7 +27,7 @@ fn remap_of_two(alloc: Global, unchecked: bool) -> Result<Remap, Fail>
     Ok(Remap::new(alloc, &conf, 1)?)
 }
 
-/// What it makes of four packets, and how it ends.
+/// Its output for four packets, and how it ends.
 fn remapped(alloc: Global, unchecked: bool) -> Result<(ListEnd, Vec<Cell>), Fail> {
     let mut cells = vec![in alloc; cell(256), cell(257), cell(258), cell(512)]?;
     let mut remap = remap_of_two(alloc, unchecked)?;
@@ -47,7 +47,7 @@ fn pid_of(cell: &Cell) -> Option<u16> {
     cell.live().map(|live| live.packet.pid())
 }
 
-/// Looks whether the cells have packets on these PIDs.
+/// Checks that the cells have packets on these PIDs.
 fn are_on(rt: &impl Abort, cells: &[Cell], pids: &[u16]) {
     assert_eq!(rt; cells.len(), pids.len());
     for (cell, pid) in cells.iter().zip(pids) {
@@ -55,7 +55,7 @@ fn are_on(rt: &impl Abort, cells: &[Cell], pids: &[u16]) {
     }
 }
 
-/// Looks how it ends, and on which PIDs the packets then are.
+/// Checks how it ends, and on which PIDs the packets then are.
 fn moves(
     rt: &(impl Abort + AllocGlobal),
     unchecked: bool,
@@ -81,7 +81,8 @@ fn pat_cell(alloc: Global) -> Result<Cell, Fail> {
     Ok(live(packet_of(alloc, 0, pat.sections(alloc))?))
 }
 
-/// The CA descriptor of PID 256 with two private bytes, which is told with reserved bits as zeros, or not.
+/// Two CA_descriptors of PID 256: one with its reserved bits as ones and with two private bytes, and one with its
+/// reserved bits as zeros and without private bytes.
 fn descriptors(alloc: Global) -> Result<DescriptorList, Fail> {
     let read = Descriptor::new(alloc, 0x09, &[0x18, 0x00, 0xE1, 0x00, 0xAA, 0xBB])?;
     let other = Descriptor::new(alloc, 0x09, &[0x18, 0x00, 0x01, 0x00])?;
@@ -98,7 +99,7 @@ fn cat_cell(alloc: Global) -> Result<Cell, Fail> {
     Ok(live(packet_of(alloc, 1, cat.sections(alloc))?))
 }
 
-/// A cell with a PMT of service 1 with the clock of PID 256 and a component on it.
+/// A cell with a PMT of service 1 with PCR_PID 256 and a component on it.
 fn pmt_cell(alloc: Global) -> Result<Cell, Fail> {
     let component = Component {
         stream_type: 2,
@@ -109,7 +110,7 @@ fn pmt_cell(alloc: Global) -> Result<Cell, Fail> {
     Ok(live(packet_of(alloc, 4096, pmt.sections(alloc))?))
 }
 
-/// The plugin that moves some PIDs, that of the PAT too.
+/// The plugin that moves some PIDs, including that of the PAT.
 fn remap(alloc: Global) -> Result<Remap, Fail>
     ensures { IfOk result (λ plugin. ⟦<Remap as Plugin>⟧.stands_for plugin [] 0) }
 {
@@ -122,7 +123,7 @@ fn remap(alloc: Global) -> Result<Remap, Fail>
     Ok(Remap::new(alloc, &conf, 1)?)
 }
 
-/// What it makes of cells.
+/// Its output for cells.
 fn moved(alloc: Global, cells: Vec<Cell>) -> Result<Vec<Cell>, Fail> {
     let mut cells = cells;
     let mut remap = remap(alloc)?;
@@ -130,7 +131,7 @@ fn moved(alloc: Global, cells: Vec<Cell>) -> Result<Vec<Cell>, Fail> {
     Ok(cells)
 }
 
-/// Whether a cell has a packet on this PID, and the body of its section begins so.
+/// Whether a cell has a packet on this PID whose section body begins with these bytes.
 fn shows(cell: Option<&Cell>, pid: u16, body: &[u8]) -> bool {
     let Some(cell) = cell else {
         return false;

@@ -1,7 +1,9 @@
+//! A test of the names of plugins.
 use plug_set::PluginKind;
 use std::test::Fail;
 
-/// A name is that of its kind, and what is no name has none. That it is so of every plugin is a clause of `PluginKind`.
+/// A name is that of its kind, and a word that is no name has none. A clause of `PluginKind` says this of every
+/// plugin.
 #[test]
 fn a_name_is_that_of_its_kind(rt: HostRuntime) -> Result<(), Fail> {
     let kind = PluginKind::of("filter").ok_or("no plugin of this name")?;

@@ -1,9 +1,10 @@
+//! Tests of sets of numbers and labels.
 use crate::compared::same;
 use plug_conf::NumberSet;
 use std::process::Abort;
 use std::test::Fail;
 
-/// Looks which numbers a set of 5 to 7 and 9 has.
+/// Checks which numbers a set of 5 to 7 and 9 has.
 fn has_numbers(rt: &impl Abort, set: &NumberSet) {
     for (number, wanted) in [(4, false), (5, true), (7, true), (8, false), (9, true)] {
         assert!(rt; set.has(number) == wanted, "{number}");
@@ -12,7 +13,7 @@ fn has_numbers(rt: &impl Abort, set: &NumberSet) {
     same(rt, set.as_slice().len(), 2);
 }
 
-/// Looks which labels they are.
+/// Checks which labels they are.
 fn has_labels(rt: &impl Abort, set: &NumberSet) {
     let labels = set.labels();
     for (n, wanted) in [(4, false), (5, true), (8, false), (9, true)] {

@@ -1,3 +1,4 @@
+//! Tests of the plans of command lines.
 use crate::compared::{holds, same};
 use chain_args::{Form, InputConf, OutputConf, Plan, WordsFault, WordsRule, plan};
 use plug_conf::NumberSet;
@@ -7,7 +8,7 @@ use std::alloc::Global;
 use std::process::Abort;
 use std::test::Fail;
 
-/// Puts the words of a line, cut at each blank, behind others.
+/// Appends the words of a line, which blanks separate.
 fn push_words(alloc: Global, words: &mut Vec<String>, line: &str) -> Result<(), Fail> {
     for word in line.split(' ') {
         words.push(String::from_str(alloc, word)?)?;
@@ -15,7 +16,7 @@ fn push_words(alloc: Global, words: &mut Vec<String>, line: &str) -> Result<(), 
     Ok(())
 }
 
-/// The words of a line. No line at all is no word.
+/// The words of a line; an empty line has none.
 fn words_of(alloc: Global, line: &str) -> Result<Vec<String>, Fail> {
     let mut words = Vec::new(alloc);
     if !line.is_empty() {
@@ -24,7 +25,7 @@ fn words_of(alloc: Global, line: &str) -> Result<Vec<String>, Fail> {
     Ok(words)
 }
 
-/// The plan of a line that has one, in a box: it is large.
+/// The plan of a line that has one, in a box, since it is large.
 fn plan_of_line(alloc: Global, line: &str) -> Result<Box<Plan>, Fail> {
     let words = words_of(alloc, line)?;
     match plan(alloc, &words) {
@@ -72,12 +73,12 @@ static FIRST_BROKEN: [(&str, usize, WordsRule); 20] = [
     ("-I null 2 3", 0, WordsRule::Shape),
 ];
 
-/// These lines. What a `static` holds is written into each function that names it.
+/// These lines, in a function: the content of a `static` is written into each function that names it.
 fn first_broken() -> &'static [(&'static str, usize, WordsRule)] {
     &FIRST_BROKEN
 }
 
-/// Looks why a line has no plan.
+/// Checks why a line has no plan.
 fn breaks(
     rt: &(impl Abort + AllocGlobal),
     line: &str,
@@ -100,7 +101,7 @@ fn first_broken_rules(rt: HostRuntime) -> Result<(), Fail> {
     Ok(())
 }
 
-/// Looks which rule the only segment of each line breaks, if it does.
+/// Checks which rule the only segment of each line breaks, if it breaks one.
 fn break_rules(
     rt: &(impl Abort + AllocGlobal),
     rows: &[(&str, Option<WordsRule>)],
@@ -149,7 +150,7 @@ fn forms_of_values(rt: HostRuntime) -> Result<(), Fail> {
     break_rules(&rt, &FORMS)
 }
 
-/// Looks at the plan of the line below, but for its plugin.
+/// Checks the plan of the line below, except its plugin.
 fn is_whole(rt: &impl Abort, plan: &Plan) {
     same(rt, plan.general.add_input_stuffing, (1, 2));
     same(rt, plan.general.buffer_packets, Some(7));
@@ -158,7 +159,7 @@ fn is_whole(rt: &impl Abort, plan: &Plan) {
     holds(rt, matches!(plan.output, OutputConf::Drop));
 }
 
-/// Looks at the only plugin of that plan.
+/// Checks the only plugin of that plan.
 fn has_one_filter(rt: &impl Abort, plan: &Plan) -> Result<(), Fail> {
     let [item] = plan.plugins.as_slice() else {
         return Err(Fail::from("one plugin"));
@@ -173,7 +174,7 @@ fn has_one_filter(rt: &impl Abort, plan: &Plan) -> Result<(), Fail> {
     Ok(())
 }
 
-/// Looks at the settings of that filter, and at its labels.
+/// Checks the settings of that filter, and its labels.
 fn is_filter(rt: &impl Abort, filter: &FilterConf, only: &NumberSet) {
     holds(rt, only.as_slice() == [(0, 3)].as_slice());
     holds(
@@ -193,7 +194,7 @@ fn a_whole_plan(rt: HostRuntime) -> Result<(), Fail> {
     has_one_filter(&rt, &*plan)
 }
 
-/// Looks at the plan of no words.
+/// Checks the plan of no words.
 fn is_plain(rt: &impl Abort, plan: &Plan) {
     same(rt, plan.general.buffer_packets, None);
     same(rt, plan.general.max_flushed_packets, None);
@@ -204,12 +205,12 @@ fn is_plain(rt: &impl Abort, plan: &Plan) {
     holds(rt, plan.plugins.as_slice().is_empty());
 }
 
-/// Whether packets are read from the standard input, plain ones.
+/// Whether plain packets are read from the standard input.
 fn is_standard_input(input: &InputConf) -> bool {
     matches!(input, InputConf::File { name, form: Form::Ts } if name.as_str().is_empty())
 }
 
-/// Whether packets are written to the standard output.
+/// Whether plain packets are written to the standard output.
 fn is_standard_output(output: &OutputConf) -> bool {
     matches!(output, OutputConf::File(name) if name.as_str().is_empty())
 }
@@ -318,20 +319,20 @@ fn words_of_labels(rt: HostRuntime) -> Result<(), Fail> {
     break_rules(&rt, &OF_LABELS)
 }
 
-/// Looks at the settings of a pattern.
+/// Checks the settings of a pattern.
 fn is_pattern(rt: &impl Abort, pattern: &PatternConf) {
     holds(rt, pattern.operand.as_slice() == [0xAB, 0xCD].as_slice());
     let offsets = (pattern.offset_pusi, pattern.offset_non_pusi);
     same(rt, offsets, (None, Some(182)));
 }
 
-/// Looks at the settings of a slice.
+/// Checks the settings of a slice.
 fn is_slice(rt: &impl Abort, slice: &SliceConf) {
     same(rt, (slice.drop, slice.null), (Some(1), None));
     same(rt, slice.stop, Some(4));
 }
 
-/// Looks at the plan of the line below.
+/// Checks the plan of the line below.
 fn has_settings(rt: &impl Abort, plan: &Plan) -> Result<(), Fail> {
     let [first, second, third] = plan.plugins.as_slice() else {
         return Err(Fail::from("three plugins"));
@@ -368,7 +369,7 @@ fn pairs_of_one_target(alloc: Global, count: u32) -> Result<Vec<String>, Fail> {
     Ok(words)
 }
 
-/// Why so many have no plan.
+/// Why so many such pairs have no plan.
 fn fault_of_pairs(alloc: Global, count: u32) -> Result<Option<WordsFault>, Fail> {
     let words = pairs_of_one_target(alloc, count)?;
     Ok(fault_of(alloc, &words))

@@ -1,5 +1,5 @@
-//! Worked rows: what is left of the generated stream, which has service 1 with PIDs 256 and 257 and service 2 with PIDs
-//! 256, 258 and 259.
+//! Tests of `zap` and `svremove`: what is left of the generated stream, which has service 1 with PIDs 256 and 257 and
+//! service 2 with PIDs 256, 258 and 259.
 
 ghost use Rattle.std.specs.Prelude.{[]};
 
@@ -12,7 +12,7 @@ use std::test::Fail;
 use ts_packet::Cell;
 use ts_testgen::TestGen;
 
-/// The first hundred packets.
+/// Its first hundred packets.
 fn stream(alloc: Global) -> Result<Vec<Cell>, Fail> {
     let mut cells = Vec::new(alloc);
     let mut generator = TestGen::new(alloc, 7)?;
@@ -22,7 +22,7 @@ fn stream(alloc: Global) -> Result<Vec<Cell>, Fail> {
     Ok(cells)
 }
 
-/// What a plugin makes of them.
+/// What a plugin outputs for them.
 fn made_of_stream<P: Plugin + Drop>(alloc: Global, mut plugin: P) -> Result<Vec<Cell>, Fail>
     requires { P.stands_for plugin [] 0 }
 {
@@ -44,14 +44,14 @@ fn count_of(cells: &[Cell], pid: u16) -> usize {
     count
 }
 
-/// Looks whether so many packets have each of these PIDs.
+/// Checks that each of these PIDs has so many packets.
 fn has_each(rt: &impl Abort, cells: &[Cell], pids: &[u16], count: usize) {
     for pid in pids {
         assert_eq!(rt; count_of(cells, *pid), count);
     }
 }
 
-/// Looks at the bytes of the first packet behind its header and its pointer.
+/// Checks the bytes of the first packet after its header and its pointer_field.
 fn begins(rt: &impl Abort, cells: &[Cell], wanted: &[u8]) {
     assert!(rt; matches!(cells.first(), Some(cell) if bytes_from(cell, 5).starts_with(wanted)));
 }

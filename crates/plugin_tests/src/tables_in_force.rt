@@ -1,4 +1,4 @@
-//! Each call that takes memory once with enough of it, on streams of a few packets.
+//! Tests of tables in force and of the editor: each call that allocates, once with enough memory, on a few packets.
 
 use crate::cells::{one_component, packet, packet_of};
 use crate::compared::{holds, same};
@@ -16,7 +16,7 @@ const PAT: [u8; 16] = [
     0x00, 0xB0, 0x0D, 0x00, 0x01, 0xC1, 0x00, 0x00, 0x00, 0x01, 0xF0, 0x00, 0x2A, 0xB1, 0x04, 0xB2,
 ];
 
-/// The edit that leaves each table as it is.
+/// An edit that leaves each table unchanged.
 #[derive(Drop)]
 struct Unchanged {}
 
@@ -49,7 +49,7 @@ fn pmt_packet(alloc: Global) -> Result<Packet, Fail> {
     packet_of(alloc, 4096, pmt.sections(alloc))
 }
 
-/// What becomes of a packet.
+/// A packet after the editor.
 fn stepped(editor: &mut Editor<Unchanged>, packet: Packet) -> Result<Packet, AllocError> {
     let mut packet = packet;
     editor.step(&mut packet)?;
@@ -88,7 +88,7 @@ fn packets_of_a_pat_are_replaced(rt: HostRuntime) -> Result<(), Fail> {
     Ok(())
 }
 
-/// Takes a PMT before the PAT that names its PID, and behind it.
+/// Takes a PMT before the PAT that names its PID, and after it.
 fn comes_into_force(
     rt: &impl Abort,
     force: &mut InForce,

@@ -1,3 +1,4 @@
+//! Tests of `count` and `continuity`.
 ghost use Rattle.std.specs.Prelude.{◌<◌, ◌≤◌, ◌^◌, [], IfOk, vec_len};
 
 use crate::cells::counter_of;
@@ -10,7 +11,7 @@ use std::process::Abort;
 use std::test::Fail;
 use ts_packet::{Cell, Labels, Packet};
 
-/// A packet on a PID with payload and a counter.
+/// A packet on a PID with a payload and a counter.
 fn packet(pid: u16, counter: u8) -> Cell
     requires pid { pid < 8192 }
     requires counter { counter < 16 }
@@ -21,7 +22,7 @@ fn packet(pid: u16, counter: u8) -> Cell
     Cell::of(packet, Labels::none())
 }
 
-/// How a plugin leaves a list of cells, and what it reports of the first of those that it met.
+/// How a plugin ends a list of cells, and its report on the first so many of the cells that it processed.
 fn run<P: Plugin + Drop>(
     plugin: P,
     cells: &mut Vec<Cell>,
@@ -36,7 +37,7 @@ fn run<P: Plugin + Drop>(
     Ok((end, lines))
 }
 
-/// Looks at the texts of lines.
+/// Checks the texts of lines.
 fn are_lines(rt: &impl Abort, lines: &[Line], wanted: &[&str]) {
     assert_eq!(rt; lines.len(), wanted.len());
     for (line, text) in lines.iter().zip(wanted) {
@@ -44,7 +45,7 @@ fn are_lines(rt: &impl Abort, lines: &[Line], wanted: &[&str]) {
     }
 }
 
-/// What is counted of four packets and a dropped cell, up to a cut.
+/// The report on four packets and a dropped cell, up to a cut.
 fn counted(alloc: Global, all: bool, total: bool, cut: u64) -> Result<Vec<Line>, Fail> {
     let mut cells = vec![in alloc;
         packet(256, 0),
@@ -63,7 +64,7 @@ fn counted(alloc: Global, all: bool, total: bool, cut: u64) -> Result<Vec<Line>,
     Ok(lines)
 }
 
-/// Looks at what is counted of them.
+/// Checks that report.
 fn is_counted(
     rt: &(impl Abort + AllocGlobal),
     all: bool,
@@ -91,8 +92,7 @@ fn count_counts_to_the_cut(rt: HostRuntime) -> Result<(), Fail> {
     is_counted(&rt, false, true, 4, &["total 3"])
 }
 
-/// How the counting of three packets ends with room for so many in its buffer, how many cells are left, and what it
-/// says.
+/// How counting three packets with room for so many in its buffer ends, how many cells are left, and the report.
 fn counted_in(alloc: Global, buffer: usize) -> Result<(ListEnd, usize, Vec<Line>), Fail> {
     let mut cells = vec![in alloc; packet(256, 0), packet(256, 1), packet(257, 0)]?;
     let conf = CountConf {
@@ -105,7 +105,7 @@ fn counted_in(alloc: Global, buffer: usize) -> Result<(ListEnd, usize, Vec<Line>
     Ok((end, cells.len(), lines))
 }
 
-/// Looks how that ends.
+/// Checks how that ends.
 fn ends_so(
     rt: &(impl Abort + AllocGlobal),
     buffer: usize,
@@ -133,7 +133,7 @@ fn count_ends_where_its_buffer_is_full(rt: HostRuntime) -> Result<(), Fail> {
     Ok(())
 }
 
-/// What the plugin says of four packets of which the third jumps and the last stays, and what it makes of them.
+/// The report on four packets of which the third jumps and the last stays, and the packets after the plugin.
 fn fixed(alloc: Global) -> Result<(Vec<Cell>, Vec<Line>), Fail> {
     let mut cells = vec![in alloc;
         packet(256, 5),
@@ -149,7 +149,7 @@ fn fixed(alloc: Global) -> Result<(Vec<Cell>, Vec<Line>), Fail> {
     Ok((cells, lines))
 }
 
-/// Looks at the counters of cells.
+/// Checks the counters of cells.
 fn have_counters(rt: &impl Abort, cells: &[Cell], counters: &[u8]) {
     for (cell, counter) in cells.iter().zip(counters) {
         same(rt, counter_of(cell), Some(*counter));

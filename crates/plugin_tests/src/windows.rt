@@ -1,4 +1,4 @@
-//! The plugins that see further packets, on a few packets, with enough memory.
+//! Tests of `compact` and `rmorphan` on a few packets, with enough memory.
 
 ghost use Rattle.std.specs.Prelude.{[], ◌<◌, ◌≤◌, ℕ, length, slice_index, vec_len};
 ghost use Rattle.chain_model.specs.declared.positions.TheConstants.{POSITION_LIMIT};
@@ -14,7 +14,7 @@ use ts_bits::DescriptorList;
 use ts_packet::{Cell, Labels, NULL_PID, Packet};
 use ts_psi::Component;
 
-/// Cells with packets on these PIDs, each with its number as its label.
+/// Cells with packets on these PIDs, each with its index as its label.
 fn cells_on(alloc: Global, pids: &[u16]) -> Result<Vec<Cell>, AllocError>
     requires pids { (k : ℕ) → slice_index pids.now k < 8192 }
     requires few { length pids.now < 32 }
@@ -26,7 +26,7 @@ fn cells_on(alloc: Global, pids: &[u16]) -> Result<Vec<Cell>, AllocError>
     Ok(cells)
 }
 
-/// Looks whether the cells have packets on these PIDs, or none.
+/// Checks that the cells have packets on these PIDs, or none.
 fn are_on(rt: &impl Abort, cells: &[Cell], pids: &[Option<u16>]) {
     assert_eq!(rt; cells.len(), pids.len());
     for (cell, pid) in cells.iter().zip(pids) {
@@ -34,7 +34,7 @@ fn are_on(rt: &impl Abort, cells: &[Cell], pids: &[Option<u16>]) {
     }
 }
 
-/// Looks whether a cell has a packet with this label.
+/// Checks that a cell has a packet with this label.
 fn has_label(rt: &impl Abort, cells: &[Cell], at: usize, label: u32)
     requires { label < 32 }
 {
@@ -44,7 +44,7 @@ fn has_label(rt: &impl Abort, cells: &[Cell], at: usize, label: u32)
     }
 }
 
-/// What a plugin gives of these cells.
+/// What a plugin outputs for these cells.
 fn given<P: Plugin + Drop>(mut plugin: P, mut cells: Vec<Cell>) -> Vec<Cell>
     requires fresh { P.stands_for plugin [] 0 }
     requires short { vec_len cells ≤ POSITION_LIMIT }
@@ -53,7 +53,7 @@ fn given<P: Plugin + Drop>(mut plugin: P, mut cells: Vec<Cell>) -> Vec<Cell>
     cells
 }
 
-/// What `compact` gives of packets in two blocks of three, with three null packets behind them.
+/// What `compact` outputs for packets in two blocks of three, followed by three null packets.
 fn compacted(alloc: Global) -> Result<Vec<Cell>, Fail> {
     let conf = WindowConf {
         window: 3,
@@ -92,8 +92,8 @@ fn pmt_packet(alloc: Global) -> Result<Packet, Fail> {
     packet_of(alloc, 4096, pmt.sections(alloc))
 }
 
-/// A packet on a PID that a table behind it names, the tables, one behind them, one on a PID that none names, and three
-/// null packets.
+/// A packet on a PID that a later table names, the tables, a packet on that PID after them, one on a PID that none
+/// names, and three null packets.
 fn late_tables(alloc: Global) -> Result<Vec<Cell>, Fail> {
     let mut cells = Vec::new(alloc);
     cells.push(live(packet(300)))?;
@@ -107,7 +107,7 @@ fn late_tables(alloc: Global) -> Result<Vec<Cell>, Fail> {
     Ok(cells)
 }
 
-/// What `rmorphan` gives of them.
+/// What `rmorphan` outputs for them.
 fn kept(alloc: Global, window: u64, stuffing: bool) -> Result<Vec<Cell>, Fail>
     requires least { 1 ≤ window }
     requires most { window ≤ 100000 }
@@ -141,7 +141,7 @@ fn a_table_behind_the_window_comes_too_late(rt: HostRuntime) -> Result<(), Fail>
     Ok(())
 }
 
-/// What a PAT of service 1 refers to.
+/// The PIDs that a PAT of service 1 refers to.
 fn referred(alloc: Global) -> Result<Referred, Fail> {
     let pat = pat_packet(alloc)?;
     let mut referred = Referred::new(alloc)?;
@@ -149,7 +149,7 @@ fn referred(alloc: Global) -> Result<Referred, Fail> {
     Ok(referred)
 }
 
-/// Looks whether these PIDs are referred to, or are not.
+/// Checks whether these PIDs are referred to.
 fn are_told(rt: &impl Abort, referred: &Referred, pids: &[u16], wanted: bool)
     requires { (k : ℕ) → slice_index pids.now k < 8192 }
 {

@@ -6,7 +6,8 @@ use anyhow::Result;
 use ts_eit::{Eit, Event};
 use ts_section::TableRun;
 
-/// Prints a section of an EIT: its numbers, its events and their descriptors, and how it is written.
+/// Prints a section of an EIT: its fields, its events with their descriptors, and whether it is written back
+/// unchanged.
 pub fn print_eit(rt: &(impl Print + AllocGlobal), pid: u16, run: &TableRun) -> Result<()> {
     let eit = match Eit::read(rt.alloc(), run) {
         Ok(eit) => eit,
@@ -23,7 +24,7 @@ pub fn print_eit(rt: &(impl Print + AllocGlobal), pid: u16, run: &TableRun) -> R
     print_written(rt, pid, run, eit.sections(rt.alloc()))
 }
 
-/// Prints what stands in front of the events.
+/// Prints the fields before the events.
 fn print_head(rt: &impl Print, pid: u16, eit: &Eit) -> Result<()> {
     print!(rt;
         "pid {pid} EIT version {} current {} service_id {} table_id {} number {} last {}",
@@ -36,8 +37,8 @@ fn print_head(rt: &impl Print, pid: u16, eit: &Eit) -> Result<()> {
     Ok(())
 }
 
-/// Prints an event without its descriptors: the day and the second of its start where it is defined, and the
-/// seconds that it lasts.
+/// Prints an event without its descriptors: the day and second of its start if it is defined, and its duration in
+/// seconds.
 fn print_event(rt: &impl Print, pid: u16, event: &Event) -> Result<()> {
     print!(rt; "pid {pid} event id {} ", event.event_id)?;
     if let Some(start) = event.start {

@@ -1,6 +1,6 @@
-//! Prints the sections and the tables of some PIDs of a stream, each as it is complete: of three real streams, or
-//! of the stream that the first word names, of the PIDs that the others name. The three streams were made by other
-//! people's tools; what is printed has to be what other tools read from them (`tests/layouts`).
+//! Prints the sections and tables of some PIDs of a stream, each as soon as it is complete: of three real streams, or
+//! of the stream that the first word names, on the PIDs that the other words name. Other tools made the three
+//! streams; what is printed has to be what other tools read from them (`tests/layouts`).
 #![tactic(auto)]
 
 mod descriptors;
@@ -53,7 +53,7 @@ fn main(rt: HostRuntime) -> Result<()> {
     Ok(())
 }
 
-/// Prints the three streams that lie beside the program.
+/// Prints the three streams that are stored beside the program.
 fn print_stored(rt: &(impl Print + AllocGlobal + Files)) -> Result<()> {
     for stream in &STREAMS {
         println!(rt; "{}", stream.name)?;

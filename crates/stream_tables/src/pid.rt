@@ -6,7 +6,7 @@ use ts_demux::{Assembly, Demux};
 use ts_packet::{NULL_PID, PACKET_SIZE, Packet};
 use ts_section::{Section, TableRun};
 
-/// Prints the sections of one PID, what each holds that is a table by itself, and the tables of several sections.
+/// Prints the sections of one PID, the content of each that is a table by itself, and the tables of several sections.
 pub fn print_pid(rt: &(impl Print + AllocGlobal), pid: u16, stream: &[u8]) -> Result<()> {
     if pid > NULL_PID {
         return Ok(());
@@ -45,7 +45,7 @@ fn print_section(rt: &impl Print, pid: u16, section: &Section) -> Result<()> {
     Ok(())
 }
 
-/// Prints what a section holds where it is a whole table by itself.
+/// Prints the content of a section that is a whole table by itself.
 fn print_alone(rt: &(impl Print + AllocGlobal), pid: u16, section: &Section) -> Result<()> {
     let mut sections = Vec::new(rt.alloc());
     sections.push(section.copy()?)?;
@@ -55,7 +55,7 @@ fn print_alone(rt: &(impl Print + AllocGlobal), pid: u16, section: &Section) -> 
     Ok(())
 }
 
-/// Prints how many sections a table has, and what it holds where these are several.
+/// Prints how many sections a table has, and its content if there are several.
 fn print_joined(rt: &(impl Print + AllocGlobal), pid: u16, table: &TableRun) -> Result<()> {
     let count = table.sections().len();
     println!(rt; "pid {pid} table of {count} sections")?;

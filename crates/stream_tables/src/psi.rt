@@ -1,4 +1,4 @@
-//! The tables of MPEG, field by field.
+//! The tables of ISO/IEC 13818-1 (PAT, CAT and PMT), field by field.
 
 use crate::descriptors::print_descriptors;
 use crate::written::print_written;
@@ -6,7 +6,7 @@ use anyhow::Result;
 use ts_psi::{Cat, Pat, Pmt};
 use ts_section::TableRun;
 
-/// Prints a PAT: its entries, the network entry as that of number 0, and how it is written.
+/// Prints a PAT: its entries, the network entry as number 0, and whether it is written back unchanged.
 pub fn print_pat(rt: &(impl Print + AllocGlobal), pid: u16, run: &TableRun) -> Result<()> {
     let pat = match Pat::read(rt.alloc(), run) {
         Ok(pat) => pat,
@@ -31,7 +31,7 @@ pub fn print_pat(rt: &(impl Print + AllocGlobal), pid: u16, run: &TableRun) -> R
     print_written(rt, pid, run, pat.sections(rt.alloc()))
 }
 
-/// Prints a CAT: its descriptors, and how it is written.
+/// Prints a CAT: its descriptors, and whether it is written back unchanged.
 pub fn print_cat(rt: &(impl Print + AllocGlobal), pid: u16, run: &TableRun) -> Result<()> {
     let cat = match Cat::read(rt.alloc(), run) {
         Ok(cat) => cat,
@@ -48,7 +48,7 @@ pub fn print_cat(rt: &(impl Print + AllocGlobal), pid: u16, run: &TableRun) -> R
     print_written(rt, pid, run, cat.sections(rt.alloc()))
 }
 
-/// Prints a PMT: its descriptors, its components and theirs, and how it is written.
+/// Prints a PMT: its descriptors, its components and their descriptors, and whether it is written back unchanged.
 pub fn print_pmt(rt: &(impl Print + AllocGlobal), pid: u16, run: &TableRun) -> Result<()> {
     let pmt = match Pmt::read(rt.alloc(), run) {
         Ok(pmt) => pmt,

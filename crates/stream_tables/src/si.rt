@@ -6,7 +6,8 @@ use anyhow::Result;
 use ts_section::TableRun;
 use ts_si::{Bat, Nit, NitStreamList, Sdt};
 
-/// Prints a NIT: its descriptors, its transport streams and theirs, and how it is written.
+/// Prints a NIT: its descriptors, its transport streams and their descriptors, and whether it is written back
+/// unchanged.
 pub fn print_nit(rt: &(impl Print + AllocGlobal), pid: u16, run: &TableRun) -> Result<()> {
     let nit = match Nit::read(rt.alloc(), run) {
         Ok(nit) => nit,
@@ -24,7 +25,8 @@ pub fn print_nit(rt: &(impl Print + AllocGlobal), pid: u16, run: &TableRun) -> R
     print_written(rt, pid, run, nit.sections(rt.alloc()))
 }
 
-/// Prints a BAT: its descriptors, its transport streams and theirs, and how it is written.
+/// Prints a BAT: its descriptors, its transport streams and their descriptors, and whether it is written back
+/// unchanged.
 pub fn print_bat(rt: &(impl Print + AllocGlobal), pid: u16, run: &TableRun) -> Result<()> {
     let bat = match Bat::read(rt.alloc(), run) {
         Ok(bat) => bat,
@@ -42,7 +44,7 @@ pub fn print_bat(rt: &(impl Print + AllocGlobal), pid: u16, run: &TableRun) -> R
     print_written(rt, pid, run, bat.sections(rt.alloc()))
 }
 
-/// Prints an SDT: its services and their descriptors, and how it is written.
+/// Prints an SDT: its services and their descriptors, and whether it is written back unchanged.
 pub fn print_sdt(rt: &(impl Print + AllocGlobal), pid: u16, run: &TableRun) -> Result<()> {
     let sdt = match Sdt::read(rt.alloc(), run) {
         Ok(sdt) => sdt,

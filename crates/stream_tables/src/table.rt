@@ -1,4 +1,4 @@
-//! What the sections of a table hold.
+//! The content of the sections of a table.
 
 use crate::eit::print_eit;
 use crate::psi::{print_cat, print_pat, print_pmt};
@@ -6,7 +6,7 @@ use crate::si::{print_bat, print_nit, print_sdt};
 use anyhow::Result;
 use ts_section::TableRun;
 
-/// Prints what a table holds where its table_id is one of those below.
+/// Prints the content of a table, if its table_id is one of those below.
 pub fn print_table(rt: &(impl Print + AllocGlobal), pid: u16, run: &TableRun) -> Result<()> {
     let Some(first) = run.sections().first() else {
         return Ok(());

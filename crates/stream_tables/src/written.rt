@@ -1,10 +1,10 @@
-//! How a table that was read is written.
+//! Whether a table that was read is written back unchanged.
 
 use anyhow::Result;
 use ts_section::{Section, TableRun};
 use ts_table_rows::TableRefusal;
 
-/// Prints whether the sections of a table are those that it was read from, or which bytes are other ones.
+/// Prints whether the written sections of a table are those that it was read from, or which bytes differ.
 pub fn print_written(
     rt: &impl Print,
     pid: u16,
@@ -37,8 +37,8 @@ pub fn print_written(
     Ok(())
 }
 
-/// Prints the bytes of a section in front of its CRC that are other ones where it is written again, and whether
-/// there are some.
+/// Prints the bytes of a section before its CRC that differ when it is written back, and returns whether there are
+/// any.
 fn print_others(
     rt: &impl Print,
     pid: u16,

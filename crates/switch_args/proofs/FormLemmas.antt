@@ -1,4 +1,4 @@
--- Words of the form of `tsswitch`.
+-- Lemmas on words of the form of `tsswitch`.
 use Rattle.std.proofs.Common.{◌≡◌, ℕ, zero, suc, ◌+◌, ◌<◌, List, [], ◌∷◌, ◌++◌, length, take, Option, None, Some, refl, ap, sym, ◌∙◌, subst, arith, ◌≤◌, ◌⊎◌, inl, inr}
 use Rattle.std.specs.Prelude.{IsSome, option_and_then, codes}
 use Rattle.std.proofs.Common.{drop, slice_index_or, map}
@@ -11,7 +11,7 @@ use Rattle.switch_args.specs.declared.words.WordsFault.TheVariants.{At, NoMemory
 use Rattle.switch_args.specs.Readings.{given_of, expected_of, EndsAt, ReadsWords}
 use Rattle.switch_args.specs.SwitchWords.{Given, Expected, an_option_or_input, the_cycle, the_buffer, the_input_kind, the_input_name, an_input_or_output, the_output_kind, the_output_name, nothing, Place, place, step, place_after, start, may_end, IsBeginning, IsFirstFault, read_of}
 
--- words behind others
+-- words after others
 pub after-append : (p : Place) (a b : List (List ℕ)) → place_after p (a ++ b) ≡ option_and_then (λ q. place_after q b) (place_after p a)
 after-append p [] b = refl
 after-append p (w ∷ ws) b = by-step (λ q. after-append q ws b) (step p.given p.expected w)
@@ -128,7 +128,7 @@ ends-whole words at r (Ok w) many e end = ap (option_and_then may_end) (ap (plac
 ends-whole words at r (Err (At word)) many e end = subst (IsFirstFault words) (sym (end.1 ∙ many)) (unfinished words _ (ap (place_after start) (sym (take-whole words at many)) ∙ e) end.0)
 ends-whole words at r (Err NoMemory) many e end = tt
 
--- words of the form have no faulty one
+-- words of the form have no first fault
 pub none-faulty : (words : List (List ℕ)) (n : ℕ) → IsSome (read_of words) → IsFirstFault words n → ⊥
 none-faulty words n some fault = elim (split-le n (length words) fault.within) [
   | inl lt ↦ fault.goes_on_no_more lt (drop (suc n) words, subst (λ l. IsSome (read_of l)) (sym (both-parts (suc n) words)) some)

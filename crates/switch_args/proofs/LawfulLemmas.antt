@@ -1,4 +1,4 @@
--- What is read is lawful.
+-- Lemmas: what is read is valid.
 use Rattle.std.proofs.Common.{◌≡◌, ℕ, ◌+◌, ◌<◌, ◌≤◌, ◌⊎◌, inl, inr, List, [], ◌∷◌, ◌++◌, length, Option, None, Some, Bool, true, false, refl, ap, sym, ◌∙◌, subst, arith}
 use Rattle.std.specs.Prelude.{option_and_then, codes, ◌&&◌, nat_lt, IfSome, IfOk, is_none, Result, Ok, Err}
 use Rattle.std.specs.Str.{bytes_eq}
@@ -24,7 +24,7 @@ CountsInputs the_output_kind n = (1 ≤ n) × (n ≤ 32)
 CountsInputs the_output_name n = (1 ≤ n) × (n ≤ 32)
 CountsInputs nothing n = (1 ≤ n) × (n ≤ 32)
 
--- what was given before a place is lawful
+-- what was given before a place is valid
 record IsLawfulTo (p : Place) : Type 0 where
   cycle : IfSome p.given.cycle (λ n. (1 ≤ n) × (n ≤ 1000))
   buffer : IfSome p.given.buffer (λ n. (1 ≤ n) × (n ≤ 1000000))

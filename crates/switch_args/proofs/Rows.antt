@@ -1,4 +1,4 @@
--- Worked rows, computed on the definitions.
+-- Worked rows of the words of `tsswitch`, computed on the definitions.
 use Rattle.std.proofs.Common.{◌≡◌, List, [], ◌∷◌, None, Some, refl}
 use Rattle.std.specs.Prelude.{codes}
 use Rattle.option_words.specs.Number.{number_within, number_of}
@@ -14,7 +14,7 @@ dropped-packets : read_of (codes "--buffer-packets" ∷ codes "0x10" ∷ codes "
 unfolding number_within number_of
 dropped-packets = refl
 
--- the row is played at least once
+-- the inputs are played at least once
 never-played : read_of (codes "--cycle" ∷ codes "0" ∷ codes "-I" ∷ codes "file" ∷ codes "A" ∷ []) ≡ None
 unfolding number_within number_of
 never-played = refl

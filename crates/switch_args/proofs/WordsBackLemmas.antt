@@ -1,4 +1,4 @@
--- The words of settings, written out, are read as these settings.
+-- Lemmas: the words of settings, written out, are read as these settings.
 use Rattle.std.proofs.Common.{◌≡◌, ℕ, ◌+◌, ◌<◌, ◌≤◌, ◌^◌, List, [], ◌∷◌, ◌++◌, length, Option, None, Some, Bool, true, false, refl, ap, sym, ◌∙◌, subst, arith, append-nil, append_assoc}
 use Rattle.std.specs.Prelude.{option_and_then, codes, ◌&&◌, nat_lt, nat_eq, if◌then◌else◌, IfSome, drop}
 use Rattle.std.specs.Fmt.{decimal}

@@ -1,10 +1,10 @@
--- The settings that words of `tsswitch` can give, and these words. This project's own rule.
+-- Valid settings of `tsswitch`, and the words that give them. This project's own rule.
 use Rattle.std.specs.Prelude.{◌≡◌, ℕ, ◌≤◌, List, [], ◌∷◌, ◌++◌, length, codes, true, Option, None, Some, IfSome}
 use Rattle.std.specs.Fmt.{decimal}
 use Rattle.std.specs.List.{list_all}
 use Rattle.switch_args.specs.SwitchWords.{Given, Output, to_file, dropped, is_name}
 
--- a file of a name, the standard output under the empty one, or nowhere
+-- a file of this name, the standard output for the empty name, or no output
 abbrev pub IsLawfulOutput : Output → Type 0
 IsLawfulOutput (to_file []) = Unit {0}
 IsLawfulOutput (to_file (x ∷ xs)) = is_name (x ∷ xs) ≡ true
@@ -19,7 +19,7 @@ pub record IsLawful (given : Given) : Type 0 where
   pub names : list_all is_name given.inputs ≡ true
   pub output : IsLawfulOutput given.output
 
--- an option that is given, with its number in decimal digits
+-- an option with its number in decimal digits, if it is given
 abbrev pub number_words : List ℕ → Option ℕ → List (List ℕ)
 number_words name None = []
 number_words name (Some n) = name ∷ decimal n ∷ []

@@ -1,4 +1,4 @@
--- The words as they are read. This project's own rule.
+-- What the code's reading of the words stands for. This project's own rule.
 use Rattle.std.specs.Prelude.{◌≡◌, ℕ, List, Bool, true, false, Some, None, Result, Ok, Err}
 use Rattle.switch_args.specs.declared.reading.Reading.{Reading}
 use Rattle.switch_args.specs.declared.reading.Expected as code
@@ -28,7 +28,7 @@ output_of out.Drop = dropped
 abbrev pub given_of : Reading → Given
 given_of r = record { cycle = r.cycle; buffer = r.buffer; inputs = r.inputs.items; output = output_of r.output }
 
--- the word may stand there, and this is what is given and expected behind it; or it may not
+-- the word may stand there, and the new reading is what is given and expected after it; or it may not
 abbrev pub Went : Reading → List ℕ → Bool → Reading → Type 0
 Went old word true new = step (given_of old) (expected_of old.expected) word ≡ Some (place (given_of new) (expected_of new.expected))
 Went old word false new = step (given_of old) (expected_of old.expected) word ≡ None
@@ -36,13 +36,13 @@ Went old word false new = step (given_of old) (expected_of old.expected) word �
 abbrev pub given_of_settings : SwitchSettings → Given
 given_of_settings w = record { cycle = w.cycle; buffer = w.buffer; inputs = w.inputs.items; output = output_of w.output }
 
--- the words end at a place: they are whole, or not
+-- at the end of the words: they are complete, or not
 abbrev pub EndsAt : Reading → ℕ → Result SwitchSettings WordsFault → Type 0
 EndsAt r at (Ok w) = may_end (place (given_of r) (expected_of r.expected)) ≡ Some (given_of_settings w)
 EndsAt r at (Err (At word)) = (may_end (place (given_of r) (expected_of r.expected)) ≡ None) × (word ≡ at)
 EndsAt r at (Err NoMemory) = Unit {0}
 
--- the words are read, or this is their first fault, or memory was wanting
+-- the words are read, or this is their first fault, or memory ran out
 abbrev pub ReadsWords : List (List ℕ) → Result SwitchSettings WordsFault → Type 0
 ReadsWords words (Ok w) = read_of words ≡ Some (given_of_settings w)
 ReadsWords words (Err (At word)) = IsFirstFault words word

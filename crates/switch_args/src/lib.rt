@@ -1,5 +1,5 @@
-//! The words of `tsswitch`: words come in, its settings or the first faulty word go out.
-//! The layer above uses `read_words`, which answers `read_of` of the words, else their first fault.
+//! The words of `tsswitch`: words come in, its settings or the first faulty word go out. The layer above uses
+//! `read_words`, which returns `read_of` of the words, else their first fault.
 #![tactic(auto)]
 
 mod laws;

@@ -34,7 +34,7 @@ pub(crate) struct Reading {
     pub(crate) expected: Expected,
 }
 
-/// A word that may be a name.
+/// Whether a word may be a name: it is not empty and does not begin with `-`.
 fn is_name(word: &str) -> bool
     ensures { result ≡ is_name word.now }
 {
@@ -46,7 +46,7 @@ impl Reading {
     ghost use Rattle.switch_args.specs.Readings.{Went, given_of, given_of_settings, expected_of, EndsAt};
     ghost use Rattle.switch_args.specs.SwitchWords.{place, start};
 
-    /// Before the first word.
+    /// The state before the first word.
     pub(crate) fn new(alloc: Global) -> Reading
         ensures { place (given_of result) (expected_of result.expected) ≡ start }
     {
@@ -59,7 +59,7 @@ impl Reading {
         }
     }
 
-    /// The words end here, of which so many were read.
+    /// The result at the end of the words, of which so many were read.
     pub(crate) fn end(self, at: usize) -> Result<SwitchSettings, WordsFault>
         ensures { EndsAt self at result }
     {
@@ -76,7 +76,7 @@ impl Reading {
         }
     }
 
-    /// What was read.
+    /// The settings that were read.
     fn into_settings(self) -> SwitchSettings
         ensures { given_of_settings result ≡ given_of self }
     {
@@ -95,7 +95,7 @@ impl Reading {
         }
     }
 
-    /// Goes on by a word. Whether it may stand here; if not, nothing is changed.
+    /// Reads the next word, and returns whether it may stand here.
     pub(crate) fn take(&mut self, alloc: Global, word: &str) -> Result<bool, AllocError>
         ensures { IfOk result (λ went. Went self.old word.now went self.new) }
     {
@@ -132,7 +132,7 @@ impl Reading {
         false
     }
 
-    /// The number of `--cycle`.
+    /// The number of `--cycle`, 1 to 1,000.
     fn take_cycle(&mut self, word: &str) -> bool
         requires { self.old.expected ≡ Expected.Cycle }
         ensures { Went self.old word.now result self.new }
@@ -147,7 +147,7 @@ impl Reading {
         }
     }
 
-    /// The number of `--buffer-packets`.
+    /// The number of `--buffer-packets`, 1 to 1,000,000.
     fn take_buffer(&mut self, word: &str) -> bool
         requires { self.old.expected ≡ Expected.Buffer }
         ensures { Went self.old word.now result self.new }
@@ -188,7 +188,7 @@ impl Reading {
         Ok(true)
     }
 
-    /// The `-I` of one more input, or the `-O` of the output.
+    /// The `-I` of another input, or the `-O` of the output.
     fn take_next(&mut self, word: &str) -> bool
         requires { self.old.expected ≡ Expected.InputOrOutput }
         ensures { Went self.old word.now result self.new }

@@ -1,4 +1,4 @@
-//! What the words of `tsswitch` ask for.
+//! The settings of `tsswitch`.
 use ts_outside::NameText;
 
 /// Where the packets go.
@@ -10,14 +10,14 @@ pub enum SwitchOutput {
     Drop,
 }
 
-/// What the words ask for: inputs that are played one after another, and where their packets go.
+/// The settings: inputs that are played one after another, and where their packets go.
 #[derive(Drop)]
 pub struct SwitchSettings {
-    /// How often the whole row of inputs is played, from 1 to 1,000; once where it is not given.
+    /// How often the whole list of inputs is played, 1 to 1,000; once if it is not given.
     pub cycle: Option<u64>,
-    /// How many packets a ring has, from 1 to 1,000,000. Where it is not given the program chooses.
+    /// How many packets a ring has, 1 to 1,000,000. If it is not given the program chooses.
     pub buffer: Option<u64>,
-    /// The names of the inputs, from 1 to 32, in the order in which they are played.
+    /// The names of the inputs, 1 to 32, in the order in which they are played.
     pub inputs: Vec<NameText>,
     /// The output.
     pub output: SwitchOutput,

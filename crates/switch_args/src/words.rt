@@ -1,4 +1,4 @@
-//! All words of a command line.
+//! Reading all words of a command line.
 ghost use Rattle.std.specs.Prelude.{◌≡◌, List, map, IfOk};
 ghost use Rattle.std.specs.String.{string_bytes};
 ghost use Rattle.switch_args.specs.Readings.{ReadsWords, given_of_settings};
@@ -11,14 +11,15 @@ use std::alloc::{AllocError, Global};
 /// Why words were not read.
 #[derive(Debug, Clone, Copy, PartialEq, Eq)]
 pub enum WordsFault {
-    /// They are not of the form, and this is the first word at which no list of the form goes on, or their number.
+    /// They are not of the form. `word` is the index of the first word that no list of the form has there, from 0 on,
+    /// or the number of words if they are incomplete.
     At { word: usize },
-    /// Memory was wanting.
+    /// Out of memory.
     NoMemory,
 }
 
 /// Reads the words, given without the program's name: `--cycle N` and `--buffer-packets N` in any order, each at most
-/// once; `-I file NAME`, once for each input; and at most once `-O file NAME` or `-O drop`.
+/// once; then `-I file NAME`, once for each of 1 to 32 inputs; and at most once `-O file NAME` or `-O drop`.
 pub fn read_words(alloc: Global, words: &[String]) -> Result<SwitchSettings, WordsFault>
     ensures read { ReadsWords (map string_bytes words.now) result }
     ensures lawful { IfOk result (λ settings. IsLawful (given_of_settings settings)) }

@@ -1,4 +1,4 @@
-//! What a row says of the calls of its desk.
+//! The plan of a row for the calls of its desk.
 ghost use Rattle.std.specs.Prelude.{◌<◌, IfOk};
 
 use std::alloc::{AllocError, Global};
@@ -10,13 +10,13 @@ const READ_PIECE: usize = 188;
 /// The most bytes that one write or one report takes.
 const WRITE_PIECE: usize = 100;
 
-/// Which calls of a desk fail, each kind counted from 1 on, and the most bytes that an output holds, and the reports: a
+/// Which calls of a desk fail, each kind counted from 1, and how many bytes an output and the reports hold at most: a
 /// `FailPlan` that stands in a table of rows.
 #[derive(Clone, Copy)]
 pub(crate) struct DeskPlan {
-    /// The openings of the output and the inputs, counted together.
+    /// The openings of the output and the inputs that fail, counted together.
     pub(crate) opens: &'static [u64],
-    /// Those of each input.
+    /// The reads of each input that fail.
     pub(crate) reads: &'static [u64],
     pub(crate) writes: &'static [u64],
     pub(crate) reports: &'static [u64],
@@ -35,7 +35,7 @@ pub(crate) const ORDINARY: DeskPlan = DeskPlan {
 };
 
 impl DeskPlan {
-    /// The plan as a desk takes it.
+    /// The plan as a desk takes it. Out of memory it returns `AllocError`.
     pub(crate) fn fail_plan(self, alloc: Global) -> Result<FailPlan, AllocError>
         ensures { IfOk result (λ p. (0 < p.read_piece) × (0 < p.write_piece)) }
     {
@@ -57,7 +57,7 @@ impl DeskPlan {
     }
 }
 
-/// The numbers as a desk takes them.
+/// The numbers as a desk takes them. Out of memory it returns `AllocError`.
 fn numbers(alloc: Global, calls: &[u64]) -> Result<NumberList, AllocError> {
     Ok(NumberList::of(Vec::from_slice(alloc, calls)?))
 }

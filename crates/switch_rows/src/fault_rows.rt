@@ -1,4 +1,4 @@
-//! Rows on faults of the outside.
+//! Rows with failing calls of the desk.
 use crate::desk_plan::{DeskPlan, ORDINARY};
 use crate::row::Row;
 
@@ -58,7 +58,7 @@ static FAULT_ROWS: [Row; 6] = [
     },
 ];
 
-/// What fails behind the plays: what is done fails by it, and what ended otherwise keeps its own end.
+/// What fails after the plays: a call that was complete fails by it, and one that ended otherwise keeps its own end.
 pub(crate) fn behind_plays() -> &'static [Row] {
     &END_ROWS
 }

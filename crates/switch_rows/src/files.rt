@@ -13,13 +13,13 @@ struct PacketFile {
     name: &'static str,
     /// The PIDs of its packets.
     pids: &'static [u16],
-    /// Behind them comes a packet that does not begin with the sync byte.
+    /// Whether a packet that does not begin with the sync byte follows them.
     is_lost: bool,
-    /// So many bytes of a packet stand behind all.
+    /// How many bytes of an incomplete packet follow at the end.
     rest: usize,
 }
 
-/// A further name is an empty file.
+/// The files; any other name is an empty file.
 static FILES: [PacketFile; 5] = [
     PacketFile {
         name: "A",
@@ -76,7 +76,7 @@ fn bytes_of(alloc: Global, file: &PacketFile) -> Result<Vec<u8>, AllocError> {
     Ok(bytes)
 }
 
-/// Puts the first bytes of a packet behind others.
+/// Appends the first bytes of a packet.
 fn push_packet(bytes: &mut Vec<u8>, first: u8, pid: u16, count: usize) -> Result<(), AllocError> {
     let [high, low] = pid.to_be_bytes();
     for place in 0..count {

@@ -1,6 +1,6 @@
-//! Plays worked examples over a desk in memory, by `switch_call`, and prints what each came to: the status, the report, the
-//! packets that were written, and in which order names were opened and closed. Then it tries words that are not of the form,
-//! and plays inputs of which two have to be read at once.
+//! Plays worked examples over a desk in memory, by `switch_call`, and prints the result of each: the status, the
+//! report, the written packets, and the order in which names were opened and closed. Then it tries words that are not
+//! of the form, and plays inputs of which two have to be read at the same time.
 #![tactic(auto)]
 
 mod desk_plan;

@@ -1,4 +1,4 @@
-//! Two reads that meet.
+//! Two reads that wait for each other.
 use std::sync::atomic::AtomicBool;
 use std::sync::atomic::Ordering::SeqCst;
 use std::thread::yield_now;
@@ -6,14 +6,14 @@ use std::thread::yield_now;
 /// How many turns a read waits at most.
 const TURNS: u32 = 50_000_000;
 
-/// How many turns a read waits before it lets others go first.
+/// How many turns a read waits before it yields the processor.
 const SPINS: u32 = 64;
 
-/// The second read of the first input, which holds until a read of the second input has begun, and that one, which holds
-/// until the other one has: where inputs are read one after another they never meet.
+/// The second read of the first input waits until a given read of the second input has begun, and that one until the
+/// first one has: if inputs are read one after another they never meet.
 #[derive(Drop)]
 pub(crate) struct Meeting {
-    /// The number of the second input's read, from 1 on. Where there is none no read holds.
+    /// The number of the second input's read, from 1 on. Without it no read waits.
     of_second: Option<u64>,
     first_came: AtomicBool,
     second_came: AtomicBool,
@@ -40,7 +40,7 @@ impl Meeting {
         }
     }
 
-    /// A read of an input begins; inputs and reads are counted from 1.
+    /// To be called when a read of an input begins; inputs and reads are counted from 1.
     pub(crate) fn begin(&self, input: u64, read: u64) {
         if let Some(of_second) = self.of_second {
             if input == 1 && read == 2 {
@@ -52,7 +52,7 @@ impl Meeting {
         }
     }
 
-    /// One of the two has come, and waits for the other one.
+    /// One of the two has begun, and waits for the other one.
     fn meet(&self, one: &AtomicBool, other: &AtomicBool) {
         one.store(true, SeqCst);
         if !comes(other) {
@@ -60,14 +60,14 @@ impl Meeting {
         }
     }
 
-    /// Whether both came, each before the other one's turns ran out.
+    /// Whether both began, each before the other one's turns were used up.
     pub(crate) fn have_met(&self) -> bool {
         let came = self.first_came.load(SeqCst) && self.second_came.load(SeqCst);
         came && !self.was_given_up.load(SeqCst)
     }
 }
 
-/// Waits until a read has come. Whether it did before the turns ran out.
+/// Waits until the other read has begun, and returns whether it did before the turns were used up.
 fn comes(other: &AtomicBool) -> bool {
     for turn in 0..TURNS {
         if other.load(SeqCst) {

@@ -1,4 +1,4 @@
-//! Plays of which the next one is read while the present one is.
+//! Plays in which the next input is read while the current one is.
 use crate::desk_plan::{DeskPlan, ORDINARY};
 use crate::meeting::Meeting;
 use crate::outcome::print_outcome;
@@ -7,7 +7,7 @@ use anyhow::Result;
 use std::sync::Wait;
 use std::thread::Threads;
 
-/// The second read of the first input and a read of the second one meet.
+/// A row in which the second read of the first input and a read of the second one meet.
 #[derive(Clone, Copy)]
 struct MeetingRow {
     name: &'static str,
@@ -41,7 +41,7 @@ static ROWS: [MeetingRow; 3] = [
     },
 ];
 
-/// Plays all of them, and prints what they came to and whether the reads met.
+/// Plays all of them, and prints their results and whether the reads met.
 pub(crate) fn print_meetings<R: Threads + Wait + Sync + Print + AllocGlobal>(rt: &R) -> Result<()> {
     for row in &ROWS {
         print_meeting(rt, row)?;

@@ -1,8 +1,8 @@
-//! What a call came to, as text.
+//! The result of a call, as text.
 use crate::trial::Trial;
 use anyhow::Result;
 
-/// Prints the status, the report, the output, and what the desk was asked for.
+/// Prints the status, the report, the output, and the calls of the desk.
 pub(crate) fn print_outcome(rt: &impl Print, trial: &Trial) -> Result<()> {
     let status = &trial.status;
     let exit = status.exit_code();
@@ -21,7 +21,7 @@ pub(crate) fn print_outcome(rt: &impl Print, trial: &Trial) -> Result<()> {
     Ok(())
 }
 
-/// Prints the report, each line behind a bar.
+/// Prints the report, each line after a bar.
 fn print_report(rt: &impl Print, bytes: &[u8]) -> Result<()> {
     if let Ok(text) = str::from_utf8(bytes) {
         for line in text.lines() {
@@ -31,7 +31,7 @@ fn print_report(rt: &impl Print, bytes: &[u8]) -> Result<()> {
     Ok(())
 }
 
-/// Prints the PIDs of whole packets, and ends the line.
+/// Prints the PIDs of complete packets, and ends the line.
 fn print_packets(rt: &impl Print, bytes: &[u8]) -> Result<()> {
     let mut left = bytes;
     while let Some((row, rest)) = left.split_first_chunk::<188>() {

@@ -1,4 +1,4 @@
-//! Rows on plays: their order, and how the last of them ends.
+//! Rows on plays: their order, and how the last one ends.
 use crate::desk_plan::{DeskPlan, ORDINARY};
 use crate::row::Row;
 

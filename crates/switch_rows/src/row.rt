@@ -1,4 +1,4 @@
-//! A worked example: its words, and what it says of the calls of its desk.
+//! A worked example: its words, and the plan for the calls of its desk.
 use crate::desk_plan::DeskPlan;
 use crate::meeting::Meeting;
 use crate::outcome::print_outcome;
@@ -9,7 +9,7 @@ use std::alloc::{AllocError, Global};
 use std::sync::Wait;
 use std::thread::Threads;
 
-/// A worked example. Its words do not say how many packets a ring has.
+/// A worked example. Its words do not give the number of packets of a ring.
 #[derive(Clone, Copy)]
 pub(crate) struct Row {
     pub(crate) name: &'static str,
@@ -17,14 +17,14 @@ pub(crate) struct Row {
     pub(crate) plan: DeskPlan,
 }
 
-/// Words that say how many packets a ring has.
+/// Words that give the number of packets of a ring.
 static BUFFERS: [&str; 3] = [
     "--buffer-packets 1",
     "--buffer-packets 2",
     "--buffer-packets 7",
 ];
 
-/// Plays rows, and prints what they came to. The tally has them, too, then, over rings of each of the sizes.
+/// Plays rows, and prints their results. The returned tally has them too, over rings of each of the sizes.
 pub(crate) fn print_rows<R: Threads + Wait + Sync + Print + AllocGlobal>(
     rt: &R,
     rows: &[Row],
@@ -36,7 +36,7 @@ pub(crate) fn print_rows<R: Threads + Wait + Sync + Print + AllocGlobal>(
     Ok(())
 }
 
-/// Plays a row and prints what it came to; the tally with its runs over rings of the other sizes.
+/// Plays a row and prints its result; returns the tally with its runs over rings of the other sizes.
 fn print_row<R: Threads + Wait + Sync + Print + AllocGlobal>(
     rt: &R,
     row: &Row,
@@ -58,7 +58,7 @@ fn words_with(alloc: Global, first: &str, text: &str) -> Result<Vec<String>, All
     Ok(words)
 }
 
-/// The tally with a row's runs over rings of each of the sizes, each of which has to come to the same.
+/// The tally with a row's runs over rings of each of the sizes, each of which must have the same result.
 fn over_buffers<R: Threads + Wait + Sync + AllocGlobal>(
     rt: &R,
     row: &Row,

@@ -1,16 +1,16 @@
-//! What a desk was asked to open and to close.
-/// What a desk was asked for, in its order, as text. What finds no memory is left out.
+//! The names that a desk opens and closes.
+/// The calls of a desk in order, as text. Text for which there is no memory is left out.
 #[derive(Drop)]
 pub(crate) struct Steps {
     text: String,
     /// How many inputs are open.
     open: u64,
-    /// The most that were.
+    /// The most inputs that were open at once.
     most: u64,
 }
 
 impl Steps {
-    /// Nothing was asked for.
+    /// No call yet.
     pub(crate) fn none(text: String) -> Steps {
         Steps {
             text,
@@ -23,7 +23,7 @@ impl Steps {
         self.text.as_str()
     }
 
-    /// How many inputs were open at once.
+    /// How many inputs were open at once, at most.
     pub(crate) fn most(&self) -> u64 {
         self.most
     }
@@ -33,12 +33,12 @@ impl Steps {
         self.note(" opens ", name);
     }
 
-    /// It could not be opened.
+    /// A name could not be opened.
     pub(crate) fn misses(&mut self, name: &str) {
         self.note(" misses ", name);
     }
 
-    /// One input more is open.
+    /// One more input is open.
     pub(crate) fn enters(&mut self) {
         self.open = self.open.saturating_add(1);
         self.most = self.most.max(self.open);

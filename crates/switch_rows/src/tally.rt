@@ -1,6 +1,6 @@
-//! How many runs came to what another run came to.
+//! How many runs had the same result as another run.
 
-/// A count of runs, and of those that came to what another one came to.
+/// A count of runs, and of those with the same result as another one.
 #[derive(Clone, Copy)]
 pub(crate) struct Tally {
     pub(crate) runs: u32,
@@ -13,7 +13,7 @@ impl Tally {
         Tally { runs: 0, alike: 0 }
     }
 
-    /// The tally with one run more.
+    /// The tally with one more run.
     pub(crate) fn with(self, is_alike: bool) -> Tally {
         Tally {
             runs: self.runs.wrapping_add(1),

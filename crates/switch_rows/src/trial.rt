@@ -9,7 +9,7 @@ use std::thread::Threads;
 use switch_top::{SwitchStatus, switch_call};
 use ts_outside::{MemoryDesk, OpenGate};
 
-/// What a call came to: its desk and its status. The desk is large, and so in a box.
+/// The result of a call: its desk and its status. The desk is large, so it is in a box.
 #[derive(Drop)]
 pub(crate) struct Trial<'a> {
     pub(crate) desk: Box<WatchedDesk<'a>>,
@@ -17,12 +17,12 @@ pub(crate) struct Trial<'a> {
 }
 
 impl<'a> Trial<'a> {
-    /// All that was reported.
+    /// The whole report.
     pub(crate) fn reported(&self) -> &[u8] {
         self.desk.desk.reported()
     }
 
-    /// How many names were asked for.
+    /// How many names the desk was asked to open.
     pub(crate) fn asked_count(&self) -> usize {
         self.desk.desk.asked_count()
     }
@@ -40,7 +40,7 @@ impl<'a> Trial<'a> {
         }
     }
 
-    /// Whether two calls came to the same status, report and output, and asked for the same in the same order.
+    /// Whether two calls had the same status, report and output, and the same calls of the desk in the same order.
     pub(crate) fn is_like(&self, other: &Trial) -> bool {
         self.status == other.status
             && self.reported() == other.reported()
@@ -63,7 +63,7 @@ fn filled_desk<'a>(
     Ok(Box::new(alloc, WatchedDesk::new(alloc, desk, meeting))?)
 }
 
-/// Plays by `switch_call`, on a desk of its own.
+/// Calls `switch_call` on a desk of its own.
 pub(crate) fn called<'a, R: Threads + Wait + Sync + AllocGlobal>(
     rt: &R,
     words: &[String],
@@ -75,7 +75,7 @@ pub(crate) fn called<'a, R: Threads + Wait + Sync + AllocGlobal>(
     Ok(Trial { desk, status })
 }
 
-/// Puts the words of a text, which blanks part, behind others. The word `''` is the empty one.
+/// Appends the words of a text, separated by blanks. The word `''` is the empty one.
 pub(crate) fn push_words(
     alloc: Global,
     words: &mut Vec<String>,

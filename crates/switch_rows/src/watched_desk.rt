@@ -1,11 +1,11 @@
-//! A desk that notes what it is asked for.
+//! A desk that records its calls.
 use crate::meeting::Meeting;
 use crate::steps::Steps;
 use crate::watched_source::WatchedSource;
 use std::alloc::{AllocError, Global};
 use ts_outside::{Desk, Failed, FileBytes, FileFault, MemoryDesk, MemorySink, OpenFault};
 
-/// A desk in memory that notes in which order names are opened and closed, and whose inputs may have to meet.
+/// A desk in memory that records the order in which names are opened and closed, and whose inputs may have to meet.
 #[derive(Drop)]
 pub(crate) struct WatchedDesk<'a> {
     pub(crate) desk: MemoryDesk,
@@ -17,7 +17,7 @@ pub(crate) struct WatchedDesk<'a> {
 }
 
 impl<'a> WatchedDesk<'a> {
-    /// A desk of which nothing was asked yet.
+    /// A desk without calls so far.
     pub(crate) fn new(alloc: Global, desk: MemoryDesk, meeting: &'a Meeting) -> WatchedDesk<'a> {
         WatchedDesk {
             desk,
@@ -29,7 +29,7 @@ impl<'a> WatchedDesk<'a> {
     }
 }
 
-/// The text of a name; none is the empty one.
+/// The text of a name; the empty text for none.
 fn text_of(alloc: Global, name: Option<&str>) -> Result<String, AllocError> {
     match name {
         Some(name) => String::from_str(alloc, name),

@@ -7,7 +7,7 @@ pub(crate) struct WatchedSource<'a> {
     pub(crate) source: MemorySource,
     pub(crate) name: String,
     pub(crate) meeting: &'a Meeting,
-    /// Which of the inputs it is, in the order of their openings, from 1 on.
+    /// The number of the input, in the order of their openings, from 1 on.
     pub(crate) number: u64,
     /// How many reads have begun.
     pub(crate) reads: u64,

@@ -7,7 +7,7 @@ use std::alloc::{AllocError, Global};
 use std::sync::Wait;
 use std::thread::Threads;
 
-/// Each of these lists has its first faulty word at another place or for another reason.
+/// Each of these lists has its first fault at another word or for another reason.
 static WORDS: [&str; 40] = [
     "",
     "-O drop",
@@ -58,7 +58,7 @@ static LAWFUL: [&str; 3] = [
     "--cycle 2 --buffer-packets 5 -I file A -O drop",
 ];
 
-/// Prints what becomes of all of them, and of one input more than there may be.
+/// Prints the results of all of them, and of one input more than allowed.
 pub(crate) fn print_words<R: Threads + Wait + Sync + Print + AllocGlobal>(rt: &R) -> Result<()> {
     for text in &WORDS {
         print_text(rt, text)?;
@@ -77,7 +77,7 @@ fn print_text<R: Threads + Wait + Sync + Print + AllocGlobal>(rt: &R, text: &str
     print_short(rt, words.as_slice())
 }
 
-/// So many inputs of one packet.
+/// Plays so many inputs of one packet.
 fn print_inputs<R: Threads + Wait + Sync + Print + AllocGlobal>(
     rt: &R,
     count: usize,
@@ -96,7 +96,8 @@ fn inputs(alloc: Global, count: usize) -> Result<Vec<String>, AllocError> {
     Ok(words)
 }
 
-/// Plays, and prints the status, how many names were asked for, how many lines were reported, and the last of them.
+/// Plays, and prints the status, how many names the desk was asked to open, how many lines were reported, and the
+/// last of them.
 fn print_short<R: Threads + Wait + Sync + Print + AllocGlobal>(
     rt: &R,
     words: &[String],

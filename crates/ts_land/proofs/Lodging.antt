@@ -1,4 +1,4 @@
--- `lodge` and `dislodge` at a call. Assumes `Logic`.
+-- Lemmas on calls of `lodge` and `dislodge`. Assumes `Logic`.
 use Rattle.std.proofs.Common.{◌≡◌, ℕ, ◌+◌, ◌-◌, ◌*◌, ◌^◌, ◌<◌, ◌≤◌, List, [], ◌∷◌, length, Bool, true, false, T, refl, sym, ap, ◌∙◌, subst, arith, Vec}
 use seplogic.Ra.Ura.{Ura}
 use mir.Syntax.{w64}

@@ -1,4 +1,4 @@
--- Places in a block, and which window has the first value.
+-- Lemmas on places in a block, and on which window has the first value.
 use Rattle.std.proofs.Common.{inl, inr, ◌≡◌, ◌⊎◌, ℕ, zero, suc, ◌+◌, ◌*◌, ◌<◌, true, false, Option, None, Some, is_some, refl, sym, ap, ◌∙◌, subst, arith}
 use Rattle.std.proofs.lemmas.Bool.Decides.{nat_tests}
 use Rattle.std.specs.Option.{option_or}
@@ -11,7 +11,7 @@ further : (p : Ptr) (m n : ℕ) → p +ₚ (m + n) ≡ (p +ₚ m) +ₚ n
 further (block_ptr b o) m n = let e : o + (m + n) ≡ (o + m) + n = omega arith in ap (block_ptr b) e
 further null_ptr m n = refl
 
--- the piece behind one of `n` values lies just behind it
+-- the piece after one of `n` values begins where that one ends
 pub beside : (base : Ptr) (start n size : ℕ) → base +ₚ (start + n) * size ≡ (base +ₚ start * size) +ₚ n * size
 beside base start n size = ap (λ k. base +ₚ k) (add-mul start n size) ∙ further base (start * size) (n * size)
 
@@ -21,7 +21,7 @@ has_one n = let p : 0 < suc n = omega arith in grind (arith, nat_tests, p)
 not_one : (s n : ℕ) → has_first (suc s) n ≡ false
 not_one s n = let p : 0 < suc s = omega arith in grind (arith, nat_tests, p)
 
--- of two pieces that lie side by side one at most has the first value, and both together have it where one has
+-- of two adjacent pieces at most one has the first value, and both together have it if one has
 pub first_of_two : (start n m next total : ℕ) (one another : Option Extent) → next ≡ start + n → total ≡ n + m → is_some one ≡ has_first start n
     → is_some another ≡ has_first next m
     → (one ≡ None ⊎ another ≡ None) × (is_some (option_or one another) ≡ has_first start total)

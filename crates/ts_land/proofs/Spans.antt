@@ -1,4 +1,4 @@
--- Spans of values are cut and glued. Assumes `Logic`.
+-- Lemmas on splitting and joining spans of values. Assumes `Logic`.
 use Rattle.std.proofs.Common.{◌≡◌, ℕ, ◌+◌, ◌-◌, ◌*◌, ◌^◌, ◌<◌, ◌≤◌, List, [], ◌∷◌, ◌++◌, length, take, drop, refl, sym, ap, ◌∙◌, subst, arith, length-take-le, length-drop, length-append, take-append-drop, mul-le-mul_right}
 use seplogic.Ra.Ura.{Ura}
 use mir.Val.{Val, vstruct, vcons, vnil, of_list}
@@ -54,7 +54,7 @@ module _ (E : El) {M : Type 1} {𝓤 : Ura M} (𝓛 : Logic 𝓤) where
   abbrev s : ℕ
   s = type_size (R E)
 
-  -- a span is a row, and the other way round
+  -- a span is a row, and conversely
   to_row : (b o : ℕ) (xs : List (el_x E)) → ent 𝓤 (sem 𝓛 (lies_at (Array (R E) (length xs)) full_share (block_ptr b o) xs)) (sem 𝓛 (row (R E) full_share xs b o))
   to_row b o xs = qed 𝓛 (‵ (part_at (Array (R E) (length xs)) full_share xs b o) ∷ []) ∵
       use1 𝓛 (given (length xs ≡ length xs) (‵ (row (R E) full_share xs b o))) (arrays.apart E' 𝓛 full_share (length xs) xs b o) $

@@ -1,4 +1,4 @@
--- A `Vec` is its values and its owner. Assumes `Logic`.
+-- Lemmas: a `Vec` is its values and its owner. Assumes `Logic`.
 use Rattle.std.proofs.Common.{◌≡◌, ℕ, ◌*◌, ◌^◌, ◌<◌, ◌≤◌, List, [], ◌∷◌, length, true, refl, sym, arith, Vec, mul-le-mul_right}
 use Rattle.std.proofs.lemmas.Bool.{ne_eqb, not_from_false}
 use Rattle.std.proofs.lemmas.List.{with_items_is}

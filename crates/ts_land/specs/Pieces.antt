@@ -4,12 +4,12 @@ use Rattle.std.specs.Coded.{Coded, code_by, coded×, coded_list, coded_ℕ}
 use denote.RawPtr.{Ptr, coded_ptr}
 use Rattle.ts_land.specs.Ownership.{Extent}
 
--- the mark of a block: where it begins, and how many slots it has
+-- the identity of a block: where it begins, and how many slots it has
 pub record Land : Type 0 where
   pub base : Ptr
   pub count : ℕ
 
--- a window of a block: its values, of which the first stands in the slot `start`
+-- a window of a block: its values, the first of which is in the slot `start`
 pub record Piece (X : Type 0) : Type 0 where
   pub land : Land
   pub start : ℕ
@@ -26,11 +26,11 @@ piece_code {X} c =
     (λ w. ((w.land.base, w.land.count), (w.start, w.cells)))
     (λ p. piece_of (record { base = p.0.0; count = p.0.1 }) p.1.0 p.1.1) (λ _. refl)
 
--- the window with these values written over its own
+-- the window after these values were written over its own
 abbrev pub with_cells : {X : Type 0} → Piece X → List X → Piece X
 with_cells w xs = piece_of w.land w.start (take (length w.cells) (xs ++ drop (length xs) w.cells))
 
--- the window that has the block's first value also has the block's owner
+-- a window has the block's first value; it then has the block's owner too
 abbrev pub has_first : ℕ → ℕ → Bool
 has_first start len = start == 0 && nat_lt 0 len
 

@@ -1,4 +1,4 @@
-// What stays of a `Vec` whose values are out: its memory, and the right to free it.
+//! The owner of a block: a `Vec` whose values are taken out, with its memory and the right to free it.
 ghost use Rattle.std.specs.Prelude.{◌≡◌, ◌<◌, ℕ, List, length};
 ghost use Rattle.std.specs.Vec.{with_items, vec_len, vec_ptr};
 ghost use base.Fml.{ftrue, fex, fall, fwand, fsep, feq};
@@ -8,7 +8,7 @@ use crate::span::Span;
 use std::alloc::Allocator;
 use std::marker::{Move, Owns, PhantomData};
 
-// With values of this number at its place it is the `Vec` again.
+// A `Vec` without its values. With as many values at its place it is the `Vec` again.
 pub(crate) struct Owner<T, A: Allocator> {
     vec: Vec<T, A>,
 }
@@ -18,7 +18,7 @@ impl<T, A: Allocator> Owns for Owner<T, A> {
 
     ghost coded = { extent_code };
 
-    // A `&` to it shows nothing.
+    // A shared reference to it gives access to nothing.
     ghost shr_at = { λ _ _ _. ftrue };
 }
 
@@ -28,10 +28,10 @@ impl<T, A: Allocator> Move for Owner<T, A> {
         (Fields.own_val (record { vec = with_items v.vec xs }) vs)))) };
 }
 
-// What it frees is its own.
+// It may be sent to another thread, since it alone owns what it frees.
 unsafe impl<T: Send, A: Allocator + Send> Send for Owner<T, A> {}
 
-// The values of a `Vec`, and what stays of it.
+// Takes the values out of a `Vec`; the owner is what stays of it.
 pub(crate) fn take_out<T, A: Allocator>(vec: Vec<T, A>) -> (Span<T>, Owner<T, A>)
     requires { 0 < vec_len vec }
     ensures { (result.0.ptr ≡ vec_ptr vec) × (result.0.items ≡ vec.items)
@@ -45,7 +45,7 @@ pub(crate) fn take_out<T, A: Allocator>(vec: Vec<T, A>) -> (Span<T>, Owner<T, A>
     )
 }
 
-// The `Vec`, with these values in it.
+// Puts the values back, and returns the `Vec`.
 pub(crate) fn put_back<T, A: Allocator>(span: Span<T>, owner: Owner<T, A>) -> Vec<T, A>
     requires { (span.ptr ≡ owner.ptr) × (length span.items ≡ owner.len) }
     ensures { result.items ≡ span.items }

@@ -1,14 +1,15 @@
+//! The types whose values may lie in a block.
 ghost use Rattle.std.specs.Prelude.{◌≡◌, ℕ};
 ghost use Rattle.std.specs.Mem.{type_size};
 
-/// A type whose values may lie side by side in a block: each type of a known size.
+/// A type whose values may lie next to each other in a block: every type of a known size.
 ///
-/// It has a name for the size, by which a window says where it lies.
+/// It names the size in bytes, from which a window knows its address.
 pub trait Slot: Sized {
     /// How many bytes a value takes.
     ghost bytes: { ℕ };
 
-    /// A value takes so many bytes. There is nothing to run.
+    /// A law; it runs nothing. A value takes `bytes` bytes.
     fn size_law()
         ensures { type_size Self.row ≡ bytes };
 }

@@ -1,4 +1,4 @@
-// Values side by side, as a token of no bytes, and a `Vec` that is lodged over them.
+//! Adjacent values, as a token of no bytes, and a `Vec` that is lodged over them.
 ghost use Rattle.std.specs.Prelude.{◌≡◌, ◌+◌, ◌*◌, ◌<◌, ◌≤◌, ◌^◌, ℕ, List, length, take, drop, ◌++◌};
 ghost use Rattle.std.specs.Vec.{vec_len, vec_ptr, vec_capacity};
 ghost use Rattle.std.specs.Mem.{type_size};
@@ -8,7 +8,7 @@ ghost use Rattle.ts_land.specs.Ownership.{span_owns};
 use std::marker::{Model, PhantomData};
 use std_alloc::vec::{Lodged, lodge};
 
-// The values at `ptr`, which nothing else can reach.
+// The values at `ptr`, to which nothing else has access.
 pub(crate) struct Span<T> {
     pub(crate) marker: PhantomData<T>,
     ghost ptr: { Ptr },
@@ -19,11 +19,11 @@ impl<T> Model for Span<T> {
     ghost also_owns = { λ r. span_owns T.row r.ptr r.items };
 }
 
-// What it points to is its own.
+// It may be sent to another thread, since it alone owns what it points to.
 unsafe impl<T: Send> Send for Span<T> {}
 
 impl<T> Span<T> {
-    // The first `mid` values, and the others.
+    // Splits the span into the first `mid` values and the others.
     pub(crate) fn cut(self, mid: usize) -> (Span<T>, Span<T>)
         requires { mid ≤ length self.items }
         ensures front { (result.0.ptr ≡ self.ptr) × (result.0.items ≡ take mid self.items) }
@@ -41,7 +41,7 @@ impl<T> Span<T> {
         )
     }
 
-    // Both spans, where the other one lies just behind this one.
+    // Joins two spans, if the other one lies just after this one.
     pub(crate) fn glue(self, other: Span<T>) -> Span<T>
         requires beside { other.ptr ≡ self.ptr +ₚ length self.items * type_size T.row }
         requires fits { (length self.items + length other.items) * type_size T.row < 2 ^ 63 }

@@ -1,3 +1,4 @@
+//! Windows of a block of values.
 ghost use Rattle.std.specs.Prelude.{◌≡◌, ◌+◌, ◌*◌, ◌<◌, ◌≤◌, ◌^◌, List, length, take, drop, ◌++◌, replicate, IfOk, None, ◌⊎◌};
 ghost use Rattle.std.specs.Option.{option_or};
 ghost use Rattle.std.specs.Borrow.{Lends, Array, sem};
@@ -11,11 +12,10 @@ use std::alloc::{AllocError, Global};
 use std::marker::Model;
 use std_alloc::vec::Lodged;
 
-/// Successive values of one block, which nothing else can reach.
+/// Adjacent values of one block, to which nothing else has access.
 ///
-/// Contracts see its block, the slot of its first value, and its values. It has to be joined again with the
-/// other windows of its block until one of them is the whole, which `close` gives back. Here nothing takes
-/// memory.
+/// Contracts see its block, the slot of its first value, and its values. The windows of a block have to be joined
+/// until one of them is the whole block, which `close` frees. No method allocates.
 pub struct Window<T: Slot> {
     cells: Vec<T, Lodged>,
     start: usize,
@@ -44,11 +44,11 @@ impl<T: Slot> Model for Window<T> {
         × (is_some w.owner ≡ has_first w.start (vec_len w.cells)) × IsOwnerOf w.base w.count w.owner };
 }
 
-// What it points to is its own.
+// It may be sent to another thread, since it alone owns what it points to.
 unsafe impl<T: Slot + Send> Send for Window<T> {}
 
 impl<T: Slot> Window<T> {
-    /// The first `n` values, and the others. Either may be none.
+    /// Splits the window into the first `n` values and the others. Either may be empty.
     pub fn split(self, n: usize) -> (Window<T>, Window<T>)
         requires within { n ≤ length self.cells }
         ensures front { result.0 ≡ piece_of self.land self.start (take n self.cells) }
@@ -85,7 +85,7 @@ impl<T: Slot> Window<T> {
         )
     }
 
-    /// Both windows, where the other one begins in the slot in which this one ends.
+    /// Joins two windows, if the other one begins in the slot in which this one ends.
     pub fn join(self, other: Window<T>) -> Window<T>
         requires land { other.land ≡ self.land }
         requires beside { other.start ≡ self.start + length self.cells }
@@ -125,7 +125,7 @@ impl<T: Slot> Window<T> {
         self.cells.as_slice()
     }
 
-    /// The values, to be changed where they are. What is written through it is what the window then has.
+    /// The values, which may be changed in place. What is written through the slice is what the window then has.
     pub fn as_mut_slice(&mut self) -> &mut [T]
         ensures* writes_back { sem 𝓛
             (Lends (the_row T.row T.Slot) (Array T.row 0) self.entry result (with_cells self.old)) }
@@ -141,21 +141,21 @@ impl<T: Slot> Window<T> {
         self.cells.len()
     }
 
-    /// The slot of its first value, from 0 on; of an empty window the one in which the value would stand.
+    /// The slot of its first value, from 0 on; of an empty window the slot in which a value would be.
     pub fn start(&self) -> usize
         ensures { result ≡ self.now.start }
     {
         self.start
     }
 
-    /// Where its block begins. It says which block that is, and gives no right to it.
+    /// The address of its block. It identifies the block, and gives no access to it.
     pub fn base(&self) -> *mut T
         ensures { result ≡ self.now.land.base }
     {
         self.base
     }
 
-    /// A window of all slots gives its block back.
+    /// Frees the block. The window has to have all its slots.
     pub fn close(self)
     where
         T: Drop,
@@ -175,7 +175,7 @@ impl<T: Slot> Window<T> {
     }
 }
 
-// The one that is there, where one of them is none.
+// The one that there is, if at most one of them is.
 fn either<T>(
     one: Option<Owner<T, Global>>,
     another: Option<Owner<T, Global>>,
@@ -192,9 +192,9 @@ fn either<T>(
     }
 }
 
-/// One block of `n` values, in one window. Only this call takes memory; `AllocError` where there was none.
+/// A block of `n` values, in one window. Only this call allocates; out of memory it returns `AllocError`.
 ///
-/// A copy of the value has to be the value itself, since each slot gets one.
+/// A clone of the value has to be equal to the value, since each slot gets one.
 pub fn land<T: Slot + Clone>(alloc: Global, n: usize, value: T) -> Result<Window<T>, AllocError>
     requires some { 0 < n }
     requires plain { (y : T) → T.is_clone value y → y ≡ value }

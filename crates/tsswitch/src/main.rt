@@ -1,5 +1,5 @@
-//! The program `tsswitch`: the words of a command line come in, and an exit number goes out.
-//! All of it but the words, the real desk and the number is `switch_call`, whose contract says what is played.
+//! The program `tsswitch`: the words of a command line come in, and an exit status goes out. All but the words, the
+//! real desk and the status is `switch_call`, whose contract says what is played.
 #![tactic(auto)]
 
 use std::io::ErrorKind;
@@ -9,12 +9,13 @@ use switch_top::switch_call;
 use ts_os::OsDesk;
 use ts_outside::{OpenGate, report_whole};
 
-/// The exit numbers of a start that never came to the call.
+/// The exit status if memory runs out before the call.
 const NO_MEMORY: u8 = 1;
 
+/// The exit status if a word is not UTF-8.
 const FAULTY_WORDS: u8 = 2;
 
-/// The words behind the program's name.
+/// The words after the program's name.
 fn words(rt: &(impl env::Env + AllocGlobal)) -> io::Result<Vec<String>> {
     let mut all = env::args(rt)?;
     let _name = all.next();
@@ -31,7 +32,7 @@ fn main(rt: HostRuntime) -> ExitCode {
         }
         Err(_) => return ExitCode::from(NO_MEMORY),
     };
-    // The output is opened before the inputs, and would be emptied before one of them that is the same file is read.
+    // The output is opened before the inputs; it would be emptied before an input that is the same file is read.
     if desk.spare(words.as_slice(), "-I").is_err() {
         return ExitCode::from(NO_MEMORY);
     }

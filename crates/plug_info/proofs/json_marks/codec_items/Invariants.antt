@@ -4,7 +4,7 @@ use Rattle.std.specs.String.{string_bytes}
 use Rattle.plug_info.specs.InfoJson.{behind_comma, codec_in}
 use Rattle.plug_info.proofs.json_marks.codec_items.Given as goal
 
--- with those that are left it is the whole
+-- the text so far with the remaining items is the whole
 abbrev pub invariant-loop-descriptor : goal.invariant-loop-descriptor
 invariant-loop-descriptor l =
     string_bytes l.items ++ flat_map (λ d. flat_map behind_comma (codec_in d)) (drop l.descriptor-index l.descriptors)

@@ -4,6 +4,6 @@ use Rattle.std.specs.String.{string_bytes}
 use Rattle.plug_info.specs.JsonItems.{items_of}
 use Rattle.plug_info.proofs.json_marks.language_items.Given as goal
 
--- with those that are left it is the whole
+-- the text so far with the remaining items is the whole
 abbrev pub invariant-loop-descriptor : goal.invariant-loop-descriptor
 invariant-loop-descriptor l = string_bytes l.items ++ flat_map items_of (drop l.descriptor-index l.descriptors) ≡ flat_map items_of l.descriptors

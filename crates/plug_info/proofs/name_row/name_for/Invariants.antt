@@ -3,6 +3,6 @@ use Rattle.plug_info.specs.InfoNames.{text_for}
 use Rattle.plug_info.specs.NameRows.{named}
 use Rattle.plug_info.proofs.name_row.name_for.Given as goal
 
--- the rows that are left tell it
+-- the result follows from the remaining rows
 abbrev pub invariant-loop-row : goal.invariant-loop-row
 invariant-loop-row l = text_for (map named (drop l.row-index l.rows)) l.wanted ≡ text_for (map named l.rows) l.wanted

@@ -2,6 +2,6 @@ use Rattle.std.proofs.Common.{◌≡◌, drop}
 use Rattle.plug_info.specs.SdtInForce.{body_with}
 use Rattle.plug_info.proofs.service_texts.body_with.Given as goal
 
--- the descriptors that are left tell it
+-- the result follows from the remaining descriptors
 abbrev pub invariant-loop-descriptor : goal.invariant-loop-descriptor
 invariant-loop-descriptor l = body_with l.tag (drop l.descriptor-index l.descriptors) ≡ body_with l.tag l.descriptors

@@ -1,4 +1,4 @@
--- `put_back` hands the values to what waits for them. Assumes `Logic`.
+-- `put_back` gives the values to the owner that waits for them. Assumes `Logic`.
 use Rattle.atomic_table.proofs.Names.{◌≡◌, List, [], ◌∷◌, ◌++◌, length, refl, sym, ◌∙◌, subst, a_type, dcons, dnil, Val, inst_fn, SProp, emp, ‵, raw, ◌⊛◌, ◌$◌, ◌∵◌, !, qed, by, move, keep, drop, split, fsplit, fjoin, fpick, feq_l, feq_i, rewrite, use0, use1, use2, of_opd, returns, enter, stop, fld, sub, whole, alloc_all, pass_all, free_all, look_at, get, get_in, sets, tables, no, RattleType, owns, types_at, plain, Ptr, nothing, param, bounded, Stays, alive, stay_dropped, walk_of, Goes-dropped, fact, fact_i, heard, fsep, ◌⊑◌, ℕ, apply∗, all_e, sem}
 use Rattle.atomic_table.proofs.Walks.{proved_at, leaves}
 use Rattle.std.proofs.alloc.Calls.{Goes-blank}

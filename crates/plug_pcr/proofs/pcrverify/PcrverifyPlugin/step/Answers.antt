@@ -4,7 +4,7 @@ use Rattle.plug_pcr.specs.PcrverifyConfOf.{StandsFor, conf_of}
 use Rattle.plug_pcr.proofs.Verifying.{verifies_dropped}
 use Rattle.plug_pcr.proofs.pcrverify.PcrverifyPlugin.step.Goals as goal
 
--- what is kept after a cell that is known
+-- what is kept after a known cell
 at_cell : (g : Cell) {h : Cell} (P : Cell → Type 0) → g ≡ h → P h → P g
 at_cell g P same holds = subst P (sym same) holds
 

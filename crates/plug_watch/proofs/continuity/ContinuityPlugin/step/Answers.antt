@@ -11,7 +11,7 @@ use Rattle.plug_watch.specs.ContinuityConfOf.{StandsFor, conf_of}
 use Rattle.plug_watch.proofs.Watching.{watches_dropped, watches_other}
 use Rattle.plug_watch.proofs.continuity.ContinuityPlugin.step.Goals as goal
 
--- what is kept after a cell that is known
+-- what is kept after a known cell
 at_cell : (g : Cell) {h : Cell} (P : Cell → Type 0) → g ≡ h → P h → P g
 at_cell g P same holds = subst P (sym same) holds
 

@@ -7,7 +7,7 @@ use Rattle.plug_watch.specs.CountState.{Counts}
 use Rattle.plug_watch.proofs.CountStates.{counts_dropped, counts_other, counts_live, not_full}
 use Rattle.plug_watch.proofs.count.CountPlugin.step.Goals as goal
 
--- what is kept after a cell that is known
+-- what is kept after a known cell
 at_cell : (g : Cell) {h : Cell} (P : Cell → Type 0) → g ≡ h → P h → P g
 at_cell g P same holds = subst P (sym same) holds
 

@@ -8,7 +8,7 @@ use Rattle.plug_window.specs.RmorphanRule.{is_referred}
 use Rattle.plug_window.proofs.LateLemmas.{given-up, kept-last}
 use Rattle.plug_window.proofs.late_line.LateLine.turn.Goals as goal
 
--- the packets of the rows, with the one that came
+-- the packets of the rows, with the one that came in
 packets-more : (rows : List Labelled) (came : Labelled) → packets_in (rows ++ came ∷ []) ≡ packets_in rows ++ came.packet ∷ []
 packets-more rows came = map-append (λ (row : Labelled). row.packet) rows (came ∷ [])
 

@@ -1,4 +1,4 @@
--- A `&` to it holds nothing. Assumes `Logic`.
+-- A shared reference to it holds nothing. Assumes `Logic`.
 use base.Fraction.{full_share}
 use denote.RattleType.{RattleType}
 use denote.Memory.{part_at}

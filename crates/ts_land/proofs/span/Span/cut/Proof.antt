@@ -1,4 +1,4 @@
--- `cut` parts the span. Assumes `Logic`.
+-- `cut` splits the span. Assumes `Logic`.
 use Rattle.atomic_table.proofs.Names.{◌≡◌, ◌≤◌, ◌*◌, [], ◌∷◌, length, refl, w64, a_type, Val, vint, inst_fn, SProp, emp, ‵, raw, ◌⊛◌, ◌$◌, ◌∵◌, !, qed, by, move, keep, split, fsplit, fjoin, join, use0, use1, no_more, and_then, returns, enter, alloc_all, pass_all, free_all, look_at, get, sets, agg, tables, no, yes, RattleType, owns, types_at, plain, nothing, param, layouts, alive, Stays, stay_dropped, walk_of, Goes-dropped, fact, fact_i, heard, usize, uint_vals, uint_Tells, ◌⊑◌}
 use Rattle.atomic_table.proofs.Walks.{proved, leaves}
 use Rattle.std.proofs.Common.{take, drop as rest}
