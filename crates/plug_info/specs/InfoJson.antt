@@ -69,7 +69,8 @@ rate_json (Some rate) part whole = decimal (rate_part rate part whole)
 
 -- `"packets":<n>,"bitrate":<n>`
 abbrev pub portion_json : Scene → ℕ → List ℕ
-portion_json scene packets = codes "\"packets\":" ++ (decimal packets ++ (codes ",\"bitrate\":" ++ rate_json scene.rate packets scene.whole))
+portion_json scene packets = codes "\"packets\":"
+    ++ (decimal packets ++ (codes ",\"bitrate\":" ++ rate_json scene.rate packets scene.whole))
 
 -- `,"scrambled":<n>,"faults":<n>`
 abbrev pub troubles_json : PidNumbers → List ℕ
@@ -96,8 +97,8 @@ service_head id body = codes "{\"id\":" ++ (decimal id ++ (codes ",\"type\":" ++
 
 -- `,"pmt":<pid>,"pcr":<pid>,` its share, and `,"components":<array>}`
 abbrev pub service_tail : ℕ → Option ℕ → List ℕ → List ℕ → List ℕ
-service_tail pmt pcr portion components = codes ",\"pmt\":" ++ (decimal pmt ++ (codes ",\"pcr\":" ++ (number_or_null pcr ++ (codes "," ++ (portion
-    ++ (codes ",\"components\":" ++ (components ++ codes "}")))))))
+service_tail pmt pcr portion components = codes ",\"pmt\":" ++ (decimal pmt ++ (codes ",\"pcr\":" ++ (number_or_null pcr
+    ++ (codes "," ++ (portion ++ (codes ",\"components\":" ++ (components ++ codes "}")))))))
 
 abbrev pub service_json : ℕ → ℕ → Option (List ℕ) → Option ℕ → List ℕ → List ℕ → List ℕ
 service_json id pmt body pcr portion components = service_head id body ++ service_tail pmt pcr portion components
@@ -137,7 +138,8 @@ component_marks ds = codes ",\"languages\":" ++ (array (languages_of ds) ++ (cod
 
 -- its share, its scrambled and faulty packets, and `,"services":<n>}`: how many services have it
 abbrev pub component_tail : Scene → PidNumbers → ℕ → List ℕ
-component_tail scene numbers users = portion_json scene numbers.packets ++ (troubles_json numbers ++ (codes ",\"services\":" ++ (decimal users ++ codes "}")))
+component_tail scene numbers users = portion_json scene numbers.packets
+    ++ (troubles_json numbers ++ (codes ",\"services\":" ++ (decimal users ++ codes "}")))
 
 abbrev pub component_json : Scene → ℕ → ℕ → List TaggedBody → PidNumbers → ℕ → List ℕ
 component_json scene pid kind ds numbers users = component_head pid kind ++ (component_marks ds ++ component_tail scene numbers users)

@@ -95,7 +95,8 @@ use_of packets pid = if names (pat_of packets) pid then codes "PMT" else unwrap_
 abbrev pub pid_lines : List Cell → ℕ → List (List ℕ)
 pid_lines cells pid =
     if not (packets_on pid (live_packets cells) == 0) && (users_of (live_packets cells) pid == 0)
-    then pid_text pid (use_of (live_packets cells) pid) (portion_text (scene_of cells) (packets_on pid (live_packets cells))) (numbers_on pid cells) ∷ []
+    then pid_text pid (use_of (live_packets cells) pid) (portion_text (scene_of cells) (packets_on pid (live_packets cells)))
+    (numbers_on pid cells) ∷ []
     else []
 
 -- the report on a list of cells: the stream, the services of the PAT in force with their components, and the other
@@ -111,7 +112,8 @@ info_on cells =
 abbrev pub component_object : List Cell → ItemHolding → List ℕ
 component_object cells x =
     let pid = unwrap_or (first_number (drop 1 x.values)) 0 in
-    component_json (scene_of cells) pid (unwrap_or (first_number x.values) 0) x.descriptors (numbers_on pid cells) (users_of (live_packets cells) pid)
+    component_json (scene_of cells) pid (unwrap_or (first_number x.values) 0) x.descriptors
+    (numbers_on pid cells) (users_of (live_packets cells) pid)
 
 -- the object of an entry of the PAT in force, with those of the components of its PMT in force
 abbrev pub service_object : List Cell → ℕ × ℕ → List ℕ
@@ -125,7 +127,8 @@ service_object cells service =
 abbrev pub pid_objects : List Cell → ℕ → List (List ℕ)
 pid_objects cells pid =
     if not (packets_on pid (live_packets cells) == 0) && (users_of (live_packets cells) pid == 0)
-    then pid_json pid (use_of (live_packets cells) pid) (portion_json (scene_of cells) (packets_on pid (live_packets cells))) (numbers_on pid cells) ∷ []
+    then pid_json pid (use_of (live_packets cells) pid) (portion_json (scene_of cells) (packets_on pid (live_packets cells)))
+    (numbers_on pid cells) ∷ []
     else []
 
 -- the report on a list of cells as one JSON object

@@ -147,8 +147,10 @@ component_tail scene numbers users = portion_text scene numbers.packets ++ (trou
 
 -- the whole line, with its languages and codecs between both
 abbrev pub component_text : Scene → ℕ → ℕ → ℕ → List ℕ → PidNumbers → ℕ → List ℕ
-component_text scene pid service kind marks numbers users = component_head pid service kind ++ (marks ++ component_tail scene numbers users)
+component_text scene pid service kind marks numbers users = component_head pid service kind
+    ++ (marks ++ component_tail scene numbers users)
 
 -- `pid <pid> (<use>)`, its share, its scrambled and faulty packets
 abbrev pub pid_text : ℕ → List ℕ → List ℕ → PidNumbers → List ℕ
-pid_text pid purpose portion numbers = codes "pid " ++ (decimal pid ++ (codes " (" ++ (purpose ++ (codes ")" ++ (portion ++ troubles_text numbers)))))
+pid_text pid purpose portion numbers = codes "pid " ++ (decimal pid ++ (codes " ("
+    ++ (purpose ++ (codes ")" ++ (portion ++ troubles_text numbers)))))

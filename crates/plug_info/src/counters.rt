@@ -14,7 +14,8 @@ use ts_packet::{NULL_PID, Packet};
 #[inline]
 pub fn meet_counter(last: &mut LastPackets, at: u64, packet: &Packet) -> bool
     requires { IsTable last.old }
-    ensures fault { (history : List GivenCell) → Remembers all_pids last.old history → length history ≡ at → result ≡ is_fault_at history packet.now }
+    ensures fault { (history : List GivenCell) → Remembers all_pids last.old history
+        → length history ≡ at → result ≡ is_fault_at history packet.now }
     ensures met { (history : List GivenCell) → Remembers all_pids last.old history → (labels : ℕ)
         → Remembers all_pids last.new (history ++ Live packet.now labels ∷ []) }
 {

@@ -47,7 +47,8 @@ impl Info {
     // Processes the next cell, unless memory ran out before.
     #[inline]
     fn meet(&mut self, cell: &Cell) -> Result<(), AllocError>
-        ensures met { OnOk result ((history : List GivenCell) (mark : ℕ) → StandsFor self.old history mark → length history < POSITION_LIMIT
+        ensures met { OnOk result ((history : List GivenCell) (mark : ℕ) → StandsFor self.old history mark
+            → length history < POSITION_LIMIT
             → StandsFor self.new (history ++ cell.now ∷ []) mark) }
         ensures same { self.new.json ≡ self.old.json }
         ensures spent { OnErr result (has_failed self.new ≡ true) }

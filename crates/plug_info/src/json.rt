@@ -39,7 +39,8 @@ use ts_psi::{Component, Pmt};
 /// Appends the object as a line: the stream, the services in force with their components, and the other PIDs.
 pub fn push_json(lines: &mut Vec<Line>, cut: u64, tracker: &Tracker) -> Result<(), AllocError>
     requires { IsReady tracker.now }
-    ensures { OnOk result ((cells : List GivenCell) → Tracks tracker.now cells → lines.new.items ≡ lines.old.items ++ placed_at cut (json_on cells ∷ [])) }
+    ensures { OnOk result ((cells : List GivenCell) → Tracks tracker.now cells
+        → lines.new.items ≡ lines.old.items ++ placed_at cut (json_on cells ∷ [])) }
 {
     let alloc = *lines.allocator();
     let text = whole_json(alloc, tracker)?;
@@ -123,7 +124,8 @@ fn push_services(
 ) -> Result<(), AllocError>
     requires { IsReady tracker.now }
     ensures { OnOk result ((cells : List GivenCell) → Tracks tracker.now cells → scene.now ≡ scene_of cells
-        → string_bytes items.new ≡ string_bytes items.old ++ flat_map (λ s. behind_comma (service_object cells s)) (services_in (pat_of (live_packets cells)))) }
+        → string_bytes items.new ≡ string_bytes items.old
+        ++ flat_map (λ s. behind_comma (service_object cells s)) (services_in (pat_of (live_packets cells)))) }
 {
     let Some(pat) = tracker.force.pat() else {
         return Ok(());
@@ -178,7 +180,8 @@ fn service_tail(
     packets: u64,
     components: &str,
 ) -> Result<String, AllocError>
-    ensures { IfOk result (λ text. string_bytes text ≡ InfoJson.service_tail pid pcr (InfoJson.portion_json scene.now packets) components.now) }
+    ensures { IfOk result (λ text. string_bytes text
+        ≡ InfoJson.service_tail pid pcr (InfoJson.portion_json scene.now packets) components.now) }
 {
     let portion = portion_json(alloc, scene, packets)?;
     let pcr = number_or_null(alloc, pcr)?;
@@ -225,7 +228,8 @@ fn push_components(
 ) -> Result<(), AllocError>
     requires { IsReady tracker.now }
     ensures { OnOk result ((cells : List GivenCell) → Tracks tracker.now cells → scene.now ≡ scene_of cells
-        → string_bytes items.new ≡ string_bytes items.old ++ flat_map (λ c. behind_comma (component_object cells (component_item c))) components.now) }
+        → string_bytes items.new ≡ string_bytes items.old
+        ++ flat_map (λ c. behind_comma (component_object cells (component_item c))) components.now) }
 {
     for component in components {
         let text = component_json(alloc, tracker, scene, component)?;
@@ -301,7 +305,8 @@ fn push_pids(
 ) -> Result<(), AllocError>
     requires { IsReady tracker.now }
     ensures { OnOk result ((cells : List GivenCell) → Tracks tracker.now cells → scene.now ≡ scene_of cells
-        → string_bytes items.new ≡ string_bytes items.old ++ flat_map (λ pid. flat_map behind_comma (pid_objects cells pid)) (numbers_below PID_COUNT)) }
+        → string_bytes items.new ≡ string_bytes items.old
+        ++ flat_map (λ pid. flat_map behind_comma (pid_objects cells pid)) (numbers_below PID_COUNT)) }
 {
     for pid in 0..PID_COUNT {
         push_pid(alloc, items, tracker, scene, pid)?;
@@ -343,7 +348,8 @@ fn pid_json(
     numbers: &PidNumbers,
 ) -> Result<String, AllocError>
     ensures { IfOk result (λ text. (cells : List GivenCell) → Tracks tracker.now cells
-        → string_bytes text ≡ InfoJson.pid_json pid (use_of (live_packets cells) pid) (InfoJson.portion_json scene.now numbers.now.packets) numbers.now) }
+        → string_bytes text
+        ≡ InfoJson.pid_json pid (use_of (live_packets cells) pid) (InfoJson.portion_json scene.now numbers.now.packets) numbers.now) }
 {
     let name = use_of(tracker, pid);
     let portion = portion_json(alloc, scene, numbers.packets)?;

@@ -115,7 +115,8 @@ fn codec_items(alloc: Global, descriptors: &[Descriptor]) -> Result<String, Allo
 
 // Appends a codec, if there is one.
 fn push_codec(alloc: Global, items: &mut String, name: Option<&str>) -> Result<(), AllocError>
-    ensures { OnOk result (string_bytes items.new ≡ string_bytes items.old ++ flat_map behind_comma (named_codec (option_map (λ n. n.now) name.entry))) }
+    ensures { OnOk result (string_bytes items.new ≡ string_bytes items.old
+        ++ flat_map behind_comma (named_codec (option_map (λ n. n.now) name.entry))) }
 {
     if let Some(name) = name {
         let quoted = format!(in alloc; "\"{name}\"")?;

@@ -24,7 +24,8 @@ pub fn push_item(items: &mut String, item: &str) -> Result<(), AllocError>
 
 /// The array of items, each of which has a comma before it.
 pub fn array(alloc: Global, items: &str) -> Result<String, AllocError>
-    ensures { IfOk result (λ text. (texts : List (List ℕ)) → items.now ≡ flat_map behind_comma texts → string_bytes text ≡ InfoJson.array texts) }
+    ensures { IfOk result (λ text. (texts : List (List ℕ)) → items.now ≡ flat_map behind_comma texts
+        → string_bytes text ≡ InfoJson.array texts) }
 {
     let inner = without_comma(items);
     let text = format!(in alloc; "[{inner}]")?;

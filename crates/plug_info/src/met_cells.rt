@@ -49,7 +49,8 @@ impl MetCells {
     /// Counts the cells below a later mark. After `AllocError` it is not to be used any more.
     pub fn take_below(&mut self, mark: u64) -> Result<(), AllocError>
         requires { AllowsMark (HasMet self.old) mark }
-        ensures { OnOk result ((history : List GivenCell) (before : ℕ) → HasMet self.old history before → before ≤ mark → mark ≤ length history
+        ensures { OnOk result ((history : List GivenCell) (before : ℕ) → HasMet self.old history before
+            → before ≤ mark → mark ≤ length history
             → HasMet self.new history mark) }
     {
         while self.mark < mark {

@@ -19,7 +19,8 @@ pub fn push_report(
     json: bool,
 ) -> Result<(), AllocError>
     requires { IsReady tracker.now }
-    ensures { OnOk result ((cells : List GivenCell) → Tracks tracker.now cells → lines.new.items ≡ lines.old.items ++ placed_at cut (report_in json cells)) }
+    ensures { OnOk result ((cells : List GivenCell) → Tracks tracker.now cells
+        → lines.new.items ≡ lines.old.items ++ placed_at cut (report_in json cells)) }
 {
     if json {
         push_json(lines, cut, tracker)?;

@@ -58,7 +58,8 @@ impl SdtInForce {
 
 // Keeps the last of the tables that is a current SDT of the actual transport stream, if there is one.
 fn keep_sdts(alloc: Global, sdt: &mut Option<Sdt>, tables: &[TableRun]) -> Result<(), AllocError>
-    ensures { OnOk result (option_map sdt_held sdt.new ≡ fold (λ old table. newer old (current_sdt table)) (option_map sdt_held sdt.old) tables.now) }
+    ensures { OnOk result (option_map sdt_held sdt.new
+        ≡ fold (λ old table. newer old (current_sdt table)) (option_map sdt_held sdt.old) tables.now) }
 {
     for table in tables {
         keep_sdt(alloc, sdt, table)?;

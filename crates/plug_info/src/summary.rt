@@ -38,7 +38,8 @@ use ts_psi::{Component, Pmt};
 /// Appends the summary: the stream, the services in force with their components, and the other PIDs.
 pub fn push_summary(lines: &mut Vec<Line>, cut: u64, tracker: &Tracker) -> Result<(), AllocError>
     requires { IsReady tracker.now }
-    ensures { OnOk result ((cells : List GivenCell) → Tracks tracker.now cells → lines.new.items ≡ lines.old.items ++ placed_at cut (info_on cells)) }
+    ensures { OnOk result ((cells : List GivenCell) → Tracks tracker.now cells
+        → lines.new.items ≡ lines.old.items ++ placed_at cut (info_on cells)) }
 {
     let numbers = stream_numbers(tracker);
     let scene = Scene {
@@ -184,7 +185,8 @@ fn push_services(
 ) -> Result<(), AllocError>
     requires { IsReady tracker.now }
     ensures { OnOk result ((cells : List GivenCell) → Tracks tracker.now cells → scene.now ≡ scene_of cells
-        → lines.new.items ≡ lines.old.items ++ placed_at cut (flat_map (service_lines cells) (services_in (pat_of (live_packets cells))))) }
+        → lines.new.items ≡ lines.old.items
+        ++ placed_at cut (flat_map (service_lines cells) (services_in (pat_of (live_packets cells))))) }
 {
     let Some(pat) = tracker.force.pat() else {
         return Ok(());

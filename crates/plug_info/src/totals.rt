@@ -38,9 +38,12 @@ impl Totals {
         requires on_pid { pid < PID_COUNT }
         requires room { HasRoom self.old }
         ensures packets { (pids : List ℕ) → IsCounted self.old.packets pids → IsCounted self.new.packets (pids ++ pid ∷ []) }
-        ensures scrambled { (pids : List ℕ) → IsCounted self.old.scrambled pids → IsCounted self.new.scrambled (pids ++ (if is_scrambled then pid ∷ [] else [])) }
-        ensures faults { (pids : List ℕ) → IsCounted self.old.faults pids → IsCounted self.new.faults (pids ++ (if is_fault then pid ∷ [] else [])) }
-        ensures errored { (pids : List ℕ) → IsCounted self.old.errored pids → IsCounted self.new.errored (pids ++ (if is_errored then pid ∷ [] else [])) }
+        ensures scrambled { (pids : List ℕ) → IsCounted self.old.scrambled pids
+            → IsCounted self.new.scrambled (pids ++ (if is_scrambled then pid ∷ [] else [])) }
+        ensures faults { (pids : List ℕ) → IsCounted self.old.faults pids
+            → IsCounted self.new.faults (pids ++ (if is_fault then pid ∷ [] else [])) }
+        ensures errored { (pids : List ℕ) → IsCounted self.old.errored pids
+            → IsCounted self.new.errored (pids ++ (if is_errored then pid ∷ [] else [])) }
     {
         self.packets.add(pid);
         self.scrambled.add_if(is_scrambled, pid);

@@ -46,7 +46,8 @@ impl Tracker {
     /// Counts the cell at a position. After `AllocError` it is not to be used any more.
     pub fn take(&mut self, at: u64, cell: &Cell) -> Result<(), AllocError>
         requires { TracksSome self.old at }
-        ensures { OnOk result ((cells : List GivenCell) → Tracks self.old cells → length cells ≡ at → Tracks self.new (cells ++ cell.now ∷ [])) }
+        ensures { OnOk result ((cells : List GivenCell) → Tracks self.old cells → length cells ≡ at
+            → Tracks self.new (cells ++ cell.now ∷ [])) }
     {
         match cell.live() {
             Some(live) => self.take_packet(at, &live.packet),

@@ -14,7 +14,8 @@ use Rattle.plug_pcr.specs.declared.pcrverify_conf.PcrverifyConf.{PcrverifyConf}
 
 -- the last PCRs are kept; the PCRs before the mark are in the count and their faults in the lines, and those from the
 -- mark on are in the notes
-pub record Verifies (conf : PcrverifyConf) (last : LastClocks) (met : List ClockNote) (faults : List ClockFault) (count : ℕ) (lines : List Line) (history : List Cell) (mark : ℕ) : Type 0 where
+pub record Verifies (conf : PcrverifyConf) (last : LastClocks) (met : List ClockNote) (faults : List ClockFault)
+    (count : ℕ) (lines : List Line) (history : List Cell) (mark : ℕ) : Type 0 where
   pub some_rate : 1 ≤ conf.bitrate
   pub remembers : Remembers conf last history
   pub keeps_met : KeepsNotes (note_on conf) met history mark

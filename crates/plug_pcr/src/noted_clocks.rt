@@ -50,7 +50,8 @@ impl NotedClocks {
 
     /// Appends the lines of the faults below a position. Out of memory the lines are unchanged.
     pub fn push_lines_below(&self, lines: &mut Vec<Line>, mark: u64) -> Result<(), AllocError>
-        ensures ok { OnOk result (lines.new.items ≡ lines.old.items ++ map line_of_fault (take_while (λ fault. nat_lt (place_of_fault fault) mark) self.now.faults.items)) }
+        ensures ok { OnOk result (lines.new.items ≡ lines.old.items
+            ++ map line_of_fault (take_while (λ fault. nat_lt (place_of_fault fault) mark) self.now.faults.items)) }
         ensures err { OnErr result (lines.new.items ≡ lines.old.items) }
     {
         push_lines_below(lines, &self.faults, mark)

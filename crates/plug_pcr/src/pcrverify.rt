@@ -72,7 +72,9 @@ impl Pcrverify {
         ensures met { OnOk result ((history : List GivenCell) (mark : ℕ) → StandsFor self.old history mark
             → length history ≡ at → (labels : ℕ) → StandsFor self.new (history ++ Live packet.now labels ∷ []) mark) }
         ensures same { conf_of self.new ≡ conf_of self.old }
-        ensures err { OnErr result ((self.new.last ≡ self.old.last) × (self.new.noted.met.items ≡ self.old.noted.met.items) × (self.new.noted.faults.items ≡ self.old.noted.faults.items) × (self.new.count ≡ self.old.count) × (self.new.lines.items ≡ self.old.lines.items)) }
+        ensures err { OnErr result ((self.new.last ≡ self.old.last) × (self.new.noted.met.items ≡ self.old.noted.met.items)
+            × (self.new.noted.faults.items ≡ self.old.noted.faults.items)
+            × (self.new.count ≡ self.old.count) × (self.new.lines.items ≡ self.old.lines.items)) }
     {
         if !self.pids.selects(false, packet.pid()) {
             return Ok(());
@@ -92,7 +94,9 @@ impl Pcrverify {
         ensures met { OnOk result ((history : List GivenCell) (mark : ℕ) → StandsFor self.old history mark
             → length history ≡ at → (labels : ℕ) → StandsFor self.new (history ++ Live packet.now labels ∷ []) mark) }
         ensures same { conf_of self.new ≡ conf_of self.old }
-        ensures err { OnErr result ((self.new.last ≡ self.old.last) × (self.new.noted.met.items ≡ self.old.noted.met.items) × (self.new.noted.faults.items ≡ self.old.noted.faults.items) × (self.new.count ≡ self.old.count) × (self.new.lines.items ≡ self.old.lines.items)) }
+        ensures err { OnErr result ((self.new.last ≡ self.old.last) × (self.new.noted.met.items ≡ self.old.noted.met.items)
+            × (self.new.noted.faults.items ≡ self.old.noted.faults.items)
+            × (self.new.count ≡ self.old.count) × (self.new.lines.items ≡ self.old.lines.items)) }
     {
         let pid = packet.pid();
         let last = self.last.on(pid);

@@ -11,7 +11,8 @@ use Rattle.plugin_notes.specs.declared.tally.Tally.{Tally}
 
 -- the packets before the mark are in the counts and, with `all`, in the lines; those from the mark on are in the
 -- notes
-pub record Counts (conf : CountConf) (notes : List Note) (tally : Tally) (lines : List Line) (history : List Cell) (mark : ℕ) : Type 0 where
+pub record Counts (conf : CountConf) (notes : List Note) (tally : Tally)
+    (lines : List Line) (history : List Cell) (mark : ℕ) : Type 0 where
   pub keeps : KeepsNotes (note_on conf) notes history mark
   pub tallied : IsTallied tally (notes_below (note_on conf) mark history)
   pub lined : lines ≡ (if conf.all then map line_of_note (notes_below (note_on conf) mark history) else [])

@@ -80,7 +80,8 @@ impl Continuity {
         ensures same { conf_of self.new ≡ conf_of self.old }
         ensures full { IsErr result → self.old.notes.capacity ≤ length self.old.notes.items }
         ensures reserved { self.new.notes.capacity ≡ self.old.notes.capacity }
-        ensures err { OnErr result ((self.new.last ≡ self.old.last) × (self.new.notes.items ≡ self.old.notes.items) × (self.new.lines.items ≡ self.old.lines.items) × (packet.new ≡ packet.old)) }
+        ensures err { OnErr result ((self.new.last ≡ self.old.last) × (self.new.notes.items ≡ self.old.notes.items)
+            × (self.new.lines.items ≡ self.old.lines.items) × (packet.new ≡ packet.old)) }
     {
         push_if_any(&mut self.notes, self.last.fault(at, packet))?;
         let right = self.last.keep(packet);

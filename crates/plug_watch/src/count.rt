@@ -82,7 +82,8 @@ fn push_lines_if(
     notes: &HeapCircularBuffer<Note>,
     mark: u64,
 ) -> Result<(), AllocError>
-    ensures ok { OnOk result (lines.new.items ≡ lines.old.items ++ (if wanted then map line_of_note (take_while (λ note. nat_lt (place_of note) mark) notes.now.items) else [])) }
+    ensures ok { OnOk result (lines.new.items ≡ lines.old.items
+        ++ (if wanted then map line_of_note (take_while (λ note. nat_lt (place_of note) mark) notes.now.items) else [])) }
     ensures err { OnErr result (lines.new.items ≡ lines.old.items) }
     ensures room { wanted ≡ false → IsOk result }
 {

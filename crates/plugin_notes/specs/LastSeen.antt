@@ -69,4 +69,5 @@ pub record IsTable (last : LastPackets) : Type 0 where
 -- what is kept of each checked PID is that of the packets on it
 pub record Remembers (conf : ContinuityConf) (last : LastPackets) (history : List Cell) : Type 0 where
   pub table : IsTable last
-  pub each : (pid : ℕ) → pid < PID_COUNT → is_watched conf pid ≡ true → slice_index_or last.seen.items pid None ≡ seen_in (packets_of pid history)
+  pub each : (pid : ℕ) → pid < PID_COUNT → is_watched conf pid ≡ true
+      → slice_index_or last.seen.items pid None ≡ seen_in (packets_of pid history)

@@ -28,7 +28,8 @@ pub record TakesBelow {N : Type 0} (at : N → ℕ) (mark : ℕ) (old new : List
 
 -- and they were counted: if sums were those of some notes, they are now those of these notes followed by the removed
 -- ones
-pub record Folds {N S : Type 0} (at : N → ℕ) (Counted : S → List N → Type 0) (mark : ℕ) (old new : List N) (sums sums_new : S) : Type 0 where
+pub record Folds {N S : Type 0} (at : N → ℕ) (Counted : S → List N → Type 0) (mark : ℕ) (old new : List N)
+    (sums sums_new : S) : Type 0 where
   pub takes : TakesBelow at mark old new
   pub counted : (before : List N) → Counted sums before → Counted sums_new (before ++ takes.taken)
 

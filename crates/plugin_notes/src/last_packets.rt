@@ -37,7 +37,8 @@ impl LastPackets {
     #[inline]
     pub fn fault(&self, at: u64, packet: &Packet) -> Option<ContinuityError>
         requires { IsTable self.now }
-        ensures { (conf : GivenConf) (history : List GivenCell) → Remembers conf self.now history → is_watched conf (pid_of packet.now) ≡ true
+        ensures { (conf : GivenConf) (history : List GivenCell) → Remembers conf self.now history
+            → is_watched conf (pid_of packet.now) ≡ true
             → length history ≡ at → option_to_list result ≡ error_on conf history packet.now }
     {
         fault_behind(at, self.on(packet.pid()), packet)
@@ -47,9 +48,11 @@ impl LastPackets {
     #[inline]
     pub fn keep(&mut self, packet: &Packet) -> u8
         requires { IsTable self.old }
-        ensures right { (conf : GivenConf) (history : List GivenCell) → Remembers conf self.old history → is_watched conf (pid_of packet.now) ≡ true
+        ensures right { (conf : GivenConf) (history : List GivenCell) → Remembers conf self.old history
+            → is_watched conf (pid_of packet.now) ≡ true
             → result ≡ right_counter (packets_of (pid_of packet.now) history ++ packet.now ∷ []) }
-        ensures kept { (conf : GivenConf) (history : List GivenCell) → Remembers conf self.old history → is_watched conf (pid_of packet.now) ≡ true
+        ensures kept { (conf : GivenConf) (history : List GivenCell) → Remembers conf self.old history
+            → is_watched conf (pid_of packet.now) ≡ true
             → (labels : ℕ) → Remembers conf self.new (history ++ Live packet.now labels ∷ []) }
         ensures range { result < 16 }
     {

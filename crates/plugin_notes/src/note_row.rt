@@ -94,7 +94,8 @@ pub fn push_lines_below<N: LineNote>(
     notes: &HeapCircularBuffer<N>,
     mark: u64,
 ) -> Result<(), AllocError>
-    ensures ok { OnOk result (lines.new.items ≡ lines.old.items ++ map N.line_of (take_while (λ note. nat_lt (N.place note) mark) notes.now.items)) }
+    ensures ok { OnOk result (lines.new.items ≡ lines.old.items
+        ++ map N.line_of (take_while (λ note. nat_lt (N.place note) mark) notes.now.items)) }
     ensures err { OnErr result (lines.new.items ≡ lines.old.items) }
 {
     let mut more = lines_below(*lines.allocator(), notes, mark)?;
