@@ -8,6 +8,7 @@ use Rattle.window_ring.specs.declared.view.Key.{Key}
 use Rattle.window_ring.specs.declared.stage_seat.StageSeat.{StageSeat}
 use Rattle.window_ring.specs.Seats.{seen_of, IsSeat}
 
+-- the seat belongs to a stage that has not ended, in a ring whose plan has no users of joint termination
 pub record GoesOn (key : Key) (table : TableId) (seat : StageSeat) : Type 0 where
   pub seat_is : IsSeat key table seat
   pub words : 0 < table.words

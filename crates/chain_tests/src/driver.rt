@@ -14,8 +14,11 @@ use std::marker::Model;
 /// A visit: so many cells are given, with a word to the core.
 #[derive(Clone, Copy)]
 pub(crate) struct Step {
+    /// The stage that makes the visit; 0 is the input.
     pub(crate) stage: usize,
+    /// How many cells it gives.
     pub(crate) done: usize,
+    /// What it says to the core.
     pub(crate) word: StageWord,
 }
 

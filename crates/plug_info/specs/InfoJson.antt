@@ -15,14 +15,16 @@ use Rattle.plug_info.specs.declared.pid_numbers.PidNumbers.{PidNumbers}
 use Rattle.plug_info.specs.declared.scene.Scene.{Scene}
 use Rattle.plug_info.specs.declared.stream_numbers.StreamNumbers.{StreamNumbers}
 
--- a text after a comma; with it, texts separated by commas, and an array of texts
+-- a text after a comma
 abbrev pub behind_comma : List ℕ → List ℕ
 behind_comma text = codes "," ++ text
 
+-- texts separated by commas
 abbrev pub joined : List (List ℕ) → List ℕ
 joined [] = []
 joined (text ∷ texts) = text ++ flat_map behind_comma texts
 
+-- an array of texts
 abbrev pub array : List (List ℕ) → List ℕ
 array texts = codes "[" ++ (joined texts ++ codes "]")
 
@@ -35,6 +37,7 @@ number_or_null (Some n) = decimal n
 abbrev pub quoted : List ℕ → List ℕ
 quoted text = codes "\"" ++ (text ++ codes "\"")
 
+-- a name in quotation marks, or `null`
 abbrev pub name_or_null : Option (List ℕ) → List ℕ
 name_or_null None = codes "null"
 name_or_null (Some name) = quoted name
@@ -54,6 +57,7 @@ abbrev pub bytes_field : List ℕ → Option (List ℕ) → List ℕ
 bytes_field key None = codes "\"" ++ (key ++ codes "\":null")
 bytes_field key (Some bytes) = text_field key bytes (text_of bytes)
 
+-- the hexadecimal digits of bytes in quotation marks
 abbrev pub quoted_hex : List ℕ → List ℕ
 quoted_hex bytes = quoted (hex_text bytes)
 
@@ -76,17 +80,17 @@ portion_json scene packets = codes "\"packets\":"
 abbrev pub troubles_json : PidNumbers → List ℕ
 troubles_json numbers = codes ",\"scrambled\":" ++ (decimal numbers.scrambled ++ (codes ",\"faults\":" ++ decimal numbers.faults))
 
--- the object of the stream:
--- `{"packets":<n>,"bytes":<n>,"transport_stream_id":<id>,"bitrate":<n>,"nulls":<n>,"errored":<n>,"scrambled":<n>,"faults":<n>}`;
--- first its half up to the bit rate
+-- the first half of the object of the stream: `{"packets":<n>,"bytes":<n>,"transport_stream_id":<id>,"bitrate":<n>`
 abbrev pub stream_head : StreamNumbers → List ℕ
 stream_head s = codes "{\"packets\":" ++ (decimal s.packets ++ (codes ",\"bytes\":" ++ (decimal (s.packets * PACKET_SIZE)
     ++ (codes ",\"transport_stream_id\":" ++ (number_or_null s.stream_id ++ (codes ",\"bitrate\":" ++ number_or_null s.rate))))))
 
+-- its second half: `,"nulls":<n>,"errored":<n>,"scrambled":<n>,"faults":<n>}`
 abbrev pub stream_tail : StreamNumbers → List ℕ
 stream_tail s = codes ",\"nulls\":" ++ (decimal s.nulls ++ (codes ",\"errored\":" ++ (decimal s.errored
     ++ (codes ",\"scrambled\":" ++ (decimal s.scrambled ++ (codes ",\"faults\":" ++ (decimal s.faults ++ codes "}")))))))
 
+-- the object of the stream
 abbrev pub stream_json : StreamNumbers → List ℕ
 stream_json s = stream_head s ++ stream_tail s
 
@@ -100,6 +104,7 @@ abbrev pub service_tail : ℕ → Option ℕ → List ℕ → List ℕ → List 
 service_tail pmt pcr portion components = codes ",\"pmt\":" ++ (decimal pmt ++ (codes ",\"pcr\":" ++ (number_or_null pcr
     ++ (codes "," ++ (portion ++ (codes ",\"components\":" ++ (components ++ codes "}")))))))
 
+-- the object of a service
 abbrev pub service_json : ℕ → ℕ → Option (List ℕ) → Option ℕ → List ℕ → List ℕ → List ℕ
 service_json id pmt body pcr portion components = service_head id body ++ service_tail pmt pcr portion components
 
@@ -109,10 +114,11 @@ language_at step body place =
     let bytes = take 3 (drop place body) in
     if is_entry step (length body) place then text_or_hex bytes (text_of bytes) ∷ [] else []
 
--- the languages of a descriptor, and of a list of descriptors
+-- the languages of a descriptor
 abbrev pub languages_in : TaggedBody → List (List ℕ)
 languages_in d = flat_map (language_at (language_step d.tag) d.body) (numbers_below (length d.body))
 
+-- the languages of a list of descriptors
 abbrev pub languages_of : List TaggedBody → List (List ℕ)
 languages_of ds = flat_map languages_in ds
 
@@ -121,9 +127,11 @@ abbrev pub named_codec : Option (List ℕ) → List (List ℕ)
 named_codec None = []
 named_codec (Some name) = quoted name ∷ []
 
+-- the codec that a descriptor names by its tag
 abbrev pub codec_in : TaggedBody → List (List ℕ)
 codec_in d = named_codec (text_for codec_names d.tag)
 
+-- the codecs of a list of descriptors
 abbrev pub codecs_of : List TaggedBody → List (List ℕ)
 codecs_of ds = flat_map codec_in ds
 
@@ -141,6 +149,7 @@ abbrev pub component_tail : Scene → PidNumbers → ℕ → List ℕ
 component_tail scene numbers users = portion_json scene numbers.packets
     ++ (troubles_json numbers ++ (codes ",\"services\":" ++ (decimal users ++ codes "}")))
 
+-- the object of a component
 abbrev pub component_json : Scene → ℕ → ℕ → List TaggedBody → PidNumbers → ℕ → List ℕ
 component_json scene pid kind ds numbers users = component_head pid kind ++ (component_marks ds ++ component_tail scene numbers users)
 

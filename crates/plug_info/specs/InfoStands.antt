@@ -1,4 +1,4 @@
--- When a value of `info` stands for the cells that it met. This project's own rule.
+-- The cells that a value of `info` stands for. This project's own rule.
 use Rattle.std.specs.Prelude.{Bool, ℕ, List}
 use Rattle.ts_packet.specs.declared.cell.Cell.{Cell}
 use Rattle.plug_info.specs.declared.info_conf.InfoConf.{InfoConf}

@@ -31,11 +31,12 @@ quoted_or_hex bytes (Some text) = if list_all is_plain text then codes "\"" ++ (
 abbrev pub shown : List ℕ → List ℕ
 shown bytes = quoted_or_hex bytes (text_of bytes)
 
--- bytes, or `none`; a number, or `none`
+-- bytes as they are shown, or `none`
 abbrev pub shown_or_none : Option (List ℕ) → List ℕ
 shown_or_none None = codes "none"
 shown_or_none (Some bytes) = shown bytes
 
+-- a number, or `none`
 abbrev pub number_or_none : Option ℕ → List ℕ
 number_or_none None = codes "none"
 number_or_none (Some n) = decimal n
@@ -44,6 +45,7 @@ number_or_none (Some n) = decimal n
 abbrev pub hundredths : ℕ → ℕ → ℕ
 hundredths part whole = if whole == 0 then 0 else part * 10000 / whole
 
+-- hundredths of a percent as percent with two decimals
 abbrev pub percent : ℕ → List ℕ
 percent h = decimal (h / 100) ++ (codes "." ++ (decimal (h / 10 % 10) ++ (decimal (h % 10) ++ codes "%")))
 
@@ -51,6 +53,7 @@ percent h = decimal (h / 100) ++ (codes "." ++ (decimal (h / 10 % 10) ++ (decima
 abbrev pub rate_part : ℕ → ℕ → ℕ → ℕ
 rate_part rate part whole = if whole == 0 then 0 else rate * part / whole
 
+-- the part of the stream's bit rate, or `none`
 abbrev pub rate_text : Option ℕ → ℕ → ℕ → List ℕ
 rate_text None part whole = codes "none"
 rate_text (Some rate) part whole = decimal (rate_part rate part whole)
@@ -60,17 +63,18 @@ abbrev pub portion_text : Scene → ℕ → List ℕ
 portion_text scene packets = codes " packets " ++ (decimal packets ++ (codes " share " ++ (percent (hundredths packets scene.whole)
     ++ (codes " bitrate " ++ rate_text scene.rate packets scene.whole))))
 
--- the line of the stream: `stream packets <n> bytes <n> transport_stream_id <id> bitrate <n> nulls <n> share
--- <percent> errored <n> scrambled <n> faults <n>`; first its half up to the bit rate
+-- the first half of the line of the stream: `stream packets <n> bytes <n> transport_stream_id <id> bitrate <n>`
 abbrev pub stream_head : StreamNumbers → List ℕ
 stream_head s = codes "stream packets " ++ (decimal s.packets ++ (codes " bytes " ++ (decimal (s.packets * PACKET_SIZE)
     ++ (codes " transport_stream_id " ++ (number_or_none s.stream_id ++ (codes " bitrate " ++ number_or_none s.rate))))))
 
+-- its second half: ` nulls <n> share <percent> errored <n> scrambled <n> faults <n>`
 abbrev pub stream_tail : StreamNumbers → List ℕ
 stream_tail s = codes " nulls " ++ (decimal s.nulls ++ (codes " share " ++ (percent (hundredths s.nulls s.packets)
     ++ (codes " errored " ++ (decimal s.errored ++ (codes " scrambled " ++ (decimal s.scrambled
     ++ (codes " faults " ++ decimal s.faults))))))))
 
+-- the line of the stream
 abbrev pub stream_text : StreamNumbers → List ℕ
 stream_text s = stream_head s ++ stream_tail s
 
@@ -89,6 +93,7 @@ service_head id body = codes "service " ++ (decimal id ++ (codes " type " ++ (nu
 abbrev pub service_tail : ℕ → Option ℕ → List ℕ → List ℕ
 service_tail pmt pcr portion = codes " pmt " ++ (decimal pmt ++ (codes " pcr " ++ (number_or_none pcr ++ portion)))
 
+-- the line of a service
 abbrev pub service_text : ℕ → ℕ → Option (List ℕ) → Option ℕ → List ℕ → List ℕ
 service_text id pmt body pcr portion = service_head id body ++ service_tail pmt pcr portion
 
@@ -116,10 +121,11 @@ abbrev pub codec_text : Option (List ℕ) → List ℕ
 codec_text None = []
 codec_text (Some name) = codes " codec " ++ name
 
--- the codec and the languages of a descriptor; and those of a list of descriptors
+-- the codec and the languages of a descriptor
 abbrev pub mark_text : TaggedBody → List ℕ
 mark_text d = codec_text (text_for codec_names d.tag) ++ language_texts (language_step d.tag) d.body
 
+-- those of a list of descriptors
 abbrev pub marks_text : List TaggedBody → List ℕ
 marks_text ds = flat_map mark_text ds
 

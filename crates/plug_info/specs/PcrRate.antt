@@ -36,10 +36,11 @@ abbrev pub ways_of : List Met → List Way
 ways_of [] = []
 ways_of (first ∷ rows) = ways_behind first rows
 
--- the sum of their positions, and the sum of their units
+-- the sum of the positions of intervals
 abbrev pub positions_in : List Way → ℕ
 positions_in ways = sum (map (λ way. way.positions) ways)
 
+-- the sum of the units of intervals
 abbrev pub units_in : List Way → ℕ
 units_in ways = sum (map (λ way. way.units) ways)
 

@@ -58,16 +58,18 @@ abbrev pub behind_text : List ℕ → List ℕ
 behind_text [] = []
 behind_text (n ∷ bytes) = drop n bytes
 
--- service_type, service_provider_name and service_name
+-- service_type in the body of a service_descriptor
 abbrev pub type_in : Option (List ℕ) → Option ℕ
 type_in None = None
 type_in (Some []) = None
 type_in (Some (kind ∷ bytes)) = Some kind
 
+-- service_provider_name in the body of a service_descriptor
 abbrev pub provider_in : Option (List ℕ) → Option (List ℕ)
 provider_in None = None
 provider_in (Some body) = counted_text (drop 1 body)
 
+-- service_name in the body of a service_descriptor
 abbrev pub name_in : Option (List ℕ) → Option (List ℕ)
 name_in None = None
 name_in (Some body) = counted_text (behind_text (drop 1 body))

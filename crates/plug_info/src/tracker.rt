@@ -12,9 +12,13 @@ use ts_packet::{Cell, Packet};
 #[derive(Drop)]
 pub struct Tracker {
     last: LastPackets,
+    /// The counts by PID.
     pub(crate) totals: Totals,
+    /// What is kept of the PCRs.
     pub(crate) spans: Spans,
+    /// The SDT in force.
     pub(crate) sdt: SdtInForce,
+    /// The PAT and the PMTs in force.
     pub(crate) force: InForce,
 }
 

@@ -14,17 +14,19 @@ abbrev pub note_on : CountConf → List Cell → List ℕ → List Note
 note_on conf history packet =
     if is_counted conf packet then record { at = length history; pid = pid_of packet } ∷ [] else []
 
--- the position of a note, and its PID
+-- the position of a note
 abbrev pub place_of : Note → ℕ
 place_of note = note.at
 
+-- the PID of a note
 abbrev pub pid_in : Note → ℕ
 pid_in note = note.pid
 
--- the text of a note's line, and the line
+-- the text of a note's line
 abbrev pub text_on : Note → List ℕ
 text_on note = packet_text note.at note.pid
 
+-- the line of a note
 abbrev pub line_of_note : Note → Line
 line_of_note note = record { at = note.at; text = text_on note }
 

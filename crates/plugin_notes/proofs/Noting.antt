@@ -18,7 +18,7 @@ use Rattle.plugin_notes.specs.Notes.{notes_after}
 pub record IsNoteAt {N : Type 0} (at : N → ℕ) (position : ℕ) (notes : List N) : Type 0 where
   pub one : (notes ≡ []) ⊎ ((note : N) × (notes ≡ note ∷ []) × (at note ≡ position))
 
--- the first note, where there is one, does not pass
+-- the first note, if there is one, does not pass
 abbrev pub fails_first : {N : Type 0} → (N → Bool) → List N → Bool
 fails_first passes [] = true
 fails_first passes (note ∷ notes) = not (passes note)

@@ -10,6 +10,7 @@ use Rattle.switch_args.specs.declared.settings.SwitchSettings.{SwitchSettings}
 use Rattle.switch_args.specs.declared.words.WordsFault.{WordsFault}
 use Rattle.switch_args.specs.declared.words.WordsFault.TheVariants.{At, NoMemory}
 
+-- the definition's word for what the code expects
 abbrev pub expected_of : code.Expected → Expected
 expected_of OptionOrInput = an_option_or_input
 expected_of Cycle = the_cycle
@@ -21,10 +22,12 @@ expected_of OutputKind = the_output_kind
 expected_of OutputName = the_output_name
 expected_of Nothing = nothing
 
+-- the definition's word for the code's output
 abbrev pub output_of : SwitchOutput → Output
 output_of (out.File name) = to_file name
 output_of out.Drop = dropped
 
+-- what the words read so far gave
 abbrev pub given_of : Reading → Given
 given_of r = record { cycle = r.cycle; buffer = r.buffer; inputs = r.inputs.items; output = output_of r.output }
 
@@ -33,6 +36,7 @@ abbrev pub Went : Reading → List ℕ → Bool → Reading → Type 0
 Went old word true new = step (given_of old) (expected_of old.expected) word ≡ Some (place (given_of new) (expected_of new.expected))
 Went old word false new = step (given_of old) (expected_of old.expected) word ≡ None
 
+-- what settings stand for
 abbrev pub given_of_settings : SwitchSettings → Given
 given_of_settings w = record { cycle = w.cycle; buffer = w.buffer; inputs = w.inputs.items; output = output_of w.output }
 

@@ -18,9 +18,13 @@ pub(crate) struct DeskPlan {
     pub(crate) opens: &'static [u64],
     /// The reads of each input that fail.
     pub(crate) reads: &'static [u64],
+    /// The writes of the output that fail.
     pub(crate) writes: &'static [u64],
+    /// The reports that fail.
     pub(crate) reports: &'static [u64],
+    /// The closings of the output that fail.
     pub(crate) closes: &'static [u64],
+    /// How many bytes an output holds at most, and the reports.
     pub(crate) room: usize,
 }
 

@@ -19,6 +19,7 @@ impl Steps {
         }
     }
 
+    /// The calls so far, as text.
     pub(crate) fn text(&self) -> &str {
         self.text.as_str()
     }

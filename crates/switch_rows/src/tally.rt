@@ -3,7 +3,9 @@
 /// A count of runs, and of those with the same result as another one.
 #[derive(Clone, Copy)]
 pub(crate) struct Tally {
+    /// How many runs were counted.
     pub(crate) runs: u32,
+    /// How many of them had the same result.
     pub(crate) alike: u32,
 }
 
