@@ -10,7 +10,7 @@ use std::alloc::{AllocError, Global};
 use std::process::Abort;
 use std::test::Fail;
 
-// A `static` calls no function.
+// A macro, since a `static` calls no function.
 macro_rules! step {
     ($stage:literal, $done:literal, $agreed:expr, $ended:expr) => {
         Step {
@@ -399,7 +399,7 @@ fn faults_before_the_cut(rt: HostRuntime) -> Result<(), Fail> {
     Ok(())
 }
 
-/// Joint termination at the same place is the cause.
+/// A read fault at the joint cut: joint termination is the cause.
 static FAULTS_AT_THE_CUT_READ_FAULT: [Step; 11] = [
     gives!(0, 0),
     ends!(0, 5, StageEnd::Input(InputEnd::ReadFault)),
@@ -455,7 +455,7 @@ fn write_fault_at_the_cut() -> &'static [Step] {
     &FAULTS_AT_THE_CUT_WRITE_FAULT
 }
 
-/// So is a last packet.
+/// A last packet at the joint cut is the cause.
 static FAULTS_AT_THE_CUT_LAST_PACKET: [Step; 10] = [
     gives!(0, 0),
     gives!(0, 8),

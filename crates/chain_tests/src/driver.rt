@@ -115,7 +115,7 @@ impl Driver {
         requires { MayVisit self.old.plan (progress_of_core self.old) self.old.told step.stage step.done step.word }
         ensures { self.new.plan ≡ self.old.plan }
     {
-        // It runs nothing: the proof cites it.
+        // A law, which runs nothing.
         one_visit();
         let news = self.core.visit(step.stage, step.done, step.word);
         self.told = told_by(step.stage, self.plan.plugins + 1, news.limit, self.told);

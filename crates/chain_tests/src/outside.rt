@@ -103,7 +103,7 @@ struct CopyRow {
     bytes: usize,
 }
 
-// A `static` calls no function.
+// A macro, since a `static` calls no function.
 macro_rules! rows {
     ($($fails:expr, $room:literal, $end:expr, $outputs:literal, $bytes:literal;)*) => {
         [$(CopyRow { fails: $fails, room: $room, end: $end, outputs: $outputs, bytes: $bytes }),*]
@@ -221,12 +221,12 @@ fn a_steady_desk_counts(rt: HostRuntime) -> Result<(), Fail> {
     Ok(())
 }
 
-// A value that may go to another thread.
+// The value, which has to be of a type that may be sent to another thread.
 fn sent<T: Send>(value: T) -> T {
     value
 }
 
-// Opens a file and reads it whole, and opens and closes an output.
+// Opens a file and reads it whole, and opens and closes an output; source and sink are of types that may be sent.
 fn crossed<D: Desk>(
     alloc: Global,
     desk: &mut D,

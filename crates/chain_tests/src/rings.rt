@@ -21,6 +21,7 @@ fn begins(ring: &Ring, seat: &StageSeat)
     requires fresh { IsFresh (key_of ring.now) (table_of ring.now) seat.now.stage seat.now }
     ensures { GoesOn (key_of ring.now) (table_of ring.now) seat.now }
 {
+    // A law, which runs nothing.
     seat_laws();
     let _ring = ring;
     let _seat = seat;
@@ -41,7 +42,7 @@ fn front(ring: &Ring, seat: &mut StageSeat) -> FrontCells
     ensures within { result.len ≤ length seat.new.hand.cells }
     ensures stage { seat.new.stage ≡ seat.old.stage }
 {
-    // It runs nothing: the proof cites it.
+    // A law, which runs nothing.
     news_promises();
     let _ring = ring;
     match seat.lift_front() {
@@ -68,7 +69,7 @@ fn gives(ring: &Ring, seat: &mut StageSeat, done: usize) -> bool
     ensures goes { IsTrue result → GoesOn (key_of ring.now) (table_of ring.now) seat.new }
     ensures stage { seat.new.stage ≡ seat.old.stage }
 {
-    // It runs nothing: the proof cites it.
+    // Laws, which run nothing.
     one_visit();
     seat_laws();
     let front = front(ring, seat);
@@ -90,7 +91,7 @@ fn ends(ring: &Ring, seat: &mut StageSeat) -> bool
     requires { GoesOn (key_of ring.now) (table_of ring.now) seat.old }
     ensures { IsTrue result → IsDone (key_of ring.now) (table_of ring.now) seat.old.stage seat.new }
 {
-    // It runs nothing: the proof cites it.
+    // Laws, which run nothing.
     one_visit();
     seat_laws();
     let word = StageWord {

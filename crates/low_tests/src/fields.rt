@@ -36,7 +36,7 @@ static EACH_KIND: Layout = Layout {
     items: None,
 };
 
-/// Data in items of two bytes each.
+/// A number, and items of two bytes each.
 static PAIRS: Layout = Layout {
     tag: 1,
     name: "pairs",
@@ -59,6 +59,7 @@ fn again(alloc: Global, layout: &Layout, from: &[u8]) -> Result<Vec<u8>, NotRead
     requires sound { IsTrue (page_sound (page layout.now)) }
 {
     let body = read_body(alloc, layout, from)?;
+    // A law, which runs nothing.
     fit_page_is_shaped();
     let bytes = write_body(alloc, layout, &body)?;
     Ok(bytes)

@@ -15,7 +15,7 @@ use ts_psi::{Cat, Component, ComponentList, Pat, PatService, PatServiceList, Pmt
 use ts_section::{Section, TableRun};
 use ts_table_rows::TableRefusal;
 
-/// A PAT of stream 1 with service 1 on PID 4096, as many multiplexers write it.
+/// A PAT of transport stream 1 with service 1 on PID 4096, as many multiplexers write it.
 const PAT: [u8; 16] = [
     0x00, 0xB0, 0x0D, 0x00, 0x01, 0xC1, 0x00, 0x00, 0x00, 0x01, 0xF0, 0x00, 0x2A, 0xB1, 0x04, 0xB2,
 ];

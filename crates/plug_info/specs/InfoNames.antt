@@ -7,7 +7,7 @@ abbrev pub text_for : List (ℕ × List ℕ) → ℕ → Option (List ℕ)
 text_for [] n = None
 text_for (row ∷ rows) n = if row.0 == n then Some row.1 else text_for rows n
 
--- stream_type
+-- the names of stream_type
 abbrev pub stream_type_names : List (ℕ × List ℕ)
 stream_type_names = (0x01, codes "MPEG-1 video")
     ∷ (0x02, codes "MPEG-2 video")

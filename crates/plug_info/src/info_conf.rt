@@ -1,4 +1,5 @@
 //! The settings of `info`.
+
 /// Settings of `info`.
 #[derive(Drop)]
 pub struct InfoConf {

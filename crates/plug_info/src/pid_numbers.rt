@@ -1,4 +1,5 @@
 //! The counts of a PID.
+
 /// How many packets of each kind a PID has.
 #[derive(Clone, Copy, PartialEq, Eq)]
 pub struct PidNumbers {

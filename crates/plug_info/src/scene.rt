@@ -1,4 +1,5 @@
 //! What shares and bit rates are parts of.
+
 /// The totals of which shares and bit rates are parts.
 #[derive(Clone, Copy, PartialEq, Eq)]
 pub struct Scene {

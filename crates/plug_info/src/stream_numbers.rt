@@ -1,4 +1,5 @@
 //! The numbers of the whole stream.
+
 /// The numbers of the whole stream.
 #[derive(Clone, Copy, PartialEq, Eq)]
 pub struct StreamNumbers {

@@ -8,7 +8,7 @@ use std::alloc::{AllocError, Global};
 pub struct ClockFault {
     /// The position of the packet.
     pub at: u64,
-    /// Its PID.
+    /// Its PID, 0 to 8191.
     pub pid: u16,
     /// How far its PCR is from the expected one, in units of the 27 MHz clock.
     pub jitter: u64,

@@ -24,5 +24,6 @@ pub fn constant_rate_is_exact_to_a_unit()
     ensures { (bitrate start before packets : ℕ) → 1 ≤ bitrate
         → jitter_of bitrate packets (clock_at bitrate start before) (clock_at bitrate start (before + packets)) ≤ 1 }
 {
+    // A law, which runs nothing.
     jitter_is_the_least_change();
 }

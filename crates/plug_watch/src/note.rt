@@ -8,7 +8,7 @@ use std::alloc::{AllocError, Global};
 pub struct Note {
     /// The position of the packet.
     pub at: u64,
-    /// Its PID.
+    /// Its PID, 0 to 8191.
     pub pid: u16,
 }
 

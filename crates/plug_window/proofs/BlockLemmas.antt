@@ -8,7 +8,7 @@ use Rattle.std.proofs.lemmas.List.Filters.{length-filter_both}
 use Rattle.plug_window.specs.CompactRule.{ahead, parted, block, compacted}
 use Rattle.plug_window.specs.BlockState.{Collected, first_of, shifted, filled, counted, Keeps, CollectsWhere, Collects}
 
--- what holds of either side of a choice holds of the choice
+-- what holds for either branch of an `if` holds for the `if`
 on_if : {Y : Type 0} (P : Y → Type 0) (b : Bool) (x y : Y) → (b ≡ true → P x) → (b ≡ false → P y) → P (if b then x else y)
 on_if P true x y f g = f refl
 on_if P false x y f g = g refl

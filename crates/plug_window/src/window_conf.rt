@@ -1,4 +1,5 @@
 //! The settings of `compact` and `rmorphan`.
+
 /// Settings of `compact` and of `rmorphan`, which output packets a window of packets later.
 #[derive(Drop)]
 pub struct WindowConf {

@@ -7,17 +7,17 @@ use Rattle.plugin_trait.specs.declared.line.Line.{Line}
 use Rattle.plugin_trait.specs.PlacedLines.{placed_at}
 use Rattle.plugin_notes.specs.PidPackets.{numbers_below, packets_on}
 
--- the packets on a PID, counted by the PIDs alone, after others
+-- the packets on a PID, counted by PID only, after others
 count_from : (pid n : ℕ) (packets : List (List ℕ))
     → fold (λ (a : ℕ) (q : ℕ). a + (if q == pid then 1 else 0)) n (map pid_of packets) ≡ fold (λ (a : ℕ) (p : List ℕ). a + (if pid_of p == pid then 1 else 0)) n packets
 count_from pid n [] = refl
 count_from pid n (packet ∷ packets) = count_from pid (n + (if pid_of packet == pid then 1 else 0)) packets
 
--- the packets on a PID, counted by the PIDs alone
+-- the packets on a PID, counted by PID only
 pub packets_on-pids : (pid : ℕ) (packets : List (List ℕ)) → count_by (λ q. q == pid) (map pid_of packets) ≡ packets_on pid packets
 packets_on-pids pid packets = count_from pid 0 packets
 
--- one number more
+-- the numbers below one more
 pub numbers_below_more : (n : ℕ) → numbers_below (n + 1) ≡ numbers_below n ++ n ∷ []
 unfolding numbers_below
 numbers_below_more n = ap numbers_below (add-one n)

@@ -129,7 +129,7 @@ fn no_contents_give_null_packets(rt: HostRuntime) -> Result<(), Fail> {
     Ok(())
 }
 
-/// A packet with a NIT without descriptors and streams.
+/// A packet with a NIT without descriptors and transport streams.
 fn nit_packet(alloc: Global) -> Result<Packet, Fail> {
     let nit = Nit {
         actual: true,

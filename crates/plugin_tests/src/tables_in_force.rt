@@ -11,7 +11,7 @@ use ts_packet::{NULL_PID, Packet};
 use ts_psi::Component;
 use ts_section::{Section, TableRun};
 
-/// A PAT of stream 1 with service 1 on PID 4096.
+/// A PAT of transport stream 1 with service 1 on PID 4096.
 const PAT: [u8; 16] = [
     0x00, 0xB0, 0x0D, 0x00, 0x01, 0xC1, 0x00, 0x00, 0x00, 0x01, 0xF0, 0x00, 0x2A, 0xB1, 0x04, 0xB2,
 ];

@@ -2,7 +2,7 @@
 use std::alloc::{AllocError, Global};
 use ts_outside::{FileBytes, FileList, NameText};
 
-/// The byte with which a packet begins, and another one.
+/// The sync byte, and another byte in its place.
 const SYNC: u8 = 0x47;
 
 const NO_SYNC: u8 = 0x46;

@@ -1,4 +1,5 @@
 //! The names that a desk opens and closes.
+
 /// The calls of a desk in order, as text. Text for which there is no memory is left out.
 #[derive(Drop)]
 pub(crate) struct Steps {

@@ -54,6 +54,7 @@ impl<T: Slot> Window<T> {
         ensures front { result.0 ≡ piece_of self.land self.start (take n self.cells) }
         ensures back { result.1 ≡ piece_of self.land (self.start + n) (drop n self.cells) }
     {
+        // A law, which runs nothing.
         T::size_law();
         let Window {
             mut cells,
@@ -91,6 +92,7 @@ impl<T: Slot> Window<T> {
         requires beside { other.start ≡ self.start + length self.cells }
         ensures { result ≡ piece_of self.land self.start (self.cells ++ other.cells) }
     {
+        // A law, which runs nothing.
         T::size_law();
         let Window {
             mut cells,
@@ -118,7 +120,7 @@ impl<T: Slot> Window<T> {
         }
     }
 
-    /// The values.
+    /// The values of the window.
     pub fn as_slice(&self) -> &[T]
         ensures { result.now ≡ self.now.cells }
     {
@@ -134,7 +136,7 @@ impl<T: Slot> Window<T> {
         self.cells.as_mut_slice()
     }
 
-    /// How many values it has.
+    /// How many values the window has.
     pub fn len(&self) -> usize
         ensures { result ≡ length self.now.cells }
     {
@@ -200,6 +202,7 @@ pub fn land<T: Slot + Clone>(alloc: Global, n: usize, value: T) -> Result<Window
     requires plain { (y : T) → T.is_clone value y → y ≡ value }
     ensures { IfOk result (λ w. (w.start ≡ 0) × (w.cells ≡ replicate n value) × (w.land.count ≡ n)) }
 {
+    // A law, which runs nothing.
     T::size_law();
     let mut vec = vec![in alloc; value; n]?;
     let base = vec.as_mut_ptr();
