@@ -5,7 +5,7 @@ use Rattle.plug_conf.specs.NumberSet.{AllBelow}
 use Rattle.plug_pcr.specs.declared.limits.TheConstants.{MOST_BITRATE, MOST_JITTER}
 use Rattle.plug_pcr.specs.declared.pcrverify_conf.PcrverifyConf.{PcrverifyConf}
 
--- every setting is there, each number is in its range, and no two settings exclude each other
+-- the bit rate, the jitter and the PIDs are in their ranges
 pub record IsLawfulPcrverify (c : PcrverifyConf) : Type 0 where
   pub some_rate : 1 ≤ c.bitrate
   pub rate : c.bitrate ≤ MOST_BITRATE

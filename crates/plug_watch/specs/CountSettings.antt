@@ -4,6 +4,6 @@ use Rattle.ts_packet.specs.declared.numbers.TheConstants.{PID_COUNT}
 use Rattle.plug_conf.specs.NumberSet.{AllBelow}
 use Rattle.plug_watch.specs.declared.count_conf.CountConf.{CountConf}
 
--- every setting is there, each number is in its range, and no two settings exclude each other
+-- the PIDs are in their range
 pub record IsLawfulCount (c : CountConf) : Type 0 where
   pub pids : AllBelow PID_COUNT c.pid
