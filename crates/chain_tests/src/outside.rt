@@ -84,7 +84,7 @@ fn copied<D: Desk>(desk: &mut D, from: &str, to: Option<&str>) -> CopyEnd {
     copy(desk, Some(from), to)
 }
 
-// How many bytes an output has; `None` without such an output.
+// How many bytes an output has; 0 without such an output.
 fn output_len(desk: &MemoryDesk, i: usize) -> usize {
     match desk.output(i) {
         Some((_, bytes)) => bytes.len(),

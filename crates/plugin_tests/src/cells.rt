@@ -75,7 +75,7 @@ pub(crate) fn live(packet: Packet) -> Cell {
     Cell::of(packet, Labels::none())
 }
 
-/// The bytes of a cell's packet from an offset on; none for a dropped cell.
+/// The bytes of a cell's packet from an offset on; an empty slice for a dropped cell.
 pub(crate) fn bytes_from(cell: &Cell, from: usize) -> &[u8] {
     match cell.live() {
         Some(live) if from <= PACKET_SIZE => &live.packet.bytes()[from..],
