@@ -22,7 +22,7 @@ stage_of p = record { given = replicate p.given Dropped; taken = p.taken; agreed
 abbrev pub state_of : CoreNumbers → ChainState
 state_of core = record { stages = λ k. stage_of (progress_of_core core k); told = core.told }
 
--- so many cells
+-- a number of cells
 abbrev pub cells_of : ℕ → List Cell
 cells_of n = replicate n Dropped
 

@@ -11,7 +11,7 @@ use chain_core::{Closed, Core, CorePlan, News, Progress, StageEnd, StageWord, on
 use std::alloc::{AllocError, Global};
 use std::marker::Model;
 
-/// A visit: so many cells are given, with a word to the core.
+/// A visit: how many cells are given, and a word to the core.
 #[derive(Clone, Copy)]
 pub(crate) struct Step {
     /// The stage that makes the visit; 0 is the input.
@@ -76,7 +76,7 @@ impl Driver {
             && self.may_follow(step.stage, step.word.ended, now)
     }
 
-    /// Whether a stage that has given so many cells may end in this way.
+    /// Whether a stage that has given `now` cells may end in this way.
     fn may_follow(&self, stage: usize, ended: Option<StageEnd>, now: u64) -> bool
         requires { stage ≤ suc self.now.plan.plugins }
         ensures { IsTrue result → ended ≡ Some Followed

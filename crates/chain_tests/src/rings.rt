@@ -63,7 +63,7 @@ fn front(ring: &Ring, seat: &mut StageSeat) -> FrontCells
     }
 }
 
-/// A visit that gives so many of the first cells in hand, without a word; returns whether it was made.
+/// A visit that gives the first `done` cells in hand, without a word; returns whether it was made.
 fn gives(ring: &Ring, seat: &mut StageSeat, done: usize) -> bool
     requires { GoesOn (key_of ring.now) (table_of ring.now) seat.old }
     ensures goes { IsTrue result → GoesOn (key_of ring.now) (table_of ring.now) seat.new }
@@ -104,7 +104,7 @@ fn ends(ring: &Ring, seat: &mut StageSeat) -> bool
     }
 }
 
-/// A visit that takes cells, and one that gives so many of them; returns whether they were made.
+/// A visit that takes cells, and one that gives `done` of them; returns whether they were made.
 fn takes_and_gives(ring: &Ring, seat: &mut StageSeat, done: usize) -> bool
     requires { GoesOn (key_of ring.now) (table_of ring.now) seat.old }
     ensures goes { IsTrue result → GoesOn (key_of ring.now) (table_of ring.now) seat.new }

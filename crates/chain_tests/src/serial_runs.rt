@@ -47,7 +47,7 @@ fn closed_of(
     closed
 }
 
-/// Passes so many null packets through a plugin that stops at a position, to an output that drops them.
+/// Passes `packets` null packets through a plugin that stops at a position, to an output that drops them.
 fn run(
     alloc: Global,
     packets: u64,

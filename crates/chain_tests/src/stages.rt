@@ -26,7 +26,7 @@ fn packet() -> Packet {
     packet
 }
 
-/// A file `in` with so many packets on PID 256.
+/// A file `in` with `packets` packets on PID 256.
 fn files(alloc: Global, packets: usize) -> Result<FileList, AllocError> {
     let mut bytes = Vec::new(alloc);
     for _ in 0..packets {
@@ -50,7 +50,7 @@ fn plan(alloc: Global, read: u64, write: u64) -> Result<FailPlan, AllocError>
     Ok(plan)
 }
 
-/// A desk with a file `in` of so many packets, of which a read gives so many bytes at most.
+/// A desk with a file `in` of `packets` packets, of which a read gives at most `piece` bytes.
 fn slow_desk(alloc: Global, packets: usize, piece: usize) -> Result<Box<MemoryDesk>, AllocError>
     requires { 0 < piece }
 {
@@ -59,7 +59,7 @@ fn slow_desk(alloc: Global, packets: usize, piece: usize) -> Result<Box<MemoryDe
     Ok(Box::new(alloc, MemoryDesk::new(alloc, files, plan)?)?)
 }
 
-/// A desk with a file `in` of so many packets. Calls are numbered from 1, so none fails with 0.
+/// A desk with a file `in` of `packets` packets. Calls are numbered from 1, so none fails with 0.
 fn desk(
     alloc: Global,
     packets: usize,

@@ -19,13 +19,13 @@ pub(crate) fn is_one_section(rt: &impl Abort, sections: &[Section], bytes: &[u8]
     same_bytes(rt, sections[0].bytes(), bytes);
 }
 
-/// Checks that there is one section, with so many bytes.
+/// Checks that there is one section, of `len` bytes.
 pub(crate) fn is_one_section_of(rt: &impl Abort, sections: &[Section], len: usize) {
     are_so_many(rt, sections.len(), 1);
     are_so_many(rt, sections[0].bytes().len(), len);
 }
 
-/// So many descriptors of 255 bytes, and one of `last` bytes.
+/// `count` descriptors of 255 bytes, and one of `last` bytes.
 pub(crate) fn long_descriptors(
     alloc: Global,
     count: usize,

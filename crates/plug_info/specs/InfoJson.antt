@@ -66,7 +66,7 @@ abbrev pub text_or_hex : List ℕ → Option (List ℕ) → List ℕ
 text_or_hex bytes None = quoted_hex bytes
 text_or_hex bytes (Some text) = if list_all is_plain text then quoted text else quoted_hex bytes
 
--- the part of the stream's bit rate for so many of all its packets, or `null`
+-- the part of the stream's bit rate for some of all its packets, or `null`
 abbrev pub rate_json : Option ℕ → ℕ → ℕ → List ℕ
 rate_json None part whole = codes "null"
 rate_json (Some rate) part whole = decimal (rate_part rate part whole)

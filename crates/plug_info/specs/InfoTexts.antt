@@ -49,7 +49,7 @@ hundredths part whole = if whole == 0 then 0 else part * 10000 / whole
 abbrev pub percent : ℕ → List ℕ
 percent h = decimal (h / 100) ++ (codes "." ++ (decimal (h / 10 % 10) ++ (decimal (h % 10) ++ codes "%")))
 
--- the part of the stream's bit rate for so many of all its packets, rounded down, in bits per second
+-- the part of the stream's bit rate for some of all its packets, rounded down, in bits per second
 abbrev pub rate_part : ℕ → ℕ → ℕ → ℕ
 rate_part rate part whole = if whole == 0 then 0 else rate * part / whole
 

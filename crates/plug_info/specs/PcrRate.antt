@@ -14,7 +14,7 @@ use Rattle.plug_pcr.specs.ClockFaults.{clocks_on}
 use Rattle.plug_pcr.specs.ClockJitter.{units_behind}
 use Rattle.plug_pcr.specs.declared.limits.TheConstants.{MOST_BITRATE, PACKET_UNITS}
 
--- the interval from one PCR to the next: so many positions, in so many units of the clock
+-- the interval from one PCR to the next, in positions and in units of the clock
 pub record Way : Type 0 where
   pub positions : ℕ
   pub units : ℕ
@@ -48,7 +48,7 @@ units_in ways = sum (map (λ way. way.units) ways)
 abbrev pub rate_within : ℕ → Option ℕ
 rate_within rate = if nat_le rate MOST_BITRATE then Some rate else None
 
--- the bit rate of so many positions, each of 188 bytes, in so many units of the clock: whole bits per second, rounded
+-- the bit rate of positions, each of 188 bytes, that take these units of the clock: whole bits per second, rounded
 -- down
 abbrev pub rate_over : ℕ → ℕ → Option ℕ
 rate_over positions units = if units == 0 then None else rate_within (positions * PACKET_UNITS / units)

@@ -20,7 +20,7 @@ pub record Tracks (tracker : Tracker) (cells : List Cell) : Type 0 where
   pub has_sdt : HasFedSdt tracker.sdt (live_packets cells)
   pub fed : forcing.StandsFor tracker.force (live_packets cells)
 
--- the parts stand for some list of exactly so many cells, and one more cell is allowed
+-- the parts stand for some list of exactly `at` cells, and one more cell is allowed
 pub record TracksSome (tracker : Tracker) (at : ℕ) : Type 0 where
   pub cells : List Cell
   pub tracks : Tracks tracker cells

@@ -125,7 +125,7 @@ fn quoted_hex(alloc: Global, bytes: &[u8]) -> Result<String, AllocError>
     Ok(quoted)
 }
 
-// The part of the stream's bit rate for so many packets, or `null`.
+// The part of the stream's bit rate that `packets` packets take, or `null`.
 fn rate_json(alloc: Global, scene: &Scene, packets: u64) -> Result<String, AllocError>
     ensures { IfOk result (λ text. string_bytes text ≡ InfoJson.rate_json scene.now.rate packets scene.now.whole) }
 {

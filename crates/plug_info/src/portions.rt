@@ -26,7 +26,7 @@ pub fn percent(alloc: Global, part: u64, whole: u64) -> Result<String, AllocErro
     Ok(text)
 }
 
-/// The part of a bit rate for so many of all packets, rounded down, in bits per second.
+/// The part of a bit rate that `part` of `whole` packets take, rounded down, in bits per second.
 pub fn rate_part(rate: u64, part: u64, whole: u64) -> u128
     ensures { result ≡ InfoTexts.rate_part rate part whole }
 {

@@ -127,7 +127,7 @@ fn stream_tail(alloc: Global, s: &StreamNumbers) -> Result<String, AllocError>
     Ok(text)
 }
 
-/// How many bytes so many packets have, at 188 bytes each.
+/// The size of packets in bytes, at 188 bytes each.
 pub fn bytes_of(packets: u64) -> u128
     ensures { result ≡ packets * PACKET_SIZE }
 {

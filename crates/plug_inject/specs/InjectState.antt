@@ -9,7 +9,7 @@ use Rattle.plug_inject.specs.declared.inject.Inject.{Inject}
 abbrev pub how_of : Inject → Injection
 how_of s = record { contents = s.contents; target = s.target; kept = s.kept }
 
--- how many more packets have to pass before one may be replaced, if so many have to pass after each replaced one
+-- how many more packets have to pass before one may be replaced, given how many have to pass after each replaced one
 unfoldable pub wait_among : ℕ → List Bool → ℕ
 wait_among kept [] = 0
 wait_among kept (true ∷ older) = kept

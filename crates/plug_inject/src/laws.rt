@@ -10,7 +10,7 @@ ghost use Rattle.plug_inject.specs.declared.inject_conf.InjectMode.TheVariants.{
 
 /// A law; it runs nothing. The packets of the sections are inserted one after another, repeatedly. Inserted packet
 /// number k, counted from 0, is packet k modulo n of the n packets of a cycle, with continuity counter k modulo 16.
-/// All other packets stay unchanged. With a distance, two inserted packets are at least so many packets apart.
+/// All other packets stay unchanged. With a distance, two inserted packets are at least that many packets apart.
 pub fn cycles_are_put_in()
     ensures put_in { (conf : InjectConf) (sections : List (List ℕ)) (cells : List Cell) (k : ℕ)
         → k < length (places_in conf sections cells)

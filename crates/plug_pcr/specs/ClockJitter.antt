@@ -3,7 +3,7 @@
 use Rattle.std.specs.Prelude.{ℕ, ◌+◌, ◌-◌, ◌*◌, ◌/◌, ◌%◌, nat_le, if◌then◌else◌}
 use Rattle.plug_pcr.specs.declared.limits.TheConstants.{CLOCK_PERIOD, PACKET_UNITS}
 
--- the whole units of the 27 MHz clock that so many packets take at a bit rate
+-- the whole units of the 27 MHz clock that a number of packets takes at a bit rate
 abbrev pub units_taken : ℕ → ℕ → ℕ
 units_taken bitrate packets = packets * PACKET_UNITS / bitrate
 
@@ -11,11 +11,11 @@ units_taken bitrate packets = packets * PACKET_UNITS / bitrate
 abbrev pub units_behind : ℕ → ℕ → ℕ
 units_behind wanted clock = (clock + (CLOCK_PERIOD - wanted % CLOCK_PERIOD)) % CLOCK_PERIOD
 
--- so many units forwards, or the rest of the period backwards, whichever is less
+-- a number of units forwards, or the rest of the period backwards, whichever is less
 abbrev pub least_way : ℕ → ℕ
 least_way units = if nat_le units (CLOCK_PERIOD - units) then units else CLOCK_PERIOD - units
 
--- the jitter of a PCR so many packets after another one: its distance from that one plus the units of these packets
+-- the jitter of a PCR some packets after another one: its distance from that one plus the units of these packets
 abbrev pub jitter_of : ℕ → ℕ → ℕ → ℕ → ℕ
 jitter_of bitrate packets before clock = least_way (units_behind (before + units_taken bitrate packets) clock)
 

@@ -5,7 +5,7 @@ ghost use Rattle.plug_pcr.specs.declared.limits.TheConstants.{CLOCK_PERIOD as PE
 
 use crate::limits::{CLOCK_PERIOD, PACKET_UNITS};
 
-/// The jitter of a PCR that stands so many packets after another one, in units of the 27 MHz clock.
+/// The jitter of the PCR `clock`, `packets` packets after the PCR `before`, in units of the 27 MHz clock.
 pub fn jitter(bitrate: u64, packets: u64, before: u64, clock: u64) -> u64
     requires { 1 ≤ bitrate }
     ensures is { result ≡ jitter_of bitrate packets before clock }

@@ -39,7 +39,7 @@ counted n s =
     if s.collected + 1 == n then record s { collected = 0; left = length s.packets; gives = true }
     else record s { collected = s.collected + 1 }
 
--- so many items of the block `given` are output already, and those of `taken` are kept after the others
+-- `m` items of the block `given` are output already, and those of `taken` are kept after the others
 pub record Keeps {X : Type 0} (last : X → Bool) (given taken : List X) (m : ℕ) (s : Collected X) : Type 0 where
   pub packets_are : s.packets ≡ drop m (ahead last given) ++ ahead last taken
   pub nulls_are : s.nulls ≡ drop (m - length (ahead last given)) (filter last given) ++ filter last taken

@@ -26,7 +26,7 @@ compacted last n before x =
     if nat_lt (length before) n then None
     else slice_get (parted last (block n (length before / n - 1) (before ++ x ∷ []))) (length before % n)
 
--- so many blocks of `n` items, one after the other, each parted
+-- a number of blocks of `n` items, one after the other, each parted
 abbrev pub blocks_parted : {X : Type 0} → (X → Bool) → ℕ → ℕ → List X → List X
 blocks_parted last n zero xs = []
 blocks_parted last n (suc count) xs = parted last (take n xs) ++ blocks_parted last n count (drop n xs)

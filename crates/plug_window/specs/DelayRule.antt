@@ -30,6 +30,6 @@ abbrev pub all_given : {X : Type 0} → (List X → X → Option X) → List X �
 all_given given before [] = []
 all_given given before (x ∷ xs) = option_to_list (given before x) ++ all_given given (before ++ x ∷ []) xs
 
--- packets as the input gives them, without labels, followed by so many null packets
+-- packets as the input gives them, without labels, followed by `n` null packets
 abbrev pub with_nulls_behind : ℕ → List (List ℕ) → List Cell
 with_nulls_behind n packets = map (λ packet. Live packet no_labels) packets ++ null_cells n

@@ -45,7 +45,7 @@ fn end_and_agreement(until: &mut Until, cells: &mut Vec<Cell>) -> (ListEnd, bool
     (end, until.agreed())
 }
 
-/// How a new plugin with these settings ends the first so many of ten cells, whether it agrees after them, and the
+/// How a new plugin with these settings ends the first `met` of ten cells, whether it agrees after them, and the
 /// remaining cells.
 fn left_by(alloc: Global, conf: &UntilConf, met: usize) -> Result<(ListEnd, bool, Vec<Cell>), Fail>
     requires { IsLawfulUntil conf.now }
@@ -57,7 +57,7 @@ fn left_by(alloc: Global, conf: &UntilConf, met: usize) -> Result<(ListEnd, bool
     Ok((end, agreed, cells))
 }
 
-/// Checks how a new plugin with these settings ends the first so many of ten cells, and how many remain.
+/// Checks how a new plugin with these settings ends the first `met` of ten cells, and how many remain.
 fn leaves(
     rt: &(impl Abort + AllocGlobal),
     conf: &UntilConf,

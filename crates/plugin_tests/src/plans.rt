@@ -222,7 +222,7 @@ fn what_holds_without_words(rt: HostRuntime) -> Result<(), Fail> {
     Ok(())
 }
 
-/// The words of so many plugins.
+/// The words of `count` plugins.
 fn many_plugins(alloc: Global, count: usize) -> Result<Vec<String>, Fail> {
     let mut words = Vec::new(alloc);
     for _ in 0..count {
@@ -231,7 +231,7 @@ fn many_plugins(alloc: Global, count: usize) -> Result<Vec<String>, Fail> {
     Ok(words)
 }
 
-/// Why so many plugins have no plan.
+/// Why `count` plugins have no plan.
 fn fault_of_plugins(alloc: Global, count: usize) -> Result<Option<WordsFault>, Fail> {
     let words = many_plugins(alloc, count)?;
     Ok(fault_of(alloc, &words))
@@ -360,7 +360,7 @@ fn settings_of_plugins(rt: HostRuntime) -> Result<(), Fail> {
     has_settings(&rt, &*plan)
 }
 
-/// The words of a `remap` with so many pairs of one target.
+/// The words of a `remap` with `count` pairs of one target.
 fn pairs_of_one_target(alloc: Global, count: u32) -> Result<Vec<String>, Fail> {
     let mut words = words_of(alloc, "-P remap --no-psi --unchecked")?;
     for source in 0..count {
@@ -369,7 +369,7 @@ fn pairs_of_one_target(alloc: Global, count: u32) -> Result<Vec<String>, Fail> {
     Ok(words)
 }
 
-/// Why so many such pairs have no plan.
+/// Why `count` such pairs have no plan.
 fn fault_of_pairs(alloc: Global, count: u32) -> Result<Option<WordsFault>, Fail> {
     let words = pairs_of_one_target(alloc, count)?;
     Ok(fault_of(alloc, &words))

@@ -44,7 +44,7 @@ fn count_of(cells: &[Cell], pid: u16) -> usize {
     count
 }
 
-/// Checks that each of these PIDs has so many packets.
+/// Checks that each of these PIDs has `count` packets.
 fn has_each(rt: &impl Abort, cells: &[Cell], pids: &[u16], count: usize) {
     for pid in pids {
         assert_eq!(rt; count_of(cells, *pid), count);

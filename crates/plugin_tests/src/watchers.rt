@@ -22,7 +22,7 @@ fn packet(pid: u16, counter: u8) -> Cell
     Cell::of(packet, Labels::none())
 }
 
-/// How a plugin ends a list of cells, and its report on the first so many of the cells that it processed.
+/// How a plugin ends a list of cells, and its report on those of the cells that stand before the cut.
 fn run<P: Plugin + Drop>(
     plugin: P,
     cells: &mut Vec<Cell>,
@@ -92,7 +92,7 @@ fn count_counts_to_the_cut(rt: HostRuntime) -> Result<(), Fail> {
     is_counted(&rt, false, true, 4, &["total 3"])
 }
 
-/// How counting three packets with room for so many in its buffer ends, how many cells are left, and the report.
+/// How counting three packets with room for `buffer` of them ends, how many cells are left, and the report.
 fn counted_in(alloc: Global, buffer: usize) -> Result<(ListEnd, usize, Vec<Line>), Fail> {
     let mut cells = vec![in alloc; packet(256, 0), packet(256, 1), packet(257, 0)]?;
     let conf = CountConf {

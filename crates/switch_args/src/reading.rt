@@ -59,7 +59,7 @@ impl Reading {
         }
     }
 
-    /// The result at the end of the words, of which so many were read.
+    /// The result at the end of the words; `at` is their number.
     pub(crate) fn end(self, at: usize) -> Result<SwitchSettings, WordsFault>
         ensures { EndsAt self at result }
     {

@@ -77,7 +77,7 @@ fn print_text<R: Threads + Wait + Sync + Print + AllocGlobal>(rt: &R, text: &str
     print_short(rt, words.as_slice())
 }
 
-/// Plays so many inputs of one packet.
+/// Plays `count` inputs of one packet.
 fn print_inputs<R: Threads + Wait + Sync + Print + AllocGlobal>(
     rt: &R,
     count: usize,
