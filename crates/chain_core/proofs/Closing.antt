@@ -15,7 +15,7 @@ use Rattle.chain_model.specs.PluginRule.{PluginRule, passing_rule}
 use Rattle.chain_model.specs.Apply.{OwnEnd, input_over, last_passed, stopped, refused, StageList, apply}
 use Rattle.chain_model.specs.StageLists.{rule_behind, stage_list, end_list}
 use Rattle.chain_model.specs.Joint.{agreement_of, agreement_at, joint_position}
-use Rattle.chain_model.specs.Cut.{Ending, cut_of, lesser_end, is_at, cause_of_end, is_until, causes_at, first_cause, cause_among, ending_of, endings_to, endings_of, cause_of, is_fault, IsLawfulFault}
+use Rattle.chain_model.specs.Cut.{Ending, cut_of, lesser_end, is_at, cause_of_end, is_until, causes_at, first_cause, cause_among, ending_of, endings_to, endings_of, cause_of, is_fault, IsLawfulFault, IsPureClose}
 use Rattle.chain_model.proofs.ApplyLaws.{apply-length, apply-before, apply-passes}
 use Rattle.chain_model.proofs.AgreementLaws.{agreement_of-more, agreement_of-first}
 use Rattle.chain_model.proofs.GreatestLaws.{IsKnownWithin, IsKept, greatest-all, greatest-kept}
@@ -28,7 +28,7 @@ use Rattle.chain_core.specs.Machine.{ChainState, progress_of_stages}
 use Rattle.chain_core.specs.ChainRun.{AllEnded}
 use Rattle.chain_core.specs.Keeps.{IsEndOf, EndsAs}
 use Rattle.chain_core.specs.Close.{cause_of_stage, ending_with, ending_of_progress, told_endings, least_among, cut_at_close, cause_at_close}
-use Rattle.chain_core.specs.EveryOrder.{EndsBy, IsCutWithin, IsPureClose, IsToldCause, AtClose}
+use Rattle.chain_core.specs.EveryOrder.{EndsBy, IsCutWithin, IsToldCause, AtClose}
 use Rattle.chain_core.proofs.Facts.{falls, all_both, prefix-length, prefix-whole, prefix-take, prefix-is_take}
 use Rattle.chain_core.proofs.Members.{stages-have}
 use Rattle.chain_core.proofs.Soundness.{gave, AreUsers, Sound, gave-falls}

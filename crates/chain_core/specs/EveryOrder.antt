@@ -6,7 +6,7 @@ use Rattle.chain_model.specs.PluginRule.{PluginRule}
 use Rattle.chain_model.specs.Apply.{StageList}
 use Rattle.chain_model.specs.StageLists.{stage_list, end_list}
 use Rattle.chain_model.specs.Joint.{joint_position}
-use Rattle.chain_model.specs.Cut.{cut_of, cause_of, IsLawfulFault}
+use Rattle.chain_model.specs.Cut.{IsPureClose, IsLawfulFault}
 use Rattle.chain_model.specs.declared.cause.Cause.{Cause}
 use Rattle.chain_model.specs.declared.cause.Cause.TheVariants.{Joint}
 use Rattle.chain_core.specs.declared.core_plan.CorePlan.{CorePlan}
@@ -47,11 +47,6 @@ pub record SoFar (plan : CorePlan) (rules : List PluginRule) (input : StageList)
   pub ends : (k : ℕ) (end : StageEnd) → (state.stages k).ended ≡ Some end → EndsAs plan.plugins k (stage_list rules input k) (state.stages k).given end
   -- a stage that followed gave at least all that will count
   pub followers : (k : ℕ) → (state.stages k).ended ≡ Some Followed → IsCutWithin plan (progress_of_stages state) (length (state.stages k).given)
-
--- the cut and the cause are those of the run without faults
-abbrev pub IsPureClose : List PluginRule → StageList → List ℕ → ℕ → Cause → Type 0
-IsPureClose rules input users cut cause =
-    (cut ≡ cut_of rules input users) × (cause ≡ cause_of rules input users)
 
 -- the cause is joint termination at the limit, or a stage told it and gave as much as counts
 abbrev pub IsToldCause : CorePlan → StagesProgress → ℕ → Cause → Type 0

@@ -72,6 +72,11 @@ abbrev pub cause_of : List PluginRule → StageList → List ℕ → Cause
 cause_of rules input users =
     cause_among (cut_of rules input users) (joint_position rules input users) (endings_of rules input)
 
+-- the cut and the cause are those of the run without faults
+abbrev pub IsPureClose : List PluginRule → StageList → List ℕ → ℕ → Cause → Type 0
+IsPureClose rules input users cut cause =
+    (cut ≡ cut_of rules input users) × (cause ≡ cause_of rules input users)
+
 -- a cause that only a fault outside, or want of memory, can give
 abbrev pub is_fault : Cause → Bool
 is_fault (Input ReadFault) = true

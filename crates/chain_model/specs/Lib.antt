@@ -1,4 +1,5 @@
 pub mod Prefix
+pub mod Each
 pub mod Written
 pub mod PluginRule
 pub mod SeenCells
@@ -9,6 +10,7 @@ pub mod Joint
 pub mod Cut
 pub mod InputList
 pub mod Stuffed
+pub mod InputRead
 pub mod Reasons
 pub mod Reports
 pub mod PureRun

@@ -15,7 +15,7 @@ use Rattle.chain_model.specs.PluginRule.{PluginRule}
 use Rattle.chain_model.specs.Apply.{StageList}
 use Rattle.chain_model.specs.StageLists.{rule_behind, stage_list, end_list}
 use Rattle.chain_model.specs.Stuffed as model
-use Rattle.chain_model.specs.Written.{written}
+use Rattle.chain_model.specs.Written.{written, IsPartOfFirst}
 use Rattle.chain_core.specs.declared.stage_end.StageEnd.{StageEnd}
 use Rattle.chain_core.specs.declared.stage_end.StageEnd.TheVariants.{Input, Last, Stop, Refuse, WriteFault, NoMemory, Followed}
 use Rattle.chain_core.specs.Numbers.{written_of}
@@ -31,13 +31,14 @@ use Rattle.stage_run.specs.declared.output_part.OutputPart.TheVariants as output
 use Rattle.stage_run.specs.declared.stage_part.StagePart.{StagePart}
 use Rattle.stage_run.specs.PartLists.{PartLists}
 use Rattle.stage_run.specs.PartStands.{PartStands, PartGives, rule_of, source_kind, sink_kind, a_stream, null_packets, generated_packets, no_stream, an_input, a_plugin, an_output}
-use Rattle.stage_run.specs.OutputStands.{IsPartOfFirst, SinkTook}
+use Rattle.stage_run.specs.OutputStands.{SinkTook}
 use Rattle.stage_run.specs.Parts.{IsSourceOf, IsSinkOf, FailedReading, LeavesSource, LeavesInput, LeavesOutput}
 use Rattle.plugin_trait.specs.Steps.{IsSteadyFor}
 use Rattle.chain_run.specs.Met.{AllMetFirst}
 use Rattle.chain_run.specs.Rooms.{WantsMemory}
 use Rattle.chain_run.specs.Parts.{AreTakenFrom}
-use Rattle.chain_run.specs.RunOf.{MayRead, LeftInput, TakesTo, LeftOutput, Gave}
+use Rattle.chain_run.specs.RunOf.{LeftInput, TakesTo, LeftOutput, Gave}
+use Rattle.chain_model.specs.InputRead.{MayRead}
 use Rattle.chain_run.specs.Runs.{between, RunStart}
 use Rattle.chain_run.specs.OneStage.{IsInput, IsPlugin, IsOutput}
 use Rattle.chain_run.specs.Ran.{RanBy, Ran, state_of}

@@ -24,14 +24,14 @@ use Rattle.stage_run.specs.PartLists.{PartLists}
 use Rattle.stage_run.specs.PartStands.{PartStands, PartGives, MayWork, rule_of}
 use Rattle.stage_run.specs.Parts.{IsSourceOf, IsSinkOf}
 use Rattle.stage_run.proofs.InputWorking.{read_for-full, read_for-free}
-use Rattle.stage_run.specs.OutputStands.{IsPartOfFirst}
+use Rattle.chain_model.specs.Written.{IsPartOfFirst}
 use Rattle.stage_run.specs.Telling.{below_limit}
 use Rattle.stage_run.specs.Works.{Works, WorksByKind, OutputTells, KeepsRule, read_for}
 use Rattle.std.proofs.Common.{true}
 use Rattle.chain_core.specs.Numbers.{MayVisit}
 use Rattle.stage_run.specs.Telling.{may_follow, FollowsNews}
 use Rattle.chain_run.proofs.TurnLemmas.{follows-news}
-use Rattle.chain_run.specs.RunOf.{MayRead}
+use Rattle.chain_model.specs.InputRead.{MayRead}
 use Rattle.chain_run.specs.Runs.{RunStart}
 use Rattle.chain_run.specs.OneStage.{SoFarUpTo, IsInput, IsPlugin, IsOutput, Failed, Doing, MayBe}
 use Rattle.chain_run.specs.Ran.{IsLawfulRun}

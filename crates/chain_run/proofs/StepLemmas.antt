@@ -18,8 +18,8 @@ use Rattle.stage_run.specs.Seeing.{Seeing}
 use Rattle.stage_run.specs.declared.stage_part.StagePart.{StagePart}
 use Rattle.stage_run.specs.PartLists.{PartLists}
 use Rattle.stage_run.specs.PartStands.{PartGives}
-use Rattle.stage_run.specs.OutputStands.{IsPartOfFirst}
-use Rattle.chain_run.specs.RunOf.{MayRead}
+use Rattle.chain_model.specs.Written.{IsPartOfFirst}
+use Rattle.chain_model.specs.InputRead.{MayRead}
 use Rattle.chain_run.specs.Slots.{slot, HoldsFrom}
 use Rattle.chain_run.specs.Runs.{nothing_told, between, RunStart}
 use Rattle.chain_run.specs.OneStage.{Doing, StandsIn}

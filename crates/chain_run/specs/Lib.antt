@@ -2,6 +2,7 @@ pub mod Fresh
 pub mod Laws
 pub mod Met
 pub mod Rooms
+pub mod SourceRead
 pub mod RunOf
 pub mod Slots
 pub mod Runs

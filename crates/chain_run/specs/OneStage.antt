@@ -17,9 +17,9 @@ use Rattle.stage_run.specs.Seeing.{Seeing}
 use Rattle.stage_run.specs.declared.stage_part.StagePart.{StagePart}
 use Rattle.stage_run.specs.PartLists.{PartLists}
 use Rattle.stage_run.specs.PartStands.{PartStands, PartGives, MayWantMemory, rule_of, steady_of, kind_of, stuffing_in, source_kind, sink_kind, stream_kind, an_input, a_plugin, an_output}
-use Rattle.stage_run.specs.OutputStands.{IsPartOfFirst}
+use Rattle.chain_model.specs.Written.{IsPartOfFirst}
 use Rattle.stage_run.specs.Parts.{IsListOf, IsSourceOf, IsSinkOf}
-use Rattle.chain_run.specs.RunOf.{MayRead}
+use Rattle.chain_model.specs.InputRead.{MayRead}
 use Rattle.chain_run.specs.Runs.{RunStart}
 
 -- the chain theorem holds of each earlier part of what was seen

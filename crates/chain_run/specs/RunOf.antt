@@ -1,11 +1,9 @@
 -- What a run of a chain comes to: where it was cut and why, what was read, what was written, and what the plugins met.
 -- This project's own rule.
-use Rattle.std.specs.Prelude.{◌≡◌, ◌≢◌, ◌⊎◌, ℕ, suc, ◌+◌, ◌*◌, ◌≤◌, List, length, map, take}
-use Rattle.ts_packet.specs.declared.numbers.TheConstants.{PACKET_SIZE}
+use Rattle.std.specs.Prelude.{◌≡◌, ◌≢◌, ◌⊎◌, ℕ, suc, ◌+◌, ◌≤◌, List, length, map, take}
 use Rattle.ts_packet.specs.declared.cell.Cell.{Cell}
-use Rattle.ts_outside.specs.Source.{SourceView, unread, read_failed}
+use Rattle.ts_outside.specs.Source.{SourceView}
 use Rattle.ts_outside.specs.Sink.{SinkView, took}
-use Rattle.chain_model.specs.declared.positions.TheConstants.{POSITION_LIMIT}
 use Rattle.chain_model.specs.declared.input_end.InputEnd.TheVariants.{ReadFault}
 use Rattle.chain_model.specs.declared.cause.Cause.{Cause}
 use Rattle.chain_model.specs.declared.cause.Cause.TheVariants.{Input, WriteFault, NoMemory}
@@ -13,12 +11,11 @@ use Rattle.chain_model.specs.PluginRule.{PluginRule}
 use Rattle.chain_model.specs.Apply.{StageList}
 use Rattle.chain_model.specs.StageLists.{end_list}
 use Rattle.chain_model.specs.Stuffed as model
-use Rattle.chain_model.specs.Cut.{IsLawfulFault}
+use Rattle.chain_model.specs.Cut.{IsLawfulFault, IsPureClose}
 use Rattle.chain_model.specs.Written.{written}
 use Rattle.chain_core.specs.declared.closed.Closed.{Closed}
 use Rattle.chain_core.specs.declared.core_plan.CorePlan.{CorePlan}
 use Rattle.chain_core.specs.Stages.{stages_of}
-use Rattle.chain_core.specs.EveryOrder.{IsPureClose}
 use Rattle.stage_run.specs.Seeing.{Seeing}
 use Rattle.stage_run.specs.declared.input_part.InputPart.{InputPart}
 use Rattle.stage_run.specs.declared.input_part.InputPart.TheVariants.{Stream, Nulls, Generated}
@@ -27,32 +24,10 @@ use Rattle.stage_run.specs.declared.output_part.OutputPart.TheVariants as out
 use Rattle.stage_run.specs.declared.stuffing.Stuffing.{Stuffing}
 use Rattle.stage_run.specs.InputStands.{stuffing_of}
 use Rattle.stage_run.specs.Writing.{CutsAt}
-use Rattle.stage_run.specs.Parts.{IsListOf, list_at_fault, IsInSyncSoFar}
+use Rattle.stage_run.specs.Parts.{IsListOf}
 use Rattle.chain_run.specs.Met.{AllMetFirst}
+use Rattle.chain_run.specs.SourceRead.{ReadsSource}
 use Rattle.chain_run.specs.Rooms.{WantsMemory}
-
--- a run may have read so many bytes that was cut at `cut`: as many as the buffer's packets behind the cut have, or, where
--- the last position was reached, the packet behind it
-abbrev pub MayRead : ℕ → ℕ → ℕ → Type 0
-MayRead buffer cut bytes =
-    (bytes ≤ PACKET_SIZE * (cut + buffer))
-    ⊎ ((POSITION_LIMIT ≤ cut + buffer) × (bytes ≤ PACKET_SIZE * (POSITION_LIMIT + 1)))
-
--- behind a failed read the cut is where the list up to the fault ends
-pub record CutsAtFault (stuffing : model.Stuffing) (old new : SourceView) (read : List ℕ)
-    (cut : ℕ) : Type 0 where
-  pub failed : read_failed old ≡ unread read new
-  pub in_sync : IsInSyncSoFar read
-  pub cut_is : cut ≡ length (list_at_fault stuffing read).cells
-
--- what a run read of its source
-pub record ReadsSource (stuffing : model.Stuffing) (buffer : ℕ) (old new : SourceView) (cut : ℕ)
-    (cause : Cause) : Type 0 where
-  pub read : List ℕ
-  -- these bytes were read of it, and at most one call failed, the last one
-  pub source : (old ≡ unread read new) ⊎ (read_failed old ≡ unread read new)
-  pub within : MayRead buffer cut (length read)
-  pub at_fault : cause ≡ Input ReadFault → CutsAtFault stuffing old new read cut
 
 -- the input that a run leaves
 abbrev pub LeftInput : {S : Type 0} → (S → SourceView) → model.Stuffing → ℕ → InputPart S → InputPart S → ℕ

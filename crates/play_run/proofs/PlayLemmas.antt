@@ -19,7 +19,7 @@ use Rattle.chain_run.specs.Ran.{IsLawfulRun}
 use Rattle.chain_run.specs.OneStage.{Doing}
 use Rattle.window_ring.specs.declared.ring.Ring.{Ring}
 use Rattle.window_ring.specs.declared.stage_seat.StageSeat.{StageSeat}
-use Rattle.window_ring.specs.Views.{Each}
+use Rattle.chain_model.specs.Each.{Each}
 use Rattle.window_ring.specs.Seats.{key_of, table_of}
 use Rattle.window_ring.specs.Opening.{IsFresh}
 use Rattle.thread_run.specs.declared.stage.Stage.{Stage}

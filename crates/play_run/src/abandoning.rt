@@ -11,7 +11,8 @@ ghost use Rattle.chain_core.specs.declared.stage_end.StageEnd.{StageEnd};
 ghost use Rattle.stage_run.specs.PartLists.{PartLists};
 ghost use Rattle.stage_run.specs.PartStands.{PartStands, kind_of, stream_kind, stuffing_in, an_input, a_stream};
 ghost use Rattle.play_run.specs.Plays.{IsAhead};
-ghost use Rattle.play_run.specs.Abandoned.{IsUnvisited, WasAbandoned};
+ghost use Rattle.play_run.specs.Abandoned.{WasAbandoned};
+ghost use Rattle.play_run.specs.Unvisited.{IsUnvisited};
 
 use crate::ahead::AheadPlay;
 use chain_core::{StageEnd, StageWord, one_visit};

@@ -4,7 +4,8 @@ ghost use Rattle.chain_core.specs.declared.core_plan.CorePlan.{CorePlan};
 ghost use Rattle.chain_core.specs.CoreNumbers.{IsLawfulPlan};
 ghost use Rattle.stage_run.specs.Seeing.{seeing};
 ghost use Rattle.stage_run.specs.declared.output_part.OutputPart.{OutputPart};
-ghost use Rattle.play_run.specs.Played.{cause_of, EndsPlay, HasPlayedOut, CutsPlay};
+ghost use Rattle.play_run.specs.Played.{EndsPlay, HasPlayedOut, CutsPlay};
+ghost use Rattle.play_run.specs.PlayList.{cause_of};
 
 use chain_core::{Cause, Closed, InputEnd};
 use chain_run::RunEnd;

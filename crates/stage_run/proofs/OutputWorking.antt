@@ -8,7 +8,7 @@ use Rattle.ts_outside.proofs.Views.{took-took}
 use Rattle.chain_model.specs.PluginRule.{PluginRule, passing_rule}
 use Rattle.chain_model.specs.Apply.{StageList, last_passed, apply}
 use Rattle.chain_model.specs.Joint.{agreement_after}
-use Rattle.chain_model.specs.Written.{written}
+use Rattle.chain_model.specs.Written.{written, IsPartOfFirst}
 use Rattle.chain_model.proofs.ApplyLaws.{apply-passes}
 use Rattle.chain_core.specs.declared.news.News.{News}
 use Rattle.chain_core.specs.declared.stage_end.StageEnd.{StageEnd}
@@ -19,7 +19,7 @@ use Rattle.stage_run.specs.declared.output_part.OutputPart.TheVariants.{Stream, 
 use Rattle.stage_run.specs.declared.output_stage.OutputStage.{OutputStage}
 use Rattle.stage_run.specs.PartLists.{PartLists}
 use Rattle.stage_run.specs.PartStands.{MayWork}
-use Rattle.stage_run.specs.OutputStands.{IsPartOfFirst, SamePart, SinkTook, PartTook, OutputStands}
+use Rattle.stage_run.specs.OutputStands.{SamePart, SinkTook, PartTook, OutputStands}
 use Rattle.stage_run.specs.Writing.{PartWrites}
 use Rattle.stage_run.specs.Telling.{is_reached, may_follow, followed, below_limit}
 use Rattle.stage_run.specs.Works.{Works, OutputWorks, OutputTells, FaultsTold, sink_faults, KeepsRule}

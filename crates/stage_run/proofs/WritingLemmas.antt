@@ -7,8 +7,7 @@ use Rattle.ts_packet.specs.declared.cell.Cell.{Cell}
 use Rattle.ts_packet.specs.Cells.{Live, Dropped}
 use Rattle.ts_outside.specs.Sink.{SinkView, took, write_failed}
 use Rattle.ts_outside.proofs.Views.{took-took}
-use Rattle.chain_model.specs.Written.{cell_bytes, written}
-use Rattle.stage_run.specs.OutputStands.{IsPartOfFirst}
+use Rattle.chain_model.specs.Written.{cell_bytes, written, IsPartOfFirst}
 use Rattle.stage_run.specs.Writing.{StandsAt, WritesCells}
 
 pub written-append : (xs ys : List Cell) → written (xs ++ ys) ≡ written xs ++ written ys

@@ -1,7 +1,6 @@
 -- What an output stands for. This project's own rule.
-use Rattle.std.specs.Prelude.{◌≡◌, ◌≢◌, ℕ, ◌<◌, List, [], ◌∷◌, ◌++◌, length, Option, Some}
+use Rattle.std.specs.Prelude.{◌≡◌, ◌≢◌, ℕ, List, [], ◌++◌, Option, Some}
 use Rattle.ts_packet.specs.declared.cell.Cell.{Cell}
-use Rattle.ts_packet.specs.Cells.{Live, Dropped}
 use Rattle.ts_outside.specs.Sink.{SinkView, took, write_failed}
 use Rattle.chain_model.specs.Written.{written}
 use Rattle.chain_core.specs.declared.stage_end.StageEnd.{StageEnd}
@@ -10,13 +9,6 @@ use Rattle.stage_run.specs.declared.output_part.OutputPart.{OutputPart}
 use Rattle.stage_run.specs.declared.output_part.OutputPart.TheVariants.{Stream, Discard}
 use Rattle.stage_run.specs.declared.output_stage.OutputStage.{OutputStage}
 use Rattle.stage_run.specs.PartLists.{PartLists}
-
--- these bytes are a first part of the packet of the first of these cells, and not all of it
-abbrev pub IsPartOfFirst : List Cell → List ℕ → Type 0
-IsPartOfFirst [] part = ⊥
-IsPartOfFirst (Dropped ∷ cells) part = ⊥
-IsPartOfFirst (Live packet labels ∷ cells) part =
-    (rest : List ℕ) × (0 < length rest) × (packet ≡ part ++ rest)
 
 -- a sink that took what these cells write and a part of the packet behind them, of which a write failed
 abbrev pub failed_behind : SinkView → List Cell → List ℕ → SinkView

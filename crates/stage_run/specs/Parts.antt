@@ -3,9 +3,10 @@ use Rattle.std.specs.Prelude.{◌≡◌, ◌≢◌, ℕ, List, Option, Some, IfS
 use Rattle.ts_outside.specs.Source.{SourceView, unread, read_failed}
 use Rattle.ts_outside.specs.Sink.{SinkView}
 use Rattle.chain_model.specs.declared.input_end.InputEnd.{InputEnd}
-use Rattle.chain_model.specs.declared.input_end.InputEnd.TheVariants.{End, ReadFault}
+use Rattle.chain_model.specs.declared.input_end.InputEnd.TheVariants.{ReadFault}
 use Rattle.chain_model.specs.Apply.{StageList, input_over}
-use Rattle.chain_model.specs.InputList.{packets_of, input_of_bytes, input_of_nulls}
+use Rattle.chain_model.specs.InputList.{input_of_bytes, input_of_nulls}
+use Rattle.chain_model.specs.InputRead.{IsInSyncSoFar, list_at_fault}
 use Rattle.chain_model.specs.Stuffed.{stuffed}
 use Rattle.chain_model.specs.Stuffed as model
 use Rattle.chain_core.specs.declared.stage_end.StageEnd.{StageEnd}
@@ -42,14 +43,6 @@ IsSourceOf seen (Generated generator count) view = Unit {0}
 abbrev pub IsSinkOf : {K : Type 0} → (K → SinkView) → OutputPart K → SinkView → Type 0
 IsSinkOf seen (out.Stream sink) view = view ≡ seen sink
 IsSinkOf seen out.Discard view = Unit {0}
-
--- the list of an input of which a read failed behind these bytes: the whole packets among them, with the stuffing
-abbrev pub list_at_fault : model.Stuffing → List ℕ → StageList
-list_at_fault stuffing read = stuffed stuffing (record { packets = packets_of read; ended = ReadFault })
-
--- these bytes show no lost sync: an input that had no more of them would end plainly
-abbrev pub IsInSyncSoFar : List ℕ → Type 0
-IsInSyncSoFar read = (left : ℕ) × ((input_of_bytes read).ended ≡ End left)
 
 -- an input whose reading failed: it gave the list up to the fault
 pub record FailedReading (stuffing : model.Stuffing) (first now : SourceView)

@@ -35,7 +35,8 @@ use Rattle.stage_run.specs.Feeds.{SameFeed}
 use Rattle.stage_run.specs.InputStands.{InputStands, MayGive}
 use Rattle.stage_run.specs.InputSteps.{FillsWindow}
 use Rattle.stage_run.specs.PluginStands.{PluginStands}
-use Rattle.stage_run.specs.OutputStands.{OutputStands, IsPartOfFirst, SamePart}
+use Rattle.stage_run.specs.OutputStands.{OutputStands, SamePart}
+use Rattle.chain_model.specs.Written.{IsPartOfFirst}
 use Rattle.stage_run.specs.PartStands.{PartStands, MayWork, MayWantMemory, rule_of, kind_of, steady_of, stuffing_in}
 use Rattle.stage_run.specs.Telling.{FollowsNews, may_follow, told_of, below_limit}
 

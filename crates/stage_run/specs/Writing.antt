@@ -2,10 +2,10 @@
 use Rattle.std.specs.Prelude.{◌≡◌, ◌⊎◌, ◌<◌, ℕ, List, ◌++◌, length, take, drop}
 use Rattle.ts_packet.specs.declared.cell.Cell.{Cell}
 use Rattle.ts_outside.specs.Sink.{SinkView, took}
-use Rattle.chain_model.specs.Written.{written}
+use Rattle.chain_model.specs.Written.{written, IsPartOfFirst}
 use Rattle.stage_run.specs.declared.output_part.OutputPart.{OutputPart}
 use Rattle.stage_run.specs.declared.output_part.OutputPart.TheVariants.{Stream, Discard}
-use Rattle.stage_run.specs.OutputStands.{IsPartOfFirst, failed_behind}
+use Rattle.stage_run.specs.OutputStands.{failed_behind}
 
 -- the first bytes that cells write, so many of them, are those of all cells before a place and a part of the packet there
 pub record StandsAt (cells : List Cell) (bytes place : ℕ) : Type 0 where

@@ -7,13 +7,13 @@ use Rattle.ts_outside.specs.Desk.{DeskView, file_of}
 use Rattle.chain_model.specs.declared.input_end.InputEnd.{InputEnd}
 use Rattle.chain_model.specs.declared.input_end.InputEnd.TheVariants.{End, Sync, ReadFault, TooLong}
 use Rattle.chain_model.specs.Apply.{OwnEnd, input_over}
-use Rattle.window_ring.specs.Views.{Each}
+use Rattle.chain_model.specs.Each.{Each}
 use Rattle.play_run.specs.declared.played.PlayEnd.TheVariants.{Input}
-use Rattle.play_run.specs.Played.{play_of}
+use Rattle.play_run.specs.PlayList.{play_of}
 use Rattle.switch_top.specs.PlayNames.{PlayName}
 use Rattle.switch_top.specs.Lines.{play_line, switch_end_line}
 use Rattle.switch_top.specs.Switched.{PlayList, lists_of, is_plain, played, switched, end_of_list, line_of, last_of, end_of_plays, switched_report}
-use Rattle.switch_top.specs.SoFar.{Behind, IsBehind, names_of, cells_of, lines_of}
+use Rattle.switch_top.specs.PlaysBehind.{Behind, IsBehind, names_of, cells_of, lines_of}
 use Rattle.switch_top.proofs.SwitchLemmas.{flat-append, length-append}
 
 -- the packets of plays, whether they are played or not

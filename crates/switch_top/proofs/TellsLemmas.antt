@@ -15,19 +15,19 @@ use Rattle.ts_outside.specs.Entries.{outputs_with}
 use Rattle.chain_model.specs.declared.input_end.InputEnd.TheVariants as how
 use Rattle.chain_model.specs.Written.{written}
 use Rattle.chain_model.specs.Stuffed.{no_stuffing}
-use Rattle.stage_run.specs.Parts.{list_at_fault}
-use Rattle.window_ring.specs.Views.{Each}
+use Rattle.chain_model.specs.InputRead.{list_at_fault}
+use Rattle.chain_model.specs.Each.{Each}
 use Rattle.switch_args.specs.SwitchWords.{Given, read_of, IsBeginning, IsFirstFault}
 use Rattle.switch_args.specs.LawfulSettings.{IsLawful}
 use Rattle.play_run.specs.declared.played.PlayEnd.{PlayEnd}
 use Rattle.play_run.specs.declared.played.PlayEnd.TheVariants.{Input, WriteFault}
-use Rattle.play_run.specs.Played.{play_of, cause_of, EndsAs}
+use Rattle.play_run.specs.PlayList.{play_of, cause_of, EndsAs}
 use Rattle.switch_top.specs.declared.status.SwitchStatus.{SwitchStatus}
 use Rattle.switch_top.specs.declared.status.SwitchStatus.TheVariants as status
 use Rattle.switch_top.specs.PlayNames.{PlayName, numbered, rows_of}
 use Rattle.switch_top.specs.Lines.{play_line, switch_end_line}
 use Rattle.switch_top.specs.Switched.{PlayList, lists_of, is_plain}
-use Rattle.switch_top.specs.SoFar.{names_of, cells_of, lines_of, sources_of, with_inputs, LastRead}
+use Rattle.switch_top.specs.PlaysBehind.{names_of, cells_of, lines_of, sources_of, with_inputs, LastRead}
 use Rattle.switch_top.specs.SwitchEnds.{SwitchesPlan, no_output, out_of_memory, wanted, ran, SwitchRan, IsPart, output_name, opened_as}
 use Rattle.switch_top.specs.SwitchCall.{CallsSwitch, at_words, no_room, at_plan}
 use Rattle.switch_top.specs.SwitchPlans.{plays_of}

@@ -2,8 +2,10 @@ pub mod PlayNames
 pub mod Lines
 pub mod Switched
 pub mod Nexts
+pub mod PlaysBehind
 pub mod SoFar
 pub mod SwitchEnds
+pub mod OutputKept
 pub mod SwitchExit
 pub mod SwitchPlans
 pub mod SwitchCall

@@ -1,31 +1,26 @@
 -- How a call ends behind its plays: what is written, reported and answered. This project's own rule.
-use Rattle.std.specs.Prelude.{◌≡◌, ◌⊎◌, ℕ, ◌+◌, ◌-◌, ◌^◌, ◌<◌, min, List, [], ◌∷◌, ◌++◌, length, take, drop, codes, Bool, true, false, ◌||◌, if◌then◌else◌, Option, None, Some, IfSome}
-use Rattle.std.specs.Option.{option_map}
+use Rattle.std.specs.Prelude.{◌≡◌, ◌⊎◌, ℕ, ◌+◌, ◌-◌, ◌^◌, min, List, [], ◌∷◌, ◌++◌, length, take, drop, codes, Bool, true, false, ◌||◌, if◌then◌else◌, Option, None, Some, IfSome}
 use Rattle.ts_packet.specs.declared.cell.Cell.{Cell}
-use Rattle.ts_outside.specs.Sink.{SinkView}
 use Rattle.ts_outside.specs.Source.{SourceView}
 use Rattle.ts_outside.specs.Told.{grown}
 use Rattle.ts_outside.specs.Count.{HasCause}
 use Rattle.ts_outside.specs.declared.requests.Asked.{Asked}
 use Rattle.ts_outside.specs.declared.requests.Purpose.TheVariants as purpose
-use Rattle.ts_outside.specs.Desk.{DeskView, file_of, output_closed, asked_well, asked_in_vain}
+use Rattle.ts_outside.specs.Desk.{DeskView, file_of, asked_well, asked_in_vain}
 use Rattle.ts_outside.specs.Saying.{Says}
 use Rattle.ts_outside.specs.Entries.{outputs_with}
 use Rattle.chain_model.specs.declared.input_end.InputEnd.TheVariants as how
-use Rattle.chain_model.specs.Written.{written}
-use Rattle.stage_run.specs.OutputStands.{IsPartOfFirst}
-use Rattle.stage_run.specs.declared.output_part.OutputPart.{OutputPart}
-use Rattle.stage_run.specs.declared.output_part.OutputPart.TheVariants as out
-use Rattle.window_ring.specs.Views.{Each}
+use Rattle.chain_model.specs.Written.{written, IsPartOfFirst}
+use Rattle.chain_model.specs.Each.{Each}
 use Rattle.play_run.specs.declared.played.PlayEnd.{PlayEnd}
 use Rattle.play_run.specs.declared.played.PlayEnd.TheVariants.{Input, WriteFault}
-use Rattle.play_run.specs.Played.{play_of, EndsAs}
+use Rattle.play_run.specs.PlayList.{play_of, EndsAs}
 use Rattle.switch_args.specs.SwitchWords.{Output, to_file, dropped}
 use Rattle.switch_top.specs.declared.status.SwitchStatus.{SwitchStatus}
 use Rattle.switch_top.specs.declared.status.SwitchStatus.TheVariants as status
 use Rattle.switch_top.specs.PlayNames.{PlayName}
 use Rattle.switch_top.specs.Lines.{play_line, switch_end_line}
-use Rattle.switch_top.specs.SoFar.{Behind, IsBehind, names_of, cells_of, lines_of, all_asked, asked_of, with_inputs, LastRead, AskedFirst}
+use Rattle.switch_top.specs.PlaysBehind.{Behind, IsBehind, names_of, cells_of, lines_of, all_asked, asked_of, with_inputs, LastRead, AskedFirst}
 
 -- the status of the last play's end; the input's number is told in 32 bits
 abbrev pub status_of : ℕ → PlayEnd → SwitchStatus
@@ -47,28 +42,11 @@ ReportsPlays text input end late old new answer =
     × (answer ≡ (if late || failed then when_late (status_of input end) else status_of input end)))
     ⊎ ((answer ≡ status.NoMemory) × (new ≡ old))
 
--- the desk after the output was closed
-abbrev pub closed_as : {K : Type 0} → (K → SinkView) → DeskView → OutputPart K → Bool → DeskView
-closed_as seen desk (out.Stream sink) failed = output_closed desk (seen sink) failed
-closed_as seen desk out.Discard failed = desk
-
--- what goes nowhere is always closed
-abbrev pub ClosesWell : {K : Type 0} → OutputPart K → Bool → Type 0
-ClosesWell (out.Stream sink) failed = Unit {0}
-ClosesWell out.Discard failed = failed ≡ false
-
 -- the count of the outputs rose by a failed write and where the closing failed, and by nothing else
 pub record CountsOutput (old new : ℕ) (end : PlayEnd) (late : Bool) : Type 0 where
   pub fault : end ≡ WriteFault → HasCause old new
   pub late_cause : late ≡ true → HasCause old new
   pub still : late ≡ false → (end ≡ WriteFault → ⊥) → new ≡ old
-
--- an output that was opened under a name and took nothing, or none
-abbrev pub IsOutputOf : {K : Type 0} → (K → SinkView) → DeskView → Option (List ℕ) → OutputPart K → Type 0
-IsOutputOf seen desk (Some name) (out.Stream sink) =
-    seen sink ≡ record { taken = option_map (λ _. []) desk.outputs; name = option_map (λ _. name) desk.outputs; faults = 0 }
-IsOutputOf seen desk None out.Discard = Unit {0}
-IsOutputOf seen desk _ _ = ⊥
 
 -- after a failed write alone, a part of the packet behind was taken too
 abbrev pub IsPart : List Cell → ℕ → PlayEnd → List ℕ → Type 0

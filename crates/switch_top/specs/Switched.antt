@@ -8,7 +8,7 @@ use Rattle.chain_model.specs.declared.input_end.InputEnd.TheVariants.{End}
 use Rattle.chain_model.specs.Apply.{StageList, OwnEnd, input_over}
 use Rattle.play_run.specs.declared.played.PlayEnd.{PlayEnd}
 use Rattle.play_run.specs.declared.played.PlayEnd.TheVariants.{Input, WriteFault}
-use Rattle.play_run.specs.Played.{play_of}
+use Rattle.play_run.specs.PlayList.{play_of}
 use Rattle.switch_top.specs.PlayNames.{PlayName}
 use Rattle.switch_top.specs.Lines.{play_line, switch_end_line}
 

@@ -8,7 +8,8 @@ ghost use Rattle.switch_top.specs.Nexts.{kind_of};
 ghost use Rattle.switch_top.specs.PlayNames.{PlayName};
 ghost use Rattle.switch_top.specs.Lines.{switch_end_line};
 ghost use Rattle.switch_top.specs.SoFar.{AreAllPlayed, RanTo, Wanted};
-ghost use Rattle.switch_top.specs.SwitchEnds.{ReportsPlays, closed_as, ClosesWell, IsOutputOf, SwitchRan, SwitchWanted};
+ghost use Rattle.switch_top.specs.SwitchEnds.{ReportsPlays, SwitchRan, SwitchWanted};
+ghost use Rattle.switch_top.specs.OutputKept.{closed_as, ClosesWell, IsOutputOf};
 
 use crate::lines::end_line_text;
 use crate::status::{SwitchStatus, status_if_late, status_of};

@@ -7,16 +7,18 @@ mod ending;
 mod laws;
 mod lines;
 mod plan;
+mod playing;
 mod plays_left;
 mod status;
 mod stepping;
 mod switching;
 
-pub use call::{switch_call, switch_plan};
+pub use call::switch_call;
 pub use laws::{
     switched_complete, switched_ends, switched_faults, switched_first, switched_status,
     switched_whole,
 };
 pub use plan::SwitchPlan;
+pub use playing::switch_plan;
 pub use status::SwitchStatus;
 pub use switch_args::SwitchOutput;

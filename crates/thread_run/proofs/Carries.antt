@@ -5,7 +5,7 @@ use denote.RawPtr.{Ptr}
 use Rattle.stage_run.specs.Seeing.{Seeing}
 use Rattle.chain_run.specs.Runs.{RunStart}
 use Rattle.window_ring.specs.declared.ring.Ring.{Ring}
-use Rattle.window_ring.specs.Views.{Each}
+use Rattle.chain_model.specs.Each.{Each}
 use Rattle.window_ring.specs.Seats.{key_of, table_of}
 use Rattle.thread_run.specs.declared.stage.Stage.{Stage}
 use Rattle.thread_run.specs.Standing.{key_at}

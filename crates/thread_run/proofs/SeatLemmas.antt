@@ -9,7 +9,7 @@ use Rattle.chain_run.specs.OneStage.{Doing}
 use Rattle.chain_run.specs.NewRow.{IsNewRow}
 use Rattle.window_ring.specs.declared.ring.Ring.{Ring}
 use Rattle.window_ring.specs.declared.stage_seat.StageSeat.{StageSeat}
-use Rattle.window_ring.specs.Views.{Each}
+use Rattle.chain_model.specs.Each.{Each}
 use Rattle.window_ring.specs.Seats.{key_of, table_of}
 use Rattle.window_ring.specs.declared.opening.NewRing.{NewRing}
 use Rattle.window_ring.specs.Opening.{IsFresh, IsNew}

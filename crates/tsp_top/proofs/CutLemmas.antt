@@ -5,17 +5,15 @@ use Rattle.std.proofs.lemmas.Bool.{eq-eqb}
 use Rattle.ts_packet.specs.declared.cell.Cell.{Cell}
 use Rattle.ts_packet.specs.Cells.{Live, Dropped}
 use Rattle.chain_model.specs.Prefix.{IsPrefix}
-use Rattle.chain_model.specs.Written.{written}
+use Rattle.chain_model.specs.Written.{written, IsPartOfFirst}
 use Rattle.stage_run.proofs.WritingLemmas.{written-take-add}
 use Rattle.chain_model.specs.PluginRule.{PluginRule}
 use Rattle.chain_model.specs.Apply.{StageList}
 use Rattle.chain_model.specs.StageLists.{end_list}
 use Rattle.chain_model.specs.Joint.{joint_position}
-use Rattle.chain_model.specs.Cut.{Ending, lesser_end, first_cause, causes_at, cause_among, endings_of, cut_of, cause_of, IsLawfulFault}
+use Rattle.chain_model.specs.Cut.{Ending, lesser_end, first_cause, causes_at, cause_among, endings_of, cut_of, cause_of, IsLawfulFault, IsPureClose}
 use Rattle.chain_model.specs.declared.cause.Cause.{Cause}
 use Rattle.chain_model.specs.declared.cause.Cause.TheVariants.{Input, Joint, Until, Stop, Refuse, WriteFault, NoMemory}
-use Rattle.chain_core.specs.EveryOrder.{IsPureClose}
-use Rattle.stage_run.specs.OutputStands.{IsPartOfFirst}
 use Rattle.tsp_top.specs.StreamTheorem.{IsCutPart}
 
 -- the cut is where the list ends, or the joint position

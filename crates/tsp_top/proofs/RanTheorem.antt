@@ -12,13 +12,12 @@ use Rattle.chain_model.specs.PluginRule.{PluginRule}
 use Rattle.chain_model.specs.Apply.{StageList}
 use Rattle.chain_model.specs.StageLists.{end_list}
 use Rattle.chain_model.specs.Written.{written}
-use Rattle.chain_model.specs.Cut.{cut_of, IsLawfulFault}
+use Rattle.chain_model.specs.Cut.{cut_of, IsLawfulFault, IsPureClose}
 use Rattle.chain_model.specs.PureRun.{chain_rules, reported_at}
 use Rattle.chain_model.specs.Reports.{rules_of, reports}
 use Rattle.chain_model.specs.Stuffed.{stuffed}
 use Rattle.chain_model.specs.Stuffed as model
 use Rattle.chain_core.specs.Stages.{stages_of}
-use Rattle.chain_core.specs.EveryOrder.{IsPureClose}
 use Rattle.chain_core.specs.declared.closed.Closed.{Closed}
 use Rattle.chain_core.specs.declared.core_plan.CorePlan.{CorePlan}
 use Rattle.plug_set.specs.declared.plugin_item.PluginItem.{PluginItem}

@@ -17,8 +17,10 @@ use Rattle.stage_run.specs.declared.input_part.InputPart.{InputPart}
 use Rattle.stage_run.specs.declared.input_part.InputPart.TheVariants.{Stream, Nulls, Generated}
 use Rattle.ts_testgen.specs.Generated.{Generator}
 use Rattle.stage_run.specs.GeneratedInput.{input_of_generated}
-use Rattle.stage_run.specs.Parts.{IsListOf, IsUnused, list_at_fault}
-use Rattle.chain_run.specs.RunOf.{MayRead, CutsAtFault, ReadsSource, LeftInput}
+use Rattle.stage_run.specs.Parts.{IsListOf, IsUnused}
+use Rattle.chain_model.specs.InputRead.{list_at_fault, MayRead}
+use Rattle.chain_run.specs.RunOf.{LeftInput}
+use Rattle.chain_run.specs.SourceRead.{CutsAtFault, ReadsSource}
 use Rattle.packet_forms.specs.declared.forms.Form.{Form}
 use Rattle.packet_forms.specs.Stripped.{unit, stripped, stripped_from}
 use Rattle.packet_forms.proofs.Strips.{some-raw}

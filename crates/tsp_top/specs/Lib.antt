@@ -10,6 +10,7 @@ pub mod Readings
 pub mod Refusals
 pub mod Reported
 pub mod Sizes
+pub mod PlannedCore
 pub mod StreamTheorem
 pub mod TableEnds
 pub mod TspCall

@@ -22,7 +22,7 @@ use Rattle.chain_run.specs.RunOf.{RunOf, NeverBegan}
 use Rattle.plug_set.specs.Plugins.{steady_of}
 use Rattle.tsp_top.specs.PlannedChain.{stuffing_of, named_rules}
 use Rattle.tsp_top.specs.PlannedTables.{AreTables, tables_asked}
-use Rattle.tsp_top.specs.Sizes.{IsPlannedCore}
+use Rattle.tsp_top.specs.PlannedCore.{IsPlannedCore}
 use Rattle.tsp_top.specs.Openings.{asked_input, asked_output, OpensInput, OpensOutput, IsThrough, input_closed_as, output_closed_as, WasOpened}
 use Rattle.tsp_top.specs.Reported.{ReportsRun}
 use Rattle.tsp_top.specs.declared.status.Status.{Status}

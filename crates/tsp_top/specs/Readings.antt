@@ -11,8 +11,7 @@ use Rattle.packet_forms.specs.declared.forms.Form.{Form}
 use Rattle.packet_forms.specs.Stripped.{stripped}
 use Rattle.ts_outside.specs.Desk.{DeskView, file_of}
 use Rattle.ts_outside.specs.Entries.{closed_with}
-use Rattle.stage_run.specs.Parts.{IsInSyncSoFar, list_at_fault}
-use Rattle.chain_run.specs.RunOf.{MayRead}
+use Rattle.chain_model.specs.InputRead.{IsInSyncSoFar, list_at_fault, MayRead}
 use Rattle.tsp_top.specs.PlannedChain.{stuffing_of}
 use Rattle.tsp_top.specs.Sizes.{most_buffer}
 

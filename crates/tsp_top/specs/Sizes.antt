@@ -1,12 +1,7 @@
 -- The sizes of a run. This project's own rule: a size that the words give holds as it stands; one that they do not give is
 -- the program's own choice, at most the option's default. No byte and no line depends on them.
-use Rattle.std.specs.Prelude.{◌≡◌, ◌≤◌, ℕ, min, length, Option, None, Some, unwrap_or}
+use Rattle.std.specs.Prelude.{◌≡◌, ◌≤◌, ℕ, min, Option, None, Some, unwrap_or}
 use Rattle.chain_args.specs.declared.general_conf.GeneralConf.{GeneralConf}
-use Rattle.chain_args.specs.declared.plan_type.Plan.{Plan}
-use Rattle.chain_core.specs.declared.core_plan.CorePlan.{CorePlan}
-use Rattle.chain_core.specs.CoreNumbers as core
-use Rattle.chain_core.specs.Stages.{stages_of}
-use Rattle.tsp_top.specs.PlannedChain.{users_of}
 
 -- the defaults of the options: packets of the buffer, and packets that a stage takes at a time
 abbrev pub default_buffer : ℕ
@@ -31,12 +26,3 @@ lesser_batch (Some input) (Some flushed) = Some (min input flushed)
 -- the most packets that the buffer may have
 abbrev pub most_buffer : GeneralConf → ℕ
 most_buffer general = unwrap_or general.buffer_packets default_buffer
-
--- the numbers of a chain's core are the plan's
-pub record IsPlannedCore (plan : Plan) (numbers : CorePlan) : Type 0 where
-  pub lawful : core.IsLawfulPlan numbers
-  pub plugins : numbers.plugins ≡ length plan.plugins
-  pub buffer : IsSize plan.general.buffer_packets default_buffer numbers.buffer
-  pub most : IsSize (lesser_batch plan.general.max_input_packets plan.general.max_flushed_packets)
-      default_batch numbers.most
-  pub users : stages_of numbers.users ≡ users_of plan

@@ -2,19 +2,18 @@
 use Rattle.std.specs.Prelude.{◌≡◌, ◌⊎◌, ℕ, List, [], ◌∷◌, ◌++◌, take, drop, codes, true, false, IfSome}
 use Rattle.chain_model.specs.Prefix.{IsPrefix}
 use Rattle.chain_model.specs.StageLists.{end_list}
-use Rattle.chain_model.specs.Cut.{IsLawfulFault}
+use Rattle.chain_model.specs.Cut.{IsLawfulFault, IsPureClose}
 use Rattle.chain_model.specs.PureRun.{Chain, chain_rules, chain_cut, written_to, reported_at}
 use Rattle.chain_model.specs.declared.cause.Cause.{Cause}
 use Rattle.chain_model.specs.declared.cause.Cause.TheVariants.{WriteFault}
 use Rattle.chain_args.specs.declared.plan_type.Plan.{Plan}
-use Rattle.chain_core.specs.EveryOrder.{IsPureClose}
 use Rattle.ts_packet.specs.declared.cell.Cell.{Cell}
 use Rattle.ts_outside.specs.Told.{grown}
 use Rattle.ts_outside.specs.declared.requests.Purpose.TheVariants.{Input, Output}
 use Rattle.ts_outside.specs.Desk.{DeskView}
 use Rattle.ts_outside.specs.Saying.{ReportsText, ReportsNothing}
 use Rattle.ts_outside.specs.Entries.{asked_for, outputs_with}
-use Rattle.stage_run.specs.OutputStands.{IsPartOfFirst}
+use Rattle.chain_model.specs.Written.{IsPartOfFirst}
 use Rattle.tsp_top.specs.CallEnd.{CallEnd, no_input, no_output, ran, unreported, out_of_memory, StatusTellsCause}
 use Rattle.tsp_top.specs.CanEnd.{CanEnd}
 use Rattle.tsp_top.specs.PlannedChain.{chain_of, input_name, output_name}

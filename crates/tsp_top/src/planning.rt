@@ -5,7 +5,8 @@ ghost use Rattle.chain_args.specs.LawfulPlan as args;
 ghost use Rattle.chain_core.specs.Stages.{stages_of};
 ghost use Rattle.stage_run.specs.InputStands as stage;
 ghost use Rattle.tsp_top.specs.PlannedChain.{stuffing_of, user_at, users_from, users_of};
-ghost use Rattle.tsp_top.specs.Sizes.{default_buffer, default_batch, IsSize, lesser_batch, IsPlannedCore};
+ghost use Rattle.tsp_top.specs.Sizes.{default_buffer, default_batch, IsSize, lesser_batch};
+ghost use Rattle.tsp_top.specs.PlannedCore.{IsPlannedCore};
 
 use crate::driver::Driver;
 use chain_args::{GeneralConf, Plan};

@@ -7,7 +7,8 @@ use Rattle.window_ring.specs.declared.state.State.{State}
 use Rattle.window_ring.specs.declared.view.Key.{Key}
 use Rattle.window_ring.specs.declared.view.View.{View}
 use Rattle.window_ring.specs.declared.view.Holding.{Holding}
-use Rattle.window_ring.specs.Views.{Each, Since, root_view}
+use Rattle.window_ring.specs.Views.{Since, root_view}
+use Rattle.chain_model.specs.Each.{Each}
 use Rattle.window_ring.specs.Turns.{Kept, IsFree}
 use Rattle.window_ring.specs.Stands.{Stands}
 use Rattle.window_ring.specs.Closing.{Has, CoversAll, Opened}

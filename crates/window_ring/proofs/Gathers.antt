@@ -20,7 +20,8 @@ use Rattle.window_ring.specs.declared.view.View.{View}
 use Rattle.window_ring.specs.declared.view.Holding.{Holding}
 use Rattle.window_ring.specs.declared.stage_seat.StageSeat.{StageSeat}
 use Rattle.window_ring.specs.declared.closing.Left.{Left}
-use Rattle.window_ring.specs.Views.{Each, Since, land_of, holding, at_rest, root_view}
+use Rattle.window_ring.specs.Views.{Since, land_of, holding, at_rest, root_view}
+use Rattle.chain_model.specs.Each.{Each}
 use Rattle.window_ring.specs.Stands.{Stands, waiting}
 use Rattle.window_ring.specs.Visits.{IsHandOf}
 use Rattle.window_ring.specs.Seats.{busy_of, seen_of}

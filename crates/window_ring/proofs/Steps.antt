@@ -12,7 +12,8 @@ use Rattle.chain_core.specs.ChainRun.{state_after}
 use Rattle.window_ring.specs.declared.state.State.{State}
 use Rattle.window_ring.specs.declared.view.View.{View}
 use Rattle.window_ring.specs.declared.view.Holding.{Holding}
-use Rattle.window_ring.specs.Views.{Each, NoneOf, Since, holding, at_rest, within, root_view, spent_view}
+use Rattle.window_ring.specs.Views.{NoneOf, Since, holding, at_rest, within, root_view, spent_view}
+use Rattle.chain_model.specs.Each.{Each}
 use Rattle.window_ring.specs.Stands.{visit_in, Stands}
 use Rattle.window_ring.specs.Turns.{Knows, IsFree, IsTaken, Kept, Takes, Leaves, turned_away}
 

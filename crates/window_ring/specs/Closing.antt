@@ -12,7 +12,8 @@ use Rattle.window_ring.specs.declared.view.Key.{Key}
 use Rattle.window_ring.specs.declared.view.Holding.{Holding}
 use Rattle.window_ring.specs.declared.stage_seat.StageSeat.{StageSeat}
 use Rattle.window_ring.specs.declared.closing.Left.{Left}
-use Rattle.window_ring.specs.Views.{Each, Since, land_of}
+use Rattle.window_ring.specs.Views.{Since, land_of}
+use Rattle.chain_model.specs.Each.{Each}
 use Rattle.window_ring.specs.Stands.{Stands}
 use Rattle.window_ring.specs.Seats.{seen_of, IsSeat}
 

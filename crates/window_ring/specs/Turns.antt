@@ -6,7 +6,8 @@ use Rattle.atomic_table.specs.Table as table
 use Rattle.atomic_table.specs.Table.{Me, Step}
 use Rattle.chain_core.specs.Machine.{Visit}
 use Rattle.chain_core.specs.ChainRun.{ChainRun}
-use Rattle.window_ring.specs.Views.{Each, Since, at_rest}
+use Rattle.window_ring.specs.Views.{Since, at_rest}
+use Rattle.chain_model.specs.Each.{Each}
 use Rattle.window_ring.specs.Stands.{Stands, visit_in}
 use Rattle.window_ring.specs.declared.state.State.{State}
 use Rattle.window_ring.specs.declared.view.Key.{Key}

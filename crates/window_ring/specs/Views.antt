@@ -2,15 +2,11 @@
 use Rattle.std.specs.Prelude.{◌≡◌, ◌≢◌, ℕ, List, [], ◌∷◌, ◌++◌, true, false}
 use denote.RawPtr.{null_ptr}
 use Rattle.ts_land.specs.Pieces.{Land}
+use Rattle.chain_model.specs.Each.{Each}
 use Rattle.chain_core.specs.Machine.{Visit}
 use Rattle.window_ring.specs.declared.view.Key.{Key}
 use Rattle.window_ring.specs.declared.view.View.{View}
 use Rattle.window_ring.specs.declared.view.Holding.{Holding}
-
--- each of them is so
-abbrev pub Each : {X : Type 0} → (X → Type 0) → List X → Type 0
-Each F [] = Unit {0}
-Each F (x ∷ xs) = F x × Each F xs
 
 -- none of these visits is of stage `k`
 abbrev pub NoneOf : ℕ → List Visit → Type 0

@@ -1,6 +1,7 @@
 use Rattle.std.proofs.Common.{sym, ◌∙◌, ap, subst}
 use Rattle.switch_top.specs.Nexts.{kind_of}
-use Rattle.switch_top.specs.SwitchEnds.{closed_as, ClosesWell, SwitchRan}
+use Rattle.switch_top.specs.SwitchEnds.{SwitchRan}
+use Rattle.switch_top.specs.OutputKept.{closed_as, ClosesWell}
 use Rattle.switch_top.proofs.EndLemmas.{switch-ran}
 use Rattle.switch_top.proofs.ending.finish_over.Goals as goal
 

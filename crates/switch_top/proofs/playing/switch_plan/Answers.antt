@@ -4,7 +4,7 @@ use Rattle.ts_outside.specs.Desk.{DeskView}
 use Rattle.ts_outside.specs.Saying.{Says}
 use Rattle.switch_top.specs.SwitchEnds.{no_output}
 use Rattle.switch_top.proofs.EndLemmas.{failed-of}
-use Rattle.switch_top.proofs.call.switch_plan.Goals as goal
+use Rattle.switch_top.proofs.playing.switch_plan.Goals as goal
 
 pub returns-in-Err-Failed : goal.returns-in-Err-Failed
 returns-in-Err-Failed g c =
