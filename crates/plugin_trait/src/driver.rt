@@ -1,8 +1,8 @@
 //! The driver of a plugin: a list of cells through it.
-ghost use Rattle.std.specs.Prelude.{◌≡◌, ◌≤◌, ℕ, [], take, vec_len};
+ghost use Rattle.std.specs.Prelude.{◌≡◌, ◌≢◌, ◌≤◌, ℕ, [], take, vec_len};
 ghost use Rattle.chain_model.specs.declared.positions.TheConstants.{POSITION_LIMIT};
 ghost use Rattle.chain_model.specs.Apply.{apply};
-ghost use Rattle.plugin_trait.specs.Steps.{MeetsCells};
+ghost use Rattle.plugin_trait.specs.Steps.{IsSteadyFor, MeetsCells};
 ghost use Rattle.plugin_trait.specs.Driving.{Makes, AgreesNow};
 
 use crate::{ListEnd, Plugin};
@@ -20,7 +20,8 @@ pub(crate) fn note_agreement(agrees: bool, noted: &mut bool, now: u64) -> Option
     None
 }
 
-/// Takes a whole list of cells through a plugin that met none yet. The list becomes the plugin's own.
+/// Takes a whole list of cells through a plugin that met none yet. The list becomes the plugin's own. Memory is wanted only
+/// where the plugin made no room for the notes on so many cells.
 pub fn apply_plugin<P: Plugin>(plugin: &mut P, cells: &mut Vec<Cell>) -> ListEnd
     requires met { MeetsCells (P.stands_for plugin.old) 0 }
     requires in_range { vec_len cells.old ≤ POSITION_LIMIT }
@@ -30,6 +31,7 @@ pub fn apply_plugin<P: Plugin>(plugin: &mut P, cells: &mut Vec<Cell>) -> ListEnd
     ensures fewer { vec_len cells.new ≤ vec_len cells.old }
     ensures same_rule { P.rule plugin.new ≡ P.rule plugin.old }
     ensures same_steady { P.steady plugin.new ≡ P.steady plugin.old }
+    ensures room { IsSteadyFor (P.steady plugin.old) (vec_len cells.old) → result ≢ ListEnd.NoMemory }
 {
     let mut noted = true;
     let applied = plugin.steps(0, cells.as_mut_slice(), &mut noted);
