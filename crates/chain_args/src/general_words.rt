@@ -11,8 +11,8 @@ use clap::Command;
 use option_words::{OptionWord, ParsedOptions, Refusal, command_with};
 use std::alloc::{AllocError, Global};
 
-/// The most packets of one stuffing, of the buffer, and of one turn of a stage.
-const MOST_PACKETS: u64 = 1_000_000;
+/// The greatest size, in packets, of one stuffing, of the buffer, and of one turn of a stage.
+const MOST_SIZE: u64 = 1_000_000;
 
 /// The most null packets that are put between packets of the input.
 const MOST_BETWEEN: u64 = 1_000;
@@ -38,7 +38,7 @@ fn general_settings(found: &ParsedOptions) -> Result<GeneralConf, Refusal>
     ensures reads { ReadsParsed general found.now result }
     ensures lawful { IfOk result IsLawfulGeneral }
 {
-    let most = MOST_PACKETS;
+    let most = MOST_SIZE;
     let add_start_stuffing = found.number_or("add-start-stuffing", 0, most, 0)?;
     let add_stop_stuffing = found.number_or("add-stop-stuffing", 0, most, 0)?;
     let between = found.pair("add-input-stuffing", '/', (0, MOST_BETWEEN), (1, most))?;

@@ -27,7 +27,7 @@ fn after(place: usize, len: usize) -> usize
 }
 
 /// Whether one of the two holds.
-fn either(one: bool, other: bool) -> bool
+fn one_holds(one: bool, other: bool) -> bool
     ensures { result ≡ (one || other) }
 {
     one || other
@@ -134,7 +134,7 @@ impl<S: Source, K: Sink, P: Plugin> SerialChain<S, K, P> {
             let most = sizes[*next];
             *next = after(*next, sizes.len());
             let turned = self.turn(stage, most as usize, gate);
-            moved = either(turned, moved);
+            moved = one_holds(turned, moved);
         }
         moved
     }

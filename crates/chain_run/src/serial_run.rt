@@ -26,15 +26,15 @@ use ts_outside::{Gate, Sink, Source};
 use ts_packet::Cell;
 
 /// The memory of a run, but for that of the plugins.
-struct RunMemory<S, K, P> {
+struct SerialMemory<S, K, P> {
     core: Core,
     cells: Vec<Cell>,
     rooms: StageRooms<S, K, P>,
 }
 
-impl<S, K, P> RunMemory<S, K, P> {
+impl<S, K, P> SerialMemory<S, K, P> {
     /// Takes the memory for a chain with this plan. After an `AllocError` nothing is taken.
-    fn new(alloc: Global, plan: &CorePlan) -> Result<RunMemory<S, K, P>, AllocError>
+    fn new(alloc: Global, plan: &CorePlan) -> Result<SerialMemory<S, K, P>, AllocError>
         requires { IsLawfulPlan plan.now }
         ensures plan { IfOk result (λ memory. memory.core.plan ≡ plan.now) }
         ensures fresh { IfOk result (λ memory. StandsFor memory.core start) }
@@ -48,7 +48,7 @@ impl<S, K, P> RunMemory<S, K, P> {
         let input = IoBuffer::new(alloc, window)?;
         let output = IoBuffer::new(alloc, window)?;
         let row = Vec::with_capacity(alloc, plan.plugins + 2)?;
-        Ok(RunMemory {
+        Ok(SerialMemory {
             core,
             cells,
             rooms: StageRooms { input, output, row },
@@ -58,7 +58,7 @@ impl<S, K, P> RunMemory<S, K, P> {
 
 /// Lays the stages in a row: the input, the plugins and the output. Nothing is read, met or written.
 fn lay<S: Source, K: Sink, P: Plugin>(
-    memory: RunMemory<S, K, P>,
+    memory: SerialMemory<S, K, P>,
     input: InputPart<S>,
     stuffing: Stuffing,
     plugins: &mut Vec<P>,
@@ -79,7 +79,7 @@ fn lay<S: Source, K: Sink, P: Plugin>(
     ensures none_left { plugins.new.items ≡ [] }
     ensures room_left { vec_capacity plugins.new ≡ vec_capacity plugins.old }
 {
-    let RunMemory { core, cells, rooms } = memory;
+    let SerialMemory { core, cells, rooms } = memory;
     let parts = lay_stages(rooms, input, stuffing, plugins, output);
     SerialChain { core, parts, cells }
 }
@@ -157,7 +157,7 @@ pub fn run_serial<S: Source, K: Sink, P: Plugin, G: Gate>(
         mut plugins,
         output,
     } = stages;
-    let Ok(memory) = RunMemory::new(alloc, plan) else {
+    let Ok(memory) = SerialMemory::new(alloc, plan) else {
         return RunEnd {
             input,
             plugins,

@@ -13,6 +13,6 @@ pub enum Outcome {
     Stop,
     /// The list ends before the packet, which is refused.
     Refuse(Reason),
-    /// Memory was wanted. The plugin and the cell are as they were.
+    /// Memory was wanted. The cell is as it was, and the plugin stands for the cells that it met before it.
     NoMemory,
 }

@@ -34,15 +34,15 @@ use window_ring::{NewRing, Ring, StageSeat, State, View, new_ring};
 
 /// The memory of a run, but for that of the plugins: the rooms of its stages, an empty row with room for the stages with
 /// their seats, and a new ring.
-struct RunMemory<S, K, P> {
+struct ThreadedMemory<S, K, P> {
     rooms: StageRooms<S, K, P>,
     stages: Vec<Stage<S, K, P>>,
     ring: NewRing,
 }
 
-impl<S, K, P> RunMemory<S, K, P> {
+impl<S, K, P> ThreadedMemory<S, K, P> {
     /// Takes the memory for a chain with this plan. After an `AllocError` nothing is taken.
-    fn new(alloc: Global, plan: &CorePlan) -> Result<RunMemory<S, K, P>, AllocError>
+    fn new(alloc: Global, plan: &CorePlan) -> Result<ThreadedMemory<S, K, P>, AllocError>
         requires { IsLawfulPlan plan.now }
         ensures ring { IfOk result (λ memory. IsNew plan.now memory.ring) }
         ensures none { IfOk result (λ memory. memory.rooms.row.items ≡ []) }
@@ -64,7 +64,7 @@ impl<S, K, P> RunMemory<S, K, P> {
             row.destroy_empty();
             return Err(AllocError);
         };
-        Ok(RunMemory {
+        Ok(ThreadedMemory {
             rooms: StageRooms { input, output, row },
             stages,
             ring,
@@ -254,12 +254,12 @@ pub fn run_threads<
         output,
     } = stages;
     let Ok(
-        RunMemory {
+        ThreadedMemory {
             rooms,
             stages,
             ring,
         },
-    ) = RunMemory::new(alloc, plan)
+    ) = ThreadedMemory::new(alloc, plan)
     else {
         return RunEnd {
             input,

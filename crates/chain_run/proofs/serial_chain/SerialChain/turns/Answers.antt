@@ -15,13 +15,13 @@ loop-stage-preserved g c =
     let start : StagesProgress = progress_of_core c.args.self.now.core in
     let old : StagesProgress = progress_of_core c.loop-stage.self.core in
     let new : StagesProgress = progress_of_core c.turn-turned.new.self.core in
-    let branch : ((c.turn-turned.result ≡ true) × (c.either-moved.result ≡ true)) ⊎ ((c.turn-turned.result ≡ false) × (c.either-moved.result ≡ c.loop-stage.moved)) =
+    let branch : ((c.turn-turned.result ≡ true) × (c.one_holds-moved.result ≡ true)) ⊎ ((c.turn-turned.result ≡ false) × (c.one_holds-moved.result ≡ c.loop-stage.moved)) =
     elim (cases_Bool c.turn-turned.result) [
-      | inl yes_ ↦ inl (yes_, c.either-moved.ensures ∙ ap (λ (b : Bool). b || c.loop-stage.moved) yes_)
-      | inr no_ ↦ inr (no_, c.either-moved.ensures ∙ ap (λ (b : Bool). b || c.loop-stage.moved) no_)
+      | inl yes_ ↦ inl (yes_, c.one_holds-moved.ensures ∙ ap (λ (b : Bool). b || c.loop-stage.moved) yes_)
+      | inr no_ ↦ inr (no_, c.one_holds-moved.ensures ∙ ap (λ (b : Bool). b || c.loop-stage.moved) no_)
     ] in
-    let turned : Turned plan start new n (c.loop-stage.stage + 1) c.either-moved.result =
-    one-more plan start old new n c.loop-stage.stage c.loop-stage.moved c.turn-turned.result c.either-moved.result branch
+    let turned : Turned plan start new n (c.loop-stage.stage + 1) c.one_holds-moved.result =
+    one-more plan start old new n c.loop-stage.stage c.loop-stage.moved c.turn-turned.result c.one_holds-moved.result branch
     (record { moves = c.loop-stage.invariant.moved; rests = c.loop-stage.invariant.rests; idle = c.loop-stage.invariant.idle })
     (subst (λ (p : CorePlan). c.turn-turned.result ≡ true → remaining_work new (p.plugins + 2) < remaining_work old (p.plugins + 2)) c.loop-stage.invariant.plan c.turn-turned.ensures.moved)
     c.turn-turned.ensures.rests
