@@ -2,7 +2,7 @@
 -- ISO/IEC 13818-1, 2.6, and ETSI EN 300 468, 6: the tag says of which page the body is.
 use Rattle.std.specs.Prelude.{◌≡◌, ℕ, ◌-◌, ◌/◌, ◌^◌, ◌<◌, ◌≤◌, min, nat_eq, List, [], length, Option, Some, None, Result, Ok, Err}
 use Rattle.std.specs.List.{find}
-use Rattle.ts_bits.specs.TaggedBody.{TaggedBody}
+use Rattle.ts_bits.specs.TaggedBody.{TaggedBody, IsDescriptor}
 use Rattle.ts_fields.specs.Bits.{bits_of}
 use Rattle.ts_fields.specs.Layout.{Row, Held}
 use Rattle.ts_fields.specs.Reading.{◌>>=◌}
@@ -50,6 +50,11 @@ pub record IsWritten (p : Page) (h : Holding) (d : TaggedBody) : Type 0 where
   pub same_tag : d.tag ≡ p.tag
   pub room : length d.body ≤ 255
   pub same_bits : bits_of d.body ≡ spell_page p h
+
+-- a descriptor that is read by some pages as this, and the only one that is
+pub record IsReadBack (pages : List Page) (t : Typed) (d : TaggedBody) : Type 0 where
+  pub again : read_typed pages d ≡ Some t
+  pub alone : (e : TaggedBody) → IsDescriptor e → read_typed pages e ≡ Some t → e ≡ d
 
 -- how many bytes the body has that holds this
 abbrev pub body_size : Page → Holding → ℕ

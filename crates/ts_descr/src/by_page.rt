@@ -1,10 +1,12 @@
 //! One descriptor by its page.
 
-ghost use Rattle.std.specs.Prelude.{◌≡◌, ◌-◌, ◌^◌, min, true, option_map, IfOk, IfSome, IsTrue};
+ghost use Rattle.std.specs.Prelude.{◌≡◌, ◌-◌, ◌^◌, List, min, nat_eq, true, option_map, Some, IfOk, IfSome, IsTrue};
+ghost use Rattle.std.specs.List.{find};
 ghost use Rattle.ts_fields.specs.Bits.{bits_of};
-ghost use Rattle.ts_fields.specs.Bodies.{page, page_sound, page_fits, page_shaped, body_held, read_page};
-ghost use Rattle.ts_descr.specs.Descriptors.{Writes};
+ghost use Rattle.ts_fields.specs.Bodies.{Page, page, page_sound, page_exact, page_fits, page_fits_uncounted, page_shaped, body_held, read_page};
+ghost use Rattle.ts_descr.specs.Descriptors.{Writes, IsReadBack};
 
+use crate::descr_laws::written_is_read_back;
 use crate::refusal::DescrRefusal;
 use std::alloc::{AllocError, Global};
 use ts_bits::Descriptor;
@@ -28,7 +30,8 @@ pub fn read_by_page(
     }
 }
 
-/// The descriptor with the page's tag whose body holds this.
+/// The descriptor with the page's tag whose body holds this. By any pages of which this one has the tag it is
+/// read back, if what it holds fits the page's fields and none of their bits are free.
 pub fn write_by_page(
     alloc: Global,
     layout: &Layout,
@@ -36,16 +39,24 @@ pub fn write_by_page(
 ) -> Result<Descriptor, DescrRefusal>
     requires sound { IsTrue (page_sound (page layout.now)) }
     requires shaped { page_shaped (page layout.now) (body_held body.now) ≡ true }
-    ensures { Writes (page layout.now) (body_held body.now) result }
+    ensures written { Writes (page layout.now) (body_held body.now) result }
+    ensures back { (pages : List Page)
+        → find (λ p. nat_eq (page layout.now).tag p.tag) pages ≡ Some (page layout.now)
+        → page_exact (page layout.now) ≡ true
+        → page_fits_uncounted (page layout.now) (body_held body.now) ≡ true
+        → IfOk result (λ d. IsReadBack pages
+        (record { tag = (page layout.now).tag; holding = body_held body.now }) d) }
 {
     let bytes = write_body(alloc, layout, body)?;
-    // A law, which runs nothing: a row of bytes has eight times as many bits.
+    // Laws, which run nothing: a row of bytes has eight times as many bits, and what fits is read back.
     length_of_bits();
+    written_is_read_back();
     if bytes.len() > 255 {
         let bytes = told_size(bytes.len());
         return Err(DescrRefusal::TooLarge { bytes });
     }
     let descriptor = Descriptor::new(alloc, layout.tag, &bytes)?;
+    let _fits = descriptor.body();
     Ok(descriptor)
 }
 

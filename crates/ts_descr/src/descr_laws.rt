@@ -2,17 +2,28 @@
 
 ghost use Rattle.std.specs.Prelude.{◌≡◌, List, nat_eq, true, Some, IsTrue};
 ghost use Rattle.std.specs.List.{find};
-ghost use Rattle.ts_bits.specs.TaggedBody.{TaggedBody};
-ghost use Rattle.ts_fields.specs.Fitting.{are_bytes};
+ghost use Rattle.ts_bits.specs.TaggedBody.{TaggedBody, IsDescriptor};
 ghost use Rattle.ts_fields.specs.Bodies.{Page, Holding, page_sound, page_exact, page_fits_uncounted};
-ghost use Rattle.ts_descr.specs.Descriptors.{IsWritten, read_typed};
+ghost use Rattle.ts_descr.specs.Descriptors.{IsWritten, IsReadBack, read_typed};
 
 use ts_fields::{
     bits_tell_bytes, length_of_bits, read_is_written, small_page_fits, written_is_read,
 };
 
-/// A descriptor that is written is read again, if its numbers are below their widths' bounds.
-pub fn written_is_typed()
+/// A descriptor that is written by a page with no free bits is read back, if what it holds fits the page's
+/// fields.
+pub fn written_is_read_back()
+    ensures { (pages : List Page) (p : Page) (h : Holding) (d : TaggedBody)
+        → find (λ q. nat_eq p.tag q.tag) pages ≡ Some p → IsTrue (page_sound p) → page_exact p ≡ true
+        → page_fits_uncounted p h ≡ true → IsDescriptor d → IsWritten p h d
+        → IsReadBack pages (record { tag = p.tag; holding = h }) d }
+{
+    written_is_typed();
+    typed_is_written();
+}
+
+/// A descriptor that is written is read again, if what it holds fits the page's fields.
+fn written_is_typed()
     ensures { (pages : List Page) (p : Page) (h : Holding) (d : TaggedBody)
         → find (λ q. nat_eq p.tag q.tag) pages ≡ Some p → IsTrue (page_sound p)
         → page_fits_uncounted p h ≡ true → IsWritten p h d
@@ -24,11 +35,11 @@ pub fn written_is_typed()
 }
 
 /// A descriptor that is read is written so.
-pub fn typed_is_written()
+fn typed_is_written()
     ensures { (pages : List Page) (p : Page) (h : Holding) (d e : TaggedBody)
         → find (λ q. nat_eq p.tag q.tag) pages ≡ Some p → page_exact p ≡ true
-        → are_bytes d.body ≡ true → are_bytes e.body ≡ true
-        → read_typed pages d ≡ Some (record { tag = p.tag; holding = h }) → IsWritten p h e → e ≡ d }
+        → IsDescriptor d → IsDescriptor e
+        → read_typed pages d ≡ Some (record { tag = p.tag; holding = h }) → IsWritten p h e → d ≡ e }
 {
     read_is_written();
     bits_tell_bytes();

@@ -2,7 +2,7 @@
 
 ghost use Rattle.std.specs.Prelude.{◌≡◌, List, map, option_map, true, Some, IfOk};
 ghost use Rattle.ts_fields.specs.Layout.{Row, Held, held};
-ghost use Rattle.ts_fields.specs.Fitting.{fits, shaped};
+ghost use Rattle.ts_fields.specs.Fitting.{fits, fits_uncounted};
 
 use std::alloc::{AllocError, Global};
 use ts_fields::FieldValue;
@@ -20,8 +20,8 @@ pub trait Fields: Sized {
         requires { fits rows (map held values.now) ≡ true }
         ensures { IfOk result (λ o. option_map fields o ≡ Some (map held values.now)) };
 
-    /// What the fields hold; numbers stand where numbers do.
+    /// What the fields hold; the rows can hold it, but for the length of a counted text.
     fn values(&self, alloc: Global) -> Result<Vec<FieldValue>, AllocError>
         ensures held { IfOk result (λ v. map held v.items ≡ fields self.now) }
-        ensures shape { shaped rows (fields self.now) ≡ true };
+        ensures fit { IfOk result (λ v. fits_uncounted rows (map held v.items) ≡ true) };
 }

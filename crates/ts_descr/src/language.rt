@@ -53,7 +53,8 @@ impl LanguageCode {
 
     /// Its bytes as a `Vec`.
     pub fn to_vec(&self, alloc: Global) -> Result<Vec<u8>, AllocError>
-        ensures { IfOk result (λ v. v.items ≡ self.now) }
+        ensures bytes { IfOk result (λ v. v.items ≡ self.now) }
+        ensures lawful { (nat_eq (length self.now) 3 && are_printable self.now) ≡ true }
     {
         Vec::from_slice(alloc, &self.letters)
     }

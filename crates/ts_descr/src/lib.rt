@@ -3,6 +3,7 @@
 #![tactic(auto)]
 
 mod by_page;
+mod bytes;
 mod descr_laws;
 mod fields;
 mod language;
@@ -10,7 +11,8 @@ mod refusal;
 mod typed;
 
 pub use by_page::{read_by_page, write_by_page};
-pub use descr_laws::{typed_is_written, written_is_typed};
+pub use bytes::bytes_value;
+pub use descr_laws::written_is_read_back;
 pub use fields::Fields;
 pub use language::LanguageCode;
 pub use refusal::DescrRefusal;

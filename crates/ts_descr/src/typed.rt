@@ -3,16 +3,16 @@
 ghost use Rattle.std.specs.Prelude.{◌≡◌, List, [], nat_eq, map, option_map, true, Some, None, IfOk, IsTrue};
 ghost use Rattle.std.specs.List.{find, list_all};
 ghost use Rattle.ts_fields.specs.Bits.{bits_of};
-ghost use Rattle.ts_fields.specs.Bodies.{Page, page, page_sound, read_page, item_held};
-ghost use Rattle.ts_fields.specs.Fitting.{fits, shaped};
-ghost use Rattle.ts_descr.specs.Descriptors.{Writes, fields_alone, items_alone, typed_fields, typed_items, read_typed};
+ghost use Rattle.ts_fields.specs.Bodies.{Page, page, page_sound, page_exact, read_page, item_held};
+ghost use Rattle.ts_fields.specs.Fitting.{fits, fits_uncounted};
+ghost use Rattle.ts_descr.specs.Descriptors.{Writes, IsReadBack, fields_alone, items_alone, typed_fields, typed_items, read_typed};
 
 use crate::by_page::{read_by_page, write_by_page};
 use crate::fields::Fields;
 use crate::refusal::DescrRefusal;
 use std::alloc::{AllocError, Global};
 use ts_bits::Descriptor;
-use ts_fields::{Body, Item, Layout};
+use ts_fields::{Body, Item, Layout, fit_page_is_shaped};
 
 /// What a descriptor of a page of fields alone holds; none where its body is not of that page.
 pub fn read_fields<T: Fields + Drop>(
@@ -49,7 +49,8 @@ fn fields_by_page<T: Fields + Drop>(
     T::of(alloc, &body.head)
 }
 
-/// The descriptor of a page of fields alone that holds this.
+/// The descriptor of a page of fields alone that holds this. By any pages of which this one has the tag it is
+/// read back, if none of the page's bits are free.
 pub fn write_fields<T: Fields>(
     alloc: Global,
     layout: &Layout,
@@ -58,8 +59,14 @@ pub fn write_fields<T: Fields>(
     requires sound { IsTrue (page_sound (page layout.now)) }
     requires rows { (page layout.now).head ≡ T.rows }
     requires alone { (page layout.now).items ≡ None }
-    ensures { Writes (page layout.now) (fields_alone (T.fields value.now)) result }
+    ensures written { Writes (page layout.now) (fields_alone (T.fields value.now)) result }
+    ensures back { (pages : List Page)
+        → find (λ p. nat_eq (page layout.now).tag p.tag) pages ≡ Some (page layout.now)
+        → page_exact (page layout.now) ≡ true
+        → IfOk result (λ d. IsReadBack pages (typed_fields (page layout.now) (T.fields value.now)) d) }
 {
+    // A law, which runs nothing.
+    fit_page_is_shaped();
     let body = Body {
         head: value.values(alloc)?,
         items: Vec::new(alloc),
@@ -121,7 +128,7 @@ fn values_of<T: Fields + Drop>(alloc: Global, items: &[Item]) -> Result<Option<V
 /// The items that hold some structs.
 fn items_of<T: Fields>(alloc: Global, values: &[T]) -> Result<Vec<Item>, AllocError>
     ensures held { IfOk result (λ v. map item_held v.items ≡ map T.fields values.now) }
-    ensures shape { IfOk result (λ v. list_all (shaped T.rows) (map item_held v.items) ≡ true) }
+    ensures fit { IfOk result (λ v. list_all (fits_uncounted T.rows) (map item_held v.items) ≡ true) }
 {
     let mut items = Vec::new(alloc);
     for value in values {
@@ -131,7 +138,8 @@ fn items_of<T: Fields>(alloc: Global, values: &[T]) -> Result<Vec<Item>, AllocEr
     Ok(items)
 }
 
-/// The descriptor of a page of items alone that has these.
+/// The descriptor of a page of items alone that has these. By any pages of which this one has the tag it is
+/// read back, if none of the page's bits are free.
 pub fn write_items<T: Fields>(
     alloc: Global,
     layout: &Layout,
@@ -140,8 +148,14 @@ pub fn write_items<T: Fields>(
     requires sound { IsTrue (page_sound (page layout.now)) }
     requires alone { (page layout.now).head ≡ [] }
     requires rows { option_map (λ i. i.1) (page layout.now).items ≡ Some T.rows }
-    ensures { Writes (page layout.now) (items_alone (map T.fields items.now)) result }
+    ensures written { Writes (page layout.now) (items_alone (map T.fields items.now)) result }
+    ensures back { (pages : List Page)
+        → find (λ p. nat_eq (page layout.now).tag p.tag) pages ≡ Some (page layout.now)
+        → page_exact (page layout.now) ≡ true
+        → IfOk result (λ d. IsReadBack pages (typed_items (page layout.now) (map T.fields items.now)) d) }
 {
+    // A law, which runs nothing.
+    fit_page_is_shaped();
     let items = items_of(alloc, items)?;
     let body = Body {
         head: Vec::new(alloc),

@@ -1,7 +1,7 @@
 //! The delivery system descriptors.
 
 ghost use Rattle.std.specs.Prelude.{◌≡◌, option_map, IfOk};
-ghost use Rattle.ts_descr.specs.Descriptors.{read_typed, Writes};
+ghost use Rattle.ts_descr.specs.Descriptors.{read_typed, Writes, IsReadBack};
 ghost use Rattle.ts_descr_delivery.specs.DeliveryDescrs.{delivery_pages, delivery_page, delivery_holding, delivery_typed};
 
 use crate::cable::Cable;
@@ -47,9 +47,10 @@ impl DeliveryDescr {
     }
 
     /// The descriptor that says this; refused exactly where its body would pass 255 bytes, but for want of
-    /// memory.
+    /// memory. It is the only descriptor of which `read` gives this.
     pub fn write(&self, alloc: Global) -> Result<Descriptor, DescrRefusal>
-        ensures { Writes (delivery_page self.now) (delivery_holding self.now) result }
+        ensures written { Writes (delivery_page self.now) (delivery_holding self.now) result }
+        ensures back { IfOk result (λ d. IsReadBack delivery_pages (delivery_typed self.now) d) }
     {
         match self {
             DeliveryDescr::Satellite(value) => write_fields(alloc, &delivery::SATELLITE, value),

@@ -4,13 +4,11 @@
 
 mod cable;
 mod delivery_descr;
-mod delivery_laws;
 mod satellite;
 mod terrestrial;
 
 pub use cable::Cable;
 pub use delivery_descr::DeliveryDescr;
-pub use delivery_laws::{read_is_written, written_is_read};
 pub use satellite::Satellite;
 pub use terrestrial::Terrestrial;
 pub use ts_descr::DescrRefusal;

@@ -73,7 +73,7 @@ impl Fields for Terrestrial {
         }))
     }
 
-    #[tactic(auto, unfolding(ts_fields::specs::Fitting::shaped))]
+    #[tactic(auto, unfolding(ts_fields::specs::Fitting::fits_uncounted))]
     fn values(&self, alloc: Global) -> Result<Vec<FieldValue>, AllocError> {
         let mut values = Vec::new(alloc);
         values.push(FieldValue::Number(u64::from(self.centre_frequency)))?;

@@ -3,7 +3,7 @@
 ghost use Rattle.std.specs.Prelude.{◌<◌, ◌^◌};
 
 use std::alloc::{AllocError, Global};
-use ts_descr::{Fields, LanguageCode};
+use ts_descr::{Fields, LanguageCode, bytes_value};
 use ts_fields::FieldValue;
 
 /// What a component is (ETSI EN 300 468, 6.2.8).
@@ -58,7 +58,7 @@ impl Fields for Component {
         }))
     }
 
-    #[tactic(auto, unfolding(ts_fields::specs::Fitting::shaped))]
+    #[tactic(auto, unfolding(ts_fields::specs::Fitting::fits_uncounted))]
     fn values(&self, alloc: Global) -> Result<Vec<FieldValue>, AllocError> {
         let mut values = Vec::new(alloc);
         values.push(FieldValue::Number(u64::from(self.stream_content_ext)))?;
@@ -66,7 +66,7 @@ impl Fields for Component {
         values.push(FieldValue::Number(u64::from(self.component_type)))?;
         values.push(FieldValue::Number(u64::from(self.component_tag)))?;
         values.push(FieldValue::Bytes(self.language_code.to_vec(alloc)?))?;
-        values.push(FieldValue::Bytes(Vec::from_slice(alloc, &self.text)?))?;
+        values.push(bytes_value(alloc, &self.text)?)?;
         Ok(values)
     }
 }

@@ -1,7 +1,7 @@
 //! The DVB descriptors.
 
 ghost use Rattle.std.specs.Prelude.{◌≡◌, option_map, IfOk};
-ghost use Rattle.ts_descr.specs.Descriptors.{read_typed, Writes};
+ghost use Rattle.ts_descr.specs.Descriptors.{read_typed, Writes, IsReadBack};
 ghost use Rattle.ts_descr_dvb.specs.DvbDescrs.{dvb_pages, dvb_page, dvb_holding, dvb_typed};
 
 use crate::bouquet_name::BouquetName;
@@ -117,9 +117,10 @@ impl DvbDescr {
     }
 
     /// The descriptor that says this; refused exactly where its body would pass 255 bytes, but for want of
-    /// memory.
+    /// memory. It is the only descriptor of which `read` gives this.
     pub fn write(&self, alloc: Global) -> Result<Descriptor, DescrRefusal>
-        ensures { Writes (dvb_page self.now) (dvb_holding self.now) result }
+        ensures written { Writes (dvb_page self.now) (dvb_holding self.now) result }
+        ensures back { IfOk result (λ d. IsReadBack dvb_pages (dvb_typed self.now) d) }
     {
         match self {
             DvbDescr::NetworkName(value) => write_fields(alloc, &dvb::NETWORK_NAME, value),

@@ -1,7 +1,7 @@
 //! The fields of a `network_name_descriptor` (ETSI EN 300 468, 6.2.27).
 
 use std::alloc::{AllocError, Global};
-use ts_descr::Fields;
+use ts_descr::{Fields, bytes_value};
 use ts_fields::FieldValue;
 
 /// The name of a network (ETSI EN 300 468, 6.2.27).
@@ -29,10 +29,10 @@ impl Fields for NetworkName {
         }))
     }
 
-    #[tactic(auto, unfolding(ts_fields::specs::Fitting::shaped))]
+    #[tactic(auto, unfolding(ts_fields::specs::Fitting::fits_uncounted))]
     fn values(&self, alloc: Global) -> Result<Vec<FieldValue>, AllocError> {
         let mut values = Vec::new(alloc);
-        values.push(FieldValue::Bytes(Vec::from_slice(alloc, &self.network_name)?))?;
+        values.push(bytes_value(alloc, &self.network_name)?)?;
         Ok(values)
     }
 }

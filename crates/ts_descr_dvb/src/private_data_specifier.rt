@@ -32,7 +32,7 @@ impl Fields for PrivateDataSpecifier {
         }))
     }
 
-    #[tactic(auto, unfolding(ts_fields::specs::Fitting::shaped))]
+    #[tactic(auto, unfolding(ts_fields::specs::Fitting::fits_uncounted))]
     fn values(&self, alloc: Global) -> Result<Vec<FieldValue>, AllocError> {
         let mut values = Vec::new(alloc);
         values.push(FieldValue::Number(u64::from(self.private_data_specifier)))?;

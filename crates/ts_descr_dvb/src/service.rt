@@ -1,7 +1,7 @@
 //! The fields of a `service_descriptor` (ETSI EN 300 468, 6.2.33).
 
 use std::alloc::{AllocError, Global};
-use ts_descr::Fields;
+use ts_descr::{Fields, bytes_value};
 use ts_fields::FieldValue;
 
 /// The type, the provider and the name of a service (ETSI EN 300 468, 6.2.33).
@@ -40,12 +40,12 @@ impl Fields for Service {
         }))
     }
 
-    #[tactic(auto, unfolding(ts_fields::specs::Fitting::shaped))]
+    #[tactic(auto, unfolding(ts_fields::specs::Fitting::fits_uncounted))]
     fn values(&self, alloc: Global) -> Result<Vec<FieldValue>, AllocError> {
         let mut values = Vec::new(alloc);
         values.push(FieldValue::Number(u64::from(self.service_type)))?;
-        values.push(FieldValue::Bytes(Vec::from_slice(alloc, &self.service_provider_name)?))?;
-        values.push(FieldValue::Bytes(Vec::from_slice(alloc, &self.service_name)?))?;
+        values.push(bytes_value(alloc, &self.service_provider_name)?)?;
+        values.push(bytes_value(alloc, &self.service_name)?)?;
         Ok(values)
     }
 }

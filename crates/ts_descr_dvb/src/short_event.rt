@@ -1,7 +1,7 @@
 //! The fields of a `short_event_descriptor` (ETSI EN 300 468, 6.2.37).
 
 use std::alloc::{AllocError, Global};
-use ts_descr::{Fields, LanguageCode};
+use ts_descr::{Fields, LanguageCode, bytes_value};
 use ts_fields::FieldValue;
 
 /// The name of an event and a short text on it (ETSI EN 300 468, 6.2.37).
@@ -43,12 +43,12 @@ impl Fields for ShortEvent {
         }))
     }
 
-    #[tactic(auto, unfolding(ts_fields::specs::Fitting::shaped))]
+    #[tactic(auto, unfolding(ts_fields::specs::Fitting::fits_uncounted))]
     fn values(&self, alloc: Global) -> Result<Vec<FieldValue>, AllocError> {
         let mut values = Vec::new(alloc);
         values.push(FieldValue::Bytes(self.language_code.to_vec(alloc)?))?;
-        values.push(FieldValue::Bytes(Vec::from_slice(alloc, &self.event_name)?))?;
-        values.push(FieldValue::Bytes(Vec::from_slice(alloc, &self.text)?))?;
+        values.push(bytes_value(alloc, &self.event_name)?)?;
+        values.push(bytes_value(alloc, &self.text)?)?;
         Ok(values)
     }
 }

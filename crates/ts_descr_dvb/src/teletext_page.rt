@@ -51,7 +51,7 @@ impl Fields for TeletextPage {
         }))
     }
 
-    #[tactic(auto, unfolding(ts_fields::specs::Fitting::shaped))]
+    #[tactic(auto, unfolding(ts_fields::specs::Fitting::fits_uncounted))]
     fn values(&self, alloc: Global) -> Result<Vec<FieldValue>, AllocError> {
         let mut values = Vec::new(alloc);
         values.push(FieldValue::Bytes(self.language_code.to_vec(alloc)?))?;

@@ -3,7 +3,7 @@
 ghost use Rattle.std.specs.Prelude.{◌<◌, ◌^◌};
 
 use std::alloc::{AllocError, Global};
-use ts_descr::Fields;
+use ts_descr::{Fields, bytes_value};
 use ts_fields::FieldValue;
 
 /// The PID of the messages of a conditional access system (ISO/IEC 13818-1, 2.6.16).
@@ -43,12 +43,12 @@ impl Fields for Ca {
         }))
     }
 
-    #[tactic(auto, unfolding(ts_fields::specs::Fitting::shaped))]
+    #[tactic(auto, unfolding(ts_fields::specs::Fitting::fits_uncounted))]
     fn values(&self, alloc: Global) -> Result<Vec<FieldValue>, AllocError> {
         let mut values = Vec::new(alloc);
         values.push(FieldValue::Number(u64::from(self.ca_system_id)))?;
         values.push(FieldValue::Number(u64::from(self.ca_pid)))?;
-        values.push(FieldValue::Bytes(Vec::from_slice(alloc, &self.private_data)?))?;
+        values.push(bytes_value(alloc, &self.private_data)?)?;
         Ok(values)
     }
 }

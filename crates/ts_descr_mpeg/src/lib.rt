@@ -7,7 +7,6 @@ mod data_stream_alignment;
 mod language;
 mod maximum_bitrate;
 mod mpeg_descr;
-mod mpeg_laws;
 mod registration;
 
 pub use ca::Ca;
@@ -15,6 +14,5 @@ pub use data_stream_alignment::DataStreamAlignment;
 pub use language::Language;
 pub use maximum_bitrate::MaximumBitrate;
 pub use mpeg_descr::MpegDescr;
-pub use mpeg_laws::{read_is_written, written_is_read};
 pub use registration::Registration;
 pub use ts_descr::{DescrRefusal, LanguageCode};

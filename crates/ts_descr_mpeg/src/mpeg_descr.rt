@@ -1,7 +1,7 @@
 //! The MPEG descriptors.
 
 ghost use Rattle.std.specs.Prelude.{◌≡◌, option_map, IfOk};
-ghost use Rattle.ts_descr.specs.Descriptors.{read_typed, Writes};
+ghost use Rattle.ts_descr.specs.Descriptors.{read_typed, Writes, IsReadBack};
 ghost use Rattle.ts_descr_mpeg.specs.MpegDescrs.{mpeg_pages, mpeg_page, mpeg_holding, mpeg_typed};
 
 use crate::ca::Ca;
@@ -61,9 +61,10 @@ impl MpegDescr {
     }
 
     /// The descriptor that says this; refused exactly where its body would pass 255 bytes, but for want of
-    /// memory.
+    /// memory. It is the only descriptor of which `read` gives this.
     pub fn write(&self, alloc: Global) -> Result<Descriptor, DescrRefusal>
-        ensures { Writes (mpeg_page self.now) (mpeg_holding self.now) result }
+        ensures written { Writes (mpeg_page self.now) (mpeg_holding self.now) result }
+        ensures back { IfOk result (λ d. IsReadBack mpeg_pages (mpeg_typed self.now) d) }
     {
         match self {
             MpegDescr::Registration(value) => write_fields(alloc, &mpeg::REGISTRATION, value),

@@ -1,7 +1,7 @@
 //! The fields of a `registration_descriptor` (ISO/IEC 13818-1, 2.6.8).
 
 use std::alloc::{AllocError, Global};
-use ts_descr::Fields;
+use ts_descr::{Fields, bytes_value};
 use ts_fields::FieldValue;
 
 /// Who gives the private data of a program or component their meaning (ISO/IEC 13818-1, 2.6.8).
@@ -36,14 +36,11 @@ impl Fields for Registration {
         }))
     }
 
-    #[tactic(auto, unfolding(ts_fields::specs::Fitting::shaped))]
+    #[tactic(auto, unfolding(ts_fields::specs::Fitting::fits_uncounted))]
     fn values(&self, alloc: Global) -> Result<Vec<FieldValue>, AllocError> {
         let mut values = Vec::new(alloc);
         values.push(FieldValue::Number(u64::from(self.format_identifier)))?;
-        values.push(FieldValue::Bytes(Vec::from_slice(
-            alloc,
-            &self.additional_identification_info,
-        )?))?;
+        values.push(bytes_value(alloc, &self.additional_identification_info)?)?;
         Ok(values)
     }
 }
