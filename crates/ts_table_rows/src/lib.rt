@@ -5,6 +5,8 @@
 mod fault;
 mod filling;
 mod filling_laws;
+mod item;
+mod item_list;
 mod layout;
 mod read_body;
 mod read_item;
@@ -19,6 +21,8 @@ mod write_run;
 
 pub use fault::{TableFault, TableRefusal, TableRule};
 pub use filling_laws::filled_greedily;
+pub use item::Item;
+pub use item_list::ItemList;
 pub use layout::{ItemForm, LoopForm, TableLayout};
 pub use read_run::read_table;
 pub use round_trip::written_tables_are_read;
