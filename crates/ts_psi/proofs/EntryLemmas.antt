@@ -1,14 +1,14 @@
 -- Entries of a PAT one after another.
-use Rattle.std.proofs.Common.{◌≡◌, ℕ, zero, suc, ◌+◌, ◌<◌, ◌≤◌, Bool, true, false, List, [], ◌∷◌, ◌++◌, length, take, drop, get_or, map, refl, sym, ap, ◌∙◌, arith}
+use Rattle.std.proofs.Common.{◌≡◌, ℕ, zero, suc, ◌+◌, ◌<◌, ◌≤◌, Bool, true, false, List, [], ◌∷◌, length, drop, get_or, map, refl, sym, ap, ◌∙◌, arith}
 use Rattle.std.specs.Prelude.{Option, Some, None, filter, find, not, nat_eq, option_to_list, if◌then◌else◌}
 use Rattle.std.specs.List.{list_all}
-use Rattle.std.proofs.lemmas.Bool.{and_parts, ne_eqb}
-use Rattle.std.proofs.lemmas.List.{drop_more, drop_all, take_more, take_all, map-append}
-use Rattle.std.proofs.lemmas.List.Elements.{filter-append}
+use Rattle.std.proofs.lemmas.Bool.{and_from, and_parts, ne_eqb}
+use Rattle.std.proofs.lemmas.List.{drop_more, drop_all}
+use Rattle.ts_table_rows.specs.TableFitting.{item_fits}
 use Rattle.ts_table_rows.specs.declared.table.TableItem.{TableItem}
 use Rattle.ts_table_rows.specs.TableValues.{ItemHolding, item_held}
-use Rattle.ts_psi.specs.declared.pat.PatService.{PatService}
-use Rattle.ts_psi.specs.PatTables.{entry_item, service_item, network_items, is_network}
+use Rattle.ts_table_pages.specs.PsiPages.{entry_page}
+use Rattle.ts_psi.specs.PatTables.{entry_item, network_items, is_network, service_serves}
 
 -- a test of all passes one
 pub test_at : {Y W : Type 0} (t : W → Bool) (g : Y → W) (ys : List Y) (i : ℕ) (y : Y) → list_all t (map g ys) ≡ true → i < length ys → y ≡ get_or ys i y → t (g y) ≡ true
@@ -37,20 +37,22 @@ network_later items i x id pid whole inside same held other so_far =
 pub network_none : (items : List TableItem) (i : ℕ) (whole : Option ItemHolding) → length items ≤ i → find is_network (map item_held (drop i items)) ≡ whole → network_items None ≡ option_to_list whole
 network_none items i whole all so_far = ap option_to_list (sym (ap (λ l. find is_network (map item_held l)) (drop_all i items all)) ∙ so_far)
 
--- one entry more
-pub services_more : (old new : List PatService) (items : List TableItem) (i : ℕ) (x : TableItem) (id pid : ℕ) → i < length items → x ≡ get_or items i x → item_held x ≡ entry_item id pid → map service_item new ≡ map service_item old ++ (if nat_eq id 0 then [] else entry_item id pid ∷ [])
-    → map service_item old ≡ filter (λ y. not (is_network y)) (map item_held (take i items)) → map service_item new ≡ filter (λ y. not (is_network y)) (map item_held (take (i + 1) items))
-services_more old new items i x id pid inside same held is so_far =
-    let kept : ItemHolding → Bool = λ y. not (is_network y) in
-    let more : map item_held (take (i + 1) items) ≡ map item_held (take i items) ++ entry_item id pid ∷ [] =
-    ap (map item_held) (take_more items i x inside) ∙ map-append item_held (take i items) (get_or items i x ∷ []) ∙ ap (λ z. map item_held (take i items) ++ z ∷ []) (sym (ap item_held same) ∙ held) in
-    is ∙ ap (λ l. l ++ (if nat_eq id 0 then [] else entry_item id pid ∷ [])) so_far
-    ∙ ap (λ l. filter kept (map item_held (take i items)) ++ l) (one (nat_eq id 0) (entry_item id pid))
-    ∙ sym (filter-append kept (map item_held (take i items)) (entry_item id pid ∷ [])) ∙ sym (ap (filter kept) more)
+-- the items that are services, read as what they hold
+pub services_held : (items : List TableItem) → map item_held (filter (λ i. not (is_network (item_held i))) items) ≡ filter (λ x. not (is_network x)) (map item_held items)
+services_held [] = refl
+services_held (i ∷ items) = chosen (not (is_network (item_held i))) i (filter (λ i. not (is_network (item_held i))) items) (filter (λ x. not (is_network x)) (map item_held items)) (services_held items)
   where
-    one : (b : Bool) (y : ItemHolding) → (if b then [] else y ∷ []) ≡ (if not b then y ∷ [] else [])
-    one true y = refl
-    one false y = refl
+    chosen : (b : Bool) (i : TableItem) (xs : List TableItem) (ys : List ItemHolding) → map item_held xs ≡ ys → map item_held (if b then i ∷ xs else xs) ≡ (if b then item_held i ∷ ys else ys)
+    chosen true i xs ys so_far = ap (λ l. item_held i ∷ l) so_far
+    chosen false i xs ys so_far = so_far
 
-pub services_all : (new : List PatService) (items : List TableItem) (i : ℕ) → length items ≤ i → map service_item new ≡ filter (λ y. not (is_network y)) (map item_held (take i items)) → map service_item new ≡ filter (λ y. not (is_network y)) (map item_held items)
-services_all new items i all so_far = so_far ∙ ap (λ l. filter (λ y. not (is_network y)) (map item_held l)) (take_all i items all)
+-- entries that are no network entry can be services
+pub services_serve : (xs : List ItemHolding) → list_all (item_fits entry_page) xs ≡ true → list_all service_serves (filter (λ x. not (is_network x)) xs) ≡ true
+services_serve [] all = refl
+services_serve (x ∷ xs) all =
+    let parts = and_parts (item_fits entry_page x) (list_all (item_fits entry_page) xs) all in
+    one (is_network x) x (filter (λ x. not (is_network x)) xs) refl parts.0 (services_serve xs parts.1)
+  where
+    one : (b : Bool) (x : ItemHolding) (ys : List ItemHolding) → is_network x ≡ b → item_fits entry_page x ≡ true → list_all service_serves ys ≡ true → list_all service_serves (if not b then x ∷ ys else ys) ≡ true
+    one true x ys is fit so_far = so_far
+    one false x ys is fit so_far = and_from (service_serves x) (list_all service_serves ys) (and_from (item_fits entry_page x) (not (is_network x)) fit (ap not is)) so_far

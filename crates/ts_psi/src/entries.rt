@@ -1,14 +1,15 @@
 //! The entries of a PAT as items of its table.
 
-ghost use Rattle.std.specs.Prelude.{◌≡◌, ◌<◌, ◌++◌, ◌==◌, [], ◌∷◌, map, filter, find, not, true, option_to_list, IfOk, OnOk, if◌then◌else◌};
+ghost use Rattle.std.specs.Prelude.{◌≡◌, ◌<◌, map, filter, find, not, true, option_to_list, IfOk};
 ghost use Rattle.std.specs.List.{list_all};
 ghost use Rattle.std.specs.Option.{ForSome};
 ghost use Rattle.ts_table_rows.specs.TableFitting.{item_fits};
 ghost use Rattle.ts_table_rows.specs.TableValues.{item_held};
 ghost use Rattle.ts_table_pages.specs.PsiPages.{entry_page};
-ghost use Rattle.ts_psi.specs.PatTables.{entry_item, is_network, network_items, service_item, service_serves};
+ghost use Rattle.ts_psi.specs.PatTables;
+ghost use Rattle.ts_psi.specs.PatTables.{entry_item, network_items, service_item};
 
-use crate::pat::PatService;
+use crate::pat::PatServiceList;
 use std::alloc::{AllocError, Global};
 use ts_bits::DescriptorList;
 use ts_fields::FieldValue;
@@ -36,7 +37,7 @@ pub fn pat_head(stream_id: u16, version: u8, current: bool) -> TableHead
 
 /// The number and the PID of an entry.
 #[tactic(auto, using(ts_table_rows::proofs::ListLemmas::none_held), unfolding(ts_fields::specs::Fitting::fits))]
-fn entry_of(item: &TableItem) -> (u16, u16)
+pub fn entry_of(item: &TableItem) -> (u16, u16)
     requires { item_fits entry_page (item_held item.now) ≡ true }
     ensures held { item_held item.now ≡ entry_item result.0 result.1 }
     ensures in_range { result.1 < 8192 }
@@ -47,10 +48,20 @@ fn entry_of(item: &TableItem) -> (u16, u16)
     (*id as u16, *pid as u16)
 }
 
+/// Whether an entry has program_number 0.
+fn is_network(item: &TableItem) -> bool
+    ensures { result ≡ PatTables.is_network (item_held item.now) }
+{
+    match item.values.as_slice() {
+        [FieldValue::Number(id), ..] => *id == 0,
+        _ => false,
+    }
+}
+
 /// The PID of the network entry, if there is one.
 pub fn network_of(items: &[TableItem]) -> Option<u16>
     requires { list_all (item_fits entry_page) (map item_held items.now) ≡ true }
-    ensures network { network_items result ≡ option_to_list (find is_network (map item_held items.now)) }
+    ensures network { network_items result ≡ option_to_list (find PatTables.is_network (map item_held items.now)) }
     ensures in_range { ForSome result (λ pid. pid < 8192) }
 {
     for item in items {
@@ -62,43 +73,26 @@ pub fn network_of(items: &[TableItem]) -> Option<u16>
     None
 }
 
-/// Adds an entry that is a service.
-fn add(services: &mut Vec<PatService>, id: u16, pid: u16) -> Result<(), AllocError>
-    requires { pid < 8192 }
-    ensures { OnOk result (map service_item services.new.items
-        ≡ map service_item services.old.items ++ (if id == 0 then [] else entry_item id pid ∷ [])) }
-{
-    if id == 0 {
-        return Ok(());
-    }
-    services.push(PatService {
-        service_id: id,
-        pid,
-    })?;
-    Ok(())
-}
-
 /// The services among the entries.
-pub fn services_of(alloc: Global, items: &[TableItem]) -> Result<Vec<PatService>, AllocError>
-    requires { list_all (item_fits entry_page) (map item_held items.now) ≡ true }
-    ensures { IfOk result (λ v. map service_item v.items
-        ≡ filter (λ x. not (is_network x)) (map item_held items.now)) }
+pub fn services_of(alloc: Global, items: Vec<TableItem>) -> Result<PatServiceList, AllocError>
+    requires { list_all (item_fits entry_page) (map item_held items.items) ≡ true }
+    ensures { IfOk result (λ l. map service_item l
+        ≡ filter (λ x. not (PatTables.is_network x)) (map item_held items.items)) }
 {
-    let mut services = Vec::new(alloc);
-    for item in items {
-        let (id, pid) = entry_of(item);
-        add(&mut services, id, pid)?;
-    }
+    let mut services = items;
+    services.retain(|item| !is_network(item));
+    let services = PatServiceList::read(alloc, services)?;
     Ok(services)
 }
 
 /// An entry as an item.
-fn entry(alloc: Global, id: u16, pid: u16) -> Result<TableItem, AllocError>
+pub fn entry(alloc: Global, id: u16, pid: u16) -> Result<TableItem, AllocError>
     ensures { IfOk result (λ i. item_held i ≡ entry_item id pid) }
 {
-    let mut values = Vec::new(alloc);
-    values.push(FieldValue::Number(u64::from(id)))?;
-    values.push(FieldValue::Number(u64::from(pid)))?;
+    let values = vec![in alloc;
+        FieldValue::Number(u64::from(id)),
+        FieldValue::Number(u64::from(pid)),
+    ]?;
     Ok(TableItem {
         values,
         descriptors: DescriptorList::of(Vec::new(alloc)),
@@ -118,27 +112,4 @@ pub fn network_rows(alloc: Global, network: Option<u16>) -> Result<Vec<TableItem
         }
         None => Ok(items),
     }
-}
-
-/// One service as an item.
-fn service_row(alloc: Global, service: &PatService) -> Result<TableItem, AllocError>
-    ensures held { IfOk result (λ i. item_held i ≡ service_item service.now) }
-    ensures serves { service_serves (service_item service.now) ≡ true }
-{
-    let service_id = service.service_id;
-    let pid = service.pid;
-    entry(alloc, service_id, pid)
-}
-
-/// The services as items.
-pub fn service_rows(alloc: Global, services: &[PatService]) -> Result<Vec<TableItem>, AllocError>
-    ensures held { IfOk result (λ v. map item_held v.items ≡ map service_item services.now) }
-    ensures serve { OnOk result (list_all service_serves (map service_item services.now) ≡ true) }
-{
-    let mut items = Vec::new(alloc);
-    for service in services {
-        let item = service_row(alloc, service)?;
-        items.push(item)?;
-    }
-    Ok(items)
 }

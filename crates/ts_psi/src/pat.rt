@@ -3,13 +3,14 @@
 ghost use Rattle.std.specs.Prelude.{◌<◌};
 ghost use Rattle.std.specs.Option.{ForSome};
 
-use crate::entries::{network_of, network_rows, pat_head, service_rows, services_of};
+use crate::entries::{entry, entry_of, network_of, network_rows, pat_head, services_of};
 use std::alloc::{AllocError, Global};
-use std::marker::Model;
 use ts_bits::DescriptorList;
 use ts_section::{Section, TableRun};
 use ts_table_pages::pat_layout;
-use ts_table_rows::{Table, TableBody, TableFault, TableRefusal, read_table, write_table};
+use ts_table_rows::{
+    Item, ItemList, Table, TableBody, TableFault, TableItem, TableRefusal, read_table, write_table,
+};
 
 /// A service, and the PID of its PMT.
 #[derive(Clone, Copy)]
@@ -22,54 +23,32 @@ pub struct PatService {
     pub ghost in_range: { pid < 8192 },
 }
 
+impl Item for PatService {
+    ghost use Rattle.ts_psi.specs.PatTables.{service_item, service_serves};
+
+    ghost as_item = { λ s. service_item s };
+
+    ghost fits = { service_serves };
+
+    fn of(item: TableItem) -> PatService {
+        let (service_id, pid) = entry_of(&item);
+        PatService { service_id, pid }
+    }
+
+    fn to_item(&self, alloc: Global) -> Result<TableItem, AllocError> {
+        let service_id = self.service_id;
+        let pid = self.pid;
+        let item = entry(alloc, service_id, pid)?;
+        Ok(item)
+    }
+
+    fn copy(&self) -> Result<PatService, AllocError> {
+        Ok(*self)
+    }
+}
+
 /// Services in their order.
-#[derive(Drop)]
-pub struct PatServiceList {
-    services: Vec<PatService>,
-}
-
-// Clauses see the list of the services.
-impl Model for PatServiceList {
-    ghost use Rattle.std.specs.Prelude.{List};
-    ghost use Rattle.ts_psi.specs.declared.pat.PatService.{PatService};
-
-    ghost Value = { List PatService };
-
-    ghost view = { λ l. l.services.items };
-}
-
-impl PatServiceList {
-    ghost use Rattle.std.specs.Prelude.{◌≡◌, IfOk};
-
-    /// The services of a `Vec`, which the list keeps.
-    pub fn of(services: Vec<PatService>) -> PatServiceList
-        ensures { result ≡ services.items }
-    {
-        PatServiceList { services }
-    }
-
-    /// The services.
-    pub fn as_slice(&self) -> &[PatService]
-        ensures { result.now ≡ self.now }
-    {
-        &self.services
-    }
-
-    /// The `Vec` of the services.
-    pub fn into_vec(self) -> Vec<PatService>
-        ensures { result.items ≡ self }
-    {
-        self.services
-    }
-
-    /// An equal list.
-    pub fn copy(&self) -> Result<PatServiceList, AllocError>
-        ensures { IfOk result (λ l. l ≡ self.now) }
-    {
-        let services = Vec::from_slice(*self.services.allocator(), &self.services)?;
-        Ok(PatServiceList { services })
-    }
-}
+pub type PatServiceList = ItemList<PatService>;
 
 /// A program association table.
 #[derive(Drop)]
@@ -105,13 +84,13 @@ impl Pat {
     {
         let Table { head, body } = table;
         let network_pid = network_of(&body.items);
-        let services = services_of(alloc, &body.items)?;
+        let services = services_of(alloc, body.items)?;
         Ok(Pat {
             version: head.version,
             current: head.current,
             stream_id: head.extension,
             network_pid,
-            services: PatServiceList::of(services),
+            services,
         })
     }
 
@@ -123,7 +102,7 @@ impl Pat {
     {
         let head = pat_head(self.stream_id, self.version, self.current);
         let mut items = network_rows(alloc, self.network_pid)?;
-        let mut services = service_rows(alloc, self.services.as_slice())?;
+        let mut services = self.services.write(alloc)?;
         items.append(&mut services)?;
         let body = TableBody {
             values: Vec::new(alloc),

@@ -2,15 +2,15 @@
 
 ghost use Rattle.std.specs.Prelude.{◌<◌};
 
-use crate::pmt_values::pcr_of;
+use crate::pmt_values::{component_fields, pcr_of};
 use std::alloc::{AllocError, Global};
-use std::marker::Model;
 use ts_bits::DescriptorList;
 use ts_fields::FieldValue;
 use ts_section::{Section, TableRun};
 use ts_table_pages::pmt_layout;
 use ts_table_rows::{
-    Table, TableBody, TableFault, TableHead, TableItem, TableRefusal, read_table, write_table,
+    Item, ItemList, Table, TableBody, TableFault, TableHead, TableItem, TableRefusal, read_table,
+    write_table,
 };
 
 /// One elementary stream of a program.
@@ -25,17 +25,38 @@ pub struct Component {
     pub ghost in_range: { pid < 8192 },
 }
 
-impl Component {
-    ghost use Rattle.std.specs.Prelude.{◌≡◌, IfOk, Some, option_map, true};
+impl Item for Component {
     ghost use Rattle.ts_table_rows.specs.TableFitting.{item_fits};
-    ghost use Rattle.ts_table_rows.specs.TableValues.{item_held};
     ghost use Rattle.ts_table_pages.specs.PsiPages.{component_page};
     ghost use Rattle.ts_psi.specs.PsiTables.{component_item};
 
-    /// An equal component.
-    pub fn copy(&self) -> Result<Component, AllocError>
-        ensures { IfOk result (λ c. component_item c ≡ component_item self.now) }
-    {
+    ghost as_item = { λ c. component_item c };
+
+    ghost fits = { item_fits component_page };
+
+    fn of(item: TableItem) -> Component {
+        let (stream_type, pid) = component_fields(&item.values);
+        Component {
+            stream_type,
+            pid,
+            descriptors: item.descriptors,
+        }
+    }
+
+    #[tactic(auto, unfolding(ts_fields::specs::Fitting::fits))]
+    fn to_item(&self, alloc: Global) -> Result<TableItem, AllocError> {
+        let descriptors = self.descriptors.copy()?;
+        let values = vec![in alloc;
+            FieldValue::Number(u64::from(self.stream_type)),
+            FieldValue::Number(u64::from(self.pid)),
+        ]?;
+        Ok(TableItem {
+            values,
+            descriptors,
+        })
+    }
+
+    fn copy(&self) -> Result<Component, AllocError> {
         let descriptors = self.descriptors.copy()?;
         Ok(Component {
             stream_type: self.stream_type,
@@ -43,95 +64,10 @@ impl Component {
             descriptors,
         })
     }
-
-    /// The component as an item of its table.
-    #[tactic(auto, unfolding(ts_fields::specs::Fitting::fits))]
-    fn item(&self, alloc: Global) -> Result<TableItem, AllocError>
-        ensures held { IfOk result (λ i. item_held i ≡ component_item self.now) }
-        ensures fits { item_fits component_page (component_item self.now) ≡ true }
-    {
-        let mut values = Vec::new(alloc);
-        values.push(FieldValue::Number(u64::from(self.stream_type)))?;
-        values.push(FieldValue::Number(u64::from(self.pid)))?;
-        let descriptors = self.descriptors.copy()?;
-        Ok(TableItem {
-            values,
-            descriptors,
-        })
-    }
-
-    /// The component that an item of its table is.
-    #[tactic(auto, unfolding(ts_fields::specs::Fitting::fits))]
-    fn of(item: TableItem) -> Option<Component>
-        requires { item_fits component_page (item_held item) ≡ true }
-        ensures { option_map component_item result ≡ Some (item_held item) }
-    {
-        let [FieldValue::Number(stream_type), FieldValue::Number(pid)] = item.values.as_slice()
-        else {
-            return None;
-        };
-        Some(Component {
-            stream_type: *stream_type as u8,
-            pid: *pid as u16,
-            descriptors: item.descriptors,
-        })
-    }
 }
 
 /// Components in their order.
-#[derive(Drop)]
-pub struct ComponentList {
-    components: Vec<Component>,
-}
-
-// Clauses see the list of the components.
-impl Model for ComponentList {
-    ghost use Rattle.std.specs.Prelude.{List};
-    ghost use Rattle.ts_psi.specs.declared.pmt.Component.{Component};
-
-    ghost Value = { List Component };
-
-    ghost view = { λ l. l.components.items };
-}
-
-impl ComponentList {
-    ghost use Rattle.std.specs.Prelude.{◌≡◌, IfOk, map};
-    ghost use Rattle.ts_psi.specs.PsiTables.{component_item};
-
-    /// The components of a `Vec`, which the list keeps.
-    pub fn of(components: Vec<Component>) -> ComponentList
-        ensures { result ≡ components.items }
-    {
-        ComponentList { components }
-    }
-
-    /// The components.
-    pub fn as_slice(&self) -> &[Component]
-        ensures { result.now ≡ self.now }
-    {
-        &self.components
-    }
-
-    /// An equal list.
-    pub fn copy(&self) -> Result<ComponentList, AllocError>
-        ensures { IfOk result (λ l. map component_item l ≡ map component_item self.now) }
-    {
-        let held = self.as_slice();
-        let mut components = Vec::new(*self.components.allocator());
-        for component in held {
-            let copied = component.copy()?;
-            components.push(copied)?;
-        }
-        Ok(ComponentList { components })
-    }
-
-    /// The `Vec` of the components.
-    pub fn into_vec(self) -> Vec<Component>
-        ensures { result.items ≡ self }
-    {
-        self.components
-    }
-}
+pub type ComponentList = ItemList<Component>;
 
 /// A program map table.
 #[derive(Drop)]
@@ -153,55 +89,14 @@ pub struct Pmt {
 }
 
 impl Pmt {
-    ghost use Rattle.std.specs.Prelude.{◌≡◌, [], ◌∷◌, ◌++◌, IfOk, Ok, OnOk, map, true};
-    ghost use Rattle.std.specs.List.{list_all};
+    ghost use Rattle.std.specs.Prelude.{◌≡◌, IfOk, Ok, OnOk, true};
     ghost use Rattle.ts_section.specs.SectionRun.{IsTableRun};
     ghost use Rattle.ts_table_rows.specs.RunReading.{Tells, read_run};
-    ghost use Rattle.ts_table_rows.specs.TableFitting.{item_fits, table_fits};
+    ghost use Rattle.ts_table_rows.specs.TableFitting.{table_fits};
     ghost use Rattle.ts_table_rows.specs.TableSections.{Writes, sections_of};
-    ghost use Rattle.ts_table_rows.specs.TableValues.{item_held, table_held};
-    ghost use Rattle.ts_table_pages.specs.PsiPages.{component_page, pmt_page};
-    ghost use Rattle.ts_psi.specs.PsiTables.{component_item, pmt_held};
-
-    /// The components that items of the table are.
-    fn components_of(alloc: Global, items: Vec<TableItem>) -> Result<ComponentList, AllocError>
-        requires { list_all (item_fits component_page) (map item_held items.items) ≡ true }
-        ensures { IfOk result (λ l. map component_item l ≡ map item_held items.items) }
-    {
-        let mut components = Vec::new(alloc);
-        for item in items {
-            Pmt::add(&mut components, item)?;
-        }
-        Ok(ComponentList::of(components))
-    }
-
-    /// Adds the component that an item of the table is.
-    fn add(components: &mut Vec<Component>, item: TableItem) -> Result<(), AllocError>
-        requires { item_fits component_page (item_held item) ≡ true }
-        ensures { OnOk result (map component_item components.new.items
-            ≡ map component_item components.old.items ++ item_held item ∷ []) }
-    {
-        match Component::of(item) {
-            Some(component) => {
-                components.push(component)?;
-                Ok(())
-            }
-            None => Ok(()),
-        }
-    }
-
-    /// The components as items of the table.
-    fn items(alloc: Global, components: &[Component]) -> Result<Vec<TableItem>, AllocError>
-        ensures held { IfOk result (λ v. map item_held v.items ≡ map component_item components.now) }
-        ensures fits { OnOk result (list_all (item_fits component_page) (map component_item components.now) ≡ true) }
-    {
-        let mut items = Vec::new(alloc);
-        for component in components {
-            let item = component.item(alloc)?;
-            items.push(item)?;
-        }
-        Ok(items)
-    }
+    ghost use Rattle.ts_table_rows.specs.TableValues.{table_held};
+    ghost use Rattle.ts_table_pages.specs.PsiPages.{pmt_page};
+    ghost use Rattle.ts_psi.specs.PsiTables.{pmt_held};
 
     /// The PMT that a table is.
     #[tactic(auto, unfolding(ts_fields::specs::Fitting::fits))]
@@ -216,7 +111,7 @@ impl Pmt {
             items,
         } = body;
         let pcr_pid = pcr_of(&values);
-        let components = Pmt::components_of(alloc, items)?;
+        let components = ComponentList::read(alloc, items)?;
         Ok(Pmt {
             version: head.version,
             current: head.current,
@@ -239,10 +134,9 @@ impl Pmt {
             current: self.current,
             numbers: None,
         };
-        let mut values = Vec::new(alloc);
-        values.push(FieldValue::Number(u64::from(self.pcr_pid)))?;
+        let values = vec![in alloc; FieldValue::Number(u64::from(self.pcr_pid))]?;
         let descriptors = self.descriptors.copy()?;
-        let items = Pmt::items(alloc, self.components.as_slice())?;
+        let items = self.components.write(alloc)?;
         let body = TableBody {
             values,
             descriptors,
@@ -274,7 +168,7 @@ impl Pmt {
 
     /// An equal PMT.
     pub fn copy(&self) -> Result<Pmt, AllocError>
-        ensures { IfOk result (λ p. pmt_held p ≡ pmt_held self.now) }
+        ensures { IfOk result (λ p. p ≡ self.now) }
     {
         let descriptors = self.descriptors.copy()?;
         let components = self.components.copy()?;

@@ -1,15 +1,18 @@
-use Rattle.ts_table_rows.specs.TableFitting.{item_fits}
+use Rattle.std.proofs.Common.{rules, map, ap, ◌∙◌}
+use Rattle.std.specs.Prelude.{not}
+use Rattle.std.specs.List.{list_all}
+use Rattle.std.proofs.lemmas.Fn.{filter_same}
 use Rattle.ts_table_rows.specs.TableValues.{item_held}
-use Rattle.ts_table_pages.specs.PsiPages.{entry_page}
-use Rattle.ts_psi.proofs.EntryLemmas.{test_at, services_more, services_all}
+use Rattle.ts_psi.specs.PatTables.{is_network, service_serves}
+use Rattle.ts_psi.proofs.EntryLemmas.{services_held, services_serve}
 use Rattle.ts_psi.proofs.entries.services_of.Goals as goal
 
-pub entry_of-id-requires : goal.entry_of-id-requires
-entry_of-id-requires c = test_at (item_fits entry_page) item_held c.args.items.now c.loop-item.item-index c.item-item.result c.requires c.loop-item-test.true c.item-item.is
-
-pub loop-item-preserved : goal.loop-item-preserved
-loop-item-preserved c =
-    services_more c.loop-item.services.items c.add.new.services.items c.args.items.now c.loop-item.item-index c.item-item.result c.entry_of-id.result.0 c.entry_of-id.result.1 c.loop-item-test.true c.item-item.is c.entry_of-id.ensures.held c.in_ok-add.ensures c.loop-item.invariant
+pub read-requires : goal.read-requires
+read-requires c =
+    ap (λ l. list_all service_serves (map item_held l)) (filter_same _ (λ i. not (is_network (item_held i))) _ (λ x b f' k. search rules) _ _ c.retain.ensures.filtered)
+    ∙ ap (list_all service_serves) (services_held c.args.items.items) ∙ services_serve (map item_held c.args.items.items) c.requires
 
 pub returns : goal.returns
-returns c = services_all c.loop-item.services.items c.args.items.now c.loop-item.item-index c.loop-item-test.false c.loop-item.invariant
+returns c =
+    c.in_ok-services.ensures
+    ∙ ap (map item_held) (filter_same _ (λ i. not (is_network (item_held i))) _ (λ x b f' k. search rules) _ _ c.retain.ensures.filtered) ∙ services_held c.args.items.items
