@@ -15,6 +15,7 @@ use plug_conf::NumberSet;
 use std::alloc::{AllocError, Global};
 use ts_bits::DescriptorList;
 use ts_si::{Sdt, SdtService, SdtServiceList};
+use ts_table_rows::Item;
 
 /// An SDT after the edit of `sdt`. It leaves out services, changes one, which comes last where it is not there, and sets
 /// the version. None where a descriptor would pass 255 bytes. An `AllocError` leaves nothing.

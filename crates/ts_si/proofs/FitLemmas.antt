@@ -33,17 +33,21 @@ sdt_head_fits : (actual : Bool) (extension version : ℕ) (current : Bool) → e
 sdt_head_fits true extension version current small in_range = numbers_fit_in extension version small in_range
 sdt_head_fits false extension version current small in_range = numbers_fit_in extension version small in_range
 
+-- the items of a body that a NIT or a BAT has
+streams_fit : (xs : List ItemHolding) → list_all (item_fits stream_page) xs ≡ true → (list_all (item_fits stream_page) xs && is_some (zeros_from false false xs)) ≡ true
+streams_fit xs items = and_from (list_all (item_fits stream_page) xs) _ items (zeros_some xs)
+
 pub nit_fits : (n : Nit) → n.network_id < 65536 → n.version < 32 → list_all (item_fits stream_page) (map stream_item n.streams) ≡ true → table_fits nit_page (nit_held n) ≡ true
 unfolding fits
 nit_fits n network version items =
     and_from (head_fits nit_page (nit_held n).head) (body_fits nit_page (nit_held n).body) (nit_head_fits n.actual n.network_id n.version n.current network version)
-    (and_from (list_all (item_fits stream_page) (map stream_item n.streams)) _ items (zeros_some (map stream_item n.streams)))
+    (streams_fit (map stream_item n.streams) items)
 
 pub bat_fits : (b : Bat) → b.bouquet_id < 65536 → b.version < 32 → list_all (item_fits stream_page) (map stream_item b.streams) ≡ true → table_fits bat_page (bat_held b) ≡ true
 unfolding fits
 bat_fits b bouquet version items =
     and_from (head_fits bat_page (bat_held b).head) (body_fits bat_page (bat_held b).body) (numbers_fit_in b.bouquet_id b.version bouquet version)
-    (and_from (list_all (item_fits stream_page) (map stream_item b.streams)) _ items (zeros_some (map stream_item b.streams)))
+    (streams_fit (map stream_item b.streams) items)
 
 original_fits : (id : ℕ) → id < 65536 → values_fit sdt_page (number id ∷ []) ≡ true
 unfolding fits

@@ -1,9 +1,10 @@
 -- NIT, BAT and SDT as tables.
 -- ETSI EN 300 468, 5.2.1 to 5.2.3.
-use Rattle.std.specs.Prelude.{ℕ, [], ◌∷◌, map, Bool, true, false, None}
+use Rattle.std.specs.Prelude.{ℕ, List, [], ◌∷◌, map, Bool, true, false, None}
+use Rattle.ts_bits.specs.TaggedBody.{TaggedBody}
 use Rattle.ts_fields.specs.Layout.{number}
 use Rattle.ts_table_rows.specs.RowWords.{flag}
-use Rattle.ts_table_rows.specs.TableValues.{ItemHolding, TableHolding}
+use Rattle.ts_table_rows.specs.TableValues.{ItemHolding, BodyHolding, TableHolding}
 use Rattle.ts_si.specs.declared.streams.NitStream.{NitStream}
 use Rattle.ts_si.specs.declared.services.SdtService.{SdtService}
 use Rattle.ts_si.specs.declared.nit.Nit.{Nit}
@@ -24,6 +25,10 @@ sdt_id false = 0x46
 abbrev pub stream_item : NitStream → ItemHolding
 stream_item s = record { values = number s.stream_id ∷ number s.original_id ∷ []; descriptors = s.descriptors }
 
+-- the body of a NIT or a BAT: its own descriptors, and the transport streams
+abbrev pub streams_held : List TaggedBody → List NitStream → BodyHolding
+streams_held descriptors streams = record { values = []; descriptors = descriptors; items = map stream_item streams }
+
 -- a NIT as a table
 abbrev pub nit_held : Nit → TableHolding
 nit_held n = record {
@@ -34,7 +39,7 @@ nit_held n = record {
     current = n.current;
     numbers = None;
   };
-  body = record { values = []; descriptors = n.descriptors; items = map stream_item n.streams };
+  body = streams_held n.descriptors n.streams;
 }
 
 -- a BAT as a table
@@ -47,7 +52,7 @@ bat_held b = record {
     current = b.current;
     numbers = None;
   };
-  body = record { values = []; descriptors = b.descriptors; items = map stream_item b.streams };
+  body = streams_held b.descriptors b.streams;
 }
 
 -- a service as an item

@@ -2,14 +2,14 @@
 
 ghost use Rattle.std.specs.Prelude.{◌<◌};
 
-use crate::heads::{holds_nothing, table_head};
-use crate::stream_rows::{stream_items, streams_of};
+use crate::heads::table_head;
+use crate::stream_body::{parts_of, stream_body};
 use crate::streams::NitStreamList;
 use std::alloc::{AllocError, Global};
 use ts_bits::DescriptorList;
 use ts_section::{Section, TableRun};
 use ts_table_pages::bat_layout;
-use ts_table_rows::{Table, TableBody, TableFault, TableRefusal, read_table, write_table};
+use ts_table_rows::{Table, TableFault, TableRefusal, read_table, write_table};
 
 /// A bouquet association table.
 #[derive(Drop)]
@@ -43,14 +43,7 @@ impl Bat {
         ensures { IfOk result (λ b. bat_held b ≡ table_held table) }
     {
         let Table { head, body } = table;
-        let TableBody {
-            values,
-            descriptors,
-            items,
-        } = body;
-        // A law, which runs nothing.
-        holds_nothing(&values);
-        let streams = streams_of(alloc, items)?;
+        let (descriptors, streams) = parts_of(alloc, body)?;
         Ok(Bat {
             version: head.version,
             current: head.current,
@@ -67,13 +60,7 @@ impl Bat {
     {
         let table_id = 0x4A;
         let head = table_head(table_id, self.bouquet_id, self.version, self.current);
-        let descriptors = self.descriptors.copy()?;
-        let items = stream_items(alloc, self.streams.as_slice())?;
-        let body = TableBody {
-            values: Vec::new(alloc),
-            descriptors,
-            items,
-        };
+        let body = stream_body(alloc, &self.descriptors, &self.streams)?;
         Ok(Table { head, body })
     }
 
@@ -102,7 +89,7 @@ impl Bat {
 
     /// An equal BAT.
     pub fn copy(&self) -> Result<Bat, AllocError>
-        ensures { IfOk result (λ b. bat_held b ≡ bat_held self.now) }
+        ensures { IfOk result (λ b. b ≡ self.now) }
     {
         let descriptors = self.descriptors.copy()?;
         let streams = self.streams.copy()?;

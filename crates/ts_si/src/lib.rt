@@ -6,9 +6,8 @@ mod bat;
 mod heads;
 mod nit;
 mod sdt;
-mod service_rows;
 mod services;
-mod stream_rows;
+mod stream_body;
 mod streams;
 
 pub use bat::Bat;

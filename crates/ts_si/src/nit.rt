@@ -2,14 +2,14 @@
 
 ghost use Rattle.std.specs.Prelude.{◌<◌};
 
-use crate::heads::{holds_nothing, is_actual_nit, nit_id, table_head};
-use crate::stream_rows::{stream_items, streams_of};
+use crate::heads::{is_actual_nit, nit_id, table_head};
+use crate::stream_body::{parts_of, stream_body};
 use crate::streams::NitStreamList;
 use std::alloc::{AllocError, Global};
 use ts_bits::DescriptorList;
 use ts_section::{Section, TableRun};
 use ts_table_pages::nit_layout;
-use ts_table_rows::{Table, TableBody, TableFault, TableRefusal, read_table, write_table};
+use ts_table_rows::{Table, TableFault, TableRefusal, read_table, write_table};
 
 /// A network information table.
 #[derive(Drop)]
@@ -45,15 +45,8 @@ impl Nit {
         ensures { IfOk result (λ n. nit_held n ≡ table_held table) }
     {
         let Table { head, body } = table;
-        let TableBody {
-            values,
-            descriptors,
-            items,
-        } = body;
-        // A law, which runs nothing.
-        holds_nothing(&values);
         let actual = is_actual_nit(head.table_id);
-        let streams = streams_of(alloc, items)?;
+        let (descriptors, streams) = parts_of(alloc, body)?;
         Ok(Nit {
             actual,
             version: head.version,
@@ -71,13 +64,7 @@ impl Nit {
     {
         let table_id = nit_id(self.actual);
         let head = table_head(table_id, self.network_id, self.version, self.current);
-        let descriptors = self.descriptors.copy()?;
-        let items = stream_items(alloc, self.streams.as_slice())?;
-        let body = TableBody {
-            values: Vec::new(alloc),
-            descriptors,
-            items,
-        };
+        let body = stream_body(alloc, &self.descriptors, &self.streams)?;
         Ok(Table { head, body })
     }
 
@@ -106,7 +93,7 @@ impl Nit {
 
     /// An equal NIT.
     pub fn copy(&self) -> Result<Nit, AllocError>
-        ensures { IfOk result (λ n. nit_held n ≡ nit_held self.now) }
+        ensures { IfOk result (λ n. n ≡ self.now) }
     {
         let descriptors = self.descriptors.copy()?;
         let streams = self.streams.copy()?;

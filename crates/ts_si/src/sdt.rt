@@ -3,7 +3,6 @@
 ghost use Rattle.std.specs.Prelude.{◌<◌};
 
 use crate::heads::{is_actual_sdt, original_of, sdt_id, table_head};
-use crate::service_rows::{service_items, services_of};
 use crate::services::SdtServiceList;
 use std::alloc::{AllocError, Global};
 use ts_bits::DescriptorList;
@@ -53,7 +52,7 @@ impl Sdt {
         } = body;
         let actual = is_actual_sdt(head.table_id);
         let original_id = original_of(&values);
-        let services = services_of(alloc, items)?;
+        let services = SdtServiceList::read(alloc, items)?;
         Ok(Sdt {
             actual,
             version: head.version,
@@ -71,9 +70,8 @@ impl Sdt {
     {
         let table_id = sdt_id(self.actual);
         let head = table_head(table_id, self.stream_id, self.version, self.current);
-        let mut values = Vec::new(alloc);
-        values.push(FieldValue::Number(u64::from(self.original_id)))?;
-        let items = service_items(alloc, self.services.as_slice())?;
+        let values = vec![in alloc; FieldValue::Number(u64::from(self.original_id))]?;
+        let items = self.services.write(alloc)?;
         let body = TableBody {
             values,
             descriptors: DescriptorList::of(Vec::new(alloc)),
@@ -106,7 +104,7 @@ impl Sdt {
 
     /// An equal SDT.
     pub fn copy(&self) -> Result<Sdt, AllocError>
-        ensures { IfOk result (λ s. sdt_held s ≡ sdt_held self.now) }
+        ensures { IfOk result (λ s. s ≡ self.now) }
     {
         let services = self.services.copy()?;
         Ok(Sdt {

@@ -1,13 +1,15 @@
 //! The services of an SDT (ETSI EN 300 468, 5.2.3).
 
-ghost use Rattle.std.specs.Prelude.{◌<◌};
+ghost use Rattle.std.specs.Prelude.{◌≡◌, ◌<◌, [], ◌∷◌, map, true};
+ghost use Rattle.ts_fields.specs.Fitting.{fits};
+ghost use Rattle.ts_fields.specs.Layout.{held, number};
+ghost use Rattle.ts_table_rows.specs.RowWords.{flag};
+ghost use Rattle.ts_table_pages.specs.SiPages.{service_page};
 
-use crate::service_rows::service_fields;
 use std::alloc::{AllocError, Global};
-use std::marker::Model;
 use ts_bits::DescriptorList;
 use ts_fields::FieldValue;
-use ts_table_rows::TableItem;
+use ts_table_rows::{Item, ItemList, TableItem};
 
 /// A service of a transport stream.
 #[derive(Drop)]
@@ -27,52 +29,15 @@ pub struct SdtService {
     pub ghost running_in_range: { running < 8 },
 }
 
-impl SdtService {
-    ghost use Rattle.std.specs.Prelude.{◌≡◌, IfOk, OnOk, true};
+impl Item for SdtService {
     ghost use Rattle.ts_table_rows.specs.TableFitting.{item_fits};
-    ghost use Rattle.ts_table_rows.specs.TableValues.{item_held};
-    ghost use Rattle.ts_table_pages.specs.SiPages.{service_page};
     ghost use Rattle.ts_si.specs.SiTables.{service_item};
 
-    /// An equal service.
-    pub fn copy(&self) -> Result<SdtService, AllocError>
-        ensures { IfOk result (λ s. service_item s ≡ service_item self.now) }
-    {
-        let descriptors = self.descriptors.copy()?;
-        Ok(SdtService {
-            service_id: self.service_id,
-            schedule: self.schedule,
-            present: self.present,
-            running: self.running,
-            free_ca: self.free_ca,
-            descriptors,
-        })
-    }
+    ghost as_item = { λ s. service_item s };
 
-    /// The service as an item of its table.
-    #[tactic(auto, unfolding(ts_fields::specs::Fitting::fits))]
-    pub(crate) fn item(&self, alloc: Global) -> Result<TableItem, AllocError>
-        ensures held { IfOk result (λ i. item_held i ≡ service_item self.now) }
-        ensures fits { OnOk result (item_fits service_page (service_item self.now) ≡ true) }
-    {
-        let mut values = Vec::new(alloc);
-        values.push(FieldValue::Number(u64::from(self.service_id)))?;
-        values.push(FieldValue::Number(u64::from(self.schedule)))?;
-        values.push(FieldValue::Number(u64::from(self.present)))?;
-        values.push(FieldValue::Number(u64::from(self.running)))?;
-        values.push(FieldValue::Number(u64::from(self.free_ca)))?;
-        let descriptors = self.descriptors.copy()?;
-        Ok(TableItem {
-            values,
-            descriptors,
-        })
-    }
+    ghost fits = { item_fits service_page };
 
-    /// The service that an item of its table is.
-    pub(crate) fn of(item: TableItem) -> SdtService
-        requires { item_fits service_page (item_held item) ≡ true }
-        ensures { service_item result ≡ item_held item }
-    {
+    fn of(item: TableItem) -> SdtService {
         let (service_id, schedule, present, running, free_ca) = service_fields(&item.values);
         SdtService {
             service_id,
@@ -83,59 +48,62 @@ impl SdtService {
             descriptors: item.descriptors,
         }
     }
+
+    #[tactic(auto, unfolding(ts_fields::specs::Fitting::fits))]
+    fn to_item(&self, alloc: Global) -> Result<TableItem, AllocError> {
+        let descriptors = self.descriptors.copy()?;
+        let values = vec![in alloc;
+            FieldValue::Number(u64::from(self.service_id)),
+            FieldValue::Number(u64::from(self.schedule)),
+            FieldValue::Number(u64::from(self.present)),
+            FieldValue::Number(u64::from(self.running)),
+            FieldValue::Number(u64::from(self.free_ca)),
+        ]?;
+        Ok(TableItem {
+            values,
+            descriptors,
+        })
+    }
+
+    fn copy(&self) -> Result<SdtService, AllocError> {
+        let descriptors = self.descriptors.copy()?;
+        Ok(SdtService {
+            service_id: self.service_id,
+            schedule: self.schedule,
+            present: self.present,
+            running: self.running,
+            free_ca: self.free_ca,
+            descriptors,
+        })
+    }
 }
 
 /// Services in their order.
-#[derive(Drop)]
-pub struct SdtServiceList {
-    services: Vec<SdtService>,
-}
+pub type SdtServiceList = ItemList<SdtService>;
 
-// Clauses see the list of the services.
-impl Model for SdtServiceList {
-    ghost use Rattle.std.specs.Prelude.{List};
-    ghost use Rattle.ts_si.specs.declared.services.SdtService.{SdtService};
-
-    ghost Value = { List SdtService };
-
-    ghost view = { λ l. l.services.items };
-}
-
-impl SdtServiceList {
-    ghost use Rattle.std.specs.Prelude.{◌≡◌, IfOk, map};
-    ghost use Rattle.ts_si.specs.SiTables.{service_item};
-
-    /// The services of a `Vec`, which the list keeps.
-    pub fn of(services: Vec<SdtService>) -> SdtServiceList
-        ensures { result ≡ services.items }
-    {
-        SdtServiceList { services }
-    }
-
-    /// The services.
-    pub fn as_slice(&self) -> &[SdtService]
-        ensures { result.now ≡ self.now }
-    {
-        &self.services
-    }
-
-    /// The `Vec` of the services.
-    pub fn into_vec(self) -> Vec<SdtService>
-        ensures { result.items ≡ self }
-    {
-        self.services
-    }
-
-    /// An equal list.
-    pub fn copy(&self) -> Result<SdtServiceList, AllocError>
-        ensures { IfOk result (λ l. map service_item l ≡ map service_item self.now) }
-    {
-        let held = self.as_slice();
-        let mut services = Vec::new(*self.services.allocator());
-        for service in held {
-            let copied = service.copy()?;
-            services.push(copied)?;
-        }
-        Ok(SdtServiceList { services })
-    }
+/// service_id, EIT_schedule_flag, EIT_present_following_flag, running_status and free_CA_mode of a service.
+#[tactic(auto, using(ts_table_rows::proofs::ListLemmas::flag_read), unfolding(ts_fields::specs::Fitting::fits))]
+fn service_fields(values: &[FieldValue]) -> (u16, bool, bool, u8, bool)
+    requires { fits service_page.rows (map held values.now) ≡ true }
+    ensures values { map held values.now
+        ≡ number result.0 ∷ flag result.1 ∷ flag result.2 ∷ number result.3 ∷ flag result.4 ∷ [] }
+    ensures in_range { result.3 < 8 }
+{
+    let [
+        FieldValue::Number(service_id),
+        FieldValue::Number(schedule),
+        FieldValue::Number(present),
+        FieldValue::Number(running),
+        FieldValue::Number(free_ca),
+    ] = values
+    else {
+        return (0, false, false, 0, false);
+    };
+    (
+        *service_id as u16,
+        *schedule == 1,
+        *present == 1,
+        *running as u8,
+        *free_ca == 1,
+    )
 }

@@ -6,7 +6,7 @@ use Rattle.plug_edit.proofs.sdt_edit.service_at.Goals as goal
 
 pub returns-in_ok-service-in-Some : goal.returns-in_ok-service-in-Some
 returns-in_ok-service-in-Some c = λ told.
-    c.in_ok-service-in-Some.ensures ∙ ap service_item c.index-services-place.is
+    ap service_item (c.in_ok-service-in-Some.ensures ∙ c.index-services-place.is)
     ∙ ap (λ o. unwrap_or o (new_service c.args.id)) (sym (find_view service_item (is_service c.args.id) (has_id c.args.id) (λ x. refl) c.args.services.now
     ∙ ap (option_map service_item) (found_at (is_service c.args.id) c.args.services.now c.in-Some.place c.index-services-place.result (sym c.in-Some.is ∙ told))))
 
