@@ -2,7 +2,6 @@
 
 ghost use Rattle.std.specs.Prelude.{◌≤◌, ◌<◌};
 
-use crate::event_rows::{event_items, events_of};
 use crate::events::EventList;
 use crate::heads::{fields_of, numbers_of, table_head};
 use std::alloc::{AllocError, Global};
@@ -63,7 +62,7 @@ impl Eit {
         let Table { head, body } = table;
         let (number, last) = numbers_of(head.numbers);
         let (stream_id, original_id, segment_last, last_table_id) = fields_of(&body.values);
-        let events = events_of(alloc, body.items)?;
+        let events = EventList::read(alloc, body.items)?;
         Ok(Eit {
             table_id: head.table_id,
             service_id: head.extension,
@@ -85,11 +84,12 @@ impl Eit {
         ensures held { IfOk result (λ v. map held v.items ≡ (eit_held self.now).body.values) }
         ensures fit { OnOk result (values_fit eit_page (eit_held self.now).body.values ≡ true) }
     {
-        let mut values = Vec::new(alloc);
-        values.push(FieldValue::Number(u64::from(self.stream_id)))?;
-        values.push(FieldValue::Number(u64::from(self.original_id)))?;
-        values.push(FieldValue::Number(u64::from(self.segment_last)))?;
-        values.push(FieldValue::Number(u64::from(self.last_table_id)))?;
+        let values = vec![in alloc;
+            FieldValue::Number(u64::from(self.stream_id)),
+            FieldValue::Number(u64::from(self.original_id)),
+            FieldValue::Number(u64::from(self.segment_last)),
+            FieldValue::Number(u64::from(self.last_table_id)),
+        ]?;
         Ok(values)
     }
 
@@ -107,7 +107,7 @@ impl Eit {
             numbers,
         );
         let values = self.values(alloc)?;
-        let items = event_items(alloc, self.events.as_slice())?;
+        let items = self.events.write(alloc)?;
         let body = TableBody {
             values,
             descriptors: DescriptorList::of(Vec::new(alloc)),
@@ -139,7 +139,7 @@ impl Eit {
 
     /// An equal EIT.
     pub fn copy(&self) -> Result<Eit, AllocError>
-        ensures { IfOk result (λ e. eit_held e ≡ eit_held self.now) }
+        ensures { IfOk result (λ e. e ≡ self.now) }
     {
         let events = self.events.copy()?;
         Ok(Eit {
