@@ -26,7 +26,7 @@ impl Info {
     ghost use Rattle.chain_model.specs.declared.positions.TheConstants.{POSITION_LIMIT};
     ghost use Rattle.plug_info.specs.InfoRule.{info_rule};
     ghost use Rattle.plug_info.specs.InfoSettings.{IsLawfulInfo};
-    ghost use Rattle.plug_info.specs.InfoStands.{StandsFor, has_failed};
+    ghost use Rattle.plug_info.specs.InfoStands.{IsFull, StandsFor, has_failed, room_of};
 
     /// A new plugin, which has processed no cell. It allocates its tables, and room for as many cells as the buffer
     /// holds; the tables in force grow with the stream.
@@ -35,6 +35,8 @@ impl Info {
         ensures rule { IfOk result (λ plugin. ⟦<Info as Plugin>⟧.rule plugin ≡ info_rule conf.now) }
         ensures fresh { IfOk result (λ plugin. ⟦<Info as Plugin>⟧.stands_for plugin [] 0) }
         ensures steady { IfOk result (λ plugin. ⟦<Info as Plugin>⟧.steady plugin ≡ None) }
+        ensures whole { IfOk result (λ plugin. has_failed plugin ≡ false) }
+        ensures reserved { IfOk result (λ plugin. room_of plugin ≡ buffer) }
     {
         Ok(Info {
             json: conf.json,
@@ -53,6 +55,8 @@ impl Info {
         ensures same { self.new.json ≡ self.old.json }
         ensures spent { OnErr result (has_failed self.new ≡ true) }
         ensures stays_spent { has_failed self.old ≡ true → IsErr result }
+        ensures full { has_failed self.old ≡ false → has_failed self.new ≡ true → IsFull self.old }
+        ensures reserved { room_of self.new ≡ room_of self.old }
     {
         if self.failed {
             return Err(AllocError);
@@ -68,19 +72,37 @@ impl Info {
 }
 
 impl Plugin for Info {
-    ghost use Rattle.std.specs.Prelude.{◌≡◌, ◌≤◌, length, false, None, refl};
+    ghost use Rattle.std.specs.Prelude.{◌≡◌, ◌≢◌, ◌<◌, IsOk, IsSome, None, false, refl, true};
+    ghost use Rattle.ts_packet.specs.Cells.{Dropped};
+    ghost use Rattle.chain_model.specs.declared.positions.TheConstants.{POSITION_LIMIT};
+    ghost use Rattle.plugin_trait.specs.Marks.{AllowsMark, Notes};
+    ghost use Rattle.plugin_trait.specs.Steps.{HasRoom, Meets, MeetsCells, Tells};
     ghost use Rattle.plug_info.specs.InfoRule.{info_rule};
-    ghost use Rattle.plug_info.specs.InfoStands.{StandsFor, conf_of, has_failed};
+    ghost use Rattle.plug_info.specs.InfoStands.{IsFull, MeetsHistory, conf_of, has_failed, room_of, steady_of};
 
     ghost rule = { λ s. info_rule (conf_of s) };
 
-    ghost stands_for = { λ s history mark. (has_failed s ≡ false → StandsFor s history mark) × (mark ≤ length history) };
+    ghost stands_for = { λ s history mark. MeetsHistory s history mark };
 
-    ghost steady = { λ s. None };
+    ghost steady = { λ s. steady_of s };
 
+    /// The clauses are those of `Plugin`, whose ghost members have no names here, and three more: a step that runs out
+    /// of memory leaves the plugin failed, and only a full buffer makes it fail.
     // Inlined always: otherwise the loop of `steps` has a call for each cell.
     #[inline(always)]
-    fn step(&mut self, _at: u64, cell: &mut Cell) -> Outcome {
+    fn step(&mut self, _at: u64, cell: &mut Cell) -> Outcome
+        requires met { MeetsCells (MeetsHistory self.old) _at }
+        requires in_range { _at < POSITION_LIMIT }
+        ensures tells { Tells (info_rule (conf_of self.old)) (MeetsHistory self.old) _at cell.old result cell.new }
+        ensures dropped { cell.old ≡ Dropped → result ≡ Outcome.Pass }
+        ensures meets { Meets (MeetsHistory self.old) (MeetsHistory self.new) _at cell.old result }
+        ensures same_rule { info_rule (conf_of self.new) ≡ info_rule (conf_of self.old) }
+        ensures same_steady { steady_of self.new ≡ steady_of self.old }
+        ensures room { HasRoom (steady_of self.old) (MeetsHistory self.old) _at → result ≢ Outcome.NoMemory }
+        ensures spent { result ≡ Outcome.NoMemory → has_failed self.new ≡ true }
+        ensures full { has_failed self.old ≡ false → has_failed self.new ≡ true → IsFull self.old }
+        ensures reserved { room_of self.new ≡ room_of self.old }
+    {
         match self.meet(cell) {
             Ok(()) => Outcome::Pass,
             Err(_) => {
@@ -93,7 +115,17 @@ impl Plugin for Info {
         }
     }
 
-    fn note(&mut self, written: u64) -> Result<(), AllocError> {
+    /// The clauses are those of `Plugin`, and two more: unless it runs out of memory a plugin that had not failed has
+    /// not failed then.
+    fn note(&mut self, written: u64) -> Result<(), AllocError>
+        requires { AllowsMark (MeetsHistory self.old) written }
+        ensures notes { Notes (MeetsHistory self.old) (MeetsHistory self.new) written result }
+        ensures same_rule { info_rule (conf_of self.new) ≡ info_rule (conf_of self.old) }
+        ensures same_steady { steady_of self.new ≡ steady_of self.old }
+        ensures room { IsSome (steady_of self.old) → IsOk result }
+        ensures spent { IsOk result → has_failed self.new ≡ has_failed self.old }
+        ensures reserved { room_of self.new ≡ room_of self.old }
+    {
         if self.failed {
             return Ok(());
         }

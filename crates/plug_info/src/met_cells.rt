@@ -17,7 +17,7 @@ pub struct MetCells {
 }
 
 impl MetCells {
-    ghost use Rattle.std.specs.Prelude.{◌≡◌, ◌≤◌, ◌<◌, ◌∷◌, ◌++◌, [], ℕ, List, IfOk, OnOk, length};
+    ghost use Rattle.std.specs.Prelude.{◌≡◌, ◌≤◌, ◌<◌, ◌∷◌, ◌++◌, [], ℕ, List, IfOk, OnOk, IsErr, length};
     ghost use Rattle.chain_model.specs.declared.positions.TheConstants.{POSITION_LIMIT};
     ghost use Rattle.ts_packet.specs.declared.cell.Cell.{Cell as GivenCell};
     ghost use Rattle.plugin_trait.specs.Marks.{AllowsMark};
@@ -25,7 +25,8 @@ impl MetCells {
 
     /// No cell yet. It allocates room for as many cells as the buffer holds.
     pub fn new(alloc: Global, buffer: usize) -> Result<MetCells, AllocError>
-        ensures { IfOk result (λ met. HasMet met [] 0) }
+        ensures met { IfOk result (λ met. HasMet met [] 0) }
+        ensures reserved { IfOk result (λ met. met.waiting.capacity ≡ buffer) }
     {
         let waiting = HeapCircularBuffer::with_capacity(alloc, buffer)?;
         let tracker = Tracker::new(alloc)?;
@@ -39,19 +40,21 @@ impl MetCells {
     /// Appends the next cell. If the buffer is full it returns `AllocError`.
     #[inline]
     pub fn push(&mut self, cell: &Cell) -> Result<(), AllocError>
-        ensures { OnOk result ((history : List GivenCell) (mark : ℕ) → HasMet self.old history mark → length history < POSITION_LIMIT
+        ensures met { OnOk result ((history : List GivenCell) (mark : ℕ) → HasMet self.old history mark → length history < POSITION_LIMIT
             → HasMet self.new (history ++ cell.now ∷ []) mark) }
+        ensures full { IsErr result → self.old.waiting.capacity ≤ length self.old.waiting.items }
+        ensures reserved { self.new.waiting.capacity ≡ self.old.waiting.capacity }
     {
-        let copy = cell.clone()?;
-        push_note(&mut self.waiting, copy)
+        push_note(&mut self.waiting, copy_of(cell))
     }
 
     /// Counts the cells below a later mark. After `AllocError` it is not to be used any more.
     pub fn take_below(&mut self, mark: u64) -> Result<(), AllocError>
         requires { AllowsMark (HasMet self.old) mark }
-        ensures { OnOk result ((history : List GivenCell) (before : ℕ) → HasMet self.old history before
+        ensures met { OnOk result ((history : List GivenCell) (before : ℕ) → HasMet self.old history before
             → before ≤ mark → mark ≤ length history
             → HasMet self.new history mark) }
+        ensures reserved { self.new.waiting.capacity ≡ self.old.waiting.capacity }
     {
         while self.mark < mark {
             let Some(cell) = next_cell(&mut self.waiting) else {
@@ -64,10 +67,22 @@ impl MetCells {
     }
 }
 
+// The same cell once more. It takes no memory.
+#[inline]
+fn copy_of(cell: &Cell) -> Cell
+    ensures { result ≡ cell.now }
+{
+    match cell.live() {
+        Some(live) => Cell::of(live.packet, live.labels),
+        None => Cell::dropped(),
+    }
+}
+
 // Removes and returns the first cell, if there is one.
 #[inline]
 fn next_cell(waiting: &mut HeapCircularBuffer<Cell>) -> Option<Cell>
-    ensures { IfSome result (λ cell. waiting.old.items ≡ cell ∷ waiting.new.items) }
+    ensures first { IfSome result (λ cell. waiting.old.items ≡ cell ∷ waiting.new.items) }
+    ensures reserved { waiting.new.capacity ≡ waiting.old.capacity }
 {
     waiting.front()?;
     waiting.pop_front()

@@ -116,7 +116,11 @@ pub new-requires-in-Info : goal.new-requires-in-Info
 new-requires-in-Info c = rw c.in-Info.is at c.requires
 
 pub returns-in_ok-new-in-Info : goal.returns-in_ok-new-in-Info
-returns-in_ok-new-in-Info c = rw c.in-Info.is c.in_ok-new-in-Info.ensures
+returns-in_ok-new-in-Info c = rw c.in-Info.is (record {
+  rule = c.in_ok-new-in-Info.ensures.rule;
+  fresh = c.in_ok-new-in-Info.ensures.fresh;
+  steady = c.in_ok-new-in-Info.ensures.steady;
+})
 
 pub new-requires-in-Tables : goal.new-requires-in-Tables
 new-requires-in-Tables c = rw c.in-Tables.is at c.requires

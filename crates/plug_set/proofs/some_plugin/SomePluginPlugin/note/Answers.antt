@@ -108,7 +108,12 @@ pub note-requires-in-Info : goal.note-requires-in-Info
 note-requires-in-Info c = rw c.in-Info.is at c.requires
 
 pub returns-in-Info : goal.returns-in-Info
-returns-in-Info c = rw c.in-Info.is c.note-in-Info.ensures
+returns-in-Info c = rw c.in-Info.is (record {
+  notes = c.note-in-Info.ensures.notes;
+  same_rule = c.note-in-Info.ensures.same_rule;
+  same_steady = c.note-in-Info.ensures.same_steady;
+  room = c.note-in-Info.ensures.room;
+})
 
 pub note-requires-in-Tables : goal.note-requires-in-Tables
 note-requires-in-Tables c = rw c.in-Tables.is at c.requires

@@ -116,7 +116,14 @@ pub step-requires-in-Info : goal.step-requires-in-Info
 step-requires-in-Info c = rw c.in-Info.is at c.requires
 
 pub returns-in-Info : goal.returns-in-Info
-returns-in-Info c = rw c.in-Info.is c.step-in-Info.ensures
+returns-in-Info c = rw c.in-Info.is (record {
+  tells = c.step-in-Info.ensures.tells;
+  dropped = c.step-in-Info.ensures.dropped;
+  meets = c.step-in-Info.ensures.meets;
+  same_rule = c.step-in-Info.ensures.same_rule;
+  same_steady = c.step-in-Info.ensures.same_steady;
+  room = c.step-in-Info.ensures.room;
+})
 
 pub step-requires-in-Tables : goal.step-requires-in-Tables
 step-requires-in-Tables c = rw c.in-Tables.is at c.requires
