@@ -16,10 +16,11 @@ use Rattle.plugin_trait.specs.declared.line.Line.{Line}
 use Rattle.plugin_trait.specs.PlacedLines.{placed_at}
 use Rattle.plugin_notes.specs.PidPackets.{numbers_below}
 use Rattle.plugin_notes.proofs.PidLemmas.{numbers_below_more, placed_at-append}
+use Rattle.info_texts.proofs.LineLemmas.{flat_more}
 use Rattle.plug_psi.specs.InForce.{service_in, services_in}
-use Rattle.plug_info.specs.InfoTexts.{component_tail}
-use Rattle.plug_info.specs.declared.pid_numbers.PidNumbers.{PidNumbers}
-use Rattle.plug_info.specs.declared.scene.Scene.{Scene}
+use Rattle.info_texts.specs.InfoTexts.{component_tail}
+use Rattle.info_texts.specs.declared.pid_numbers.PidNumbers.{PidNumbers}
+use Rattle.info_texts.specs.declared.scene.Scene.{Scene}
 
 -- lines after lines
 pub pushed_after : (cut : ℕ) (lines first second : List Line) (xs ys : List (List ℕ)) → first ≡ lines ++ placed_at cut xs → second ≡ first ++ placed_at cut ys
@@ -28,12 +29,6 @@ pushed_after cut lines first second xs ys a b =
     b ∙ (ap (λ (ls : List Line). ls ++ placed_at cut ys) a
     ∙ (append_assoc lines (placed_at cut xs) (placed_at cut ys)
     ∙ ap (λ (ls : List Line). lines ++ ls) (sym (placed_at-append cut xs ys))))
-
--- a `flat_map` over the numbers below one more
-pub flat_more : {X : Type 0} (f : ℕ → List X) (n : ℕ) → flat_map f (numbers_below n) ++ f n ≡ flat_map f (numbers_below (n + 1))
-flat_more f n =
-    ap (λ xs. flat_map f (numbers_below n) ++ xs) (sym (append-nil (f n)))
-    ∙ (sym (flat_map-append f (numbers_below n) (n ∷ [])) ∙ ap (flat_map f) (sym (numbers_below_more n)))
 
 pub fold_below_more : {X : Type 0} (f : X → ℕ → X) (x : X) (n : ℕ) → f (fold f x (numbers_below n)) n ≡ fold f x (numbers_below (n + 1))
 fold_below_more f x n = sym (fold-append f x (numbers_below n) (n ∷ [])) ∙ ap (fold f x) (sym (numbers_below_more n))
@@ -54,12 +49,6 @@ services_more entries i entry service lt entry_is its =
     ∙ (ap (filter_map service_in) (map-append service_item (take i entries) (entry ∷ []))
     ∙ (filter_map-append service_in (map service_item (take i entries)) (map service_item (entry ∷ []))
     ∙ ap (λ (o : Option (ℕ × ℕ)). filter_map service_in (map service_item (take i entries)) ++ cons_option o []) its))
-
--- a text with one more number
-pub text_more : {X : Type 0} (f : ℕ → List X) (n : ℕ) (old now new : List X) → now ≡ old ++ flat_map f (numbers_below n) → new ≡ now ++ f n
-    → new ≡ old ++ flat_map f (numbers_below (n + 1))
-text_more f n old now new so_far pushed =
-    pushed ∙ (ap (λ xs. xs ++ f n) so_far ∙ (append_assoc old (flat_map f (numbers_below n)) (f n) ∙ ap (λ xs. old ++ xs) (flat_more f n)))
 
 -- the lines with one more number
 pub lines_more : (cut : ℕ) (f : ℕ → List (List ℕ)) (n : ℕ) (before lines lines_new : List Line) → lines ≡ before ++ placed_at cut (flat_map f (numbers_below n))
@@ -130,15 +119,12 @@ pub if_other : (pat sdt : ℕ) (made text : List ℕ) → (pat ≡ sdt → ⊥) 
 if_other pat sdt made text other is =
     ap (λ (t : List ℕ). t ∷ []) is ∙ sym (ap (λ (b : Bool). if b then [] else text ∷ []) (ne_eqb pat sdt other))
 
--- the first half of the stream's line, each part of which is known
-head_parts : ℕ → ℕ → List ℕ → List ℕ → List ℕ
-head_parts packets bytes id rate = codes "stream packets " ++ (decimal packets ++ (codes " bytes " ++ (decimal bytes
-    ++ (codes " transport_stream_id " ++ (id ++ (codes " bitrate " ++ rate))))))
+-- the line of a PID, each part of which is known
+abbrev pub pid_parts : ℕ → List ℕ → List ℕ → List ℕ → List ℕ
+pid_parts pid purpose portion troubles = codes "pid " ++ (decimal pid ++ (codes " (" ++ (purpose ++ (codes ")" ++ (portion ++ troubles)))))
 
-pub head_is : (packets bytes bytes_new : ℕ) (id id_new rate rate_new : List ℕ) → bytes ≡ bytes_new → id ≡ id_new → rate ≡ rate_new
-    → codes "stream packets " ++ (decimal packets ++ (codes " bytes " ++ (decimal bytes ++ (codes " transport_stream_id " ++ (id ++ (codes " bitrate " ++ rate))))))
-    ≡ codes "stream packets " ++ (decimal packets ++ (codes " bytes " ++ (decimal bytes_new ++ (codes " transport_stream_id " ++ (id_new ++ (codes " bitrate " ++ rate_new))))))
-unfolding head_parts
-head_is packets bytes bytes_new id id_new rate rate_new a b c =
-    ap (λ (n : ℕ). head_parts packets n id rate) a
-    ∙ (ap (λ (x : List ℕ). head_parts packets bytes_new x rate) b ∙ ap (head_parts packets bytes_new id_new) c)
+pub pid_is : (pid : ℕ) (purpose purpose_new portion portion_new troubles troubles_new : List ℕ) → purpose ≡ purpose_new → portion ≡ portion_new → troubles ≡ troubles_new
+    → pid_parts pid purpose portion troubles ≡ pid_parts pid purpose_new portion_new troubles_new
+pid_is pid purpose purpose_new portion portion_new troubles troubles_new a b c =
+    ap (λ (x : List ℕ). pid_parts pid x portion troubles) a
+    ∙ (ap (λ (x : List ℕ). pid_parts pid purpose_new x troubles) b ∙ ap (pid_parts pid purpose_new portion_new) c)

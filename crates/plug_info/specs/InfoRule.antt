@@ -12,15 +12,15 @@ use Rattle.chain_model.specs.PluginRule.{PluginRule, passes}
 use Rattle.plugin_notes.specs.PidPackets.{numbers_below, packets_on}
 use Rattle.plug_psi.specs.InForce.{names, pat_of, pmt_of, services_in}
 use Rattle.plug_analyze.specs.AnalyzeRule.{fault_pids, is_scrambled}
-use Rattle.plug_info.specs.InfoJson.{array, component_json, number_or_null, pid_json, portion_json, service_json, stream_json, whole_json}
-use Rattle.plug_info.specs.InfoNames.{pid_names, text_for}
-use Rattle.plug_info.specs.InfoTexts.{component_text, marks_text, pid_text, portion_text, sdt_texts, service_text, stream_text}
+use Rattle.info_texts.specs.InfoJson.{array, component_json, number_or_null, pid_json, portion_json, service_json, stream_json, whole_json}
+use Rattle.info_texts.specs.InfoNames.{pid_names, text_for}
+use Rattle.info_texts.specs.InfoTexts.{component_text, marks_text, pid_text, portion_text, sdt_texts, service_text, stream_text}
 use Rattle.plug_info.specs.PcrRate.{rate_of}
 use Rattle.plug_info.specs.SdtInForce.{is_number, items_in, sdt_of, service_body}
 use Rattle.plug_info.specs.declared.info_conf.InfoConf.{InfoConf}
-use Rattle.plug_info.specs.declared.pid_numbers.PidNumbers.{PidNumbers}
-use Rattle.plug_info.specs.declared.scene.Scene.{Scene}
-use Rattle.plug_info.specs.declared.stream_numbers.StreamNumbers.{StreamNumbers}
+use Rattle.info_texts.specs.declared.pid_numbers.PidNumbers.{PidNumbers}
+use Rattle.info_texts.specs.declared.scene.Scene.{Scene}
+use Rattle.info_texts.specs.declared.stream_numbers.StreamNumbers.{StreamNumbers}
 
 -- how many packets on a PID are of each kind, in a list of cells
 abbrev pub numbers_on : ℕ → List Cell → PidNumbers

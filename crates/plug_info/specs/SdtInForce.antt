@@ -1,7 +1,7 @@
 -- The SDT in force, and its description of a service. ETSI EN 300 468, 5.1.3, 5.2.3 and 6.2.33: the SDT of the actual
 -- transport stream is on PID 17 with table_id 0x42, and the service_descriptor, tag 0x48, has the type, the provider
 -- and the name of a service. Which table counts is this project's own rule, the same as for a PAT.
-use Rattle.std.specs.Prelude.{ℕ, ◌==◌, Bool, false, List, [], ◌∷◌, length, take, drop, nat_le, Option, None, Some, if◌then◌else◌}
+use Rattle.std.specs.Prelude.{ℕ, ◌==◌, Bool, false, List, [], ◌∷◌, Option, None, Some, if◌then◌else◌}
 use Rattle.ts_bits.specs.TaggedBody.{TaggedBody}
 use Rattle.ts_table_rows.specs.BodyReading.{first_number}
 use Rattle.ts_table_rows.specs.RunReading.{read_run}
@@ -47,29 +47,3 @@ items_in (Some table) = table.body.items
 -- the service_descriptor of a service in an SDT
 abbrev pub service_body : Option TableHolding → ℕ → Option (List ℕ)
 service_body sdt id = body_with 0x48 (described_in id (items_in sdt))
-
--- the bytes after a length of one byte, if all are there
-abbrev pub counted_text : List ℕ → Option (List ℕ)
-counted_text [] = None
-counted_text (n ∷ bytes) = if nat_le n (length bytes) then Some (take n bytes) else None
-
--- the bytes after these
-abbrev pub behind_text : List ℕ → List ℕ
-behind_text [] = []
-behind_text (n ∷ bytes) = drop n bytes
-
--- service_type in the body of a service_descriptor
-abbrev pub type_in : Option (List ℕ) → Option ℕ
-type_in None = None
-type_in (Some []) = None
-type_in (Some (kind ∷ bytes)) = Some kind
-
--- service_provider_name in the body of a service_descriptor
-abbrev pub provider_in : Option (List ℕ) → Option (List ℕ)
-provider_in None = None
-provider_in (Some body) = counted_text (drop 1 body)
-
--- service_name in the body of a service_descriptor
-abbrev pub name_in : Option (List ℕ) → Option (List ℕ)
-name_in None = None
-name_in (Some body) = counted_text (behind_text (drop 1 body))

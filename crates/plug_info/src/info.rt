@@ -115,8 +115,8 @@ impl Plugin for Info {
         }
     }
 
-    /// The clauses are those of `Plugin`, and two more: unless it runs out of memory a plugin that had not failed has
-    /// not failed then.
+    /// The clauses are those of `Plugin`, and two more: it makes the plugin fail only where it runs out of memory
+    /// itself.
     fn note(&mut self, written: u64) -> Result<(), AllocError>
         requires { AllowsMark (MeetsHistory self.old) written }
         ensures notes { Notes (MeetsHistory self.old) (MeetsHistory self.new) written result }

@@ -10,26 +10,23 @@ ghost use Rattle.ts_psi.specs.PsiTables.{component_item, pmt_held};
 ghost use Rattle.plugin_notes.specs.PidPackets.{numbers_below};
 ghost use Rattle.plugin_trait.specs.PlacedLines.{placed_at};
 ghost use Rattle.plug_psi.specs.InForce.{pat_of, pmt_of, services_in};
-ghost use Rattle.plug_info.specs.InfoJson;
-ghost use Rattle.plug_info.specs.InfoJson.{behind_comma};
+ghost use Rattle.info_texts.specs.InfoJson;
+ghost use Rattle.info_texts.specs.InfoJson.{behind_comma};
 ghost use Rattle.plug_info.specs.InfoRule.{component_object, json_on, pid_objects, scene_of, service_object, use_of};
 ghost use Rattle.plug_info.specs.SdtInForce.{items_in};
 ghost use Rattle.plug_info.specs.Tracked.{IsReady, Tracks};
 
-use crate::json_marks::marks_json;
-use crate::json_parts::{
-    array, bytes_field, name_or_null, number_or_null, portion_json, push_item, troubles_json,
-};
-use crate::name_row::stream_type_name;
-use crate::pid_numbers::PidNumbers;
-use crate::scene::Scene;
-use crate::service_texts::{name_in, provider_in, service_body, type_in};
-use crate::stream_numbers::StreamNumbers;
-use crate::summary::{
-    bytes_of, pcr_pid_in, sdt_stream_id, service_packets, stream_numbers, use_of, widened,
-};
+use crate::service_texts::service_body;
+use crate::summary::{pcr_pid_in, sdt_stream_id, service_packets, stream_numbers, use_of};
 use crate::tracker::Tracker;
-use crate::users::{parts, users_of};
+use crate::users::{components_of, parts, services_of, users_of};
+use info_texts::json_texts::{
+    component_head, component_tail, service_head, service_tail, stream_json,
+};
+use info_texts::{
+    PidNumbers, Scene, array, marks_json, number_or_null, portion_json, push_item, troubles_json,
+    widened,
+};
 use plugin_notes::push_line;
 use plugin_trait::{Line, LineText};
 use std::alloc::{AllocError, Global};
@@ -68,41 +65,6 @@ fn whole_json(alloc: Global, tracker: &Tracker) -> Result<LineText, AllocError>
     Ok(LineText::of(text))
 }
 
-// The object of the stream.
-fn stream_json(alloc: Global, s: &StreamNumbers) -> Result<String, AllocError>
-    ensures { IfOk result (λ text. string_bytes text ≡ InfoJson.stream_json s.now) }
-{
-    let head = stream_head(alloc, s)?;
-    let tail = stream_tail(alloc, s)?;
-    let text = format!(in alloc; "{head}{tail}")?;
-    Ok(text)
-}
-
-// Its first half: numbers of the stream.
-fn stream_head(alloc: Global, s: &StreamNumbers) -> Result<String, AllocError>
-    ensures { IfOk result (λ text. string_bytes text ≡ InfoJson.stream_head s.now) }
-{
-    let bytes = bytes_of(s.packets);
-    let id = number_or_null(alloc, widened(s.stream_id))?;
-    let rate = number_or_null(alloc, s.rate)?;
-    let text = format!(in alloc;
-        "{{\"packets\":{},\"bytes\":{},\"transport_stream_id\":{},\"bitrate\":{}",
-        s.packets, bytes, id, rate
-    )?;
-    Ok(text)
-}
-
-// Its second half: null packets, errors and faults.
-fn stream_tail(alloc: Global, s: &StreamNumbers) -> Result<String, AllocError>
-    ensures { IfOk result (λ text. string_bytes text ≡ InfoJson.stream_tail s.now) }
-{
-    let text = format!(in alloc;
-        ",\"nulls\":{},\"errored\":{},\"scrambled\":{},\"faults\":{}}}",
-        s.nulls, s.errored, s.scrambled, s.faults
-    )?;
-    Ok(text)
-}
-
 // The array of the services of the PAT in force.
 fn services_json(alloc: Global, tracker: &Tracker, scene: &Scene) -> Result<String, AllocError>
     requires { IsReady tracker.now }
@@ -127,10 +89,7 @@ fn push_services(
         → string_bytes items.new ≡ string_bytes items.old
         ++ flat_map (λ s. behind_comma (service_object cells s)) (services_in (pat_of (live_packets cells)))) }
 {
-    let Some(pat) = tracker.force.pat() else {
-        return Ok(());
-    };
-    let entries = pat.services.as_slice();
+    let entries = services_of(&tracker.force);
     for service in entries {
         let (id, pid) = parts(service);
         let text = service_json(alloc, tracker, scene, id, pid)?;
@@ -160,37 +119,6 @@ fn service_json(
     Ok(text)
 }
 
-// Its first half: its description in the SDT.
-fn service_head(alloc: Global, id: u16, body: Option<&[u8]>) -> Result<String, AllocError>
-    ensures { IfOk result (λ text. string_bytes text ≡ InfoJson.service_head id (option_map (λ b. b.now) body.entry)) }
-{
-    let kind = number_or_null(alloc, type_in(body))?;
-    let name = bytes_field(alloc, "name", name_in(body))?;
-    let provider = bytes_field(alloc, "provider", provider_in(body))?;
-    let text = format!(in alloc; "{{\"id\":{},\"type\":{},{},{}", id, kind, name, provider)?;
-    Ok(text)
-}
-
-// Its second half: its PIDs, its share and its components.
-fn service_tail(
-    alloc: Global,
-    scene: &Scene,
-    pid: u16,
-    pcr: Option<u64>,
-    packets: u64,
-    components: &str,
-) -> Result<String, AllocError>
-    ensures { IfOk result (λ text. string_bytes text
-        ≡ InfoJson.service_tail pid pcr (InfoJson.portion_json scene.now packets) components.now) }
-{
-    let portion = portion_json(alloc, scene, packets)?;
-    let pcr = number_or_null(alloc, pcr)?;
-    let text = format!(in alloc;
-        ",\"pmt\":{pid},\"pcr\":{pcr},{portion},\"components\":{components}}}"
-    )?;
-    Ok(text)
-}
-
 // The array of the components of a PMT.
 fn components_json(
     alloc: Global,
@@ -206,16 +134,6 @@ fn components_json(
     push_components(alloc, &mut items, tracker, scene, components_of(pmt))?;
     let text = array(alloc, &items)?;
     Ok(text)
-}
-
-// The components of a PMT; none without one.
-fn components_of(pmt: Option<&Pmt>) -> &[Component]
-    ensures { map component_item result.now ≡ items_in (option_map pmt_held (option_copied pmt.entry)) }
-{
-    match pmt {
-        Some(pmt) => pmt.components.as_slice(),
-        None => &[],
-    }
 }
 
 // Appends components to the items.
@@ -255,32 +173,6 @@ fn component_json(
     let marks = marks_json(alloc, component.descriptors.as_slice())?;
     let tail = component_tail(alloc, scene, &numbers, users)?;
     let text = format!(in alloc; "{head}{marks}{tail}")?;
-    Ok(text)
-}
-
-// Its beginning: PID and stream type.
-fn component_head(alloc: Global, pid: u16, kind: u8) -> Result<String, AllocError>
-    ensures { IfOk result (λ text. string_bytes text ≡ InfoJson.component_head pid kind) }
-{
-    let name = name_or_null(alloc, stream_type_name(kind))?;
-    let text = format!(in alloc;
-        "{{\"pid\":{pid},\"stream_type\":{kind},\"stream_type_name\":{name}"
-    )?;
-    Ok(text)
-}
-
-// Its end: its share, its scrambled and faulty packets, and how many services have it.
-fn component_tail(
-    alloc: Global,
-    scene: &Scene,
-    numbers: &PidNumbers,
-    users: u64,
-) -> Result<String, AllocError>
-    ensures { IfOk result (λ text. string_bytes text ≡ InfoJson.component_tail scene.now numbers.now users) }
-{
-    let portion = portion_json(alloc, scene, numbers.packets)?;
-    let troubles = troubles_json(alloc, numbers)?;
-    let text = format!(in alloc; "{portion}{troubles},\"services\":{users}}}")?;
     Ok(text)
 }
 

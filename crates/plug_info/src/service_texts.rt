@@ -1,8 +1,8 @@
 //! The description of a service in the SDT in force.
-ghost use Rattle.std.specs.Prelude.{◌≡◌, drop, map, option_map};
+ghost use Rattle.std.specs.Prelude.{◌≡◌, map, option_map};
 ghost use Rattle.std.specs.Option.{option_copied};
 ghost use Rattle.ts_si.specs.SiTables.{sdt_held, service_item};
-ghost use Rattle.plug_info.specs.SdtInForce.{behind_text, body_with, counted_text, described_in, name_in, provider_in, service_body, type_in};
+ghost use Rattle.plug_info.specs.SdtInForce.{body_with, described_in, service_body};
 
 use ts_bits::Descriptor;
 use ts_si::{Sdt, SdtService};
@@ -39,64 +39,4 @@ fn body_with(tag: u8, descriptors: &[Descriptor]) -> Option<&[u8]>
         }
     }
     None
-}
-
-/// service_type.
-pub fn type_in(body: Option<&[u8]>) -> Option<u64>
-    ensures { result ≡ type_in (option_map (λ b. b.now) body.entry) }
-{
-    let (kind, _) = body?.split_first()?;
-    Some(u64::from(*kind))
-}
-
-/// service_provider_name.
-pub fn provider_in(body: Option<&[u8]>) -> Option<&[u8]>
-    ensures { option_map (λ b. b.now) result ≡ provider_in (option_map (λ b. b.now) body.entry) }
-{
-    counted_text(behind_first(body?))
-}
-
-/// service_name.
-pub fn name_in(body: Option<&[u8]>) -> Option<&[u8]>
-    ensures { option_map (λ b. b.now) result ≡ name_in (option_map (λ b. b.now) body.entry) }
-{
-    counted_text(behind_text(behind_first(body?)))
-}
-
-// The bytes after the first one.
-fn behind_first(bytes: &[u8]) -> &[u8]
-    ensures { result.now ≡ drop 1 bytes.now }
-{
-    match bytes.split_first() {
-        Some((_, rest)) => rest,
-        None => bytes,
-    }
-}
-
-// The bytes after a length of one byte, if all are there.
-fn counted_text(bytes: &[u8]) -> Option<&[u8]>
-    ensures { option_map (λ b. b.now) result ≡ counted_text bytes.now }
-{
-    let (count, rest) = bytes.split_first()?;
-    let count = usize::from(*count);
-    if count <= rest.len() {
-        Some(&rest[..count])
-    } else {
-        None
-    }
-}
-
-// The bytes after these.
-fn behind_text(bytes: &[u8]) -> &[u8]
-    ensures { result.now ≡ behind_text bytes.now }
-{
-    let Some((count, rest)) = bytes.split_first() else {
-        return bytes;
-    };
-    let count = usize::from(*count);
-    if count <= rest.len() {
-        &rest[count..]
-    } else {
-        &[]
-    }
 }

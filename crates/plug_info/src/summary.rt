@@ -5,30 +5,29 @@ ghost use Rattle.std.specs.Option.{option_copied};
 ghost use Rattle.std.specs.String.{string_bytes};
 ghost use Rattle.ts_packet.specs.declared.cell.Cell.{Cell as GivenCell};
 ghost use Rattle.ts_packet.specs.Cells.{live_packets};
-ghost use Rattle.ts_packet.specs.declared.numbers.TheConstants.{PACKET_SIZE, PID_COUNT};
+ghost use Rattle.ts_packet.specs.declared.numbers.TheConstants.{PID_COUNT};
 ghost use Rattle.ts_psi.specs.PatTables.{service_item};
 ghost use Rattle.ts_psi.specs.PsiTables.{component_item, pmt_held};
 ghost use Rattle.plugin_notes.specs.PidPackets.{numbers_below};
 ghost use Rattle.plugin_trait.specs.PlacedLines.{placed_at};
 ghost use Rattle.plug_psi.specs.InForce.{pat_of, pmt_of, services_in};
 ghost use Rattle.plug_info.specs.InfoRule.{component_line, has_component, info_on, pcr_pid_in, pid_lines, scene_of, service_line, service_lines, service_packets, stream_id_in, stream_numbers, use_of};
-ghost use Rattle.plug_info.specs.InfoTexts.{pid_text, sdt_texts, shared_text, stream_text};
+ghost use Rattle.info_texts.specs.InfoTexts.{pid_text, sdt_texts};
 ghost use Rattle.plug_info.specs.SdtInForce.{sdt_of};
 ghost use Rattle.plug_info.specs.Tracked.{Tracks};
 ghost use Rattle.plug_info.specs.Tracked.{IsReady};
-ghost use Rattle.plug_info.specs.InfoTexts;
+ghost use Rattle.info_texts.specs.InfoTexts;
 ghost use Rattle.plugin_notes.specs.PidPackets.{packets_on};
 
-use crate::languages::marks_text;
-use crate::name_row::{pid_name, stream_type_name};
-use crate::pid_numbers::PidNumbers;
-use crate::portions::{percent, portion_text, troubles_text};
-use crate::scene::Scene;
-use crate::service_texts::{name_in, provider_in, service_body, type_in};
-use crate::shown::{number_or_none, shown_or_none};
-use crate::stream_numbers::StreamNumbers;
+use crate::service_texts::service_body;
 use crate::tracker::Tracker;
-use crate::users::{has_component, parts, users_of};
+use crate::users::{components_of, has_component, parts, services_of, users_of};
+use info_texts::line_texts::{
+    component_head, component_tail, service_head, service_tail, stream_text,
+};
+use info_texts::{
+    PidNumbers, Scene, StreamNumbers, marks_text, pid_name, portion_text, troubles_text,
+};
 use plugin_notes::push_line;
 use plugin_trait::{Line, LineText};
 use std::alloc::{AllocError, Global};
@@ -91,59 +90,6 @@ pub fn sdt_stream_id(tracker: &Tracker) -> Option<u16>
     }
 }
 
-// The text of the line of the stream.
-fn stream_text(alloc: Global, s: &StreamNumbers) -> Result<LineText, AllocError>
-    ensures { IfOk result (λ text. text ≡ stream_text s.now) }
-{
-    let head = stream_head(alloc, s)?;
-    let tail = stream_tail(alloc, s)?;
-    let text = format!(in alloc; "{head}{tail}")?;
-    Ok(LineText::of(text))
-}
-
-// Its first half: numbers of the stream.
-fn stream_head(alloc: Global, s: &StreamNumbers) -> Result<String, AllocError>
-    ensures { IfOk result (λ text. string_bytes text ≡ InfoTexts.stream_head s.now) }
-{
-    let bytes = bytes_of(s.packets);
-    let id = number_or_none(alloc, widened(s.stream_id))?;
-    let rate = number_or_none(alloc, s.rate)?;
-    let text = format!(in alloc;
-        "stream packets {} bytes {} transport_stream_id {} bitrate {}",
-        s.packets, bytes, id, rate
-    )?;
-    Ok(text)
-}
-
-// Its second half: null packets, errors and faults.
-fn stream_tail(alloc: Global, s: &StreamNumbers) -> Result<String, AllocError>
-    ensures { IfOk result (λ text. string_bytes text ≡ InfoTexts.stream_tail s.now) }
-{
-    let share = percent(alloc, s.nulls, s.packets)?;
-    let text = format!(in alloc;
-        " nulls {} share {} errored {} scrambled {} faults {}",
-        s.nulls, share, s.errored, s.scrambled, s.faults
-    )?;
-    Ok(text)
-}
-
-/// The size of packets in bytes, at 188 bytes each.
-pub fn bytes_of(packets: u64) -> u128
-    ensures { result ≡ packets * PACKET_SIZE }
-{
-    u128::from(packets) * 188
-}
-
-/// The same number with 64 bits, if there is one.
-pub fn widened(number: Option<u16>) -> Option<u64>
-    ensures { result ≡ number }
-{
-    match number {
-        Some(number) => Some(u64::from(number)),
-        None => None,
-    }
-}
-
 // Appends a line on the SDT, if it is of another transport stream than the PAT.
 fn push_sdt(
     lines: &mut Vec<Line>,
@@ -188,10 +134,7 @@ fn push_services(
         → lines.new.items ≡ lines.old.items
         ++ placed_at cut (flat_map (service_lines cells) (services_in (pat_of (live_packets cells))))) }
 {
-    let Some(pat) = tracker.force.pat() else {
-        return Ok(());
-    };
-    let entries = pat.services.as_slice();
+    let entries = services_of(&tracker.force);
     for service in entries {
         let (id, pid) = parts(service);
         push_service(lines, cut, tracker, scene, id, pid)?;
@@ -216,9 +159,7 @@ fn push_service(
     let alloc = *lines.allocator();
     let text = service_text(alloc, tracker, scene, id, pid, pmt)?;
     push_line(lines, cut, text)?;
-    if let Some(pmt) = pmt {
-        push_components(lines, cut, tracker, scene, id, pmt.components.as_slice())?;
-    }
+    push_components(lines, cut, tracker, scene, id, components_of(pmt))?;
     Ok(())
 }
 
@@ -242,36 +183,6 @@ fn service_text(
     let tail = service_tail(alloc, scene, pid, pcr_pid_in(pmt), packets)?;
     let text = format!(in alloc; "{head}{tail}")?;
     Ok(LineText::of(text))
-}
-
-// Its first half: its description in the SDT.
-fn service_head(alloc: Global, id: u16, body: Option<&[u8]>) -> Result<String, AllocError>
-    ensures { IfOk result (λ text. string_bytes text ≡ InfoTexts.service_head id (option_map (λ b. b.now) body.entry)) }
-{
-    let kind = number_or_none(alloc, type_in(body))?;
-    let name = shown_or_none(alloc, name_in(body))?;
-    let provider = shown_or_none(alloc, provider_in(body))?;
-    let text = format!(in alloc;
-        "service {} type {} name {} provider {}",
-        id, kind, name, provider
-    )?;
-    Ok(text)
-}
-
-// Its second half: its PIDs and its share.
-fn service_tail(
-    alloc: Global,
-    scene: &Scene,
-    pid: u16,
-    pcr: Option<u64>,
-    packets: u64,
-) -> Result<String, AllocError>
-    ensures { IfOk result (λ text. string_bytes text ≡ InfoTexts.service_tail pid pcr (InfoTexts.portion_text scene.now packets)) }
-{
-    let portion = portion_text(alloc, scene, packets)?;
-    let pcr = number_or_none(alloc, pcr)?;
-    let text = format!(in alloc; " pmt {pid} pcr {pcr}{portion}")?;
-    Ok(text)
 }
 
 /// The PCR_PID of a PMT.
@@ -360,52 +271,6 @@ fn component_text(
     let tail = component_tail(alloc, scene, &numbers, users)?;
     let text = format!(in alloc; "{head}{marks}{tail}")?;
     Ok(LineText::of(text))
-}
-
-// Its beginning: PID, service and stream type.
-fn component_head(alloc: Global, pid: u16, service: u16, kind: u8) -> Result<String, AllocError>
-    ensures { IfOk result (λ text. string_bytes text ≡ InfoTexts.component_head pid service kind) }
-{
-    let name = name_or_unknown(stream_type_name(kind));
-    let text = format!(in alloc; "component {pid} service {service} stream_type {kind} ({name})")?;
-    Ok(text)
-}
-
-// A name, or `unknown`.
-fn name_or_unknown(name: Option<&'static str>) -> &'static str
-    ensures { result.now ≡ InfoTexts.name_or_unknown (option_map (λ n. n.now) name.entry) }
-{
-    match name {
-        Some(name) => name,
-        None => "unknown",
-    }
-}
-
-// Its end: its share, its scrambled and faulty packets, and how many services share it.
-fn component_tail(
-    alloc: Global,
-    scene: &Scene,
-    numbers: &PidNumbers,
-    users: u64,
-) -> Result<String, AllocError>
-    ensures { IfOk result (λ text. string_bytes text ≡ InfoTexts.component_tail scene.now numbers.now users) }
-{
-    let portion = portion_text(alloc, scene, numbers.packets)?;
-    let troubles = troubles_text(alloc, numbers)?;
-    let shared = shared_text(alloc, users)?;
-    let text = format!(in alloc; "{portion}{troubles}{shared}")?;
-    Ok(text)
-}
-
-// How many services have a component, if it is more than one.
-fn shared_text(alloc: Global, users: u64) -> Result<String, AllocError>
-    ensures { IfOk result (λ text. string_bytes text ≡ shared_text users) }
-{
-    if 1 < users {
-        let text = format!(in alloc; " shared {users}")?;
-        return Ok(text);
-    }
-    Ok(String::new(alloc))
 }
 
 // Appends the lines of the PIDs that have packets and are not a component's.

@@ -1,14 +1,15 @@
-//! Which services have a component on a PID.
+//! The services in force and their components, and which services have one on a PID.
 ghost use Rattle.std.specs.Prelude.{◌≡◌, ◌<◌, ℕ, List, map, count_by, option_map};
-ghost use Rattle.std.specs.List.{list_any};
+ghost use Rattle.std.specs.List.{filter_map, list_any};
 ghost use Rattle.std.specs.Option.{option_copied};
 ghost use Rattle.std.specs.Prelude.{Some, ◌≤◌, cond};
 ghost use Rattle.ts_psi.specs.PatTables.{service_item};
-ghost use Rattle.plug_psi.specs.InForce.{service_in};
+ghost use Rattle.plug_psi.specs.InForce.{pat_of, service_in, services_in};
 ghost use Rattle.plug_psi.specs.ForceStands.{StandsFor as IsFed};
 ghost use Rattle.ts_psi.specs.PsiTables.{component_item, pmt_held};
 ghost use Rattle.plug_info.specs.InfoRule.{has_component, users_of};
 ghost use Rattle.plug_info.specs.Components.{has_item};
+ghost use Rattle.plug_info.specs.SdtInForce.{items_in};
 
 use plug_psi::InForce;
 use ts_psi::{Component, PatService, Pmt};
@@ -35,6 +36,28 @@ pub fn has_component(pmt: Option<&Pmt>, pid: u16) -> bool
     }
 }
 
+/// The components of a PMT, in its order; none without one.
+pub fn components_of(pmt: Option<&Pmt>) -> &[Component]
+    ensures { map component_item result.now ≡ items_in (option_map pmt_held (option_copied pmt.entry)) }
+{
+    match pmt {
+        Some(pmt) => pmt.components.as_slice(),
+        None => &[],
+    }
+}
+
+/// The services of the PAT in force, in its order; none without one.
+#[tactic(auto, using(crate::proofs::LineLemmas::services_are))]
+pub fn services_of(force: &InForce) -> &[PatService]
+    ensures { (fed : List (List ℕ)) → IsFed force.now fed
+        → filter_map service_in (map service_item result.now) ≡ services_in (pat_of fed) }
+{
+    match force.pat() {
+        Some(pat) => pat.services.as_slice(),
+        None => &[],
+    }
+}
+
 /// The service_id and the PMT PID of an entry of the PAT.
 pub fn parts(service: &PatService) -> (u16, u16)
     ensures { service_in (service_item service.now) ≡ Some (result.0, result.1) }
@@ -46,10 +69,7 @@ pub fn parts(service: &PatService) -> (u16, u16)
 pub fn users_of(force: &InForce, pid: u16) -> u64
     ensures { (fed : List (List ℕ)) → IsFed force.now fed → result ≡ users_of fed pid }
 {
-    let Some(pat) = force.pat() else {
-        return 0;
-    };
-    let entries = pat.services.as_slice();
+    let entries = services_of(force);
     let mut users = 0;
     for service in entries {
         let (id, _) = parts(service);

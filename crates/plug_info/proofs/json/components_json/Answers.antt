@@ -3,7 +3,7 @@ use Rattle.std.specs.Prelude.{option_map}
 use Rattle.std.specs.List.{flat_map}
 use Rattle.std.specs.Option.{option_copied}
 use Rattle.ts_psi.specs.PsiTables.{component_item, pmt_held}
-use Rattle.plug_info.specs.InfoJson.{behind_comma}
+use Rattle.info_texts.specs.InfoJson.{behind_comma}
 use Rattle.plug_info.specs.InfoRule.{component_object}
 use Rattle.plug_info.specs.SdtInForce.{items_in}
 use Rattle.plug_info.proofs.JsonLemmas.{flat_map_map}

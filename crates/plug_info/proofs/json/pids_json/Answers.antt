@@ -2,9 +2,9 @@ use Rattle.std.proofs.Common.{ℕ, ◌++◌, List, ap, ◌∙◌}
 use Rattle.std.specs.List.{flat_map}
 use Rattle.ts_packet.specs.declared.numbers.TheConstants.{PID_COUNT}
 use Rattle.plugin_notes.specs.PidPackets.{numbers_below}
-use Rattle.plug_info.specs.InfoJson.{behind_comma}
+use Rattle.info_texts.specs.InfoJson.{behind_comma}
 use Rattle.plug_info.specs.InfoRule.{pid_objects}
-use Rattle.plug_info.proofs.JsonLemmas.{flat_flat}
+use Rattle.info_texts.proofs.JsonLemmas.{flat_flat}
 use Rattle.plug_info.proofs.json.pids_json.Goals as goal
 
 pub returns : goal.returns

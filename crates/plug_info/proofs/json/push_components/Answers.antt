@@ -3,9 +3,9 @@ use Rattle.std.specs.List.{flat_map}
 use Rattle.std.specs.String.{string_bytes}
 use Rattle.std.proofs.lemmas.List.{take_all}
 use Rattle.ts_psi.specs.PsiTables.{component_item}
-use Rattle.plug_info.specs.InfoJson.{behind_comma}
+use Rattle.info_texts.specs.InfoJson.{behind_comma}
 use Rattle.plug_info.specs.InfoRule.{component_object}
-use Rattle.plug_info.proofs.JsonLemmas.{item_more, taken_more}
+use Rattle.info_texts.proofs.JsonLemmas.{item_more, taken_more}
 use Rattle.plug_info.proofs.json.push_components.Goals as goal
 
 pub loop-component-preserved : goal.loop-component-preserved

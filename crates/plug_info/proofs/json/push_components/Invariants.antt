@@ -3,7 +3,7 @@ use Rattle.std.specs.List.{flat_map}
 use Rattle.std.specs.String.{string_bytes}
 use Rattle.ts_packet.specs.declared.cell.Cell.{Cell}
 use Rattle.ts_psi.specs.PsiTables.{component_item}
-use Rattle.plug_info.specs.InfoJson.{behind_comma}
+use Rattle.info_texts.specs.InfoJson.{behind_comma}
 use Rattle.plug_info.specs.InfoRule.{component_object, scene_of}
 use Rattle.plug_info.specs.Tracked.{Tracks}
 use Rattle.plug_info.proofs.json.push_components.Given as goal

@@ -1,9 +1,9 @@
 use Rattle.std.proofs.Common.{sym, append-nil}
 use Rattle.std.specs.List.{flat_map}
 use Rattle.plugin_notes.specs.PidPackets.{numbers_below}
-use Rattle.plug_info.specs.InfoJson.{behind_comma}
+use Rattle.info_texts.specs.InfoJson.{behind_comma}
 use Rattle.plug_info.specs.InfoRule.{pid_objects}
-use Rattle.plug_info.proofs.LineLemmas.{text_more}
+use Rattle.info_texts.proofs.LineLemmas.{text_more}
 use Rattle.plug_info.proofs.json.push_pids.Goals as goal
 
 pub loop-pid-init : goal.loop-pid-init

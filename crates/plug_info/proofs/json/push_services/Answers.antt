@@ -6,15 +6,15 @@ use Rattle.ts_packet.specs.Cells.{live_packets}
 use Rattle.ts_psi.specs.PatTables.{service_item}
 use Rattle.ts_psi.specs.declared.pat.PatService.{PatService}
 use Rattle.plug_psi.specs.InForce.{service_in}
-use Rattle.plug_info.specs.InfoJson.{behind_comma}
+use Rattle.info_texts.specs.InfoJson.{behind_comma}
 use Rattle.plug_info.specs.InfoRule.{service_object}
-use Rattle.plug_info.proofs.JsonLemmas.{item_more}
-use Rattle.plug_info.proofs.LineLemmas.{services_are, services_more}
+use Rattle.info_texts.proofs.JsonLemmas.{item_more}
+use Rattle.plug_info.proofs.LineLemmas.{services_more}
 use Rattle.plug_info.proofs.json.push_services.Goals as goal
 
 pub loop-service-preserved : goal.loop-service-preserved
 loop-service-preserved c = λ cells w s.
-    let entries = c.as_slice-entries.result.now in
+    let entries = c.services_of-entries.result.now in
     let at = c.loop-service.service-index in
     item_more (λ x. behind_comma (service_object cells x)) (filter_map service_in (map service_item (take at entries)))
     (filter_map service_in (map service_item (take (at + 1) entries))) _ _ _ _ _
@@ -26,5 +26,5 @@ returns c = λ cells w s.
     c.loop-service.invariant cells w s
     ∙ ap (λ xs. string_bytes c.args.items.now ++ flat_map (λ x. behind_comma (service_object cells x)) xs)
     (ap (λ (es : List PatService). filter_map service_in (map service_item es))
-    (take_all c.loop-service.service-index c.as_slice-entries.result.now c.loop-service-test.false ∙ c.as_slice-entries.ensures)
-    ∙ services_are c.in-Some.pat.now _ (c.in-Some.ensures (live_packets cells) w.fed))
+    (take_all c.loop-service.service-index c.services_of-entries.result.now c.loop-service-test.false)
+    ∙ c.services_of-entries.ensures (live_packets cells) w.fed)

@@ -4,7 +4,7 @@ use Rattle.std.specs.String.{string_bytes}
 use Rattle.ts_packet.specs.declared.cell.Cell.{Cell}
 use Rattle.ts_psi.specs.PatTables.{service_item}
 use Rattle.plug_psi.specs.InForce.{service_in}
-use Rattle.plug_info.specs.InfoJson.{behind_comma}
+use Rattle.info_texts.specs.InfoJson.{behind_comma}
 use Rattle.plug_info.specs.InfoRule.{scene_of, service_object}
 use Rattle.plug_info.specs.Tracked.{Tracks}
 use Rattle.plug_info.proofs.json.push_services.Given as goal

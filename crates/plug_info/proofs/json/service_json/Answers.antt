@@ -2,7 +2,7 @@ use Rattle.std.proofs.Common.{ℕ, List, ◌++◌, map, ap, ap₂, ◌∙◌}
 use Rattle.std.specs.Prelude.{option_map}
 use Rattle.ts_packet.specs.Cells.{live_packets}
 use Rattle.ts_si.specs.SiTables.{sdt_held}
-use Rattle.plug_info.specs.InfoJson.{array, portion_json, service_head}
+use Rattle.info_texts.specs.InfoJson.{array, portion_json, service_head}
 use Rattle.plug_info.specs.InfoRule.{component_object, pcr_pid_in, service_packets}
 use Rattle.plug_info.specs.SdtInForce.{items_in, service_body}
 use Rattle.plug_info.proofs.JsonLemmas.{service_tail_is}

@@ -2,7 +2,7 @@ use Rattle.std.proofs.Common.{ℕ, ◌++◌, List, map, ap, ◌∙◌}
 use Rattle.std.specs.List.{flat_map}
 use Rattle.ts_packet.specs.Cells.{live_packets}
 use Rattle.plug_psi.specs.InForce.{pat_of, services_in}
-use Rattle.plug_info.specs.InfoJson.{behind_comma}
+use Rattle.info_texts.specs.InfoJson.{behind_comma}
 use Rattle.plug_info.specs.InfoRule.{service_object}
 use Rattle.plug_info.proofs.JsonLemmas.{flat_map_map}
 use Rattle.plug_info.proofs.json.services_json.Goals as goal

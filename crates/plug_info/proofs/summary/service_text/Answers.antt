@@ -2,7 +2,7 @@ use Rattle.std.proofs.Common.{ℕ, List, ◌++◌, ap, ap₂, ◌∙◌}
 use Rattle.std.specs.Prelude.{option_map}
 use Rattle.ts_si.specs.SiTables.{sdt_held}
 use Rattle.plug_info.specs.InfoRule.{pcr_pid_in, service_packets}
-use Rattle.plug_info.specs.InfoTexts.{portion_text, service_head, service_tail}
+use Rattle.info_texts.specs.InfoTexts.{portion_text, service_head, service_tail}
 use Rattle.plug_info.specs.SdtInForce.{service_body}
 use Rattle.ts_packet.specs.Cells.{live_packets}
 use Rattle.plug_info.proofs.summary.service_text.Goals as goal

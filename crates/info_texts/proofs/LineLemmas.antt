@@ -1,0 +1,32 @@
+-- Lemmas on texts that grow, and on the parts of lines.
+use Rattle.std.proofs.Common.{◌≡◌, ℕ, ◌+◌, List, [], ◌∷◌, ◌++◌, ap, sym, ◌∙◌, append_assoc, append-nil, codes}
+use Rattle.std.specs.Fmt.{decimal}
+use Rattle.std.specs.List.{flat_map}
+use Rattle.std.proofs.lemmas.Grind.{flat_map-append}
+use Rattle.plugin_notes.specs.PidPackets.{numbers_below}
+use Rattle.plugin_notes.proofs.PidLemmas.{numbers_below_more}
+
+-- a `flat_map` over the numbers below one more
+pub flat_more : {X : Type 0} (f : ℕ → List X) (n : ℕ) → flat_map f (numbers_below n) ++ f n ≡ flat_map f (numbers_below (n + 1))
+flat_more f n =
+    ap (λ xs. flat_map f (numbers_below n) ++ xs) (sym (append-nil (f n)))
+    ∙ (sym (flat_map-append f (numbers_below n) (n ∷ [])) ∙ ap (flat_map f) (sym (numbers_below_more n)))
+
+-- a text with one more number
+pub text_more : {X : Type 0} (f : ℕ → List X) (n : ℕ) (old now new : List X) → now ≡ old ++ flat_map f (numbers_below n) → new ≡ now ++ f n
+    → new ≡ old ++ flat_map f (numbers_below (n + 1))
+text_more f n old now new so_far pushed =
+    pushed ∙ (ap (λ xs. xs ++ f n) so_far ∙ (append_assoc old (flat_map f (numbers_below n)) (f n) ∙ ap (λ xs. old ++ xs) (flat_more f n)))
+
+-- the first half of the stream's line, each part of which is known
+head_parts : ℕ → ℕ → List ℕ → List ℕ → List ℕ
+head_parts packets bytes id rate = codes "stream packets " ++ (decimal packets ++ (codes " bytes " ++ (decimal bytes
+    ++ (codes " transport_stream_id " ++ (id ++ (codes " bitrate " ++ rate))))))
+
+pub head_is : (packets bytes bytes_new : ℕ) (id id_new rate rate_new : List ℕ) → bytes ≡ bytes_new → id ≡ id_new → rate ≡ rate_new
+    → codes "stream packets " ++ (decimal packets ++ (codes " bytes " ++ (decimal bytes ++ (codes " transport_stream_id " ++ (id ++ (codes " bitrate " ++ rate))))))
+    ≡ codes "stream packets " ++ (decimal packets ++ (codes " bytes " ++ (decimal bytes_new ++ (codes " transport_stream_id " ++ (id_new ++ (codes " bitrate " ++ rate_new))))))
+unfolding head_parts
+head_is packets bytes bytes_new id id_new rate rate_new a b c =
+    ap (λ (n : ℕ). head_parts packets n id rate) a
+    ∙ (ap (λ (x : List ℕ). head_parts packets bytes_new x rate) b ∙ ap (head_parts packets bytes_new id_new) c)

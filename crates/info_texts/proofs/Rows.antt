@@ -1,0 +1,107 @@
+-- Worked rows of the texts of `info`, computed on the definitions.
+use Rattle.std.proofs.Common.{◌≡◌, ℕ, List, [], ◌∷◌, ◌++◌, codes, refl, None, Some}
+use Rattle.std.specs.Fmt.{digits}
+use Rattle.hex.specs.Hex.{encode_with}
+use Rattle.std.specs.Str.{chars, is_utf8}
+use lib.Utf8.{encode}
+use Rattle.plugin_notes.specs.PidPackets.{numbers_below}
+use Rattle.info_texts.specs.InfoJson.{array, bytes_field, component_json, stream_json, whole_json}
+use Rattle.info_texts.specs.InfoTexts.{component_text, hundredths, percent, pid_text, portion_text, sdt_texts, service_head, service_tail, shown}
+use Rattle.info_texts.specs.ServiceNames.{name_in}
+
+-- shares are rounded down, and any share of nothing is 0
+share-row : percent (hundredths 1 3) ≡ codes "33.33%"
+unfolding digits
+share-row = refl
+
+share-small : percent (hundredths 1 1000) ≡ codes "0.10%"
+unfolding digits
+share-small = refl
+
+share-none : percent (hundredths 0 0) ≡ codes "0.00%"
+unfolding digits
+share-none = refl
+
+-- a name in ASCII, one after 0x15, one in another character table, and one with a quotation mark
+plain-row : shown (codes "BBC 1") ≡ codes "\"BBC 1\""
+plain-row = refl
+
+utf8-row : shown (0x15 ∷ 0xC3 ∷ 0x9C ∷ []) ≡ 0x22 ∷ 0xC3 ∷ 0x9C ∷ 0x22 ∷ []
+unfolding is_utf8 chars encode
+utf8-row = refl
+
+other-row : shown (0x05 ∷ 0x41 ∷ []) ≡ codes "0x0541"
+unfolding encode_with
+other-row = refl
+
+quote-row : shown (codes "a\"b") ≡ codes "0x612262"
+unfolding encode_with
+quote-row = refl
+
+-- a service_descriptor, and one whose name is truncated
+abbrev body : List ℕ
+body = 0x01 ∷ 0x03 ∷ (codes "BBC" ++ (0x01 ∷ codes "1"))
+
+head-row : service_head 7 (Some body) ≡ codes "service 7 type 1 name \"1\" provider \"BBC\""
+unfolding digits
+head-row = refl
+
+cut-row : name_in (Some (0x01 ∷ 0x01 ∷ 0x41 ∷ 0x05 ∷ 0x41 ∷ [])) ≡ None
+cut-row = refl
+
+tail-row : service_tail 4096 None (portion_text (record { whole = 4; rate = Some 1000 }) 3) ≡ codes " pmt 4096 pcr none packets 3 share 75.00% bitrate 750"
+unfolding digits
+tail-row = refl
+
+-- a component that two services have, and a PID of a table, without a rate
+component-row : component_text (record { whole = 8; rate = None }) 256 1 27 (codes " codec AVC") (record { packets = 4; scrambled = 1; faults = 2 }) 2
+    ≡ codes "component 256 service 1 stream_type 27 (AVC video) codec AVC packets 4 share 50.00% bitrate none scrambled 1 faults 2 shared 2"
+unfolding digits
+component-row = refl
+
+pid-row : pid_text 17 (codes "SDT") (portion_text (record { whole = 8; rate = None }) 1) (record { packets = 1; scrambled = 0; faults = 0 })
+    ≡ codes "pid 17 (SDT) packets 1 share 12.50% bitrate none scrambled 0 faults 0"
+unfolding digits
+pid-row = refl
+
+-- an SDT of another transport stream than the PAT's is reported, and one of the same is not
+sdt-row : sdt_texts (Some 1) (Some 2) ≡ codes "sdt of transport_stream_id 2" ∷ []
+unfolding digits
+sdt-row = refl
+
+sdt-same : sdt_texts (Some 1) (Some 1) ≡ []
+sdt-same = refl
+
+-- arrays of no items and of two
+array-none : array [] ≡ codes "[]"
+array-none = refl
+
+array-two : array (codes "1" ∷ codes "2" ∷ []) ≡ codes "[1,2]"
+array-two = refl
+
+-- a name that is a text, bytes in another character table, a quotation mark, and no name
+json-plain : bytes_field (codes "name") (Some (codes "BBC 1")) ≡ codes "\"name\":\"BBC 1\""
+json-plain = refl
+
+json-other : bytes_field (codes "name") (Some (0x05 ∷ 0x41 ∷ [])) ≡ codes "\"name_hex\":\"0541\""
+unfolding encode_with
+json-other = refl
+
+json-quote : bytes_field (codes "name") (Some (codes "a\"b")) ≡ codes "\"name_hex\":\"612262\""
+unfolding encode_with
+json-quote = refl
+
+json-none : bytes_field (codes "name") None ≡ codes "\"name\":null"
+json-none = refl
+
+-- a component with a language and no codec, which two services have, without a rate
+json-component : component_json (record { whole = 8; rate = None }) 256 3 (record { tag = 0x0A; body = codes "eng" ++ (0 ∷ []) } ∷ []) (record { packets = 4; scrambled = 1; faults = 2 }) 2
+    ≡ codes "{\"pid\":256,\"stream_type\":3,\"stream_type_name\":\"MPEG-1 audio\",\"languages\":[\"eng\"],\"codecs\":[],\"packets\":4,\"bitrate\":null,\"scrambled\":1,\"faults\":2,\"services\":2}"
+unfolding digits numbers_below
+json-component = refl
+
+-- a stream without tables
+json-whole : whole_json (stream_json (record { packets = 2; stream_id = None; rate = None; nulls = 2; errored = 0; scrambled = 0; faults = 0 })) (codes "null") (array []) (array [])
+    ≡ codes "{\"stream\":{\"packets\":2,\"bytes\":376,\"transport_stream_id\":null,\"bitrate\":null,\"nulls\":2,\"errored\":0,\"scrambled\":0,\"faults\":0},\"sdt_transport_stream_id\":null,\"services\":[],\"pids\":[]}"
+unfolding digits
+json-whole = refl

@@ -1,0 +1,164 @@
+-- The texts of `info --json`. RFC 8259 defines the form of objects, arrays, numbers and strings; the keys and their
+-- order are this project's own.
+use Rattle.std.specs.Prelude.{ℕ, ◌*◌, List, [], ◌∷◌, ◌++◌, length, take, drop, Option, None, Some, codes, if◌then◌else◌}
+use Rattle.std.specs.List.{flat_map, list_all}
+use Rattle.std.specs.Fmt.{decimal}
+use Rattle.hex.specs.Hex.{encode_lower}
+use Rattle.ts_bits.specs.TaggedBody.{TaggedBody}
+use Rattle.ts_fields.specs.Texts.{text_of}
+use Rattle.ts_packet.specs.declared.numbers.TheConstants.{PACKET_SIZE}
+use Rattle.plugin_notes.specs.PidPackets.{numbers_below}
+use Rattle.info_texts.specs.InfoNames.{codec_names, stream_type_names, text_for}
+use Rattle.info_texts.specs.InfoTexts.{hex_text, is_entry, is_plain, language_step, rate_part}
+use Rattle.info_texts.specs.ServiceNames.{name_in, provider_in, type_in}
+use Rattle.info_texts.specs.declared.pid_numbers.PidNumbers.{PidNumbers}
+use Rattle.info_texts.specs.declared.scene.Scene.{Scene}
+use Rattle.info_texts.specs.declared.stream_numbers.StreamNumbers.{StreamNumbers}
+
+-- a text after a comma
+abbrev pub behind_comma : List ℕ → List ℕ
+behind_comma text = codes "," ++ text
+
+-- texts separated by commas
+abbrev pub joined : List (List ℕ) → List ℕ
+joined [] = []
+joined (text ∷ texts) = text ++ flat_map behind_comma texts
+
+-- an array of texts
+abbrev pub array : List (List ℕ) → List ℕ
+array texts = codes "[" ++ (joined texts ++ codes "]")
+
+-- a number, or `null`
+abbrev pub number_or_null : Option ℕ → List ℕ
+number_or_null None = codes "null"
+number_or_null (Some n) = decimal n
+
+-- a text in quotation marks; each of its bytes has to be allowed there as it is
+abbrev pub quoted : List ℕ → List ℕ
+quoted text = codes "\"" ++ (text ++ codes "\"")
+
+-- a name in quotation marks, or `null`
+abbrev pub name_or_null : Option (List ℕ) → List ℕ
+name_or_null None = codes "null"
+name_or_null (Some name) = quoted name
+
+-- `"<key>_hex":"<digits>"`
+abbrev pub hex_field : List ℕ → List ℕ → List ℕ
+hex_field key bytes = codes "\"" ++ (key ++ (codes "_hex\":\"" ++ (encode_lower bytes ++ codes "\"")))
+
+-- `"<key>":"<text>"`, if the bytes are a text and all its bytes are plain, else their digits
+abbrev pub text_field : List ℕ → List ℕ → Option (List ℕ) → List ℕ
+text_field key bytes None = hex_field key bytes
+text_field key bytes (Some text) =
+    if list_all is_plain text then codes "\"" ++ (key ++ (codes "\":\"" ++ (text ++ codes "\""))) else hex_field key bytes
+
+-- the same, or `"<key>":null` if there are no bytes
+abbrev pub bytes_field : List ℕ → Option (List ℕ) → List ℕ
+bytes_field key None = codes "\"" ++ (key ++ codes "\":null")
+bytes_field key (Some bytes) = text_field key bytes (text_of bytes)
+
+-- the hexadecimal digits of bytes in quotation marks
+abbrev pub quoted_hex : List ℕ → List ℕ
+quoted_hex bytes = quoted (hex_text bytes)
+
+-- bytes in quotation marks: as a text, if they are one and all its bytes are plain, else as digits after `0x`
+abbrev pub text_or_hex : List ℕ → Option (List ℕ) → List ℕ
+text_or_hex bytes None = quoted_hex bytes
+text_or_hex bytes (Some text) = if list_all is_plain text then quoted text else quoted_hex bytes
+
+-- the part of the stream's bit rate for some of all its packets, or `null`
+abbrev pub rate_json : Option ℕ → ℕ → ℕ → List ℕ
+rate_json None part whole = codes "null"
+rate_json (Some rate) part whole = decimal (rate_part rate part whole)
+
+-- `"packets":<n>,"bitrate":<n>`
+abbrev pub portion_json : Scene → ℕ → List ℕ
+portion_json scene packets = codes "\"packets\":"
+    ++ (decimal packets ++ (codes ",\"bitrate\":" ++ rate_json scene.rate packets scene.whole))
+
+-- `,"scrambled":<n>,"faults":<n>`
+abbrev pub troubles_json : PidNumbers → List ℕ
+troubles_json numbers = codes ",\"scrambled\":" ++ (decimal numbers.scrambled ++ (codes ",\"faults\":" ++ decimal numbers.faults))
+
+-- the first half of the object of the stream: `{"packets":<n>,"bytes":<n>,"transport_stream_id":<id>,"bitrate":<n>`
+abbrev pub stream_head : StreamNumbers → List ℕ
+stream_head s = codes "{\"packets\":" ++ (decimal s.packets ++ (codes ",\"bytes\":" ++ (decimal (s.packets * PACKET_SIZE)
+    ++ (codes ",\"transport_stream_id\":" ++ (number_or_null s.stream_id ++ (codes ",\"bitrate\":" ++ number_or_null s.rate))))))
+
+-- its second half: `,"nulls":<n>,"errored":<n>,"scrambled":<n>,"faults":<n>}`
+abbrev pub stream_tail : StreamNumbers → List ℕ
+stream_tail s = codes ",\"nulls\":" ++ (decimal s.nulls ++ (codes ",\"errored\":" ++ (decimal s.errored
+    ++ (codes ",\"scrambled\":" ++ (decimal s.scrambled ++ (codes ",\"faults\":" ++ (decimal s.faults ++ codes "}")))))))
+
+-- the object of the stream
+abbrev pub stream_json : StreamNumbers → List ℕ
+stream_json s = stream_head s ++ stream_tail s
+
+-- `{"id":<n>,"type":<n>,` name and provider, from the body of its service_descriptor
+abbrev pub service_head : ℕ → Option (List ℕ) → List ℕ
+service_head id body = codes "{\"id\":" ++ (decimal id ++ (codes ",\"type\":" ++ (number_or_null (type_in body)
+    ++ (codes "," ++ (bytes_field (codes "name") (name_in body) ++ (codes "," ++ bytes_field (codes "provider") (provider_in body)))))))
+
+-- `,"pmt":<pid>,"pcr":<pid>,` its share, and `,"components":<array>}`
+abbrev pub service_tail : ℕ → Option ℕ → List ℕ → List ℕ → List ℕ
+service_tail pmt pcr portion components = codes ",\"pmt\":" ++ (decimal pmt ++ (codes ",\"pcr\":" ++ (number_or_null pcr
+    ++ (codes "," ++ (portion ++ (codes ",\"components\":" ++ (components ++ codes "}")))))))
+
+-- the object of a service
+abbrev pub service_json : ℕ → ℕ → Option (List ℕ) → Option ℕ → List ℕ → List ℕ → List ℕ
+service_json id pmt body pcr portion components = service_head id body ++ service_tail pmt pcr portion components
+
+-- the language at an offset of a descriptor's body: the first three bytes of an entry
+abbrev pub language_at : ℕ → List ℕ → ℕ → List (List ℕ)
+language_at step body place =
+    let bytes = take 3 (drop place body) in
+    if is_entry step (length body) place then text_or_hex bytes (text_of bytes) ∷ [] else []
+
+-- the languages of a descriptor
+abbrev pub languages_in : TaggedBody → List (List ℕ)
+languages_in d = flat_map (language_at (language_step d.tag) d.body) (numbers_below (length d.body))
+
+-- the languages of a list of descriptors
+abbrev pub languages_of : List TaggedBody → List (List ℕ)
+languages_of ds = flat_map languages_in ds
+
+-- the codec that a descriptor names, if it names one
+abbrev pub named_codec : Option (List ℕ) → List (List ℕ)
+named_codec None = []
+named_codec (Some name) = quoted name ∷ []
+
+-- the codec that a descriptor names by its tag
+abbrev pub codec_in : TaggedBody → List (List ℕ)
+codec_in d = named_codec (text_for codec_names d.tag)
+
+-- the codecs of a list of descriptors
+abbrev pub codecs_of : List TaggedBody → List (List ℕ)
+codecs_of ds = flat_map codec_in ds
+
+-- `{"pid":<pid>,"stream_type":<n>,"stream_type_name":<name>`
+abbrev pub component_head : ℕ → ℕ → List ℕ
+component_head pid kind = codes "{\"pid\":" ++ (decimal pid ++ (codes ",\"stream_type\":" ++ (decimal kind
+    ++ (codes ",\"stream_type_name\":" ++ name_or_null (text_for stream_type_names kind)))))
+
+-- `,"languages":<array>,"codecs":<array>,`
+abbrev pub component_marks : List TaggedBody → List ℕ
+component_marks ds = codes ",\"languages\":" ++ (array (languages_of ds) ++ (codes ",\"codecs\":" ++ (array (codecs_of ds) ++ codes ",")))
+
+-- its share, its scrambled and faulty packets, and `,"services":<n>}`: how many services have it
+abbrev pub component_tail : Scene → PidNumbers → ℕ → List ℕ
+component_tail scene numbers users = portion_json scene numbers.packets
+    ++ (troubles_json numbers ++ (codes ",\"services\":" ++ (decimal users ++ codes "}")))
+
+-- the object of a component
+abbrev pub component_json : Scene → ℕ → ℕ → List TaggedBody → PidNumbers → ℕ → List ℕ
+component_json scene pid kind ds numbers users = component_head pid kind ++ (component_marks ds ++ component_tail scene numbers users)
+
+-- `{"pid":<pid>,"use":"<use>",` its share, its scrambled and faulty packets
+abbrev pub pid_json : ℕ → List ℕ → List ℕ → PidNumbers → List ℕ
+pid_json pid purpose portion numbers = codes "{\"pid\":" ++ (decimal pid ++ (codes ",\"use\":\"" ++ (purpose ++ (codes "\"," ++ (portion
+    ++ (troubles_json numbers ++ codes "}"))))))
+
+-- `{"stream":<object>,"sdt_transport_stream_id":<id>,"services":<array>,"pids":<array>}`
+abbrev pub whole_json : List ℕ → List ℕ → List ℕ → List ℕ → List ℕ
+whole_json stream sdt services pids = codes "{\"stream\":" ++ (stream ++ (codes ",\"sdt_transport_stream_id\":" ++ (sdt
+    ++ (codes ",\"services\":" ++ (services ++ (codes ",\"pids\":" ++ (pids ++ codes "}")))))))

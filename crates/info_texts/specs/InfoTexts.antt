@@ -1,0 +1,162 @@
+-- The texts of `info`. This project's own rule.
+use Rattle.std.specs.Prelude.{ℕ, ◌+◌, ◌*◌, ◌/◌, ◌%◌, ◌==◌, Bool, not, ◌&&◌, List, [], ◌∷◌, ◌++◌, length, take, drop, nat_le, nat_lt, Option, None, Some, codes, if◌then◌else◌}
+use Rattle.std.specs.List.{flat_map, list_all}
+use Rattle.std.specs.Fmt.{decimal}
+use Rattle.hex.specs.Hex.{encode_lower}
+use Rattle.ts_bits.specs.TaggedBody.{TaggedBody}
+use Rattle.ts_fields.specs.Texts.{text_of}
+use Rattle.ts_packet.specs.declared.numbers.TheConstants.{PACKET_SIZE}
+use Rattle.plugin_notes.specs.PidPackets.{numbers_below}
+use Rattle.info_texts.specs.InfoNames.{codec_names, stream_type_names, text_for}
+use Rattle.info_texts.specs.ServiceNames.{name_in, provider_in, type_in}
+use Rattle.info_texts.specs.declared.pid_numbers.PidNumbers.{PidNumbers}
+use Rattle.info_texts.specs.declared.scene.Scene.{Scene}
+use Rattle.info_texts.specs.declared.stream_numbers.StreamNumbers.{StreamNumbers}
+
+-- A byte that may stand in a text in quotation marks: not a control character of ASCII, a quotation mark or a
+-- backslash.
+abbrev pub is_plain : ℕ → Bool
+is_plain byte = nat_le 0x20 byte && (not (byte == 0x22) && (not (byte == 0x5C) && not (byte == 0x7F)))
+
+-- bytes as hexadecimal digits after `0x`
+abbrev pub hex_text : List ℕ → List ℕ
+hex_text bytes = codes "0x" ++ encode_lower bytes
+
+-- a text in quotation marks, if all its bytes are plain, else the bytes that it was read from, as digits
+abbrev pub quoted_or_hex : List ℕ → Option (List ℕ) → List ℕ
+quoted_or_hex bytes None = hex_text bytes
+quoted_or_hex bytes (Some text) = if list_all is_plain text then codes "\"" ++ (text ++ codes "\"") else hex_text bytes
+
+-- bytes as they are shown
+abbrev pub shown : List ℕ → List ℕ
+shown bytes = quoted_or_hex bytes (text_of bytes)
+
+-- bytes as they are shown, or `none`
+abbrev pub shown_or_none : Option (List ℕ) → List ℕ
+shown_or_none None = codes "none"
+shown_or_none (Some bytes) = shown bytes
+
+-- a number, or `none`
+abbrev pub number_or_none : Option ℕ → List ℕ
+number_or_none None = codes "none"
+number_or_none (Some n) = decimal n
+
+-- a share in hundredths of a percent, rounded down; 0 of nothing
+abbrev pub hundredths : ℕ → ℕ → ℕ
+hundredths part whole = if whole == 0 then 0 else part * 10000 / whole
+
+-- hundredths of a percent as percent with two decimals
+abbrev pub percent : ℕ → List ℕ
+percent h = decimal (h / 100) ++ (codes "." ++ (decimal (h / 10 % 10) ++ (decimal (h % 10) ++ codes "%")))
+
+-- the part of the stream's bit rate for some of all its packets, rounded down, in bits per second
+abbrev pub rate_part : ℕ → ℕ → ℕ → ℕ
+rate_part rate part whole = if whole == 0 then 0 else rate * part / whole
+
+-- the part of the stream's bit rate, or `none`
+abbrev pub rate_text : Option ℕ → ℕ → ℕ → List ℕ
+rate_text None part whole = codes "none"
+rate_text (Some rate) part whole = decimal (rate_part rate part whole)
+
+-- ` packets <n> share <percent> bitrate <bits per second>`
+abbrev pub portion_text : Scene → ℕ → List ℕ
+portion_text scene packets = codes " packets " ++ (decimal packets ++ (codes " share " ++ (percent (hundredths packets scene.whole)
+    ++ (codes " bitrate " ++ rate_text scene.rate packets scene.whole))))
+
+-- the first half of the line of the stream: `stream packets <n> bytes <n> transport_stream_id <id> bitrate <n>`
+abbrev pub stream_head : StreamNumbers → List ℕ
+stream_head s = codes "stream packets " ++ (decimal s.packets ++ (codes " bytes " ++ (decimal (s.packets * PACKET_SIZE)
+    ++ (codes " transport_stream_id " ++ (number_or_none s.stream_id ++ (codes " bitrate " ++ number_or_none s.rate))))))
+
+-- its second half: ` nulls <n> share <percent> errored <n> scrambled <n> faults <n>`
+abbrev pub stream_tail : StreamNumbers → List ℕ
+stream_tail s = codes " nulls " ++ (decimal s.nulls ++ (codes " share " ++ (percent (hundredths s.nulls s.packets)
+    ++ (codes " errored " ++ (decimal s.errored ++ (codes " scrambled " ++ (decimal s.scrambled
+    ++ (codes " faults " ++ decimal s.faults))))))))
+
+-- the line of the stream
+abbrev pub stream_text : StreamNumbers → List ℕ
+stream_text s = stream_head s ++ stream_tail s
+
+-- `sdt of transport_stream_id <id>`, if it is another one than the PAT's
+abbrev pub sdt_texts : Option ℕ → Option ℕ → List (List ℕ)
+sdt_texts None sdt = []
+sdt_texts (Some pat) None = []
+sdt_texts (Some pat) (Some sdt) = if pat == sdt then [] else (codes "sdt of transport_stream_id " ++ decimal sdt) ∷ []
+
+-- `service <id> type <n> name <text> provider <text>`, from the body of its service_descriptor
+abbrev pub service_head : ℕ → Option (List ℕ) → List ℕ
+service_head id body = codes "service " ++ (decimal id ++ (codes " type " ++ (number_or_none (type_in body)
+    ++ (codes " name " ++ (shown_or_none (name_in body) ++ (codes " provider " ++ shown_or_none (provider_in body)))))))
+
+-- ` pmt <pid> pcr <pid>` and its share
+abbrev pub service_tail : ℕ → Option ℕ → List ℕ → List ℕ
+service_tail pmt pcr portion = codes " pmt " ++ (decimal pmt ++ (codes " pcr " ++ (number_or_none pcr ++ portion)))
+
+-- the line of a service
+abbrev pub service_text : ℕ → ℕ → Option (List ℕ) → Option ℕ → List ℕ → List ℕ
+service_text id pmt body pcr portion = service_head id body ++ service_tail pmt pcr portion
+
+-- the size of an entry with a language, in bytes: ISO_639_language_descriptor (ISO/IEC 13818-1, 2.6.18),
+-- teletext_descriptor and subtitling_descriptor (ETSI EN 300 468, 6.2.43 and 6.2.41); 256, more than any body has,
+-- for other tags
+abbrev pub language_step : ℕ → ℕ
+language_step tag = if tag == 0x0A then 4 else (if tag == 0x56 then 5 else (if tag == 0x59 then 8 else 256))
+
+-- a whole entry begins at this offset of a descriptor's body
+abbrev pub is_entry : ℕ → ℕ → ℕ → Bool
+is_entry step size place = (place % step == 0) && nat_le (place + step) size
+
+-- ` language <code>`: the first three bytes of an entry
+abbrev pub language_at : ℕ → List ℕ → ℕ → List ℕ
+language_at step body place =
+    if is_entry step (length body) place then codes " language " ++ shown (take 3 (drop place body)) else []
+
+-- the languages of a descriptor's body
+abbrev pub language_texts : ℕ → List ℕ → List ℕ
+language_texts step body = flat_map (language_at step body) (numbers_below (length body))
+
+-- ` codec <name>`, if the descriptor names one
+abbrev pub codec_text : Option (List ℕ) → List ℕ
+codec_text None = []
+codec_text (Some name) = codes " codec " ++ name
+
+-- the codec and the languages of a descriptor
+abbrev pub mark_text : TaggedBody → List ℕ
+mark_text d = codec_text (text_for codec_names d.tag) ++ language_texts (language_step d.tag) d.body
+
+-- those of a list of descriptors
+abbrev pub marks_text : List TaggedBody → List ℕ
+marks_text ds = flat_map mark_text ds
+
+-- a name, or `unknown`
+abbrev pub name_or_unknown : Option (List ℕ) → List ℕ
+name_or_unknown None = codes "unknown"
+name_or_unknown (Some name) = name
+
+-- ` scrambled <n> faults <n>`
+abbrev pub troubles_text : PidNumbers → List ℕ
+troubles_text numbers = codes " scrambled " ++ (decimal numbers.scrambled ++ (codes " faults " ++ decimal numbers.faults))
+
+-- ` shared <services>`, if more than one service has it
+abbrev pub shared_text : ℕ → List ℕ
+shared_text users = if nat_lt 1 users then codes " shared " ++ decimal users else []
+
+-- `component <pid> service <id> stream_type <n> (<name>)`
+abbrev pub component_head : ℕ → ℕ → ℕ → List ℕ
+component_head pid service kind = codes "component " ++ (decimal pid ++ (codes " service " ++ (decimal service
+    ++ (codes " stream_type " ++ (decimal kind ++ (codes " (" ++ (name_or_unknown (text_for stream_type_names kind) ++ codes ")")))))))
+
+-- its share, its scrambled and faulty packets, and how many services share it
+abbrev pub component_tail : Scene → PidNumbers → ℕ → List ℕ
+component_tail scene numbers users = portion_text scene numbers.packets ++ (troubles_text numbers ++ shared_text users)
+
+-- the whole line, with its languages and codecs between both
+abbrev pub component_text : Scene → ℕ → ℕ → ℕ → List ℕ → PidNumbers → ℕ → List ℕ
+component_text scene pid service kind marks numbers users = component_head pid service kind
+    ++ (marks ++ component_tail scene numbers users)
+
+-- `pid <pid> (<use>)`, its share, its scrambled and faulty packets
+abbrev pub pid_text : ℕ → List ℕ → List ℕ → PidNumbers → List ℕ
+pid_text pid purpose portion numbers = codes "pid " ++ (decimal pid ++ (codes " ("
+    ++ (purpose ++ (codes ")" ++ (portion ++ troubles_text numbers)))))

@@ -1,0 +1,7 @@
+-- The definitions of `info_texts`: the names and texts of `info`.
+pub mod InfoJson
+pub mod InfoNames
+pub mod InfoTexts
+pub mod JsonItems
+pub mod NameRows
+pub mod ServiceNames

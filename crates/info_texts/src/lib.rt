@@ -1,0 +1,27 @@
+//! The texts of the plugin `info`. Numbers, names and the bodies of descriptors come in; parts of the lines that it
+//! reports, and of its one JSON object, go out. The layer above puts them together, by the clause of each, which says
+//! which text it is.
+#![tactic(auto)]
+
+mod json_marks;
+mod json_parts;
+pub mod json_texts;
+mod languages;
+pub mod line_texts;
+mod name_row;
+mod pid_numbers;
+mod portions;
+mod scene;
+mod service_names;
+mod shown;
+mod stream_numbers;
+
+pub use json_marks::marks_json;
+pub use json_parts::{array, number_or_null, portion_json, push_item, troubles_json};
+pub use languages::marks_text;
+pub use name_row::pid_name;
+pub use pid_numbers::PidNumbers;
+pub use portions::{portion_text, troubles_text};
+pub use scene::Scene;
+pub use shown::widened;
+pub use stream_numbers::StreamNumbers;

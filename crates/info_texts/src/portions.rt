@@ -1,0 +1,77 @@
+//! The shares of packets in the stream, as text.
+ghost use Rattle.std.specs.Prelude.{◌≡◌, ◌*◌, IfOk};
+ghost use Rattle.std.specs.String.{string_bytes};
+ghost use Rattle.ts_packet.specs.declared.numbers.TheConstants.{PACKET_SIZE};
+ghost use Rattle.info_texts.specs.InfoTexts;
+
+use crate::pid_numbers::PidNumbers;
+use crate::scene::Scene;
+use std::alloc::{AllocError, Global};
+
+// A share in hundredths of a percent, rounded down.
+fn hundredths(part: u64, whole: u64) -> u128
+    ensures { result ≡ InfoTexts.hundredths part whole }
+{
+    if whole == 0 {
+        return 0;
+    }
+    u128::from(part) * 10_000 / u128::from(whole)
+}
+
+/// A share, in percent with two decimals.
+pub fn percent(alloc: Global, part: u64, whole: u64) -> Result<String, AllocError>
+    ensures { IfOk result (λ text. string_bytes text ≡ InfoTexts.percent (InfoTexts.hundredths part whole)) }
+{
+    let share = hundredths(part, whole);
+    let text = format!(in alloc; "{}.{}{}%", share / 100, share / 10 % 10, share % 10)?;
+    Ok(text)
+}
+
+/// The part of a bit rate that `part` of `whole` packets take, rounded down, in bits per second.
+pub fn rate_part(rate: u64, part: u64, whole: u64) -> u128
+    ensures { result ≡ InfoTexts.rate_part rate part whole }
+{
+    if whole == 0 {
+        return 0;
+    }
+    u128::from(rate) * u128::from(part) / u128::from(whole)
+}
+
+// The part of the stream's bit rate, or `none`.
+fn rate_text(alloc: Global, scene: &Scene, packets: u64) -> Result<String, AllocError>
+    ensures { IfOk result (λ text. string_bytes text ≡ InfoTexts.rate_text scene.now.rate packets scene.now.whole) }
+{
+    let text = match scene.rate {
+        Some(rate) => format!(in alloc; "{}", rate_part(rate, packets, scene.whole))?,
+        None => String::from_str(alloc, "none")?,
+    };
+    Ok(text)
+}
+
+/// How many packets there are, their share, and their bit rate.
+pub fn portion_text(alloc: Global, scene: &Scene, packets: u64) -> Result<String, AllocError>
+    ensures { IfOk result (λ text. string_bytes text ≡ InfoTexts.portion_text scene.now packets) }
+{
+    let share = percent(alloc, packets, scene.whole)?;
+    let rate = rate_text(alloc, scene, packets)?;
+    let text = format!(in alloc; " packets {packets} share {share} bitrate {rate}")?;
+    Ok(text)
+}
+
+/// How many packets are scrambled, and how many have a faulty counter.
+pub fn troubles_text(alloc: Global, numbers: &PidNumbers) -> Result<String, AllocError>
+    ensures { IfOk result (λ text. string_bytes text ≡ InfoTexts.troubles_text numbers.now) }
+{
+    let text = format!(in alloc;
+        " scrambled {} faults {}",
+        numbers.scrambled, numbers.faults
+    )?;
+    Ok(text)
+}
+
+/// The size of packets in bytes, at 188 bytes each.
+pub fn bytes_of(packets: u64) -> u128
+    ensures { result ≡ packets * PACKET_SIZE }
+{
+    u128::from(packets) * 188
+}

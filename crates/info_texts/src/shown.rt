@@ -1,0 +1,81 @@
+//! Bytes and numbers that may be missing, as text.
+ghost use Rattle.std.specs.Prelude.{◌≡◌, IfOk, option_map};
+ghost use Rattle.std.specs.Option.{option_copied};
+ghost use Rattle.std.specs.List.{list_all};
+ghost use Rattle.std.specs.String.{string_bytes};
+ghost use Rattle.info_texts.specs.InfoTexts;
+
+use std::alloc::{AllocError, Global};
+use ts_fields::text_of;
+
+// Whether a byte may stand in a text in quotation marks.
+fn is_plain(byte: u8) -> bool
+    ensures { result ≡ InfoTexts.is_plain byte }
+{
+    0x20 <= byte && byte != 0x22 && byte != 0x5C && byte != 0x7F
+}
+
+/// Whether all bytes may stand in a text in quotation marks.
+pub fn are_plain(bytes: &[u8]) -> bool
+    ensures { result ≡ list_all InfoTexts.is_plain bytes.now }
+{
+    bytes.iter().all(|byte| is_plain(*byte))
+}
+
+/// Bytes as they are shown: as a text in quotation marks, if they are one and each of its bytes may stand there, else
+/// as hexadecimal digits.
+pub fn shown(alloc: Global, bytes: &[u8]) -> Result<String, AllocError>
+    ensures { IfOk result (λ text. string_bytes text ≡ InfoTexts.shown bytes.now) }
+{
+    let Some(text) = text_of(bytes) else {
+        let hex = hex_text(alloc, bytes)?;
+        return Ok(hex);
+    };
+    if are_plain(text.as_bytes()) {
+        let quoted = format!(in alloc; "\"{text}\"")?;
+        return Ok(quoted);
+    }
+    let hex = hex_text(alloc, bytes)?;
+    Ok(hex)
+}
+
+/// Bytes as hexadecimal digits after `0x`.
+pub fn hex_text(alloc: Global, bytes: &[u8]) -> Result<String, AllocError>
+    ensures { IfOk result (λ text. string_bytes text ≡ InfoTexts.hex_text bytes.now) }
+{
+    let digits = hex::encode(alloc, bytes)?;
+    let text = format!(in alloc; "0x{digits}")?;
+    Ok(text)
+}
+
+/// Bytes as they are shown, or `none`.
+pub fn shown_or_none(alloc: Global, bytes: Option<&[u8]>) -> Result<String, AllocError>
+    ensures { IfOk result (λ text. string_bytes text ≡ InfoTexts.shown_or_none (option_map (λ b. b.now) bytes.entry)) }
+{
+    let text = match bytes {
+        Some(bytes) => shown(alloc, bytes)?,
+        None => String::from_str(alloc, "none")?,
+    };
+    Ok(text)
+}
+
+/// A number, or `none`.
+pub fn number_or_none(alloc: Global, number: Option<u64>) -> Result<String, AllocError>
+    ensures { IfOk result (λ text. string_bytes text ≡ InfoTexts.number_or_none number) }
+{
+    let text = match number {
+        Some(number) => format!(in alloc; "{number}")?,
+        None => String::from_str(alloc, "none")?,
+    };
+    Ok(text)
+}
+
+/// The same number with 64 bits, if there is one.
+pub fn widened(number: Option<u16>) -> Option<u64>
+    ensures { result ≡ number }
+{
+    match number {
+        Some(number) => Some(u64::from(number)),
+        None => None,
+    }
+}

@@ -1,8 +1,0 @@
-use Rattle.std.proofs.Common.{◌∙◌}
-use Rattle.plug_info.specs.InfoJson.{languages_of}
-use Rattle.plug_info.proofs.JsonLemmas.{languages_flat}
-use Rattle.plug_info.proofs.json_marks.languages_json.Goals as goal
-
-pub returns : goal.returns
-returns c =
-    c.in_ok-text.ensures (languages_of c.args.descriptors.now) (c.deref.ensures ∙ (c.in_ok-items.ensures ∙ languages_flat c.args.descriptors.now))
