@@ -1,4 +1,4 @@
--- A descriptor and what it holds determine each other.
+-- A descriptor and its values determine each other.
 use Rattle.std.proofs.Common.{◌≡◌, ℕ, List, [], ◌∷◌, Bool, true, false, refl, sym, ap, ◌∙◌}
 use Rattle.std.specs.Prelude.{nat_eq, if◌then◌else◌, Option, Some, None, option_map}
 use Rattle.std.specs.List.{find}
@@ -10,7 +10,7 @@ use Rattle.ts_fields.specs.Reading.{◌>>=◌}
 use Rattle.ts_fields.specs.Bodies.{Page, Holding, read_page, spell_page}
 use Rattle.ts_descr.specs.Descriptors.{Typed, read_typed}
 
--- what a page's tag makes of what the page reads
+-- the tag of a page, with the values that the page reads
 abbrev typed_by : Page → Holding → Option Typed
 typed_by p h = Some (record { tag = p.tag; holding = h })
 
@@ -25,7 +25,7 @@ fused : {A : Type 0} (o : Option A) (p : Page) (view : A → Holding)
 fused None p view = refl
 fused (Some x) p view = refl
 
--- a value that the page of the tag gives
+-- the values that the page of the tag gives
 pub typed_value : {A : Type 0} (pages : List Page) (p : Page) (d : TaggedBody) (o : Option A) (view : A → Holding)
     → find (λ q. nat_eq d.tag q.tag) pages ≡ Some p → option_map view o ≡ read_page p (bits_of d.body)
     → (let typed : A → Typed = λ x. record { tag = p.tag; holding = view x } in option_map typed o ≡ read_typed pages d)
@@ -33,7 +33,7 @@ unfolding read_typed
 typed_value pages p d o view found is =
     fused o p view ∙ read_at (find (λ q. nat_eq d.tag q.tag) pages) p (bits_of d.body) (option_map view o) found is
 
--- a descriptor that is spelled is read
+-- a descriptor that is written is read again
 pub spelled_is_typed : (pages : List Page) (p : Page) (h : Holding) (d : TaggedBody)
     → find (λ q. nat_eq p.tag q.tag) pages ≡ Some p → d.tag ≡ p.tag → bits_of d.body ≡ spell_page p h
     → read_page p (spell_page p h) ≡ Some h → read_typed pages d ≡ Some (record { tag = p.tag; holding = h })
@@ -78,6 +78,6 @@ joined : (t u : ℕ) (a b : List ℕ) → t ≡ u → a ≡ b
     → (let x : TaggedBody = record { tag = t; body = a } in let y : TaggedBody = record { tag = u; body = b } in x ≡ y)
 joined t u a b same_tag same_body = rw (same_tag, same_body) refl
 
--- tag and body tell a descriptor
+-- tag and body determine a descriptor
 pub same_descriptor : (e d : TaggedBody) → e.tag ≡ d.tag → e.body ≡ d.body → e ≡ d
 same_descriptor e d same_tag same_body = joined e.tag d.tag e.body d.body same_tag same_body

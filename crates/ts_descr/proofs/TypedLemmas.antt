@@ -1,4 +1,4 @@
--- Bodies of fields alone and of items alone.
+-- Bodies of fields only and of items only.
 use Rattle.std.proofs.Common.{◌≡◌, ℕ, true, List, [], ◌∷◌, refl, sym, ap, ◌∙◌}
 use Rattle.std.specs.Prelude.{◌&&◌, Option, Some, None, option_map}
 use Rattle.std.specs.List.{list_all}
@@ -18,7 +18,7 @@ unfolding fits
 no_values [] fit = refl
 no_values (v ∷ vs) fit = cc
 
--- a body of items alone has no fields
+-- a body of items only has no fields
 pub no_head : (p : Page) (h : Holding) → p.head ≡ [] → page_fits p h ≡ true → h.head ≡ []
 no_head p h alone fit = no_values h.head (ap (λ rs. fits rs h.head) (sym alone) ∙ (both (fits p.head h.head) (items_fit p.items h.items) fit).0)
 
@@ -39,13 +39,13 @@ no_items_fit : (i : Option (List ℕ × List Row)) → i ≡ None → items_fit_
 no_items_fit None none = refl
 no_items_fit (Some x) none = cc
 
--- a body of fields alone fits where its fields do
+-- a body of fields only fits where its fields do
 pub fields_fit : (p : Page) (rows : List Row) (h : Holding) → p.head ≡ rows → p.items ≡ None → h.items ≡ []
     → fits_uncounted rows h.head ≡ true → page_fits_uncounted p h ≡ true
 fields_fit p rows h same none empty fit =
     rw (ap (λ rs. fits_uncounted rs h.head) same ∙ fit, empty, no_items_fit p.items none) refl
 
--- a body of items alone fits where its items do
+-- a body of items only fits where its items do
 pub items_fit_alone : (p : Page) (rows : List Row) (h : Holding) → p.head ≡ [] → h.head ≡ []
     → option_map (λ x. x.1) p.items ≡ Some rows → list_all (fits_uncounted rows) h.items ≡ true
     → page_fits_uncounted p h ≡ true
@@ -57,11 +57,11 @@ alone_by : (head : List Held) (mine items : List (List Held)) → head ≡ [] �
     let y : Holding = record { head = head; items = mine } in x ≡ y)
 alone_by head mine items none same = rw (none, same) refl
 
--- what a body of items alone holds, by its parts
+-- the values of a body of items only, by its parts
 pub held_alone : (h : Holding) (items : List (List Held)) → h.head ≡ [] → items ≡ h.items → items_alone items ≡ h
 held_alone h items none same = alone_by h.head h.items items none same
 
--- structs that hold the items of a body that was read
+-- structs with the items of a body that was read
 pub typed_so : {A : Type 0} (o : Option A) (view : A → List (List Held)) (h : Holding) (whole : Option Holding)
     → option_map view o ≡ Some h.items → h.head ≡ [] → Some h ≡ whole
     → option_map (λ v. items_alone (view v)) o ≡ whole

@@ -1,4 +1,4 @@
-//! One descriptor by its page.
+//! Reading and writing one descriptor by its page.
 
 ghost use Rattle.std.specs.Prelude.{◌≡◌, ◌-◌, ◌^◌, List, min, nat_eq, true, option_map, Some, IfOk, IfSome, IsTrue};
 ghost use Rattle.std.specs.List.{find};
@@ -12,7 +12,8 @@ use std::alloc::{AllocError, Global};
 use ts_bits::Descriptor;
 use ts_fields::{Body, Layout, NotRead, length_of_bits, read_body, write_body};
 
-/// What a descriptor's body holds by a page; none where it is not of that page. The tag is not looked at.
+/// The values of the body of a descriptor by a page; `None` exactly where the body is not of that page. The tag is
+/// not read.
 pub fn read_by_page(
     alloc: Global,
     layout: &Layout,
@@ -30,8 +31,9 @@ pub fn read_by_page(
     }
 }
 
-/// The descriptor with the page's tag whose body holds this. By any pages of which this one has the tag it is
-/// read back, if what it holds fits the page's fields and none of their bits are free.
+/// The descriptor with the tag of the page and a body with these values. Where it is the first page of its tag in a
+/// list of pages, and has no free bits, and the values fit its fields, reading by this list gives the values back,
+/// for this descriptor and no other.
 pub fn write_by_page(
     alloc: Global,
     layout: &Layout,
@@ -48,7 +50,7 @@ pub fn write_by_page(
         (record { tag = (page layout.now).tag; holding = body_held body.now }) d) }
 {
     let bytes = write_body(alloc, layout, body)?;
-    // Laws, which run nothing: a row of bytes has eight times as many bits, and what fits is read back.
+    // They run nothing, the proof cites them: bytes have eight times as many bits, and values that fit are read back.
     length_of_bits();
     written_is_read_back();
     if bytes.len() > 255 {
@@ -60,7 +62,7 @@ pub fn write_by_page(
     Ok(descriptor)
 }
 
-/// A number of bytes as it is told.
+/// A number of bytes; 2^32 - 1 for any greater one.
 fn told_size(bytes: usize) -> u32
     ensures { result ≡ min bytes (2 ^ 32 - 1) }
 {

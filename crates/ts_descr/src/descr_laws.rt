@@ -1,4 +1,4 @@
-//! Laws of descriptors: functions with nothing to run, called where what they ensure is wanted.
+//! Laws of descriptors. The functions run nothing; they are called for what they ensure.
 
 ghost use Rattle.std.specs.Prelude.{◌≡◌, List, nat_eq, true, Some, IsTrue};
 ghost use Rattle.std.specs.List.{find};
@@ -10,8 +10,8 @@ use ts_fields::{
     bits_tell_bytes, length_of_bits, read_is_written, small_page_fits, written_is_read,
 };
 
-/// A descriptor that is written by a page with no free bits is read back, if what it holds fits the page's
-/// fields.
+/// A descriptor that is written by a page without free bits is read back, if its values fit the fields of the page. A
+/// law; it runs nothing.
 pub fn written_is_read_back()
     ensures { (pages : List Page) (p : Page) (h : Holding) (d : TaggedBody)
         → find (λ q. nat_eq p.tag q.tag) pages ≡ Some p → IsTrue (page_sound p) → page_exact p ≡ true
@@ -22,7 +22,7 @@ pub fn written_is_read_back()
     typed_is_written();
 }
 
-/// A descriptor that is written is read again, if what it holds fits the page's fields.
+/// A descriptor that is written is read again, if its values fit the fields of the page. A law; it runs nothing.
 fn written_is_typed()
     ensures { (pages : List Page) (p : Page) (h : Holding) (d : TaggedBody)
         → find (λ q. nat_eq p.tag q.tag) pages ≡ Some p → IsTrue (page_sound p)
@@ -34,7 +34,8 @@ fn written_is_typed()
     length_of_bits();
 }
 
-/// A descriptor that is read is written so.
+/// A descriptor that is read by a page without free bits is the one that is written by this page for its values. A
+/// law; it runs nothing.
 fn typed_is_written()
     ensures { (pages : List Page) (p : Page) (h : Holding) (d e : TaggedBody)
         → find (λ q. nat_eq p.tag q.tag) pages ≡ Some p → page_exact p ≡ true

@@ -27,7 +27,7 @@ impl Model for LanguageCode {
 }
 
 impl LanguageCode {
-    /// The code of these bytes; none where they are not three bytes in 0x20 to 0x7E.
+    /// The code of these bytes; `None` where they are not three bytes, each in 0x20 to 0x7E.
     pub fn of(bytes: &[u8]) -> Option<LanguageCode>
         ensures { result
             ≡ (if nat_eq (length bytes.now) 3 && are_printable bytes.now then Some bytes.now else None) }
@@ -43,7 +43,7 @@ impl LanguageCode {
         })
     }
 
-    /// Its bytes.
+    /// The bytes of the code.
     pub fn letters(&self) -> [u8; 3]
         ensures bytes { result ≡ self.now }
         ensures lawful { (nat_eq (length self.now) 3 && are_printable self.now) ≡ true }
@@ -51,7 +51,7 @@ impl LanguageCode {
         self.letters
     }
 
-    /// Its bytes as a `Vec`.
+    /// The bytes of the code as a `Vec`.
     pub fn to_vec(&self, alloc: Global) -> Result<Vec<u8>, AllocError>
         ensures bytes { IfOk result (λ v. v.items ≡ self.now) }
         ensures lawful { (nat_eq (length self.now) 3 && are_printable self.now) ≡ true }

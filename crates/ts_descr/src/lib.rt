@@ -1,5 +1,6 @@
-//! Descriptors come in, and values with a field for each name go out; and back.
-//! The layer above rests on `read_fields`, `read_items`, `write_fields` and `write_items`, and on `Fields`.
+//! Descriptors as structs with a field for each name. Descriptors come in and structs go out, or structs come in and
+//! descriptors go out. The layer above rests on `read_fields`, `read_items`, `write_fields` and `write_items`, and on
+//! `Fields`.
 #![tactic(auto)]
 
 mod by_page;

@@ -8,9 +8,9 @@ use std::alloc::{AllocError, AllocFailed};
 /// Why a descriptor was not written.
 #[derive(Debug, Clone, Copy, PartialEq, Eq)]
 pub enum DescrRefusal {
-    /// The body would have so many bytes, which is above 255; 2^32 - 1 stands for any number above it.
+    /// The body would have this many bytes, which is above 255; 2^32 - 1 stands for any greater number.
     TooLarge { bytes: u32 },
-    /// There is no memory for the descriptor.
+    /// Out of memory for the descriptor.
     NoMemory,
 }
 

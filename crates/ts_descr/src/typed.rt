@@ -1,4 +1,4 @@
-//! Descriptors whose bodies are fields alone or items alone, as structs.
+//! Descriptors whose bodies are only fields or only items, as structs.
 
 ghost use Rattle.std.specs.Prelude.{◌≡◌, List, [], nat_eq, map, option_map, true, Some, None, IfOk, IsTrue};
 ghost use Rattle.std.specs.List.{find, list_all};
@@ -14,7 +14,7 @@ use std::alloc::{AllocError, Global};
 use ts_bits::Descriptor;
 use ts_fields::{Body, Item, Layout, fit_page_is_shaped};
 
-/// What a descriptor of a page of fields alone holds; none where its body is not of that page.
+/// Reads a descriptor by a page of fields only; `None` where its body is not of that page.
 pub fn read_fields<T: Fields + Drop>(
     alloc: Global,
     layout: &Layout,
@@ -31,7 +31,7 @@ pub fn read_fields<T: Fields + Drop>(
     Ok(value)
 }
 
-/// The same, whatever the descriptor's tag.
+/// The same, for any tag of the descriptor.
 fn fields_by_page<T: Fields + Drop>(
     alloc: Global,
     layout: &Layout,
@@ -49,8 +49,8 @@ fn fields_by_page<T: Fields + Drop>(
     T::of(alloc, &body.head)
 }
 
-/// The descriptor of a page of fields alone that holds this. By any pages of which this one has the tag it is
-/// read back, if none of the page's bits are free.
+/// The descriptor of a page of fields only with these values. Where it is the first page of its tag in a list of
+/// pages, and has no free bits, reading by this list gives the values back, for this descriptor and no other.
 pub fn write_fields<T: Fields>(
     alloc: Global,
     layout: &Layout,
@@ -65,7 +65,7 @@ pub fn write_fields<T: Fields>(
         → page_exact (page layout.now) ≡ true
         → IfOk result (λ d. IsReadBack pages (typed_fields (page layout.now) (T.fields value.now)) d) }
 {
-    // A law, which runs nothing.
+    // It runs nothing: the proof cites it.
     fit_page_is_shaped();
     let body = Body {
         head: value.values(alloc)?,
@@ -74,7 +74,7 @@ pub fn write_fields<T: Fields>(
     write_by_page(alloc, layout, &body)
 }
 
-/// The items of a descriptor of a page of items alone; none where its body is not of that page.
+/// Reads the items of a descriptor by a page of items only; `None` where its body is not of that page.
 pub fn read_items<T: Fields + Drop>(
     alloc: Global,
     layout: &Layout,
@@ -91,7 +91,7 @@ pub fn read_items<T: Fields + Drop>(
     Ok(values)
 }
 
-/// The same, whatever the descriptor's tag.
+/// The same, for any tag of the descriptor.
 fn items_by_page<T: Fields + Drop>(
     alloc: Global,
     layout: &Layout,
@@ -110,7 +110,7 @@ fn items_by_page<T: Fields + Drop>(
     Ok(values)
 }
 
-/// The structs that items hold; there always are some.
+/// The structs of items; it is never `None`.
 fn values_of<T: Fields + Drop>(alloc: Global, items: &[Item]) -> Result<Option<Vec<T>>, AllocError>
     requires { list_all (fits T.rows) (map item_held items.now) ≡ true }
     ensures { IfOk result (λ o. option_map (λ v. map T.fields v.items) o ≡ Some (map item_held items.now)) }
@@ -125,7 +125,7 @@ fn values_of<T: Fields + Drop>(alloc: Global, items: &[Item]) -> Result<Option<V
     Ok(Some(values))
 }
 
-/// The items that hold some structs.
+/// The items of structs.
 fn items_of<T: Fields>(alloc: Global, values: &[T]) -> Result<Vec<Item>, AllocError>
     ensures held { IfOk result (λ v. map item_held v.items ≡ map T.fields values.now) }
     ensures fit { IfOk result (λ v. list_all (fits_uncounted T.rows) (map item_held v.items) ≡ true) }
@@ -138,8 +138,8 @@ fn items_of<T: Fields>(alloc: Global, values: &[T]) -> Result<Vec<Item>, AllocEr
     Ok(items)
 }
 
-/// The descriptor of a page of items alone that has these. By any pages of which this one has the tag it is
-/// read back, if none of the page's bits are free.
+/// The descriptor of a page of items only with these items. Where it is the first page of its tag in a list of pages,
+/// and has no free bits, reading by this list gives the items back, for this descriptor and no other.
 pub fn write_items<T: Fields>(
     alloc: Global,
     layout: &Layout,
@@ -154,7 +154,7 @@ pub fn write_items<T: Fields>(
         → page_exact (page layout.now) ≡ true
         → IfOk result (λ d. IsReadBack pages (typed_items (page layout.now) (map T.fields items.now)) d) }
 {
-    // A law, which runs nothing.
+    // It runs nothing: the proof cites it.
     fit_page_is_shaped();
     let items = items_of(alloc, items)?;
     let body = Body {

@@ -1,5 +1,4 @@
--- The delivery system descriptors as values: their pages, and what their bodies hold.
--- ETSI EN 300 468, 6.2.13.
+-- The delivery system descriptors as values (ETSI EN 300 468, 6.2.13): their pages, and the values of their bodies.
 use Rattle.std.specs.Prelude.{List, [], ◌∷◌}
 use Rattle.ts_fields.specs.Bodies.{Page, Holding}
 use Rattle.ts_pages.specs.DeliveryPages.{satellite, cable, terrestrial}
@@ -18,12 +17,12 @@ delivery_page (descrs.Satellite d) = satellite
 delivery_page (descrs.Cable d) = cable
 delivery_page (descrs.Terrestrial d) = terrestrial
 
--- what its body holds
+-- the values of its body
 abbrev pub delivery_holding : DeliveryDescr → Holding
 delivery_holding (descrs.Satellite d) = fields_alone (satellite_fields d)
 delivery_holding (descrs.Cable d) = fields_alone (cable_fields d)
 delivery_holding (descrs.Terrestrial d) = fields_alone (terrestrial_fields d)
 
--- its tag with what its body holds
+-- its tag with the values of its body
 abbrev pub delivery_typed : DeliveryDescr → Typed
 delivery_typed d = record { tag = (delivery_page d).tag; holding = delivery_holding d }

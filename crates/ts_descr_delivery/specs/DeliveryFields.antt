@@ -1,5 +1,4 @@
--- What the fields of each struct hold, in the order of the rows of its page.
--- ETSI EN 300 468, 6.2.13.
+-- The values of the fields of each struct, in the order of the rows of its page (ETSI EN 300 468, 6.2.13).
 use Rattle.std.specs.Prelude.{List, [], ◌∷◌}
 use Rattle.ts_fields.specs.Layout.{Held, number}
 use Rattle.ts_descr_delivery.specs.declared.satellite.Satellite.{Satellite}
@@ -52,7 +51,7 @@ terrestrial_fields d =
     ∷ number d.other_frequency
     ∷ []
 
--- where a terrestrial transmitter sends, and for whom
+-- the first fields of a terrestrial transmitter: frequency, bandwidth, priority, time slicing and MPE-FEC
 abbrev pub channel_fields : Channel → List Held
 channel_fields d =
     number d.centre_frequency
@@ -62,7 +61,7 @@ channel_fields d =
     ∷ number d.mpe_fec
     ∷ []
 
--- how it protects what it sends
+-- its next fields: constellation, hierarchy and code rates
 abbrev pub coding_fields : Coding → List Held
 coding_fields d =
     number d.constellation
@@ -71,7 +70,7 @@ coding_fields d =
     ∷ number d.code_rate_lp
     ∷ []
 
--- its carriers
+-- its last fields: guard interval, transmission mode and whether other frequencies are used
 abbrev pub carriers_fields : Carriers → List Held
 carriers_fields d =
     number d.guard_interval
@@ -79,7 +78,7 @@ carriers_fields d =
     ∷ number d.other_frequency
     ∷ []
 
--- where a satellite stands and sends
+-- the first fields of a satellite: frequency, position in orbit and polarization
 abbrev pub beam_fields : Beam → List Held
 beam_fields d =
     number d.frequency
@@ -88,7 +87,7 @@ beam_fields d =
     ∷ number d.polarization
     ∷ []
 
--- how it sends
+-- its last fields: modulation, symbol rate and inner FEC
 abbrev pub signal_fields : Signal → List Held
 signal_fields d =
     number d.roll_off

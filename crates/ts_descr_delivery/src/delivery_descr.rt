@@ -24,8 +24,8 @@ pub enum DeliveryDescr {
 }
 
 impl DeliveryDescr {
-    /// What a descriptor says; none exactly where its tag is none of these, or its body is not of its page,
-    /// in which reserved bits are ones. An `AllocError` leaves nothing.
+    /// The value of a descriptor; `None` exactly where its tag is none of these, or its body is not of the page of
+    /// its tag, in which reserved bits are ones. An `AllocError` where memory runs out.
     pub fn read(alloc: Global, from: &Descriptor) -> Result<Option<DeliveryDescr>, AllocError>
         ensures { IfOk result (λ o. option_map delivery_typed o ≡ read_typed delivery_pages from.now) }
     {
@@ -46,8 +46,8 @@ impl DeliveryDescr {
         }
     }
 
-    /// The descriptor that says this; refused exactly where its body would pass 255 bytes, but for want of
-    /// memory. It is the only descriptor of which `read` gives this.
+    /// The descriptor with this value; `TooLarge` exactly where its body would have more than 255 bytes, unless
+    /// memory runs out. `read` returns this value for no other descriptor.
     pub fn write(&self, alloc: Global) -> Result<Descriptor, DescrRefusal>
         ensures written { Writes (delivery_page self.now) (delivery_holding self.now) result }
         ensures back { IfOk result (λ d. IsReadBack delivery_pages (delivery_typed self.now) d) }

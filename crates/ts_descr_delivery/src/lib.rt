@@ -1,5 +1,6 @@
-//! Descriptors of delivery systems come in; values with a field for each name go out, and back.
-//! The layer above rests on `DeliveryDescr::read` and `DeliveryDescr::write`, by the pages of `ts_pages`.
+//! The descriptors of delivery systems as values with a field for each name. Descriptors come in and values go out,
+//! or the other way. The layer above rests on `DeliveryDescr::read` and `DeliveryDescr::write`, by the pages of
+//! `ts_pages`.
 #![tactic(auto)]
 
 mod cable;

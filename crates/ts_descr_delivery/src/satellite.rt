@@ -76,7 +76,7 @@ impl Fields for Satellite {
     }
 }
 
-/// Where a satellite stands and sends.
+/// The first fields: frequency, position in orbit and polarization.
 #[derive(Drop)]
 struct Beam {
     frequency: u32,
@@ -94,7 +94,7 @@ impl Beam {
     ghost use Rattle.ts_pages.specs.DeliveryPages.{satellite};
     ghost use Rattle.ts_descr_delivery.specs.DeliveryFields.{beam_fields};
 
-    /// What the next values say, and the values behind them.
+    /// The first fields of the values, and the values after them.
     #[tactic(auto, unfolding(ts_fields::specs::Fitting::fits))]
     fn of(values: &[FieldValue]) -> Option<(Beam, &[FieldValue])>
         requires { fits satellite.head (map held values.now) ≡ true }
@@ -122,7 +122,7 @@ impl Beam {
     }
 }
 
-/// How it sends.
+/// The last fields: modulation, symbol rate and inner FEC.
 #[derive(Drop)]
 struct Signal {
     roll_off: u8,
@@ -141,7 +141,7 @@ impl Signal {
     ghost use Rattle.ts_pages.specs.DeliveryPages.{satellite};
     ghost use Rattle.ts_descr_delivery.specs.DeliveryFields.{signal_fields};
 
-    /// What the last values say.
+    /// The last fields of the values.
     #[tactic(auto, unfolding(ts_fields::specs::Fitting::fits))]
     fn of(values: &[FieldValue]) -> Option<Signal>
         requires { fits (drop 4 satellite.head) (map held values.now) ≡ true }

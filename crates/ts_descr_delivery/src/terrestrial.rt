@@ -92,7 +92,7 @@ impl Fields for Terrestrial {
     }
 }
 
-/// Where a terrestrial transmitter sends, and for whom.
+/// The first fields: frequency, bandwidth, priority, time slicing and MPE-FEC.
 #[derive(Drop)]
 struct Channel {
     centre_frequency: u32,
@@ -111,7 +111,7 @@ impl Channel {
     ghost use Rattle.ts_pages.specs.DeliveryPages.{terrestrial};
     ghost use Rattle.ts_descr_delivery.specs.DeliveryFields.{channel_fields};
 
-    /// What the next values say, and the values behind them.
+    /// The first fields of the values, and the values after them.
     #[tactic(auto, unfolding(ts_fields::specs::Fitting::fits))]
     fn of(values: &[FieldValue]) -> Option<(Channel, &[FieldValue])>
         requires { fits terrestrial.head (map held values.now) ≡ true }
@@ -141,7 +141,7 @@ impl Channel {
     }
 }
 
-/// How it protects what it sends.
+/// The next fields: constellation, hierarchy and code rates.
 #[derive(Drop)]
 struct Coding {
     constellation: u8,
@@ -159,7 +159,7 @@ impl Coding {
     ghost use Rattle.ts_pages.specs.DeliveryPages.{terrestrial};
     ghost use Rattle.ts_descr_delivery.specs.DeliveryFields.{coding_fields};
 
-    /// What the next values say, and the values behind them.
+    /// The next fields of the values, and the values after them.
     #[tactic(auto, unfolding(ts_fields::specs::Fitting::fits))]
     fn of(values: &[FieldValue]) -> Option<(Coding, &[FieldValue])>
         requires { fits (drop 6 terrestrial.head) (map held values.now) ≡ true }
@@ -187,7 +187,7 @@ impl Coding {
     }
 }
 
-/// Its carriers.
+/// The last fields: guard interval, transmission mode and whether other frequencies are used.
 #[derive(Drop)]
 struct Carriers {
     guard_interval: u8,
@@ -204,7 +204,7 @@ impl Carriers {
     ghost use Rattle.ts_pages.specs.DeliveryPages.{terrestrial};
     ghost use Rattle.ts_descr_delivery.specs.DeliveryFields.{carriers_fields};
 
-    /// What the last values say.
+    /// The last fields of the values.
     #[tactic(auto, unfolding(ts_fields::specs::Fitting::fits))]
     fn of(values: &[FieldValue]) -> Option<Carriers>
         requires { fits (drop 10 terrestrial.head) (map held values.now) ≡ true }

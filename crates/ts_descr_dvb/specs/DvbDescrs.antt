@@ -1,5 +1,4 @@
--- The DVB descriptors as values: their pages, and what their bodies hold.
--- ETSI EN 300 468, 6.2.
+-- The DVB descriptors as values (ETSI EN 300 468, 6.2): their pages, and the values of their bodies.
 use Rattle.std.specs.Prelude.{List, [], ◌∷◌, map}
 use Rattle.ts_fields.specs.Bodies.{Page, Holding}
 use Rattle.ts_pages.specs.DvbPages.{network_name, service_list, bouquet_name, service, short_event, component, stream_identifier, ca_identifier, content, parental_rating, teletext, subtitling, private_data_specifier}
@@ -31,7 +30,7 @@ dvb_page (descrs.Teletext d) = teletext
 dvb_page (descrs.Subtitling d) = subtitling
 dvb_page (descrs.PrivateDataSpecifier d) = private_data_specifier
 
--- what its body holds
+-- the values of its body
 abbrev pub dvb_holding : DvbDescr → Holding
 dvb_holding (descrs.NetworkName d) = fields_alone (network_name_fields d)
 dvb_holding (descrs.ServiceList d) = items_alone (map service_list_fields d.items)
@@ -47,6 +46,6 @@ dvb_holding (descrs.Teletext d) = items_alone (map teletext_fields d.items)
 dvb_holding (descrs.Subtitling d) = items_alone (map subtitling_fields d.items)
 dvb_holding (descrs.PrivateDataSpecifier d) = fields_alone (private_data_specifier_fields d)
 
--- its tag with what its body holds
+-- its tag with the values of its body
 abbrev pub dvb_typed : DvbDescr → Typed
 dvb_typed d = record { tag = (dvb_page d).tag; holding = dvb_holding d }

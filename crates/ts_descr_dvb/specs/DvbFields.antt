@@ -1,5 +1,4 @@
--- What the fields of each struct hold, in the order of the rows of its page.
--- ETSI EN 300 468, 6.2.
+-- The values of the fields of each struct, in the order of the rows of its page (ETSI EN 300 468, 6.2).
 use Rattle.std.specs.Prelude.{List, [], ◌∷◌}
 use Rattle.ts_fields.specs.Layout.{Held, number, bytes}
 use Rattle.ts_descr_dvb.specs.declared.network_name.NetworkName.{NetworkName}
@@ -36,11 +35,11 @@ service_fields d =
     ∷ bytes d.service_name.items
     ∷ []
 
--- the name of an event and a short text on it
+-- the name of an event and a short text about it
 abbrev pub short_event_fields : ShortEvent → List Held
 short_event_fields d = bytes d.language_code ∷ bytes d.event_name.items ∷ bytes d.text.items ∷ []
 
--- what a component is
+-- the kind, the tag, the language and a text of a component
 abbrev pub component_fields : Component → List Held
 component_fields d =
     number d.stream_content_ext
@@ -51,7 +50,7 @@ component_fields d =
     ∷ bytes d.text.items
     ∷ []
 
--- the tag by which a component is named elsewhere
+-- the tag by which other descriptors refer to a component
 abbrev pub stream_identifier_fields : StreamIdentifier → List Held
 stream_identifier_fields d = number d.component_tag ∷ []
 
@@ -67,7 +66,7 @@ content_fields d =
     ∷ number d.user_byte
     ∷ []
 
--- the least age for an event in one country
+-- the minimum age for an event in one country
 abbrev pub parental_rating_fields : Country → List Held
 parental_rating_fields d = bytes d.country_code ∷ number d.rating ∷ []
 
@@ -89,6 +88,6 @@ subtitling_fields d =
     ∷ number d.ancillary_page_id
     ∷ []
 
--- whose private descriptors follow
+-- the organisation that defines the private descriptors that follow
 abbrev pub private_data_specifier_fields : PrivateDataSpecifier → List Held
 private_data_specifier_fields d = number d.private_data_specifier ∷ []

@@ -1,2 +1,3 @@
+-- The definitions of the DVB descriptors as values.
 pub mod DvbFields
 pub mod DvbDescrs

@@ -6,7 +6,7 @@ use std::alloc::{AllocError, Global};
 use ts_descr::{Fields, LanguageCode, bytes_value};
 use ts_fields::FieldValue;
 
-/// What a component is (ETSI EN 300 468, 6.2.8).
+/// The kind, the tag, the language and a text of a component (ETSI EN 300 468, 6.2.8).
 #[derive(Drop)]
 pub struct Component {
     /// `stream_content_ext`, 4 bits.
@@ -17,7 +17,7 @@ pub struct Component {
     pub component_type: u8,
     /// `component_tag`, 8 bits.
     pub component_tag: u8,
-    /// `language_code`.
+    /// `language_code`, three bytes.
     pub language_code: LanguageCode,
     /// `text`: a text up to the end.
     pub text: Vec<u8>,

@@ -4,10 +4,10 @@ use std::alloc::{AllocError, Global};
 use ts_descr::{Fields, LanguageCode};
 use ts_fields::FieldValue;
 
-/// The least age for an event in one country (ETSI EN 300 468, 6.2.28).
+/// The minimum age for an event in one country (ETSI EN 300 468, 6.2.28).
 #[derive(Drop)]
 pub struct Country {
-    /// `country_code`.
+    /// `country_code`, three bytes.
     pub country_code: LanguageCode,
     /// `rating`, 8 bits.
     pub rating: u8,

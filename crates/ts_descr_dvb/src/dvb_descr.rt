@@ -1,4 +1,4 @@
-//! The DVB descriptors.
+//! The DVB descriptors that have a page, without those of delivery systems.
 
 ghost use Rattle.std.specs.Prelude.{◌≡◌, option_map, IfOk};
 ghost use Rattle.ts_descr.specs.Descriptors.{read_typed, Writes, IsReadBack};
@@ -33,29 +33,29 @@ pub enum DvbDescr {
     BouquetName(BouquetName),
     /// Tag 0x48: the type, the provider and the name of a service (6.2.33).
     Service(Service),
-    /// Tag 0x4D: the name of an event and a short text on it (6.2.37).
+    /// Tag 0x4D: the name of an event and a short text about it (6.2.37).
     ShortEvent(ShortEvent),
-    /// Tag 0x50: what a component is (6.2.8).
+    /// Tag 0x50: the kind, the tag, the language and a text of a component (6.2.8).
     Component(Component),
-    /// Tag 0x52: the tag by which a component is named elsewhere (6.2.39).
+    /// Tag 0x52: the tag by which other descriptors refer to a component (6.2.39).
     StreamIdentifier(StreamIdentifier),
     /// Tag 0x53: the conditional access systems of a bouquet, a service or an event (6.2.5).
     CaIdentifier(Vec<CaSystem>),
     /// Tag 0x54: the genres of an event (6.2.9).
     Content(Vec<Classification>),
-    /// Tag 0x55: the least ages for an event, country by country (6.2.28).
+    /// Tag 0x55: the minimum ages for an event, one for each country (6.2.28).
     ParentalRating(Vec<Country>),
-    /// Tag 0x56: the Teletext pages of a component, language by language (6.2.43).
+    /// Tag 0x56: the Teletext pages of a component, each with its language (6.2.43).
     Teletext(Vec<TeletextPage>),
-    /// Tag 0x59: the subtitles of a component, language by language (6.2.41).
+    /// Tag 0x59: the subtitles of a component, each with its language (6.2.41).
     Subtitling(Vec<Subtitle>),
-    /// Tag 0x5F: whose private descriptors follow (6.2.31).
+    /// Tag 0x5F: the organisation that defines the private descriptors that follow (6.2.31).
     PrivateDataSpecifier(PrivateDataSpecifier),
 }
 
 impl DvbDescr {
-    /// What a descriptor says; none exactly where its tag is none of these, or its body is not of its page,
-    /// in which reserved bits are ones. An `AllocError` leaves nothing.
+    /// The value of a descriptor; `None` exactly where its tag is none of these, or its body is not of the page of
+    /// its tag, in which reserved bits are ones. An `AllocError` where memory runs out.
     pub fn read(alloc: Global, from: &Descriptor) -> Result<Option<DvbDescr>, AllocError>
         ensures { IfOk result (λ o. option_map dvb_typed o ≡ read_typed dvb_pages from.now) }
     {
@@ -116,8 +116,8 @@ impl DvbDescr {
         }
     }
 
-    /// The descriptor that says this; refused exactly where its body would pass 255 bytes, but for want of
-    /// memory. It is the only descriptor of which `read` gives this.
+    /// The descriptor with this value; `TooLarge` exactly where its body would have more than 255 bytes, unless
+    /// memory runs out. `read` returns this value for no other descriptor.
     pub fn write(&self, alloc: Global) -> Result<Descriptor, DescrRefusal>
         ensures written { Writes (dvb_page self.now) (dvb_holding self.now) result }
         ensures back { IfOk result (λ d. IsReadBack dvb_pages (dvb_typed self.now) d) }

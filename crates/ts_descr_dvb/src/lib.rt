@@ -1,5 +1,5 @@
-//! Descriptors of ETSI EN 300 468 come in; values with a field for each name go out, and back.
-//! The layer above rests on `DvbDescr::read` and `DvbDescr::write`, by the pages of `ts_pages`.
+//! The descriptors of ETSI EN 300 468 as values with a field for each name. Descriptors come in and values go out, or
+//! the other way. The layer above rests on `DvbDescr::read` and `DvbDescr::write`, by the pages of `ts_pages`.
 #![tactic(auto)]
 
 mod bouquet_name;

@@ -4,7 +4,7 @@ use std::alloc::{AllocError, Global};
 use ts_descr::Fields;
 use ts_fields::FieldValue;
 
-/// Whose private descriptors follow (ETSI EN 300 468, 6.2.31).
+/// The organisation that defines the private descriptors that follow (ETSI EN 300 468, 6.2.31).
 #[derive(Drop)]
 pub struct PrivateDataSpecifier {
     /// `private_data_specifier`, 32 bits.

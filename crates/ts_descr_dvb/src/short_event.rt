@@ -4,10 +4,10 @@ use std::alloc::{AllocError, Global};
 use ts_descr::{Fields, LanguageCode, bytes_value};
 use ts_fields::FieldValue;
 
-/// The name of an event and a short text on it (ETSI EN 300 468, 6.2.37).
+/// The name of an event and a short text about it (ETSI EN 300 468, 6.2.37).
 #[derive(Drop)]
 pub struct ShortEvent {
-    /// `language_code`.
+    /// `language_code`, three bytes.
     pub language_code: LanguageCode,
     /// `event_name`: a text, at most 255 bytes.
     pub event_name: Vec<u8>,

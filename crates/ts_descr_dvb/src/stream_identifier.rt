@@ -4,7 +4,7 @@ use std::alloc::{AllocError, Global};
 use ts_descr::Fields;
 use ts_fields::FieldValue;
 
-/// The tag by which a component is named elsewhere (ETSI EN 300 468, 6.2.39).
+/// The tag by which other descriptors refer to a component (ETSI EN 300 468, 6.2.39).
 #[derive(Drop)]
 pub struct StreamIdentifier {
     /// `component_tag`, 8 bits.

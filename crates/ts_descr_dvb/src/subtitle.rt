@@ -7,7 +7,7 @@ use ts_fields::FieldValue;
 /// The subtitles of a component in one language (ETSI EN 300 468, 6.2.41).
 #[derive(Drop)]
 pub struct Subtitle {
-    /// `language_code`.
+    /// `language_code`, three bytes.
     pub language_code: LanguageCode,
     /// `subtitling_type`, 8 bits.
     pub subtitling_type: u8,

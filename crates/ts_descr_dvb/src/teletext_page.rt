@@ -9,7 +9,7 @@ use ts_fields::FieldValue;
 /// One Teletext page of a component (ETSI EN 300 468, 6.2.43).
 #[derive(Drop)]
 pub struct TeletextPage {
-    /// `language_code`.
+    /// `language_code`, three bytes.
     pub language_code: LanguageCode,
     /// `teletext_type`, 5 bits.
     pub teletext_type: u8,

@@ -1,4 +1,4 @@
-//! Texts of descriptors.
+//! Texts of descriptors, and their bytes.
 
 ghost use Rattle.std.specs.Prelude.{◌≡◌, IfOk};
 ghost use Rattle.ts_fields.specs.Texts;
@@ -29,7 +29,7 @@ impl TextValue {
     }
 }
 
-/// The bytes of a text as a descriptor has them. Contracts see the list.
+/// The bytes of a text in a descriptor. Contracts see the list.
 #[derive(Drop)]
 pub struct TextBytes {
     bytes: Vec<u8>,
@@ -59,8 +59,8 @@ impl TextBytes {
     }
 }
 
-/// The text that bytes of a descriptor are: printable ASCII, or UTF-8 with any other character behind a byte
-/// 0x15 (ETSI EN 300 468, A.2). None for all other bytes. An `AllocError` leaves nothing.
+/// The text of bytes of a descriptor: printable ASCII, or after a byte 0x15 UTF-8 that has any other character (ETSI
+/// EN 300 468, A.2). `None` for all other bytes. An `AllocError` where memory runs out.
 pub fn text_of(alloc: Global, bytes: &[u8]) -> Result<Option<TextValue>, AllocError>
     ensures { IfOk result (λ o. o ≡ Texts.text_of bytes.now) }
 {
@@ -71,7 +71,7 @@ pub fn text_of(alloc: Global, bytes: &[u8]) -> Result<Option<TextValue>, AllocEr
     Ok(Some(TextValue { text }))
 }
 
-/// The bytes of a text as a descriptor has them. An `AllocError` leaves nothing.
+/// The bytes of a text in a descriptor. An `AllocError` where memory runs out.
 pub fn text_bytes(alloc: Global, text: &str) -> Result<TextBytes, AllocError>
     ensures { IfOk result (λ bytes. bytes ≡ Texts.text_bytes text.now) }
 {

@@ -1,2 +1,3 @@
+-- The definitions of the MPEG descriptors as values.
 pub mod MpegFields
 pub mod MpegDescrs

@@ -1,5 +1,4 @@
--- The MPEG descriptors as values: their pages, and what their bodies hold.
--- ISO/IEC 13818-1, 2.6.
+-- The MPEG descriptors as values (ISO/IEC 13818-1, 2.6): their pages, and the values of their bodies.
 use Rattle.std.specs.Prelude.{List, [], ◌∷◌, map}
 use Rattle.ts_fields.specs.Bodies.{Page, Holding}
 use Rattle.ts_pages.specs.MpegPages.{registration, data_stream_alignment, ca, language, maximum_bitrate}
@@ -20,7 +19,7 @@ mpeg_page (descrs.Ca d) = ca
 mpeg_page (descrs.Iso639Language d) = language
 mpeg_page (descrs.MaximumBitrate d) = maximum_bitrate
 
--- what its body holds
+-- the values of its body
 abbrev pub mpeg_holding : MpegDescr → Holding
 mpeg_holding (descrs.Registration d) = fields_alone (registration_fields d)
 mpeg_holding (descrs.DataStreamAlignment d) = fields_alone (data_stream_alignment_fields d)
@@ -28,6 +27,6 @@ mpeg_holding (descrs.Ca d) = fields_alone (ca_fields d)
 mpeg_holding (descrs.Iso639Language d) = items_alone (map language_fields d.items)
 mpeg_holding (descrs.MaximumBitrate d) = fields_alone (maximum_bitrate_fields d)
 
--- its tag with what its body holds
+-- its tag with the values of its body
 abbrev pub mpeg_typed : MpegDescr → Typed
 mpeg_typed d = record { tag = (mpeg_page d).tag; holding = mpeg_holding d }

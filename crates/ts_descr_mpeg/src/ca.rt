@@ -6,7 +6,7 @@ use std::alloc::{AllocError, Global};
 use ts_descr::{Fields, bytes_value};
 use ts_fields::FieldValue;
 
-/// The PID of the messages of a conditional access system (ISO/IEC 13818-1, 2.6.16).
+/// The PID of the ECMs or the EMMs of a conditional access system (ISO/IEC 13818-1, 2.6.16).
 #[derive(Drop)]
 pub struct Ca {
     /// `CA_system_id`, 16 bits.

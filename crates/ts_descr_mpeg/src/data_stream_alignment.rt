@@ -4,7 +4,7 @@ use std::alloc::{AllocError, Global};
 use ts_descr::Fields;
 use ts_fields::FieldValue;
 
-/// Which units of a stream begin its packets (ISO/IEC 13818-1, 2.6.10).
+/// The kind of unit with which the aligned PES packets of a stream begin (ISO/IEC 13818-1, 2.6.10).
 #[derive(Drop)]
 pub struct DataStreamAlignment {
     /// `alignment_type`, 8 bits.

@@ -1,4 +1,4 @@
-//! One item of a `ISO_639_language_descriptor` (ISO/IEC 13818-1, 2.6.18).
+//! One item of an `ISO_639_language_descriptor` (ISO/IEC 13818-1, 2.6.18).
 
 use std::alloc::{AllocError, Global};
 use ts_descr::{Fields, LanguageCode};
@@ -7,7 +7,7 @@ use ts_fields::FieldValue;
 /// One language of a component (ISO/IEC 13818-1, 2.6.18).
 #[derive(Drop)]
 pub struct Language {
-    /// `code`.
+    /// `code`: the code of the language, three bytes.
     pub code: LanguageCode,
     /// `audio_type`, 8 bits.
     pub audio_type: u8,

@@ -1,5 +1,5 @@
-//! Descriptors of ISO/IEC 13818-1 come in; values with a field for each name go out, and back.
-//! The layer above rests on `MpegDescr::read` and `MpegDescr::write`, by the pages of `ts_pages`.
+//! The descriptors of ISO/IEC 13818-1 as values with a field for each name. Descriptors come in and values go out, or
+//! the other way. The layer above rests on `MpegDescr::read` and `MpegDescr::write`, by the pages of `ts_pages`.
 #![tactic(auto)]
 
 mod ca;

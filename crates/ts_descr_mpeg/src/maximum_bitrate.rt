@@ -6,10 +6,10 @@ use std::alloc::{AllocError, Global};
 use ts_descr::Fields;
 use ts_fields::FieldValue;
 
-/// The most bits of a component, in units of 50 bytes a second (ISO/IEC 13818-1, 2.6.26).
+/// The maximum bit rate of a component, in units of 50 bytes per second (ISO/IEC 13818-1, 2.6.26).
 #[derive(Drop)]
 pub struct MaximumBitrate {
-    /// `maximum_bitrate`, 22 bits.
+    /// `maximum_bitrate`, 22 bits, in units of 50 bytes per second.
     pub maximum_bitrate: u32,
     ghost widths: { maximum_bitrate < 2 ^ 22 },
 }

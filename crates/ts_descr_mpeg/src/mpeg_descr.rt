@@ -1,4 +1,4 @@
-//! The MPEG descriptors.
+//! The MPEG descriptors that have a page.
 
 ghost use Rattle.std.specs.Prelude.{◌≡◌, option_map, IfOk};
 ghost use Rattle.ts_descr.specs.Descriptors.{read_typed, Writes, IsReadBack};
@@ -17,21 +17,21 @@ use ts_pages::mpeg;
 /// A descriptor of ISO/IEC 13818-1, 2.6, with a field for each name of its page.
 #[derive(Drop)]
 pub enum MpegDescr {
-    /// Tag 0x05: who gives the private data of a program or component their meaning (2.6.8).
+    /// Tag 0x05: the organisation that defines the private data of a program or component (2.6.8).
     Registration(Registration),
-    /// Tag 0x06: which units of a stream begin its packets (2.6.10).
+    /// Tag 0x06: the kind of unit with which the aligned PES packets of a stream begin (2.6.10).
     DataStreamAlignment(DataStreamAlignment),
-    /// Tag 0x09: the PID of the messages of a conditional access system (2.6.16).
+    /// Tag 0x09: the PID of the ECMs or the EMMs of a conditional access system (2.6.16).
     Ca(Ca),
     /// Tag 0x0A: the languages of a component (2.6.18).
     Iso639Language(Vec<Language>),
-    /// Tag 0x0E: the most bits of a component, in units of 50 bytes a second (2.6.26).
+    /// Tag 0x0E: the maximum bit rate of a component, in units of 50 bytes per second (2.6.26).
     MaximumBitrate(MaximumBitrate),
 }
 
 impl MpegDescr {
-    /// What a descriptor says; none exactly where its tag is none of these, or its body is not of its page,
-    /// in which reserved bits are ones. An `AllocError` leaves nothing.
+    /// The value of a descriptor; `None` exactly where its tag is none of these, or its body is not of the page of
+    /// its tag, in which reserved bits are ones. An `AllocError` where memory runs out.
     pub fn read(alloc: Global, from: &Descriptor) -> Result<Option<MpegDescr>, AllocError>
         ensures { IfOk result (λ o. option_map mpeg_typed o ≡ read_typed mpeg_pages from.now) }
     {
@@ -60,8 +60,8 @@ impl MpegDescr {
         }
     }
 
-    /// The descriptor that says this; refused exactly where its body would pass 255 bytes, but for want of
-    /// memory. It is the only descriptor of which `read` gives this.
+    /// The descriptor with this value; `TooLarge` exactly where its body would have more than 255 bytes, unless
+    /// memory runs out. `read` returns this value for no other descriptor.
     pub fn write(&self, alloc: Global) -> Result<Descriptor, DescrRefusal>
         ensures written { Writes (mpeg_page self.now) (mpeg_holding self.now) result }
         ensures back { IfOk result (λ d. IsReadBack mpeg_pages (mpeg_typed self.now) d) }

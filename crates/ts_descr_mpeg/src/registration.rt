@@ -4,7 +4,7 @@ use std::alloc::{AllocError, Global};
 use ts_descr::{Fields, bytes_value};
 use ts_fields::FieldValue;
 
-/// Who gives the private data of a program or component their meaning (ISO/IEC 13818-1, 2.6.8).
+/// The organisation that defines the private data of a program or component (ISO/IEC 13818-1, 2.6.8).
 #[derive(Drop)]
 pub struct Registration {
     /// `format_identifier`, 32 bits.

@@ -1,4 +1,4 @@
--- What is spelled is read again.
+-- What is written is read again.
 use Rattle.std.proofs.Common.{◌≡◌, ℕ, zero, suc, ◌+◌, ◌-◌, ◌*◌, ◌/◌, ◌%◌, ◌^◌, ◌<◌, ◌≤◌, Bool, true, false, List, [], ◌∷◌, ◌++◌, length, take, drop, refl, sym, ap, ◌∙◌, arith, append_assoc, append-nil, pow-suc, length-append}
 use Rattle.std.specs.Prelude.{nat_eq, nat_le, nat_lt, ◌&&◌, ◌||◌, Option, Some, None, option_to_list, slice_get, if◌then◌else◌}
 use Rattle.std.proofs.lemmas.Bool.{le-leb, leb-true, ltb-true, eqb-true, eq-eqb, lt-ltb}
@@ -81,7 +81,7 @@ printable_bytes (b ∷ bs) all =
     let small : nat_lt b 256 ≡ true = lt-ltb b 256 (omega (arith, leb-true b 0x7E range.1)) in
     rw (small, printable_bytes bs parts.1) refl
 
--- what reading keeps of a field's value
+-- what reading keeps of the value of a field
 abbrev pub kept : Kind → Option Held → Option Held
 kept (Number count) value = value
 kept (Ones count) value = None
@@ -154,7 +154,7 @@ field_again Hex None rest fit end = cc
 field_again Hex (Some (number n)) rest fit end = cc
 field_again Hex (Some (bytes b)) rest fit end = rw (end refl, append-nil (bits_of b), rest_again b fit) refl
 
--- a list by its first part, which is there where a field wants one
+-- a list from its first part, which is there where a field requires one
 pub first_and_rest : (k : Kind) (values : List Held) → field_fits k (slice_get values 0) ≡ true
     → option_to_list (kept k (slice_get values 0)) ++ drop (holds k) values ≡ values
 first_and_rest (Ones count) values fit = refl

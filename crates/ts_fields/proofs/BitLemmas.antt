@@ -1,4 +1,4 @@
--- Rows of bytes as lists of bits: lengths, single bits, fields.
+-- Bytes as lists of bits: lengths, single bits, fields.
 use Rattle.std.proofs.Common.{◌≡◌, ℕ, zero, suc, ◌+◌, ◌-◌, ◌*◌, ◌/◌, ◌%◌, ◌^◌, ◌<◌, ◌≤◌, Bool, true, false, List, [], ◌∷◌, ◌++◌, length, get_or, take, drop, inl, inr, ◌⊎◌, refl, sym, ap, ◌∙◌, arith, pow-suc, length-append, append-nil}
 use Rattle.std.specs.Prelude.{nat_eq}
 use Rattle.std.proofs.lemmas.Grind.{flat_map-append}
@@ -87,7 +87,7 @@ bit_of-below : (row : List ℕ) (i : ℕ) → bit_of row i < 2
 unfolding bit_of
 bit_of-below row i = omega arith
 
--- a field is the number that its bits give
+-- a field is the number of its bits
 pub field-number_of : (row : List ℕ) (at n : ℕ) → at + n ≤ 8 * length row
     → field row at n ≡ number_of (take n (drop at (bits_of row)))
 unfolding field
@@ -140,7 +140,7 @@ bits-number_of (b ∷ bs) =
 pub left : (row : List ℕ) (at : ℕ) → length (drop at (bits_of row)) ≡ 8 * length row - at
 left row at = length-drop at (bits_of row) ∙ rw (length-bits_of row) refl
 
--- one bit more behind a number's bits
+-- one bit more after the bits of a number
 pub bits_snoc : (n v : ℕ) (b : Bool) → bits (suc n) (2 * v + bit_value b) ≡ bits n v ++ b ∷ []
 unfolding bits
 bits_snoc zero v true = let e : (2 * v + 1) / 1 % 2 ≡ 1 = omega arith in rw e refl
@@ -155,7 +155,7 @@ pub bits-zero : (v : ℕ) → bits 0 v ≡ []
 unfolding bits
 bits-zero v = refl
 
--- the next bit of a number that is written from its highest
+-- the next bit of a number that is written most significant bit first
 pub bits_next : (n v k : ℕ)
     → bits (suc n) (v / 2 ^ k) ≡ bits n (v / 2 ^ (k + 1)) ++ nat_eq (v / 2 ^ k % 2) 1 ∷ []
 bits_next n v k =

@@ -58,7 +58,7 @@ read_fits p from rest head items first behind =
     let others = behind_read_fit p.items rest items behind in
     rw (one.1, others) refl
 
--- rows of bytes with the same bits are the same
+-- bytes are equal where their bits are
 pub same_bytes : (a b : List ℕ) → are_bytes a ≡ true → are_bytes b ≡ true → bits_of a ≡ bits_of b → a ≡ b
 same_bytes a b fit fit_too same =
     let long : length a ≡ length b = omega (arith, ap length same, length-bits_of a, length-bits_of b) in

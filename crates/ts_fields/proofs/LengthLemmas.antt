@@ -1,4 +1,4 @@
--- How many bits fields and bodies are spelled by.
+-- The number of bits of fields and bodies.
 use Rattle.std.proofs.Common.{◌≡◌, ℕ, zero, suc, ◌+◌, ◌-◌, ◌*◌, ◌/◌, ◌%◌, ◌^◌, ◌<◌, Bool, true, List, [], ◌∷◌, length, drop, refl, ◌∙◌, arith, length-append}
 use Rattle.std.specs.Prelude.{nat_eq, nat_lt, Option, Some, None, slice_get, IsTrue}
 use Rattle.std.proofs.lemmas.Bool.{eqb-true, ltb-true}
@@ -23,7 +23,7 @@ unfolding spell_decimal
 length-decimal zero v = refl
 length-decimal (suc d) v = length-append (bits 4 (v / 10 ^ d % 10)) (spell_decimal d v) ∙ omega (arith, length-bits 4 (v / 10 ^ d % 10), length-decimal d v)
 
--- a field takes its bits, and whole bytes besides
+-- a field takes its width, and whole bytes besides
 length-field : (k : Kind) (value : Option Held) → field_shaped k value ≡ true
     → (more : ℕ) × (length (spell_field k value) ≡ width k + 8 * more)
 unfolding spell_field

@@ -1,4 +1,4 @@
--- What the reader's calls read.
+-- What the calls of the reader read.
 use Rattle.std.proofs.Common.{◌≡◌, ℕ, suc, ◌+◌, ◌-◌, ◌*◌, ◌≤◌, ◌<◌, Bool, true, false, List, [], ◌∷◌, ◌++◌, length, take, drop, refl, sym, ap, ◌∙◌, arith, append_assoc, append-nil, pow-suc, ◌^◌}
 use Rattle.std.specs.Prelude.{Option, Some, None, nat_le, option_map, option_to_list, map, get_or, IsTrue, ◌&&◌}
 use Rattle.std.proofs.lemmas.Bool.{le-leb, lt-leb, leb-true}
@@ -184,7 +184,7 @@ pub rows_cut : (front : List Held) (r : Row) (rs : List Row) (from : List Bool)
 unfolding read_rows
 rows_cut front r rs from is = rw is refl
 
--- why a field was not read is why all are not
+-- the reason why one field was not read is the reason for all
 pub rows_stop : (stop : NotRead) (front : List Held) (r : Row) (rs : List Row) (from : List Bool)
     (whole : Option (List Held × List Bool))
     → with_front front (read_rows (r ∷ rs) from) ≡ whole → Fails stop (read_field r.kind from)

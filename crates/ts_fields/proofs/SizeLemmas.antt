@@ -1,4 +1,5 @@
--- Values whose counted texts may have any length: numbers stand where numbers do, and in few bits they fit.
+-- Values whose counted texts may have any length: they have numbers where fields hold numbers, and in few bits they
+-- fit.
 use Rattle.std.proofs.Common.{◌≡◌, ℕ, ◌≤◌, Bool, true, List, [], ◌∷◌, length, drop, refl, arith, length-append}
 use Rattle.std.specs.Prelude.{nat_lt, Option, Some, None, slice_get}
 use Rattle.std.specs.List.{flat_map, list_all}
@@ -33,7 +34,7 @@ field_is_shaped CountedText value fit = refl
 field_is_shaped Text value fit = refl
 field_is_shaped Hex value fit = refl
 
--- what fits with a bound fits without it
+-- what fits with a bound on texts fits without it
 field_fits_so : (k : Kind) (value : Option Held) → field_fits k value ≡ true
     → field_fits_uncounted k value ≡ true
 field_fits_so (Number count) value fit = fit

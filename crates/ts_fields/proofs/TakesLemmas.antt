@@ -1,4 +1,4 @@
--- What is read is spelled so.
+-- What is read is written so.
 use Rattle.std.proofs.Common.{◌≡◌, ℕ, zero, suc, ◌+◌, ◌-◌, ◌*◌, ◌/◌, ◌%◌, ◌^◌, ◌<◌, ◌≤◌, Bool, true, false, List, [], ◌∷◌, ◌++◌, length, take, drop, refl, sym, ap, ◌∙◌, arith, append_assoc, pow-suc, length-append, mod-lt, mul-le-mul_right}
 use Rattle.std.specs.Prelude.{nat_eq, nat_le, nat_lt, Option, Some, None, option_to_list, slice_get, if◌then◌else◌}
 use Rattle.std.proofs.lemmas.Bool.{leb-true, eqb-true, eq-eqb, lt-ltb}
@@ -61,7 +61,7 @@ bytes_takes (suc n) from b rest is =
       rw (small, others.2) refl,
     )))
 
--- digits of a number's low digits
+-- the digits of the lower digits of a number
 digit_of_low : (v n : ℕ) → v % 10 ^ suc n / 10 ^ n ≡ v / 10 ^ n % 10
 digit_of_low v n = ap (λ x. x / 10 ^ n) (sym (digits_join v n)) ∙ div-mul-add (v / 10 ^ n % 10) (10 ^ n) (v % 10 ^ n) (mod-lt v (ten_pos n))
 
@@ -240,7 +240,7 @@ field_length CountedText from value rest is = exact_length CountedText from valu
 field_length Text from value rest is = exact_length Text from value rest refl is
 field_length Hex from value rest is = exact_length Hex from value rest refl is
 
--- a value that was read stands first among those that are spelled
+-- a value that was read is the first of those that are written
 first_of : (k : Kind) (value : Option Held) (more : List Held) → field_fits k value ≡ true
     → kept k value ≡ value
     → (spell_field k (slice_get (option_to_list value ++ more) 0) ≡ spell_field k value) × (field_fits k (slice_get (option_to_list value ++ more) 0) ≡ true) × (drop (holds k) (option_to_list value ++ more) ≡ more)

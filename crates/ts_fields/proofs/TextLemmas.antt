@@ -44,7 +44,7 @@ written_by false (mark ∷ t) text printable is =
     let mark_is = eqb-true mark 0x15 tests.0 in
     rw (← parts.1, plain, mark_is) refl
 
--- the text that bytes are is written so
+-- the text of bytes is written as these bytes
 pub text_is_written : (b text : List ℕ) → text_of b ≡ Some text → text_bytes text ≡ b
 text_is_written b text is = written_by (are_printable b) b text refl is
 

@@ -1,4 +1,4 @@
--- What the writer's calls write.
+-- What the calls of the writer write.
 use Rattle.std.proofs.Common.{◌≡◌, ℕ, zero, suc, ◌+◌, ◌-◌, ◌*◌, ◌/◌, ◌%◌, ◌^◌, ◌<◌, ◌≤◌, Bool, List, [], ◌∷◌, ◌++◌, length, drop, refl, sym, ap, ◌∙◌, arith, append_assoc, append-nil, pow-suc, length-append}
 use Rattle.std.specs.Prelude.{nat_eq, map, slice_get, get_or, Option, Some, None, option_map}
 use Rattle.std.proofs.lemmas.List.{drop_all}
@@ -12,7 +12,7 @@ use Rattle.ts_fields.specs.Bits.{bits, bits_of, bit_value}
 use Rattle.ts_fields.specs.Spelling.{spell_decimal, spell_field, spell_rows, holds}
 use Rattle.ts_fields.proofs.BitLemmas.{bits_snoc, bits_next, bits_of_push, bits-zero, length-bits, length-bits_of}
 
--- a bit that stays in hand
+-- a bit that stays pending
 pub bit_kept : (whole : List ℕ) (count pending next : ℕ) (b : Bool) → next ≡ 2 * pending + bit_value b
     → bits_of whole ++ bits (count + 1) next ≡ (bits_of whole ++ bits count pending) ++ b ∷ []
 bit_kept whole count pending next b is =
@@ -64,7 +64,7 @@ decimal_done old now i digits value all so_far =
     let none : digits - i ≡ 0 = omega arith in
     sym (append-nil now) ∙ (rw none at so_far)
 
--- whole bytes have no bits behind them
+-- whole bytes have no bits after them
 pub no_rest : (whole : List ℕ) (count pending : ℕ) → count < 8
     → length (bits_of whole ++ bits count pending) % 8 ≡ 0
     → bits_of whole ≡ bits_of whole ++ bits count pending

@@ -1,4 +1,4 @@
--- Whole bodies: fields, and behind them items up to the end.
+-- Whole bodies: fields, and after them items up to the end.
 -- ISO/IEC 13818-1, 2.6, and ETSI EN 300 468, 6.2: the loops of descriptors go on to the end of the body.
 use Rattle.std.specs.Prelude.{ℕ, suc, zero, ◌&&◌, ◌||◌, List, [], ◌∷◌, ◌++◌, length, map, Bool, true, false, nat_lt, not, is_none, Option, Some, None, option_map}
 use Rattle.std.specs.List.{flat_map, list_all}
@@ -12,23 +12,23 @@ use Rattle.ts_fields.specs.Spelling.{spell_rows}
 use Rattle.ts_fields.specs.Fitting.{fits, fits_uncounted, shaped}
 use Rattle.ts_fields.specs.SoundRows.{rows_sound, are_exact, is_open, widths}
 
--- a page of the standard: the tag, the name, the rows, and where there are items their name and rows
+-- the page of a descriptor: its tag, its name, its rows, and where there are items their name and rows
 pub record Page : Type 0 where
   pub tag : ℕ
   pub name : List ℕ
   pub head : List Row
   pub items : Option (List ℕ × List Row)
 
--- what a body holds: the values of the rows, and of the rows of each item
+-- the values of a body: those of the rows, and those of the rows of each item
 pub record Holding : Type 0 where
   pub head : List Held
   pub items : List (List Held)
 
--- the item's name and rows, as a page has them
+-- the name and the rows of the items, as a page has them
 abbrev pub item_page : ItemLayout → List ℕ × List Row
 item_page i = (i.name.now, rows_of i.rows.now)
 
--- the page that a layout of the code is
+-- the page of a layout of the code
 abbrev pub page : Layout → Page
 page l = record {
   tag = l.tag;
@@ -37,15 +37,15 @@ page l = record {
   items = option_map item_page l.items;
 }
 
--- what an item of the code holds
+-- the values of an item of the code
 abbrev pub item_held : Item → List Held
 item_held i = map held i.values.items
 
--- what a body of the code holds
+-- the values of a body of the code
 abbrev pub body_held : Body → Holding
 body_held b = record { head = map held b.head.items; items = map item_held b.items.items }
 
--- items up to the end; there are no more of them than bits
+-- items up to the end; `most` is at least their number
 unfoldable pub read_items : ℕ → List Row → List Bool → Option (List (List Held))
 read_items most rows [] = Some []
 read_items zero rows (b ∷ bs) = None
@@ -54,13 +54,13 @@ read_items (suc most) rows (b ∷ bs) = do
   more ← read_items most rows x.1
   Some (x.0 ∷ more)
 
--- what stands behind the fields: items, or nothing
+-- what follows the fields: items, or nothing
 unfoldable pub read_behind : Option (List ℕ × List Row) → List Bool → Option (List (List Held))
 read_behind None [] = Some []
 read_behind None (b ∷ bs) = None
 read_behind (Some i) from = read_items (length from) i.1 from
 
--- what a body holds; none where it is not of this page
+-- the values of a body; none where it is not of this page
 unfoldable pub read_page : Page → List Bool → Option Holding
 read_page p from = do
   head ← read_rows p.head from
@@ -72,7 +72,7 @@ abbrev pub spell_items : Option (List ℕ × List Row) → List (List Held) → 
 spell_items None items = []
 spell_items (Some i) items = flat_map (spell_rows i.1) items
 
--- the bits of a body that holds this
+-- the bits of a body with these values
 unfoldable pub spell_page : Page → Holding → List Bool
 spell_page p h = spell_rows p.head h.head ++ spell_items p.items h.items
 
@@ -81,11 +81,11 @@ abbrev pub items_sound : Option (List ℕ × List Row) → Bool
 items_sound None = true
 items_sound (Some i) = rows_sound i.1 && not (is_open i.1) && nat_lt 0 (widths i.1)
 
--- a page that can be read and written: no items stand behind what goes to the end
+-- a page that can be read and written: no items follow what goes to the end
 abbrev pub page_sound : Page → Bool
 page_sound p = rows_sound p.head && items_sound p.items && (is_none p.items || not (is_open p.head))
 
--- no bits of a page are read as anything
+-- a page without reserved bits that are read as anything
 abbrev pub items_exact : Option (List ℕ × List Row) → Bool
 items_exact None = true
 items_exact (Some i) = are_exact i.1
@@ -93,7 +93,7 @@ items_exact (Some i) = are_exact i.1
 abbrev pub page_exact : Page → Bool
 page_exact p = are_exact p.head && items_exact p.items
 
--- what the fields of some items can hold
+-- values that the fields of items can hold
 abbrev pub all_fit : List Row → List (List Held) → Bool
 all_fit rs items = list_all (fits rs) items
 
@@ -102,11 +102,11 @@ items_fit None [] = true
 items_fit None (item ∷ items) = false
 items_fit (Some i) items = all_fit i.1 items
 
--- what a page's fields and items can hold
+-- values that the fields and the items of a page can hold
 abbrev pub page_fits : Page → Holding → Bool
 page_fits p h = fits p.head h.head && items_fit p.items h.items
 
--- the same, but for the length of a counted text
+-- the same, whatever the length of a counted text
 abbrev pub items_fit_uncounted : Option (List ℕ × List Row) → List (List Held) → Bool
 items_fit_uncounted None [] = true
 items_fit_uncounted None (item ∷ items) = false
@@ -115,7 +115,7 @@ items_fit_uncounted (Some i) items = list_all (fits_uncounted i.1) items
 abbrev pub page_fits_uncounted : Page → Holding → Bool
 page_fits_uncounted p h = fits_uncounted p.head h.head && items_fit_uncounted p.items h.items
 
--- numbers stand where numbers do in each item
+-- each item has numbers where its fields hold numbers
 abbrev pub all_shaped : List Row → List (List Held) → Bool
 all_shaped rs items = list_all (shaped rs) items
 
@@ -123,6 +123,6 @@ abbrev pub items_shaped : Option (List ℕ × List Row) → List (List Held) →
 items_shaped None items = true
 items_shaped (Some i) items = all_shaped i.1 items
 
--- numbers stand where numbers do, so the body is whole bytes
+-- the body has numbers where the fields hold numbers, so it is whole bytes
 abbrev pub page_shaped : Page → Holding → Bool
 page_shaped p h = shaped p.head h.head && items_shaped p.items h.items

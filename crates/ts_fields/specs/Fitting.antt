@@ -1,4 +1,4 @@
--- What fields can hold.
+-- The values that fields can hold.
 -- This project's own rule: a number is below its width's bound, a counted text has at most 255 bytes.
 use Rattle.std.specs.Prelude.{ℕ, ◌^◌, ◌&&◌, List, [], ◌∷◌, length, drop, slice_get, Bool, true, false, nat_eq, nat_lt, Option, Some, None}
 use Rattle.std.specs.List.{list_all}
@@ -43,13 +43,13 @@ field_fits CountedText value = bytes_fit value (λ b. nat_lt (length b) 256 && a
 field_fits Text value = bytes_fit value are_bytes
 field_fits Hex value = bytes_fit value are_bytes
 
--- values that the fields of these rows can hold, neither fewer nor more
+-- exactly one value that it can hold for each of these fields that is not reserved
 unfoldable pub fits : List Row → List Held → Bool
 fits [] [] = true
 fits [] (value ∷ values) = false
 fits (r ∷ rs) values = field_fits r.kind (slice_get values 0) && fits rs (drop (holds r.kind) values)
 
--- the same, but for the length of a counted text
+-- the same, whatever the length of a counted text
 abbrev pub field_fits_uncounted : Kind → Option Held → Bool
 field_fits_uncounted CountedText value = bytes_fit value are_bytes
 field_fits_uncounted kind value = field_fits kind value
@@ -64,7 +64,7 @@ fits_uncounted (r ∷ rs) values =
 abbrev pub is_number : Option Held → Bool
 is_number value = number_passes value (λ n. true)
 
--- a value of the sort that a field of this kind holds, whatever its size: numbers stand where numbers do
+-- a number, where a field of this kind holds a number, whatever its size
 abbrev pub field_shaped : Kind → Option Held → Bool
 field_shaped (Number count) value = is_number value
 field_shaped Flag value = is_number value
@@ -73,7 +73,7 @@ field_shaped Start value = is_number value
 field_shaped Duration value = is_number value
 field_shaped _ value = true
 
--- such values for the fields of these rows
+-- numbers where these fields hold numbers
 unfoldable pub shaped : List Row → List Held → Bool
 shaped [] values = true
 shaped (r ∷ rs) values = field_shaped r.kind (slice_get values 0) && shaped rs (drop (holds r.kind) values)

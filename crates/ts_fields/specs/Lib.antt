@@ -1,3 +1,4 @@
+-- The definitions of rows of fields: their values, and how they are read and written.
 pub mod Bits
 pub mod Layout
 pub mod Times

@@ -1,4 +1,4 @@
--- What fields read, one after another.
+-- Reading fields, one after another.
 -- ISO/IEC 13818-1, 2.6, and ETSI EN 300 468, 6.2: fields follow one another without a gap.
 use Rattle.std.specs.Prelude.{◌≡◌, ℕ, suc, zero, ◌+◌, ◌*◌, ◌/◌, ◌^◌, ◌&&◌, List, [], ◌∷◌, ◌++◌, length, take, drop, Bool, nat_eq, nat_le, if◌then◌else◌, Option, Some, None, option_to_list, Result, Ok, Err}
 use Rattle.std.specs.List.{list_all}
@@ -10,32 +10,32 @@ use Rattle.ts_fields.specs.Bits.{number_of}
 use Rattle.ts_fields.specs.Layout.{Row, Held, number, bytes}
 use Rattle.ts_fields.specs.Times.{is_start, is_time}
 
--- reading goes on with what was read; nothing read stays nothing
+-- reading goes on with what was read; where nothing was read, nothing is read after it
 infixl 10 ◌>>=◌
 abbrev pub ◌>>=◌ : {A B : Type 0} → Option A → (A → Option B) → Option B
 None >>= next = None
 (Some x) >>= next = next x
 
--- a call stopped because reading gives nothing; want of memory says nothing of what reading gives
+-- a call stopped because reading gives nothing; out of memory says nothing about what reading gives
 abbrev pub Fails : {Y : Type 0} → NotRead → Option Y → Type 0
 Fails stops.Outside read = read ≡ None
 Fails stops.NoMemory read = Unit {0}
 
--- what a call answered is what reading gives, but for want of memory
+-- the result of a call is what reading gives, unless memory runs out
 abbrev pub Gives : {X Y : Type 0} → (X → Y) → Result X NotRead → Option Y → Type 0
 Gives view (Ok x) read = read ≡ Some (view x)
 Gives view (Err stop) read = Fails stop read
 
--- a thing that was read, and the bits behind it
+-- a thing that was read, and the bits after it
 abbrev pub Front : Type 0 → Type 0
 Front X = Option (X × List Bool)
 
--- a whole number of so many bits
+-- an unsigned integer of this many bits
 unfoldable pub read_number : ℕ → List Bool → Front ℕ
 read_number count from =
     if nat_le count (length from) then Some (number_of (take count from), drop count from) else None
 
--- so many bytes
+-- this many bytes
 unfoldable pub read_bytes : ℕ → List Bool → Front (List ℕ)
 read_bytes zero from = Some ([], from)
 read_bytes (suc count) from = do
@@ -43,7 +43,7 @@ read_bytes (suc count) from = do
   more ← read_bytes count first.1
   Some (first.0 ∷ more.0, more.1)
 
--- a number of so many decimal digits of four bits each, highest first
+-- a number of this many decimal digits of four bits each, most significant first
 unfoldable pub read_decimal : ℕ → List Bool → Front ℕ
 read_decimal zero from = Some (0, from)
 read_decimal (suc digits) from = do
@@ -58,15 +58,15 @@ read_rest from = do
   all ← read_bytes (length from / 8) from
   if nat_eq (length all.1) 0 then Some (all.0, all.1) else None
 
--- a byte that ASCII prints, the space with them
+-- a byte of printable ASCII, which includes the space
 abbrev pub is_printable : ℕ → Bool
 is_printable byte = nat_le 0x20 byte && nat_le byte 0x7E
 
--- a row of such bytes
+-- bytes of printable ASCII
 abbrev pub are_printable : List ℕ → Bool
 are_printable row = list_all is_printable row
 
--- what a field holds, if it is not reserved, and the bits behind it
+-- the value of a field, if it is not reserved, and the bits after it
 unfoldable pub read_field : Kind → List Bool → Front (Option Held)
 read_field (Number count) from = do
   x ← read_number count from
@@ -103,7 +103,7 @@ read_field Hex from = do
   x ← read_rest from
   Some (Some (bytes x.0), x.1)
 
--- what the fields of some rows hold, in the order of the rows, and the bits behind them
+-- the values of the fields of some rows, in the order of the rows, and the bits after them
 unfoldable pub read_rows : List Row → List Bool → Front (List Held)
 read_rows [] from = Some ([], from)
 read_rows (r ∷ rs) from = do

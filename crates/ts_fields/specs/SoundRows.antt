@@ -1,5 +1,5 @@
 -- Rows that can be read and written.
--- This project's own rule: fields take whole bytes together, and what goes to the end stands last.
+-- This project's own rule: fields take whole bytes together, and a field that goes to the end is the last.
 use Rattle.std.specs.Prelude.{ℕ, ◌+◌, ◌*◌, ◌%◌, ◌&&◌, ◌||◌, List, [], ◌∷◌, Bool, true, false, nat_eq, nat_le, nat_lt, if◌then◌else◌}
 use Rattle.std.specs.List.{list_all}
 use Rattle.ts_fields.specs.declared.field.Kind.{Kind}
@@ -38,7 +38,7 @@ abbrev pub ends_last : List Row → Bool
 ends_last [] = true
 ends_last (r ∷ rs) = if goes_to_end r.kind then is_nil rs else ends_last rs
 
--- bits that are read as anything are not written as they were
+-- a field that is written as it was read; reserved bits that are read as anything are not
 abbrev pub is_exact : Kind → Bool
 is_exact (Free count) = false
 is_exact _ = true
@@ -46,7 +46,7 @@ is_exact _ = true
 abbrev pub are_exact : List Row → Bool
 are_exact rs = list_all (λ r. is_exact r.kind) rs
 
--- how many bits a field takes, but for the bytes of texts and data, which are whole bytes
+-- the number of bits of a field, without the bytes of texts and data, which are whole bytes
 abbrev pub width : Kind → ℕ
 width (Number count) = count
 width (Ones count) = count
@@ -57,11 +57,11 @@ width Start = 40
 width Duration = 24
 width _ = 0
 
--- how many bits the fields of some rows take so
+-- the number of bits of the fields of some rows, without the bytes of texts and data
 abbrev pub widths : List Row → ℕ
 widths [] = 0
 widths (r ∷ rs) = width r.kind + widths rs
 
--- rows that can be read and written: lawful widths, whole bytes, and what goes to the end stands last
+-- rows that can be read and written: valid widths, whole bytes, and a field that goes to the end is the last
 abbrev pub rows_sound : List Row → Bool
 rows_sound rs = are_sound rs && ends_last rs && nat_eq (widths rs % 8) 0

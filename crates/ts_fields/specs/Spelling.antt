@@ -1,4 +1,4 @@
--- How fields are spelled, one after another.
+-- Writing fields, one after another.
 -- ISO/IEC 13818-1, 2.6, and ETSI EN 300 468, 6.2: fields follow one another without a gap.
 -- This project's own rule: reserved bits are written as ones.
 use Rattle.std.specs.Prelude.{ℕ, suc, zero, ◌-◌, ◌/◌, ◌%◌, ◌^◌, List, [], ◌∷◌, ◌++◌, length, drop, slice_get, Bool, Option, Some, None}
@@ -7,24 +7,24 @@ use Rattle.ts_fields.specs.declared.field.Kind.TheVariants.{Number, Ones, Free, 
 use Rattle.ts_fields.specs.Bits.{bits, bits_of}
 use Rattle.ts_fields.specs.Layout.{Row, Held, number, bytes}
 
--- the last `digits` decimal digits of a number, four bits each, highest first
+-- the last `digits` decimal digits of a number, four bits each, most significant first
 unfoldable pub spell_decimal : ℕ → ℕ → List Bool
 spell_decimal zero value = []
 spell_decimal (suc digits) value = bits 4 (value / 10 ^ digits % 10) ++ spell_decimal digits value
 
--- the bits of a number, if it is one
+-- the bits of a value that is a number; none for another value
 abbrev pub on_number : Option Held → (ℕ → List Bool) → List Bool
 on_number None spell = []
 on_number (Some (number n)) spell = spell n
 on_number (Some (bytes b)) spell = []
 
--- the bits of some bytes, if they are some
+-- the bits of a value that is bytes; none for another value
 abbrev pub on_bytes : Option Held → (List ℕ → List Bool) → List Bool
 on_bytes None spell = []
 on_bytes (Some (number n)) spell = []
 on_bytes (Some (bytes b)) spell = spell b
 
--- the bits of a field that holds this
+-- the bits of a field with this value
 unfoldable pub spell_field : Kind → Option Held → List Bool
 spell_field (Number count) value = on_number value (bits count)
 spell_field (Ones count) value = bits count (2 ^ count - 1)
@@ -38,13 +38,13 @@ spell_field CountedText value = on_bytes value (λ b. bits 8 (length b) ++ bits_
 spell_field Text value = on_bytes value bits_of
 spell_field Hex value = on_bytes value bits_of
 
--- how many values a field holds: reserved bits hold none
+-- the number of values of a field: reserved bits hold none
 abbrev pub holds : Kind → ℕ
 holds (Ones count) = 0
 holds (Free count) = 0
 holds _ = 1
 
--- the bits of some rows that hold these values, in the order of the rows
+-- the bits of the fields of some rows with these values, in the order of the rows
 unfoldable pub spell_rows : List Row → List Held → List Bool
 spell_rows [] values = []
 spell_rows (r ∷ rs) values =

@@ -1,4 +1,4 @@
-//! Whole bodies.
+//! Reading and writing whole bodies, of descriptors or of other rows of fields.
 
 ghost use Rattle.std.specs.Prelude.{◌≡◌, ◌≤◌, [], ◌++◌, map, length, option_map, true, Some, IsTrue, OnOk, IfOk};
 ghost use Rattle.std.specs.List.{flat_map};
@@ -16,7 +16,7 @@ use crate::reader::{BitReader, NotRead, read_rows};
 use crate::writer::{BitWriter, write_rows};
 use std::alloc::{AllocError, Global};
 
-/// What a body holds by a page of the standard.
+/// Reads a body by its page. `Outside` exactly where the body is not of the page, unless memory runs out.
 #[tactic(auto, unfolding(crate::specs::Bodies::read_page))]
 pub fn read_body(alloc: Global, layout: &Layout, body: &[u8]) -> Result<Body, NotRead>
     requires short { length body.now ≤ 4096 }
@@ -29,7 +29,7 @@ pub fn read_body(alloc: Global, layout: &Layout, body: &[u8]) -> Result<Body, No
     Ok(Body { head, items })
 }
 
-/// What stands behind the fields: items, or nothing.
+/// Reads what follows the fields: items, or nothing.
 #[tactic(auto, unfolding(crate::specs::Bodies::read_behind))]
 fn read_behind<'a>(
     alloc: Global,
@@ -47,7 +47,7 @@ fn read_behind<'a>(
     }
 }
 
-/// Items up to the end.
+/// Reads items up to the end.
 fn read_items<'a>(alloc: Global, rows: &[Field], from: BitReader<'a>) -> Result<Vec<Item>, NotRead>
     requires { IsTrue (items_sound (Some ([], rows_of rows.now))) }
     ensures { Gives (λ v. map item_held v.items) result
@@ -63,7 +63,7 @@ fn read_items<'a>(alloc: Global, rows: &[Field], from: BitReader<'a>) -> Result<
     Ok(items)
 }
 
-/// The body that holds this.
+/// The bytes of a body with these values. An `AllocError` where memory runs out.
 pub fn write_body(alloc: Global, layout: &Layout, body: &Body) -> Result<Vec<u8>, AllocError>
     requires sound { IsTrue (page_sound (page layout.now)) }
     requires shaped { page_shaped (page layout.now) (body_held body.now) ≡ true }
@@ -75,7 +75,7 @@ pub fn write_body(alloc: Global, layout: &Layout, body: &Body) -> Result<Vec<u8>
     Ok(out.into_bytes())
 }
 
-/// Writes what stands behind the fields.
+/// Writes the items that follow the fields, where the page has items.
 fn write_behind(
     out: &mut BitWriter,
     layout: Option<ItemLayout>,

@@ -1,38 +1,37 @@
-//! Fields: one row of a table of the standard, and what such a field holds.
+//! Fields: one row of a table of the standard, and the value of such a field.
 
 ghost use Rattle.std.specs.Prelude.{◌≡◌, ◌≤◌};
 ghost use Rattle.ts_fields.specs.Spelling.{holds};
 
-/// How a field is written. Numbers have their highest bit first (ISO/IEC 13818-1, 2.2.6).
+/// How a field is coded. Numbers have their most significant bit first (ISO/IEC 13818-1, 2.2.6).
 #[derive(Clone, Copy, PartialEq, Eq)]
 pub enum Kind {
-    /// A whole number of so many bits, at most 63.
+    /// An unsigned integer of this many bits, at most 63.
     Number(u32),
-    /// So many reserved bits, at most 63, which must be ones.
+    /// This many reserved bits, at most 63. They must be ones.
     Ones(u32),
-    /// So many reserved bits, at most 63, which are read as anything and written as ones.
+    /// This many reserved bits, at most 63. Any bits are read; ones are written.
     Free(u32),
-    /// One bit, which JSON shows as a truth value.
+    /// One bit, which JSON shows as `true` or `false`.
     Flag,
-    /// A number of so many decimal digits, at most eight, of four bits each.
+    /// A number of this many decimal digits, at most eight, of four bits each.
     Decimal(u32),
-    /// A start of an event: 16 bits of a day and six decimal digits hhmmss, or 40 ones
-    /// (ETSI EN 300 468, 5.2.4).
+    /// The start of an event: 16 bits of a day and six decimal digits hhmmss, or 40 ones (ETSI EN 300 468, 5.2.4).
     Start,
-    /// A duration of an event: six decimal digits hhmmss (ETSI EN 300 468, 5.2.4).
+    /// The duration of an event: six decimal digits hhmmss (ETSI EN 300 468, 5.2.4).
     Duration,
-    /// A language or a country: three bytes, each in 0x20 to 0x7E.
+    /// A code of a language or a country: three bytes, each 0x20 to 0x7E.
     Language,
-    /// A length of 8 bits, and so many bytes of text.
+    /// A length of 8 bits, and this many bytes of text.
     CountedText,
-    /// A text of whole bytes up to the end.
+    /// A text of whole bytes up to the end of the body.
     Text,
-    /// Whole bytes up to the end.
+    /// Whole bytes up to the end of the body.
     Hex,
 }
 
 impl Kind {
-    /// How many values a field of this kind holds: 1, and 0 for reserved bits.
+    /// The number of values of a field of this kind: 0 for reserved bits, else 1.
     pub fn holds(self) -> usize
         ensures value { result ≡ holds self }
         ensures few { result ≤ 1 }
@@ -49,19 +48,19 @@ impl Kind {
 pub struct Field {
     /// The standard's name of the field; empty for reserved bits.
     pub name: &'static str,
-    /// How the field is written.
+    /// How the field is coded.
     pub kind: Kind,
-    /// The number that an absent attribute of JSON stands for; none where it has to be there.
+    /// The number that an absent JSON attribute stands for; `None` where the attribute is required.
     pub absent: Option<u64>,
-    /// The least and the most number in JSON, or number of bytes of data, where the width does not say it.
+    /// The least and the greatest number in JSON, or number of bytes of data; `None` where the width alone decides.
     pub range: Option<(u64, u64)>,
 }
 
-/// What a field holds.
+/// The value of a field.
 #[derive(Drop)]
 pub enum FieldValue {
-    /// The number of a number, a flag, decimal digits, a start (40 bits) or a duration (24 bits).
+    /// A number, a flag, decimal digits as a number, a start (40 bits) or a duration (24 bits).
     Number(u64),
-    /// The bytes of a language, of a text or of data.
+    /// The bytes of a language or country code, of a text or of data.
     Bytes(Vec<u8>),
 }

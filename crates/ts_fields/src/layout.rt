@@ -1,40 +1,40 @@
-//! Layouts: the table of a descriptor's body, or of another row of fields, in the standard's order.
+//! Layouts: the table of a descriptor's body, or of another row of fields, in the order of the standard.
 
 use crate::field::{Field, FieldValue};
 
-/// The rows of each item.
+/// The fields of each item of a page.
 #[derive(Clone, Copy)]
 pub struct ItemLayout {
-    /// The item's name.
+    /// The name of the item.
     pub name: &'static str,
-    /// Its rows, in their order.
+    /// Its fields, in their order.
     pub rows: &'static [Field],
 }
 
-/// A page of the standard.
+/// The page of a descriptor: its table in the standard.
 #[derive(Clone, Copy)]
 pub struct Layout {
-    /// The descriptor's tag.
+    /// The descriptor_tag.
     pub tag: u8,
-    /// The descriptor's name.
+    /// The name of the descriptor.
     pub name: &'static str,
-    /// The rows that stand first, in their order.
+    /// The fields before the items, in their order.
     pub head: &'static [Field],
-    /// The items behind them, up to the end; none where nothing stands behind them.
+    /// The items after these fields, up to the end of the body; `None` where nothing follows the fields.
     pub items: Option<ItemLayout>,
 }
 
-/// What the fields of one item hold.
+/// The values of one item.
 #[derive(Drop)]
 pub struct Item {
-    /// In the order of the rows, reserved bits left out.
+    /// In the order of the fields, without reserved bits.
     pub values: Vec<FieldValue>,
 }
 
-/// What a body holds.
+/// The values of a body.
 #[derive(Drop)]
 pub struct Body {
-    /// What the rows that stand first hold, in their order, reserved bits left out.
+    /// The values of the fields before the items, in their order, without reserved bits.
     pub head: Vec<FieldValue>,
     /// The items, in their order.
     pub items: Vec<Item>,

@@ -1,5 +1,5 @@
-//! Layouts, the standard's tables row by row, come in with bytes or with values; values or bytes go out.
-//! The layer above rests on `read_body` and `write_body`, which agree with one grammar (`specs/Bodies.antt`).
+//! Reads and writes bytes by layouts, the tables of the standard row by row. Bytes or values come in; values or bytes
+//! go out. The layer above rests on `read_body` and `write_body`, which agree with one grammar (`specs/Bodies.antt`).
 #![tactic(auto)]
 
 mod bits_laws;

@@ -1,4 +1,4 @@
-//! Reading fields one after another.
+//! A reader of bits, which reads fields one after another.
 
 ghost use Rattle.std.specs.Prelude.{◌≡◌, ◌<◌, ◌≤◌, ◌++◌, map, length, option_map, option_to_list, IsTrue, OnOk};
 ghost use Rattle.ts_fields.specs.Bits.{bits_of};
@@ -18,9 +18,9 @@ use ts_bits::bits;
 /// Why nothing was read.
 #[derive(Debug, Clone, Copy, PartialEq, Eq)]
 pub enum NotRead {
-    /// The bytes are outside the grammar.
+    /// The bits are not of the kind that is read.
     Outside,
-    /// There is no memory for what they hold.
+    /// Out of memory for the values.
     NoMemory,
 }
 
@@ -40,7 +40,7 @@ impl<T: Drop> From<AllocFailed<T>> for NotRead {
     }
 }
 
-/// The bits of a row that are still to be read.
+/// The bits that are still to be read.
 #[derive(Drop)]
 pub struct BitReader<'a> {
     row: &'a [u8],
@@ -59,7 +59,7 @@ impl<'a> Model for BitReader<'a> {
 }
 
 impl<'a> BitReader<'a> {
-    /// All bits of a row.
+    /// All bits of at most 4096 bytes.
     pub fn of(row: &'a [u8]) -> BitReader<'a>
         requires { length row.now ≤ 4096 }
         ensures { result ≡ bits_of row.now }
@@ -67,7 +67,7 @@ impl<'a> BitReader<'a> {
         BitReader { row, at: 0 }
     }
 
-    /// How many bits are left.
+    /// The number of bits left, at most 32768.
     #[tactic(auto, using(crate::proofs::BitLemmas::left))]
     pub fn len(&self) -> usize
         ensures left { result ≡ length self.now }
@@ -76,7 +76,8 @@ impl<'a> BitReader<'a> {
         8 * self.row.len() - self.at
     }
 
-    /// A whole number of `count` bits.
+    /// Reads an unsigned integer of `count` bits, and returns it with the reader after it; `None` where fewer bits
+    /// are left.
     #[tactic(auto, using(crate::proofs::ReadLemmas::read_there, crate::proofs::ReadLemmas::read_none), unfolding(crate::specs::Reading::read_number))]
     pub fn number(self, count: u32) -> Option<(u64, BitReader<'a>)>
         requires { count ≤ 64 }
@@ -90,7 +91,7 @@ impl<'a> BitReader<'a> {
         Some((number, rest))
     }
 
-    /// So many bytes.
+    /// Reads `count` bytes. `Outside` exactly where fewer are left, unless memory runs out.
     pub fn bytes(self, alloc: Global, count: usize) -> Result<(Vec<u8>, BitReader<'a>), NotRead>
         ensures { Gives (λ x. (x.0.items, x.1)) result (read_bytes count self.entry) }
     {
@@ -106,7 +107,8 @@ impl<'a> BitReader<'a> {
         Ok((bytes, rest))
     }
 
-    /// A number of so many decimal digits.
+    /// Reads a number of `digits` decimal digits of four bits each; `None` where fewer bits are left or one is above
+    /// 9.
     pub fn decimal(self, digits: u32) -> Option<(u64, BitReader<'a>)>
         requires { digits ≤ 8 }
         ensures { option_map (λ x. (x.0, x.1)) result ≡ read_decimal digits self.entry }
@@ -124,7 +126,7 @@ impl<'a> BitReader<'a> {
         Some((number, rest))
     }
 
-    /// Whole bytes up to the end.
+    /// Reads whole bytes up to the end. `Outside` exactly where the bits are not whole bytes, unless memory runs out.
     #[tactic(auto, unfolding(crate::specs::Reading::read_rest))]
     pub fn to_end(self, alloc: Global) -> Result<(Vec<u8>, BitReader<'a>), NotRead>
         ensures { Gives (λ x. (x.0.items, x.1)) result (read_rest self.entry) }
@@ -138,8 +140,8 @@ impl<'a> BitReader<'a> {
     }
 }
 
-/// Reads one field: what it holds, if it is not reserved, and the bits behind it. `Outside` exactly where the
-/// bits are not of its kind.
+/// Reads one field: its value, if it is not reserved, and the bits after it. `Outside` exactly where the bits are not
+/// of its kind, unless memory runs out.
 #[tactic(auto, unfolding(crate::specs::Reading::read_field))]
 pub fn read_field<'a>(
     alloc: Global,
@@ -182,7 +184,7 @@ pub fn read_field<'a>(
     }
 }
 
-/// Reserved bits that must be ones.
+/// Reads reserved bits that must be ones.
 #[tactic(auto, unfolding(crate::specs::Reading::read_field))]
 fn read_ones<'a>(
     count: u32,
@@ -198,7 +200,7 @@ fn read_ones<'a>(
     Ok((None, rest))
 }
 
-/// A start of an event.
+/// Reads the start of an event.
 #[tactic(auto, unfolding(crate::specs::Reading::read_field))]
 fn read_start<'a>(from: BitReader<'a>) -> Result<(Option<FieldValue>, BitReader<'a>), NotRead>
     ensures { Gives (λ x. (option_map held x.0, x.1)) result (read_field Start from.entry) }
@@ -210,7 +212,7 @@ fn read_start<'a>(from: BitReader<'a>) -> Result<(Option<FieldValue>, BitReader<
     Ok((Some(FieldValue::Number(number)), rest))
 }
 
-/// A duration of an event.
+/// Reads the duration of an event.
 #[tactic(auto, unfolding(crate::specs::Reading::read_field))]
 fn read_duration<'a>(from: BitReader<'a>) -> Result<(Option<FieldValue>, BitReader<'a>), NotRead>
     ensures { Gives (λ x. (option_map held x.0, x.1)) result (read_field Duration from.entry) }
@@ -222,7 +224,7 @@ fn read_duration<'a>(from: BitReader<'a>) -> Result<(Option<FieldValue>, BitRead
     Ok((Some(FieldValue::Number(number)), rest))
 }
 
-/// A language or a country.
+/// Reads a code of a language or a country.
 #[tactic(auto, unfolding(crate::specs::Reading::read_field))]
 fn read_language<'a>(
     alloc: Global,
@@ -237,7 +239,7 @@ fn read_language<'a>(
     Ok((Some(FieldValue::Bytes(bytes)), rest))
 }
 
-/// Reads the fields of some rows in their order: what they hold, and the bits behind them.
+/// Reads fields in their order: their values, and the bits after them.
 pub fn read_rows<'a>(
     alloc: Global,
     rows: &[Field],
@@ -256,7 +258,7 @@ pub fn read_rows<'a>(
     Ok((values, rest))
 }
 
-/// Adds what a field holds, if it is not reserved.
+/// Appends the value of a field, if it is not reserved.
 fn add(
     values: &mut Vec<FieldValue>,
     value: Option<FieldValue>,

@@ -1,4 +1,4 @@
-//! Texts as bytes, and bytes as texts.
+//! Texts of descriptors as bytes, and bytes as texts.
 
 ghost use Rattle.std.specs.Prelude.{◌≡◌, List, ℕ, true, Some, None, if◌then◌else◌, option_map, IfOk};
 ghost use Rattle.std.specs.Str.{is_utf8};
@@ -8,18 +8,18 @@ ghost use Rattle.ts_fields.specs.Texts;
 use std::alloc::{AllocError, Global};
 use std::str;
 
-/// Before a text in UTF-8 (ETSI EN 300 468, A.2).
+/// The byte that marks a text as UTF-8 (ETSI EN 300 468, A.2).
 const MARK: u8 = 0x15;
 
-/// Whether each byte is one that ASCII prints, 0x20 to 0x7E.
+/// Whether each byte is printable ASCII, 0x20 to 0x7E.
 pub fn are_printable(bytes: &[u8]) -> bool
     ensures { result ≡ Reading.are_printable bytes.now }
 {
     bytes.iter().all(|byte| 0x20 <= *byte && *byte <= 0x7E)
 }
 
-/// The text that bytes are: printable ASCII, or UTF-8 with any other character behind a byte 0x15. None
-/// for all other bytes. Takes no memory.
+/// The text of bytes: printable ASCII, or after a byte 0x15 UTF-8 that has any other character. `None` for all other
+/// bytes. It allocates nothing.
 pub fn text_of(bytes: &[u8]) -> Option<&str>
     ensures { option_map (λ text. text.now) result ≡ Texts.text_of bytes.now }
 {
@@ -32,7 +32,7 @@ pub fn text_of(bytes: &[u8]) -> Option<&str>
     }
 }
 
-/// The text behind a mark, if it is UTF-8 and not printable ASCII alone.
+/// The text after the mark, if it is UTF-8 and not printable ASCII alone.
 fn marked_text(bytes: &[u8]) -> Option<&str>
     ensures { option_map (λ text. text.now) result ≡ Texts.marked_text bytes.now }
 {
@@ -58,7 +58,7 @@ fn utf8_of(bytes: &[u8]) -> Option<&str>
     }
 }
 
-/// The bytes of a text.
+/// The bytes of a text, with the mark where it is not printable ASCII alone.
 pub fn text_bytes(alloc: Global, text: &str) -> Result<Vec<u8>, AllocError>
     ensures { IfOk result (λ v. v.items ≡ Texts.text_bytes text.now) }
 {
@@ -70,7 +70,7 @@ pub fn text_bytes(alloc: Global, text: &str) -> Result<Vec<u8>, AllocError>
     Ok(bytes)
 }
 
-/// Law, with nothing to run: texts and their bytes determine each other.
+/// A text and its bytes determine each other. A law; it runs nothing.
 pub fn texts_tell_bytes()
     ensures written { (row text : List ℕ) → Texts.text_of row ≡ Some text → Texts.text_bytes text ≡ row }
     ensures read { (text : List ℕ) → is_utf8 text ≡ true → Texts.text_of (Texts.text_bytes text) ≡ Some text }

@@ -3,7 +3,7 @@
 ghost use Rattle.std.specs.Prelude.{◌≡◌};
 ghost use Rattle.ts_fields.specs.Times;
 
-/// Whether a byte has two decimal digits, the higher one first, that make at most `most`.
+/// Whether a byte has two decimal digits, the higher one first, of a number of at most `most`.
 #[tactic(auto, unfolding(crate::specs::Times::is_pair))]
 fn is_pair(most: u64, byte: u64) -> bool
     ensures { result ≡ Times.is_pair most byte }
@@ -11,8 +11,8 @@ fn is_pair(most: u64, byte: u64) -> bool
     byte / 16 <= 9 && (byte % 16 <= 9 && byte / 16 * 10 + byte % 16 <= most)
 }
 
-/// Whether a number has six decimal digits hhmmss of four bits each and no bit above them: the hours
-/// are at most `hours`, minutes and seconds at most 59.
+/// Whether a number has six decimal digits hhmmss of four bits each and no bit above them, with at most `hours` hours
+/// and at most 59 minutes and seconds.
 #[tactic(auto, unfolding(crate::specs::Times::is_time))]
 pub fn is_time(hours: u64, number: u64) -> bool
     ensures { result ≡ Times.is_time hours number }
@@ -20,7 +20,7 @@ pub fn is_time(hours: u64, number: u64) -> bool
     is_pair(hours, number / 65536) && (is_pair(59, number / 256 % 256) && is_pair(59, number % 256))
 }
 
-/// Whether the 40 bits of a start are a day and a time of it, or all ones, which says undefined.
+/// Whether 40 bits are a day and a time of day, or all ones, which means undefined.
 #[tactic(auto, unfolding(crate::specs::Times::is_start))]
 pub fn is_start(number: u64) -> bool
     ensures { result ≡ Times.is_start number }

@@ -1,4 +1,4 @@
-//! Writing fields one after another.
+//! A writer of bits, which writes fields one after another.
 
 ghost use Rattle.std.specs.Prelude.{◌≡◌, ◌≤◌, [], ◌∷◌, ◌++◌, ◌+◌, ◌*◌, ◌^◌, ◌<◌, ◌%◌, map, length, slice_get, option_map, OnOk, IfOk, IsTrue};
 ghost use Rattle.ts_fields.specs.Bits.{bits, bits_of};
@@ -11,7 +11,7 @@ use crate::field::{Field, FieldValue, Kind};
 use std::alloc::{AllocError, Global};
 use std::marker::Model;
 
-/// Bits that were written so far.
+/// The bits that were written so far.
 #[derive(Drop)]
 pub struct BitWriter {
     whole: Vec<u8>,
@@ -31,7 +31,7 @@ impl Model for BitWriter {
 }
 
 impl BitWriter {
-    /// No bits.
+    /// A writer without bits.
     #[tactic(auto, unfolding(crate::specs::Bits::bits))]
     pub fn new(alloc: Global) -> BitWriter
         ensures { result ≡ [] }
@@ -43,7 +43,7 @@ impl BitWriter {
         }
     }
 
-    /// One bit more.
+    /// Appends one bit.
     fn put_bit(&mut self, bit: bool) -> Result<(), AllocError>
         ensures { OnOk result (self.new ≡ self.old ++ bit ∷ []) }
     {
@@ -59,7 +59,7 @@ impl BitWriter {
         Ok(())
     }
 
-    /// The last `count` bits of a number, highest first.
+    /// Appends the last `count` bits of a number, most significant first.
     pub fn put(&mut self, count: u32, value: u64) -> Result<(), AllocError>
         requires { count ≤ 64 }
         ensures { OnOk result (self.new ≡ self.old ++ bits count value) }
@@ -70,7 +70,7 @@ impl BitWriter {
         Ok(())
     }
 
-    /// Bytes.
+    /// Appends bytes.
     pub fn put_bytes(&mut self, bytes: &[u8]) -> Result<(), AllocError>
         ensures { OnOk result (self.new ≡ self.old ++ bits_of bytes.now) }
     {
@@ -80,7 +80,7 @@ impl BitWriter {
         Ok(())
     }
 
-    /// The last `digits` decimal digits of a number, highest first.
+    /// Appends the last `digits` decimal digits of a number, four bits each, most significant first.
     pub fn put_decimal(&mut self, digits: u32, value: u64) -> Result<(), AllocError>
         requires { digits ≤ 8 }
         ensures { OnOk result (self.new ≡ self.old ++ spell_decimal digits value) }
@@ -92,7 +92,7 @@ impl BitWriter {
         Ok(())
     }
 
-    /// The bits of a field that holds this.
+    /// Appends the bits of a field with this value; reserved bits are ones.
     #[tactic(auto, unfolding(crate::specs::Spelling::spell_field))]
     pub fn field(&mut self, kind: Kind, value: Option<&FieldValue>) -> Result<(), AllocError>
         requires { IsTrue (is_sound kind) }
@@ -119,7 +119,7 @@ impl BitWriter {
         }
     }
 
-    /// The whole bytes.
+    /// The bytes, where the bits are whole bytes.
     pub fn into_bytes(self) -> Vec<u8>
         requires { length self % 8 ≡ 0 }
         ensures { bits_of result.items ≡ self }
@@ -128,7 +128,7 @@ impl BitWriter {
     }
 }
 
-/// Writes the fields of some rows, which hold these values, in their order.
+/// Appends the bits of fields with these values, in their order.
 pub fn write_rows(
     out: &mut BitWriter,
     rows: &[Field],
@@ -145,7 +145,7 @@ pub fn write_rows(
     Ok(())
 }
 
-/// The value at a place; none past the end.
+/// The value at an index; `None` past the end.
 fn value_at(values: &[FieldValue], place: usize) -> Option<&FieldValue>
     ensures { option_map (λ v. v.now) result ≡ slice_get values.now place }
 {

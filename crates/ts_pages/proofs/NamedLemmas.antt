@@ -38,7 +38,7 @@ other_page name tags i p within some not =
     rw (add-one, drop-cons tags i 0)
     (other_at page_of (λ p. bytes_eq name p.name) (get_or tags i 0) (drop (suc i) tags) p (sym some) not)
 
--- the page of the name is what is looked for
+-- the page of the name is the one to be found
 pub meant_page : (name tags : List ℕ) (i : ℕ) (p : Page) → i < length tags → Some p ≡ page_of (get_or tags i 0)
     → bytes_eq name p.name ≡ true → Some p ≡ first_named name (drop i tags)
 unfolding first_named

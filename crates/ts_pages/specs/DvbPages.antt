@@ -32,7 +32,7 @@ service = of_fields 0x48 (codes "service_descriptor") (
     ∷ field (codes "service_name") CountedText
     ∷ [])
 
--- 6.2.37: the name of an event and a short text on it
+-- 6.2.37: the name of an event and a short text about it
 abbrev pub short_event : Page
 short_event = of_fields 0x4D (codes "short_event_descriptor") (
     field (codes "language_code") Language
@@ -40,7 +40,7 @@ short_event = of_fields 0x4D (codes "short_event_descriptor") (
     ∷ field (codes "text") CountedText
     ∷ [])
 
--- 6.2.8: what a component is
+-- 6.2.8: the kind, the tag, the language and a text of a component
 abbrev pub component : Page
 component = of_fields 0x50 (codes "component_descriptor") (
     field (codes "stream_content_ext") (Number 4)
@@ -51,7 +51,7 @@ component = of_fields 0x50 (codes "component_descriptor") (
     ∷ field (codes "text") Text
     ∷ [])
 
--- 6.2.39: the tag by which a component is named elsewhere
+-- 6.2.39: the tag by which other descriptors refer to a component
 abbrev pub stream_identifier : Page
 stream_identifier = of_fields 0x52 (codes "stream_identifier_descriptor") (
     field (codes "component_tag") (Number 8)
@@ -71,14 +71,14 @@ content = of_items 0x54 (codes "content_descriptor") (codes "classification") (
     ∷ field (codes "user_byte") (Number 8)
     ∷ [])
 
--- 6.2.28: the least ages for an event, country by country
+-- 6.2.28: the minimum ages for an event, one for each country
 abbrev pub parental_rating : Page
 parental_rating = of_items 0x55 (codes "parental_rating_descriptor") (codes "country") (
     field (codes "country_code") Language
     ∷ field (codes "rating") (Number 8)
     ∷ [])
 
--- 6.2.43: the Teletext pages of a component, language by language
+-- 6.2.43: the Teletext pages of a component, each with its language
 abbrev pub teletext : Page
 teletext = of_items 0x56 (codes "teletext_descriptor") (codes "teletext") (
     field (codes "language_code") Language
@@ -87,7 +87,7 @@ teletext = of_items 0x56 (codes "teletext_descriptor") (codes "teletext") (
     ∷ field (codes "teletext_page_number") (Number 8)
     ∷ [])
 
--- 6.2.41: the subtitles of a component, language by language
+-- 6.2.41: the subtitles of a component, each with its language
 abbrev pub subtitling : Page
 subtitling = of_items 0x59 (codes "subtitling_descriptor") (codes "subtitling") (
     field (codes "language_code") Language
@@ -96,7 +96,7 @@ subtitling = of_items 0x59 (codes "subtitling_descriptor") (codes "subtitling") 
     ∷ field (codes "ancillary_page_id") (Number 16)
     ∷ [])
 
--- 6.2.31: whose private descriptors follow
+-- 6.2.31: the organisation that defines the private descriptors that follow
 abbrev pub private_data_specifier : Page
 private_data_specifier = of_fields 0x5F (codes "private_data_specifier_descriptor") (
     field (codes "private_data_specifier") (Number 32)

@@ -1,4 +1,4 @@
--- The words that pages are written with.
+-- The functions by which pages are written.
 -- This project's own rule: a page has a tag, a name and rows; each row is a name and a kind of field.
 use Rattle.std.specs.Prelude.{ℕ, List, [], Some, None}
 use Rattle.ts_fields.specs.declared.field.Kind.{Kind}
@@ -6,11 +6,11 @@ use Rattle.ts_fields.specs.declared.field.Kind.TheVariants.{Ones}
 use Rattle.ts_fields.specs.Layout.{Row}
 use Rattle.ts_fields.specs.Bodies.{Page}
 
--- a field that JSON must have, with any number of its width
+-- a field that JSON requires, with any number of its width
 abbrev pub field : List ℕ → Kind → Row
 field called kind = record { name = called; kind = kind; absent = None; range = None }
 
--- so many reserved bits, which must be ones
+-- this many reserved bits, which must be ones
 abbrev pub reserved : ℕ → Row
 reserved count = field [] (Ones count)
 

@@ -1,5 +1,5 @@
 -- The pages of all descriptors that have one here.
--- ISO/IEC 13818-1, 2.6, and ETSI EN 300 468, 6.2. Every other tag is without a page.
+-- ISO/IEC 13818-1, 2.6, and ETSI EN 300 468, 6.2. All other tags have no page.
 use Rattle.std.specs.Prelude.{ℕ, List, [], ◌∷◌, nat_eq, bytes_eq, Option}
 use Rattle.std.specs.List.{find}
 use Rattle.ts_fields.specs.Bodies.{Page}
@@ -33,10 +33,10 @@ pages =
     ∷ private_data_specifier
     ∷ []
 
--- the page of a tag
+-- the page of a tag; none where it has none
 abbrev pub page_of : ℕ → Option Page
 page_of tag = find (λ p. nat_eq tag p.tag) pages
 
--- the page of a name
+-- the page of a name; none where it has none
 abbrev pub page_named : List ℕ → Option Page
 page_named name = find (λ p. bytes_eq name p.name) pages

@@ -1,5 +1,5 @@
-//! Pages of the descriptors of networks, services, events and components (ETSI EN 300 468, 6.2), in
-//! the order of their tags.
+//! Pages of the descriptors of networks, services, events and components (ETSI EN 300 468, 6.2), in the order of
+//! their tags.
 
 use ts_fields::{Field, ItemLayout, Kind, Layout};
 
@@ -49,7 +49,7 @@ pub static SERVICE: Layout = Layout {
     items: None,
 };
 
-/// The name of an event and a short text on it (ETSI EN 300 468, 6.2.37).
+/// The name of an event and a short text about it (ETSI EN 300 468, 6.2.37).
 pub static SHORT_EVENT: Layout = Layout {
     tag: 0x4D,
     name: "short_event_descriptor",
@@ -61,7 +61,7 @@ pub static SHORT_EVENT: Layout = Layout {
     items: None,
 };
 
-/// What a component is (ETSI EN 300 468, 6.2.8).
+/// The kind, the tag, the language and a text of a component (ETSI EN 300 468, 6.2.8).
 pub static COMPONENT: Layout = Layout {
     tag: 0x50,
     name: "component_descriptor",
@@ -76,7 +76,7 @@ pub static COMPONENT: Layout = Layout {
     items: None,
 };
 
-/// The tag by which a component is named elsewhere (ETSI EN 300 468, 6.2.39).
+/// The tag by which other descriptors refer to a component (ETSI EN 300 468, 6.2.39).
 pub static STREAM_IDENTIFIER: Layout = Layout {
     tag: 0x52,
     name: "stream_identifier_descriptor",
@@ -114,7 +114,7 @@ pub static CONTENT: Layout = Layout {
     }),
 };
 
-/// The least ages for an event, country by country (ETSI EN 300 468, 6.2.28).
+/// The minimum ages for an event, one for each country (ETSI EN 300 468, 6.2.28).
 pub static PARENTAL_RATING: Layout = Layout {
     tag: 0x55,
     name: "parental_rating_descriptor",
@@ -128,7 +128,7 @@ pub static PARENTAL_RATING: Layout = Layout {
     }),
 };
 
-/// The Teletext pages of a component, language by language (ETSI EN 300 468, 6.2.43).
+/// The Teletext pages of a component, each with its language (ETSI EN 300 468, 6.2.43).
 pub static TELETEXT: Layout = Layout {
     tag: 0x56,
     name: "teletext_descriptor",
@@ -144,7 +144,7 @@ pub static TELETEXT: Layout = Layout {
     }),
 };
 
-/// The subtitles of a component, language by language (ETSI EN 300 468, 6.2.41).
+/// The subtitles of a component, each with its language (ETSI EN 300 468, 6.2.41).
 pub static SUBTITLING: Layout = Layout {
     tag: 0x59,
     name: "subtitling_descriptor",
@@ -160,7 +160,7 @@ pub static SUBTITLING: Layout = Layout {
     }),
 };
 
-/// Whose private descriptors follow (ETSI EN 300 468, 6.2.31).
+/// The organisation that defines the private descriptors that follow (ETSI EN 300 468, 6.2.31).
 pub static PRIVATE_DATA_SPECIFIER: Layout = Layout {
     tag: 0x5F,
     name: "private_data_specifier_descriptor",

@@ -1,5 +1,5 @@
-//! Tags and names of descriptors come in; their pages of the standard go out, one row a field.
-//! The layer above rests on `layout_of` and `layout_named`, which are the pages of `specs/Pages.antt`.
+//! The pages of descriptors in the standard, one row a field. A tag or a name comes in; the page goes out. The layer
+//! above rests on `layout_of` and `layout_named`, which are the pages of `specs/Pages.antt`.
 #![tactic(auto)]
 
 /// The rows of a page, each a name and a kind of field: `"name" Kind;` or `"name" Kind(count);`.

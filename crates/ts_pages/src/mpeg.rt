@@ -2,7 +2,7 @@
 
 use ts_fields::{Field, ItemLayout, Kind, Layout};
 
-/// Who gives the private data of a program or component their meaning (ISO/IEC 13818-1, 2.6.8).
+/// The organisation that defines the private data of a program or component (ISO/IEC 13818-1, 2.6.8).
 pub static REGISTRATION: Layout = Layout {
     tag: 0x05,
     name: "registration_descriptor",
@@ -13,7 +13,7 @@ pub static REGISTRATION: Layout = Layout {
     items: None,
 };
 
-/// Which units of a stream begin its packets (ISO/IEC 13818-1, 2.6.10).
+/// The kind of unit with which the aligned PES packets of a stream begin (ISO/IEC 13818-1, 2.6.10).
 pub static DATA_STREAM_ALIGNMENT: Layout = Layout {
     tag: 0x06,
     name: "data_stream_alignment_descriptor",
@@ -23,7 +23,7 @@ pub static DATA_STREAM_ALIGNMENT: Layout = Layout {
     items: None,
 };
 
-/// The PID of the messages of a conditional access system (ISO/IEC 13818-1, 2.6.16).
+/// The PID of the ECMs or the EMMs of a conditional access system (ISO/IEC 13818-1, 2.6.16).
 pub static CA: Layout = Layout {
     tag: 0x09,
     name: "CA_descriptor",
@@ -50,7 +50,7 @@ pub static LANGUAGE: Layout = Layout {
     }),
 };
 
-/// The most bits of a component, in units of 50 bytes a second (ISO/IEC 13818-1, 2.6.26).
+/// The maximum bit rate of a component, in units of 50 bytes per second (ISO/IEC 13818-1, 2.6.26).
 pub static MAXIMUM_BITRATE: Layout = Layout {
     tag: 0x0E,
     name: "maximum_bitrate_descriptor",

@@ -13,7 +13,7 @@ static TAGS: [u8; 21] = [
     0x55, 0x56, 0x59, 0x5A, 0x5F,
 ];
 
-/// The page of a descriptor's tag; none for a tag that has no page here.
+/// The page of a descriptor_tag; `None` for a tag without a page here.
 pub fn layout_of(tag: u8) -> Option<&'static Layout>
     ensures page { option_map (λ l. page l.now) result ≡ page_of tag }
     ensures sound { IfSome result (λ l. IsTrue (page_sound (page l.now))) }
@@ -45,7 +45,7 @@ pub fn layout_of(tag: u8) -> Option<&'static Layout>
     }
 }
 
-/// The page of a descriptor's name; none for a name that has no page here.
+/// The page of the name of a descriptor; `None` for a name without a page here.
 pub fn layout_named(name: &str) -> Option<&'static Layout>
     ensures page { option_map (λ l. page l.now) result ≡ page_named name.now }
     ensures sound { IfSome result (λ l. IsTrue (page_sound (page l.now))) }
