@@ -1,4 +1,4 @@
--- What an EIT holds fits its layout.
+-- An EIT fits its layout.
 use Rattle.std.proofs.Common.{◌≡◌, ℕ, ◌<◌, ◌≤◌, true, false, map, ap, arith}
 use Rattle.std.specs.Prelude.{◌||◌, is_some, nat_le, nat_lt}
 use Rattle.std.specs.List.{list_all}

@@ -23,7 +23,7 @@ unfolding is_pair
 pair_is most byte high low small =
     and_from (nat_le (byte / 16) 9) _ (le-leb (byte / 16) 9 high) (and_from (nat_le (byte % 16) 9) _ (le-leb (byte % 16) 9 low) (le-leb (byte / 16 * 10 + byte % 16) most small))
 
--- a pair that is read is written so
+-- a pair that is read is written as it was
 pub pair_again : (byte : ℕ) → is_pair 99 byte ≡ true → pair_bits (byte / 16 * 10 + byte % 16) ≡ byte
 unfolding pair_bits
 pair_again byte lawful = let w = pair_of 99 byte lawful in omega (arith, w.high, w.low)
@@ -86,7 +86,7 @@ time_again h m s bits one two high middle low =
     whole (pair_bits (all / 3600)) (pair_bits (all / 60 % 60)) (pair_bits (all % 60)) bits (ap pair_bits (hours_in h m s one two) ∙ high)
     (ap pair_bits (minutes_in h m s one two) ∙ middle) (ap pair_bits (seconds_in h m s one two) ∙ low)
 
--- so many seconds are a time
+-- a number of seconds is a time
 pub time_lawful : (hours seconds : ℕ) → hours ≤ 99 → seconds < hours * 3600 + 3600 → is_time hours (time_bits seconds) ≡ true
 unfolding is_time time_bits
 time_lawful hours seconds few inside =
@@ -114,7 +114,7 @@ start_lawful day time small lawful =
     rest : (day time : ℕ) → time < 2 ^ 24 → (day * 0x1000000 + time) % 0x1000000 ≡ time
     rest day time small = omega arith
 
--- a start that is not undefined has a lawful time
+-- a start that is not undefined has a valid time
 pub start_time : (bits : ℕ) → (bits ≡ 0xFFFFFFFFFF → ⊥) → is_start bits ≡ true → is_time 23 (bits % 0x1000000) ≡ true
 unfolding is_start
 start_time bits defined lawful = other (nat_eq bits 0xFFFFFFFFFF) (is_time 23 (bits % 0x1000000)) (ne_eqb bits 0xFFFFFFFFFF defined) lawful

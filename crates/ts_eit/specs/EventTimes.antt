@@ -8,12 +8,12 @@ use Rattle.ts_eit.specs.declared.start.Start.{Start}
 unfoldable pub pair_bits : ℕ → ℕ
 pair_bits n = n / 10 * 16 + n % 10
 
--- so many seconds as hours, minutes and seconds, two digits each
+-- a number of seconds as hours, minutes and seconds, of two decimal digits each
 unfoldable pub time_bits : ℕ → ℕ
 time_bits seconds =
     pair_bits (seconds / 3600) * 65536 + (pair_bits (seconds / 60 % 60) * 256 + pair_bits (seconds % 60))
 
--- a day and a time of it, or all ones
+-- a day and a time of day, or all ones
 unfoldable pub start_bits : Option Start → ℕ
 start_bits None = 0xFFFFFFFFFF
 start_bits (Some start) = start.day * 0x1000000 + time_bits start.second

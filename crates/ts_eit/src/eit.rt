@@ -14,7 +14,8 @@ use ts_table_rows::{Table, TableBody, TableFault, TableRefusal, read_table, writ
 /// One section of an event information table, which is a part of a longer list of events.
 #[derive(Drop)]
 pub struct Eit {
-    /// table_id, 0x4E to 0x6F: which stream's events, present and following or of a schedule.
+    /// table_id, 0x4E to 0x6F: the events of this or another transport stream, present and following or of a
+    /// schedule.
     pub table_id: u8,
     /// service_id.
     pub service_id: u16,
@@ -26,7 +27,7 @@ pub struct Eit {
     pub stream_id: u16,
     /// original_network_id.
     pub original_id: u16,
-    /// section_number, at most `last`.
+    /// section_number, 0 to `last`.
     pub number: u8,
     /// last_section_number.
     pub last: u8,
@@ -53,7 +54,7 @@ impl Eit {
     ghost use Rattle.ts_table_pages.specs.EitPages.{eit_page};
     ghost use Rattle.ts_eit.specs.EitTables.{eit_held};
 
-    /// The EIT that a table is.
+    /// The EIT of a table.
     #[tactic(auto, using(ts_table_rows::proofs::ListLemmas::none_held))]
     fn of(alloc: Global, table: Table) -> Result<Eit, AllocError>
         requires { table_fits eit_page (table_held table) ≡ true }
@@ -78,7 +79,7 @@ impl Eit {
         })
     }
 
-    /// The fields that stand in no event.
+    /// The fields outside the events.
     #[tactic(auto, unfolding(ts_fields::specs::Fitting::fits))]
     fn values(&self, alloc: Global) -> Result<Vec<FieldValue>, AllocError>
         ensures held { IfOk result (λ v. map held v.items ≡ (eit_held self.now).body.values) }
@@ -125,8 +126,8 @@ impl Eit {
         Ok(eit)
     }
 
-    /// The one section of the EIT, with its own numbers; `TooLarge` exactly where its section_length would
-    /// pass 4093. It is a whole run, and reading it gives the EIT.
+    /// The one section of the EIT, with its own section numbers; `TooLarge` exactly where its section_length would be
+    /// above 4093, unless memory runs out. It is a whole run, and reading it gives the EIT.
     pub fn sections(&self, alloc: Global) -> Result<Vec<Section>, TableRefusal>
         ensures written { Writes (λ v. v.items) result (sections_of eit_page (eit_held self.now)) }
         ensures whole { IfOk result (λ v. IsTableRun v.items) }

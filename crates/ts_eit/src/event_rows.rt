@@ -1,4 +1,4 @@
-//! The fields of an event of an EIT.
+//! The fields of an event of an EIT (ETSI EN 300 468, 5.2.4).
 
 ghost use Rattle.std.specs.Prelude.{◌≡◌, ◌<◌, [], ◌∷◌, map, true};
 ghost use Rattle.ts_fields.specs.Fitting.{fits};
@@ -11,7 +11,7 @@ use crate::start::Start;
 use crate::times::{start_value, time_value};
 use ts_fields::FieldValue;
 
-/// event_id, start_time, duration, running_status and free_CA_mode of an event.
+/// The event_id, start_time, duration, running_status and free_CA_mode of an event.
 #[tactic(auto, using(ts_table_rows::proofs::ListLemmas::flag_read), unfolding(ts_fields::specs::Fitting::fits))]
 pub fn event_fields(values: &[FieldValue]) -> (u16, Option<Start>, u32, u8, bool)
     requires { fits event_page.rows (map held values.now) ≡ true }

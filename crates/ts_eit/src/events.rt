@@ -15,9 +15,9 @@ use ts_table_rows::{Item, ItemList, TableItem};
 pub struct Event {
     /// event_id.
     pub event_id: u16,
-    /// start_time; none where it is undefined.
+    /// start_time; `None` where it is undefined.
     pub start: Option<Start>,
-    /// duration in seconds, 0 to 359999: less than 100 hours.
+    /// duration in seconds, 0 to 359,999: less than 100 hours.
     pub duration: u32,
     /// running_status, 0 to 7.
     pub running: u8,

@@ -1,4 +1,4 @@
-//! The numbers that an EIT keeps, and its fields that stand in no event.
+//! The section numbers of an EIT, and its fields outside the events.
 
 ghost use Rattle.std.specs.Prelude.{◌≡◌, ◌≤◌, ◌<◌, [], ◌∷◌, map, true, Some};
 ghost use Rattle.ts_fields.specs.Layout.{held, number};
@@ -8,7 +8,7 @@ ghost use Rattle.ts_table_pages.specs.EitPages.{eit_page};
 use ts_fields::FieldValue;
 use ts_table_rows::TableHead;
 
-/// What a table keeps of the head of its one section, with its numbers.
+/// The values that a table keeps of the head of its one section, with its section numbers.
 pub fn table_head(
     table_id: u8,
     extension: u16,
@@ -35,7 +35,7 @@ pub fn table_head(
     }
 }
 
-/// section_number and last_section_number that a table keeps.
+/// The section_number and the last_section_number that a table keeps.
 pub fn numbers_of(numbers: Option<(u8, u8)>) -> (u8, u8)
     requires { numbers_fit true numbers ≡ true }
     ensures kept { numbers ≡ Some result }
@@ -47,7 +47,7 @@ pub fn numbers_of(numbers: Option<(u8, u8)>) -> (u8, u8)
     }
 }
 
-/// transport_stream_id, original_network_id, segment_last_section_number and last_table_id.
+/// The transport_stream_id, original_network_id, segment_last_section_number and last_table_id.
 #[tactic(auto, unfolding(ts_fields::specs::Fitting::fits))]
 pub fn fields_of(values: &[FieldValue]) -> (u16, u16, u8, u8)
     requires { values_fit eit_page (map held values.now) ≡ true }

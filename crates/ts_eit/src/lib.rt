@@ -1,5 +1,6 @@
-//! EIT: a run of one section comes in and the table goes out with starts and durations in seconds, and the other way.
-//! The layer above rests on `read`, exact to the first broken rule, and on `sections`, exact to the section or its refusal.
+//! The EIT of DVB. A run of one section comes in and the table goes out, with starts and durations in seconds, or a
+//! table comes in and its section goes out. The layer above rests on `read`, exact to the first broken rule, and on
+//! `sections`, exact to the section or its refusal.
 #![tactic(auto)]
 
 mod eit;

@@ -1,4 +1,4 @@
-//! Starts and durations of events (ETSI EN 300 468, 5.2.4).
+//! Starts and durations of events as bits (ETSI EN 300 468, 5.2.4).
 
 ghost use Rattle.std.specs.Prelude.{◌≡◌, ◌≤◌, ◌<◌, ◌^◌, ℕ, true};
 ghost use Rattle.ts_fields.specs.Times.{is_start, is_time, is_pair};
@@ -19,7 +19,7 @@ fn pair_bits(number: u64) -> u64
     number / 10 * 16 + number % 10
 }
 
-/// The number that two decimal digits of four bits each make.
+/// The number of two decimal digits of four bits each.
 fn pair_value(bits: u64) -> u64
     requires { is_pair 99 bits ≡ true }
     ensures bits { EventTimes.pair_bits result ≡ bits }
@@ -29,7 +29,7 @@ fn pair_value(bits: u64) -> u64
     bits / 16 * 10 + bits % 16
 }
 
-/// So many seconds as hours, minutes and seconds, two digits each.
+/// A number of seconds as hours, minutes and seconds, of two decimal digits each.
 #[tactic(auto, unfolding(crate::specs::EventTimes::time_bits))]
 pub fn time_bits(seconds: u32) -> u64
     requires { seconds < 360000 }
@@ -43,7 +43,7 @@ pub fn time_bits(seconds: u32) -> u64
         + (pair_bits(seconds / 60 % 60) * 256 + pair_bits(seconds % 60))
 }
 
-/// The seconds of hours, minutes and seconds, two digits each.
+/// The number of seconds of hours, minutes and seconds, of two decimal digits each.
 pub fn time_value(bits: u64) -> u32
     requires { is_time 99 bits ≡ true }
     ensures bits { EventTimes.time_bits result ≡ bits }
@@ -56,7 +56,7 @@ pub fn time_value(bits: u64) -> u32
     (hours * 3600 + (minutes * 60 + seconds)) as u32
 }
 
-/// The 40 bits of a start, which is undefined where there is none.
+/// The 40 bits of a start: all ones, which means undefined, where there is none.
 #[tactic(auto, unfolding(crate::specs::EventTimes::start_bits))]
 pub fn start_bits(start: Option<Start>) -> u64
     ensures bits { result ≡ EventTimes.start_bits start }
@@ -69,7 +69,7 @@ pub fn start_bits(start: Option<Start>) -> u64
     }
 }
 
-/// The start of 40 bits; none where it is undefined.
+/// The start of 40 bits; `None` where it is undefined.
 #[tactic(auto, unfolding(crate::specs::EventTimes::start_bits))]
 pub fn start_value(bits: u64) -> Option<Start>
     requires small { bits < 2 ^ 40 }

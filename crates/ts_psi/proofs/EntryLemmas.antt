@@ -37,7 +37,7 @@ network_later items i x id pid whole inside same held other so_far =
 pub network_none : (items : List TableItem) (i : ℕ) (whole : Option ItemHolding) → length items ≤ i → find is_network (map item_held (drop i items)) ≡ whole → network_items None ≡ option_to_list whole
 network_none items i whole all so_far = ap option_to_list (sym (ap (λ l. find is_network (map item_held l)) (drop_all i items all)) ∙ so_far)
 
--- the items that are services, read as what they hold
+-- the items of services, read as structs, have the same values
 pub services_held : (items : List TableItem) → map item_held (filter (λ i. not (is_network (item_held i))) items) ≡ filter (λ x. not (is_network x)) (map item_held items)
 services_held [] = refl
 services_held (i ∷ items) = chosen (not (is_network (item_held i))) i (filter (λ i. not (is_network (item_held i))) items) (filter (λ x. not (is_network x)) (map item_held items)) (services_held items)
@@ -46,7 +46,7 @@ services_held (i ∷ items) = chosen (not (is_network (item_held i))) i (filter 
     chosen true i xs ys so_far = ap (λ l. item_held i ∷ l) so_far
     chosen false i xs ys so_far = so_far
 
--- entries that are no network entry can be services
+-- entries that are not network entries can be services
 pub services_serve : (xs : List ItemHolding) → list_all (item_fits entry_page) xs ≡ true → list_all service_serves (filter (λ x. not (is_network x)) xs) ≡ true
 services_serve [] all = refl
 services_serve (x ∷ xs) all =

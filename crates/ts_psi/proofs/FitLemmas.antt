@@ -1,4 +1,4 @@
--- What PAT, CAT and PMT hold fits their layouts.
+-- PAT, CAT and PMT fit their layouts.
 use Rattle.std.proofs.Common.{◌≡◌, ℕ, ◌^◌, ◌<◌, Bool, true, false, List, [], ◌∷◌, ◌++◌, map, refl, ap, arith}
 use Rattle.std.specs.Prelude.{◌&&◌, is_some, not, nat_eq, nat_lt, Option, Some, None}
 use Rattle.std.specs.List.{list_all}

@@ -1,4 +1,4 @@
--- A PAT as a table has its entries in order.
+-- The entries of a PAT as a table are in order.
 use Rattle.std.proofs.Common.{◌≡◌, ℕ, true, false, List, [], ◌∷◌, ◌++◌, map, refl, ap, ◌∙◌}
 use Rattle.std.specs.Prelude.{not, Option, Some, None, filter, find, option_to_list}
 use Rattle.std.specs.List.{list_all}
@@ -12,7 +12,7 @@ use Rattle.ts_psi.specs.declared.pat.Pat.{Pat}
 other : (x : ItemHolding) → service_serves x ≡ true → is_network x ≡ false
 other x serves = not-true (is_network x) (and_parts (item_fits entry_page x) (not (is_network x)) serves).1
 
--- services are no network entries
+-- services are not network entries
 no-network : (xs : List ItemHolding) → list_all service_serves xs ≡ true → (find is_network xs ≡ None) × (filter (λ x. not (is_network x)) xs ≡ xs)
 no-network [] all = (refl, refl)
 no-network (x ∷ xs) all =

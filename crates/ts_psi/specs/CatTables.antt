@@ -13,7 +13,7 @@ cat_held c = record {
   body = record { values = []; descriptors = c.descriptors; items = [] };
 }
 
--- a table with these bits as ones
+-- a table as that of a CAT, with the bits of table_id_extension as ones
 abbrev pub cat_table : TableHolding → TableHolding
 cat_table t = record {
   head = record { table_id = 0x01; extension = 0xFFFF; version = t.head.version; current = t.head.current; numbers = None };

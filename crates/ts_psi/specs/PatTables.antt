@@ -1,6 +1,6 @@
 -- A PAT as a table.
--- ISO/IEC 13818-1, 2.4.4.3 to 2.4.4.5: program_number 0 has the network PID. That the network entry is told first is
--- this project's own rule.
+-- ISO/IEC 13818-1, 2.4.4.3 to 2.4.4.5: program_number 0 has the network PID. That the network entry is listed first
+-- is this project's own rule.
 use Rattle.std.specs.Prelude.{ℕ, List, [], ◌++◌, map, Bool, not, ◌&&◌, None, Result, Ok}
 use Rattle.ts_table_rows.specs.TableValues.{ItemHolding, TableHolding}
 use Rattle.ts_table_rows.specs.RunReading.{FirstBroken, read_run, ◌>>=◌}
@@ -21,11 +21,11 @@ pat_held p = record {
   body = record { values = []; descriptors = []; items = network_items p.network_pid ++ map service_item p.services };
 }
 
--- an entry that a service can be
+-- an entry of a service
 abbrev pub service_serves : ItemHolding → Bool
 service_serves x = item_fits entry_page x && not (is_network x)
 
--- a table with its entries so
+-- a table as that of a PAT, the network entry first
 abbrev pub pat_table : TableHolding → TableHolding
 pat_table t = record {
   head = record { table_id = 0x00; extension = t.head.extension; version = t.head.version; current = t.head.current; numbers = None };

@@ -1,4 +1,4 @@
--- PAT, CAT and PMT as tables.
+-- A PMT as a table.
 -- ISO/IEC 13818-1, 2.4.4.3 to 2.4.4.9.
 use Rattle.std.specs.Prelude.{[], ◌∷◌, map, None}
 use Rattle.ts_fields.specs.Layout.{number}

@@ -32,7 +32,7 @@ impl Cat {
     ghost use Rattle.ts_table_pages.specs.PsiPages.{cat_page};
     ghost use Rattle.ts_psi.specs.CatTables.{cat_held, cat_table, read_cat};
 
-    /// The CAT that a table is; its table_id_extension is reserved and read as anything.
+    /// The CAT of a table. Its table_id_extension is reserved, and any value of it is read.
     fn of(table: Table) -> Cat
         requires { table_fits cat_page (table_held table) ≡ true }
         ensures { cat_held result ≡ cat_table (table_held table) }
@@ -74,9 +74,9 @@ impl Cat {
         Ok(Cat::of(table))
     }
 
-    /// The sections of the CAT, filled in order. `TooLarge` comes where a descriptor alone would pass a
-    /// section_length of 1021, `TooMany` where more than 256 sections would be needed. They are a whole run,
-    /// and reading them gives the CAT.
+    /// The sections of the CAT, filled in order. `TooLarge` is returned where one descriptor alone would need a
+    /// section_length above 1021, `TooMany` where more than 256 sections would be needed. The sections are a whole
+    /// run, and reading them gives the CAT.
     pub fn sections(&self, alloc: Global) -> Result<Vec<Section>, TableRefusal>
         ensures written { Writes (λ v. v.items) result (sections_of cat_page (cat_held self.now)) }
         ensures whole { IfOk result (λ v. IsTableRun v.items) }

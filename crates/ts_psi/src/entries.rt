@@ -15,7 +15,7 @@ use ts_bits::DescriptorList;
 use ts_fields::FieldValue;
 use ts_table_rows::{TableHead, TableItem};
 
-/// What a PAT keeps of the heads of its sections.
+/// The values that a PAT keeps of the heads of its sections.
 pub fn pat_head(stream_id: u16, version: u8, current: bool) -> TableHead
     ensures head { result ≡ record {
       table_id = 0x00;
@@ -35,7 +35,7 @@ pub fn pat_head(stream_id: u16, version: u8, current: bool) -> TableHead
     }
 }
 
-/// The number and the PID of an entry.
+/// The program_number and the PID of an entry.
 #[tactic(auto, using(ts_table_rows::proofs::ListLemmas::none_held), unfolding(ts_fields::specs::Fitting::fits))]
 pub fn entry_of(item: &TableItem) -> (u16, u16)
     requires { item_fits entry_page (item_held item.now) ≡ true }
@@ -73,7 +73,7 @@ pub fn network_of(items: &[TableItem]) -> Option<u16>
     None
 }
 
-/// The services among the entries.
+/// The entries that are services, as structs.
 pub fn services_of(alloc: Global, items: Vec<TableItem>) -> Result<PatServiceList, AllocError>
     requires { list_all (item_fits entry_page) (map item_held items.items) ≡ true }
     ensures { IfOk result (λ l. map service_item l
@@ -99,7 +99,7 @@ pub fn entry(alloc: Global, id: u16, pid: u16) -> Result<TableItem, AllocError>
     })
 }
 
-/// The network entry, if there is one, as items.
+/// The network entry, if there is one, as a list of items.
 pub fn network_rows(alloc: Global, network: Option<u16>) -> Result<Vec<TableItem>, AllocError>
     ensures { IfOk result (λ v. map item_held v.items ≡ network_items network) }
 {

@@ -1,5 +1,6 @@
-//! The tables of MPEG: a run of sections comes in and a PAT, a CAT or a PMT goes out, and the other way.
-//! The layer above rests on `read`, exact to the first broken rule, and on `sections`, exact to the rule of filling.
+//! The tables of MPEG: PAT, CAT and PMT. A run of sections comes in and a table goes out, or a table comes in and its
+//! sections go out. The layer above rests on `read`, exact to the first broken rule, and on `sections`, exact to the
+//! rule of filling.
 #![tactic(auto)]
 
 mod cat;

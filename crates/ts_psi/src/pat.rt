@@ -59,7 +59,7 @@ pub struct Pat {
     pub current: bool,
     /// transport_stream_id.
     pub stream_id: u16,
-    /// The PID that program_number 0 names, 0 to 8191, where it is there.
+    /// The network PID, that of program_number 0, 0 to 8191; `None` where there is no such entry.
     pub network_pid: Option<u16>,
     /// The services.
     pub services: PatServiceList,
@@ -77,7 +77,7 @@ impl Pat {
     ghost use Rattle.ts_table_pages.specs.PsiPages.{pat_page};
     ghost use Rattle.ts_psi.specs.PatTables.{pat_held, pat_table, read_pat};
 
-    /// The PAT that a table is.
+    /// The PAT of a table.
     fn of(alloc: Global, table: Table) -> Result<Pat, AllocError>
         requires { table_fits pat_page (table_held table) ≡ true }
         ensures { IfOk result (λ p. pat_held p ≡ pat_table (table_held table)) }
@@ -121,8 +121,8 @@ impl Pat {
         Ok(pat)
     }
 
-    /// The sections of the PAT, filled in order, the network entry first. `TooMany` comes where more than
-    /// 256 sections would be needed. They are a whole run, and reading them gives the PAT.
+    /// The sections of the PAT, filled in order, the network entry first. `TooMany` is returned where more than 256
+    /// sections would be needed. The sections are a whole run, and reading them gives the PAT.
     pub fn sections(&self, alloc: Global) -> Result<Vec<Section>, TableRefusal>
         ensures written { Writes (λ v. v.items) result (sections_of pat_page (pat_held self.now)) }
         ensures whole { IfOk result (λ v. IsTableRun v.items) }

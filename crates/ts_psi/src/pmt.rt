@@ -98,7 +98,7 @@ impl Pmt {
     ghost use Rattle.ts_table_pages.specs.PsiPages.{pmt_page};
     ghost use Rattle.ts_psi.specs.PsiTables.{pmt_held};
 
-    /// The PMT that a table is.
+    /// The PMT of a table.
     #[tactic(auto, unfolding(ts_fields::specs::Fitting::fits))]
     fn of(alloc: Global, table: Table) -> Result<Pmt, AllocError>
         requires { table_fits pmt_page (table_held table) ≡ true }
@@ -154,8 +154,8 @@ impl Pmt {
         Ok(pmt)
     }
 
-    /// The one section of the PMT; `TooLarge` exactly where its section_length would pass 1021. It is a whole
-    /// run, and reading it gives the PMT.
+    /// The one section of the PMT; `TooLarge` exactly where its section_length would be above 1021, unless memory
+    /// runs out. It is a whole run, and reading it gives the PMT.
     pub fn sections(&self, alloc: Global) -> Result<Vec<Section>, TableRefusal>
         ensures written { Writes (λ v. v.items) result (sections_of pmt_page (pmt_held self.now)) }
         ensures whole { IfOk result (λ v. IsTableRun v.items) }

@@ -7,7 +7,7 @@ ghost use Rattle.ts_table_pages.specs.PsiPages.{component_page, pmt_head_rows};
 
 use ts_fields::FieldValue;
 
-/// The PCR_PID that the fields of the table hold.
+/// The PCR_PID of the fields of the table.
 #[tactic(auto, unfolding(ts_fields::specs::Fitting::fits))]
 pub fn pcr_of(values: &[FieldValue]) -> u16
     requires { fits pmt_head_rows (map held values.now) ≡ true }
@@ -20,7 +20,7 @@ pub fn pcr_of(values: &[FieldValue]) -> u16
     *pid as u16
 }
 
-/// stream_type and elementary_PID of a component.
+/// The stream_type and the elementary_PID of a component.
 #[tactic(auto, unfolding(ts_fields::specs::Fitting::fits))]
 pub fn component_fields(values: &[FieldValue]) -> (u8, u16)
     requires { fits component_page.rows (map held values.now) ≡ true }

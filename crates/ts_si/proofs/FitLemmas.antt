@@ -1,4 +1,4 @@
--- What NIT, BAT and SDT hold fits their layouts.
+-- NIT, BAT and SDT fit their layouts.
 use Rattle.std.proofs.Common.{◌≡◌, ℕ, ◌^◌, ◌<◌, Bool, true, false, List, [], ◌∷◌, map, refl, ap}
 use Rattle.std.specs.Prelude.{◌&&◌, is_some, nat_lt, None}
 use Rattle.std.specs.List.{list_all}
@@ -33,7 +33,7 @@ sdt_head_fits : (actual : Bool) (extension version : ℕ) (current : Bool) → e
 sdt_head_fits true extension version current small in_range = numbers_fit_in extension version small in_range
 sdt_head_fits false extension version current small in_range = numbers_fit_in extension version small in_range
 
--- the items of a body that a NIT or a BAT has
+-- the items of the body of a NIT or a BAT
 streams_fit : (xs : List ItemHolding) → list_all (item_fits stream_page) xs ≡ true → (list_all (item_fits stream_page) xs && is_some (zeros_from false false xs)) ≡ true
 streams_fit xs items = and_from (list_all (item_fits stream_page) xs) _ items (zeros_some xs)
 

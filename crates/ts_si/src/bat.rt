@@ -37,7 +37,7 @@ impl Bat {
     ghost use Rattle.ts_table_pages.specs.SiPages.{bat_page};
     ghost use Rattle.ts_si.specs.SiTables.{bat_held};
 
-    /// The BAT that a table is.
+    /// The BAT of a table.
     fn of(alloc: Global, table: Table) -> Result<Bat, AllocError>
         requires { table_fits bat_page (table_held table) ≡ true }
         ensures { IfOk result (λ b. bat_held b ≡ table_held table) }
@@ -73,10 +73,10 @@ impl Bat {
         Ok(bat)
     }
 
-    /// The sections of the BAT, filled in order, the descriptors of the bouquet before the first stream.
-    /// `TooLarge` comes where one of these descriptors or one stream alone would pass a section_length of
-    /// 1021, `TooMany` where more than 256 sections would be needed. They are a whole run, and reading it gives
-    /// the BAT.
+    /// The sections of the BAT, filled in order, the descriptors of the bouquet before the first transport stream.
+    /// `TooLarge` is returned where one of these descriptors or one transport stream alone would need a
+    /// section_length above 1021, `TooMany` where more than 256 sections would be needed. The sections are a whole
+    /// run, and reading it gives the BAT.
     pub fn sections(&self, alloc: Global) -> Result<Vec<Section>, TableRefusal>
         ensures written { Writes (λ v. v.items) result (sections_of bat_page (bat_held self.now)) }
         ensures whole { IfOk result (λ v. IsTableRun v.items) }

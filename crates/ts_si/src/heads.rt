@@ -1,4 +1,4 @@
-//! What stands in the heads of the sections, and in their fields that stand in no item.
+//! The heads of the sections, and the fields outside the items.
 
 ghost use Rattle.std.specs.Prelude.{◌≡◌, ◌≤◌, ◌<◌, [], ◌∷◌, ◌⊎◌, map, None, true};
 ghost use Rattle.ts_fields.specs.Fitting.{fits};
@@ -10,7 +10,7 @@ ghost use Rattle.ts_si.specs.SiTables;
 use ts_fields::FieldValue;
 use ts_table_rows::TableHead;
 
-/// What a table keeps of the heads of its sections, which are numbered from 0.
+/// The values that a table keeps of the heads of its sections, which are numbered from 0.
 pub fn table_head(table_id: u8, extension: u16, version: u8, current: bool) -> TableHead
     ensures head { result ≡ record {
       table_id = table_id;
@@ -30,7 +30,7 @@ pub fn table_head(table_id: u8, extension: u16, version: u8, current: bool) -> T
     }
 }
 
-/// A law, which runs nothing: the fields of a NIT or a BAT that stand in no transport stream hold nothing.
+/// The fields of a NIT or a BAT outside the transport streams have no values. A law; it runs nothing.
 pub fn holds_nothing(values: &[FieldValue])
     requires { fits network_rows (map held values.now) ≡ true }
     ensures { map held values.now ≡ [] }
@@ -67,7 +67,7 @@ pub fn is_actual_sdt(table_id: u8) -> bool
     table_id == 0x42
 }
 
-/// The original_network_id that the fields of the table hold.
+/// The original_network_id of the fields of the table.
 #[tactic(auto, unfolding(ts_fields::specs::Fitting::fits))]
 pub fn original_of(values: &[FieldValue]) -> u16
     requires { values_fit sdt_page (map held values.now) ≡ true }

@@ -1,5 +1,6 @@
-//! NIT, BAT and SDT: a run of sections comes in and the table goes out, and the other way.
-//! The layer above rests on `read`, exact to the first broken rule, and on `sections`, exact to the rule of filling.
+//! The tables NIT, BAT and SDT of DVB. A run of sections comes in and a table goes out, or a table comes in and its
+//! sections go out. The layer above rests on `read`, exact to the first broken rule, and on `sections`, exact to the
+//! rule of filling.
 #![tactic(auto)]
 
 mod bat;

@@ -14,7 +14,7 @@ use ts_table_rows::{Table, TableFault, TableRefusal, read_table, write_table};
 /// A network information table.
 #[derive(Drop)]
 pub struct Nit {
-    /// Whether it is that of the actual network, the one that the stream belongs to: table_id 0x40, else 0x41.
+    /// Whether the table is that of the actual network, to which the stream belongs: table_id 0x40, else 0x41.
     pub actual: bool,
     /// version_number, 0 to 31.
     pub version: u8,
@@ -39,7 +39,7 @@ impl Nit {
     ghost use Rattle.ts_table_pages.specs.SiPages.{nit_page};
     ghost use Rattle.ts_si.specs.SiTables.{nit_held};
 
-    /// The NIT that a table is.
+    /// The NIT of a table.
     fn of(alloc: Global, table: Table) -> Result<Nit, AllocError>
         requires { table_fits nit_page (table_held table) ≡ true }
         ensures { IfOk result (λ n. nit_held n ≡ table_held table) }
@@ -77,10 +77,10 @@ impl Nit {
         Ok(nit)
     }
 
-    /// The sections of the NIT, filled in order, the descriptors of the network before the first stream.
-    /// `TooLarge` comes where one of these descriptors or one stream alone would pass a section_length of
-    /// 1021, `TooMany` where more than 256 sections would be needed. They are a whole run, and reading it gives
-    /// the NIT.
+    /// The sections of the NIT, filled in order, the descriptors of the network before the first transport stream.
+    /// `TooLarge` is returned where one of these descriptors or one transport stream alone would need a
+    /// section_length above 1021, `TooMany` where more than 256 sections would be needed. The sections are a whole
+    /// run, and reading it gives the NIT.
     pub fn sections(&self, alloc: Global) -> Result<Vec<Section>, TableRefusal>
         ensures written { Writes (λ v. v.items) result (sections_of nit_page (nit_held self.now)) }
         ensures whole { IfOk result (λ v. IsTableRun v.items) }

@@ -14,7 +14,7 @@ use ts_table_rows::{Table, TableBody, TableFault, TableRefusal, read_table, writ
 /// A service description table.
 #[derive(Drop)]
 pub struct Sdt {
-    /// Whether it is that of the actual transport stream, the one that it stands in: table_id 0x42, else 0x46.
+    /// Whether the table is that of the actual transport stream, in which it stands: table_id 0x42, else 0x46.
     pub actual: bool,
     /// version_number, 0 to 31.
     pub version: u8,
@@ -39,7 +39,7 @@ impl Sdt {
     ghost use Rattle.ts_table_pages.specs.SiPages.{sdt_page};
     ghost use Rattle.ts_si.specs.SiTables.{sdt_held};
 
-    /// The SDT that a table is.
+    /// The SDT of a table.
     fn of(alloc: Global, table: Table) -> Result<Sdt, AllocError>
         requires { table_fits sdt_page (table_held table) ≡ true }
         ensures { IfOk result (λ s. sdt_held s ≡ table_held table) }
@@ -89,9 +89,9 @@ impl Sdt {
         Ok(sdt)
     }
 
-    /// The sections of the SDT, filled in order. `TooLarge` comes where a service alone would pass a
-    /// section_length of 1021, `TooMany` where more than 256 sections would be needed. They are
-    /// a whole run, and reading it gives the SDT.
+    /// The sections of the SDT, filled in order. `TooLarge` is returned where one service alone would need a
+    /// section_length above 1021, `TooMany` where more than 256 sections would be needed. The sections are a whole
+    /// run, and reading it gives the SDT.
     pub fn sections(&self, alloc: Global) -> Result<Vec<Section>, TableRefusal>
         ensures written { Writes (λ v. v.items) result (sections_of sdt_page (sdt_held self.now)) }
         ensures whole { IfOk result (λ v. IsTableRun v.items) }

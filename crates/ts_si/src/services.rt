@@ -16,9 +16,9 @@ use ts_table_rows::{Item, ItemList, TableItem};
 pub struct SdtService {
     /// service_id.
     pub service_id: u16,
-    /// EIT_schedule_flag: whether there is a schedule of its events.
+    /// EIT_schedule_flag: whether the transport stream has EIT schedule information for the service.
     pub schedule: bool,
-    /// EIT_present_following_flag: whether its present and following events are told.
+    /// EIT_present_following_flag: whether the transport stream has EIT present/following information for the service.
     pub present: bool,
     /// running_status, 0 to 7.
     pub running: u8,
@@ -81,7 +81,7 @@ impl Item for SdtService {
 /// Services in their order.
 pub type SdtServiceList = ItemList<SdtService>;
 
-/// service_id, EIT_schedule_flag, EIT_present_following_flag, running_status and free_CA_mode of a service.
+/// The service_id, EIT_schedule_flag, EIT_present_following_flag, running_status and free_CA_mode of a service.
 #[tactic(auto, using(ts_table_rows::proofs::ListLemmas::flag_read), unfolding(ts_fields::specs::Fitting::fits))]
 fn service_fields(values: &[FieldValue]) -> (u16, bool, bool, u8, bool)
     requires { fits service_page.rows (map held values.now) ≡ true }

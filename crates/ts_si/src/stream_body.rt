@@ -1,4 +1,4 @@
-//! The bodies of a NIT and of a BAT, which are of one make (ETSI EN 300 468, 5.2.1 and 5.2.2).
+//! The bodies of a NIT and of a BAT, which have the same form (ETSI EN 300 468, 5.2.1 and 5.2.2).
 
 ghost use Rattle.std.specs.Prelude.{◌≡◌, IfOk, OnOk, map, true};
 ghost use Rattle.std.specs.List.{list_all};
@@ -14,7 +14,7 @@ use std::alloc::{AllocError, Global};
 use ts_bits::DescriptorList;
 use ts_table_rows::TableBody;
 
-/// The descriptors of the network or the bouquet, and the transport streams, that stand in a body.
+/// The descriptors of the network or the bouquet, and the transport streams, of a body.
 pub fn parts_of(
     alloc: Global,
     body: TableBody,
@@ -28,13 +28,13 @@ pub fn parts_of(
         descriptors,
         items,
     } = body;
-    // A law, which runs nothing.
+    // It runs nothing: the proof cites it.
     holds_nothing(&values);
     let streams = NitStreamList::read(alloc, items)?;
     Ok((descriptors, streams))
 }
 
-/// The body in which these descriptors and transport streams stand.
+/// The body with these descriptors and transport streams.
 pub fn stream_body(
     alloc: Global,
     descriptors: &DescriptorList,

@@ -64,7 +64,7 @@ impl Item for NitStream {
 /// Transport streams in their order.
 pub type NitStreamList = ItemList<NitStream>;
 
-/// transport_stream_id and original_network_id of a transport stream.
+/// The transport_stream_id and the original_network_id of a transport stream.
 #[tactic(auto, unfolding(ts_fields::specs::Fitting::fits))]
 fn stream_fields(values: &[FieldValue]) -> (u16, u16)
     requires { fits stream_page.rows (map held values.now) ≡ true }

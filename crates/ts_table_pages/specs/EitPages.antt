@@ -1,5 +1,5 @@
--- EIT as the standard lays it out.
--- ETSI EN 300 468, 5.2.4: table_id 0x4E to 0x6F, at most 4093 bytes behind section_length. That each section is a
+-- The EIT as the standard lays it out.
+-- ETSI EN 300 468, 5.2.4: table_id 0x4E to 0x6F, at most 4093 bytes after section_length. That each section is a
 -- table by itself, which keeps section_number and last_section_number, is this project's own rule.
 use Rattle.std.specs.Prelude.{List, [], ◌∷◌, codes, true, false, Some}
 use Rattle.ts_fields.specs.declared.field.Kind.TheVariants.{Number, Flag, Start, Duration}
@@ -24,21 +24,21 @@ event_page = record {
   counted = false;
 }
 
--- the fields that all sections of an EIT have alike: transport_stream_id 16, original_network_id 16
+-- the fields that all sections of an EIT have in common: transport_stream_id 16, original_network_id 16
 abbrev pub eit_common_rows : List Row
 eit_common_rows =
     field (codes "transport_stream_id") (Number 16)
     ∷ field (codes "original_network_id") (Number 16)
     ∷ []
 
--- behind them: segment_last_section_number 8, last_table_id 8
+-- the fields after them: segment_last_section_number 8, last_table_id 8
 abbrev pub eit_head_rows : List Row
 eit_head_rows =
     field_or (codes "segment_last_section_number") (Number 8) 0
     ∷ field (codes "last_table_id") (Number 8)
     ∷ []
 
--- these fields, events
+-- these fields, then events
 abbrev pub eit_page : TablePage
 eit_page = record {
   name = codes "EIT";

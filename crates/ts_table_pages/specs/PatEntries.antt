@@ -1,6 +1,6 @@
 -- The entries of a PAT.
--- ISO/IEC 13818-1, 2.4.4.3 to 2.4.4.5: program_number 0 has the network PID. That the network entry is told first is
--- this project's own rule.
+-- ISO/IEC 13818-1, 2.4.4.3 to 2.4.4.5: program_number 0 has the network PID. That the network entry is listed first
+-- is this project's own rule.
 use Rattle.std.specs.Prelude.{ℕ, List, [], ◌∷◌, ◌++◌, filter, find, Bool, not, Option, Some, None, option_to_list}
 use Rattle.ts_fields.specs.Layout.{number}
 use Rattle.ts_table_rows.specs.TableValues.{ItemHolding}

@@ -1,5 +1,5 @@
--- PAT, CAT and PMT as the standard lays them out.
--- ISO/IEC 13818-1, 2.4.4.3 (PAT), 2.4.4.6 (CAT), 2.4.4.8 (PMT): at most 1021 bytes behind section_length.
+-- The PAT, the CAT and the PMT as the standard lays them out.
+-- ISO/IEC 13818-1, 2.4.4.3 (PAT), 2.4.4.6 (CAT), 2.4.4.8 (PMT): at most 1021 bytes after section_length.
 use Rattle.std.specs.Prelude.{List, [], ◌∷◌, codes, true, false, Some, None}
 use Rattle.ts_fields.specs.declared.field.Kind.TheVariants.{Number}
 use Rattle.ts_fields.specs.Layout.{Row}
@@ -7,7 +7,7 @@ use Rattle.ts_table_rows.specs.declared.layout.LoopForm.TheVariants.{Absent, Cou
 use Rattle.ts_table_rows.specs.RowWords.{field, field_or, reserved}
 use Rattle.ts_table_rows.specs.TablePages.{ItemPage, TablePage}
 
--- the number of an entry, which is from 1 on where it is a service's
+-- the program_number of an entry; that of a service is at least 1
 abbrev pub entry_number_row : Row
 entry_number_row = record { name = codes "service_id"; kind = Number 16; absent = None; range = Some (1, 65535) }
 
@@ -63,11 +63,11 @@ cat_page = record {
   one_zero = false;
 }
 
--- the fields of a PMT that stand in no component: reserved 3, PCR_PID 13, reserved 4
+-- the fields of a PMT outside the components: reserved 3, PCR_PID 13, reserved 4
 abbrev pub pmt_head_rows : List Row
 pmt_head_rows = reserved 3 ∷ field_or (codes "PCR_PID") (Number 13) 8191 ∷ reserved 4 ∷ []
 
--- these fields, program_info_length 12, descriptors, components
+-- these fields, then program_info_length 12, descriptors, components
 abbrev pub pmt_page : TablePage
 pmt_page = record {
   name = codes "PMT";

@@ -1,5 +1,5 @@
--- NIT, BAT and SDT as the standard lays them out.
--- ETSI EN 300 468, 5.2.1 (NIT), 5.2.2 (BAT), 5.2.3 (SDT): at most 1021 bytes behind section_length.
+-- The NIT, the BAT and the SDT as the standard lays them out.
+-- ETSI EN 300 468, 5.2.1 (NIT), 5.2.2 (BAT), 5.2.3 (SDT): at most 1021 bytes after section_length.
 use Rattle.std.specs.Prelude.{List, [], ◌∷◌, codes, true, false, Some}
 use Rattle.ts_fields.specs.declared.field.Kind.TheVariants.{Number, Flag}
 use Rattle.ts_fields.specs.Layout.{Row}
@@ -21,11 +21,11 @@ stream_page = record {
   counted = true;
 }
 
--- the fields of a NIT or a BAT that stand in no transport stream (5.2.1, 5.2.2): reserved 4
+-- the fields of a NIT or a BAT outside the transport streams (5.2.1, 5.2.2): reserved 4
 abbrev pub network_rows : List Row
 network_rows = reserved 4 ∷ []
 
--- 5.2.1: these fields, network_descriptors_length 12, descriptors; reserved 4, transport_stream_loop_length 12,
+-- 5.2.1: these fields, then network_descriptors_length 12, descriptors; reserved 4, transport_stream_loop_length 12,
 -- transport streams
 abbrev pub nit_page : TablePage
 nit_page = record {
@@ -43,7 +43,7 @@ nit_page = record {
   one_zero = false;
 }
 
--- 5.2.2: these fields, bouquet_descriptors_length 12, descriptors; reserved 4, transport_stream_loop_length 12,
+-- 5.2.2: these fields, then bouquet_descriptors_length 12, descriptors; reserved 4, transport_stream_loop_length 12,
 -- transport streams
 abbrev pub bat_page : TablePage
 bat_page = record {
@@ -78,15 +78,15 @@ service_page = record {
   counted = false;
 }
 
--- the field of an SDT that all its sections have alike (5.2.3): original_network_id 16
+-- the field that all sections of an SDT have in common (5.2.3): original_network_id 16
 abbrev pub sdt_common_rows : List Row
 sdt_common_rows = field (codes "original_network_id") (Number 16) ∷ []
 
--- behind it (5.2.3): reserved 8
+-- the field after it (5.2.3): reserved 8
 abbrev pub sdt_head_rows : List Row
 sdt_head_rows = reserved 8 ∷ []
 
--- 5.2.3: these fields, services
+-- 5.2.3: these fields, then services
 abbrev pub sdt_page : TablePage
 sdt_page = record {
   name = codes "SDT";

@@ -40,7 +40,7 @@ static EIT: TableLayout = TableLayout {
     one_zero: false,
 };
 
-/// The layout of the event information table. It has one section, which keeps its numbers.
+/// The layout of the event information table. It has one section, which keeps its section numbers.
 pub fn eit_layout() -> &'static TableLayout
     ensures page { table_page result.now ≡ eit_page }
     ensures sound { IsTrue (page_sound eit_page) }

@@ -1,5 +1,5 @@
-//! The tables of MPEG and DVB: the layout of each, one row a field, is the page of the standard in `specs/`.
-//! The layers above rest on the layouts `pat_layout` to `eit_layout`, each of which is sound.
+//! The layouts of the tables of MPEG and DVB, one row a field; each is the page of the standard in `specs/`. The
+//! layers above rest on the layouts `pat_layout` to `eit_layout`, each of which is sound.
 #![tactic(auto)]
 
 /// The rows of a layout: `"name" kind, absent;`, or `"name" kind, absent, range;` where the range is narrower.

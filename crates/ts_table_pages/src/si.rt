@@ -93,8 +93,8 @@ static SDT: TableLayout = TableLayout {
     one_zero: false,
 };
 
-/// The layout of the network information table. Its own descriptors stand before the transport streams, and
-/// nothing stands behind these.
+/// The layout of the network information table. Its own descriptors stand before the transport streams, and nothing
+/// follows these.
 pub fn nit_layout() -> &'static TableLayout
     ensures page { table_page result.now ≡ nit_page }
     ensures sound { IsTrue (page_sound nit_page) }
@@ -102,7 +102,7 @@ pub fn nit_layout() -> &'static TableLayout
     &NIT
 }
 
-/// The layout of the bouquet association table, which differs from the NIT's in name and table_id alone.
+/// The layout of the bouquet association table, which differs from that of the NIT in name and table_id alone.
 pub fn bat_layout() -> &'static TableLayout
     ensures page { table_page result.now ≡ bat_page }
     ensures sound { IsTrue (page_sound bat_page) }

@@ -1,4 +1,4 @@
--- Bits, bytes and fields that are spelled are read again.
+-- Bits, bytes and fields that are written are read again.
 use Rattle.std.proofs.Common.{◌≡◌, ℕ, ◌/◌, ◌%◌, ◌^◌, ◌<◌, Bool, true, false, List, [], ◌∷◌, ◌++◌, length, refl, sym, ap, ◌∙◌, arith, append-nil, length-append}
 use Rattle.std.specs.Prelude.{Some, Ok, All, ◌||◌, not, nat_lt, if◌then◌else◌}
 use Rattle.std.proofs.lemmas.Bool.{and_parts, and_from, lt-ltb, false≢true}
@@ -21,7 +21,7 @@ use Rattle.ts_table_rows.proofs.ReadLemmas.{rows_are_fields}
 use Rattle.ts_table_rows.proofs.SizeLemmas.{SpelledBits}
 use Rattle.ts_table_rows.proofs.BodyLemmas.{all_read}
 
--- what the layers below ensure of what is spelled
+-- what the layers below ensure of what is written
 pub record ReadAgain : Type 0 where
   pub sizes : SpelledBits
   pub rows : (rs : List Row) (values : List Held) (rest : List Bool) → fits rs values ≡ true → ends_last rs ≡ true → (is_open rs ≡ true → rest ≡ []) → read_rows rs (spell_rows rs values ++ rest) ≡ Some (values, rest)
@@ -49,7 +49,7 @@ bytes-again laws bs whole =
 pub bits_of-append : (a b : List ℕ) → bits_of (a ++ b) ≡ bits_of a ++ bits_of b
 bits_of-append a b = flat_map-append (bits 8) a b
 
--- rows of bytes one after another
+-- bytes one after another
 pub bytes-append : (a b : List ℕ) → are_bytes a ≡ true → are_bytes b ≡ true → are_bytes (a ++ b) ≡ true
 bytes-append [] b one two = two
 bytes-append (x ∷ a) b one two =
@@ -98,7 +98,7 @@ not_open rs closed = from_not (is_open rs) (and_parts (are_sound rs) (not (is_op
     from_not true is = cc
     from_not false is = refl
 
--- fields that are spelled are read again
+-- fields that are written are read again
 pub fields-again : ReadAgain → (rule : TableRule) (behind : ℕ) (rs : List Row) (values : List Held) (rest : List Bool) → closed_rows rs ≡ true → fits rs values ≡ true → read_fields rule behind rs (spell_rows rs values ++ rest) ≡ Ok (values, rest)
 fields-again laws rule behind rs values rest closed fit =
     let none : is_open rs ≡ false = not_open rs closed in

@@ -1,4 +1,4 @@
--- Bodies of sections that are spelled are read again.
+-- Bodies of sections that are written are read again.
 use Rattle.std.proofs.Common.{◌≡◌, ℕ, ◌%◌, ◌<◌, ◌≤◌, Bool, true, false, List, [], ◌∷◌, ◌++◌, length, refl, sym, ap, ◌∙◌, arith, append-nil, length-append}
 use Rattle.std.specs.Prelude.{IsTrue, Option, Some, None, Result, Ok, All, if◌then◌else◌}
 use Rattle.std.specs.List.{flat_map, list_all}
@@ -28,7 +28,7 @@ pub so_true : (b : Bool) → b ≡ true → IsTrue b
 so_true true is = refl
 so_true false is = cc
 
--- ---- the table's own descriptors
+-- ---- the descriptors of the table itself
 
 own-again : ReadAgain → (form : LoopForm) (items : Option ItemPage) (ds : List TaggedBody) (row : List ℕ) → ends_once form items ≡ true → own_fit form ds ≡ true → All (λ d. IsDescriptor d) ds → length (spell_own form (loop_bytes ds)) < 32768
     → read_loop form (spell_own form (loop_bytes ds) ++ spell_behind items row) ≡ Ok (ds, spell_behind items row)
@@ -92,7 +92,7 @@ behind-again laws one_zero (Some i) seen now xs sound fit all few zeros =
     (λ less. counted-items laws one_zero i seen now xs sound serve (omega (arith, length-append (bits 4 15) (spell_counted row))) zeros)
     (λ less. plain-items laws one_zero i seen now xs sound serve less zeros) few
 
--- ---- the fields that stand in no item
+-- ---- the fields outside the items
 
 heading-again : ReadAgain → (p : TablePage) (first : Option ℕ) (values : List Held) (rest : List Bool) → closed_rows p.common ≡ true → closed_rows p.head ≡ true → values_fit p values ≡ true → is_same first (first_number (common_values p values)) ≡ true
     → read_heading p first (spell_rows p.common (common_values p values) ++ (spell_rows p.head (head_values p values) ++ rest)) ≡ Ok (values, first_number (common_values p values), rest)
@@ -105,7 +105,7 @@ heading-again laws p first values rest common head fit same =
 
 -- ---- a body
 
--- what the body of a section of a table with these values needs
+-- what the body of a section of a table with these values must meet
 pub record Serves (p : TablePage) (values : List Held) (c : BodyHolding) : Type 0 where
   pub same : c.values ≡ values
   pub own : own_fit p.loop_form c.descriptors ≡ true
@@ -114,7 +114,7 @@ pub record Serves (p : TablePage) (values : List Held) (c : BodyHolding) : Type 
   pub described : All (λ x. All (λ d. IsDescriptor d) x.descriptors) c.items
   pub room : length_with p c ≤ p.most
 
--- what has been seen behind a section of a table with these values
+-- what has been seen after a section of a table with these values
 abbrev pub seen_behind : TablePage → List Held → Bool → Seen
 seen_behind p values zero = record { first = first_number (common_values p values); zero = zero }
 

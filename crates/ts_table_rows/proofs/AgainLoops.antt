@@ -1,4 +1,4 @@
--- Descriptors and items that are spelled are read again.
+-- Descriptors and items that are written are read again.
 use Rattle.std.proofs.Common.{◌≡◌, ℕ, zero, suc, ◌+◌, ◌%◌, ◌^◌, ◌<◌, ◌≤◌, Bool, true, false, List, [], ◌∷◌, ◌++◌, length, refl, sym, ap, ◌∙◌, arith, append_assoc, length-append}
 use Rattle.std.specs.Prelude.{Option, Some, None, Ok, All, ◌&&◌, ◌||◌, nat_eq, nat_lt, nat_le, if◌then◌else◌}
 use Rattle.std.specs.List.{flat_map, list_all}
@@ -21,7 +21,7 @@ use Rattle.ts_table_rows.proofs.AgainBits.{ReadAgain, fields-again, loop-bytes, 
 
 -- ---- descriptors
 
--- bytes behind their number
+-- bytes after their number
 pub counted-again : ReadAgain → (rule : TableRule) (left behind : ℕ) (row : List ℕ) (rest : List Bool) → are_bytes row ≡ true → length row < 4096 → read_counted rule left behind (spell_counted row ++ rest) ≡ Ok (row, rest)
 unfolding read_counted spell_counted
 counted-again laws rule left behind row rest small few =
@@ -75,7 +75,7 @@ next-again laws one_zero i seen now behind x rest sound fit all few zero_is =
 
 -- ---- items one after another
 
--- an item more: whether one of 0 has stood by then
+-- one item more: whether there was one with 0 so far
 zeros-by : (here stood now : Bool) (left : ℕ) (after : Bool → Option Bool) → (if here then (if stood then None else after true) else after stood) ≡ Some now
     → (z : Bool) × ((if here then (if stood then broken Network left else Ok true) else Ok stood) ≡ Ok z) × (after z ≡ Some now)
 zeros-by true true now left after is = cc
@@ -100,7 +100,7 @@ items-none : (most : ℕ) (one_zero : Bool) (i : ItemPage) (seen : Bool) (behind
 unfolding read_items
 items-none most one_zero i seen behind = refl
 
--- what a list of items needs
+-- what a list of items must meet
 pub record ItemsServe (i : ItemPage) (xs : List ItemHolding) : Type 0 where
   pub fit : list_all (item_fits i) xs ≡ true
   pub some : All (λ x. All (λ d. IsDescriptor d) x.descriptors) xs

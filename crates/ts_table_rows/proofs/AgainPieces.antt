@@ -1,4 +1,4 @@
--- The bodies of a table's sections: each can be read again, and they join to the table's.
+-- The bodies of the sections of a table: each can be read again, and joined they are the body of the table.
 use Rattle.std.proofs.Common.{◌≡◌, ℕ, ◌+◌, ◌≤◌, Bool, true, false, List, [], ◌∷◌, ◌++◌, length, map, refl, sym, ap, ◌∙◌, subst, arith, append-nil, length-append}
 use Rattle.std.specs.Prelude.{Option, Some, None, Ok, All, nat_lt, nat_le, if◌then◌else◌}
 use Rattle.std.specs.List.{flat_map, list_all}
@@ -50,7 +50,7 @@ things-serve p (d ∷ ds) xs own items some described =
     All-cons (λ t. ThingServes p t) (own_thing d) (map own_thing ds ++ map item_thing xs) (parts.0, All-head (λ d. IsDescriptor d) d ds some)
     (things-serve p ds xs parts.1 items (All-tail (λ d. IsDescriptor d) d ds some) described)
 
--- what a piece of them holds
+-- the contents of a piece of them
 record PieceServes (p : TablePage) (piece : List Thing) : Type 0 where
   own : own_fit p.loop_form (owns_in piece) ≡ true
   items : items_fit p.items (items_in piece) ≡ true
@@ -92,7 +92,7 @@ piece-serves p (item_thing x ∷ piece) all =
       described = All-cons (λ x. All (λ d. IsDescriptor d) x.descriptors) x (items_in piece) here.1 more.described;
     }
 
--- what all things keep, the things of each piece keep
+-- what holds of all things holds of those of each piece
 pieces_keep : {A : Type 0} (P : A → Type 0) (size : A → ℕ) (room used : ℕ) (hand xs : List A) → All P hand → All P xs → All (λ q. All P q) (pieces size room used hand xs)
 unfolding pieces
 pieces_keep P size room used hand [] held all = All-cons (λ q. All P q) hand [] held (All-nil (λ q. All P q))
@@ -228,7 +228,7 @@ several-bodies laws p b rows several fit some least is =
       one = λ single. absurd (false≢true (sym several ∙ single));
     }
 
--- both ways of a choice in a refusal and in the bodies
+-- both sides of a choice in a refusal and in the bodies
 by_kind : {P : Type 0} (f : BodyHolding → List ℕ) (single large : Bool) (n m : Option ℕ) (least : ℕ) (us vs : List BodyHolding) (rows : List (List ℕ)) → (single ≡ true → unless_large n (map f us) ≡ Ok rows → P) → (single ≡ false → large ≡ false → unless_large m (map f vs) ≡ Ok rows → P)
     → unless_large (if single then n else (if large then Some least else m)) (map f (if single then us else vs)) ≡ Ok rows → P
 by_kind f true large n m least us vs rows one several is = one refl is

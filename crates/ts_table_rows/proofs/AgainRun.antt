@@ -58,7 +58,7 @@ section-again laws p seen now place head s c sound fit serve same zeros made =
     let read : read_body p seen (bits_of (body_of s)) ≡ Ok (c, seen_behind p c.values now) = ap (λ l. read_body p seen (bits_of l)) made.same_body ∙ body in
     rw few (ap (in_section place (length (body_of s))) read)
 
--- a section that is made for a body is lawful
+-- a section that is made for a body is valid
 pub first-made : ReadAgain → MadeLawful → (p : TablePage) (h : TableHead) (values : List Held) (last number : ℕ) (c : BodyHolding) → IsTrue (page_sound p) → FitHead p h → values_fit p values ≡ true → Serves p values c → number ≤ last → last < 256
     → IsLongSectionOf (head_with p h last number) (body_row p c) (long_section (head_with p h last number) (body_row p c))
 first-made laws lawful p h values last number c sound head fit serve within small =
@@ -68,7 +68,7 @@ first-made laws lawful p h values last number c sound head fit serve within smal
 
 -- ---- sections one after another
 
--- whether an item of 0 has stood by the end of the first of two lists
+-- whether there was an item with 0 by the end of the first of two lists
 split-by : (here stood now : Bool) (whole first later : Bool → Option Bool) → ((s : Bool) → whole s ≡ Some now → (z : Bool) × (first s ≡ Some z) × (later z ≡ Some now)) → (if here then (if stood then None else whole true) else whole stood) ≡ Some now
     → (z : Bool) × ((if here then (if stood then None else first true) else first stood) ≡ Some z) × (later z ≡ Some now)
 split-by true true now whole first later goal is = cc

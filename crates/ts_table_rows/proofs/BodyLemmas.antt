@@ -1,4 +1,4 @@
--- Bytes that are put into bodies are the bodies of the things that they stand for.
+-- Bodies that are filled with bytes are the bodies of the things of these bytes.
 use Rattle.std.proofs.Common.{◌≡◌, ℕ, zero, suc, ◌+◌, ◌-◌, ◌*◌, ◌/◌, ◌<◌, ◌≤◌, Bool, true, false, List, [], ◌∷◌, ◌++◌, length, take, drop, map, refl, sym, ap, ◌∙◌, subst, arith, Vec, Global, append_assoc, append-nil, length-append}
 use Rattle.std.specs.Prelude.{All, IsTrue, not, ◌||◌, nat_le, nat_lt, if◌then◌else◌, Result, Ok, Err, Option, Some, None}
 use Rattle.std.specs.List.{flat_map}
@@ -25,7 +25,7 @@ use Rattle.ts_table_rows.proofs.SizeLemmas.{SpelledBits, own_taken, items_taken,
 
 -- ---- pieces of things and pieces of bytes
 
--- a thing's bytes, whichever it is
+-- the bytes of a thing of either kind
 kind-size : (i : Option ItemPage) (x : Thing) → (kind_row i x).1 ≡ thing_row i x
 kind-size i (own_thing d) = refl
 kind-size i (item_thing x) = refl
@@ -169,7 +169,7 @@ items-none : (i : Option ItemPage) → items_taken i [] ≡ 0
 items-none None = refl
 items-none (Some i) = refl
 
--- a body is as long as one without things, and its things
+-- the length of a body is that of one without things, and of its things
 pub row-size : SpelledBits → (p : TablePage) (values : List Held) (hand : List ℕ × List ℕ) → length (row_with p values hand) ≤ length (row_with p values nothing) + (length hand.0 + length hand.1)
 row-size laws p values hand =
     let whole = parts_length laws p values hand.0 hand.1 in
@@ -199,7 +199,7 @@ with_thing-size hand x = by_kind x.0 hand.0 hand.1 x.1
 pub some_none : (n : ℕ) → ◌≡◌ {A = Option ℕ} (Some n) None → ⊥
 some_none n is = cc
 
--- each piece is within the room where each thing is
+-- each piece fits the room where each thing does
 filled-fits : (room used : ℕ) (hand : List ℕ × List ℕ) (xs : List (Bool × List ℕ)) → large_row room xs ≡ None → piece_size hand ≡ used → used ≤ room → All (λ piece. piece_size piece ≤ room) (filled room used hand xs)
 unfolding large_row filled
 filled-fits room used hand [] none size fits = All-cons (λ piece. piece_size piece ≤ room) hand [] (omega arith) (All-nil (λ piece. piece_size piece ≤ room))
@@ -281,7 +281,7 @@ sections_stop p h (TooLarge n) is = rw is refl
 sections_stop p h TooMany is = rw is refl
 sections_stop p h NoMemory is = tt
 
--- the bytes of a table of the code's are those of the table that it holds
+-- the bytes of a table of the code are those of the table that it holds
 pub rows_same : (p : TablePage) (b : BodyHolding) (values found : List FieldValue) (rows there : List ThingRow) → found ≡ values → there ≡ rows → map held values ≡ b.values → map thing_view rows ≡ map (kind_row p.items) (things b)
     → rows_by p (map held found) (map thing_view there) ≡ body_rows p b
 rows_same p b values found rows there values_are rows_are values_hold rows_hold =
@@ -296,7 +296,7 @@ keeps_single false single either is = cc
 abbrev rows_in : List (Vec ℕ Global) → List (List ℕ)
 rows_in vs = map (λ row. row.items) vs
 
--- what numbering bodies wants of them
+-- what numbering requires of bodies
 pub bodies_serve : (p : TablePage) (bodies there : List (Vec ℕ Global)) → there ≡ bodies → (not p.keeps_numbers || p.single) ≡ true → AreFilled p (rows_in bodies) → (0 < length there) × (p.keeps_numbers ≡ true → length there ≡ 1) × AreSmall (rows_in there)
 bodies_serve p bodies there same either filled_so =
     let count : length (rows_in bodies) ≡ length there = length-map bodies (λ (b : Vec ℕ Global). b.items) ∙ sym (ap length same) in (

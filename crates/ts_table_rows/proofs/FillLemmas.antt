@@ -1,4 +1,4 @@
--- Things as bytes, put into pieces one after another.
+-- Things as bytes, filled into pieces one after another.
 use Rattle.std.proofs.Common.{◌≡◌, ℕ, zero, suc, ◌+◌, ◌<◌, ◌≤◌, Bool, true, false, List, [], ◌∷◌, ◌++◌, length, take, drop, get_or, map, refl, sym, ap, ◌∙◌, subst, arith, append_assoc}
 use Rattle.std.specs.Prelude.{All, nat_le, nat_lt, ◌||◌, if◌then◌else◌, Option, Some, None}
 use Rattle.std.specs.List.{list_all}
@@ -44,7 +44,7 @@ test_at t h [] i y all inside same = absurd (omega arith)
 test_at t h (x ∷ ys) zero y all inside same = ap (λ z. t (h z)) same ∙ (and_parts (t (h x)) (list_all t (map h ys)) all).0
 test_at t h (x ∷ ys) (suc i) y all inside same = test_at t h ys i y (and_parts (t (h x)) (list_all t (map h ys)) all).1 (omega arith) same
 
--- an item's descriptors are some, where it has none too
+-- the descriptors of an item are valid, where it has none too
 pub described_fit : (i : ItemPage) (x : ItemHolding) → item_fits i x ≡ true → (i.described ≡ true → All (λ d. IsDescriptor d) x.descriptors) → All (λ d. IsDescriptor d) x.descriptors
 described_fit i x fit written = by_form i.described x.descriptors (and_parts (fits i.rows x.values) (i.described || none_there x.descriptors) fit).1 written
   where

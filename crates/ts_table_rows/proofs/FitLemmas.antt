@@ -55,7 +55,7 @@ item_fit law i behind from y =
     ∙ and_from (fits i.rows x.0) (i.described || none_there ds.0) (fields_fit law Time behind i.rows from x was) (described-none i.described (length from + behind) behind x.1 ds had))))
     (λ few is. cc)
 
--- an item more, and the zeros
+-- one item more, and the items with 0
 zeros_by : (P : Option Bool → Type 0) (zero_here stood now : Bool) (left : ℕ) (after : Bool → Option Bool) → (if zero_here then (if stood then broken Network left else Ok true) else Ok stood) ≡ Ok now
     → P (after now) → P (if zero_here then (if stood then None else after true) else after stood)
 zeros_by P true true now left after is goal = cc
@@ -117,7 +117,7 @@ behind_fit law one_zero (Some i) seen from y is =
     (λ counted read. counted_fit law one_zero i seen from y read)
     (λ uncounted read. items_read_fit law (length from) one_zero i seen 0 from y read) is
 
--- ---- fields and descriptors that stand in no item
+-- ---- fields and descriptors outside the items
 
 own_read_fit : (form : LoopForm) (from : List Bool) (y : List TaggedBody × List Bool) → read_loop form from ≡ Ok y → own_fit form y.0 ≡ true
 unfolding read_loop
@@ -147,7 +147,7 @@ first_there Text (v ∷ vs) rest fit is = omega (arith, is)
 first_there Hex [] rest fit is = cc
 first_there Hex (v ∷ vs) rest fit is = omega (arith, is)
 
--- values that fit are as many as their rows hold
+-- values that fit are as many as their rows have
 pub fit_count : (rs : List Row) (values : List Held) → fits rs values ≡ true → length values ≡ held_count rs
 unfolding fits
 fit_count [] [] fit = refl
@@ -171,7 +171,7 @@ heading_fit law p first from y is =
     ap (values_fit p) (sym e)
     ∙ and_from (fits p.common (common_values p (common.0 ++ head.0))) (fits p.head (head_values p (common.0 ++ head.0))) (ap (fits p.common) front ∙ one) (ap (fits p.head) back ∙ two))))
 
--- what a body that was read fits
+-- a body that was read fits
 pub record ReadFit (p : TablePage) (seen : Bool) (b : BodyHolding) (now : Bool) : Type 0 where
   pub own : own_fit p.loop_form b.descriptors ≡ true
   pub items : items_fit p.items b.items ≡ true
@@ -309,7 +309,7 @@ head_fit p s head lawful =
 some_is : (o : Option Bool) (b : Bool) → o ≡ Some b → is_some o ≡ true
 some_is o b is = rw is refl
 
--- what a run holds as a table fits
+-- the values of a run as a table fit
 pub run_fit : RowsFit → (p : TablePage) (ss : List (List ℕ)) (h : TableHolding) → All (λ s. IsSection s) ss → read_run p ss ≡ Ok h → table_fits p h ≡ true
 unfolding read_run
 run_fit law p [] h lawful is = cc

@@ -1,4 +1,5 @@
--- Greedy filling: the pieces join to the whole, each is within the room, and none could take the next thing.
+-- Greedy filling: the pieces join to the whole, each fits the room, and none but the last has room for the next
+-- thing.
 use Rattle.std.proofs.Common.{◌≡◌, ℕ, ◌+◌, ◌<◌, ◌≤◌, List, [], ◌∷◌, ◌++◌, refl, ap, ◌∙◌, arith, append_assoc}
 use Rattle.std.specs.Prelude.{nat_le}
 use Rattle.std.proofs.lemmas.Bool.{leb-true, leb-false, cond_both}
@@ -17,7 +18,7 @@ pieces_join size room used hand (x ∷ xs) = cond_both (nat_le (used + size x) r
     (λ small. pieces_join size room (used + size x) (hand ++ x ∷ []) xs ∙ append_assoc hand (x ∷ []) xs)
     (λ large. ap (λ l. hand ++ l) (pieces_join size room (size x) (x ∷ []) xs))
 
--- each is within the room
+-- each fits the room
 pub pieces_fit : {A : Type 0} (size : A → ℕ) (room used : ℕ) (hand xs : List A) → Each size room xs → used ≡ total size hand → used ≤ room → AllFit size room (pieces size room used hand xs)
 unfolding pieces
 pieces_fit size room used hand [] each is inside = (omega (arith, is), tt)
@@ -25,7 +26,7 @@ pieces_fit size room used hand (x ∷ xs) each is inside = cond_both (nat_le (us
     (λ small. pieces_fit size room (used + size x) (hand ++ x ∷ []) xs each.1 (omega (arith, is, total_more size hand x)) (leb-true (used + size x) room small))
     (λ large. (omega (arith, is), pieces_fit size room (size x) (x ∷ []) xs each.1 (omega arith) each.0))
 
--- the first piece begins with what was in hand
+-- the first piece begins with the current one
 first_piece : {A : Type 0} (size : A → ℕ) (room used : ℕ) (hand xs : List A) (p : List A) (y : A) (ys : List A) → hand ≡ y ∷ ys → room < total size p + size y → IsFull size room p (pieces size room used hand xs)
 unfolding pieces
 first_piece size room used hand [] p y ys is full = rw is full
@@ -33,7 +34,7 @@ first_piece size room used hand (x ∷ xs) p y ys is full = cond_both (nat_le (u
     (λ small. first_piece size room (used + size x) (hand ++ x ∷ []) xs p y (ys ++ x ∷ []) (ap (λ l. l ++ x ∷ []) is) full)
     (λ large. rw is full)
 
--- none but the last could take the next thing
+-- none but the last has room for the next thing
 pub pieces_full : {A : Type 0} (size : A → ℕ) (room used : ℕ) (hand xs : List A) → used ≡ total size hand → AreFull size room (pieces size room used hand xs)
 unfolding pieces
 pieces_full size room used hand [] is = (tt, tt)

@@ -115,7 +115,7 @@ next_takes laws one_zero i seen behind from item now rest sound is =
 abbrev pub TakesBits : Bool → ItemPage → ℕ → Type 0
 TakesBits one_zero i behind = (seen : Bool) (from : List Bool) (item : ItemHolding) (now : Bool) (rest : List Bool) → read_next one_zero i seen behind from ≡ Ok (item, now, rest) → length rest < length from
 
--- items in front of those that are read behind them
+-- items before those that are read after them
 abbrev pub with_items : List ItemHolding → Result (List ItemHolding × Bool) Fault → Result (List ItemHolding × Bool) Fault
 with_items front read = read >>= λ more. Ok (front ++ more.0, more.1)
 

@@ -33,13 +33,13 @@ test_one_more t g ys i y inside same here so_far =
 pub test_all : {Y W : Type 0} (t : W → Bool) (g : Y → W) (ys : List Y) (i : ℕ) → length ys ≤ i → list_all t (map g (take i ys)) ≡ true → list_all t (map g ys) ≡ true
 test_all t g ys i all so_far = sym (ap (λ l. list_all t (map g l)) (take_all i ys all)) ∙ so_far
 
--- where any items may be 0
+-- where any number of items may be 0
 pub zeros_free : (seen : Bool) (xs : List ItemHolding) → zeros_from false seen xs ≡ Some seen
 unfolding zeros_from
 zeros_free seen [] = refl
 zeros_free seen (x ∷ xs) = zeros_free seen xs
 
--- no descriptors are none
+-- no descriptors are an empty list
 pub none_held : (ds : List TaggedBody) → none_there ds ≡ true → ds ≡ []
 none_held [] none = refl
 none_held (d ∷ ds) none = cc

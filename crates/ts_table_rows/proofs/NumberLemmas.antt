@@ -1,4 +1,4 @@
--- Sections numbered one after another, and what a table puts into them.
+-- Sections numbered one after another, and the contents of those of a table.
 use Rattle.std.proofs.Common.{◌≡◌, ℕ, ◌+◌, ◌<◌, ◌≤◌, Bool, true, false, List, [], ◌∷◌, ◌++◌, length, drop, get_or, map, refl, sym, ap, ◌∙◌, arith, append_assoc, append-nil, Vec, Global}
 use Rattle.std.specs.Prelude.{is_some, Ok, Option, Some, None, nat_le, nat_lt}
 use Rattle.std.proofs.lemmas.Bool.{leb-true, ltb-true, le-ltb, and_parts}
@@ -34,7 +34,7 @@ unfolding numbered
 numbers_end p h last number i new bodies whole all so_far =
     sym (append-nil new) ∙ sym (ap (λ l. new ++ numbered p h last number (rows_in l)) (drop_all i bodies all)) ∙ so_far
 
--- the last number has room for each body's
+-- the last number leaves a number for each body
 pub number_room : (keeps : Bool) (numbers : Option (ℕ × ℕ)) (count : ℕ) → numbers_fit keeps numbers ≡ true → 0 < count → (keeps ≡ true → count ≡ 1) → (numbers_of numbers count).0 + count ≤ (numbers_of numbers count).1 + 1
 number_room false None count fit some one = omega arith
 number_room false (Some n) count fit some one = cc

@@ -21,7 +21,7 @@ same_ok x y is = cc
 pub same_some : {A : Type 0} (x y : A) → ◌≡◌ {A = Option A} (Some x) (Some y) → x ≡ y
 same_some x y is = cc
 
--- what a reading that went on has read first
+-- what a reading that goes on has read first
 pub then_ok : {A B P : Type 0} (r : Result A Fault) (next : A → Result B Fault) (y : B) → (r >>= next) ≡ Ok y → ((x : A) → r ≡ Ok x → next x ≡ Ok y → P) → P
 then_ok (Ok x) next y is goal = goal x refl is
 then_ok (Err fault) next y is goal = cc
@@ -34,7 +34,7 @@ pub ok_some : {A : Type 0} (o : Option A) (rule : TableRule) (left : ℕ) (x : A
 ok_some None rule left x is = cc
 ok_some (Some y) rule left x is = ap Some (let e : y ≡ x = cc in e)
 
--- values in front of those that are read behind them
+-- values before those that are read after them
 abbrev pub with_front : List Held → Result (List Held × List Bool) Fault → Result (List Held × List Bool) Fault
 with_front front read = read >>= λ x. Ok (front ++ x.0, x.1)
 
@@ -97,7 +97,7 @@ pub held_more : (old new : List FieldValue) (value : Option FieldValue) → new 
 held_more old new None is = ap (map held) is ∙ map-append held old []
 held_more old new (Some v) is = ap (map held) is ∙ map-append held old (v ∷ [])
 
--- fields that are there are rows that are read
+-- fields that are present are rows that are read
 pub fields_are_rows : (rule : TableRule) (behind : ℕ) (rs : List Row) (from : List Bool) (x : List Held × List Bool) → read_fields rule behind rs from ≡ Ok x → read_rows rs from ≡ Some x
 unfolding read_fields read_rows
 fields_are_rows rule behind [] from x is = ap Some (same_ok _ _ is)
@@ -106,7 +106,7 @@ fields_are_rows rule behind (r ∷ rs) from x is =
     then_ok (read_fields rule behind rs one.1) _ x later (λ more had joins.
     rw (ok_some _ _ _ _ was, fields_are_rows rule behind rs one.1 more had) (ap Some (same_ok _ _ joins))))
 
--- and rows that are read are fields that are there
+-- and rows that are read are fields that are present
 pub rows_are_fields : (rule : TableRule) (behind : ℕ) (rs : List Row) (from : List Bool) (x : List Held × List Bool) → read_rows rs from ≡ Some x → read_fields rule behind rs from ≡ Ok x
 unfolding read_fields read_rows
 rows_are_fields rule behind [] from x is = ap Ok (same_some _ _ is)

@@ -13,7 +13,7 @@ use Rattle.ts_table_rows.specs.declared.fault.TableRule.TheVariants.{WrongTable,
 use Rattle.ts_table_rows.specs.declared.fault.TableFault.{TableFault}
 use Rattle.ts_table_rows.specs.declared.fault.TableFault.TheVariants.{Broken, NoMemory}
 
--- a body in front of those that are read behind it
+-- a body before those that are read after it
 abbrev pub with_body : BodyHolding → Result BodyHolding FirstBroken → Result BodyHolding FirstBroken
 with_body front read = read >>= λ more. Ok (joined front more)
 

@@ -1,4 +1,4 @@
--- How many bits items and bodies are spelled by.
+-- The number of bits of items and bodies.
 use Rattle.std.proofs.Common.{◌≡◌, ℕ, suc, ◌+◌, ◌*◌, ◌/◌, ◌%◌, ◌<◌, ◌≤◌, Bool, true, false, List, [], ◌∷◌, ◌++◌, length, get_or, refl, sym, ap, ◌∙◌, arith, append-nil, length-append}
 use Rattle.std.specs.Prelude.{IsTrue, ◌&&◌, ◌||◌, nat_eq, nat_le, nat_lt, not, if◌then◌else◌, Option, Some, None}
 use Rattle.std.proofs.lemmas.Bool.{eqb-true, leb-true, lt-ltb, and_parts}
@@ -20,7 +20,7 @@ pub is_true : (b : Bool) → IsTrue b → b ≡ true
 is_true true h = refl
 is_true false h = cc
 
--- what the layer below ensures of spelled fields, numbers and bytes
+-- what the layer below ensures of written fields, numbers and bytes
 pub record SpelledBits : Type 0 where
   pub shape : (rs : List Row) (values : List Held) → fits rs values ≡ true → shaped rs values ≡ true
   pub spelled : (rs : List Row) (values : List Held) → shaped rs values ≡ true → (more : ℕ) × (length (spell_rows rs values) ≡ widths rs + 8 * more)
@@ -57,7 +57,7 @@ item_whole laws i x sound fit =
     let whole : fixed_part i % 8 ≡ 0 = eqb-true (fixed_part i % 8) 0 (and_parts (nat_lt 0 (fixed_part i)) (nat_eq (fixed_part i % 8) 0) parts.1).1 in
     omega (arith, one.1)
 
--- the table's own descriptors, and its items, whose bytes are given
+-- the descriptors of the table itself, and its items, given as bytes
 abbrev pub own_taken : LoopForm → List ℕ → ℕ
 own_taken Absent row = 0
 own_taken Counted row = length row

@@ -1,4 +1,4 @@
--- What the writing calls count and write.
+-- What the calls that write count and write.
 use Rattle.std.proofs.Common.{◌≡◌, ℕ, ◌+◌, ◌<◌, ◌≤◌, List, [], ◌∷◌, ◌++◌, length, take, drop, map, get_or, sym, ap, ◌∙◌, arith}
 use Rattle.std.proofs.Common.{Bool, append_assoc}
 use Rattle.std.proofs.lemmas.List.{take_more, take_all, map-append, take-map, drop-map}

@@ -1,6 +1,6 @@
--- How the body of a section is spelled.
--- ISO/IEC 13818-1, 2.4.4.3 to 2.4.4.9, and ETSI EN 300 468, 5.2: fields follow one another in their order. This
--- project's own rule: reserved bits are written as ones.
+-- Writing the body of a section.
+-- ISO/IEC 13818-1, 2.4.4.3 to 2.4.4.9, and ETSI EN 300 468, 5.2: fields follow one another in their order. That
+-- reserved bits are written as ones is this project's own rule.
 use Rattle.std.specs.Prelude.{ℕ, ◌+◌, ◌/◌, List, [], ◌∷◌, ◌++◌, length, take, drop, Bool, true, false, Option, Some, None, if◌then◌else◌}
 use Rattle.std.specs.List.{flat_map}
 use Rattle.ts_bits.specs.TaggedBody.{TaggedBody, loop_bytes}
@@ -22,11 +22,11 @@ read_row (Some x) = x.0
 unfoldable pub bytes_of : List Bool → List ℕ
 bytes_of bs = read_row (read_bytes (length bs / 8) bs)
 
--- bytes behind their number in 12 bits
+-- the number of some bytes in 12 bits, and the bytes
 unfoldable pub spell_counted : List ℕ → List Bool
 spell_counted row = bits 12 (length row) ++ bits_of row
 
--- an item's descriptors, if it has any
+-- the descriptors of an item, if it has any
 abbrev pub spell_described : Bool → List TaggedBody → List Bool
 spell_described false ds = []
 spell_described true ds = spell_counted (loop_bytes ds)
@@ -40,23 +40,23 @@ abbrev pub item_row : Option ItemPage → ItemHolding → List ℕ
 item_row None x = []
 item_row (Some i) x = bytes_of (spell_item i x)
 
--- the table's own descriptors, whose bytes are given
+-- the descriptors of the table itself, given as bytes
 abbrev pub spell_own : LoopForm → List ℕ → List Bool
 spell_own Absent row = []
 spell_own Counted row = spell_counted row
 spell_own ToEnd row = bits_of row
 
--- the items, whose bytes are given
+-- the items, given as bytes
 abbrev pub spell_behind : Option ItemPage → List ℕ → List Bool
 spell_behind None row = []
 spell_behind (Some i) row = if i.counted then bits 4 15 ++ spell_counted row else bits_of row
 
--- how many values some rows hold
+-- the number of values of some rows
 abbrev pub held_count : List Row → ℕ
 held_count [] = 0
 held_count (r ∷ rs) = holds r.kind + held_count rs
 
--- the values of the rows that stand first, and of the others
+-- the values of the first fields, and of the others
 abbrev pub common_values : TablePage → List Held → List Held
 common_values p values = take (held_count p.common) values
 

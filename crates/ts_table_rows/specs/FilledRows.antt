@@ -1,5 +1,5 @@
--- Descriptors and items as bytes, put into the bodies of sections.
--- This project's own rule, that of `TableSections`, told of the bytes alone.
+-- Filling the bodies of sections with descriptors and items as bytes.
+-- This project's own rule, that of `TableSections`, stated for the bytes alone.
 use Rattle.std.specs.Prelude.{◌≡◌, ℕ, ◌+◌, ◌-◌, ◌<◌, ◌≤◌, List, [], ◌∷◌, ◌++◌, length, map, Bool, true, false, nat_lt, nat_le, if◌then◌else◌, Option, Some, None, Result, Err, All}
 use Rattle.ts_bits.specs.TaggedBody.{TaggedBody, descriptor_bytes}
 use Rattle.ts_fields.specs.Layout.{Held}
@@ -12,7 +12,7 @@ use Rattle.ts_table_rows.specs.TableValues.{ItemHolding}
 use Rattle.ts_table_rows.specs.BodySpelling.{item_row, bytes_of, spell_parts}
 use Rattle.ts_table_rows.specs.TableSections.{Thing, own_thing, item_thing, told_length, plus, above, unless_large}
 
--- a descriptor of the table's own as bytes
+-- a descriptor of the table itself as bytes
 abbrev pub own_row : TaggedBody → Bool × List ℕ
 own_row d = (false, descriptor_bytes d)
 
@@ -35,40 +35,42 @@ piece_view p = (p.own.items, p.items.items)
 abbrev pub nothing : List ℕ × List ℕ
 nothing = ([], [])
 
--- a piece with one thing more
+-- a piece with one thing more at its end
 abbrev pub with_thing : List ℕ × List ℕ → Bool × List ℕ → List ℕ × List ℕ
 with_thing hand x = (if x.0 then hand.0 else hand.0 ++ x.1, if x.0 then hand.1 ++ x.1 else hand.1)
 
--- the pieces; `hand` is the piece in hand, which takes `used` of the room
+-- the pieces; `hand` is the current piece, which takes `used` bytes of the room
 unfoldable pub filled : ℕ → ℕ → List ℕ × List ℕ → List (Bool × List ℕ) → List (List ℕ × List ℕ)
 filled room used hand [] = hand ∷ []
 filled room used hand (x ∷ xs) =
     if nat_le (used + length x.1) room then filled room (used + length x.1) (with_thing hand x) xs
     else hand ∷ filled room (length x.1) (with_thing nothing x) xs
 
--- the pieces that the next thing ends, the piece that is then in hand, and what it takes
-abbrev pub step : ℕ → ℕ → List ℕ × List ℕ → Bool × List ℕ → List (List ℕ × List ℕ) × (List ℕ × List ℕ) × ℕ
+-- the pieces that the next thing completes, the piece that is then current, and the bytes that it takes
+abbrev pub step : ℕ → ℕ → List ℕ × List ℕ → Bool × List ℕ
+    → List (List ℕ × List ℕ) × (List ℕ × List ℕ) × ℕ
 step room used hand x =
     if nat_le (used + length x.1) room then ([], with_thing hand x, used + length x.1)
     else (hand ∷ [], with_thing nothing x, length x.1)
 
 -- a call has made this step
-pub record IsStep (old new : List (List ℕ × List ℕ)) (made : List (List ℕ × List ℕ) × (List ℕ × List ℕ) × ℕ) (hand : List ℕ × List ℕ) (used : ℕ) : Type 0 where
+pub record IsStep (old new : List (List ℕ × List ℕ)) (made : List (List ℕ × List ℕ) × (List ℕ × List ℕ) × ℕ)
+    (hand : List ℕ × List ℕ) (used : ℕ) : Type 0 where
   pub ended : new ≡ old ++ made.0
   pub in_hand : hand ≡ made.1
   pub takes : used ≡ made.2
 
--- all in one piece
+-- all things in one piece
 unfoldable pub gathered : List ℕ × List ℕ → List (Bool × List ℕ) → List ℕ × List ℕ
 gathered hand [] = hand
 gathered hand (x ∷ xs) = gathered (with_thing hand x) xs
 
--- the size of the first row that the room does not take
+-- the size of the first row that is larger than the room
 unfoldable pub large_row : ℕ → List (Bool × List ℕ) → Option ℕ
 large_row room [] = None
 large_row room (x ∷ xs) = if nat_lt room (length x.1) then Some (length x.1) else large_row room xs
 
--- the body that holds a piece
+-- the body with a piece
 abbrev pub row_with : TablePage → List Held → List ℕ × List ℕ → List ℕ
 row_with p values hand = bytes_of (spell_parts p values hand.0 hand.1)
 
@@ -95,7 +97,7 @@ rows_by p values xs = if p.single then single_row p values xs else filled_rows p
 abbrev pub AreSmall : List (List ℕ) → Type 0
 AreSmall rows = All (λ row. length row ≤ 4084) rows
 
--- the bodies of a table's sections: small, at least one, and one alone where the table has one section
+-- the bodies of the sections of a table: small, at least one, and exactly one where the table has one section
 pub record AreFilled (p : TablePage) (rows : List (List ℕ)) : Type 0 where
   pub small : AreSmall rows
   pub some : 0 < length rows

@@ -1,3 +1,4 @@
+-- The definitions of tables: their layouts and values, and how their sections are read and written.
 pub mod TablePages
 pub mod RowWords
 pub mod TableValues

@@ -1,5 +1,5 @@
 -- A table that is written is read again.
--- This project's own rule: the sections of a table form a whole run, and this run holds exactly that table.
+-- This project's own rule: the sections of a table form a whole run, and reading this run gives exactly that table.
 use Rattle.std.specs.Prelude.{◌≡◌, ℕ, ◌&&◌, ◌||◌, List, Bool, nat_lt, nat_le, if◌then◌else◌, Ok}
 use Rattle.std.specs.List.{list_all}
 use Rattle.ts_section.specs.SectionRun.{IsTableRun}
@@ -16,7 +16,7 @@ IsReadAgain p h = (sections : List (List ℕ)) → sections_of p h ≡ Ok sectio
 abbrev pub IsWrittenWhole : TablePage → TableHolding → Type 0
 IsWrittenWhole p h = (sections : List (List ℕ)) → sections_of p h ≡ Ok sections → IsTableRun sections
 
--- sections that keep their numbers are those of an EIT (table_id 0x4E to 0x6F), each of which stands alone
+-- section numbers are kept exactly for the table_ids of an EIT (0x4E to 0x6F), each section of which stands alone
 abbrev pub id_forms_runs : Bool → ℕ × ℕ → Bool
 id_forms_runs keeps range =
     if keeps then nat_le 0x4E range.0 && nat_le range.1 0x6F else nat_lt range.1 0x4E || nat_lt 0x6F range.0

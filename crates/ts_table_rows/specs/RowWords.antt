@@ -1,5 +1,5 @@
--- Words for the rows of layouts and for what they hold.
--- This project's own rule: a row is a field with a name, or reserved bits, which have none; a flag holds 0 or 1.
+-- The functions by which the rows of layouts and the values of flags are written.
+-- This project's own rule: a row is a field with a name, or reserved bits without one; a flag is 0 or 1.
 use Rattle.std.specs.Prelude.{ℕ, Bool, List, [], Some, None}
 use Rattle.std.specs.Int.{from_bool}
 use Rattle.ts_fields.specs.declared.field.Kind.{Kind}
@@ -10,7 +10,7 @@ use Rattle.ts_fields.specs.Layout.{Row, Held, number}
 abbrev pub field : List ℕ → Kind → Row
 field called kind = record { name = called; kind = kind; absent = None; range = None }
 
--- the same, with the number that stands for an absent one in JSON
+-- the same, with the number that an absent JSON attribute stands for
 abbrev pub field_or : List ℕ → Kind → ℕ → Row
 field_or called kind n = record { name = called; kind = kind; absent = Some n; range = None }
 
@@ -18,6 +18,6 @@ field_or called kind n = record { name = called; kind = kind; absent = Some n; r
 abbrev pub reserved : ℕ → Row
 reserved count = field [] (Free count)
 
--- what a flag holds: 1 where it is set
+-- the value of a flag: 1 where it is set
 abbrev pub flag : Bool → Held
 flag set = number (from_bool set)

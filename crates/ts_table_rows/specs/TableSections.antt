@@ -1,8 +1,8 @@
 -- The sections of a table, or why it has none.
--- ISO/IEC 13818-1, 2.4.4, and ETSI EN 300 468, 5.2: at most 1021 or 4093 bytes stand behind section_length, and at
--- most 256 sections have one head. How a table is put into sections is this project's own rule: each descriptor and
--- each item goes into the section in hand if that stays within the most, descriptors first; an empty table has one
--- section; sections are numbered from 0.
+-- ISO/IEC 13818-1, 2.4.4, and ETSI EN 300 468, 5.2: at most 1021 or 4093 bytes follow section_length, and at most 256
+-- sections have one head. How sections are filled is this project's own rule: each descriptor and each item goes into
+-- the current section if that stays within the maximum, descriptors first; an empty table has one section; sections
+-- are numbered from 0.
 use Rattle.std.specs.Prelude.{◌≡◌, ℕ, ◌+◌, ◌-◌, ◌^◌, List, [], ◌∷◌, ◌++◌, length, map, nat_lt, if◌then◌else◌, Option, Some, None, Result, Ok, Err}
 use Rattle.ts_bits.specs.TaggedBody.{TaggedBody, descriptor_bytes}
 use Rattle.ts_fields.specs.Layout.{Held}
@@ -16,12 +16,12 @@ use Rattle.ts_table_rows.specs.TableValues.{ItemHolding, BodyHolding, TableHoldi
 use Rattle.ts_table_rows.specs.Filling.{pieces}
 use Rattle.ts_table_rows.specs.BodySpelling.{item_row, body_row}
 
--- what is put into sections: a descriptor of the table's own, or an item
+-- what sections are filled with: a descriptor of the table itself, or an item
 pub data Thing : Type 0 where
   own_thing : TaggedBody → Thing
   item_thing : ItemHolding → Thing
 
--- what a table puts into its sections, its own descriptors first
+-- the descriptors and items of a table in the order of filling, its own descriptors first
 abbrev pub things : BodyHolding → List Thing
 things b = map own_thing b.descriptors ++ map item_thing b.items
 
@@ -36,7 +36,7 @@ items_in [] = []
 items_in (own_thing d ∷ xs) = items_in xs
 items_in (item_thing x ∷ xs) = x ∷ items_in xs
 
--- the body that holds a piece
+-- the body with a piece
 abbrev pub piece_body : List Held → List Thing → BodyHolding
 piece_body values piece = record { values = values; descriptors = owns_in piece; items = items_in piece }
 
@@ -56,11 +56,11 @@ length_with p b = 9 + length (body_row p b)
 abbrev pub empty_length : TablePage → List Held → ℕ
 empty_length p values = length_with p (piece_body values [])
 
--- how many bytes of things a section has room for
+-- the room of a section for descriptors and items, in bytes
 abbrev pub room_in : TablePage → List Held → ℕ
 room_in p values = p.most - empty_length p values
 
--- the size of the first thing that no section has room for
+-- the size of the first thing that is larger than the room
 abbrev pub first_large : TablePage → ℕ → List Thing → Option ℕ
 first_large p room [] = None
 first_large p room (x ∷ xs) = if nat_lt room (thing_size p x) then Some (thing_size p x) else first_large p room xs
@@ -78,14 +78,15 @@ section_bodies p b =
     if p.single then b ∷ []
     else map (piece_body b.values) (pieces (thing_size p) (room_in p b.values) 0 [] (things b))
 
--- a section_length that would be needed and is above the most: that of the one section, or of one with a thing alone
+-- a section_length that is needed and above the maximum: that of the one section; else that of a section without
+-- descriptors and items, or with the first of them that is too large alone
 abbrev pub needed_length : TablePage → BodyHolding → Option ℕ
 needed_length p b =
     if p.single then above p.most (length_with p b)
     else if nat_lt p.most (empty_length p b.values) then Some (empty_length p b.values)
     else plus (empty_length p b.values) (first_large p (room_in p b.values) (things b))
 
--- at most 2^32 - 1 is told
+-- 2^32 - 1 stands for any greater length
 abbrev pub told_length : ℕ → ℕ
 told_length n = if nat_lt n (2 ^ 32) then n else 2 ^ 32 - 1
 
@@ -106,7 +107,7 @@ unfoldable pub numbered : TablePage → TableHead → ℕ → ℕ → List (List
 numbered p h last number [] = []
 numbered p h last number (row ∷ rows) = long_section (head_with p h last number) row ∷ numbered p h last (number + 1) rows
 
--- the first number and the last: the table's own, or from 0
+-- the first section number and the last: those of the table, or from 0
 abbrev pub numbers_of : Option (ℕ × ℕ) → ℕ → ℕ × ℕ
 numbers_of None count = (0, count - 1)
 numbers_of (Some kept) count = kept
@@ -117,7 +118,7 @@ sections_with p h rows =
     if nat_lt 256 (length rows) then Err TooMany
     else Ok (numbered p h (numbers_of h.numbers (length rows)).1 (numbers_of h.numbers (length rows)).0 rows)
 
--- a length that is needed and is above the most, or else the bodies
+-- a refusal with a length that is needed and above the maximum, or else the bodies
 abbrev pub unless_large : Option ℕ → List (List ℕ) → Result (List (List ℕ)) TableRefusal
 unless_large None rows = Ok rows
 unless_large (Some n) rows = Err (TooLarge (told_length n))
@@ -137,13 +138,13 @@ sections_of p h = do
   rows ← body_rows p h.body
   sections_with p h.head rows
 
--- a call refused as the rule says; want of memory says nothing of the table
+-- a call refused as the rule says; out of memory says nothing about the table
 abbrev pub IsRefusal : TableRefusal → Result (List (List ℕ)) TableRefusal → Type 0
 IsRefusal (TooLarge n) sections = sections ≡ Err (TooLarge n)
 IsRefusal TooMany sections = sections ≡ Err TooMany
 IsRefusal NoMemory sections = Unit {0}
 
--- what a call answered is what the rule says, but for want of memory
+-- the result of a call is what the rule says, unless memory runs out
 abbrev pub Writes : {V : Type 0} → (V → List (List ℕ)) → Result V TableRefusal → Result (List (List ℕ)) TableRefusal → Type 0
 Writes view (Ok v) sections = sections ≡ Ok (view v)
 Writes view (Err refusal) sections = IsRefusal refusal sections

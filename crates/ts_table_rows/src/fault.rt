@@ -1,4 +1,4 @@
-//! Why a run is no such table, and why a table has no sections.
+//! Why a run is not a table of a layout, and why a table has no sections.
 
 ghost use Rattle.std.specs.Prelude.{◌≡◌};
 ghost use Rattle.ts_table_rows.specs.declared.fault.TableFault.TheVariants.{NoMemory};
@@ -9,63 +9,64 @@ ghost use Rattle.ts_table_rows.specs.BodyReading.{IsStopOf};
 use std::alloc::{AllocError, AllocFailed};
 use ts_fields::NotRead;
 
-/// A rule of tables.
+/// A rule of a table.
 #[derive(Debug, Clone, Copy, PartialEq, Eq)]
 pub enum TableRule {
-    /// The table_id is none of the table's, or the section is of the short form.
+    /// The table_id is not one of the table, or the section is in the short form.
     WrongTable,
     /// The table has one section, and the run has more.
     Sections,
-    /// The section_length is above the table's most.
+    /// The section_length is above the maximum of the table.
     TooLong,
-    /// A field that stands in no item and in no descriptor passes the end of the body.
+    /// A field outside the items and descriptors passes the end of the body.
     Short,
-    /// A loop passes its end, or a descriptor or the fixed part of an item is cut by it.
+    /// A loop passes its end, or its end cuts a descriptor or the fixed part of an item.
     Loop,
-    /// A second item has 0 in its first field: a second network entry of a PAT.
+    /// A second item has 0 in its first field: in a PAT a second network entry.
     Network,
-    /// The field that all sections have alike differs from the first section's.
+    /// The field that all sections have in common differs from that of the first section.
     Mixed,
-    /// A start is neither lawful nor all ones, or a duration is not lawful.
+    /// A start is neither a valid one nor all ones, or a duration is not valid.
     Time,
-    /// Bytes stand behind the counted items.
+    /// Bytes follow the counted items.
     Trailing,
 }
 
-/// Why a run of sections is no such table.
+/// Why a run of sections is not a table of a layout.
 #[derive(Debug, Clone, Copy, PartialEq, Eq)]
 pub enum TableFault {
-    /// The first broken rule: in which section of the run, from 0, and at which of its bytes.
+    /// The first broken rule, with the section of the run, from 0, and the byte of that section, from 0.
     Broken {
         section: usize,
         offset: usize,
         rule: TableRule,
     },
-    /// There is no memory for the table.
+    /// Out of memory for the table.
     NoMemory,
 }
 
 /// Why a table has no sections.
 #[derive(Debug, Clone, Copy, PartialEq, Eq)]
 pub enum TableRefusal {
-    /// A section would need this section_length, which is above the table's most; at most 2^32 - 1 is told.
+    /// A section would need this section_length, which is above the maximum of the table; 2^32 - 1 stands for any
+    /// greater one.
     TooLarge { bytes: u32 },
     /// More than 256 sections would be needed.
     TooMany,
-    /// There is no memory for the sections.
+    /// Out of memory for the sections.
     NoMemory,
 }
 
 /// Why the body of a section was not read.
 #[derive(Debug, Clone, Copy, PartialEq, Eq)]
 pub enum BodyStop {
-    /// The first broken rule, and how many bits are left from the broken field on.
+    /// The first broken rule, and the number of bits from the faulty field to the end of the body.
     At { rule: TableRule, left: usize },
-    /// There is no memory.
+    /// Out of memory.
     NoMemory,
 }
 
-/// Why a field was not read, as the rule that is broken there.
+/// Why a field was not read, as a stop with the rule that is broken there.
 pub fn stop_at(stop: NotRead, rule: TableRule, left: usize) -> BodyStop
     ensures { IsStopOf stop rule left result }
 {

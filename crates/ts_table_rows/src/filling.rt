@@ -1,4 +1,4 @@
-//! Descriptors and items put into the bodies of sections.
+//! Filling the bodies of sections with descriptors and items.
 
 ghost use Rattle.std.specs.Prelude.{◌≡◌, ◌≤◌, ◌++◌, [], map, length, true, All, option_map, IfOk, OnOk, IsTrue};
 ghost use Rattle.std.specs.List.{list_all};
@@ -17,7 +17,7 @@ use std::alloc::{AllocError, Global};
 use ts_bits::DescriptorList;
 use ts_fields::FieldValue;
 
-/// A descriptor of the table's own, or an item, as bytes.
+/// A descriptor of the table itself, or an item, as bytes.
 #[derive(Drop)]
 pub struct ThingRow {
     /// Whether it is an item.
@@ -26,16 +26,16 @@ pub struct ThingRow {
     pub bytes: Vec<u8>,
 }
 
-/// What one section holds: the bytes of descriptors, and those of items.
+/// The contents of one section: the bytes of descriptors, and those of items.
 #[derive(Drop)]
 pub struct Piece {
-    /// The bytes of the table's own descriptors.
+    /// The bytes of the descriptors of the table itself.
     pub own: Vec<u8>,
     /// The bytes of its items.
     pub items: Vec<u8>,
 }
 
-/// The table's own descriptors as bytes.
+/// The descriptors of the table itself as bytes.
 pub fn own_rows(alloc: Global, descriptors: &DescriptorList) -> Result<Vec<ThingRow>, AllocError>
     ensures rows { IfOk result (λ v. map thing_view v.items ≡ map FilledRows.own_row descriptors.now) }
     ensures fit { OnOk result (All (λ d. IsDescriptor d) descriptors.now) }
@@ -52,7 +52,7 @@ pub fn own_rows(alloc: Global, descriptors: &DescriptorList) -> Result<Vec<Thing
     Ok(rows)
 }
 
-/// The items of a table that has items as bytes.
+/// The items of a table with items, as bytes.
 fn formed_rows(
     alloc: Global,
     form: ItemForm,
@@ -93,7 +93,7 @@ pub fn item_rows(
     }
 }
 
-/// A piece with one thing more.
+/// A piece with one thing more at its end.
 fn put_thing(piece: Piece, row: &ThingRow) -> Result<Piece, AllocError>
     ensures { IfOk result (λ p. piece_view p ≡ with_thing (piece_view piece) (thing_view row.now)) }
 {
@@ -107,7 +107,7 @@ fn put_thing(piece: Piece, row: &ThingRow) -> Result<Piece, AllocError>
     Ok(Piece { own, items })
 }
 
-/// A piece without anything.
+/// A piece without descriptors and items.
 fn empty_piece(alloc: Global) -> Piece
     ensures { piece_view result ≡ nothing }
 {
@@ -117,7 +117,7 @@ fn empty_piece(alloc: Global) -> Piece
     }
 }
 
-/// The next thing put into the piece in hand, or into a new one where that has no room for it.
+/// Appends the next thing to the current piece, or to a new one where the current piece has no room for it.
 fn put_next(
     alloc: Global,
     pieces: &mut Vec<Piece>,
@@ -140,7 +140,7 @@ fn put_next(
     Ok((piece, size))
 }
 
-/// The pieces of the bodies, each filled as long as the next thing is within the room.
+/// The pieces of the bodies: each takes things as long as they fit the room, in bytes.
 pub fn fill(alloc: Global, room: usize, rows: &[ThingRow]) -> Result<Vec<Piece>, AllocError>
     requires { room ≤ 4096 }
     ensures { IfOk result (λ v. map piece_view v.items
@@ -169,7 +169,7 @@ pub fn gather(alloc: Global, rows: &[ThingRow]) -> Result<Piece, AllocError>
     Ok(hand)
 }
 
-/// The size of the first thing that the room does not take.
+/// The size of the first thing that is larger than the room.
 pub fn first_large(room: usize, rows: &[ThingRow]) -> Option<usize>
     ensures { result ≡ FilledRows.large_row room (map thing_view rows.now) }
 {
@@ -182,7 +182,7 @@ pub fn first_large(room: usize, rows: &[ThingRow]) -> Option<usize>
     None
 }
 
-/// The body of the section that holds a piece.
+/// The body of the section with this piece, as bytes.
 pub fn piece_bytes(
     alloc: Global,
     layout: &TableLayout,
@@ -197,7 +197,7 @@ pub fn piece_bytes(
     body_bytes(alloc, layout, values, &piece.own, &piece.items)
 }
 
-/// The bodies of the sections that hold these pieces.
+/// The bodies of the sections with these pieces, as bytes.
 pub fn pieces_bytes(
     alloc: Global,
     layout: &TableLayout,

@@ -1,4 +1,4 @@
-//! Laws of filling: functions with nothing to run, called where what they ensure is wanted.
+//! Laws of filling. The functions run nothing; they are called for what they ensure.
 
 ghost use Rattle.std.specs.Prelude.{◌≡◌, [], List, ℕ, Bool, map, Ok, IsTrue};
 ghost use Rattle.ts_fields.specs.Layout.{Held};
@@ -10,8 +10,8 @@ ghost use Rattle.ts_table_rows.specs.TableValues.{BodyHolding};
 
 use ts_fields::{fit_rows_are_shaped, length_of_bits, length_of_spelled_rows};
 
-/// Greedy pieces of things of any kind join to the whole, each is within the room where each thing is,
-/// and no piece but the last could take the next thing.
+/// Greedy pieces of any kind of things join to the whole list, each fits the room where each thing does, and no piece
+/// but the last has room for the next thing. A law; it runs nothing.
 pub fn filled_greedily<T>()
     ensures join { (size : T → ℕ) (room : ℕ) (xs : List T) → join (pieces size room 0 [] xs) ≡ xs }
     ensures fit { (size : T → ℕ) (room : ℕ) (xs : List T) → Each size room xs →
@@ -19,8 +19,8 @@ pub fn filled_greedily<T>()
     ensures full { (size : T → ℕ) (room : ℕ) (xs : List T) → AreFull size room (pieces size room 0 [] xs) }
 {}
 
-/// Bytes are put into bodies as the things that they stand for, and each body leaves room for the head
-/// and the CRC.
+/// The bodies that are filled with bytes are the bodies of the descriptors and items of these bytes, and each leaves
+/// room for the head of a section and the CRC. A law; it runs nothing.
 pub fn bodies_are_filled()
     ensures same { (p : TablePage) (b : BodyHolding) →
         rows_by p b.values (map (kind_row p.items) (things b)) ≡ body_rows p b }

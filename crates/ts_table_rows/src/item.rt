@@ -6,25 +6,25 @@ ghost use Rattle.ts_table_rows.specs.TableValues.{ItemHolding, item_held};
 use crate::table::TableItem;
 use std::alloc::{AllocError, Global};
 
-/// A struct that stands for an item of a table, with a field for each of the item's.
+/// A struct for an item of a table, with a field for each field of the item.
 pub trait Item: Drop {
-    /// What it holds as an item.
+    /// Its values as those of an item.
     ghost as_item: { Self → ItemHolding };
 
-    /// Whether there is one that holds this.
+    /// Whether some struct has these values.
     ghost fits: { ItemHolding → Bool };
 
-    /// The struct that an item of its table is.
+    /// The struct of an item of its table.
     fn of(entry: TableItem) -> Self
         requires { fits (item_held entry) ≡ true }
         ensures { as_item result ≡ item_held entry };
 
-    /// It as an item of its table.
+    /// The item of the struct, for its table.
     fn to_item(&self, alloc: Global) -> Result<TableItem, AllocError>
         ensures held { IfOk result (λ i. item_held i ≡ as_item self.now) }
         ensures fits { OnOk result (fits (as_item self.now) ≡ true) };
 
-    /// An equal one.
+    /// An equal struct.
     fn copy(&self) -> Result<Self, AllocError>
         ensures { IfOk result (λ copied. copied ≡ self.now) };
 }

@@ -9,13 +9,13 @@ use crate::table::TableItem;
 use std::alloc::{AllocError, Global};
 use std::marker::Model;
 
-/// Structs that are items of a table, in their order.
+/// Structs for the items of a table, in their order.
 #[derive(Drop)]
 pub struct ItemList<T: Drop> {
     items: Vec<T>,
 }
 
-// Clauses see the list of the structs.
+// Contracts see the list of the structs.
 impl<T: Drop> Model for ItemList<T> {
     ghost use Rattle.std.specs.Prelude.{List};
 
@@ -25,14 +25,14 @@ impl<T: Drop> Model for ItemList<T> {
 }
 
 impl<T: Item> ItemList<T> {
-    /// The structs of a `Vec`, which the list keeps.
+    /// The list of these structs. It allocates nothing.
     pub fn of(items: Vec<T>) -> ItemList<T>
         ensures { result ≡ items.items }
     {
         ItemList { items }
     }
 
-    /// The structs.
+    /// The structs as a slice.
     pub fn as_slice(&self) -> &[T]
         ensures { result.now ≡ self.now }
     {
@@ -59,7 +59,7 @@ impl<T: Item> ItemList<T> {
         Ok(ItemList { items })
     }
 
-    /// The structs that items of a table are.
+    /// The structs of the items of a table.
     pub fn read(alloc: Global, items: Vec<TableItem>) -> Result<ItemList<T>, AllocError>
         requires { list_all T.fits (map item_held items.items) ≡ true }
         ensures { IfOk result (λ l. map T.as_item l ≡ map item_held items.items) }
@@ -71,7 +71,7 @@ impl<T: Item> ItemList<T> {
         Ok(ItemList { items: read })
     }
 
-    /// The structs as items of a table.
+    /// The items of the structs.
     pub fn write(&self, alloc: Global) -> Result<Vec<TableItem>, AllocError>
         ensures held { IfOk result (λ v. map item_held v.items ≡ map T.as_item self.now) }
         ensures fits { OnOk result (list_all T.fits (map T.as_item self.now) ≡ true) }

@@ -1,5 +1,6 @@
-//! A table's layout comes in with a run of sections, or with the table's values; values, or sections, go out.
-//! The layer above rests on `read_table`, exact to the first broken rule, and `write_table`, exact to the rule of filling.
+//! Reads and writes tables by their layouts. A run of sections comes in and values go out, or values come in and
+//! sections go out. The layer above rests on `read_table`, exact to the first broken rule, and on `write_table`,
+//! exact to the rule of filling.
 #![tactic(auto)]
 
 mod fault;

@@ -19,13 +19,13 @@ use ts_fields::{BitReader, FieldValue};
 /// What the sections of a run have shown so far.
 #[derive(Clone, Copy)]
 pub struct SeenSoFar {
-    /// The number that all sections have alike, if there was a section.
+    /// The number that all sections have in common, if there was a section.
     pub first: Option<u64>,
-    /// Whether an item of 0 has stood.
+    /// Whether there was an item with 0 in its first field.
     pub zero: bool,
 }
 
-/// Nothing may stand `left` bits before the end of the body.
+/// `Trailing` where `left` bits, more than none, are left before the end of the body.
 fn check_end(left: usize) -> Result<bool, BodyStop>
     ensures { Answers (λ all. all) result (BodyReading.nothing_left left) }
 {
@@ -38,7 +38,7 @@ fn check_end(left: usize) -> Result<bool, BodyStop>
     })
 }
 
-/// Items behind four reserved bits and the number of their bytes in 12 bits.
+/// Reads items after four reserved bits and the number of their bytes in 12 bits.
 #[tactic(auto, unfolding(crate::specs::BodyReading::read_counted_items))]
 fn read_counted_items<'a>(
     alloc: Global,
@@ -65,7 +65,7 @@ fn read_counted_items<'a>(
     Ok(items)
 }
 
-/// What stands behind the table's own descriptors: items, or nothing.
+/// Reads what follows the descriptors of the table itself: items, or nothing.
 #[tactic(auto, unfolding(crate::specs::BodyReading::read_behind))]
 fn read_behind<'a>(
     alloc: Global,
@@ -99,7 +99,7 @@ fn is_same(first: Option<u64>, found: Option<u64>) -> bool
     }
 }
 
-/// The fields that stand in no item, and the number that all sections have alike.
+/// Reads the fields outside the items, and returns the number that all sections have in common.
 #[tactic(auto, unfolding(crate::specs::BodyReading::read_heading))]
 fn read_heading<'a>(
     alloc: Global,
@@ -125,7 +125,7 @@ fn read_heading<'a>(
     Ok((values, found, rest))
 }
 
-/// Values and more values behind them.
+/// The values of two lists, joined.
 fn with_more(values: Vec<FieldValue>, more: Vec<FieldValue>) -> Result<Vec<FieldValue>, AllocError>
     ensures { IfOk result (λ v. v.items ≡ values.items ++ more.items) }
 {
@@ -135,7 +135,7 @@ fn with_more(values: Vec<FieldValue>, more: Vec<FieldValue>) -> Result<Vec<Field
     Ok(values)
 }
 
-/// The body of one section, and what has been seen by then.
+/// Reads the body of one section, and returns what the sections have shown so far.
 #[tactic(auto, unfolding(crate::specs::BodyReading::read_body))]
 pub fn read_body<'a>(
     alloc: Global,

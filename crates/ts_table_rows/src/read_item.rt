@@ -17,7 +17,7 @@ use std::alloc::Global;
 use ts_bits::DescriptorList;
 use ts_fields::{BitReader, Field, FieldValue, Kind};
 
-/// How many bits a field of this kind takes, but for the bytes of texts and data.
+/// The number of bits of a field of this kind, without the bytes of texts and data.
 fn width(kind: Kind) -> u64
     ensures { result ≡ SoundRows.width kind }
 {
@@ -31,7 +31,7 @@ fn width(kind: Kind) -> u64
     }
 }
 
-/// Whether fields and `more` bits behind them are within `left` bits.
+/// Whether the widths of fields and `more` bits after them are within `left` bits.
 fn are_there(rows: &[Field], more: u64, left: u64) -> bool
     ensures { result ≡ nat_le (SoundRows.widths (rows_of rows.now) + more) left }
 {
@@ -46,7 +46,7 @@ fn are_there(rows: &[Field], more: u64, left: u64) -> bool
     more <= free
 }
 
-/// The number that a field which stands first holds.
+/// The number in the first field; `None` where it holds none.
 pub fn first_number(values: &[FieldValue]) -> Option<u64>
     ensures { result ≡ BodyReading.first_number (map held values.now) }
 {
@@ -56,7 +56,7 @@ pub fn first_number(values: &[FieldValue]) -> Option<u64>
     }
 }
 
-/// The descriptors of an item, if it has any.
+/// Reads the descriptors of an item, if it has any.
 #[tactic(auto, unfolding(crate::specs::BodyReading::read_described))]
 fn read_described<'a>(
     alloc: Global,
@@ -75,7 +75,7 @@ fn read_described<'a>(
     }
 }
 
-/// One item.
+/// Reads one item.
 #[tactic(auto, unfolding(crate::specs::BodyReading::read_item))]
 fn read_item<'a>(
     alloc: Global,
@@ -112,8 +112,8 @@ fn is_whole(form: ItemForm, left: usize) -> bool
     are_there(form.rows, more, left as u64)
 }
 
-/// Whether an item of 0 has stood by now, where `values` are those of the next item, which begins `left`
-/// bits before the end of the body.
+/// Whether there was an item with 0 in its first field up to an item with these `values`, which begins `left` bits
+/// before the end of the body.
 fn count_zero(
     one_zero: bool,
     seen: bool,
@@ -134,7 +134,7 @@ fn count_zero(
     Ok(true)
 }
 
-/// The next item, and whether an item of 0 has stood by then.
+/// Reads the next item, and returns whether there was one with 0 so far.
 #[tactic(auto, unfolding(crate::specs::BodyReading::read_next))]
 fn read_next<'a>(
     alloc: Global,
@@ -155,7 +155,7 @@ fn read_next<'a>(
     Ok((item, seen, rest))
 }
 
-/// Items up to the end, and whether an item of 0 has stood by then.
+/// Reads items up to the end, and returns whether there was one with 0 so far.
 pub fn read_items<'a>(
     alloc: Global,
     one_zero: bool,
@@ -169,7 +169,7 @@ pub fn read_items<'a>(
     ensures { Answers (λ x. (map item_held x.0.items, x.1)) result
         (BodyReading.read_items (length from.entry) one_zero (item_page form) seen behind from.entry) }
 {
-    // A law, which runs nothing.
+    // It runs nothing: the proof cites it.
     items_take_bits();
     let mut items = Vec::new(alloc);
     let mut now = seen;

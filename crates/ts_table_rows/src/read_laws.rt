@@ -1,4 +1,4 @@
-//! Laws of reading: functions with nothing to run, called where what they ensure is wanted.
+//! Laws of reading. The functions run nothing; they are called for what they ensure.
 
 ghost use Rattle.std.specs.Prelude.{◌≡◌, ◌<◌, ℕ, Bool, List, length, true, All, Ok, IsTrue};
 ghost use Rattle.ts_table_rows.specs.BodyReading.{read_next};
@@ -13,7 +13,7 @@ use ts_fields::{
     read_bytes_are_spelled, read_number_is_spelled,
 };
 
-/// What a run of lawful sections holds is what a table of the layout can hold.
+/// The values of a run of valid sections are ones that a table of the layout can hold. A law; it runs nothing.
 pub fn read_tables_fit()
     ensures { (p : TablePage) (ss : List (List ℕ)) (h : TableHolding) → All (λ s. IsSection s) ss →
         read_run p ss ≡ Ok h → table_fits p h ≡ true }
@@ -21,7 +21,7 @@ pub fn read_tables_fit()
     length_of_read_rows();
 }
 
-/// Each item takes some bits.
+/// Each item takes some bits. A law; it runs nothing.
 pub fn items_take_bits()
     ensures { (one_zero : Bool) (i : ItemPage) (seen : Bool) (behind : ℕ) (from : List Bool)
         (item : ItemHolding) (now : Bool) (rest : List Bool) → IsTrue (item_sound i) →

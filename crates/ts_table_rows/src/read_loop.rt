@@ -1,4 +1,4 @@
-//! Reading fields and descriptors of a body.
+//! Reading the fields and the descriptors of a body.
 
 ghost use Rattle.std.specs.Prelude.{◌≡◌, ◌≤◌, ◌<◌, ◌++◌, ◌*◌, map, length, option_map, option_to_list, IsTrue, IfOk, OnOk};
 ghost use Rattle.ts_bits.specs.DescriptorLoop.{descriptors_of};
@@ -15,8 +15,8 @@ use ts_fields::{
     BitReader, Field, FieldValue, read_bytes_are_spelled, read_field, read_number_is_spelled,
 };
 
-/// Fields one after another; where one is not there or not of its form, `rule` is broken. This part of
-/// the body has `behind` bits behind it.
+/// Reads fields one after another. Where one is missing or not of its form, `rule` is broken. `behind` bits of the
+/// body follow this part of it.
 pub fn read_fields<'a>(
     alloc: Global,
     rule: TableRule,
@@ -43,7 +43,7 @@ pub fn read_fields<'a>(
     Ok((values, rest))
 }
 
-/// Adds what a field holds, if it is not reserved.
+/// Appends the value of a field, if it is not reserved.
 fn add(
     values: &mut Vec<FieldValue>,
     value: Option<FieldValue>,
@@ -56,8 +56,8 @@ fn add(
     Ok(())
 }
 
-/// As many bytes as a number of 12 bits says. Where the number is cut, `rule` is broken `left` bits before
-/// the end of the body.
+/// Reads as many bytes as a number of 12 bits says. Where the number is cut, `rule` is broken `left` bits before the
+/// end of the body.
 #[tactic(auto, unfolding(crate::specs::BodyReading::read_counted))]
 pub fn read_counted<'a>(
     alloc: Global,
@@ -70,7 +70,7 @@ pub fn read_counted<'a>(
     ensures read { Answers (λ x. (x.0.items, x.1)) result (BodyReading.read_counted rule left behind from.entry) }
     ensures few { IfOk result (λ x. length x.0.items < 4096) }
 {
-    // Laws, which run nothing.
+    // They run nothing: the proof cites them.
     read_number_is_spelled();
     read_bytes_are_spelled();
     let whole = from.len() + behind;
@@ -83,7 +83,7 @@ pub fn read_counted<'a>(
     }
 }
 
-/// The descriptors that fill `row`; `left` bits are left from its first bit to the end of the body.
+/// Reads the descriptors that fill `row`; `left` bits are left from its first bit to the end of the body.
 fn read_descriptors(alloc: Global, row: &[u8], left: usize) -> Result<DescriptorList, BodyStop>
     ensures { Answers (λ l. l) result (BodyReading.or_cut (descriptors_of row.now) left) }
 {
@@ -97,7 +97,7 @@ fn read_descriptors(alloc: Global, row: &[u8], left: usize) -> Result<Descriptor
     }
 }
 
-/// Descriptors behind the number of their bytes in 12 bits.
+/// Reads descriptors after the number of their bytes in 12 bits.
 #[tactic(auto, unfolding(crate::specs::BodyReading::read_counted_loop))]
 pub fn read_counted_loop<'a>(
     alloc: Global,
@@ -114,7 +114,7 @@ pub fn read_counted_loop<'a>(
     Ok((list, rest))
 }
 
-/// Descriptors up to the end of the body.
+/// Reads descriptors up to the end of the body.
 #[tactic(auto, unfolding(crate::specs::BodyReading::read_last_loop))]
 fn read_last_loop<'a>(
     alloc: Global,
@@ -131,7 +131,7 @@ fn read_last_loop<'a>(
     Ok((list, rest))
 }
 
-/// The table's own descriptors.
+/// Reads the descriptors of the table itself.
 #[tactic(auto, unfolding(crate::specs::BodyReading::read_loop))]
 pub fn read_own_loop<'a>(
     alloc: Global,

@@ -30,7 +30,7 @@ fn broken(section: usize, offset: usize, rule: TableRule) -> TableFault
     }
 }
 
-/// A stop in the body of a section, which has `size` bytes, as a fault of the run.
+/// A stop in the body of a section of `size` bytes, as a fault of the run.
 fn body_fault(stop: BodyStop, section: usize, size: usize) -> TableFault
     requires { size ≤ 4096 }
     ensures { result ≡ RunReading.body_fault stop section size }
@@ -44,7 +44,7 @@ fn body_fault(stop: BodyStop, section: usize, size: usize) -> TableFault
     }
 }
 
-/// One section of a run, and what has been seen by then.
+/// Reads one section of a run, and returns what the sections have shown so far.
 #[tactic(auto, unfolding(crate::specs::RunReading::read_section))]
 fn read_section(
     alloc: Global,
@@ -67,7 +67,7 @@ fn read_section(
     }
 }
 
-/// The lists of one body and of the next joined, with the values of the first.
+/// The lists of one body and of the next, joined, with the values of the first.
 fn join(body: TableBody, next: TableBody) -> Result<TableBody, AllocError>
     ensures { IfOk result (λ b. body_held b ≡ joined (body_held body) (body_held next)) }
 {
@@ -84,7 +84,7 @@ fn join(body: TableBody, next: TableBody) -> Result<TableBody, AllocError>
     })
 }
 
-/// The sections of a run, their lists joined.
+/// Reads the sections of a run, with their lists joined.
 fn read_sections(
     alloc: Global,
     layout: &TableLayout,
@@ -110,14 +110,14 @@ fn read_sections(
     Ok(body)
 }
 
-/// Whether a table_id is one of these ranges'.
+/// Whether a table_id is in one of these ranges.
 fn has_id(ids: &[(u8, u8)], id: u8) -> bool
     ensures { result ≡ TablePages.has_id ids.now id }
 {
     ids.iter().any(|range| range.0 <= id && id <= range.1)
 }
 
-/// What a table keeps of the head of its first section; none where the section is not of the table.
+/// What a table keeps of the head of its first section; `None` where the section is not of the table.
 fn table_head(layout: &TableLayout, section: &Section) -> Option<TableHead>
     ensures { result ≡ RunReading.table_head (table_page layout.now) section.now }
 {
@@ -139,20 +139,20 @@ fn table_head(layout: &TableLayout, section: &Section) -> Option<TableHead>
     })
 }
 
-/// Whether sections stand behind the first of a table that has one.
+/// Whether sections follow the first one of a table with one section only.
 fn are_too_many(layout: &TableLayout, others: &[Section]) -> bool
     ensures { result ≡ RunReading.too_many (table_page layout.now) others.now }
 {
     layout.single && 0 < others.len()
 }
 
-/// What a run holds as a table of this layout, or the first rule that it breaks.
+/// Reads a run as a table of this layout. A fault has the first rule that the run breaks.
 pub fn read_table(alloc: Global, layout: &TableLayout, run: &TableRun) -> Result<Table, TableFault>
     requires { IsTrue (page_sound (table_page layout.now)) }
     ensures read { Tells table_held result (read_run (table_page layout.now) run.now) }
     ensures fits { IfOk result (λ t. table_fits (table_page layout.now) (table_held t) ≡ true) }
 {
-    // A law, which runs nothing.
+    // It runs nothing: the proof cites it.
     read_tables_fit();
     let Some((first, others)) = run.sections().split_first() else {
         return Err(broken(0, 0, TableRule::WrongTable));

@@ -1,5 +1,4 @@
-//! The law of writing and reading a table: a function with nothing to run, called where what it ensures is
-//! wanted.
+//! The law of writing and reading a table. The function runs nothing; it is called for what it ensures.
 
 ghost use Rattle.std.specs.Prelude.{◌≡◌, true, IsTrue};
 ghost use Rattle.ts_table_rows.specs.RoundTrip.{IsReadAgain, IsWrittenWhole, forms_runs};
@@ -14,9 +13,9 @@ use ts_fields::{
 };
 use ts_section::made_sections_are_lawful;
 
-/// A table that is written is read again: whatever the layout, the sections of a table that it can hold,
-/// read as a run, hold exactly that table. They are a whole run where the layout keeps the numbers of
-/// its section exactly for the table_ids of an EIT.
+/// A table that is written is read again: for each layout, the sections of a table that it can hold, read as a run,
+/// give exactly that table. They are a whole run where the layout keeps the section numbers exactly for the table_ids
+/// of an EIT. A law; it runs nothing.
 pub fn written_tables_are_read()
     ensures again { (p : TablePage) (h : TableHolding) → IsTrue (page_sound p) → table_fits p h ≡ true →
         DescriptorsFit h.body → IsReadAgain p h }

@@ -1,4 +1,4 @@
-//! What a table holds, whatever its layout.
+//! The values of a table of any layout.
 
 use ts_bits::DescriptorList;
 use ts_fields::FieldValue;
@@ -8,32 +8,32 @@ use ts_fields::FieldValue;
 pub struct TableHead {
     /// table_id.
     pub table_id: u8,
-    /// table_id_extension: what the table calls transport_stream_id, program_number, network_id and the like.
+    /// table_id_extension: transport_stream_id, program_number, network_id and the like, by the table.
     pub extension: u16,
     /// version_number, 0 to 31.
     pub version: u8,
     /// current_next_indicator.
     pub current: bool,
-    /// section_number and last_section_number, where the table keeps them; none where its sections are
-    /// numbered from 0.
+    /// section_number and last_section_number, where the table keeps them; `None` where its sections are numbered
+    /// from 0.
     pub numbers: Option<(u8, u8)>,
 }
 
 /// One item of a table.
 #[derive(Drop)]
 pub struct TableItem {
-    /// What its fields hold, in their order, reserved bits left out.
+    /// The values of its fields, in their order, without reserved bits.
     pub values: Vec<FieldValue>,
     /// Its descriptors.
     pub descriptors: DescriptorList,
 }
 
-/// What stands in the bodies of a table's sections.
+/// The contents of the bodies of the sections of a table.
 #[derive(Drop)]
 pub struct TableBody {
-    /// What the fields hold that stand in no item, in their order, reserved bits left out.
+    /// The values of the fields outside the items, in their order, without reserved bits.
     pub values: Vec<FieldValue>,
-    /// The table's own descriptors, those of all sections joined.
+    /// The descriptors of the table itself, those of all sections joined.
     pub descriptors: DescriptorList,
     /// The items of all sections joined.
     pub items: Vec<TableItem>,
@@ -42,8 +42,8 @@ pub struct TableBody {
 /// A table.
 #[derive(Drop)]
 pub struct Table {
-    /// What it keeps of the heads of its sections.
+    /// What the table keeps of the heads of its sections.
     pub head: TableHead,
-    /// What stands in their bodies.
+    /// The contents of their bodies.
     pub body: TableBody,
 }

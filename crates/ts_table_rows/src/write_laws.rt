@@ -1,4 +1,4 @@
-//! Laws of writing: functions with nothing to run, called where what they ensure is wanted.
+//! Laws of writing. The functions run nothing; they are called for what they ensure.
 
 ghost use Rattle.std.specs.Prelude.{◌≡◌, ◌%◌, ℕ, List, Bool, length, true, IsTrue};
 ghost use Rattle.ts_fields.specs.Bits.{bits_of};
@@ -13,7 +13,7 @@ use ts_fields::{
     fit_rows_are_shaped, length_of_bits, length_of_spelled_rows, spelled_bytes_are_read,
 };
 
-/// Items and bodies are whole bytes, and bytes are told by their bits.
+/// Items and bodies are whole bytes, and bytes are equal where their bits are. A law; it runs nothing.
 pub fn written_rows_are_whole()
     ensures item { (i : ItemPage) (x : ItemHolding) → IsTrue (item_sound i) → item_fits i x ≡ true →
         length (spell_item i x) % 8 ≡ 0 }

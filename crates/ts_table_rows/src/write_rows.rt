@@ -17,7 +17,7 @@ use std::alloc::{AllocError, Global};
 use ts_bits::{Descriptor, DescriptorList, write_loop};
 use ts_fields::{BitWriter, Field, FieldValue, write_rows};
 
-/// Bytes behind their number in 12 bits.
+/// Appends the number of some bytes in 12 bits, and the bytes.
 #[tactic(auto, unfolding(crate::specs::BodySpelling::spell_counted))]
 fn put_counted(out: &mut BitWriter, row: &[u8]) -> Result<(), AllocError>
     ensures { OnOk result (out.new ≡ out.old ++ spell_counted row.now) }
@@ -26,7 +26,7 @@ fn put_counted(out: &mut BitWriter, row: &[u8]) -> Result<(), AllocError>
     out.put_bytes(row)
 }
 
-/// An item's descriptors, if it has any.
+/// Appends the descriptors of an item, if it has any.
 fn put_described(
     alloc: Global,
     out: &mut BitWriter,
@@ -43,7 +43,7 @@ fn put_described(
     put_counted(out, &row)
 }
 
-/// An item.
+/// Appends an item.
 #[tactic(auto, unfolding(crate::specs::BodySpelling::spell_item))]
 fn put_item(
     alloc: Global,
@@ -59,7 +59,7 @@ fn put_item(
     put_described(alloc, out, form.described, &item.descriptors)
 }
 
-/// Each byte is below 256. A law, which runs nothing.
+/// Each byte is below 256. A law; it runs nothing.
 fn bytes_are_small(row: &[u8])
     ensures { are_bytes row.now ≡ true }
 {}
@@ -71,7 +71,7 @@ pub fn item_bytes(alloc: Global, form: ItemForm, item: &TableItem) -> Result<Vec
     ensures row { IfOk result (λ row. row.items ≡ bytes_of (spell_item (item_page form) (item_held item.now))) }
     ensures fit { OnOk result (form.described ≡ true → All (λ d. IsDescriptor d) item.now.descriptors) }
 {
-    // A law, which runs nothing.
+    // It runs nothing: the proof cites it.
     written_rows_are_whole();
     let mut out = BitWriter::new(alloc);
     put_item(alloc, &mut out, form, item)?;
@@ -93,7 +93,7 @@ pub fn descriptor_row(alloc: Global, descriptor: &Descriptor) -> Result<Vec<u8>,
     Ok(row)
 }
 
-/// The table's own descriptors, whose bytes are given.
+/// Appends the descriptors of the table itself, given as bytes.
 fn put_own(out: &mut BitWriter, form: LoopForm, row: &[u8]) -> Result<(), AllocError>
     ensures { OnOk result (out.new ≡ out.old ++ spell_own form row.now) }
 {
@@ -104,7 +104,7 @@ fn put_own(out: &mut BitWriter, form: LoopForm, row: &[u8]) -> Result<(), AllocE
     }
 }
 
-/// The items, whose bytes are given.
+/// Appends the items, given as bytes.
 fn put_behind(out: &mut BitWriter, items: Option<ItemForm>, row: &[u8]) -> Result<(), AllocError>
     ensures { OnOk result (out.new ≡ out.old ++ spell_behind (option_map item_page items) row.now) }
 {
@@ -118,7 +118,7 @@ fn put_behind(out: &mut BitWriter, items: Option<ItemForm>, row: &[u8]) -> Resul
     }
 }
 
-/// How many values some rows hold.
+/// The number of values of some rows.
 pub fn held_count(rows: &[Field]) -> usize
     ensures count { result ≡ BodySpelling.held_count (rows_of rows.now) }
     ensures few { result ≤ length rows.now }
@@ -130,7 +130,7 @@ pub fn held_count(rows: &[Field]) -> usize
     count
 }
 
-/// The values before a place, and those from it on.
+/// The values before an index, and those from it on.
 fn parted(values: &[FieldValue], place: usize) -> (&[FieldValue], &[FieldValue])
     ensures first { result.0.now ≡ take place values.now }
     ensures others { result.1.now ≡ drop place values.now }
@@ -142,7 +142,7 @@ fn parted(values: &[FieldValue], place: usize) -> (&[FieldValue], &[FieldValue])
     }
 }
 
-/// A body with these values, these bytes of descriptors and these bytes of items.
+/// Appends a body with these values, these bytes of descriptors and these bytes of items.
 #[tactic(auto, unfolding(crate::specs::BodySpelling::spell_parts))]
 fn put_parts(
     out: &mut BitWriter,
@@ -174,7 +174,7 @@ pub fn body_bytes(
     ensures { IfOk result (λ row. row.items
         ≡ bytes_of (spell_parts (table_page layout.now) (map held values.now) own.now items.now)) }
 {
-    // A law, which runs nothing.
+    // It runs nothing: the proof cites it.
     written_rows_are_whole();
     let mut out = BitWriter::new(alloc);
     put_parts(&mut out, layout, values, own, items)?;

@@ -28,7 +28,7 @@ use std::alloc::{AllocError, Global};
 use ts_fields::FieldValue;
 use ts_section::{LongHead, Section};
 
-/// A section would need this section_length.
+/// The refusal of a section that would need this section_length.
 fn too_large(bytes: u128) -> TableRefusal
     ensures { result ≡ TooLarge (told_length bytes) }
 {
@@ -40,7 +40,7 @@ fn too_large(bytes: u128) -> TableRefusal
     TableRefusal::TooLarge { bytes: u32::MAX }
 }
 
-/// The bodies of a table that has as many sections as it needs.
+/// The bodies of a table with as many sections as it needs.
 #[tactic(auto, unfolding(crate::specs::FilledRows::filled_rows))]
 fn filled_bodies(
     alloc: Global,
@@ -68,7 +68,7 @@ fn filled_bodies(
     Ok(bodies)
 }
 
-/// The body of a table that has one section.
+/// The body of a table with one section.
 #[tactic(auto, unfolding(crate::specs::FilledRows::single_row))]
 fn single_body(
     alloc: Global,
@@ -111,7 +111,7 @@ fn table_bodies(
     }
 }
 
-/// The first number and the last: the table's own, or from 0.
+/// The first section number and the last: those of the table, or from 0.
 fn first_and_last(numbers: Option<(u8, u8)>, count: usize) -> (u8, u8)
     requires some { 0 < count }
     requires few { count ≤ 256 }
@@ -151,7 +151,7 @@ fn one_section(
     Section::long(alloc, head, body)
 }
 
-/// The sections of some bodies, numbered.
+/// The sections with these bodies, numbered.
 fn number_sections(
     alloc: Global,
     layout: &TableLayout,
@@ -179,7 +179,7 @@ fn number_sections(
     Ok(sections)
 }
 
-/// What a table puts into its sections as bytes, its own descriptors first.
+/// The bytes of the descriptors and items of a table, its own descriptors first.
 fn thing_rows(
     alloc: Global,
     layout: &TableLayout,
@@ -197,10 +197,10 @@ fn thing_rows(
     Ok(rows)
 }
 
-/// The sections of a table. `TooLarge` tells the section_length that the table's one section, or a
-/// section with one descriptor or one item alone, would need; `TooMany` comes where each is within the
-/// most and more than 256 sections would be needed. Read as a run they give the table again, and they are
-/// a whole run where the layout's can be.
+/// The sections of a table. `TooLarge` has the section_length that is needed and above the maximum: that of the one
+/// section; where the table may have more, that of a section without descriptors and items, or with one of them
+/// alone. `TooMany` is returned where none is above the maximum and more than 256 sections would be needed. The
+/// sections, read as a run, give the table again, and they are a whole run where those of the layout can be one.
 pub fn write_table(
     alloc: Global,
     layout: &TableLayout,
@@ -213,7 +213,7 @@ pub fn write_table(
     ensures again { IfOk result (λ v. read_run (table_page layout.now) v.items ≡ Ok (table_held table.now)) }
     ensures whole { IfOk result (λ v. forms_runs (table_page layout.now) ≡ true → IsTableRun v.items) }
 {
-    // Laws, which run nothing.
+    // They run nothing: the proof cites them.
     bodies_are_filled();
     written_tables_are_read();
     let rows = thing_rows(alloc, layout, &table.body)?;
