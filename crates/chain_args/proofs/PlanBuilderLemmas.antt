@@ -1,4 +1,4 @@
--- One more segment: the rule that it breaks, and what the parts then stand for.
+-- One more segment: the rule that it breaks, and the parts after it.
 use Rattle.std.proofs.Common.{◌≡◌, ◌∙◌, ◌+◌, ◌<◌, ◌&&◌, ◌||◌, ℕ, Bool, true, false, not, cond, List, [], ◌∷◌, ◌++◌, length, Option, Some, None, is_some, refl, ap, ap₂, sym, subst, add-zero, arith, append-nil, length-append}
 use Rattle.std.specs.Prelude.{IfSome, codes, option_map, count_by, filter_map, nat_le, option_and_then, slice_get}
 use Rattle.std.specs.List.{All, cons_option, list_any}

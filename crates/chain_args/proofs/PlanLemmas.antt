@@ -1,4 +1,4 @@
--- The loop over segments, and the plan that it ends with.
+-- The loop over segments, and the plan at its end.
 use Rattle.std.proofs.Common.{◌≡◌, ◌∙◌, ◌+◌, ℕ, true, List, [], ◌∷◌, ◌++◌, length, map, Option, Some, None, is_some, Result, Ok, Err, refl, ap, ap₂, sym, subst, arith, append_assoc}
 use Rattle.std.specs.Prelude.{if◌then◌else◌}
 use Rattle.std.specs.Result.{IfErr, IsErrAnd}

@@ -23,7 +23,7 @@ general_rows = record { name = codes "add-start-stuffing"; kind = value (number 
     ∷ record { name = codes "ignore-joint-termination"; kind = flag }
     ∷ []
 
--- each general option, or what holds where it is not given; the sizes are told as they are given, or not
+-- the value of each general option, or its default where it is not given; the three sizes are none then
 abbrev pub general_settings : List Row → GeneralConf
 general_settings found = record {
   add_start_stuffing =
@@ -38,7 +38,7 @@ general_settings found = record {
   ignore_joint_termination = has_flag (codes "ignore-joint-termination") found;
 }
 
--- none has to be given, and any go together
+-- none is required, and any go together
 abbrev pub general : OptionTable GeneralConf
 general = record {
   rows = general_rows;

@@ -24,8 +24,8 @@ form_named name = if bytes_eq name (codes "ts") then Some Ts
 abbrev pub is_form : List ℕ → Bool
 is_form name = is_some (form_named name)
 
--- `file`: a name; without one, or where it is empty, standard input; the form in which it keeps its packets, without one
--- packets alone
+-- `file`: a name, standard input where it is empty or not given; and the form of the packets in the file, bare
+-- packets where it is not given
 abbrev pub file_input : OptionTable InputConf
 file_input = record {
   rows = record { name = codes "name"; kind = operand text }
@@ -38,7 +38,7 @@ file_input = record {
   go_together = λ found. true;
 }
 
--- `null`: so many packets, 0 to 2^40
+-- `null`: a number of packets, 0 to 2^40
 abbrev pub null_input : OptionTable InputConf
 null_input = record {
   rows = record { name = codes "count"; kind = operand (number 0 MOST_PACKETS) } ∷ [];
@@ -48,7 +48,7 @@ null_input = record {
   go_together = λ found. true;
 }
 
--- `testgen`: a seed, 0 to 2^64 - 1, and so many packets, 0 to 2^40
+-- `testgen`: a seed, 0 to 2^64 - 1, and a number of packets, 0 to 2^40
 abbrev pub testgen_input : OptionTable InputConf
 testgen_input = record {
   rows = record { name = codes "seed"; kind = operand (number 0 MOST_SEED) }
@@ -67,7 +67,7 @@ input_kind_named name = if bytes_eq name (codes "file") then Some kind.File
     else (if bytes_eq name (codes "null") then Some kind.Null
     else (if bytes_eq name (codes "testgen") then Some kind.TestGen else None))
 
--- what each takes
+-- the options of each
 abbrev pub options_of_input : InputKind → OptionTable InputConf
 options_of_input kind.File = file_input
 options_of_input kind.Null = null_input

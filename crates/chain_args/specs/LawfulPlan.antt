@@ -1,4 +1,4 @@
--- What holds of each plan.
+-- Valid plans.
 -- This project's own rule.
 use Rattle.std.specs.Prelude.{ℕ, ◌≤◌, length, IfSome}
 use Rattle.std.specs.List.{All}
@@ -14,7 +14,7 @@ use Rattle.chain_args.specs.declared.plan_type.Plan.{Plan}
 abbrev pub IsLawfulSize : ℕ → Type 0
 IsLawfulSize n = (1 ≤ n) × (n ≤ 1000000)
 
--- each general number lies in its range, where it is given
+-- each number of the general options is in its range, where it is given
 pub record IsLawfulGeneral (c : GeneralConf) : Type 0 where
   pub start_stuffing : c.add_start_stuffing ≤ 1000000
   pub stop_stuffing : c.add_stop_stuffing ≤ 1000000

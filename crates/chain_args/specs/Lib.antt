@@ -1,3 +1,4 @@
+-- The definitions of the command line of `tsp`: its words, its plan and its faults.
 pub mod General
 pub mod Inputs
 pub mod LawfulPlan

@@ -10,7 +10,7 @@ use Rattle.chain_args.specs.declared.output_words.OutputKind.TheVariants as kind
 use Rattle.chain_args.specs.declared.output_conf.OutputConf.{OutputConf}
 use Rattle.chain_args.specs.declared.output_conf.OutputConf.TheVariants.{Drop, File}
 
--- `file`: a name; without one, or where it is empty, standard output
+-- `file`: a name, standard output where it is empty or not given
 abbrev pub file_output : OptionTable OutputConf
 file_output = record {
   rows = record { name = codes "name"; kind = operand text } ∷ [];
@@ -33,7 +33,7 @@ abbrev pub output_kind_named : List ℕ → Option OutputKind
 output_kind_named name = if bytes_eq name (codes "file") then Some kind.File
     else (if bytes_eq name (codes "drop") then Some kind.Drop else None)
 
--- what each takes
+-- the options of each
 abbrev pub options_of_output : OutputKind → OptionTable OutputConf
 options_of_output kind.File = file_output
 options_of_output kind.Drop = drop_output

@@ -1,4 +1,4 @@
--- What the segments read so far make, while a command line is read.
+-- The parts of a plan while the segments of a command line are read.
 -- This project's own rule.
 use Rattle.std.specs.Prelude.{◌≡◌, ◌≤◌, ℕ, List, [], Option, Some, IfSome, count_by, is_some, length, slice_get, unwrap_or}
 use Rattle.std.specs.List.{All, list_any}
@@ -17,16 +17,16 @@ use Rattle.option_words.specs.declared.refusal.Refusal.{Refusal}
 use Rattle.option_words.specs.declared.refusal.Refusal.TheVariants.{Broken, NoMemory}
 use Rattle.option_words.specs.declared.words_rule.WordsRule.{WordsRule}
 
--- a segment of a first word and the others
+-- a segment with a first word and other words
 abbrev pub segment : List ℕ → List (List ℕ) → Segment
 segment first others = record { first = first; others = others }
 
--- memory ran out, or the rule is the one that is broken
+-- memory ran out, or the rule is the broken one
 abbrev pub RefusesBy : Option WordsRule → Refusal → Type 0
 RefusesBy broken (Broken rule) = broken ≡ Some rule
 RefusesBy broken NoMemory = Unit {0}
 
--- the parts are what these segments make, none of which breaks a rule
+-- the parts are those of these segments, none of which breaks a rule
 pub record StandsFor (p : PlanBuilder) (before : List Segment) : Type 0 where
   pub input : p.input ≡ slice_get (inputs_of before) 0
   pub has_input : is_some p.input ≡ list_any is_input before
@@ -38,7 +38,7 @@ pub record StandsFor (p : PlanBuilder) (before : List Segment) : Type 0 where
   pub lawful_plugins : All IsLawfulItem p.plugins.items
   pub few : length p.plugins.items ≤ most_plugins
 
--- the plan of the parts, with the standard streams where nothing was named
+-- the plan of the parts, with the standard streams where no input or no output was named
 abbrev pub parts_plan : GeneralConf → PlanBuilder → Plan
 parts_plan general p = record {
   general = general;

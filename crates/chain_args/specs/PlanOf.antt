@@ -17,7 +17,7 @@ use Rattle.chain_args.specs.declared.output_conf.OutputConf.{OutputConf}
 use Rattle.chain_args.specs.declared.output_conf.OutputConf.TheVariants as output
 use Rattle.chain_args.specs.declared.plan_type.Plan.{Plan}
 
--- what a segment makes, where it names an input, a plugin, an output
+-- the settings of a segment, where it names an input, a plugin, an output
 abbrev pub input_made : Segment → Option InputConf
 input_made s = option_map (λ k. settings_of (options_of_input k) (own_words s)) (input_of s)
 
@@ -27,7 +27,7 @@ plugin_made s = option_map (λ k. settings_of (options_of_item k) (own_words s))
 abbrev pub output_made : Segment → Option OutputConf
 output_made s = option_map (λ k. settings_of (options_of_output k) (own_words s)) (output_of s)
 
--- the inputs, the plugins and the outputs that segments make, in their order
+-- the settings of the inputs, the plugins and the outputs of segments, in their order
 abbrev pub inputs_of : List Segment → List InputConf
 inputs_of = filter_map input_made
 
@@ -37,7 +37,7 @@ plugins_of = filter_map plugin_made
 abbrev pub outputs_of : List Segment → List OutputConf
 outputs_of = filter_map output_made
 
--- what the words make where no rule is broken
+-- the plan of words that break no rule
 abbrev pub plan_made : List (List ℕ) → Plan
 plan_made words = record {
   general = settings_of general (general_words words);
@@ -46,6 +46,6 @@ plan_made words = record {
   output = unwrap_or (slice_get (outputs_of (segments words)) 0) (output.File []);
 }
 
--- the plan of the words, which there is where no rule is broken
+-- the plan of the words; none where a rule is broken
 unfoldable pub plan_of : List (List ℕ) → Option Plan
 plan_of words = if is_some (first_word_fault words) then None else Some (plan_made words)

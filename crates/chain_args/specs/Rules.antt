@@ -1,4 +1,4 @@
--- Which rule of the command line is broken first.
+-- The first rule that a command line breaks.
 -- This project's own rule.
 use Rattle.std.specs.Prelude.{ℕ, ◌+◌, ◌&&◌, ◌||◌, Bool, List, [], ◌∷◌, ◌++◌, None, Option, Some, count_by, is_some, length, nat_le, not, option_and_then}
 use Rattle.std.specs.List.{list_any}
@@ -11,29 +11,29 @@ use Rattle.chain_args.specs.Segments.{Segment, general_words, input_of, is_input
 use Rattle.option_words.specs.declared.words_rule.WordsRule.{WordsRule}
 use Rattle.option_words.specs.declared.words_rule.WordsRule.TheVariants.{NoName, TooMany, Twice, UnknownPlugin}
 
--- the most plugins of a chain
+-- the maximum number of plugins of a chain
 abbrev pub most_plugins : ℕ
 most_plugins = 62
 
--- an input or an output stands among the segments before, and this is one more
+-- the segment is a second input or a second output
 abbrev pub comes_twice : List Segment → Segment → Bool
 comes_twice before s =
     (is_input s && list_any is_input before) || (is_output s && list_any is_output before)
 
--- nothing, or a segment word, follows
+-- no word follows the first one of the segment
 abbrev pub has_no_name : Segment → Bool
 has_no_name s = not (is_some (name_of s))
 
--- the name is none of an input, a plugin or an output
+-- the segment names no input, plugin or output that there is
 abbrev pub is_unknown : Segment → Bool
 is_unknown s =
     not (is_some (input_of s)) && (not (is_some (plugin_of s)) && not (is_some (output_of s)))
 
--- the most plugins stand among the segments before, and this is one more
+-- the segment is a plugin more than the maximum
 abbrev pub is_one_too_many : List Segment → Segment → Bool
 is_one_too_many before s = is_plugin s && nat_le most_plugins (count_by is_plugin before)
 
--- what the options of a named segment break
+-- the rule that the options of a named segment break
 abbrev pub broken_input : Segment → Option WordsRule
 broken_input s = option_and_then (λ k. broken_option (options_of_input k) (own_words s)) (input_of s)
 
@@ -43,7 +43,7 @@ broken_plugin s = option_and_then (λ k. broken_option (options_of_item k) (own_
 abbrev pub broken_output : Segment → Option WordsRule
 broken_output s = option_and_then (λ k. broken_option (options_of_output k) (own_words s)) (output_of s)
 
--- the first of two that there is
+-- the first of two rules, if it is broken, else the second
 abbrev pub or_else : Option WordsRule → Option WordsRule → Option WordsRule
 or_else (Some rule) other = Some rule
 or_else None other = other
@@ -58,13 +58,13 @@ broken_rule before s = or_else (first_broken (
     ∷ []
     )) (or_else (broken_input s) (or_else (broken_plugin s) (broken_output s)))
 
--- the rule, with the number of the word at which it is broken
+-- the rule with the number of the word, if it is broken, else the later fault
 abbrev pub fault_at : ℕ → Option WordsRule → Option (ℕ × WordsRule) → Option (ℕ × WordsRule)
 fault_at at (Some rule) later = Some (at, rule)
 fault_at at None later = later
 
--- the first faulty segment's number of its first word and rule, of segments that follow those before
--- and begin with word number `at`
+-- the number of the first word of the first faulty segment, and the rule that it breaks; the segments follow those
+-- before, and the first word has the number `at`
 unfoldable pub first_fault : List Segment → ℕ → List Segment → Option (ℕ × WordsRule)
 first_fault before at [] = None
 first_fault before at (s ∷ rest) = fault_at at (broken_rule before s)

@@ -23,7 +23,7 @@ is_plugin_word word = bytes_eq word (codes "-P")
 abbrev pub is_output_word : List ℕ → Bool
 is_output_word word = bytes_eq word (codes "-O")
 
--- the word begins a segment, wherever it stands
+-- the word begins a segment, at any place
 abbrev pub is_segment_word : List ℕ → Bool
 is_segment_word word = is_input_word word || (is_plugin_word word || is_output_word word)
 
@@ -43,7 +43,7 @@ general_words words = (cut words).0
 abbrev pub segments : List (List ℕ) → List Segment
 segments words = (cut words).1
 
--- how many words a segment has
+-- the number of words of a segment
 abbrev pub word_count : Segment → ℕ
 word_count s = 1 + length s.others
 

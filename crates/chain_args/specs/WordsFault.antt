@@ -1,4 +1,4 @@
--- When a command line is answered by a fault.
+-- The fault of a command line.
 -- This project's own rule.
 use Rattle.std.specs.Prelude.{◌≡◌, ℕ, List, Option, Some}
 use Rattle.chain_args.specs.Rules.{first_word_fault}
@@ -18,7 +18,7 @@ FaultsBy fault NoMemory = Unit {0}
 abbrev pub IsFirstFault : List (List ℕ) → WordsFault → Type 0
 IsFirstFault words = FaultsBy (first_word_fault words)
 
--- the fault of a segment with this first word
+-- the fault of a segment that is refused and whose first word has this number
 abbrev pub fault_of_refusal : ℕ → Refusal → WordsFault
 fault_of_refusal word (Broken rule) = At word rule
 fault_of_refusal word refusal.NoMemory = NoMemory

@@ -1,3 +1,5 @@
+//! The option `--format`: the form of the packets of a file.
+
 ghost use Rattle.std.specs.Prelude.{◌≡◌, MatchResult, codes, false, true, unwrap_or};
 ghost use Rattle.chain_args.specs.Inputs.{form_named, is_form};
 ghost use Rattle.option_words.specs.Forms.{known};
@@ -9,7 +11,7 @@ ghost use Rattle.packet_forms.specs.declared.forms.Form.TheVariants.{Ts};
 use option_words::{ParsedOptions, Refusal, WordsRule};
 use packet_forms::Form;
 
-/// The form of this name.
+/// The form with this name; `None` where there is none.
 fn form_of(name: &str) -> Option<Form>
     ensures { result ≡ form_named name.now }
 {
@@ -21,7 +23,7 @@ fn form_of(name: &str) -> Option<Form>
     }
 }
 
-/// The form that the option names; packets alone where it is not given.
+/// The form that the option names; bare packets of 188 bytes where it is not given.
 pub(crate) fn read_format(found: &ParsedOptions) -> Result<Form, Refusal>
     ensures { MatchResult result
         (λ form. (is_formed (known is_form) (codes "format") found.now ≡ true)

@@ -1,3 +1,5 @@
+//! The general options of `tsp`, read from words.
+
 ghost use Rattle.std.specs.Prelude.{◌≡◌, IfOk, map};
 ghost use Rattle.std.specs.String.{string_bytes};
 ghost use Rattle.clap.specs.Simple.{app_of};
@@ -11,13 +13,13 @@ use clap::Command;
 use option_words::{OptionWord, ParsedOptions, Refusal, command_with};
 use std::alloc::{AllocError, Global};
 
-/// The greatest size, in packets, of one stuffing, of the buffer, and of one turn of a stage.
+/// The maximum number of packets of one stuffing, of the buffer, and of one turn of a stage.
 const MOST_SIZE: u64 = 1_000_000;
 
-/// The most null packets that are put between packets of the input.
+/// The maximum number of null packets after each group of packets of the input.
 const MOST_BETWEEN: u64 = 1_000;
 
-// The general options.
+// The general options by their names.
 static GENERAL: [OptionWord; 7] = [
     OptionWord::Value("add-start-stuffing"),
     OptionWord::Value("add-stop-stuffing"),
@@ -56,7 +58,7 @@ fn general_settings(found: &ParsedOptions) -> Result<GeneralConf, Refusal>
     })
 }
 
-/// Reads the words before the first segment.
+/// Reads the general options: the words before the first segment.
 pub(crate) fn read_general(alloc: Global, words: &[String]) -> Result<GeneralConf, Refusal>
     ensures reads { Reads general (map string_bytes words.now) result }
     ensures lawful { IfOk result IsLawfulGeneral }

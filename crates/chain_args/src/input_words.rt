@@ -1,3 +1,5 @@
+//! The inputs by name, with the readers of their words.
+
 ghost use Rattle.std.specs.Prelude.{◌≡◌, IfOk, map, option_map};
 ghost use Rattle.std.specs.String.{string_bytes};
 ghost use Rattle.clap.specs.Simple.{app_of};
@@ -13,7 +15,7 @@ use option_words::{ParsedOptions, Refusal, WordsRule, new_command, with_operand,
 use plug_conf::MOST_PACKETS;
 use std::alloc::Global;
 
-/// The inputs by name.
+/// The kinds of inputs.
 #[derive(Clone, Copy)]
 pub(crate) enum InputKind {
     File,
@@ -22,7 +24,7 @@ pub(crate) enum InputKind {
 }
 
 impl InputKind {
-    /// The input of this name.
+    /// The input with this name; `None` where there is none.
     pub(crate) fn of(name: &str) -> Option<InputKind>
         ensures { result ≡ input_kind_named name.now }
     {

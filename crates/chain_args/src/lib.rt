@@ -1,5 +1,5 @@
-//! The command line of `tsp`: words come in, a plan of the chain or the first broken rule goes out.
-//! The layer above uses `plan`, which answers `plan_of` of the words, else `first_word_fault`.
+//! The command line of `tsp`. Words come in; a plan of the chain or the first broken rule goes out. The layer above
+//! uses `plan`, which returns `plan_of` of the words, or else `first_word_fault`.
 #![tactic(auto)]
 
 mod form_words;

@@ -1,10 +1,12 @@
+//! The settings of an output.
+
 use ts_outside::NameText;
 
-/// Where the packets go.
+/// The destination of the packets.
 #[derive(Drop)]
 pub enum OutputConf {
     /// A file; the empty name is standard output.
     File(NameText),
-    /// Nowhere.
+    /// No destination: the packets are dropped.
     Drop,
 }

@@ -1,3 +1,5 @@
+//! The outputs by name, with the readers of their words.
+
 ghost use Rattle.std.specs.Prelude.{◌≡◌, map};
 ghost use Rattle.std.specs.String.{string_bytes};
 ghost use Rattle.chain_args.specs.Outputs.{drop_output, file_output, output_kind_named, options_of_output};
@@ -8,7 +10,7 @@ use crate::output_conf::OutputConf;
 use option_words::{ParsedOptions, Refusal, new_command, with_operand};
 use std::alloc::Global;
 
-/// The outputs by name.
+/// The kinds of outputs.
 #[derive(Clone, Copy)]
 pub(crate) enum OutputKind {
     File,
@@ -16,7 +18,7 @@ pub(crate) enum OutputKind {
 }
 
 impl OutputKind {
-    /// The output of this name.
+    /// The output with this name; `None` where there is none.
     pub(crate) fn of(name: &str) -> Option<OutputKind>
         ensures { result ≡ output_kind_named name.now }
     {

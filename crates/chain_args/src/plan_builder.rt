@@ -1,3 +1,5 @@
+//! The parts of a plan while the segments of a command line are read.
+
 ghost use Rattle.std.specs.Prelude.{◌≡◌, ◌∷◌, ◌++◌, [], List, MatchResult, None, codes, map, true};
 ghost use Rattle.std.specs.String.{string_bytes};
 ghost use Rattle.chain_args.specs.PlanBuilder.{RefusesBy, StandsFor, parts_plan, segment};
@@ -17,10 +19,10 @@ use plug_set::{PluginItem, PluginKind};
 use std::alloc::{AllocError, Global};
 use ts_outside::NameText;
 
-/// The most plugins of a chain.
+/// The maximum number of plugins of a chain.
 const MOST_PLUGINS: usize = 62;
 
-/// What the segments read so far make.
+/// The input, the plugins and the output of the segments read so far.
 #[derive(Drop)]
 pub(crate) struct PlanBuilder {
     pub(crate) input: Option<InputConf>,
@@ -29,7 +31,7 @@ pub(crate) struct PlanBuilder {
 }
 
 impl PlanBuilder {
-    /// Nothing is read yet.
+    /// No segment is read yet.
     pub(crate) fn new(alloc: Global) -> PlanBuilder
         ensures { StandsFor result [] }
     {
@@ -118,8 +120,7 @@ impl PlanBuilder {
         Ok(())
     }
 
-    /// The plan, with the standard streams where no input and no output was named. It takes no
-    /// memory.
+    /// The plan, with the standard streams where no input or no output was named. It allocates nothing.
     pub(crate) fn into_plan(self, alloc: Global, general: GeneralConf) -> Plan
         ensures { result ≡ parts_plan general self }
     {

@@ -1,3 +1,5 @@
+//! The plan of the words of a command line.
+
 ghost use Rattle.std.specs.Prelude.{◌≡◌, ◌+◌, ◌<◌, ◌^◌, [], IfErr, IfOk, MatchResult, None, Some, length, map};
 ghost use Rattle.std.specs.String.{string_bytes};
 ghost use Rattle.chain_args.specs.LawfulPlan.{IsLawfulPlan};
@@ -14,12 +16,12 @@ use crate::segments::cut_at_segment;
 use crate::words_fault::WordsFault;
 use std::alloc::Global;
 
-/// The plan of a command line, whose words are given without the program's name.
+/// The plan of a command line, given as its words without the name of the program.
 ///
-/// The general options come first. After them each `-I`, `-P` and `-O` begins a segment, with a
-/// name, options and operands. Where a rule is broken the answer is the first one that the first
-/// faulty segment breaks, in the order of `WordsRule`, with the number of the segment's first word.
-/// `NoMemory` comes where memory ran out before that was known.
+/// The general options come first. After them each `-I`, `-P` and `-O` begins a segment, with a name, options and
+/// operands. Where a rule is broken, the fault has the first rule that the first faulty segment breaks, in the order
+/// of `WordsRule`, and the number of the first word of this segment. `NoMemory` is returned where memory ran out
+/// before that was known.
 pub fn plan(alloc: Global, words: &[String]) -> Result<Plan, WordsFault>
     ensures plan { IfOk result (λ p. plan_of (map string_bytes words.now) ≡ Some p) }
     ensures fault { IfErr result (IsFirstFault (map string_bytes words.now)) }
@@ -34,7 +36,7 @@ pub fn plan(alloc: Global, words: &[String]) -> Result<Plan, WordsFault>
     Ok(parts.into_plan(alloc, general))
 }
 
-/// Reads the segments of words that begin with one, the first of them as word number `at`.
+/// Reads the segments of words that are empty or begin with one; the first word has the number `at`.
 fn read_segments(alloc: Global, at: usize, words: &[String]) -> Result<PlanBuilder, WordsFault>
     requires begins { general_words (map string_bytes words.now) ≡ [] }
     requires fits { at + length words.now < 2 ^ 64 }

@@ -1,9 +1,11 @@
+//! The list of the plugins of a chain.
+
 ghost use Rattle.std.specs.Prelude.{◌≡◌};
 
 use plug_set::PluginItem;
 use std::marker::Model;
 
-/// The plugins of a chain, seen as their list.
+/// The plugins of a chain. Contracts see the list.
 #[derive(Drop)]
 pub struct PluginList {
     plugins: Vec<PluginItem>,
@@ -19,21 +21,21 @@ impl Model for PluginList {
 }
 
 impl PluginList {
-    /// Keeps plugins as they are, and takes no memory.
+    /// The list of these plugins. It allocates nothing.
     pub fn of(plugins: Vec<PluginItem>) -> PluginList
         ensures { result ≡ plugins.items }
     {
         PluginList { plugins }
     }
 
-    /// Lends the plugins.
+    /// The plugins as a slice.
     pub fn as_slice(&self) -> &[PluginItem]
         ensures { result.now ≡ self.now }
     {
         self.plugins.as_slice()
     }
 
-    /// Gives the plugins back, and takes no memory.
+    /// The plugins as a `Vec`. It allocates nothing.
     pub fn into_vec(self) -> Vec<PluginItem>
         ensures { result.items ≡ self }
     {

@@ -1,4 +1,4 @@
--- What an arm says that makes a value of one kind a value of any kind.
+-- What holds of a match arm that makes a value of one kind a value of any kind.
 use Rattle.std.proofs.Common.{◌≡◌, List, Result, Ok, Err, IfOk, MatchResult, ap, sym, subst, ◌∙◌}
 use Rattle.std.specs.Prelude.{IsOkAnd}
 use Rattle.clap.specs.Walk.{Row}

@@ -1,4 +1,4 @@
--- A plugin's options with `--only-label` behind them: the command, and how its words are read.
+-- The options of a plugin with `--only-label` after them: the command, and how its words are read.
 use Rattle.std.proofs.Common.{◌≡◌, ℕ, List, [], ◌∷◌, ◌++◌, Bool, true, false, not, if◌then◌else◌, Option, Some, Result, Ok, Err, refl, ap, sym, subst, ◌∙◌}
 use Rattle.std.specs.Prelude.{codes, fold}
 use Rattle.std.specs.Result.{IsErrAnd}
@@ -31,7 +31,7 @@ simple kind.Filter = refl
 simple _ = refl
 
 module _ {C : Type 0} (p : OptionTable C) (app : App) (words : List (List ℕ)) (same : app ≡ command_of p.rows) where
-  -- words that the command does not take
+  -- words that the command does not accept
   pub words_refused : (e : Refusal) (r : Result C Refusal) → IsErrAnd r (λ y. y ≡ e) → IsRefusedBy Shape (is_taken app words ≡ false) e → Reads p words r
   words_refused e (Ok conf) is refused = absurd is
   words_refused e (Err y) is refused = subst (λ (z : Refusal). Reads p words (Err z)) (sym is) (go e refused)
@@ -43,7 +43,7 @@ module _ {C : Type 0} (p : OptionTable C) (app : App) (words : List (List ℕ)) 
           ∙ ap Some (sym q.0)
       go NoMemory q = tt
 
-  -- words that it takes are read by what it finds in them
+  -- words that it accepts are read by the values in them
   module _ (found : List Row) (taken : is_taken app words ≡ true) (finds : found ≡ findings app words) where
     found_is : findings (command_of p.rows) words ≡ found
     found_is = ap (λ (a : App). findings a words) (sym same) ∙ sym finds

@@ -1,4 +1,4 @@
--- Each plugin that is in none of the lists of some alone, as it is in its rule.
+-- The plugins that the lists `uses_joint` and `table_file_of` do not name.
 use Rattle.std.proofs.Common.{◌≡◌, ℕ, List, Bool, false, ◌&&◌, None, refl, ap}
 use Rattle.ts_packet.specs.declared.cell.Cell.{Cell}
 use Rattle.plug_end.specs.UntilRule.{is_reached}

@@ -1,4 +1,5 @@
--- What a plugin says that is shown some packets as dropped cells: what it says of the cells that it is shown.
+-- A plugin to which some packets are shown as dropped cells: it reports what it reports of the cells that it is
+-- shown.
 use Rattle.std.proofs.Common.{◌≡◌, ℕ, List, [], ◌∷◌, ◌++◌, length, take, Bool, true, false, Option, None, Some, if◌then◌else◌, refl, ap, sym, ◌∙◌}
 use Rattle.std.proofs.lemmas.List.{length-map, map-append, take-map}
 use Rattle.ts_packet.specs.declared.cell.Cell.{Cell}
@@ -15,7 +16,7 @@ pub length-shown : (only : Option ℕ) (cells : List Cell) → length (shown onl
 length-shown None cells = refl
 length-shown (Some only) cells = length-map cells (sees only)
 
--- a plugin that is shown so many cells met as many
+-- a plugin that is shown this many cells met as many
 pub met-shown : (stands : List Cell → ℕ → Type 0) (only : Option ℕ) (at : ℕ) → MeetsCells (λ history. stands (shown only history)) at → MeetsCells stands at
 met-shown stands only at met = record {
   history = shown only met.history;
@@ -73,13 +74,13 @@ placed_after-shown only rule history (Dropped ∷ cells) =
     placed_after-shown only rule (history ++ Dropped ∷ []) cells
     ∙ ap (λ (h : List Cell). placed_after rule h (seen only cells)) (map-append (sees only) history (Dropped ∷ []))
 
--- all that the plugin says is what it says of the cells that it sees
+-- all reports of the plugin are those of the cells that it sees
 placed_of-shown : (only : Option ℕ) (rule : PluginRule) (cells : List Cell) → placed_of (rule_for only rule) cells ≡ placed_of rule (shown only cells)
 placed_of-shown None rule cells = refl
 placed_of-shown (Some only) rule cells =
     ap (λ (lines : List Line). lines ++ placed_at (length cells) (rule.summary_of (seen only cells))) (placed_after-shown only rule [] cells)
     ∙ ap (λ (n : ℕ). placed_after rule [] (seen only cells) ++ placed_at n (rule.summary_of (seen only cells))) (sym (length-map cells (sees only)))
 
--- the same of the first cells
+-- the same for the first cells
 pub placed-first : (only : Option ℕ) (rule : PluginRule) (n : ℕ) (cells : List Cell) → placed_of (rule_for only rule) (take n cells) ≡ placed_of rule (take n (shown only cells))
 placed-first only rule n cells = placed_of-shown only rule (take n cells) ∙ ap (placed_of rule) (take-shown only n cells)

@@ -1,4 +1,4 @@
--- A plugin of the chain: its settings with the labels that it sees, its words, and the rule that these mean.
+-- A plugin of the chain: its settings with the labels that it sees, its words, and its rule.
 -- This project's own rule.
 use Rattle.std.specs.Prelude.{ℕ, List, [], ◌∷◌, ◌++◌, IfSome, codes, option_map}
 use Rattle.ts_packet.specs.declared.labels.TheConstants.{LABEL_COUNT}
@@ -20,7 +20,7 @@ use Rattle.plug_set.specs.declared.plugin_item.PluginItem.{PluginItem}
 abbrev pub only_label_row : OptionRow
 only_label_row = record { name = codes "only-label"; kind = value (ranges LAST_LABEL) }
 
--- a plugin's options with that one behind them; it is neither needed nor does it exclude another
+-- the options of a plugin with that one after them; it is neither required nor excludes another
 abbrev pub with_only_label : OptionTable PluginConf → OptionTable PluginItem
 with_only_label table = record {
   rows = table.rows ++ only_label_row ∷ [];
@@ -32,16 +32,16 @@ with_only_label table = record {
   go_together = table.go_together;
 }
 
--- all that a plugin takes
+-- all options of a plugin
 abbrev pub options_of_item : PluginKind → OptionTable PluginItem
 options_of_item kind = with_only_label (options_of_plugin kind)
 
--- the settings are lawful, and each label is one
+-- the settings are valid, and each label is below 32
 pub record IsLawfulItem (item : PluginItem) : Type 0 where
   pub settings : IsLawful item.conf
   pub labels : IfSome item.only (AllBelow LABEL_COUNT)
 
--- the rule that the item means, with the sections of the file that its settings name: that of the settings, of the
+-- the rule of the item, with the sections of the file that its settings name: the rule of the settings, for the
 -- packets that the plugin sees
 abbrev pub rule_of_item : PluginItem → List (List ℕ) → PluginRule
 rule_of_item item sections = rule_for (option_map label_set item.only) (rule_of item.conf sections)

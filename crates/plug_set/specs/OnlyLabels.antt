@@ -1,4 +1,5 @@
--- What a plugin sees where it may be told to see packets with some labels alone. This project's own rule.
+-- The cells that a plugin sees when `--only-label` may restrict it to packets with some labels. This project's own
+-- rule.
 use Rattle.std.specs.Prelude.{◌≡◌, ℕ, List, [], Bool, true, false, Option, None, Some}
 use Rattle.ts_packet.specs.declared.cell.Cell.{Cell}
 use Rattle.ts_packet.specs.Cells.{Live, Dropped}
@@ -6,7 +7,7 @@ use Rattle.ts_packet.specs.Labels.{shares_label}
 use Rattle.chain_model.specs.PluginRule.{PluginRule}
 use Rattle.chain_model.specs.SeenCells.{only_rule, seen}
 
--- the rule of a plugin that sees every packet, or those alone that have one of the labels
+-- the rule of a plugin that sees every packet, or only those that have one of the labels
 abbrev pub rule_for : Option ℕ → PluginRule → PluginRule
 rule_for None rule = rule
 rule_for (Some only) rule = only_rule only rule
@@ -22,7 +23,7 @@ shows None cell = true
 shows (Some only) (Live packet labels) = shares_label labels only
 shows (Some only) Dropped = true
 
--- a plugin that does not agree before it met a cell does not agree before it sees one
+-- a plugin that does not agree before any cell does not agree before it sees one
 pub starts_open_for : (only : Option ℕ) (rule : PluginRule) → rule.agrees [] ≡ false
     → (rule_for only rule).agrees [] ≡ false
 starts_open_for None rule open_at_first = open_at_first

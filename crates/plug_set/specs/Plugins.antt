@@ -1,4 +1,4 @@
--- The plugins that there are: their names, their options, which settings are lawful, and the rules that these mean.
+-- The set of all plugins: their names, their options, which settings are valid, and their rules.
 -- This project's own rule.
 use Rattle.std.specs.Prelude.{ℕ, List, [], ◌∷◌, Bool, false, Option, None, Some, codes, find, if◌then◌else◌}
 use Rattle.std.specs.Str.{bytes_eq}
@@ -70,10 +70,10 @@ use Rattle.plug_set.specs.declared.plugin_conf.PluginKind.TheVariants as kind
 -- the plugins
 abbrev pub kinds : List PluginKind
 kinds = kind.Filter ∷ kind.Skip ∷ kind.Slice ∷ kind.Pattern ∷ kind.Until ∷ kind.Count ∷ kind.Continuity ∷ kind.Remap
-    ∷ kind.Inject ∷ kind.Pat ∷ kind.Cat ∷ kind.Pmt ∷ kind.Sdt ∷ kind.Nit ∷ kind.Zap ∷ kind.Svremove ∷ kind.Analyze ∷ kind.Info ∷ kind.Tables
-    ∷ kind.Compact ∷ kind.Rmorphan ∷ kind.Pcrverify ∷ []
+    ∷ kind.Inject ∷ kind.Pat ∷ kind.Cat ∷ kind.Pmt ∷ kind.Sdt ∷ kind.Nit ∷ kind.Zap ∷ kind.Svremove
+    ∷ kind.Analyze ∷ kind.Info ∷ kind.Tables ∷ kind.Compact ∷ kind.Rmorphan ∷ kind.Pcrverify ∷ []
 
--- their names, as the command line and the reports have them
+-- their names on the command line and in the reports
 abbrev pub name_of_kind : PluginKind → List ℕ
 name_of_kind kind.Filter = codes "filter"
 name_of_kind kind.Skip = codes "skip"
@@ -98,11 +98,11 @@ name_of_kind kind.Compact = codes "compact"
 name_of_kind kind.Rmorphan = codes "rmorphan"
 name_of_kind kind.Pcrverify = codes "pcrverify"
 
--- the plugin of a name; one that is not built yet has no kind
+-- the kind of plugin with a name; none where there is none
 abbrev pub plugin_kind_named : List ℕ → Option PluginKind
 plugin_kind_named name = find (λ k. bytes_eq name (name_of_kind k)) kinds
 
--- what each takes
+-- the options of each
 abbrev pub options_of_plugin : PluginKind → OptionTable PluginConf
 options_of_plugin kind.Filter = made_into Filter filter
 options_of_plugin kind.Skip = made_into Skip skip
@@ -127,7 +127,7 @@ options_of_plugin kind.Compact = made_into Compact window
 options_of_plugin kind.Rmorphan = made_into Rmorphan window
 options_of_plugin kind.Pcrverify = made_into Pcrverify pcrverify
 
--- the plugin that settings are of
+-- the kind of plugin to which settings belong
 abbrev pub kind_of : PluginConf → PluginKind
 kind_of (Filter conf) = kind.Filter
 kind_of (Skip conf) = kind.Skip
@@ -156,8 +156,7 @@ kind_of (Pcrverify conf) = kind.Pcrverify
 abbrev pub name_of : PluginConf → List ℕ
 name_of conf = name_of_kind (kind_of conf)
 
--- the settings have what the plugin needs, each number in its range, and no two that exclude each
--- other
+-- the settings have what the plugin requires, each number in its range, and no two that exclude each other
 abbrev pub IsLawful : PluginConf → Type 0
 IsLawful (Filter conf) = IsLawfulFilter conf
 IsLawful (Skip conf) = IsLawfulSkip conf
@@ -187,7 +186,7 @@ abbrev pub table_file_of : PluginConf → Option (List ℕ)
 table_file_of (Inject conf) = Some conf.file
 table_file_of _ = None
 
--- the rule that the settings mean, with the sections of the file that they name, where they name one
+-- the rule of the settings, with the sections of the file that they name, where they name one
 abbrev pub rule_of : PluginConf → List (List ℕ) → PluginRule
 rule_of (Filter conf) sections = filter_rule conf
 rule_of (Skip conf) sections = skip_rule conf.operand
@@ -212,9 +211,9 @@ rule_of (Compact conf) sections = compact_rule conf
 rule_of (Rmorphan conf) sections = rmorphan_rule conf
 rule_of (Pcrverify conf) sections = pcrverify_rule conf
 
--- for how many positions behind the last mark a plugin takes its room before the run, where it says so: all of them do
--- but those whose lines grow with the stream, those that edit tables, which keep the tables that come, and the one that
--- puts in packets of tables
+-- the number of positions after the greatest mark for which a plugin allocates its memory before the run; none for the
+-- plugins whose lines grow with the stream, for those that keep tables, and for `inject`, whose own clauses say that no
+-- step runs out of memory
 abbrev pub steady_of : PluginConf → ℕ → Option ℕ
 steady_of (Count conf) buffer = if conf.all then None else Some buffer
 steady_of (Continuity conf) buffer = None
@@ -234,7 +233,7 @@ steady_of (Rmorphan conf) buffer = None
 steady_of (Pcrverify conf) buffer = None
 steady_of _ buffer = Some buffer
 
--- the plugin agrees to a common end, and does not end the chain by itself
+-- the plugin agrees to a common end, and does not end the chain alone
 abbrev pub uses_joint : PluginConf → Bool
 uses_joint (Until conf) = conf.joint_termination
 uses_joint _ = false

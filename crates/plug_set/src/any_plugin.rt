@@ -1,3 +1,5 @@
+//! A plugin of the chain, of any kind and with its labels.
+
 ghost use Rattle.std.specs.Prelude.{◌≡◌, IfOk, []};
 ghost use Rattle.plug_set.specs.Items.{rule_of_item};
 ghost use Rattle.plug_set.specs.Plugins.{steady_of};
@@ -10,7 +12,7 @@ use std::alloc::{AllocError, Global};
 use ts_packet::Cell;
 use ts_section::Section;
 
-/// A plugin of the chain, which sees every packet, or those alone that have one of its labels.
+/// A plugin of the chain. It sees every packet, or only those that have one of its labels.
 #[derive(Drop)]
 pub struct AnyPlugin {
     masked: MaskedPlugin<SomePlugin>,
@@ -19,9 +21,10 @@ pub struct AnyPlugin {
 impl AnyPlugin {
     ghost use Rattle.plug_set.specs.Items.{IsLawfulItem};
 
-    /// The plugin of this item, which met no cell yet. `sections` are those of the file that its settings name
+    /// The plugin of this item before any cell. `sections` are those of the file that its settings name
     /// (`table_file`); where they name none, they are not used. `buffer` is the number of positions that the chain
-    /// holds: for so many behind the last mark most plugins take their room here.
+    /// holds; a plugin for which `steady_of` gives that number allocates its memory for so many positions after the
+    /// greatest mark here.
     pub fn of(
         alloc: Global,
         item: &PluginItem,

@@ -1,4 +1,4 @@
-//! The plugins that there are: words after a name come in, or settings; a plugin that means their rule goes out.
+//! The set of all plugins. The words after a name, or settings, come in; a plugin that follows their rule goes out.
 //! The layer above makes each plugin by `AnyPlugin::of`, and uses it by the clauses of `Plugin` alone.
 #![tactic(auto)]
 

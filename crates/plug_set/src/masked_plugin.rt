@@ -1,11 +1,13 @@
+//! A plugin that sees only packets with some labels.
+
 ghost use Rattle.std.specs.Prelude.{◌≡◌};
 
 use plugin_trait::{Line, Outcome, Plugin};
 use std::alloc::AllocError;
 use ts_packet::{Cell, Labels};
 
-/// A plugin that is shown every cell as it is, or, where it has labels, a packet with none of them as a dropped one,
-/// which stays as it is.
+/// A plugin to which every cell is shown as it is, or, where it has labels, a packet with none of them as a dropped
+/// one. Such a packet stays as it is.
 #[derive(Drop)]
 pub(crate) struct MaskedPlugin<P> {
     pub(crate) plugin: P,
@@ -15,7 +17,7 @@ pub(crate) struct MaskedPlugin<P> {
 impl<P> MaskedPlugin<P> {
     ghost use Rattle.plug_set.specs.OnlyLabels.{shows};
 
-    // Whether the plugin is shown the cell as it is.
+    // Whether the cell is shown to the plugin as it is.
     #[inline]
     fn shows(&self, cell: &Cell) -> bool
         ensures { result ≡ shows self.now.only cell.now }

@@ -1,4 +1,4 @@
-//! The plugins that there are. A new one has a line in each list of this file.
+//! The settings and the kinds of all plugins. A new one has a line in each list of this file.
 ghost use Rattle.std.specs.Prelude.{◌≡◌, IfOk, IfSome, MatchResult, codes, false, map, option_map, true};
 ghost use Rattle.std.specs.String.{string_bytes};
 ghost use Rattle.clap.specs.Simple.{app_of};
@@ -97,7 +97,7 @@ pub enum PluginKind {
 }
 
 impl PluginKind {
-    /// The plugin of this name.
+    /// The kind of plugin with this name; `None` where there is none.
     pub fn of(name: &str) -> Option<PluginKind>
         ensures { result ≡ plugin_kind_named name.now }
     {
@@ -128,7 +128,7 @@ impl PluginKind {
         }
     }
 
-    /// The plugin's name, as the command line and the reports have it.
+    /// The name of the plugin on the command line and in the reports.
     pub fn name(self) -> &'static str
         ensures { result.now ≡ name_of_kind self }
     {
@@ -188,7 +188,7 @@ impl PluginKind {
         }
     }
 
-    // The settings that the words give of the plugin's own options.
+    // The settings from the values of the own options of the plugin.
     fn settings(self, alloc: Global, found: &ParsedOptions) -> Result<PluginConf, Refusal>
         ensures reads { ReadsParsed (options_of_plugin self) found.now result }
         ensures lawful { IfOk result IsLawful }
@@ -247,8 +247,8 @@ fn only_labels(alloc: Global, found: &ParsedOptions) -> Result<Option<NumberSet>
     Ok(Some(only))
 }
 
-// What was read of a plugin's own options, with the labels of `--only-label`. Where they are no labels, that is told
-// before options in conflict, and behind what is missing.
+// The settings of the own options of a plugin, with the labels of `--only-label`. A fault of these labels is reported
+// before options in conflict, and after what is missing.
 fn with_only_labels(
     alloc: Global,
     conf: Result<PluginConf, Refusal>,
@@ -273,7 +273,7 @@ fn with_only_labels(
 }
 
 impl PluginConf {
-    /// Which plugin they are of.
+    /// The kind of plugin to which the settings belong.
     pub fn kind(&self) -> PluginKind
         ensures { result ≡ kind_of self.now }
     {
@@ -310,7 +310,7 @@ impl PluginConf {
         self.kind().name()
     }
 
-    /// The name of the file whose sections the plugin takes; none for a plugin that takes none. The empty name is
+    /// The name of the file whose sections the plugin takes; `None` for a plugin that takes none. The empty name is
     /// standard input.
     pub fn table_file(&self) -> Option<&str>
         ensures { option_map (λ name. name.now) result ≡ table_file_of self.now }

@@ -1,3 +1,5 @@
+//! One plugin of the chain, as the command line gives it.
+
 ghost use Rattle.std.specs.Prelude.{◌≡◌, option_map};
 ghost use Rattle.plug_conf.specs.LabelSet.{label_set};
 
@@ -10,13 +12,13 @@ use ts_packet::Labels;
 pub struct PluginItem {
     /// The settings of the plugin.
     pub conf: PluginConf,
-    /// The labels, 0 to 31, of which a packet has to have one so that the plugin sees it. Without them the plugin sees
+    /// The labels, 0 to 31, one of which a packet must have so that the plugin sees it. With `None` the plugin sees
     /// every packet.
     pub only: Option<NumberSet>,
 }
 
 impl PluginItem {
-    /// These labels as one set.
+    /// These labels as a set of bits; `None` where there are none.
     pub fn labels(&self) -> Option<Labels>
         ensures { result ≡ option_map label_set self.now.only }
     {

@@ -1,3 +1,5 @@
+//! The plugins of all kinds as one type.
+
 ghost use Rattle.std.specs.Prelude.{◌≡◌, IfOk, []};
 ghost use Rattle.plug_set.specs.Plugins.{rule_of, steady_of};
 
@@ -22,7 +24,7 @@ use std::alloc::{AllocError, Global};
 use ts_packet::Cell;
 use ts_section::Section;
 
-/// A plugin of any kind, which is shown each cell.
+/// A plugin of any kind, to which each cell is shown.
 #[derive(Drop)]
 pub(crate) enum SomePlugin {
     Filter(Filter),
@@ -49,7 +51,7 @@ pub(crate) enum SomePlugin {
     Pcrverify(Pcrverify),
 }
 
-// What to do with the plugin that stands there, whichever it is.
+// The same expression for the plugin of each variant.
 macro_rules! each_plugin {
     ($some:expr, $plugin:ident => $does:expr) => {
         match $some {
@@ -82,9 +84,9 @@ macro_rules! each_plugin {
 impl SomePlugin {
     ghost use Rattle.plug_set.specs.Plugins.{IsLawful};
 
-    /// The plugin of these settings, which met no cell yet. `sections` are those of the file that the settings name, and
-    /// `buffer` is the number of positions that the chain holds: for so many behind the last mark most plugins take
-    /// their room here.
+    /// The plugin of these settings before any cell. `sections` are those of the file that the settings name.
+    /// `buffer` is the number of positions that the chain holds; a plugin for which `steady_of` gives that number
+    /// allocates its memory for so many positions after the greatest mark here.
     pub(crate) fn of(
         alloc: Global,
         conf: &PluginConf,
