@@ -7,8 +7,8 @@ pub struct GeneralConf {
     pub add_start_stuffing: u64,
     /// The number of null packets after the last packet of the input, 0 to 1,000,000; the default is 0.
     pub add_stop_stuffing: u64,
-    /// The number of null packets, 0 to 1,000, after each group of this many packets of the input, 1 to 1,000,000;
-    /// the default is 0 and 1.
+    /// The number of null packets, 0 to 1,000, and the number of packets of the input, 1 to 1,000,000, after each
+    /// group of which they are inserted; the default is 0 and 1.
     pub add_input_stuffing: (u64, u64),
     /// The number of packets that the buffer of the chain holds, 1 to 1,000,000; `None` where it is not given.
     pub buffer_packets: Option<u64>,

@@ -9,13 +9,13 @@ use ts_fields::FieldValue;
 /// How a cable carries a transport stream (ETSI EN 300 468, 6.2.13.1).
 #[derive(Drop)]
 pub struct Cable {
-    /// `frequency`, 8 decimal digits.
+    /// `frequency`, 8 decimal digits, in units of 100 Hz.
     pub frequency: u32,
     /// `FEC_outer`, 4 bits.
     pub fec_outer: u8,
     /// `modulation`, 8 bits.
     pub modulation: u8,
-    /// `symbol_rate`, 7 decimal digits.
+    /// `symbol_rate`, 7 decimal digits, in units of 100 symbols per second.
     pub symbol_rate: u32,
     /// `FEC_inner`, 4 bits.
     pub fec_inner: u8,

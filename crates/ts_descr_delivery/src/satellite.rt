@@ -9,11 +9,11 @@ use ts_fields::FieldValue;
 /// How a satellite carries a transport stream (ETSI EN 300 468, 6.2.13.2).
 #[derive(Drop)]
 pub struct Satellite {
-    /// `frequency`, 8 decimal digits.
+    /// `frequency`, 8 decimal digits, in units of 10 kHz.
     pub frequency: u32,
-    /// `orbital_position`, 4 decimal digits.
+    /// `orbital_position`, 4 decimal digits, in tenths of a degree.
     pub orbital_position: u16,
-    /// `west_east_flag`, 1 bit.
+    /// `west_east_flag`, 1 bit: 0 for a western position, 1 for an eastern one.
     pub west_east_flag: u8,
     /// `polarization`, 2 bits.
     pub polarization: u8,
@@ -23,7 +23,7 @@ pub struct Satellite {
     pub modulation_system: u8,
     /// `modulation_type`, 2 bits.
     pub modulation_type: u8,
-    /// `symbol_rate`, 7 decimal digits.
+    /// `symbol_rate`, 7 decimal digits, in units of 100 symbols per second.
     pub symbol_rate: u32,
     /// `FEC_inner`, 4 bits.
     pub fec_inner: u8,

@@ -9,7 +9,7 @@ use ts_fields::FieldValue;
 /// How a terrestrial transmitter carries a transport stream (ETSI EN 300 468, 6.2.13.4).
 #[derive(Drop)]
 pub struct Terrestrial {
-    /// `centre_frequency`, 32 bits.
+    /// `centre_frequency`, 32 bits, in units of 10 Hz.
     pub centre_frequency: u32,
     /// `bandwidth`, 3 bits.
     pub bandwidth: u8,

@@ -9,7 +9,7 @@ use ts_fields::FieldValue;
 pub struct Country {
     /// `country_code`, three bytes.
     pub country_code: LanguageCode,
-    /// `rating`, 8 bits.
+    /// `rating`, 8 bits: 0x01 to 0x0F stand for a minimum age of `rating` + 3 years.
     pub rating: u8,
 }
 
