@@ -1,0 +1,12 @@
+pub mod FaultOf
+pub mod FaultText
+pub mod FirstFault
+pub mod Fits
+pub mod Homes
+pub mod Lists
+pub mod Marked
+pub mod Roles
+pub mod SaidText
+pub mod Segment
+pub mod TakesText
+pub mod Wanted

@@ -1,0 +1,107 @@
+-- What is said of a fault, in whole lines.
+-- This project's own rule.
+use Rattle.std.specs.Prelude.{ℕ, ◌++◌, List, [], ◌∷◌, Option, None, Some, codes}
+use Rattle.std.specs.Borrow.{Bor}
+use Rattle.std.specs.List.{flat_map}
+use Rattle.fault_texts.specs.declared.help_table.HelpTable.{HelpTable}
+use Rattle.fault_texts.specs.declared.option_row.OptionRow.{OptionRow}
+use Rattle.fault_texts.specs.declared.segment_row.SegmentRow.{SegmentRow}
+use Rattle.fault_texts.specs.declared.said.Fault.{Fault}
+use Rattle.fault_texts.specs.declared.said.Said.{Said}
+use Rattle.fault_texts.specs.declared.said.Said.TheVariants.{Again, Alone, Apart, BadValue, Extra, Missing, NoName, NoValue, Second, TakesNone, TooMany, UnknownName, UnknownOption, Whole}
+use Rattle.fault_texts.specs.Homes.{homes_text}
+use Rattle.fault_texts.specs.Lists.{names_behind, option_names, texts}
+use Rattle.fault_texts.specs.Segment.{row_of, word_or_none}
+use Rattle.fault_texts.specs.TakesText.{sign_hint, takes_text}
+use Rattle.fault_texts.specs.Wanted.{wanted}
+
+-- texts that are lent, one behind another
+abbrev pub text_of_parts : List (Bor (List ℕ)) → List ℕ
+text_of_parts = flat_map (λ part. part.now)
+
+-- the names that there are behind a first word
+abbrev pub no_name_text : HelpTable → List ℕ → List ℕ
+no_name_text table first =
+    (texts (codes "a name is wanted behind " ∷ first ∷ codes ", one of:" ∷ []) ++ names_behind table first) ++ texts (codes "\n" ∷ [])
+
+-- these names, and how a file is named
+abbrev pub known_names_text : HelpTable → List ℕ → List ℕ
+known_names_text table first =
+    (texts (codes "no name behind " ∷ first ∷ codes ", which has:" ∷ []) ++ names_behind table first)
+    ++ texts (codes "\na file is named behind -I file or -O file\n" ∷ [])
+
+-- the options that the segment has
+abbrev pub known_options_text : SegmentRow → List ℕ
+known_options_text row =
+    (texts (codes "no option of " ∷ row.first.now ∷ codes " " ∷ row.name.now ∷ codes ", which has:" ∷ []) ++ option_names row.options.now)
+    ++ texts (codes "\n" ∷ [])
+
+-- and where else the option is known
+abbrev pub unknown_option_text : HelpTable → SegmentRow → List ℕ → List ℕ
+unknown_option_text table row word = known_options_text row ++ homes_text table word
+
+-- the option is told, and how its value is written
+abbrev pub no_value_text : OptionRow → List ℕ
+no_value_text row = texts (row.name.now ∷ codes " wants a value behind it\n" ∷ row.form.now ∷ codes ": " ∷ row.meaning.now
+    ∷ codes "\n" ∷ takes_text row.takes ∷ [])
+
+abbrev pub bad_value_text : OptionRow → List ℕ → List ℕ
+bad_value_text row word = texts (row.form.now ∷ codes ": " ∷ row.meaning.now ∷ codes "\n"
+    ∷ takes_text row.takes ∷ sign_hint row.takes word ∷ [])
+
+-- what is said of one option
+abbrev pub option_text : Said → List ℕ → List ℕ
+option_text (NoValue row) word = no_value_text row
+option_text (Again row) word = texts (row.name.now ∷ codes " stands twice\n" ∷ [])
+option_text (TakesNone row) word = texts (row.name.now ∷ codes " takes no value\n" ∷ [])
+option_text (BadValue row) word = bad_value_text row word
+option_text (Apart row) word = texts (codes "of these one alone may stand: " ∷ row.choice.now ∷ codes "\n" ∷ [])
+option_text (Alone row) word = texts (row.name.now ∷ codes " stands only beside " ∷ row.with.now ∷ codes "\n" ∷ [])
+option_text _ word = []
+
+-- how a segment may stand, and what it does
+abbrev pub whole_text : SegmentRow → List ℕ
+whole_text row = texts (codes "usage: " ∷ row.usage.now ∷ codes "\n" ∷ row.rule.now ∷ codes "\n" ∷ [])
+
+abbrev pub extra_text : SegmentRow → List ℕ
+extra_text row =
+    texts (codes "no word more may stand here: " ∷ row.usage.now ∷ codes "\na file is named behind -I file or -O file\n" ∷ [])
+
+-- words in any form, each with its text
+module _ {W : Type 0} (text_of : W → List ℕ) where
+  -- the names behind the segment's first word, and where else the word behind it is known
+  abbrev pub unknown_name_text : HelpTable → List W → List ℕ
+  unknown_name_text table own = known_names_text table (word_or_none text_of own 0) ++ homes_text table (word_or_none text_of own 1)
+
+  -- what has to stand and does not, and how the segment may stand
+  abbrev pub missing_text : SegmentRow → List W → List ℕ
+  missing_text row own = wanted text_of row.options.now own ++ whole_text row
+
+  -- what is said of the options and operands of a segment
+  abbrev pub text_of_said : HelpTable → SegmentRow → List W → Said → List ℕ → List ℕ
+  text_of_said table row own UnknownOption word = unknown_option_text table row word
+  text_of_said table row own Extra word = extra_text row
+  text_of_said table row own Missing word = missing_text row own
+  text_of_said table row own Whole word = whole_text row
+  text_of_said table row own said word = option_text said word
+
+  abbrev pub segment_text : HelpTable → SegmentRow → List W → Fault → List ℕ
+  segment_text table row own fault = text_of_said table row own fault.said (word_or_none text_of own fault.at)
+
+  abbrev pub text_of_row : HelpTable → Option SegmentRow → List W → Fault → List ℕ
+  text_of_row table None own fault = []
+  text_of_row table (Some row) own fault = segment_text table row own fault
+
+  abbrev pub row_text : HelpTable → List W → Fault → List ℕ
+  row_text table own fault = text_of_row table (row_of text_of table own) own fault
+
+  -- what is said of names, by the first word of the segment and the one behind it, and else of options
+  abbrev pub text_by_said : HelpTable → List W → Fault → Said → List ℕ
+  text_by_said table own fault Second = texts (codes "no second " ∷ word_or_none text_of own 0 ∷ codes " may stand\n" ∷ [])
+  text_by_said table own fault NoName = no_name_text table (word_or_none text_of own 0)
+  text_by_said table own fault UnknownName = unknown_name_text table own
+  text_by_said table own fault TooMany = texts (codes "no plugin more may stand in a chain\n" ∷ [])
+  text_by_said table own fault said = row_text table own fault
+
+  abbrev pub said_text : HelpTable → List W → Fault → List ℕ
+  said_text table own fault = text_by_said table own fault fault.said

@@ -1,0 +1,186 @@
+//! Which word of a segment is wrong, and what is wrong with it.
+ghost use Rattle.std.specs.Prelude.{◌≡◌, ◌+◌, ◌<◌, ◌^◌, IfOk, length};
+ghost use Rattle.std.specs.String.{string_bytes};
+ghost use Rattle.fault_texts.specs.FirstFault;
+
+use crate::fits::fits;
+use crate::option_row::OptionRow;
+use crate::role::{Role, counted, is_dashed, is_flag, name_part, role_of};
+use crate::said::{Fault, Said};
+use option_words::{WordsRule, split_at_sign};
+use std::alloc::{AllocError, Global};
+
+/// What the words of a segment are held against.
+#[derive(Clone, Copy)]
+pub(crate) struct Held<'a> {
+    /// The options and operands of the segment.
+    pub(crate) options: &'a [OptionRow],
+    /// The rule that is broken.
+    pub(crate) rule: WordsRule,
+    /// All words of the segment.
+    pub(crate) all: &'a [String],
+}
+
+fn is_of_name(word: &str, name: &str) -> bool
+    ensures { result ≡ FirstFault.is_of_name name.now word.now }
+{
+    name_part(word) == name
+}
+
+/// Whether the option of a name stands among words.
+pub(crate) fn stands(name: &str, words: &[String]) -> bool
+    ensures { result ≡ FirstFault.stands string_bytes name.now words.now }
+{
+    words.iter().any(|word| is_of_name(word.as_str(), name))
+}
+
+// What is wrong with the form of an option's word.
+fn named_shape(row: OptionRow, word: &str, rest: &[String]) -> Option<Said>
+    ensures { result ≡ FirstFault.named_shape string_bytes row word.now rest.now }
+{
+    let alone = name_part(word).len() == word.len();
+    if is_flag(&row) && !alone {
+        return Some(Said::TakesNone(row));
+    }
+    if !is_flag(&row) && alone && rest.is_empty() {
+        return Some(Said::NoValue(row));
+    }
+    if stands(row.name, rest) {
+        return Some(Said::Again(row));
+    }
+    None
+}
+
+fn shape_said(role: Role, word: &str, rest: &[String]) -> Option<Said>
+    ensures { result ≡ FirstFault.shape_said string_bytes role word.now rest.now }
+{
+    match role {
+        Role::Unknown => Some(Said::UnknownOption),
+        Role::Extra => Some(Said::Extra),
+        Role::Operand(_) => None,
+        Role::Value(row) => if_dashed(row, word),
+        Role::Named(row) => named_shape(row, word, rest),
+    }
+}
+
+fn if_dashed(row: OptionRow, word: &str) -> Option<Said>
+    ensures { result ≡ FirstFault.if_dashed row word.now }
+{
+    if is_dashed(word) {
+        Some(Said::NoValue(row))
+    } else {
+        None
+    }
+}
+
+fn unless_fits(alloc: Global, row: OptionRow, value: &str) -> Result<Option<Said>, AllocError>
+    ensures { IfOk result (λ said. said ≡ FirstFault.unless_fits row value.now) }
+{
+    if fits(alloc, row.takes, value)? {
+        Ok(None)
+    } else {
+        Ok(Some(Said::BadValue(row)))
+    }
+}
+
+// The same of an option's own word, where its value stands behind `=`.
+fn named_value(alloc: Global, row: OptionRow, word: &str) -> Result<Option<Said>, AllocError>
+    ensures { IfOk result (λ said. said ≡ FirstFault.named_value row word.now) }
+{
+    let Some((_, value)) = split_at_sign(word, '=') else {
+        return Ok(None);
+    };
+    unless_fits(alloc, row, value)
+}
+
+fn value_said(alloc: Global, role: Role, word: &str) -> Result<Option<Said>, AllocError>
+    ensures { IfOk result (λ said. said ≡ FirstFault.value_said role word.now) }
+{
+    match role {
+        Role::Value(row) | Role::Operand(row) => unless_fits(alloc, row, word),
+        Role::Named(row) => named_value(alloc, row, word),
+        Role::Unknown | Role::Extra => Ok(None),
+    }
+}
+
+fn is_other_of(other: &OptionRow, row: &OptionRow, rest: &[String]) -> bool
+    ensures { result ≡ FirstFault.is_other_of string_bytes row.now rest.now other.now }
+{
+    other.choice == row.choice && other.name != row.name && stands(other.name, rest)
+}
+
+fn other_stands(options: &[OptionRow], row: &OptionRow, rest: &[String]) -> bool
+    ensures { result ≡ FirstFault.other_stands string_bytes options.now row.now rest.now }
+{
+    options.iter().any(|other| is_other_of(other, row, rest))
+}
+
+fn named_conflict(held: Held<'_>, row: OptionRow, rest: &[String]) -> Option<Said>
+    ensures { result ≡ FirstFault.named_conflict string_bytes held.entry.options.now held.entry.all.now row rest.now }
+{
+    if !row.with.is_empty() && !stands(row.with, held.all) {
+        return Some(Said::Alone(row));
+    }
+    if !row.choice.is_empty() && other_stands(held.options, &row, rest) {
+        return Some(Said::Apart(row));
+    }
+    None
+}
+
+fn conflict_said(held: Held<'_>, role: Role, rest: &[String]) -> Option<Said>
+    ensures { result ≡ FirstFault.conflict_said string_bytes held.entry.options.now held.entry.all.now role rest.now }
+{
+    match role {
+        Role::Named(row) => named_conflict(held, row, rest),
+        _ => None,
+    }
+}
+
+fn said_of_word(
+    alloc: Global,
+    held: Held<'_>,
+    role: Role,
+    word: &str,
+    rest: &[String],
+) -> Result<Option<Said>, AllocError>
+    ensures { IfOk result (λ said. said ≡ FirstFault.said_of_word string_bytes held.entry.options.now held.entry.rule held.entry.all.now role word.now rest.now) }
+{
+    match held.rule {
+        WordsRule::Shape => Ok(shape_said(role, word, rest)),
+        WordsRule::Value => value_said(alloc, role, word),
+        WordsRule::Conflict => Ok(conflict_said(held, role, rest)),
+        _ => Ok(None),
+    }
+}
+
+/// The first word that is wrong, of words that stand behind another one and so many operands; the first of them has the number
+/// `at`.
+#[tactic(auto, unfolding(crate::specs::FirstFault::first_fault))]
+pub(crate) fn first_fault(
+    alloc: Global,
+    held: Held<'_>,
+    previous: &str,
+    count: usize,
+    at: usize,
+    words: &[String],
+) -> Result<Option<Fault>, AllocError>
+    requires counts { count + length words.now < 2 ^ 64 }
+    requires fits { at + length words.now < 2 ^ 64 }
+    ensures { IfOk result (λ fault. fault ≡ FirstFault.first_fault string_bytes held.entry.options.now held.entry.rule held.entry.all.now previous.now count at words.now) }
+{
+    let Some((word, rest)) = words.split_first() else {
+        return Ok(None);
+    };
+    let role = role_of(held.options, previous, count, word.as_str());
+    if let Some(said) = said_of_word(alloc, held, role, word.as_str(), rest)? {
+        return Ok(Some(Fault { at, said }));
+    }
+    first_fault(
+        alloc,
+        held,
+        word.as_str(),
+        counted(role, count),
+        at + 1,
+        rest,
+    )
+}

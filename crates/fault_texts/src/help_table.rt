@@ -1,0 +1,10 @@
+use crate::segment_row::SegmentRow;
+
+/// What is told of a program's command line.
+#[derive(Clone, Copy)]
+pub struct HelpTable<'a> {
+    /// The options before the first segment.
+    pub general: SegmentRow,
+    /// The segments, by their first words and names.
+    pub segments: &'a [SegmentRow],
+}

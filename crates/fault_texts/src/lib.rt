@@ -1,0 +1,32 @@
+//! What a refused command line is told beyond its one line: a table of options, the words and the broken rule come in, a text
+//! that marks the faulty word and says what may stand there goes out. The programs above use `fault_text`.
+#![tactic(auto)]
+
+mod explained;
+mod fault_of;
+mod first_fault;
+mod fits;
+mod help_table;
+mod homes;
+mod lists;
+mod marked;
+mod option_row;
+mod put;
+mod role;
+mod said;
+mod said_text;
+mod segment;
+mod segment_row;
+mod sign;
+mod takes;
+mod takes_text;
+mod tsp_options;
+mod wanted;
+
+pub use explained::fault_text;
+pub use help_table::HelpTable;
+pub use option_row::OptionRow;
+pub use segment_row::SegmentRow;
+pub use sign::Sign;
+pub use takes::Takes;
+pub use tsp_options::{general_options, tsp_segments};

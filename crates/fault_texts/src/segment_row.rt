@@ -1,0 +1,16 @@
+use crate::option_row::OptionRow;
+
+/// What is told of one segment: an input, a plugin, an output, or the general options.
+#[derive(Clone, Copy)]
+pub struct SegmentRow {
+    /// Its first word, as `-P`; of the general options a word of their title.
+    pub first: &'static str,
+    /// Its name, as `filter`; of the general options the rest of their title.
+    pub name: &'static str,
+    /// How its words may stand, in one line.
+    pub usage: &'static str,
+    /// What it does, in a few sentences.
+    pub rule: &'static str,
+    /// Its options and operands.
+    pub options: &'static [OptionRow],
+}
