@@ -5,6 +5,7 @@ pub mod Fits
 pub mod Homes
 pub mod Lists
 pub mod Marked
+pub mod Nearest
 pub mod Roles
 pub mod SaidText
 pub mod Segment

@@ -17,9 +17,9 @@ takes_nothing _ = false
 abbrev pub is_flag : OptionRow → Bool
 is_flag row = takes_nothing row.takes
 
--- the row is of the option that this word is, and a value follows it
+-- the row is of the option that this word is, and a value follows it; an operand has no name to be awaited by
 abbrev pub awaits : List ℕ → OptionRow → Bool
-awaits previous row = not (is_flag row) && bytes_eq row.name.now previous
+awaits previous row = (row.place == 0) && (not (is_flag row) && bytes_eq row.name.now previous)
 
 abbrev pub awaiting : List OptionRow → List ℕ → Option OptionRow
 awaiting options previous = find (awaits previous) options

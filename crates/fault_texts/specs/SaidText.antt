@@ -11,6 +11,8 @@ use Rattle.fault_texts.specs.declared.said.Said.{Said}
 use Rattle.fault_texts.specs.declared.said.Said.TheVariants.{Again, Alone, Apart, BadValue, Extra, Missing, NoName, NoValue, Second, TakesNone, TooMany, UnknownName, UnknownOption, Whole}
 use Rattle.fault_texts.specs.Homes.{homes_text}
 use Rattle.fault_texts.specs.Lists.{names_behind, option_names, texts}
+use Rattle.fault_texts.specs.Nearest.{near_text, nearest_name, nearest_option}
+use Rattle.fault_texts.specs.Roles.{name_part}
 use Rattle.fault_texts.specs.Segment.{row_of, word_or_none}
 use Rattle.fault_texts.specs.TakesText.{sign_hint, takes_text}
 use Rattle.fault_texts.specs.Wanted.{wanted}
@@ -36,9 +38,9 @@ known_options_text row =
     (texts (codes "no option of " ∷ row.first.now ∷ codes " " ∷ row.name.now ∷ codes ", which has:" ∷ []) ++ option_names row.options.now)
     ++ texts (codes "\n" ∷ [])
 
--- and where else the option is known
+-- the nearest of them, and where else the option is known
 abbrev pub unknown_option_text : HelpTable → SegmentRow → List ℕ → List ℕ
-unknown_option_text table row word = known_options_text row ++ homes_text table word
+unknown_option_text table row word = (known_options_text row ++ near_text (nearest_option row.options.now (name_part word))) ++ homes_text table word
 
 -- the option is told, and how its value is written
 abbrev pub no_value_text : OptionRow → List ℕ
@@ -69,9 +71,12 @@ extra_text row =
 
 -- words in any form, each with its text
 module _ {W : Type 0} (text_of : W → List ℕ) where
-  -- the names behind the segment's first word, and where else the word behind it is known
+  -- the names behind the segment's first word, the nearest of them, and where else the word behind it is known
   abbrev pub unknown_name_text : HelpTable → List W → List ℕ
-  unknown_name_text table own = known_names_text table (word_or_none text_of own 0) ++ homes_text table (word_or_none text_of own 1)
+  unknown_name_text table own =
+      (known_names_text table (word_or_none text_of own 0)
+      ++ near_text (nearest_name table.segments.now (word_or_none text_of own 0) (word_or_none text_of own 1)))
+      ++ homes_text table (word_or_none text_of own 1)
 
   -- what has to stand and does not, and how the segment may stand
   abbrev pub missing_text : SegmentRow → List W → List ℕ

@@ -10,6 +10,7 @@ mod help_table;
 mod homes;
 mod lists;
 mod marked;
+mod nearest;
 mod option_row;
 mod put;
 mod role;

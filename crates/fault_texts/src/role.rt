@@ -34,7 +34,7 @@ pub(crate) fn is_flag(row: &OptionRow) -> bool
 fn awaits(row: &OptionRow, previous: &str) -> bool
     ensures { result ≡ Roles.awaits previous.now row.now }
 {
-    !is_flag(row) && row.name == previous
+    row.place == 0 && !is_flag(row) && row.name == previous
 }
 
 /// The name of an option, which ends before `=`.

@@ -6,8 +6,10 @@ ghost use Rattle.fault_texts.specs.SaidText;
 use crate::help_table::HelpTable;
 use crate::homes::homes_text;
 use crate::lists::{put_names, put_options};
+use crate::nearest::{near_name_text, near_option_text};
 use crate::option_row::OptionRow;
 use crate::put::put_all;
+use crate::role::name_part;
 use crate::said::{Fault, Said};
 use crate::segment::{row_of, word_or_none};
 use crate::segment_row::SegmentRow;
@@ -54,8 +56,12 @@ fn unknown_name_text(
 ) -> Result<Vec<u8>, AllocError>
     ensures { IfOk result (λ text. text.items ≡ SaidText.unknown_name_text string_bytes table.now own.now) }
 {
-    let homes = homes_text(alloc, table, word_or_none(own, 1))?;
-    let mut text = known_names_text(alloc, table, word_or_none(own, 0))?;
+    let first = word_or_none(own, 0);
+    let name = word_or_none(own, 1);
+    let homes = homes_text(alloc, table, name)?;
+    let near = near_name_text(alloc, table.segments, first, name)?;
+    let mut text = known_names_text(alloc, table, first)?;
+    text.extend_from_slice(near.as_slice())?;
     text.extend_from_slice(homes.as_slice())?;
     Ok(text)
 }
@@ -82,7 +88,9 @@ fn unknown_option_text(
     ensures { IfOk result (λ text. text.items ≡ SaidText.unknown_option_text table.now row.now word.now) }
 {
     let homes = homes_text(alloc, table, word)?;
+    let near = near_option_text(alloc, row.options, name_part(word))?;
     let mut text = known_options_text(alloc, row)?;
+    text.extend_from_slice(near.as_slice())?;
     text.extend_from_slice(homes.as_slice())?;
     Ok(text)
 }

@@ -1,7 +1,11 @@
 //! The program `tsp`: the words of a command line come in, and an exit number goes out.
-//! All of it but the words, the real desk and the number is `tsp_call`, whose contract is the stream theorem.
+//! All of it but the words, the real desk, the number and what explains a refusal is `tsp_call`, whose contract is the stream
+//! theorem.
 #![tactic(auto)]
 
+mod explaining;
+
+use explaining::explain;
 use std::io::ErrorKind;
 use std::process::ExitCode;
 use std::{env, io};
@@ -32,5 +36,6 @@ fn main(rt: HostRuntime) -> ExitCode {
         Err(_) => return ExitCode::from(NO_MEMORY),
     };
     let status = tsp_call(&rt, rt.alloc(), words.as_slice(), &mut desk, &OpenGate);
+    explain(&rt, words.as_slice(), &status);
     ExitCode::from(status.exit_code())
 }

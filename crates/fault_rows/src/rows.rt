@@ -1,0 +1,156 @@
+use option_words::WordsRule;
+
+/// A command line, the number of the first word of the segment that breaks a rule, and the rule.
+pub(crate) struct Row {
+    pub(crate) words: &'static str,
+    pub(crate) at: usize,
+    pub(crate) rule: WordsRule,
+}
+
+static ROWS: [Row; 28] = [
+    Row {
+        words: "-P filter --pid 9000 -O drop",
+        at: 0,
+        rule: WordsRule::Value,
+    },
+    Row {
+        words: "-I file in.ts -P filter --pcr --label=3,32",
+        at: 3,
+        rule: WordsRule::Value,
+    },
+    Row {
+        words: "-I file in.ts -P pat --add-service 1=256",
+        at: 3,
+        rule: WordsRule::Value,
+    },
+    Row {
+        words: "--add-input-stuffing 1=9 -O drop",
+        at: 0,
+        rule: WordsRule::Value,
+    },
+    Row {
+        words: "-P remap 1=2 3/4",
+        at: 0,
+        rule: WordsRule::Value,
+    },
+    Row {
+        words: "-P pattern 0g",
+        at: 0,
+        rule: WordsRule::Value,
+    },
+    Row {
+        words: "-I testgen 1 x",
+        at: 0,
+        rule: WordsRule::Value,
+    },
+    Row {
+        words: "-I file in.m2ts --format m2t",
+        at: 0,
+        rule: WordsRule::Value,
+    },
+    Row {
+        words: "-P filter --pid ä\u{1}9",
+        at: 0,
+        rule: WordsRule::Value,
+    },
+    Row {
+        words: "-P zap 1 --bitrate 5",
+        at: 0,
+        rule: WordsRule::Shape,
+    },
+    Row {
+        words: "-P filter --pid",
+        at: 0,
+        rule: WordsRule::Shape,
+    },
+    Row {
+        words: "-P filter --pid --pcr",
+        at: 0,
+        rule: WordsRule::Shape,
+    },
+    Row {
+        words: "-P filter --pcr --pcr",
+        at: 0,
+        rule: WordsRule::Shape,
+    },
+    Row {
+        words: "-P filter --pcr=1",
+        at: 0,
+        rule: WordsRule::Shape,
+    },
+    Row {
+        words: "-I null 5 6",
+        at: 0,
+        rule: WordsRule::Shape,
+    },
+    Row {
+        words: "in.ts -O drop",
+        at: 0,
+        rule: WordsRule::Shape,
+    },
+    Row {
+        words: "-I in.ts -O drop",
+        at: 0,
+        rule: WordsRule::UnknownPlugin,
+    },
+    Row {
+        words: "-I null 5 -O zap",
+        at: 3,
+        rule: WordsRule::UnknownPlugin,
+    },
+    Row {
+        words: "-I null 5 -O",
+        at: 3,
+        rule: WordsRule::NoName,
+    },
+    Row {
+        words: "-O drop -O file out.ts",
+        at: 2,
+        rule: WordsRule::Twice,
+    },
+    Row {
+        words: "-P skip 1 -P skip 2",
+        at: 3,
+        rule: WordsRule::TooMany,
+    },
+    Row {
+        words: "-P pmt --new-version 3",
+        at: 0,
+        rule: WordsRule::Missing,
+    },
+    Row {
+        words: "-P until --exclude-last",
+        at: 0,
+        rule: WordsRule::Missing,
+    },
+    Row {
+        words: "-P sdt --name News",
+        at: 0,
+        rule: WordsRule::Conflict,
+    },
+    Row {
+        words: "-P pat --new-version 3 --increment-version",
+        at: 0,
+        rule: WordsRule::Conflict,
+    },
+    Row {
+        words: "-P slice --drop 1 --pass 1",
+        at: 0,
+        rule: WordsRule::Conflict,
+    },
+    Row {
+        words: "-P zapp 769",
+        at: 0,
+        rule: WordsRule::UnknownPlugin,
+    },
+    Row {
+        words: "-P filter --pids 5",
+        at: 0,
+        rule: WordsRule::Shape,
+    },
+];
+
+/// The rows.
+pub(crate) fn rows() -> &'static [Row] {
+    &ROWS
+}

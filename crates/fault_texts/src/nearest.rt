@@ -1,0 +1,116 @@
+//! Which name of the table is nearest to a word.
+ghost use Rattle.std.specs.Prelude.{◌≡◌, IfOk};
+ghost use Rattle.fault_texts.specs.Nearest;
+
+use crate::option_row::OptionRow;
+use crate::put::put_all;
+use crate::segment_row::SegmentRow;
+use std::alloc::{AllocError, Global};
+use strsim::levenshtein;
+
+/// A name, and how many characters of a word have to change for it.
+#[derive(Clone, Copy)]
+pub(crate) struct Near {
+    pub(crate) name: &'static str,
+    pub(crate) changes: usize,
+}
+
+// No name is near yet: from here on a name is nearer where at most half of the word changes.
+fn none_near(word: &str) -> Near
+    ensures { Nearest.told result ≡ Nearest.none_near word.now }
+{
+    Near {
+        name: "",
+        changes: word.len() / 2 + 1,
+    }
+}
+
+// The name, where it is nearer than the one that was nearest.
+fn nearer(alloc: Global, word: &str, near: Near, name: &'static str) -> Result<Near, AllocError>
+    ensures { IfOk result (λ it. Nearest.told it ≡ Nearest.nearer word.now (Nearest.told near) name.now) }
+{
+    let changes = levenshtein(alloc, word, name)?;
+    if changes < near.changes {
+        Ok(Near { name, changes })
+    } else {
+        Ok(near)
+    }
+}
+
+// The same of a segment, where it begins with this word.
+fn nearer_segment(
+    alloc: Global,
+    first: &str,
+    word: &str,
+    near: Near,
+    row: &SegmentRow,
+) -> Result<Near, AllocError>
+    ensures { IfOk result (λ it. Nearest.told it ≡ Nearest.nearer_segment first.now word.now (Nearest.told near) row.now) }
+{
+    if row.first == first {
+        let found = nearer(alloc, word, near, row.name)?;
+        return Ok(found);
+    }
+    Ok(near)
+}
+
+fn nearest_option(alloc: Global, options: &[OptionRow], word: &str) -> Result<Near, AllocError>
+    ensures { IfOk result (λ it. Nearest.told it ≡ Nearest.nearest_option options.now word.now) }
+{
+    let mut near = none_near(word);
+    for row in options {
+        near = nearer(alloc, word, near, row.name)?;
+    }
+    Ok(near)
+}
+
+fn nearest_name(
+    alloc: Global,
+    segments: &[SegmentRow],
+    first: &str,
+    word: &str,
+) -> Result<Near, AllocError>
+    ensures { IfOk result (λ it. Nearest.told it ≡ Nearest.nearest_name segments.now first.now word.now) }
+{
+    let mut near = none_near(word);
+    for row in segments {
+        near = nearer_segment(alloc, first, word, near, row)?;
+    }
+    Ok(near)
+}
+
+// A line with the nearest name, where there is one.
+fn near_text(alloc: Global, near: Near) -> Result<Vec<u8>, AllocError>
+    ensures { IfOk result (λ text. text.items ≡ Nearest.near_text (Nearest.told near)) }
+{
+    let mut text = Vec::new(alloc);
+    if !near.name.is_empty() {
+        put_all(&mut text, &["the nearest is ", near.name, "\n"])?;
+    }
+    Ok(text)
+}
+
+/// A line with the option that is nearest to a word, where there is one.
+pub(crate) fn near_option_text(
+    alloc: Global,
+    options: &[OptionRow],
+    word: &str,
+) -> Result<Vec<u8>, AllocError>
+    ensures { IfOk result (λ text. text.items ≡ Nearest.near_text (Nearest.nearest_option options.now word.now)) }
+{
+    let near = nearest_option(alloc, options, word)?;
+    near_text(alloc, near)
+}
+
+/// A line with the name behind a first word that is nearest to a word, where there is one.
+pub(crate) fn near_name_text(
+    alloc: Global,
+    segments: &[SegmentRow],
+    first: &str,
+    word: &str,
+) -> Result<Vec<u8>, AllocError>
+    ensures { IfOk result (λ text. text.items ≡ Nearest.near_text (Nearest.nearest_name segments.now first.now word.now)) }
+{
+    let near = nearest_name(alloc, segments, first, word)?;
+    near_text(alloc, near)
+}

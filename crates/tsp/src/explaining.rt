@@ -1,0 +1,44 @@
+//! What is told beside a refusal, on standard error alone.
+use chain_args::{WordsFault, WordsRule};
+use fault_texts::{HelpTable, fault_text, general_options, tsp_segments};
+use std::alloc::AllocError;
+use std::env;
+use std::io::{IsTerminal, Write};
+use tsp_top::Status;
+
+/// Whether a refusal is to be explained: as `TSP_EXPLAIN` says by 1 or 0, and else where standard error is a terminal.
+fn is_wanted(rt: &HostRuntime) -> bool {
+    match env::var(rt, "TSP_EXPLAIN") {
+        Ok(said) if said.as_str() == "1" => true,
+        Ok(said) if said.as_str() == "0" => false,
+        _ => rt.stderr().is_terminal(),
+    }
+}
+
+/// What is told of words that have no plan.
+fn words_text(
+    rt: &HostRuntime,
+    words: &[String],
+    word: usize,
+    rule: WordsRule,
+) -> Result<Vec<u8>, AllocError> {
+    let segments = tsp_segments(rt.alloc())?;
+    let table = HelpTable {
+        general: general_options(),
+        segments: segments.as_slice(),
+    };
+    fault_text(rt.alloc(), &table, words, word, rule)
+}
+
+/// Explains a refusal where that is wanted. Want of memory and a fault of standard error leave it out, and change nothing else.
+pub(crate) fn explain(rt: &HostRuntime, words: &[String], status: &Status) {
+    let Status::Words(WordsFault::At { word, rule }) = status else {
+        return;
+    };
+    if !is_wanted(rt) {
+        return;
+    }
+    if let Ok(text) = words_text(rt, words, *word, *rule) {
+        let _ = rt.stderr().write_all(text.as_slice());
+    }
+}
