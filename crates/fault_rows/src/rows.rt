@@ -7,7 +7,7 @@ pub(crate) struct Row {
     pub(crate) rule: WordsRule,
 }
 
-static ROWS: [Row; 28] = [
+static ROWS: [Row; 29] = [
     Row {
         words: "-P filter --pid 9000 -O drop",
         at: 0,
@@ -147,6 +147,11 @@ static ROWS: [Row; 28] = [
         words: "-P filter --pids 5",
         at: 0,
         rule: WordsRule::Shape,
+    },
+    Row {
+        words: "-P zap -- x",
+        at: 0,
+        rule: WordsRule::Value,
     },
 ];
 

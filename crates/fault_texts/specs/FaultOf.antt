@@ -1,6 +1,8 @@
 -- What is told of a segment that breaks a rule, and which word of it is marked.
 -- This project's own rule.
-use Rattle.std.specs.Prelude.{ℕ, List, [], Option, None, Some, drop, length, unwrap_or}
+use Rattle.std.specs.Prelude.{ℕ, Bool, List, [], Option, None, Some, codes, drop, if◌then◌else◌, length, unwrap_or}
+use Rattle.std.specs.List.{list_any}
+use Rattle.std.specs.Str.{bytes_eq}
 use Rattle.option_words.specs.declared.words_rule.WordsRule.{WordsRule}
 use Rattle.option_words.specs.declared.words_rule.WordsRule.TheVariants as rule
 use Rattle.fault_texts.specs.declared.help_table.HelpTable.{HelpTable}
@@ -28,8 +30,14 @@ module _ {W : Type 0} (text_of : W → List ℕ) where
   fault_in (Some row) head own r =
       unwrap_or (first_fault text_of row.options.now r own [] 0 head (drop head own)) (whole_fault own r)
 
+  -- the word `--` stands among them, behind which no word is an option
+  abbrev pub ends_options : List W → Bool
+  ends_options own = list_any (λ word. bytes_eq (text_of word) (codes "--")) own
+
+  -- of such words no one is named
   abbrev pub fault_of_options : HelpTable → List W → WordsRule → Fault
-  fault_of_options table own r = fault_in (row_of text_of table own) (head_of text_of table own) own r
+  fault_of_options table own r =
+      if ends_options own then whole_fault own r else fault_in (row_of text_of table own) (head_of text_of table own) own r
 
   -- a rule on names has its word, and of the others the options and operands are looked at
   abbrev pub fault_of : HelpTable → List W → WordsRule → Fault

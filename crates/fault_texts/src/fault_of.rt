@@ -1,5 +1,6 @@
 //! What is told of a segment that breaks a rule.
-ghost use Rattle.std.specs.Prelude.{◌≡◌, IfOk};
+ghost use Rattle.std.specs.Prelude.{◌≡◌, IfOk, codes};
+ghost use Rattle.std.specs.Str.{bytes_eq};
 ghost use Rattle.std.specs.String.{string_bytes};
 ghost use Rattle.fault_texts.specs.FaultOf;
 
@@ -20,6 +21,19 @@ fn whole_said(rule: WordsRule) -> Said
     }
 }
 
+fn is_end(word: &str) -> bool
+    ensures { result ≡ bytes_eq word.now (codes "--") }
+{
+    word == "--"
+}
+
+// Whether the word `--` stands among words, behind which no word is an option.
+fn ends_options(own: &[String]) -> bool
+    ensures { result ≡ FaultOf.ends_options string_bytes own.now }
+{
+    own.iter().any(|word| is_end(word.as_str()))
+}
+
 // The fault of a segment whose options and operands break a rule; behind the last word where no one word is wrong.
 fn fault_of_options(
     alloc: Global,
@@ -33,6 +47,9 @@ fn fault_of_options(
         at: own.len(),
         said: whole_said(rule),
     };
+    if ends_options(own) {
+        return Ok(whole);
+    }
     let Some(row) = row_of(table, own) else {
         return Ok(whole);
     };
