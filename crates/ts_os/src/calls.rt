@@ -1,33 +1,35 @@
-ghost use Rattle.std.specs.Prelude.{◌<◌, ◌≤◌, length, IfSome};
+ghost use Rattle.std.specs.Prelude.{◌<◌, ◌≤◌, length, IfOk};
 
+use crate::reason::Reason;
 use std::io::{ErrorKind, Read, Write};
 
-/// Asks the system once for bytes; a call that a signal interrupted is made again. `None` where it failed.
-pub(crate) fn read_some<R: Read>(from: &mut R, into: &mut [u8]) -> Option<usize>
-    ensures { IfSome result (λ n. n ≤ length into.new) }
+/// Asks the system once for bytes; a call that a signal interrupted is made again. The reason where it failed.
+pub(crate) fn read_some<R: Read>(from: &mut R, into: &mut [u8]) -> Result<usize, Reason>
+    ensures { IfOk result (λ n. n ≤ length into.new) }
 {
     for _ in 0..u64::MAX {
         match from.read(into) {
-            Ok(count) => return Some(count),
+            Ok(count) => return Ok(count),
             Err(e) if e.kind() == ErrorKind::Interrupted => {}
-            Err(_) => return None,
+            Err(e) => return Err(Reason::of(e.kind())),
         }
     }
-    None
+    Err(Reason::Other)
 }
 
-/// Gives the system bytes once; a call that a signal interrupted is made again. `None` where it failed, or took nothing.
-pub(crate) fn write_some<W: Write>(to: &mut W, piece: &[u8]) -> Option<usize>
-    ensures some { IfSome result (λ n. 0 < n) }
-    ensures within { IfSome result (λ n. n ≤ length piece.now) }
+/// Gives the system bytes once; a call that a signal interrupted is made again. The reason where it failed, or
+/// took nothing.
+pub(crate) fn write_some<W: Write>(to: &mut W, piece: &[u8]) -> Result<usize, Reason>
+    ensures some { IfOk result (λ n. 0 < n) }
+    ensures within { IfOk result (λ n. n ≤ length piece.now) }
 {
     for _ in 0..u64::MAX {
         match to.write(piece) {
-            Ok(0) => return None,
-            Ok(count) => return Some(count),
+            Ok(0) => return Err(Reason::Full),
+            Ok(count) => return Ok(count),
             Err(e) if e.kind() == ErrorKind::Interrupted => {}
-            Err(_) => return None,
+            Err(e) => return Err(Reason::of(e.kind())),
         }
     }
-    None
+    Err(Reason::Other)
 }

@@ -7,7 +7,11 @@ mod file_id;
 mod os_desk;
 mod os_sink;
 mod os_source;
+mod reason;
+mod trouble;
 
 pub use os_desk::OsDesk;
 pub use os_sink::OsSink;
 pub use os_source::OsSource;
+pub use reason::Reason;
+pub use trouble::Trouble;

@@ -12,10 +12,12 @@ use crate::calls::write_some;
 use crate::file_id::FileId;
 use crate::os_sink::{Made, OsSink};
 use crate::os_source::{Opened, OsSource};
+use crate::reason::Reason;
+use crate::trouble::Trouble;
 use std::alloc::{AllocError, Global};
 use std::fs::{File, OpenOptions, metadata};
 use std::marker::Model;
-use ts_outside::{Desk, Failed, FileBytes, FileFault, OpenFault, one_more, read_to_end};
+use ts_outside::{Desk, Failed, FileBytes, FileFault, OpenFault, Purpose, one_more, read_to_end};
 
 /// A regular file that is open as an output.
 #[derive(Clone, Copy, Drop)]
@@ -51,6 +53,9 @@ pub struct OsDesk {
     write_faults: u64,
     report_faults: u64,
     aside: bool,
+
+    /// The last call for an input, an output or a file that failed; contracts do not see it.
+    trouble: Option<Trouble>,
 }
 
 impl Model for OsDesk {
@@ -81,6 +86,7 @@ impl OsDesk {
             write_faults: 0,
             report_faults: 0,
             aside: false,
+            trouble: None,
         }
     }
 
@@ -93,44 +99,62 @@ impl OsDesk {
         Ok(())
     }
 
+    /// The last call for an input, an output or a file that failed, where one did.
+    pub fn trouble(&self) -> Option<Trouble> {
+        self.trouble
+    }
+
+    /// Keeps why a call failed.
+    fn note(&mut self, purpose: Purpose, reason: Reason)
+        ensures { self.new ≡ self.old }
+    {
+        self.trouble = Some(Trouble { purpose, reason });
+    }
+
     /// A source of a name that opened.
-    fn source(&self, named: &str) -> Option<OsSource>
-        ensures { IfSome result (λ s. s ≡ 0) }
+    fn source(&self, named: &str) -> Result<OsSource, Reason>
+        ensures { IfOk result (λ s. s ≡ 0) }
     {
         let (from, told) = if named.is_empty() {
             let told = metadata(&self.rt, "/dev/stdin");
             (Opened::Stream(self.rt.stdin()), told)
         } else {
-            let file = File::open(&self.rt, named).ok()?;
+            let file = match File::open(&self.rt, named) {
+                Ok(file) => file,
+                Err(e) => return Err(Reason::of(e.kind())),
+            };
             let told = file.metadata();
             (Opened::File(file), told)
         };
         let file = told.ok().and_then(|it| FileId::of(&it));
-        Some(OsSource {
+        Ok(OsSource {
             from,
             file,
             faults: 0,
+            reason: None,
         })
     }
 
     /// A sink of a name that opened.
-    fn sink(&self, named: &str) -> Option<OsSink>
-        ensures { IfSome result (λ s. s ≡ 0) }
+    fn sink(&self, named: &str) -> Result<OsSink, Reason>
+        ensures { IfOk result (λ s. s ≡ 0) }
     {
         if named.is_empty() {
-            return Some(OsSink {
+            return Ok(OsSink {
                 to: Made::Stream(self.rt.stdout()),
                 file: None,
                 full: false,
                 faults: 0,
+                reason: None,
             });
         }
         let (made, id) = self.made(named)?;
-        Some(OsSink {
+        Ok(OsSink {
             to: Made::File(made),
             file: id,
             full: id.is_some(),
             faults: 0,
+            reason: None,
         })
     }
 
@@ -144,19 +168,20 @@ impl OsDesk {
     }
 
     /// The file of a name, made where it is absent, and which regular file it is. It is compared with the open inputs.
-    fn made(&self, named: &str) -> Option<(File, Option<FileId>)> {
+    fn made(&self, named: &str) -> Result<(File, Option<FileId>), Reason> {
         let file = OpenOptions::new()
             .write(true)
             .create(true)
             .open(&self.rt, named)
-            .ok()?;
-        let id = FileId::of(&file.metadata().ok()?);
+            .map_err(|e| Reason::of(e.kind()))?;
+        let told = file.metadata().map_err(|e| Reason::of(e.kind()))?;
+        let id = FileId::of(&told);
         if let Some(id) = id {
             if self.inputs.contains(&id) || self.spared.contains(&id) {
-                return None;
+                return Err(Reason::InUse);
             }
         }
-        Some((file, id))
+        Ok((file, id))
     }
 
     /// Takes a closed file out of the open outputs. Whether it was wanted as an input.
@@ -224,14 +249,16 @@ impl Desk for OsDesk {
             return Err(OpenFault::NoMemory);
         }
         match self.source(name.unwrap_or("")) {
-            Some(source) => {
+            Ok(source) => {
                 if let Some(id) = source.file {
                     if is_output(&mut self.outputs, id) {
                         let OsSource {
                             from: _,
                             file: _,
                             faults: _,
+                            reason: _,
                         } = source;
+                        self.note(Purpose::Input, Reason::InUse);
                         self.read_faults = one_more(self.read_faults);
                         return Err(OpenFault::Failed);
                     }
@@ -239,7 +266,8 @@ impl Desk for OsDesk {
                 }
                 Ok(source)
             }
-            None => {
+            Err(reason) => {
+                self.note(Purpose::Input, reason);
                 self.read_faults = one_more(self.read_faults);
                 Err(OpenFault::Failed)
             }
@@ -269,7 +297,7 @@ impl Desk for OsDesk {
             return Err(OpenFault::NoMemory);
         }
         match self.sink(named) {
-            Some(sink) => {
+            Ok(sink) => {
                 if let Some(file) = sink.file {
                     self.outputs.push_reserved(OpenOutput {
                         file,
@@ -278,7 +306,8 @@ impl Desk for OsDesk {
                 }
                 Ok(sink)
             }
-            None => {
+            Err(reason) => {
+                self.note(Purpose::Output, reason);
                 self.write_faults = one_more(self.write_faults);
                 Err(OpenFault::Failed)
             }
@@ -293,7 +322,11 @@ impl Desk for OsDesk {
             from: _,
             file,
             faults,
+            reason,
         } = input;
+        if let Some(reason) = reason {
+            self.note(Purpose::Input, reason);
+        }
         if let Some(id) = file {
             self.forget(id);
         }
@@ -311,7 +344,11 @@ impl Desk for OsDesk {
             file,
             full,
             faults,
+            reason,
         } = output;
+        if let Some(reason) = reason {
+            self.note(Purpose::Output, reason);
+        }
         let wanted = match file {
             Some(id) => self.forget_output(id),
             None => false,
@@ -339,16 +376,23 @@ impl Desk for OsDesk {
         ensures aside { self.new.aside ≡ self.old.aside }
     {
         let read = match self.source(name.unwrap_or("")) {
-            Some(mut source) => {
+            Ok(mut source) => {
                 let read = read_to_end(self.alloc, &mut source, most);
                 let OsSource {
                     from: _,
                     file: _,
                     faults: _,
+                    reason,
                 } = source;
+                if let Some(reason) = reason {
+                    self.note(Purpose::File, reason);
+                }
                 read
             }
-            None => Err(FileFault::Failed),
+            Err(reason) => {
+                self.note(Purpose::File, reason);
+                Err(FileFault::Failed)
+            }
         };
         if let Err(FileFault::Failed) = read {
             self.read_faults = one_more(self.read_faults);
@@ -370,8 +414,8 @@ impl Desk for OsDesk {
             write_some(&mut self.rt.stdout(), piece)
         };
         match moved {
-            Some(count) => Ok(count),
-            None => {
+            Ok(count) => Ok(count),
+            Err(_) => {
                 self.report_faults = one_more(self.report_faults);
                 Err(Failed)
             }

@@ -1,9 +1,10 @@
-ghost use Rattle.std.specs.Prelude.{◌≡◌, ◌<◌, ◌≤◌, length, take, IfOk, IfSome, OnErr};
+ghost use Rattle.std.specs.Prelude.{◌≡◌, ◌<◌, ◌≤◌, length, take, IfOk, OnErr};
 ghost use Rattle.ts_outside.specs.Sink.{took, write_failed};
 ghost use Rattle.ts_os.specs.Untold.{untold_sink};
 
 use crate::calls::write_some;
 use crate::file_id::FileId;
+use crate::reason::Reason;
 use std::fs::File;
 use std::io::Stdout;
 use std::marker::Model;
@@ -39,6 +40,9 @@ pub struct OsSink {
     /// It still has what it had before.
     pub(crate) full: bool,
     pub(crate) faults: u64,
+
+    /// Why the last write failed.
+    pub(crate) reason: Option<Reason>,
 }
 
 impl Model for OsSink {
@@ -60,14 +64,15 @@ impl OsSink {
         !self.full
     }
 
-    /// Gives the system one piece. `None` where it took nothing, or what the file had could not be taken away.
-    fn give(&mut self, piece: &[u8]) -> Option<usize>
-        ensures some { IfSome result (λ n. 0 < n) }
-        ensures within { IfSome result (λ n. n ≤ length piece.now) }
+    /// Gives the system one piece. The reason where it took nothing, or what the file had could not be taken
+    /// away.
+    fn give(&mut self, piece: &[u8]) -> Result<usize, Reason>
+        ensures some { IfOk result (λ n. 0 < n) }
+        ensures within { IfOk result (λ n. n ≤ length piece.now) }
         ensures same { self.new ≡ self.old }
     {
         if !self.empty() {
-            return None;
+            return Err(Reason::Other);
         }
         match &mut self.to {
             Made::File(file) => write_some(file, piece),
@@ -87,8 +92,9 @@ impl Sink for OsSink {
         ensures failed { OnErr result (untold_sink self.new ≡ write_failed (untold_sink self.old)) }
     {
         match self.give(piece) {
-            Some(count) => Ok(count),
-            None => {
+            Ok(count) => Ok(count),
+            Err(reason) => {
+                self.reason = Some(reason);
                 self.faults = one_more(self.faults);
                 Err(Failed)
             }

@@ -4,6 +4,7 @@ ghost use Rattle.ts_os.specs.Untold.{untold_source};
 
 use crate::calls::read_some;
 use crate::file_id::FileId;
+use crate::reason::Reason;
 use std::fs::File;
 use std::io::Stdin;
 use std::marker::Model;
@@ -23,6 +24,9 @@ pub struct OsSource {
     pub(crate) from: Opened,
     pub(crate) file: Option<FileId>,
     pub(crate) faults: u64,
+
+    /// Why the last read failed.
+    pub(crate) reason: Option<Reason>,
 }
 
 impl Model for OsSource {
@@ -48,8 +52,9 @@ impl Source for OsSource {
             Opened::Stream(stream) => read_some(stream, into),
         };
         match moved {
-            Some(count) => Ok(count),
-            None => {
+            Ok(count) => Ok(count),
+            Err(reason) => {
+                self.reason = Some(reason);
                 self.faults = one_more(self.faults);
                 Err(Failed)
             }

@@ -1,9 +1,11 @@
-//! What is told beside a refusal, on standard error alone.
+//! What is told beside a refusal or a fault, on standard error alone.
+use crate::run_texts::run_text;
 use chain_args::{WordsFault, WordsRule};
 use fault_texts::{HelpTable, fault_text, general_options, tsp_segments};
 use std::alloc::AllocError;
 use std::env;
 use std::io::{IsTerminal, Write};
+use ts_os::Trouble;
 use tsp_top::Status;
 
 /// Whether a refusal is to be explained: as `TSP_EXPLAIN` says by 1 or 0, and else where standard error is a terminal.
@@ -30,15 +32,33 @@ fn words_text(
     fault_text(rt.alloc(), &table, words, word, rule)
 }
 
-/// Explains a refusal where that is wanted. Want of memory and a fault of standard error leave it out, and change nothing else.
-pub(crate) fn explain(rt: &HostRuntime, words: &[String], status: &Status) {
-    let Status::Words(WordsFault::At { word, rule }) = status else {
-        return;
-    };
+/// Writes what is told of words that have no plan.
+fn explain_words(rt: &HostRuntime, words: &[String], word: usize, rule: WordsRule) {
+    if let Ok(text) = words_text(rt, words, word, rule) {
+        let _ = rt.stderr().write_all(text.as_slice());
+    }
+}
+
+/// Writes what is told of a run that ended by a fault.
+fn explain_run(rt: &HostRuntime, words: &[String], status: &Status, trouble: Option<Trouble>) {
+    if let Ok(Some(text)) = run_text(rt.alloc(), words, status, trouble) {
+        let _ = rt.stderr().write_all(text.as_bytes());
+    }
+}
+
+/// Explains how a call ended where that is wanted. Want of memory and a fault of standard error leave it out, and change
+/// nothing else.
+pub(crate) fn explain(
+    rt: &HostRuntime,
+    words: &[String],
+    status: &Status,
+    trouble: Option<Trouble>,
+) {
     if !is_wanted(rt) {
         return;
     }
-    if let Ok(text) = words_text(rt, words, *word, *rule) {
-        let _ = rt.stderr().write_all(text.as_slice());
+    match status {
+        Status::Words(WordsFault::At { word, rule }) => explain_words(rt, words, *word, *rule),
+        _ => explain_run(rt, words, status, trouble),
     }
 }

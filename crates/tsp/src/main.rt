@@ -4,6 +4,7 @@
 #![tactic(auto)]
 
 mod explaining;
+mod run_texts;
 
 use explaining::explain;
 use std::io::ErrorKind;
@@ -36,6 +37,6 @@ fn main(rt: HostRuntime) -> ExitCode {
         Err(_) => return ExitCode::from(NO_MEMORY),
     };
     let status = tsp_call(&rt, rt.alloc(), words.as_slice(), &mut desk, &OpenGate);
-    explain(&rt, words.as_slice(), &status);
+    explain(&rt, words.as_slice(), &status, desk.trouble());
     ExitCode::from(status.exit_code())
 }

@@ -1,0 +1,43 @@
+use std::io::ErrorKind;
+
+/// Why the system refused a call, as far as a user can do something about it.
+#[derive(Clone, Copy, Drop)]
+pub enum Reason {
+    Absent,
+    Forbidden,
+    Directory,
+    Full,
+    ClosedPipe,
+    /// The file is open otherwise, or is to be read.
+    InUse,
+    Other,
+}
+
+impl Reason {
+    /// The reason of a kind of error.
+    pub(crate) fn of(kind: ErrorKind) -> Reason {
+        match kind {
+            ErrorKind::NotFound | ErrorKind::NotADirectory => Reason::Absent,
+            ErrorKind::PermissionDenied | ErrorKind::ReadOnlyFilesystem => Reason::Forbidden,
+            ErrorKind::IsADirectory => Reason::Directory,
+            ErrorKind::StorageFull | ErrorKind::QuotaExceeded | ErrorKind::FileTooLarge => {
+                Reason::Full
+            }
+            ErrorKind::BrokenPipe => Reason::ClosedPipe,
+            _ => Reason::Other,
+        }
+    }
+
+    /// What is told of it.
+    pub fn text(self) -> &'static str {
+        match self {
+            Reason::Absent => "there is no such file",
+            Reason::Forbidden => "this is not permitted",
+            Reason::Directory => "it is a directory",
+            Reason::Full => "there is no room left, or the file may not grow further",
+            Reason::ClosedPipe => "the reader closed the pipe",
+            Reason::InUse => "it is read and written in one call",
+            Reason::Other => "the system refused it",
+        }
+    }
+}
