@@ -7,7 +7,7 @@ pub(crate) struct Row {
     pub(crate) rule: WordsRule,
 }
 
-static ROWS: [Row; 29] = [
+static ROWS: [Row; 30] = [
     Row {
         words: "-P filter --pid 9000 -O drop",
         at: 0,
@@ -150,6 +150,11 @@ static ROWS: [Row; 29] = [
     },
     Row {
         words: "-P zap -- x",
+        at: 0,
+        rule: WordsRule::Value,
+    },
+    Row {
+        words: "-P skip  --only-label 0-2",
         at: 0,
         rule: WordsRule::Value,
     },

@@ -1,6 +1,6 @@
 -- Which word of a segment is wrong, and what is wrong with it.
 -- This project's own rule.
-use Rattle.std.specs.Prelude.{ℕ, ◌+◌, ◌-◌, ◌==◌, ◌&&◌, Bool, List, [], ◌∷◌, None, Option, Some, if◌then◌else◌, length, nat_lt, not}
+use Rattle.std.specs.Prelude.{ℕ, ◌+◌, ◌==◌, ◌&&◌, Bool, List, [], ◌∷◌, None, Option, Some, if◌then◌else◌, length, nat_lt, not}
 use Rattle.std.specs.List.{after_first, list_any, position_or_len}
 use Rattle.std.specs.Str.{bytes_eq}
 use Rattle.option_words.specs.declared.words_rule.WordsRule.{WordsRule}

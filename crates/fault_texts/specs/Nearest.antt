@@ -1,7 +1,6 @@
 -- Which name of the table is nearest to a word.
 -- This project's own rule.
 use Rattle.std.specs.Prelude.{ℕ, ◌+◌, ◌/◌, ◌==◌, List, [], ◌∷◌, codes, fold, if◌then◌else◌, length, nat_eq, nat_lt, not}
-use Rattle.std.specs.Borrow.{Bor}
 use Rattle.std.specs.Str.{bytes_eq, chars}
 use Rattle.strsim.specs.Edits.{levenshtein_row}
 use Rattle.fault_texts.specs.declared.nearest.Near.{Near}

@@ -1,6 +1,6 @@
 -- What a word of a segment stands for.
 -- This project's own rule.
-use Rattle.std.specs.Prelude.{ℕ, ◌+◌, ◌-◌, ◌==◌, ◌&&◌, ◌||◌, Bool, List, [], ◌∷◌, None, Option, Some, false, find, if◌then◌else◌, length, nat_le, nat_lt, not, slice_index_or, true}
+use Rattle.std.specs.Prelude.{ℕ, ◌+◌, ◌-◌, ◌==◌, ◌&&◌, ◌||◌, Bool, List, None, Option, Some, false, find, if◌then◌else◌, length, nat_le, nat_lt, not, slice_index_or, true}
 use Rattle.std.specs.List.{before_first}
 use Rattle.std.specs.Str.{bytes_eq}
 use Rattle.fault_texts.specs.declared.option_row.OptionRow.{OptionRow}

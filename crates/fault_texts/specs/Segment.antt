@@ -1,6 +1,6 @@
 -- Which words a fault is about, and what is told of them.
 -- This project's own rule.
-use Rattle.std.specs.Prelude.{ℕ, ◌+◌, ◌&&◌, Bool, List, [], ◌∷◌, None, Option, Some, drop, false, find, if◌then◌else◌, length, take, unwrap_or, slice_get, option_map}
+use Rattle.std.specs.Prelude.{ℕ, ◌+◌, ◌&&◌, Bool, List, [], ◌∷◌, Option, Some, drop, false, find, if◌then◌else◌, length, take, unwrap_or, slice_get, option_map}
 use Rattle.std.specs.List.{list_any, position}
 use Rattle.std.specs.Str.{bytes_eq}
 use Rattle.fault_texts.specs.declared.help_table.HelpTable.{HelpTable}

@@ -12,11 +12,18 @@ fn shown_byte(byte: u8) -> u8
     if byte < 32 || byte == 127 { b'?' } else { byte }
 }
 
+// A word as it is seen: an empty one as two quotation marks.
+fn visible(word: &str) -> &str
+    ensures { result.now ≡ Marked.visible word.now }
+{
+    if word.is_empty() { "\"\"" } else { word }
+}
+
 fn put_word(text: &mut Vec<u8>, word: &str) -> Result<(), AllocError>
     ensures { OnOk result (text.new.items ≡ text.old.items ++ Marked.shown_word word.now) }
 {
     text.push(b' ')?;
-    put_bytes(text, word.as_bytes())
+    put_bytes(text, visible(word).as_bytes())
 }
 
 fn put_bytes(text: &mut Vec<u8>, bytes: &[u8]) -> Result<(), AllocError>
@@ -63,7 +70,7 @@ fn put_below(text: &mut Vec<u8>, sign: u8, word: &str) -> Result<(), AllocError>
     ensures { OnOk result (text.new.items ≡ text.old.items ++ Marked.below sign word.now) }
 {
     text.push(b' ')?;
-    put_signs(text, sign, word)
+    put_signs(text, sign, visible(word))
 }
 
 /// Puts spaces below words behind a text.
