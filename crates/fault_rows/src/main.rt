@@ -17,7 +17,7 @@ fn words_of(rt: &HostRuntime, text: &str) -> Result<Vec<String>> {
     Ok(words)
 }
 
-/// What is told of a row.
+/// What is said of a row.
 fn told(rt: &HostRuntime, row: &Row) -> Result<Vec<u8>> {
     let words = words_of(rt, row.words)?;
     let segments = tsp_segments(rt.alloc())?;

@@ -1,4 +1,4 @@
--- What is told of a segment that breaks a rule, and which word of it is marked.
+-- What is said of a segment that breaks a rule, and which word of it is marked.
 -- This project's own rule.
 use Rattle.std.specs.Prelude.{ℕ, Bool, List, [], Option, None, Some, codes, drop, if◌then◌else◌, length, unwrap_or}
 use Rattle.std.specs.List.{list_any}
@@ -13,14 +13,14 @@ use Rattle.fault_texts.specs.declared.said.Said.TheVariants.{Missing, NoName, Se
 use Rattle.fault_texts.specs.FirstFault.{first_fault}
 use Rattle.fault_texts.specs.Segment.{head_of, row_of}
 
--- what is told where no one word is wrong
+-- what is shown where no one word is wrong
 abbrev pub whole_said : WordsRule → Said
 whole_said rule.Missing = Missing
 whole_said _ = Whole
 
 -- words in any form, each with its text
 module _ {W : Type 0} (text_of : W → List ℕ) where
-  -- no word is marked, since the number is that behind the last
+  -- no word is marked, since the number is that after the last
   abbrev pub whole_fault : List W → WordsRule → Fault
   whole_fault own r = record { at = length own; said = whole_said r }
 
@@ -30,7 +30,7 @@ module _ {W : Type 0} (text_of : W → List ℕ) where
   fault_in (Some row) head own r =
       unwrap_or (first_fault text_of row.options.now r own [] 0 head (drop head own)) (whole_fault own r)
 
-  -- the word `--` stands among them, behind which no word is an option
+  -- the word `--` stands among them, after which no word is an option
   abbrev pub ends_options : List W → Bool
   ends_options own = list_any (λ word. bytes_eq (text_of word) (codes "--")) own
 

@@ -1,4 +1,4 @@
--- What a refused command line is told.
+-- What a refused command line is shown.
 -- This project's own rule.
 use Rattle.std.specs.Prelude.{ℕ, ◌++◌, List, [], ◌∷◌, codes, drop, if◌then◌else◌, length, nat_lt, take}
 use Rattle.option_words.specs.declared.words_rule.WordsRule.{WordsRule}

@@ -14,7 +14,7 @@ use Rattle.fault_texts.specs.declared.said.Said.TheVariants.{Again, Alone, Apart
 use Rattle.fault_texts.specs.Fits.{fits}
 use Rattle.fault_texts.specs.Roles.{counted, is_dashed, is_flag, name_part, role_of}
 
--- the word is the option of this name, by itself or with its value behind `=`
+-- the word is the option of this name, by itself or with its value after `=`
 abbrev pub is_of_name : List ℕ → List ℕ → Bool
 is_of_name name word = bytes_eq (name_part word) name
 
@@ -26,7 +26,7 @@ if_dashed row word = if is_dashed word then Some (NoValue row) else None
 abbrev pub unless_fits : OptionRow → List ℕ → Option Said
 unless_fits row value = if fits row.takes value then None else Some (BadValue row)
 
--- the same where it stands behind `=`
+-- the same where it stands after `=`
 abbrev pub named_value : OptionRow → List ℕ → Option Said
 named_value row word =
     if nat_lt (position_or_len (λ byte. byte == 61) word) (length word)
@@ -47,7 +47,7 @@ module _ {W : Type 0} (text_of : W → List ℕ) where
   abbrev pub stands : List ℕ → List W → Bool
   stands name words = list_any (λ word. is_of_name name (text_of word)) words
 
-  -- the option's word has nothing behind its name
+  -- the option's word has nothing after its name
   abbrev pub is_alone : List ℕ → Bool
   is_alone word = length (name_part word) == length word
 
@@ -67,7 +67,7 @@ module _ {W : Type 0} (text_of : W → List ℕ) where
   shape_said (role.Value row) word rest = if_dashed row word
   shape_said (role.Named row) word rest = named_shape row word rest
 
-  -- the other row is one of the same choice, and stands behind
+  -- the other row is one of the same choice, and stands after
   abbrev pub is_other_of : OptionRow → List W → OptionRow → Bool
   is_other_of row rest other =
       bytes_eq other.choice.now row.choice.now && (not (bytes_eq other.name.now row.name.now) && stands other.name.now rest)
@@ -99,7 +99,7 @@ module _ {W : Type 0} (text_of : W → List ℕ) where
   fault_or (Some said) at later = Some (record { at = at; said = said })
   fault_or None at later = later
 
-  -- the first word that is wrong, of words that stand behind another one and so many operands
+  -- the first word that is wrong, of words that stand after another one and so many operands
   unfoldable pub first_fault : List OptionRow → WordsRule → List W → List ℕ → ℕ → ℕ → List W → Option Fault
   first_fault options rule all previous count at [] = None
   first_fault options rule all previous count at (word ∷ rest) =

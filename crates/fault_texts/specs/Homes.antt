@@ -13,5 +13,5 @@ has_home table word = has_word word table.general || list_any (has_word word) ta
 abbrev pub homes_text : HelpTable → List ℕ → List ℕ
 homes_text table word =
     if has_home table word
-    then (texts (codes "it is known to:" ∷ []) ++ homes table word) ++ texts (codes "\n" ∷ [])
+    then (texts (codes "it belongs to:" ∷ []) ++ homes table word) ++ texts (codes "\n" ∷ [])
     else []

@@ -1,4 +1,4 @@
--- Names of the table, one behind another.
+-- Names of the table, one after another.
 -- This project's own rule.
 use Rattle.std.specs.Prelude.{ℕ, ◌==◌, ◌++◌, ◌&&◌, ◌||◌, Bool, List, [], ◌∷◌, codes, if◌then◌else◌, is_some, length, not}
 use Rattle.std.specs.List.{flat_map}
@@ -8,19 +8,19 @@ use Rattle.fault_texts.specs.declared.option_row.OptionRow.{OptionRow}
 use Rattle.fault_texts.specs.declared.segment_row.SegmentRow.{SegmentRow}
 use Rattle.fault_texts.specs.Roles.{name_part, named}
 
--- texts, one behind another
+-- texts, one after another
 abbrev pub texts : List (List ℕ) → List ℕ
 texts = flat_map (λ text. text)
 
--- a segment's name behind a space, where it begins with this word
+-- a segment's name after a space, where it begins with this word
 abbrev pub name_behind : List ℕ → SegmentRow → List ℕ
 name_behind first row = if bytes_eq row.first.now first then texts (codes " " ∷ row.name.now ∷ []) else []
 
--- the names that there are behind a first word
+-- the names that there are after a first word
 abbrev pub names_behind : HelpTable → List ℕ → List ℕ
 names_behind table first = flat_map (name_behind first) table.segments.now
 
--- an option's name behind a space; an operand has none
+-- an option's name after a space; an operand has none
 abbrev pub option_name : OptionRow → List ℕ
 option_name row = if not (length row.name.now == 0) then texts (codes " " ∷ row.name.now ∷ []) else []
 

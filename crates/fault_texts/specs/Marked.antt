@@ -14,7 +14,7 @@ shown_bytes = map shown_byte
 abbrev pub visible : List ℕ → List ℕ
 visible word = if length word == 0 then 34 ∷ 34 ∷ [] else word
 
--- a word behind a space
+-- a word after a space
 abbrev pub shown_word : List ℕ → List ℕ
 shown_word word = 32 ∷ shown_bytes (visible word)
 

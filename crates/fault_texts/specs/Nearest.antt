@@ -35,11 +35,11 @@ nearer_option word near row = nearer word near row.name.now
 abbrev pub nearest_option : List OptionRow → List ℕ → List ℕ × ℕ
 nearest_option options word = fold (nearer_option word) (none_near word) options
 
--- the nearest name behind a first word
+-- the nearest name after a first word
 abbrev pub nearest_name : List SegmentRow → List ℕ → List ℕ → List ℕ × ℕ
 nearest_name segments first word = fold (nearer_segment first word) (none_near word) segments
 
 -- a line with it, where there is one
 abbrev pub near_text : List ℕ × ℕ → List ℕ
 near_text near =
-    if not (length near.0 == 0) then texts (codes "the nearest is " ∷ near.0 ∷ codes "\n" ∷ []) else []
+    if not (length near.0 == 0) then texts (codes "did you mean " ∷ near.0 ∷ codes "?\n" ∷ []) else []

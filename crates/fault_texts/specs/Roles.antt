@@ -28,7 +28,7 @@ awaiting options previous = find (awaits previous) options
 abbrev pub name_part : List ℕ → List ℕ
 name_part word = before_first (λ byte. byte == 61) word
 
--- a word begins with a dash, and has more behind it
+-- a word begins with a dash, and has more after it
 abbrev pub is_dashed : List ℕ → Bool
 is_dashed word = nat_lt 1 (length word) && (slice_index_or word 0 0 == 45)
 
@@ -36,7 +36,7 @@ is_dashed word = nat_lt 1 (length word) && (slice_index_or word 0 0 == 45)
 abbrev pub named : List OptionRow → List ℕ → Option OptionRow
 named options name = find (λ row. bytes_eq row.name.now name) options
 
--- the row is of the operand behind so many others
+-- the row is of the operand after so many others
 abbrev pub is_operand : ℕ → OptionRow → Bool
 is_operand count row = not (row.place == 0) && (((row.place - 1) == count) || (row.many && nat_le (row.place - 1) count))
 
@@ -62,7 +62,7 @@ abbrev pub value_or : Option OptionRow → Role → Role
 value_or (Some row) other = Value row
 value_or None other = other
 
--- a word behind another one and so many operands
+-- a word after another one and so many operands
 abbrev pub role_of : List OptionRow → List ℕ → ℕ → List ℕ → Role
 role_of options previous count word = value_or (awaiting options previous) (free_role options count word)
 

@@ -17,34 +17,34 @@ use Rattle.fault_texts.specs.Segment.{row_of, word_or_none}
 use Rattle.fault_texts.specs.TakesText.{sign_hint, takes_text}
 use Rattle.fault_texts.specs.Wanted.{wanted}
 
--- texts that are lent, one behind another
+-- texts that are lent, one after another
 abbrev pub text_of_parts : List (Bor (List ℕ)) → List ℕ
 text_of_parts = flat_map (λ part. part.now)
 
--- the names that there are behind a first word
+-- the names that there are after a first word
 abbrev pub no_name_text : HelpTable → List ℕ → List ℕ
 no_name_text table first =
-    (texts (codes "a name is wanted behind " ∷ first ∷ codes ", one of:" ∷ []) ++ names_behind table first) ++ texts (codes "\n" ∷ [])
+    (texts (codes "a name has to follow " ∷ first ∷ codes ", one of:" ∷ []) ++ names_behind table first) ++ texts (codes "\n" ∷ [])
 
 -- these names, and how a file is named
 abbrev pub known_names_text : HelpTable → List ℕ → List ℕ
 known_names_text table first =
-    (texts (codes "no name behind " ∷ first ∷ codes ", which has:" ∷ []) ++ names_behind table first)
-    ++ texts (codes "\na file is named behind -I file or -O file\n" ∷ [])
+    (texts (codes "unknown name after " ∷ first ∷ codes "; there are:" ∷ []) ++ names_behind table first)
+    ++ texts (codes "\na file is named after -I file or -O file\n" ∷ [])
 
 -- the options that the segment has
 abbrev pub known_options_text : SegmentRow → List ℕ
 known_options_text row =
-    (texts (codes "no option of " ∷ row.first.now ∷ codes " " ∷ row.name.now ∷ codes ", which has:" ∷ []) ++ option_names row.options.now)
+    (texts (codes "unknown option of " ∷ row.first.now ∷ codes " " ∷ row.name.now ∷ codes "; there are:" ∷ []) ++ option_names row.options.now)
     ++ texts (codes "\n" ∷ [])
 
 -- the nearest of them, and where else the option is known
 abbrev pub unknown_option_text : HelpTable → SegmentRow → List ℕ → List ℕ
 unknown_option_text table row word = (known_options_text row ++ near_text (nearest_option row.options.now (name_part word))) ++ homes_text table word
 
--- the option is told, and how its value is written
+-- the option is shown, and how its value is written
 abbrev pub no_value_text : OptionRow → List ℕ
-no_value_text row = texts (row.name.now ∷ codes " wants a value behind it\n" ∷ row.form.now ∷ codes ": " ∷ row.meaning.now
+no_value_text row = texts (row.name.now ∷ codes " needs a value\n" ∷ row.form.now ∷ codes ": " ∷ row.meaning.now
     ∷ codes "\n" ∷ takes_text row.takes ∷ [])
 
 abbrev pub bad_value_text : OptionRow → List ℕ → List ℕ
@@ -54,11 +54,11 @@ bad_value_text row word = texts (row.form.now ∷ codes ": " ∷ row.meaning.now
 -- what is said of one option
 abbrev pub option_text : Said → List ℕ → List ℕ
 option_text (NoValue row) word = no_value_text row
-option_text (Again row) word = texts (row.name.now ∷ codes " stands twice\n" ∷ [])
+option_text (Again row) word = texts (row.name.now ∷ codes " is given twice\n" ∷ [])
 option_text (TakesNone row) word = texts (row.name.now ∷ codes " takes no value\n" ∷ [])
 option_text (BadValue row) word = bad_value_text row word
-option_text (Apart row) word = texts (codes "of these one alone may stand: " ∷ row.choice.now ∷ codes "\n" ∷ [])
-option_text (Alone row) word = texts (row.name.now ∷ codes " stands only beside " ∷ row.with.now ∷ codes "\n" ∷ [])
+option_text (Apart row) word = texts (codes "only one of these may be given: " ∷ row.choice.now ∷ codes "\n" ∷ [])
+option_text (Alone row) word = texts (row.name.now ∷ codes " is only allowed with " ∷ row.with.now ∷ codes "\n" ∷ [])
 option_text _ word = []
 
 -- how a segment may stand, and what it does
@@ -67,11 +67,11 @@ whole_text row = texts (codes "usage: " ∷ row.usage.now ∷ codes "\n" ∷ row
 
 abbrev pub extra_text : SegmentRow → List ℕ
 extra_text row =
-    texts (codes "no word more may stand here: " ∷ row.usage.now ∷ codes "\na file is named behind -I file or -O file\n" ∷ [])
+    texts (codes "no further word is allowed here: " ∷ row.usage.now ∷ codes "\na file is named after -I file or -O file\n" ∷ [])
 
 -- words in any form, each with its text
 module _ {W : Type 0} (text_of : W → List ℕ) where
-  -- the names behind the segment's first word, the nearest of them, and where else the word behind it is known
+  -- the names after the segment's first word, the nearest of them, and where else the word after it is known
   abbrev pub unknown_name_text : HelpTable → List W → List ℕ
   unknown_name_text table own =
       (known_names_text table (word_or_none text_of own 0)
@@ -100,12 +100,12 @@ module _ {W : Type 0} (text_of : W → List ℕ) where
   abbrev pub row_text : HelpTable → List W → Fault → List ℕ
   row_text table own fault = text_of_row table (row_of text_of table own) own fault
 
-  -- what is said of names, by the first word of the segment and the one behind it, and else of options
+  -- what is said of names, by the first word of the segment and the one after it, and else of options
   abbrev pub text_by_said : HelpTable → List W → Fault → Said → List ℕ
-  text_by_said table own fault Second = texts (codes "no second " ∷ word_or_none text_of own 0 ∷ codes " may stand\n" ∷ [])
+  text_by_said table own fault Second = texts (codes "only one " ∷ word_or_none text_of own 0 ∷ codes " is allowed\n" ∷ [])
   text_by_said table own fault NoName = no_name_text table (word_or_none text_of own 0)
   text_by_said table own fault UnknownName = unknown_name_text table own
-  text_by_said table own fault TooMany = texts (codes "no plugin more may stand in a chain\n" ∷ [])
+  text_by_said table own fault TooMany = texts (codes "a chain has at most 62 plugins\n" ∷ [])
   text_by_said table own fault said = row_text table own fault
 
   abbrev pub said_text : HelpTable → List W → Fault → List ℕ

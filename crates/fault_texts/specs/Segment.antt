@@ -1,4 +1,4 @@
--- Which words a fault is about, and what is told of them.
+-- Which words a fault is about, and what is said of them.
 -- This project's own rule.
 use Rattle.std.specs.Prelude.{ℕ, ◌+◌, ◌&&◌, Bool, List, [], ◌∷◌, Option, Some, drop, false, find, if◌then◌else◌, length, take, unwrap_or, slice_get, option_map}
 use Rattle.std.specs.List.{list_any, position}
@@ -41,7 +41,7 @@ module _ {W : Type 0} (text_of : W → List ℕ) where
   abbrev pub word_or_none : List W → ℕ → List ℕ
   word_or_none words number = unwrap_or (option_map text_of (slice_get words number)) []
 
-  -- what is told of a segment, where there is one of its name; else its words are general options
+  -- what is said of a segment, where there is one of its name; else its words are general options
   abbrev pub row_of : HelpTable → List W → Option SegmentRow
   row_of table own =
       if is_begun table own

@@ -18,11 +18,11 @@ pairs_text Equals = codes "two numbers have = between them, and pairs are joined
 
 -- how such a value is written
 abbrev pub takes_text : Takes → List ℕ
-takes_text (Number least most) = codes "a number is decimal, or hexadecimal behind 0x\n"
+takes_text (Number least most) = codes "a number is decimal, or hexadecimal after 0x\n"
 takes_text (Ranges least most) = codes "numbers and ranges are joined by commas, as 0,16-18,0x100\n"
 takes_text (Pair sign first second) = pair_text sign
 takes_text (Pairs sign first second) = pairs_text sign
-takes_text (Bytes least most) = codes "two hexadecimal digits are a byte\n"
+takes_text (Bytes least most) = codes "each byte is two hexadecimal digits\n"
 takes_text _ = []
 
 -- the sign stands in the word
@@ -30,8 +30,8 @@ abbrev pub has_sign : ℕ → List ℕ → Bool
 has_sign sign word = nat_lt (position_or_len (λ byte. byte == sign) word) (length word)
 
 abbrev pub hint_by_sign : Sign → List ℕ → List ℕ
-hint_by_sign Slash word = if has_sign 61 word then codes "here = stands where / is wanted\n" else []
-hint_by_sign Equals word = if has_sign 47 word then codes "here / stands where = is wanted\n" else []
+hint_by_sign Slash word = if has_sign 61 word then codes "= is written here where / is needed\n" else []
+hint_by_sign Equals word = if has_sign 47 word then codes "/ is written here where = is needed\n" else []
 
 -- an option's own word has `=` for another reason
 abbrev pub hint_of_sign : Sign → List ℕ → List ℕ

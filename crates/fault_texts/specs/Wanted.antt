@@ -23,7 +23,7 @@ module _ {W : Type 0} (text_of : W → List ℕ) where
   abbrev pub if_wanting : List OptionRow → List W → OptionRow → List ℕ
   if_wanting options own row =
       if is_wanting options own row
-      then texts (codes "wanted: " ∷ row.form.now ∷ codes ": " ∷ row.meaning.now ∷ codes "\n" ∷ [])
+      then texts (codes "needed: " ∷ row.form.now ∷ codes ": " ∷ row.meaning.now ∷ codes "\n" ∷ [])
       else []
 
   -- a line for each

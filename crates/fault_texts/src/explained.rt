@@ -36,7 +36,7 @@ fn mark_line(alloc: Global, own: &[String], at: usize) -> Result<Vec<u8>, AllocE
     Ok(text)
 }
 
-/// What a refused command line is told: the words of the segment that breaks a rule, a mark below the one that is wrong, and
+/// What a refused command line is shown: the words of the segment that breaks a rule, a mark below the one that is wrong, and
 /// what may stand there. `at` is the number of the segment's first word, from 0, and the words are given without the
 /// program's name. An `AllocError` leaves nothing.
 pub fn fault_text(

@@ -1,4 +1,4 @@
-//! What is told of a segment that breaks a rule.
+//! What is said of a segment that breaks a rule.
 ghost use Rattle.std.specs.Prelude.{◌≡◌, IfOk, codes};
 ghost use Rattle.std.specs.Str.{bytes_eq};
 ghost use Rattle.std.specs.String.{string_bytes};
@@ -11,7 +11,7 @@ use crate::segment::{head_of, row_of, words_from};
 use option_words::WordsRule;
 use std::alloc::{AllocError, Global};
 
-// What is told where no one word is wrong.
+// What is shown where no one word is wrong.
 fn whole_said(rule: WordsRule) -> Said
     ensures { result ≡ FaultOf.whole_said rule }
 {
@@ -27,14 +27,14 @@ fn is_end(word: &str) -> bool
     word == "--"
 }
 
-// Whether the word `--` stands among words, behind which no word is an option.
+// Whether the word `--` stands among words, after which no word is an option.
 fn ends_options(own: &[String]) -> bool
     ensures { result ≡ FaultOf.ends_options string_bytes own.now }
 {
     own.iter().any(|word| is_end(word.as_str()))
 }
 
-// The fault of a segment whose options and operands break a rule; behind the last word where no one word is wrong.
+// The fault of a segment whose options and operands break a rule; after the last word where no one word is wrong.
 fn fault_of_options(
     alloc: Global,
     table: &HelpTable,

@@ -83,7 +83,7 @@ fn unless_fits(alloc: Global, row: OptionRow, value: &str) -> Result<Option<Said
     }
 }
 
-// The same of an option's own word, where its value stands behind `=`.
+// The same of an option's own word, where its value stands after `=`.
 fn named_value(alloc: Global, row: OptionRow, word: &str) -> Result<Option<Said>, AllocError>
     ensures { IfOk result (λ said. said ≡ FirstFault.named_value row word.now) }
 {
@@ -153,7 +153,7 @@ fn said_of_word(
     }
 }
 
-/// The first word that is wrong, of words that stand behind another one and so many operands; the first of them has the number
+/// The first word that is wrong, of words that stand after another one and so many operands; the first of them has the number
 /// `at`.
 #[tactic(auto, unfolding(crate::specs::FirstFault::first_fault))]
 pub(crate) fn first_fault(

@@ -1,6 +1,6 @@
 use crate::segment_row::SegmentRow;
 
-/// What is told of a program's command line.
+/// What is said of a program's command line.
 #[derive(Clone, Copy)]
 pub struct HelpTable<'a> {
     /// The options before the first segment.

@@ -32,7 +32,7 @@ pub(crate) fn homes_text(
 {
     let mut text = Vec::new(alloc);
     if has_home(table, word) {
-        put_all(&mut text, &["it is known to:"])?;
+        put_all(&mut text, &["it belongs to:"])?;
         put_homes(&mut text, table, word)?;
         put_all(&mut text, &["\n"])?;
     }

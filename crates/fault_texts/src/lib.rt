@@ -1,4 +1,4 @@
-//! What a refused command line is told beyond its one line: a table of options, the words and the broken rule come in, a text
+//! What a refused command line is shown beyond its one line: a table of options, the words and the broken rule come in, a text
 //! that marks the faulty word and says what may stand there goes out. The programs above use `fault_text`.
 #![tactic(auto)]
 

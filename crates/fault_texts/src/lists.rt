@@ -1,4 +1,4 @@
-//! Names of the table, one behind another.
+//! Names of the table, one after another.
 ghost use Rattle.std.specs.Prelude.{◌≡◌, ◌++◌, OnOk};
 ghost use Rattle.fault_texts.specs.Lists;
 
@@ -18,7 +18,7 @@ fn put_name(text: &mut Vec<u8>, first: &str, row: &SegmentRow) -> Result<(), All
     Ok(())
 }
 
-/// Puts the names that there are behind a first word.
+/// Puts the names that there are after a first word.
 pub(crate) fn put_names(
     text: &mut Vec<u8>,
     table: &HelpTable,

@@ -35,7 +35,7 @@ fn put_bytes(text: &mut Vec<u8>, bytes: &[u8]) -> Result<(), AllocError>
     Ok(())
 }
 
-/// Puts the words behind a text, each behind a space.
+/// Puts the words after a text, each after a space.
 pub(crate) fn put_words(text: &mut Vec<u8>, words: &[String]) -> Result<(), AllocError>
     ensures { OnOk result (text.new.items ≡ text.old.items ++ Marked.shown_words string_bytes words.now) }
 {
@@ -73,7 +73,7 @@ fn put_below(text: &mut Vec<u8>, sign: u8, word: &str) -> Result<(), AllocError>
     put_signs(text, sign, visible(word))
 }
 
-/// Puts spaces below words behind a text.
+/// Puts spaces below words after a text.
 pub(crate) fn put_blanks(text: &mut Vec<u8>, words: &[String]) -> Result<(), AllocError>
     ensures { OnOk result (text.new.items ≡ text.old.items ++ Marked.blanks_below string_bytes words.now) }
 {
@@ -83,7 +83,7 @@ pub(crate) fn put_blanks(text: &mut Vec<u8>, words: &[String]) -> Result<(), All
     Ok(())
 }
 
-/// Puts the mark below a word behind a text.
+/// Puts the mark below a word after a text.
 pub(crate) fn put_mark(text: &mut Vec<u8>, word: &str) -> Result<(), AllocError>
     ensures { OnOk result (text.new.items ≡ text.old.items ++ Marked.below 94 word.now) }
 {

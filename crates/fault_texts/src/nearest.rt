@@ -85,7 +85,7 @@ fn near_text(alloc: Global, near: Near) -> Result<Vec<u8>, AllocError>
 {
     let mut text = Vec::new(alloc);
     if !near.name.is_empty() {
-        put_all(&mut text, &["the nearest is ", near.name, "\n"])?;
+        put_all(&mut text, &["did you mean ", near.name, "?\n"])?;
     }
     Ok(text)
 }
@@ -102,7 +102,7 @@ pub(crate) fn near_option_text(
     near_text(alloc, near)
 }
 
-/// A line with the name behind a first word that is nearest to a word, where there is one.
+/// A line with the name after a first word that is nearest to a word, where there is one.
 pub(crate) fn near_name_text(
     alloc: Global,
     segments: &[SegmentRow],

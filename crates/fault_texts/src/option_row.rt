@@ -1,6 +1,6 @@
 use crate::takes::Takes;
 
-/// What is told of one option or operand of a segment.
+/// What is said of one option or operand of a segment.
 #[derive(Clone, Copy)]
 pub struct OptionRow {
     /// The option as it is written, with its dashes; of an operand nothing.

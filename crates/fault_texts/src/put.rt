@@ -3,7 +3,7 @@ ghost use Rattle.std.specs.List.{flat_map};
 
 use std::alloc::AllocError;
 
-/// Puts texts behind a text, one after another.
+/// Puts texts after a text, one after another.
 pub(crate) fn put_all(text: &mut Vec<u8>, parts: &[&str]) -> Result<(), AllocError>
     ensures { OnOk result (text.new.items ≡ text.old.items ++ flat_map (λ part. part.now) parts.now) }
 {

@@ -11,7 +11,7 @@ use option_words::split_at_sign;
 pub(crate) enum Role {
     /// The value of the option before it.
     Value(OptionRow),
-    /// An option, by itself or with its value behind `=`.
+    /// An option, by itself or with its value after `=`.
     Named(OptionRow),
     /// It begins with a dash and is no option.
     Unknown,
@@ -47,7 +47,7 @@ pub(crate) fn name_part(word: &str) -> &str
     }
 }
 
-/// Whether a word begins with a dash, and has more behind it.
+/// Whether a word begins with a dash, and has more after it.
 pub(crate) fn is_dashed(word: &str) -> bool
     ensures { result ≡ Roles.is_dashed word.now }
 {
@@ -61,7 +61,7 @@ fn is_operand(row: &OptionRow, count: usize) -> bool
     row.place != 0 && (row.place - 1 == count || (row.many && row.place - 1 <= count))
 }
 
-/// The option that awaits a value behind this word.
+/// The option that awaits a value after this word.
 fn awaiting(options: &[OptionRow], previous: &str) -> Option<OptionRow>
     ensures { result ≡ Roles.awaiting options.now previous.now }
 {
@@ -85,7 +85,7 @@ pub(crate) fn named(options: &[OptionRow], name: &str) -> Option<OptionRow>
     None
 }
 
-/// The operand behind so many others.
+/// The operand after so many others.
 fn operand(options: &[OptionRow], count: usize) -> Option<OptionRow>
     ensures { result ≡ Roles.operand options.now count }
 {
@@ -114,7 +114,7 @@ fn free_role(options: &[OptionRow], count: usize, word: &str) -> Role
     }
 }
 
-/// What a word stands for behind another one and so many operands.
+/// What a word stands for after another one and so many operands.
 pub(crate) fn role_of(options: &[OptionRow], previous: &str, count: usize, word: &str) -> Role
     ensures { result ≡ Roles.role_of options.now previous.now count word.now }
 {

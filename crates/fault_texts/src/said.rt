@@ -5,19 +5,19 @@ use crate::option_row::OptionRow;
 pub(crate) enum Said {
     /// Only one segment of its kind may stand.
     Second,
-    /// A name is wanted behind the first word.
+    /// A name is needed after the first word.
     NoName,
     /// There is no segment of this name.
     UnknownName,
     /// No plugin more may stand.
     TooMany,
-    /// The word is no option of the segment.
+    /// The word is unknown option of the segment.
     UnknownOption,
     /// The word is an operand more than the segment takes.
     Extra,
     /// The option's value is wanting.
     NoValue(OptionRow),
-    /// The option stands again behind it.
+    /// The option stands again after it.
     Again(OptionRow),
     /// The option is a flag, and the word gives it a value.
     TakesNone(OptionRow),

@@ -30,7 +30,7 @@ fn no_name_text(alloc: Global, table: &HelpTable, first: &str) -> Result<Vec<u8>
     ensures { IfOk result (λ text. text.items ≡ SaidText.no_name_text table.now first.now) }
 {
     let mut text = Vec::new(alloc);
-    put_all(&mut text, &["a name is wanted behind ", first, ", one of:"])?;
+    put_all(&mut text, &["a name has to follow ", first, ", one of:"])?;
     put_names(&mut text, table, first)?;
     put_all(&mut text, &["\n"])?;
     Ok(text)
@@ -40,11 +40,11 @@ fn known_names_text(alloc: Global, table: &HelpTable, first: &str) -> Result<Vec
     ensures { IfOk result (λ text. text.items ≡ SaidText.known_names_text table.now first.now) }
 {
     let mut text = Vec::new(alloc);
-    put_all(&mut text, &["no name behind ", first, ", which has:"])?;
+    put_all(&mut text, &["unknown name after ", first, "; there are:"])?;
     put_names(&mut text, table, first)?;
     put_all(
         &mut text,
-        &["\na file is named behind -I file or -O file\n"],
+        &["\na file is named after -I file or -O file\n"],
     )?;
     Ok(text)
 }
@@ -72,7 +72,7 @@ fn known_options_text(alloc: Global, row: &SegmentRow) -> Result<Vec<u8>, AllocE
     let mut text = Vec::new(alloc);
     put_all(
         &mut text,
-        &["no option of ", row.first, " ", row.name, ", which has:"],
+        &["unknown option of ", row.first, " ", row.name, "; there are:"],
     )?;
     put_options(&mut text, row.options)?;
     put_all(&mut text, &["\n"])?;
@@ -110,15 +110,15 @@ fn option_text(alloc: Global, said: Said, word: &str) -> Result<Vec<u8>, AllocEr
 {
     match said {
         Said::NoValue(row) => no_value_text(alloc, row),
-        Said::Again(row) => text_of_parts(alloc, &[row.name, " stands twice\n"]),
+        Said::Again(row) => text_of_parts(alloc, &[row.name, " is given twice\n"]),
         Said::TakesNone(row) => text_of_parts(alloc, &[row.name, " takes no value\n"]),
         Said::BadValue(row) => bad_value_text(alloc, row, word),
         Said::Apart(row) => {
-            text_of_parts(alloc, &["of these one alone may stand: ", row.choice, "\n"])
+            text_of_parts(alloc, &["only one of these may be given: ", row.choice, "\n"])
         }
         Said::Alone(row) => text_of_parts(
             alloc,
-            &[row.name, " stands only beside ", row.with, "\n"],
+            &[row.name, " is only allowed with ", row.with, "\n"],
         ),
         _ => Ok(Vec::new(alloc)),
     }
@@ -130,7 +130,7 @@ fn no_value_text(alloc: Global, row: OptionRow) -> Result<Vec<u8>, AllocError>
     let form = takes_text(row.takes);
     let parts = [
         row.name,
-        " wants a value behind it\n",
+        " needs a value\n",
         row.form,
         ": ",
         row.meaning,
@@ -162,8 +162,8 @@ fn segment_text(
     match fault.said {
         Said::UnknownOption => unknown_option_text(alloc, table, row, word),
         Said::Extra => {
-            let end = "\na file is named behind -I file or -O file\n";
-            text_of_parts(alloc, &["no word more may stand here: ", row.usage, end])
+            let end = "\na file is named after -I file or -O file\n";
+            text_of_parts(alloc, &["no further word is allowed here: ", row.usage, end])
         }
         Said::Missing => missing_text(alloc, row, own),
         Said::Whole => text_of_parts(alloc, &["usage: ", row.usage, "\n", row.rule, "\n"]),
@@ -197,10 +197,10 @@ pub(crate) fn said_text(
 {
     let first = word_or_none(own, 0);
     match fault.said {
-        Said::Second => text_of_parts(alloc, &["no second ", first, " may stand\n"]),
+        Said::Second => text_of_parts(alloc, &["only one ", first, " is allowed\n"]),
         Said::NoName => no_name_text(alloc, table, first),
         Said::UnknownName => unknown_name_text(alloc, table, own),
-        Said::TooMany => text_of_parts(alloc, &["no plugin more may stand in a chain\n"]),
+        Said::TooMany => text_of_parts(alloc, &["a chain has at most 62 plugins\n"]),
         _ => row_text(alloc, table, own, fault),
     }
 }

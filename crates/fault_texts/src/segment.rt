@@ -80,7 +80,7 @@ fn is_called(row: &SegmentRow, first: &str, name: &str) -> bool
     row.first == first && row.name == name
 }
 
-/// What is told of the segment, where there is one of its name.
+/// What is said of the segment, where there is one of its name.
 pub(crate) fn row_of(table: &HelpTable, own: &[String]) -> Option<SegmentRow>
     ensures { result ≡ Segment.row_of string_bytes table.now own.now }
 {

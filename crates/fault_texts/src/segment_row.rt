@@ -1,6 +1,6 @@
 use crate::option_row::OptionRow;
 
-/// What is told of one segment: an input, a plugin, an output, or the general options.
+/// What is said of one segment: an input, a plugin, an output, or the general options.
 #[derive(Clone, Copy)]
 pub struct SegmentRow {
     /// Its first word, as `-P`; of the general options a word of their title.

@@ -12,11 +12,11 @@ pub(crate) fn takes_text(takes: Takes) -> &'static str
     ensures { result.now ≡ TakesText.takes_text takes }
 {
     match takes {
-        Takes::Number(_, _) => "a number is decimal, or hexadecimal behind 0x\n",
+        Takes::Number(_, _) => "a number is decimal, or hexadecimal after 0x\n",
         Takes::Ranges(_, _) => "numbers and ranges are joined by commas, as 0,16-18,0x100\n",
         Takes::Pair(sign, _, _) => pair_text(sign),
         Takes::Pairs(sign, _, _) => pairs_text(sign),
-        Takes::Bytes(_, _) => "two hexadecimal digits are a byte\n",
+        Takes::Bytes(_, _) => "each byte is two hexadecimal digits\n",
         Takes::Nothing | Takes::Choice(_) | Takes::Text => "",
     }
 }
@@ -58,8 +58,8 @@ fn hint_of_sign(sign: Sign, word: &str) -> &'static str
         return "";
     }
     match sign {
-        Sign::Slash if has_sign(word, '=') => "here = stands where / is wanted\n",
-        Sign::Equals if has_sign(word, '/') => "here / stands where = is wanted\n",
+        Sign::Slash if has_sign(word, '=') => "= is written here where / is needed\n",
+        Sign::Equals if has_sign(word, '/') => "/ is written here where = is needed\n",
         _ => "",
     }
 }

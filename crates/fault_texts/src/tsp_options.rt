@@ -101,7 +101,7 @@ fn file_input() -> SegmentRow {
         OptionRow {
             name: "",
             form: "NAME",
-            meaning: "the file; without a name, standard input (the default). F says how it keeps its packets: ts, alone (the default); m2ts, each behind four other bytes, as a Blu-ray disc does; rs204, each before sixteen other bytes, as receivers with Reed-Solomon codes do",
+            meaning: "the file; without a name, standard input (the default). F says how it keeps its packets: ts, alone (the default); m2ts, each after four other bytes, as a Blu-ray disc does; rs204, each before sixteen other bytes, as receivers with Reed-Solomon codes do",
             takes: Takes::Text,
             place: 1,
             many: false,
@@ -112,7 +112,7 @@ fn file_input() -> SegmentRow {
         OptionRow {
             name: "--format",
             form: "--format F",
-            meaning: "the file; without a name, standard input (the default). F says how it keeps its packets: ts, alone (the default); m2ts, each behind four other bytes, as a Blu-ray disc does; rs204, each before sixteen other bytes, as receivers with Reed-Solomon codes do",
+            meaning: "the file; without a name, standard input (the default). F says how it keeps its packets: ts, alone (the default); m2ts, each after four other bytes, as a Blu-ray disc does; rs204, each before sixteen other bytes, as receivers with Reed-Solomon codes do",
             takes: Takes::Choice(&["ts", "m2ts", "rs204"]),
             place: 0,
             many: false,
@@ -125,7 +125,7 @@ fn file_input() -> SegmentRow {
         first: "-I",
         name: "file",
         usage: "-I file [NAME] [--format F]",
-        rule: "the file; without a name, standard input (the default). F says how it keeps its packets: ts, alone (the default); m2ts, each behind four other bytes, as a Blu-ray disc does; rs204, each before sixteen other bytes, as receivers with Reed-Solomon codes do",
+        rule: "the file; without a name, standard input (the default). F says how it keeps its packets: ts, alone (the default); m2ts, each after four other bytes, as a Blu-ray disc does; rs204, each before sixteen other bytes, as receivers with Reed-Solomon codes do",
         options: &OPTIONS,
     }
 }
@@ -156,7 +156,7 @@ fn testgen_input() -> SegmentRow {
         OptionRow {
             name: "",
             form: "SEED",
-            meaning: "SEED 0 to 2^64 - 1, N 0 to 2^40: the first N packets of the lawful stream that is made from the number SEED: two services with their tables, PCRs, payloads and null packets",
+            meaning: "SEED 0 to 2^64 - 1, N 0 to 2^40: the first N packets of the valid stream that is made from the number SEED: two services with their tables, PCRs, payloads and null packets",
             takes: Takes::Number(0, u64::MAX),
             place: 1,
             many: false,
@@ -167,7 +167,7 @@ fn testgen_input() -> SegmentRow {
         OptionRow {
             name: "",
             form: "N",
-            meaning: "SEED 0 to 2^64 - 1, N 0 to 2^40: the first N packets of the lawful stream that is made from the number SEED: two services with their tables, PCRs, payloads and null packets",
+            meaning: "SEED 0 to 2^64 - 1, N 0 to 2^40: the first N packets of the valid stream that is made from the number SEED: two services with their tables, PCRs, payloads and null packets",
             takes: Takes::Number(0, 1_099_511_627_776),
             place: 2,
             many: false,
@@ -180,7 +180,7 @@ fn testgen_input() -> SegmentRow {
         first: "-I",
         name: "testgen",
         usage: "-I testgen SEED N",
-        rule: "SEED 0 to 2^64 - 1, N 0 to 2^40: the first N packets of the lawful stream that is made from the number SEED: two services with their tables, PCRs, payloads and null packets",
+        rule: "SEED 0 to 2^64 - 1, N 0 to 2^40: the first N packets of the valid stream that is made from the number SEED: two services with their tables, PCRs, payloads and null packets",
         options: &OPTIONS,
     }
 }
@@ -757,7 +757,7 @@ fn inject_plugin() -> SegmentRow {
         OptionRow {
             name: "",
             form: "FILE",
-            meaning: "a text of tables as JSON where the name ends in .json, and otherwise sections, one behind another",
+            meaning: "a text of tables as JSON where the name ends in .json, and otherwise sections, one after another",
             takes: Takes::Text,
             place: 1,
             many: false,
@@ -1426,7 +1426,7 @@ fn info_plugin() -> SegmentRow {
         first: "-P",
         name: "info",
         usage: "-P info [--json]",
-        rule: "At the end there is a line for the stream, with its packets, its transport_stream_id and its bit rate by PCRs; for each service of the PAT, with its name and provider of the SDT, its PIDs and its part of the bit rate, one and under it one for each component; and one for each other PID, which is unnamed where no table has it. What the stream does not tell is none. Errored packets have the transport error indicator, and faults are those of continuity. The bit rate is worth nothing where clocks jump unflagged, as over a joint of two files. Every packet passes.",
+        rule: "At the end there is a line for the stream, with its packets, its transport_stream_id and its bit rate by PCRs; for each service of the PAT, with its name and provider of the SDT, its PIDs and its part of the bit rate, one and under it one for each component; and one for each other PID, which is unnamed where no table has it. What the stream does not have is none. Errored packets have the transport error indicator, and faults are those of continuity. The bit rate is worth nothing where clocks jump unflagged, as over a joint of two files. Every packet passes.",
         options: &OPTIONS,
     }
 }
@@ -1471,7 +1471,7 @@ fn tables_plugin() -> SegmentRow {
         first: "-P",
         name: "tables",
         usage: "-P tables [--pid LIST] [--tid LIST]",
-        rule: "A table has its line at the packet that completes it, with that packet's position and PID, and another one only after a change of its version or of its last section number; a section of an EIT, or one of the short form as a TDT, has a line each time it comes. Every packet passes. The table_id of a PAT is 0, of a CAT 1, a PMT 2, a NIT 64, an SDT 66, a BAT 74, and of EITs 78 and 80 to 95, where they tell of this network and stream. A text for inject and tstabcomp is such tables, joined by commas, between {\"#name\":\"tsduck\",\"#nodes\":[ and ]}.",
+        rule: "A table has its line at the packet that completes it, with that packet's position and PID, and another one only after a change of its version or of its last section number; a section of an EIT, or one of the short form as a TDT, has a line each time it comes. Every packet passes. The table_id of a PAT is 0, of a CAT 1, a PMT 2, a NIT 64, an SDT 66, a BAT 74, and of EITs 78 and 80 to 95, where they are of this network and stream. A text for inject and tstabcomp is such tables, joined by commas, between {\"#name\":\"tsduck\",\"#nodes\":[ and ]}.",
         options: &OPTIONS,
     }
 }
@@ -1516,7 +1516,7 @@ fn compact_plugin() -> SegmentRow {
         first: "-P",
         name: "compact",
         usage: "-P compact --window N [--stuffing]",
-        rule: "The first N packets are dropped, and in the place of each N behind them stand the N before these: first those on other PIDs than 8191, then the null packets, each in their order. The last ones stay inside, so that --add-stop-stuffing N is wanted where all are to come out.",
+        rule: "The first N packets are dropped, and in the place of each N after them stand the N before these: first those on other PIDs than 8191, then the null packets, each in their order. The last ones stay inside; --add-stop-stuffing N brings them out.",
         options: &OPTIONS,
     }
 }
@@ -1526,7 +1526,7 @@ fn rmorphan_plugin() -> SegmentRow {
         OptionRow {
             name: "--window",
             form: "--window N",
-            meaning: "1 to 100,000: by how many packets each is given later, so that tables behind it count",
+            meaning: "1 to 100,000: by how many packets each is given later, so that tables after it count",
             takes: Takes::Number(1, 100_000),
             place: 0,
             many: false,
@@ -1561,7 +1561,7 @@ fn rmorphan_plugin() -> SegmentRow {
         first: "-P",
         name: "rmorphan",
         usage: "-P rmorphan --window N [--stuffing]",
-        rule: "In the place of each packet stands the one N before it, if its PID is 0 to 31 or 8191, or is one that the PAT, the PMTs of its services or the CAT in force by then name; else none. The last N stay inside, so that --add-stop-stuffing N is wanted where all are to come out.",
+        rule: "In the place of each packet stands the one N before it, if its PID is 0 to 31 or 8191, or is one that the PAT, the PMTs of its services or the CAT in force by then name; else none. The last N stay inside; --add-stop-stuffing N brings them out.",
         options: &OPTIONS,
     }
 }
@@ -1582,7 +1582,7 @@ fn pcrverify_plugin() -> SegmentRow {
         OptionRow {
             name: "--jitter-max",
             form: "--jitter-max J",
-            meaning: "0 to 2,576,980,377,599, default 27,000: so far a PCR may be from the one that is wanted, in units of the 27 MHz clock; 27,000 are a millisecond",
+            meaning: "0 to 2,576,980,377,599, default 27,000: how far a PCR may be from the expected one, in units of the 27 MHz clock; 27,000 are a millisecond",
             takes: Takes::Number(0, 2_576_980_377_599),
             place: 0,
             many: false,

@@ -42,7 +42,7 @@ fn put_if_wanting(
     ensures { OnOk result (text.new.items ≡ text.old.items ++ Wanted.if_wanting string_bytes options.now own.now row.now) }
 {
     if is_wanting(options, row, own) {
-        put_all(text, &["wanted: ", row.form, ": ", row.meaning, "\n"])?;
+        put_all(text, &["needed: ", row.form, ": ", row.meaning, "\n"])?;
     }
     Ok(())
 }

@@ -1,4 +1,4 @@
-//! Which regular file stands behind a name, whatever the name: two names of one file have one device and one number.
+//! Which regular file stands after a name, whatever the name: two names of one file have one device and one number.
 
 use std::fs::Metadata;
 use std::os::unix::fs::MetadataExt;

@@ -90,7 +90,7 @@ impl OsDesk {
         }
     }
 
-    /// Spares the files of a command line that are inputs: a regular file whose name is the second word behind `option` is
+    /// Spares the files of a command line that are inputs: a regular file whose name is the second word after `option` is
     /// not opened as an output from now on. `Err` is want of memory, and changes nothing.
     pub fn spare(&mut self, words: &[String], option: &str) -> Result<(), AllocError>
         ensures { self.new ≡ self.old }
@@ -195,7 +195,7 @@ impl OsDesk {
     }
 }
 
-/// The regular files that are there, whose names are the second words behind an option.
+/// The regular files that are there, whose names are the second words after an option.
 fn named_behind(
     rt: HostRuntime,
     words: &[String],
@@ -217,7 +217,7 @@ fn regular(rt: &HostRuntime, named: &str) -> Option<FileId> {
     FileId::of(&metadata(rt, named).ok()?)
 }
 
-/// Whether this file is open as an output. Then it is told there that it was wanted as an input.
+/// Whether this file is open as an output. Then it is shown there that it was wanted as an input.
 fn is_output(outputs: &mut Vec<OpenOutput>, wanted: FileId) -> bool {
     match outputs.iter_mut().find(|it| it.file == wanted) {
         Some(output) => {

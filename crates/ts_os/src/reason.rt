@@ -28,7 +28,7 @@ impl Reason {
         }
     }
 
-    /// What is told of it.
+    /// What is said of it.
     pub fn text(self) -> &'static str {
         match self {
             Reason::Absent => "there is no such file",

@@ -1,4 +1,4 @@
-//! What is told beside a refusal or a fault, on standard error alone.
+//! What is shown beside a refusal or a fault, on standard error alone.
 use crate::run_texts::run_text;
 use chain_args::{WordsFault, WordsRule};
 use fault_texts::{HelpTable, fault_text, general_options, tsp_segments};
@@ -17,7 +17,7 @@ fn is_wanted(rt: &HostRuntime) -> bool {
     }
 }
 
-/// What is told of words that have no plan.
+/// What is said of words that have no plan.
 fn words_text(
     rt: &HostRuntime,
     words: &[String],
@@ -32,21 +32,21 @@ fn words_text(
     fault_text(rt.alloc(), &table, words, word, rule)
 }
 
-/// Writes what is told of words that have no plan.
+/// Writes what is said of words that have no plan.
 fn explain_words(rt: &HostRuntime, words: &[String], word: usize, rule: WordsRule) {
     if let Ok(text) = words_text(rt, words, word, rule) {
         let _ = rt.stderr().write_all(text.as_slice());
     }
 }
 
-/// Writes what is told of a run that ended by a fault.
+/// Writes what is said of a run that ended by a fault.
 fn explain_run(rt: &HostRuntime, words: &[String], status: &Status, trouble: Option<Trouble>) {
     if let Ok(Some(text)) = run_text(rt.alloc(), words, status, trouble) {
         let _ = rt.stderr().write_all(text.as_bytes());
     }
 }
 
-/// Explains how a call ended where that is wanted. Want of memory and a fault of standard error leave it out, and change
+/// Explains how a call ended where that is needed. Running out of memory and a fault of standard error leave it out, and change
 /// nothing else.
 pub(crate) fn explain(
     rt: &HostRuntime,

@@ -19,7 +19,7 @@ const NO_MEMORY: u8 = 1;
 
 const FAULTY_WORDS: u8 = 2;
 
-/// The words behind the program's name.
+/// The words after the program's name.
 fn words(rt: &(impl env::Env + AllocGlobal)) -> io::Result<Vec<String>> {
     let mut all = env::args(rt)?;
     let _name = all.next();

@@ -4,7 +4,7 @@ use ts_os::Trouble;
 use ts_outside::Purpose;
 use tsp_top::Status;
 
-/// The file's name behind `-I file` or `-O file`, where it stands there.
+/// The file's name after `-I file` or `-O file`, where it stands there.
 fn named_behind<'a>(words: &'a [String], first: &str) -> Option<&'a str> {
     for (word, name) in words.iter().zip(words.iter().skip(2)) {
         if word.as_str() == first && !name.starts_with('-') {
@@ -74,7 +74,7 @@ fn is_of(status: &Status, trouble: Trouble) -> bool {
     }
 }
 
-/// The line; `None` where there is nothing to tell.
+/// The line; `None` where there is nothing to say.
 pub(crate) fn run_text(
     alloc: Global,
     words: &[String],
