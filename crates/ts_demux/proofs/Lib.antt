@@ -14,3 +14,4 @@ pub mod ErasLemmas
 pub mod Assembling
 pub mod TablesBehind
 pub mod UncountedPackets
+pub mod TakenLemmas

@@ -2,7 +2,8 @@
 use Rattle.std.proofs.Common.{◌≡◌, ℕ, List, [], ◌∷◌, ◌++◌, Option, refl, sym, ◌∙◌, ap, append-nil, append_assoc, subst}
 use Rattle.std.specs.Option.{option_to_list}
 use Rattle.ts_demux.specs.SectionsOfPid.{sections_of_pid}
-use Rattle.ts_demux.specs.Tables.{tables_of}
+use Rattle.ts_demux.specs.Tables.{tables_behind, tables_of}
+use Rattle.ts_demux.specs.TablesOn.{tables_on}
 use Rattle.ts_demux.specs.DemuxState as demuxing
 use Rattle.ts_demux.specs.DemuxState.{DemuxState, GivesFirst}
 use Rattle.ts_demux.specs.AssemblyState as assembling
@@ -14,6 +15,11 @@ use Rattle.ts_demux.specs.SectionsOfParts.{sections_of_parts}
 pub no_sections : (pid : ℕ) → sections_of_pid pid [] ≡ []
 unfolding sections_of_parts
 no_sections pid = refl
+
+-- and no tables
+pub no_tables : (pid : ℕ) → tables_on pid [] ≡ []
+unfolding sections_of_parts tables_behind
+no_tables pid = refl
 
 -- nothing was taken
 pub holds_new : (demux : DemuxState) (assembly : AssemblyState) (pid : ℕ) → demuxing.StandsFor demux pid [] [] → assembling.StandsFor assembly []

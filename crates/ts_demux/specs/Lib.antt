@@ -15,4 +15,5 @@ pub mod Counters
 pub mod Pieces
 pub mod Reader
 pub mod TablesOn
+pub mod TakenWhere
 pub mod PidTables

@@ -1,0 +1,21 @@
+-- The packets of a list that are taken, where each is told by the packets up to it.
+-- This project's own rule.
+use Rattle.std.specs.Prelude.{ℕ, ◌==◌, ◌&&◌, Bool, List, [], ◌∷◌, ◌++◌, if◌then◌else◌}
+use Rattle.ts_packet.specs.Header.{pid_of}
+
+-- What a test takes of a list that stands behind others. It is asked of each with all up to it, itself the last of them.
+unfoldable pub taken_behind : {X : Type 0} → (List X → X → Bool) → List X → List X → List X
+taken_behind test before [] = []
+taken_behind test before (x ∷ xs) =
+    let upto = before ++ x ∷ [] in
+    let others = taken_behind test upto xs in
+    if test upto x then x ∷ others else others
+
+-- what a test takes of a list
+abbrev pub taken_where : {X : Type 0} → (List X → X → Bool) → List X → List X
+taken_where test xs = taken_behind test [] xs
+
+-- The packets of any PID that are taken on one: those of the PID at whose positions it is followed, by the packets up to
+-- there, themselves included.
+abbrev pub taken_on : (ℕ → List (List ℕ) → Bool) → ℕ → List (List ℕ) → List (List ℕ)
+taken_on follows pid packets = taken_where (λ upto packet. (pid_of packet == pid) && follows pid upto) packets
