@@ -6,13 +6,11 @@ use Rattle.ts_packet.specs.Header.{error_indicator_of, pid_of, scrambling_of}
 use Rattle.ts_packet.specs.Payload.{payload_start_of}
 use Rattle.ts_demux.specs.CountedPackets.{counts}
 use Rattle.ts_demux.specs.PidTables as reading
-use Rattle.ts_demux.specs.TablesOn.{Completes}
-use Rattle.ts_demux.specs.Tables.{tables_of}
+use Rattle.ts_demux.specs.TablesOn.{Completes, tables_on}
 use Rattle.ts_demux.specs.declared.pid_tables.PidTables.{PidTables}
 use Rattle.ts_table_rows.specs.TableValues.{TableHolding}
 use Rattle.ts_si.specs.SiTables.{sdt_held}
-use Rattle.plug_psi.specs.LastFound.{last_found, newer, tables_on}
-use Rattle.plug_psi.proofs.ContentsLemmas.{no_sections}
+use Rattle.plug_psi.specs.LastFound.{last_found, newer}
 use Rattle.plug_psi.proofs.FoundLemmas.{found-none}
 use Rattle.plug_info.specs.SdtInForce.{current_sdt, sdt_of}
 use Rattle.plug_info.specs.SdtStands.{HasFedSdt}
@@ -21,7 +19,7 @@ use Rattle.plug_info.specs.declared.sdt_in_force.SdtInForce.{SdtInForce}
 -- no packet was fed
 sdt-none : sdt_of [] ≡ None
 unfolding sdt_of
-sdt-none = ap (λ sections. last_found current_sdt (tables_of sections)) (no_sections 17) ∙ found-none current_sdt
+sdt-none = found-none current_sdt 17
 
 pub sdt-new : (s : SdtInForce) → reading.StandsFor s.tables 17 [] → s.sdt ≡ None → HasFedSdt s []
 sdt-new s read none = record { read = read; kept = ap (option_map sdt_held) none ∙ sym sdt-none }

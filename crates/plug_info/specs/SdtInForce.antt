@@ -3,12 +3,13 @@
 -- and the name of a service. Which table counts is this project's own rule, the same as for a PAT.
 use Rattle.std.specs.Prelude.{ℕ, ◌==◌, Bool, false, List, [], ◌∷◌, Option, None, Some, if◌then◌else◌}
 use Rattle.ts_bits.specs.TaggedBody.{TaggedBody}
+use Rattle.ts_demux.specs.TablesOn.{tables_on}
 use Rattle.ts_table_rows.specs.BodyReading.{first_number}
 use Rattle.ts_table_rows.specs.RunReading.{read_run}
 use Rattle.ts_table_rows.specs.TableValues.{ItemHolding, TableHolding}
 use Rattle.ts_table_pages.specs.SiPages.{sdt_page}
 use Rattle.plug_psi.specs.InForce.{current_in}
-use Rattle.plug_psi.specs.LastFound.{last_found, tables_on}
+use Rattle.plug_psi.specs.LastFound.{last_found}
 
 -- an SDT, if it is of the actual transport stream
 abbrev pub of_actual : Option TableHolding → Option TableHolding

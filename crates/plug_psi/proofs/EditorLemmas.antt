@@ -6,8 +6,9 @@ use Rattle.ts_packet.specs.Header.{with_counter}
 use Rattle.ts_packetize.specs.Cycle.{CycleState}
 use Rattle.ts_packetize.specs.Ordinals.{Cycles, packet_at, written_before, in_place, replaced_at}
 use Rattle.ts_packetize.specs.Packets.{packets_of}
+use Rattle.ts_demux.specs.TablesOn.{Completes}
 use Rattle.plug_psi.specs.Contents.{contents_of}
-use Rattle.plug_psi.specs.ContentsState.{HasTaken}
+use Rattle.plug_psi.specs.ContentsState.{HasContents}
 use Rattle.plug_psi.specs.Edits.{Change, edited_sections}
 use Rattle.plug_psi.specs.EditedCycles.{edited_packets, cycles_of, replaced}
 use Rattle.plug_psi.specs.EditorState.{StandsAt, Edits, Renewed, NextInPlace}
@@ -64,8 +65,8 @@ stands-elsewhere : (cycle other : Cycles) (n m : ℕ) (left : List (List ℕ)) (
 stands-elsewhere cycle other n m left counter e f s = subst (λ c. StandsAt c m left counter) e (subst (λ k. StandsAt cycle k left counter) f s)
 
 -- What an editor's parts do for one packet: contents and cycle before and after, with the cycle renewed in between.
-pub record Advance (edit : List (List ℕ) → Change) (contents now : Contents) (old mid new : CycleState) (counter behind : ℕ) (changed came still : Bool) (packet put : List ℕ) : Type 0 where
-  pub took : (pid : ℕ) (taken : List (List ℕ)) → HasTaken contents pid taken → HasTaken now pid (taken ++ packet ∷ [])
+pub record Advance (edit : List (List ℕ) → Change) (contents now : Contents) (old mid new : CycleState) (counter behind : ℕ) (changed came still : Bool) (packet put : List ℕ) (tables : List (List (List ℕ))) : Type 0 where
+  pub took : (pid : ℕ) (taken : List (List ℕ)) → HasContents contents pid taken → Completes pid taken packet tables → HasContents now pid (taken ++ packet ∷ [])
   pub same : came ≡ false → now.tables.entries ≡ contents.tables.entries
   pub renewed : Renewed old mid (changed || came) still (packets_of old.pid (edited_sections edit (values now.tables)))
   pub step : NextInPlace mid new (counter % 16) put behind
@@ -74,11 +75,11 @@ mod_mod : (n : ℕ) → n % 16 % 16 ≡ n % 16
 mod_mod n = omega arith
 
 module _
-    (edit : List (List ℕ) → Change) (contents now : Contents) (old mid new : CycleState) (counter behind : ℕ) (changed came still : Bool) (packet put : List ℕ)
-    (a : Advance edit contents now old mid new counter behind changed came still packet put)
-    (pid : ℕ) (failed : Bool) (taken : List (List ℕ)) (e : Edits pid edit contents old counter changed failed taken) where
-  has : HasTaken now pid (taken ++ packet ∷ [])
-  has = a.took pid taken e.contents_taken
+    (edit : List (List ℕ) → Change) (contents now : Contents) (old mid new : CycleState) (counter behind : ℕ) (changed came still : Bool) (packet put : List ℕ) (tables : List (List (List ℕ)))
+    (a : Advance edit contents now old mid new counter behind changed came still packet put tables)
+    (pid : ℕ) (taken : List (List ℕ)) (e : Edits pid edit contents old counter changed taken) (completes : Completes pid taken packet tables) where
+  has : HasContents now pid (taken ++ packet ∷ [])
+  has = a.took pid taken e.contents_taken completes
 
   -- the wanted packets of the renewal are those of the edited contents
   wanted : packets_of old.pid (edited_sections edit (values now.tables)) ≡ edited_packets pid edit (taken ++ packet ∷ [])
@@ -113,9 +114,8 @@ module _
   advance-replaces = (goes []).0 ∙ replaced-is pid edit taken packet
 
   -- and the parts stand for one packet more
-  pub advance-stands : Edits pid edit now new behind still failed (taken ++ packet ∷ [])
+  pub advance-stands : Edits pid edit now new behind still (taken ++ packet ∷ [])
   advance-stands = record {
-    working = e.working;
     contents_taken = has;
     same_pid = a.step.same_pid ∙ a.renewed.same_pid ∙ e.same_pid;
     to_come = λ more.

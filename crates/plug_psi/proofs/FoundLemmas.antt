@@ -1,109 +1,54 @@
--- What is found in the last of some tables, one section after another.
-use Rattle.std.proofs.Common.{◌≡◌, ℕ, ◌==◌, ◌&&◌, false, List, [], ◌∷◌, ◌++◌, fold, Option, Some, None, refl, sym, ◌∙◌, ap, append-nil, subst}
-use Rattle.std.specs.Prelude.{is_some, nat_eq, not, option_map}
+-- What is found in the last of some tables, one packet after another.
+use Rattle.std.proofs.Common.{◌≡◌, ℕ, ◌==◌, true, false, List, [], ◌∷◌, ◌++◌, fold, Option, Some, None, refl, sym, ◌∙◌, ap}
 use Rattle.std.specs.List.{filter_map, cons_option}
-use Rattle.std.specs.Option.{option_to_list}
-use Rattle.std.specs.Map.{lookup}
-use Rattle.indexmap.specs.IndexMap.{IndexMap, get}
-use Rattle.ts_packet.specs.Header.{error_indicator_of, pid_of, scrambling_of}
-use Rattle.ts_packet.specs.Payload.{payload_start_of}
-use Rattle.ts_demux.specs.CountedPackets.{counts}
-use Rattle.ts_demux.specs.SectionsOfPid.{sections_of_pid}
-use Rattle.ts_demux.specs.Tables.{tables_of, tables_behind}
-use Rattle.ts_demux.specs.DemuxState as demuxing
-use Rattle.ts_demux.specs.DemuxState.{DemuxState, GivesFirst, TakesIn}
-use Rattle.ts_demux.specs.AssemblyState as assembling
-use Rattle.ts_demux.specs.AssemblyState.{AssemblyState}
-use Rattle.ts_psi.specs.PatTables.{pat_held}
-use Rattle.ts_psi.specs.PsiTables.{pmt_held}
-use Rattle.ts_psi.specs.declared.pat.Pat.{Pat}
-use Rattle.ts_psi.specs.declared.pmt.Pmt.{Pmt}
-use Rattle.plug_psi.specs.LastFound.{newer, last_found, last_one}
-use Rattle.plug_psi.specs.InForce.{current_pat, current_pmt}
-use Rattle.plug_psi.specs.ForceState.{HoldsPmts, HoldsPat}
-use Rattle.plug_psi.proofs.ContentsLemmas.{no_sections}
+use Rattle.std.proofs.lemmas.Bool.{eqb-false}
+use Rattle.std.proofs.lemmas.List.Sums.{fold-append}
+use Rattle.ts_packet.specs.Header.{pid_of}
+use Rattle.ts_demux.specs.TablesOn.{Completes, packets_on, tables_on}
+use Rattle.ts_demux.proofs.TablesBehind.{no_tables}
+use Rattle.ts_demux.proofs.TakenLemmas.{on-other, on-own}
+use Rattle.ts_demux.proofs.UncountedPackets.{same-tables}
+use Rattle.plug_psi.specs.LastFound.{found_behind, newer, last_found, last_one}
+use Rattle.plug_psi.specs.KeptTables.{TellsFound, is_kept, tables_in}
+use Rattle.plug_psi.specs.ReadingState.{TellsOn}
+use Rattle.plug_psi.specs.declared.kept.Kept.{Kept}
 
-pub found-none : {X : Type 0} (found : List (List ℕ) → Option X) → last_found found (tables_of []) ≡ None
-unfolding last_found tables_behind
-found-none found = refl
-
-fold_more : {X : Type 0} (found : List (List ℕ) → Option X) (old : Option X) (xs : List (List (List ℕ))) (x : List (List ℕ)) →
-    fold (λ o table. newer o (found table)) old (xs ++ x ∷ []) ≡ newer (fold (λ o table. newer o (found table)) old xs) (found x)
-fold_more found old [] x = refl
-fold_more found old (y ∷ ys) x = fold_more found (newer old (found y)) ys x
-
-found-more : {X : Type 0} (found : List (List ℕ) → Option X) (tables : List (List (List ℕ))) (table : List (List ℕ)) → last_found found (tables ++ table ∷ []) ≡ newer (last_found found tables) (found table)
+pub found-none : {X : Type 0} (found : List (List ℕ) → Option X) (pid : ℕ) → last_found found (tables_on pid []) ≡ None
 unfolding last_found
-found-more found tables table = fold_more found None tables table
+found-none found pid = ap (found_behind found None) (no_tables pid)
 
--- what is found with the table that a section completed, if it completed one
-abbrev pub found_with : {X : Type 0} → (List (List ℕ) → Option X) → Option X → Option (List (List ℕ)) → Option X
-found_with found old None = old
-found_with found old (Some table) = newer old (found table)
+-- what is kept becomes, with the tables that a packet completes, what is found in all
+pub found-more :
+    {X : Type 0} (found : List (List ℕ) → Option X) (old new : Option X) (list tables : List (List (List ℕ))) (pid : ℕ) (taken : List (List ℕ)) (packet : List ℕ) →
+    list ≡ tables → new ≡ found_behind found old list →
+    old ≡ last_found found (tables_on pid taken) → Completes pid taken packet tables → new ≡ last_found found (tables_on pid (taken ++ packet ∷ []))
+unfolding last_found
+found-more found old new list tables pid taken packet same kept before completes =
+    kept ∙ ap (found_behind found old) same ∙ ap (λ o. found_behind found o tables) before
+    ∙ sym (fold-append (λ o table. newer o (found table)) None (tables_on pid taken) tables)
+    ∙ sym (ap (found_behind found None) completes)
 
-pub found-section :
-    {X : Type 0} (found : List (List ℕ) → Option X) (given : List (List ℕ)) (s : List ℕ) (table : Option (List (List ℕ))) →
-    tables_of (given ++ s ∷ []) ≡ tables_of given ++ option_to_list table →
-    found_with found (last_found found (tables_of given)) table ≡ last_found found (tables_of (given ++ s ∷ []))
-found-section found given s None e = sym (ap (last_found found) (e ∙ append-nil (tables_of given)))
-found-section found given s (Some table) e = sym (ap (last_found found) e ∙ found-more found (tables_of given) table)
+-- what is found in the tables of the packets on a PID is found in those of all packets
+pub found-on : {X : Type 0} (found : List (List ℕ) → Option X) (pid : ℕ) (met : List (List ℕ)) →
+    last_found found (tables_on pid (packets_on pid met)) ≡ last_found found (tables_on pid met)
+found-on found pid met = ap (last_found found) (same-tables pid met)
 
-pub pmts-new :
-    {S : Type 0} (demux : DemuxState) (assembly : AssemblyState) (pmts : IndexMap ℕ Pmt S) (pid : ℕ) →
-    demuxing.StandsFor demux pid [] [] → assembling.StandsFor assembly [] → pmts.entries ≡ [] → HoldsPmts demux assembly pmts pid [] (sections_of_pid pid [])
-pmts-new demux assembly pmts pid d a e =
-    subst (HoldsPmts demux assembly pmts pid []) (sym (no_sections pid))
-    (record { demuxed = d; assembled = a; kept = λ service. ap (λ entries. option_map pmt_held (lookup (nat_eq service) entries)) e ∙ sym (found-none (current_pmt service)) })
+found-as : {X : Type 0} (found : List (List ℕ) → Option X) (pid : ℕ) (met : List (List ℕ)) (p : List ℕ) (ps : List (List ℕ)) → packets_on pid (met ++ p ∷ []) ≡ ps →
+    last_found found (tables_on pid ps) ≡ last_found found (tables_on pid (packets_on pid met)) → last_found found (tables_on pid (met ++ p ∷ [])) ≡ last_found found (tables_on pid met)
+found-as found pid met p ps more same =
+    sym (found-on found pid (met ++ p ∷ [])) ∙ ap (λ qs. last_found found (tables_on pid qs)) more ∙ same ∙ found-on found pid met
 
--- the PAT behind a packet of another PID
-pub pat-unfed :
-    (demux : DemuxState) (assembly : AssemblyState) (pat : Option Pat) (fed : List (List ℕ)) (p : List ℕ) → (pid_of p == 0) ≡ false →
-    ((d : DemuxState) (q : List ℕ) → counts d.pid q ≡ false → TakesIn d d q 0) →
-    HoldsPat demux assembly pat fed (sections_of_pid 0 fed) → HoldsPat demux assembly pat (fed ++ p ∷ []) (sections_of_pid 0 (fed ++ p ∷ []))
-pat-unfed demux assembly pat fed p other law h =
-    let apart : counts 0 p ≡ false = ap (λ b. b && ((scrambling_of p == 0) && (not (error_indicator_of p) && is_some (payload_start_of p)))) other in
-    let takes : TakesIn demux demux p 0 = law demux p (ap (λ n. counts n p) h.demuxed.same_pid ∙ apart) in
-    let after = takes.stands 0 fed (sections_of_pid 0 fed) h.demuxed in
-    subst (HoldsPat demux assembly pat (fed ++ p ∷ [])) (h.demuxed.sections ∙ sym after.sections)
-    (record { demuxed = after; assembled = h.assembled; kept = h.kept })
+-- where nothing was kept of what came with a packet of any PID, the same is found as before
+pub found-same : {X : Type 0} (found : List (List ℕ) → Option X) (pid : ℕ) (met : List (List ℕ)) (p : List ℕ) (told : Option Kept) →
+    TellsOn pid p (TellsFound found pid (packets_on pid met) p) told → is_kept told ≡ false → last_found found (tables_on pid (met ++ p ∷ [])) ≡ last_found found (tables_on pid met)
+found-same found pid met p None other none = found-as found pid met p (packets_on pid met) (on-other pid met p other) refl
+found-same found pid met p (Some kept) (at, tells) none = found-as found pid met p (packets_on pid met ++ p ∷ []) (on-own pid met p at) (tells.same none)
 
-pub pmts-section :
-    {S : Type 0} (d e : DemuxState) (a b : AssemblyState) (t u : IndexMap ℕ Pmt S) (s : List ℕ) (table : Option (List (List ℕ))) →
-    GivesFirst d e s →
-    ((before : List (List ℕ)) → assembling.StandsFor a before → assembling.StandsFor b (before ++ s ∷ [])) →
-    ((before : List (List ℕ)) → assembling.StandsFor a before → tables_of (before ++ s ∷ []) ≡ tables_of before ++ option_to_list table) →
-    ((service : ℕ) → option_map pmt_held (get nat_eq u service) ≡ found_with (current_pmt service) (option_map pmt_held (get nat_eq t service)) table) →
-    (pid : ℕ) (taken : List (List ℕ)) → (now : List (List ℕ)) × HoldsPmts d a t pid taken now → (now : List (List ℕ)) × HoldsPmts e b u pid taken now
-pmts-section d e a b t u s table first stands tables kept pid taken (now, h) = (
-  now ++ s ∷ [],
-  record {
-    demuxed = first.stands pid taken now h.demuxed;
-    assembled = stands now h.assembled;
-    kept = λ service. kept service ∙ ap (λ o. found_with (current_pmt service) o table) (h.kept service) ∙ found-section (current_pmt service) now s table (tables now h.assembled);
-  },
-)
-
-pub pat-new :
-    (demux : DemuxState) (assembly : AssemblyState) (pat : Option Pat) →
-    demuxing.StandsFor demux 0 [] [] → assembling.StandsFor assembly [] → pat ≡ None → HoldsPat demux assembly pat [] (sections_of_pid 0 [])
-pat-new demux assembly pat d a e =
-    subst (HoldsPat demux assembly pat []) (sym (no_sections 0)) (record { demuxed = d; assembled = a; kept = ap (option_map pat_held) e ∙ sym (found-none current_pat) })
-
-pub pat-section :
-    (d e : DemuxState) (a b : AssemblyState) (t u : Option Pat) (s : List ℕ) (table : Option (List (List ℕ))) →
-    GivesFirst d e s →
-    ((before : List (List ℕ)) → assembling.StandsFor a before → assembling.StandsFor b (before ++ s ∷ [])) →
-    ((before : List (List ℕ)) → assembling.StandsFor a before → tables_of (before ++ s ∷ []) ≡ tables_of before ++ option_to_list table) →
-    option_map pat_held u ≡ found_with current_pat (option_map pat_held t) table →
-    (fed : List (List ℕ)) → (now : List (List ℕ)) × HoldsPat d a t fed now → (now : List (List ℕ)) × HoldsPat e b u fed now
-pat-section d e a b t u s table first stands tables kept fed (now, h) = (
-  now ++ s ∷ [],
-  record {
-    demuxed = first.stands 0 fed now h.demuxed;
-    assembled = stands now h.assembled;
-    kept = kept ∙ ap (λ o. found_with current_pat o table) h.kept ∙ found-section current_pat now s table (tables now h.assembled);
-  },
-)
+-- of a packet on the PID the tables are handed on
+pub found-completes : {X : Type 0} (found : List (List ℕ) → Option X) (pid : ℕ) (met : List (List ℕ)) (p : List ℕ) (told : Option Kept) →
+    TellsOn pid p (TellsFound found pid (packets_on pid met) p) told → pid_of p ≡ pid → Completes pid (packets_on pid met) p (tables_in told)
+found-completes found pid met p None other at = absurd (eqb-false (pid_of p) pid other at)
+found-completes found pid met p (Some kept) (here, tells) at = tells.completes
 
 -- The reading without steps.
 

@@ -1,8 +1,8 @@
-pub mod CatLemmas
 pub mod Choice
 pub mod ContentsLemmas
 pub mod EditedLemmas
 pub mod EditorLemmas
+pub mod EntryLemmas
 pub mod FlagLemmas
 pub mod ForceLemmas
 pub mod FoundLemmas

@@ -1,24 +1,39 @@
 -- PIDs that the tables in force name.
-use Rattle.std.proofs.Common.{◌≡◌, ℕ, ◌&&◌, not, false, List, [], ◌∷◌, ◌++◌, None, ◌∙◌, ap, ap₂}
+use Rattle.std.proofs.Common.{◌≡◌, ℕ, ◌&&◌, not, false, List, [], ◌∷◌, ◌++◌, Option, None, ◌∙◌, ap, ap₂}
 use Rattle.std.specs.Prelude.{option_map}
-use Rattle.ts_demux.specs.Tables.{tables_of}
+use Rattle.ts_demux.specs.TablesOn.{packets_on}
 use Rattle.ts_psi.specs.CatTables.{cat_held}
 use Rattle.plug_psi.specs.InForce.{current_pat, pat_of, pmt_of}
-use Rattle.plug_psi.specs.CatInForce.{cat_of}
-use Rattle.plug_psi.specs.LastFound.{last_found}
+use Rattle.plug_psi.specs.CatInForce.{cat_of, current_cat}
+use Rattle.plug_psi.specs.KeptTables.{TellsFound, is_kept}
+use Rattle.plug_psi.specs.ReadingState.{TellsOn}
 use Rattle.plug_psi.specs.Referred.{named_in, named_pids}
-use Rattle.plug_psi.specs.ReferredState.{HasFedCat}
+use Rattle.plug_psi.specs.ReferredState.{HasCat}
 use Rattle.plug_psi.specs.SameForce.{SameInForce}
 use Rattle.plug_psi.specs.ServicePids.{has_pid}
-use Rattle.plug_psi.specs.declared.on_one.OnOne.{OnOne}
-use Rattle.plug_psi.proofs.CatLemmas.{cat-kept, cat-none}
-use Rattle.plug_psi.proofs.ContentsLemmas.{no_sections}
+use Rattle.plug_psi.specs.declared.kept.Kept.{Kept}
+use Rattle.plug_psi.specs.declared.kept_cat.KeptCat.{KeptCat}
+use Rattle.plug_psi.specs.declared.reading.Reading.{Reading}
 use Rattle.plug_psi.proofs.FlagLemmas.{and_true}
-use Rattle.plug_psi.proofs.FoundLemmas.{found-none}
+use Rattle.plug_psi.proofs.FoundLemmas.{found-none, found-on, found-same}
 
 pat-none : pat_of [] ≡ None
 unfolding pat_of
-pat-none = ap (λ sections. last_found current_pat (tables_of sections)) (no_sections 0) ∙ found-none current_pat
+pat-none = found-none current_pat 0
+
+cat-none : cat_of [] ≡ None
+unfolding cat_of
+cat-none = found-none current_cat 1
+
+-- the CAT that is kept is the one in force
+pub cat-kept : (one : Reading KeptCat) (fed : List (List ℕ)) → HasCat one fed → option_map cat_held one.follower.cat ≡ cat_of fed
+unfolding cat_of
+cat-kept one fed h = h.1 ∙ found-on current_cat 1 fed
+
+-- where none was kept with a packet the same one is in force
+pub cat-same : (fed : List (List ℕ)) (p : List ℕ) (told : Option Kept) → TellsOn 1 p (TellsFound current_cat 1 (packets_on 1 fed) p) told → is_kept told ≡ false → cat_of (fed ++ p ∷ []) ≡ cat_of fed
+unfolding cat_of
+cat-same fed p told tells none = found-same current_cat 1 fed p told tells none
 
 -- before a packet was fed nothing is named
 pub named-none : (pid : ℕ) → named_in [] pid ≡ false
@@ -32,8 +47,8 @@ named-same fed p same cat = λ i pid. has_pid (named_pids (same.pat i) (λ servi
 
 -- what is told by the PIDs that the tables in force name, and by no others
 pub told-named :
-    (one : OnOne) (fed : List (List ℕ)) (pids : List ℕ) → HasFedCat one fed →
-    pids ≡ named_pids (pat_of fed) (λ service. pmt_of service fed) (option_map cat_held one.cat) →
+    (one : Reading KeptCat) (fed : List (List ℕ)) (pids : List ℕ) → HasCat one fed →
+    pids ≡ named_pids (pat_of fed) (λ service. pmt_of service fed) (option_map cat_held one.follower.cat) →
     (pid : ℕ) → (has_pid pids pid && not (has_pid [] pid)) ≡ named_in fed pid
 unfolding named_in
 told-named one fed pids h are pid =

@@ -1,10 +1,11 @@
 -- The CAT in force.
 -- ISO/IEC 13818-1, 2.4.4.6: the CAT is on PID 1. Which table counts is this project's own rule, the same as for a PAT.
 use Rattle.std.specs.Prelude.{ℕ, List, Option}
+use Rattle.ts_demux.specs.TablesOn.{tables_on}
 use Rattle.ts_table_rows.specs.TableValues.{TableHolding}
 use Rattle.ts_psi.specs.CatTables.{read_cat}
 use Rattle.plug_psi.specs.InForce.{current_in}
-use Rattle.plug_psi.specs.LastFound.{last_found, tables_on}
+use Rattle.plug_psi.specs.LastFound.{last_found}
 
 -- the CAT that a table is, where it reads as one and is current
 abbrev pub current_cat : List (List ℕ) → Option TableHolding

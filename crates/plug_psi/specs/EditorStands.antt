@@ -1,18 +1,27 @@
 -- When an editor stands for the packets that it took.
 -- This project's own rule.
-use Rattle.std.specs.Prelude.{ℕ, Bool, List}
+use Rattle.std.specs.Prelude.{◌≡◌, ℕ, Bool, false, List}
+use Rattle.ts_demux.specs.PidTables as reading
+use Rattle.ts_demux.specs.declared.pid_tables.PidTables.{PidTables}
+use Rattle.plug_psi.specs.CycleStands as cycling
+use Rattle.plug_psi.specs.CycleStands.{InCycles}
 use Rattle.plug_psi.specs.Edits.{Change}
-use Rattle.plug_psi.specs.EditorState.{Edits}
+use Rattle.plug_psi.specs.declared.cycle_editor.CycleEditor.{CycleEditor}
 use Rattle.plug_psi.specs.declared.editor.Editor.{Editor}
+
+-- memory was there, and what reads the tables and what edits them stand for the same packets
+pub record ReadsAndEdits {E : Type 0} (edit : List (List ℕ) → Change) (tables : PidTables) (inner : CycleEditor E) (failed : Bool) (pid : ℕ) (taken : List (List ℕ)) : Type 0 where
+  pub working : failed ≡ false
+  pub tables_read : reading.StandsFor tables pid taken
+  pub edited : InCycles edit inner pid taken
 
 -- an editor of this PID, under what its edit makes of tables, stands for the packets that it took
 abbrev pub StandsFor : {E : Type 0} → (List (List ℕ) → Change) → Editor E → ℕ → List (List ℕ) → Type 0
-StandsFor edit editor pid taken =
-    Edits pid edit editor.contents editor.cycle editor.counter editor.changed editor.failed taken
+StandsFor edit editor pid taken = ReadsAndEdits edit editor.tables editor.inner editor.failed pid taken
 
 -- the edit of an editor
 abbrev pub edit_of : {E : Type 0} → Editor E → E
-edit_of editor = editor.edit
+edit_of editor = cycling.edit_of editor.inner
 
 -- whether memory was wanting
 abbrev pub has_failed : {E : Type 0} → Editor E → Bool

@@ -6,7 +6,7 @@ use Rattle.ts_packetize.specs.Cycle.{CycleState}
 use Rattle.ts_packetize.specs.Ordinals.{Cycles, packet_at, written_before, in_place, left_before}
 use Rattle.plug_psi.specs.Edits.{Change}
 use Rattle.plug_psi.specs.EditedCycles.{cycles_of, edited_packets}
-use Rattle.plug_psi.specs.ContentsState.{HasTaken}
+use Rattle.plug_psi.specs.ContentsState.{HasContents}
 use Rattle.plug_psi.specs.declared.contents.Contents.{Contents}
 
 -- what is left of a cycle, and a counter, are those before an ordinal
@@ -16,9 +16,8 @@ pub record StandsAt (cycle : Cycles) (n : ℕ) (left : List (List ℕ)) (counter
 
 -- An editor's parts stand for the packets that it took: however these go on, its cycle and its counter are those
 -- before the next of them; and unless the contents changed since, the next cycle has their packets already.
-pub record Edits (pid : ℕ) (edit : List (List ℕ) → Change) (contents : Contents) (cycle : CycleState) (counter : ℕ) (changed failed : Bool) (taken : List (List ℕ)) : Type 0 where
-  pub working : failed ≡ false
-  pub contents_taken : HasTaken contents pid taken
+pub record Edits (pid : ℕ) (edit : List (List ℕ) → Change) (contents : Contents) (cycle : CycleState) (counter : ℕ) (changed : Bool) (taken : List (List ℕ)) : Type 0 where
+  pub contents_taken : HasContents contents pid taken
   pub same_pid : cycle.pid ≡ pid
   pub to_come : (more : List (List ℕ)) → StandsAt (cycles_of pid edit (taken ++ more)) (length taken) cycle.left counter
   pub unchanged : changed ≡ false → cycle.contents ≡ edited_packets pid edit taken

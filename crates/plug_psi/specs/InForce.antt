@@ -1,17 +1,18 @@
 -- The PAT in force, and the PMT in force of a service.
 -- ISO/IEC 13818-1, 2.4.4.3 and 2.4.4.8: the PAT on PID 0 names the PID of the PMT of each service. Which packets are
 -- taken, and which table counts, is this project's own rule.
-use Rattle.std.specs.Prelude.{ℕ, ◌==◌, Bool, not, ◌&&◌, List, [], ◌∷◌, ◌++◌, drop, Option, Some, None, Result, Ok, Err, if◌then◌else◌}
+use Rattle.std.specs.Prelude.{ℕ, ◌==◌, Bool, not, ◌&&◌, List, [], drop, Option, Some, None, Result, Ok, Err, if◌then◌else◌}
 use Rattle.std.specs.List.{filter_map, list_any}
 use Rattle.std.specs.Map.{lookup}
-use Rattle.ts_packet.specs.Header.{pid_of}
 use Rattle.ts_packet.specs.declared.numbers.TheConstants.{NULL_PID}
+use Rattle.ts_demux.specs.TablesOn.{tables_on}
+use Rattle.ts_demux.specs.TakenWhere.{taken_on}
 use Rattle.ts_table_rows.specs.BodyReading.{first_number}
 use Rattle.ts_table_rows.specs.RunReading.{FirstBroken, read_run}
 use Rattle.ts_table_rows.specs.TableValues.{ItemHolding, TableHolding}
 use Rattle.ts_psi.specs.PatTables.{read_pat}
 use Rattle.ts_psi.specs.PsiPages.{pmt_page}
-use Rattle.plug_psi.specs.LastFound.{last_found, tables_on}
+use Rattle.plug_psi.specs.LastFound.{last_found}
 
 -- what was read of a table, where it reads and is current
 abbrev pub current_in : Result TableHolding FirstBroken → Option TableHolding
@@ -48,22 +49,14 @@ names pat pid = list_any (λ service. service.1 == pid) (services_in pat)
 abbrev pub pid_for : Option TableHolding → ℕ → Option ℕ
 pid_for pat service = lookup (λ id. id == service) (services_in pat)
 
--- whether a packet is taken on a PID, where this PAT is in force: a service has the PID, and it is not that of null packets
-abbrev pub is_taken : ℕ → Option TableHolding → List ℕ → Bool
-is_taken pid pat packet = (pid_of packet == pid) && (names pat pid && not (pid == NULL_PID))
+-- whether packets on a PID count for PMTs where this PAT is in force: a service has the PID, and it is not that of null packets
+abbrev pub is_named : Option TableHolding → ℕ → Bool
+is_named pat pid = names pat pid && not (pid == NULL_PID)
 
--- the packets that are taken on a PID behind others
-unfoldable pub taken_behind : ℕ → List (List ℕ) → List (List ℕ) → List (List ℕ)
-taken_behind pid before [] = []
-taken_behind pid before (packet ∷ packets) =
-    let upto = before ++ packet ∷ [] in
-    let others = taken_behind pid upto packets in
-    if is_taken pid (pat_of upto) packet then packet ∷ others else others
-
--- The packets of any PID that are taken on one: those of the PID at whose positions the PAT in force, these positions
--- included, names the PID by a service.
-abbrev pub taken_on : ℕ → List (List ℕ) → List (List ℕ)
-taken_on pid packets = taken_behind pid [] packets
+-- Whether a PID is followed at the last of some packets of any PID, by the PAT in force there. The packets on the PID of
+-- which this is so are those that are taken on it.
+abbrev pub follows : ℕ → List (List ℕ) → Bool
+follows pid packets = is_named (pat_of packets) pid
 
 -- a PMT, where it is of the service
 abbrev pub of_service : ℕ → Option TableHolding → Option TableHolding
@@ -76,7 +69,7 @@ current_pmt service run = of_service service (current_in (read_run pmt_page run)
 
 -- the last complete current PMT of a service that reads, of the packets that are taken on a PID
 unfoldable pub pmt_on : ℕ → ℕ → List (List ℕ) → Option TableHolding
-pmt_on pid service packets = last_found (current_pmt service) (tables_on pid (taken_on pid packets))
+pmt_on pid service packets = last_found (current_pmt service) (tables_on pid (taken_on follows pid packets))
 
 -- the same, where there is a PID
 abbrev pub pmt_at : ℕ → List (List ℕ) → Option ℕ → Option TableHolding

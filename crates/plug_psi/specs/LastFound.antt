@@ -1,21 +1,19 @@
 -- What is found in the last of some tables in which something is found.
 -- This project's own rule.
 use Rattle.std.specs.Prelude.{ℕ, List, [], ◌∷◌, fold, Option, Some, None}
-use Rattle.ts_demux.specs.Tables.{tables_of}
-use Rattle.ts_demux.specs.SectionsOfPid.{sections_of_pid}
-
--- the tables that packets complete on a PID
-abbrev pub tables_on : ℕ → List (List ℕ) → List (List (List ℕ))
-tables_on pid packets = tables_of (sections_of_pid pid packets)
 
 -- what is found takes the place of what was found before
 abbrev pub newer : {X : Type 0} → Option X → Option X → Option X
 newer old None = old
 newer old (Some x) = Some x
 
+-- what was found before, and in tables behind
+abbrev pub found_behind : {X : Type 0} → (List (List ℕ) → Option X) → Option X → List (List (List ℕ)) → Option X
+found_behind found old tables = fold (λ o table. newer o (found table)) old tables
+
 -- what is found in the last table in which something is found
 unfoldable pub last_found : {X : Type 0} → (List (List ℕ) → Option X) → List (List (List ℕ)) → Option X
-last_found found tables = fold (λ old table. newer old (found table)) None tables
+last_found found tables = found_behind found None tables
 
 -- the last of some things
 abbrev pub last_one : {X : Type 0} → List X → Option X

@@ -1,14 +1,13 @@
 //! The last complete tables of a PID.
 
-ghost use Rattle.std.specs.Prelude.{◌≡◌, ℕ, ◌<◌, ◌++◌, ◌∷◌, ◌||◌, [], List, false, IfOk, OnOk};
-ghost use Rattle.ts_demux.specs.SectionsOfPid.{sections_of_pid};
+ghost use Rattle.std.specs.Prelude.{◌≡◌, ℕ, ◌++◌, ◌∷◌, [], List, false, fold, IfOk, OnOk};
+ghost use Rattle.ts_demux.specs.TablesOn.{Completes};
 ghost use Rattle.plug_psi.specs.Contents.{with_table};
-ghost use Rattle.plug_psi.specs.ContentsState.{Holds, HasTaken};
+ghost use Rattle.plug_psi.specs.ContentsState.{HasContents};
 
 use indexmap::IndexMap;
 use std::alloc::{AllocError, Global};
-use ts_demux::{Assembly, Demux, TableKey};
-use ts_packet::{PID_COUNT, Packet};
+use ts_demux::TableKey;
 use ts_section::TableRun;
 
 /// The last complete table of each key, in the order in which the keys were first complete.
@@ -17,22 +16,17 @@ pub(crate) type Tables = IndexMap<TableKey, TableRun>;
 /// The contents of a PID: the last complete tables from the packets that were taken.
 #[derive(Drop)]
 pub(crate) struct Contents {
-    demux: Demux,
-    assembly: Assembly,
     tables: Tables,
 }
 
 impl Contents {
     /// The contents before a packet was taken: no tables.
-    pub(crate) fn new(alloc: Global, pid: u16) -> Result<Contents, AllocError>
-        requires { pid < PID_COUNT }
-        ensures { IfOk result (λ contents. HasTaken contents pid []) }
+    pub(crate) fn new(alloc: Global) -> Contents
+        ensures { (pid : ℕ) → HasContents result pid [] }
     {
-        Ok(Contents {
-            demux: Demux::new(alloc, pid)?,
-            assembly: Assembly::new(alloc)?,
+        Contents {
             tables: IndexMap::new(alloc),
-        })
+        }
     }
 
     /// The tables.
@@ -42,46 +36,38 @@ impl Contents {
         &self.tables
     }
 
-    /// Takes the next packet, and answers whether a table of the contents came with it.
-    pub(crate) fn take(&mut self, packet: &Packet) -> Result<bool, AllocError>
-        ensures stands { OnOk result ((pid : ℕ) (taken : List (List ℕ)) → HasTaken self.old pid taken
-            → HasTaken self.new pid (taken ++ packet.now ∷ [])) }
+    /// Keeps the tables that the next packet completes, and answers whether one of the contents came with it.
+    pub(crate) fn keep(&mut self, tables: Vec<TableRun>) -> Result<bool, AllocError>
+        ensures stands { OnOk result ((pid : ℕ) (taken : List (List ℕ)) (packet : List ℕ) → HasContents self.old pid taken
+            → Completes pid taken packet tables.items → HasContents self.new pid (taken ++ packet ∷ [])) }
         ensures same { IfOk result (λ came. came ≡ false → self.new.tables.entries ≡ self.old.tables.entries) }
     {
-        self.demux.feed(packet)?;
-        take_waiting(&mut self.demux, &mut self.assembly, &mut self.tables)
+        let came = keep_tables(&mut self.tables, tables)?;
+        Ok(came)
     }
 }
 
-/// Takes the sections that wait, and answers whether a table of the contents came with them.
-fn take_waiting(
-    demux: &mut Demux,
-    assembly: &mut Assembly,
-    tables: &mut Tables,
-) -> Result<bool, AllocError>
-    ensures holds { OnOk result ((pid : ℕ) (taken given : List (List ℕ))
-        → Holds demux.old assembly.old tables.old pid taken given
-        → Holds demux.new assembly.new tables.new pid taken (sections_of_pid pid taken)) }
-    ensures same { IfOk result (λ came. came ≡ false → tables.new.entries ≡ tables.old.entries) }
+/// Keeps tables one after another, and answers whether one of them was kept.
+fn keep_tables(kept: &mut Tables, tables: Vec<TableRun>) -> Result<bool, AllocError>
+    ensures kept { OnOk result (kept.new.entries ≡ fold with_table kept.old.entries tables.items) }
+    ensures same { IfOk result (λ came. came ≡ false → kept.new.entries ≡ kept.old.entries) }
 {
     let mut came = false;
-    while let Some(section) = demux.next_section() {
-        if let Some(table) = assembly.add(section)? {
-            came = keep_table(tables, table, came)?;
-        }
+    for table in tables {
+        came = keep_table(kept, table, came)?;
     }
     Ok(came)
 }
 
 /// Keeps a table in the place of the one of its key, or behind all others, unless it has no key; `came` stays, or
 /// becomes true where the table is kept.
-fn keep_table(tables: &mut Tables, table: TableRun, came: bool) -> Result<bool, AllocError>
-    ensures kept { OnOk result (tables.new.entries ≡ with_table tables.old.entries table) }
-    ensures same { IfOk result (λ now. now ≡ false → (came ≡ false) × (tables.new.entries ≡ tables.old.entries)) }
+fn keep_table(kept: &mut Tables, table: TableRun, came: bool) -> Result<bool, AllocError>
+    ensures kept { OnOk result (kept.new.entries ≡ with_table kept.old.entries table) }
+    ensures same { IfOk result (λ now. now ≡ false → (came ≡ false) × (kept.new.entries ≡ kept.old.entries)) }
 {
     let Some(key) = TableKey::of_table(&table) else {
         return Ok(came);
     };
-    tables.insert(key, table)?;
+    kept.insert(key, table)?;
     Ok(true)
 }

@@ -1,18 +1,13 @@
-//! The cycle editor.
+//! The cycle editor that reads its tables.
 
-ghost use Rattle.std.specs.Prelude.{◌≡◌, ℕ, ◌<◌, ◌||◌, ◌++◌, ◌∷◌, [], List, true, IfOk, OnOk, OnErr, IsErr};
-ghost use Rattle.indexmap.specs.IndexMap.{values};
-ghost use Rattle.ts_packetize.specs.Packets.{packets_of};
+ghost use Rattle.std.specs.Prelude.{◌≡◌, ℕ, ◌<◌, ◌++◌, ◌∷◌, [], List, true, IfOk, OnOk, OnErr, IsErr};
 ghost use Rattle.plug_psi.specs.EditedCycles.{replaced};
-ghost use Rattle.plug_psi.specs.Edits.{edited_sections};
-ghost use Rattle.plug_psi.specs.EditorState.{NextInPlace, Renewed};
 
-use crate::contents::{Contents, Tables};
+use crate::cycle_editor::CycleEditor;
 use crate::edit::TableEdit;
-use crate::edited::edited;
 use std::alloc::{AllocError, Global};
+use ts_demux::PidTables;
 use ts_packet::{NULL_PID, Packet};
-use ts_packetize::Cycle;
 
 /// Puts packets of cycles of the edited contents of a PID in the place of its taken packets.
 ///
@@ -20,12 +15,8 @@ use ts_packetize::Cycle;
 /// It holds the last tables, one unfinished section and the packets of at most two cycles.
 #[derive(Drop)]
 pub struct Editor<E: TableEdit + Drop> {
-    contents: Contents,
-    edit: E,
-    cycle: Cycle,
-    counter: u8,
-    /// Whether a table came since the cycle was last renewed.
-    changed: bool,
+    tables: PidTables,
+    inner: CycleEditor<E>,
     failed: bool,
     alloc: Global,
 }
@@ -39,15 +30,12 @@ impl<E: TableEdit + Drop> Editor<E> {
         ensures fresh { IfOk result (λ editor. StandsFor (E.change edit) editor pid []) }
         ensures edit { IfOk result (λ editor. edit_of editor ≡ edit) }
     {
-        let cycle = Cycle::new(alloc, pid)?;
+        let inner = CycleEditor::new(alloc, pid, edit)?;
         // The largest value comes last: nothing can fail while it is held.
-        let contents = Contents::new(alloc, pid)?;
+        let tables = PidTables::new(alloc, pid)?;
         Ok(Editor {
-            contents,
-            edit,
-            cycle,
-            counter: 0,
-            changed: true,
+            tables,
+            inner,
             failed: false,
             alloc,
         })
@@ -90,54 +78,8 @@ impl<E: TableEdit + Drop> Editor<E> {
         ensures same_edit { edit_of self.new ≡ edit_of self.old }
         ensures same_failed { has_failed self.new ≡ has_failed self.old }
     {
-        let came = self.contents.take(packet)?;
-        let changed = either(self.changed, came);
-        let tables = self.contents.tables();
-        let changed = renew_where_over(self.alloc, &self.edit, tables, &mut self.cycle, changed)?;
-        let (packet, counter) = next_in_place(&mut self.cycle, self.counter % 16);
-        self.changed = changed;
-        self.counter = counter;
-        Ok(packet)
-    }
-}
-
-/// Whether one of two holds.
-pub(crate) fn either(a: bool, b: bool) -> bool
-    ensures { result ≡ (a || b) }
-{
-    a || b
-}
-
-/// Sees that the cycle that begins next, if none runs, is that of the edited tables, which have changed or not since
-/// the last one began. Answers whether they have changed since the one that begins or runs now.
-fn renew_where_over<E: TableEdit>(
-    alloc: Global,
-    edit: &E,
-    tables: &Tables,
-    cycle: &mut Cycle,
-    changed: bool,
-) -> Result<bool, AllocError>
-    ensures { IfOk result (λ still. Renewed cycle.old cycle.new changed still
-        (packets_of cycle.old.pid (edited_sections (E.change edit.now) (values tables.now)))) }
-{
-    if !changed {
-        return Ok(false);
-    }
-    if !cycle.is_over() {
-        return Ok(true);
-    }
-    let sections = edited(alloc, edit, tables)?;
-    cycle.renew(sections)?;
-    Ok(false)
-}
-
-/// The next packet of a cycle, or a null packet where it has none, and the counter behind it.
-fn next_in_place(cycle: &mut Cycle, counter: u8) -> (Packet, u8)
-    requires { counter < 16 }
-    ensures { NextInPlace cycle.old cycle.new counter result.0 result.1 }
-{
-    match cycle.next(counter) {
-        Some(packet) => (packet, (counter + 1) % 16),
-        None => (Packet::null(), counter),
+        let tables = self.tables.take(packet)?;
+        let new = self.inner.advance(self.alloc, tables, packet)?;
+        Ok(new)
     }
 }

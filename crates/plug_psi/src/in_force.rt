@@ -1,26 +1,29 @@
 //! The tables in force.
 
-ghost use Rattle.std.specs.Prelude.{◌≡◌, ℕ, ◌<◌, ◌==◌, ◌++◌, ◌∷◌, ◌&&◌, [], List, None, true, false, not, IfOk, OnOk, OnErr, IsErr, nat_eq, option_map};
+ghost use Rattle.std.specs.Prelude.{◌≡◌, ℕ, ◌<◌, ◌==◌, ◌++◌, ◌∷◌, ◌&&◌, ◌||◌, [], List, None, true, false, not, IfOk, OnOk, OnErr, IsErr, option_map};
 ghost use Rattle.std.specs.Option.{option_copied};
-ghost use Rattle.indexmap.specs.IndexMap.{get};
 ghost use Rattle.ts_psi.specs.PatTables.{pat_held};
 ghost use Rattle.ts_psi.specs.PsiTables.{pmt_held};
-ghost use Rattle.plug_psi.specs.LastFound.{last_found, tables_on};
-ghost use Rattle.plug_psi.specs.InForce.{names, pat_of, pmt_of, current_pmt};
-ghost use Rattle.plug_psi.specs.ForceState.{EntryStands, HasEntry, pmt_seen};
+ghost use Rattle.plug_psi.specs.InForce.{is_named, names, pat_of, pmt_of, pmt_on};
+ghost use Rattle.plug_psi.specs.ForceState.{HavePmts};
 ghost use Rattle.plug_psi.specs.SameForce.{SameInForce};
 
-use crate::editor::either;
-use crate::handed_over::put;
-use crate::on_pid::OnPid;
-use crate::on_zero::OnZero;
-use indexmap::IndexMap;
+use crate::by_pid::ByPid;
+use crate::came::Came;
+use crate::current_pat::CurrentPat;
+use crate::follow_laws::unfollowed_packets_change_nothing;
+use crate::follows::Follows;
+use crate::kept_pmts::KeptPmts;
+use crate::reading::Reading;
 use std::alloc::{AllocError, Global};
 use ts_packet::{NULL_PID, PID_COUNT, Packet};
 use ts_psi::{Pat, Pmt};
 
+/// The PID of the PAT (ISO/IEC 13818-1, 2.4.3.3).
+const PAT_PID: u16 = 0;
+
 /// What is kept of the PIDs on which packets were taken.
-type Pids = IndexMap<u16, OnPid>;
+type Pids = ByPid<Reading<KeptPmts>>;
 
 /// The PAT in force and the PMTs in force, of all packets that were fed.
 ///
@@ -30,22 +33,27 @@ type Pids = IndexMap<u16, OnPid>;
 /// Packets on PID 8191 never count.
 #[derive(Drop)]
 pub struct InForce {
-    zero: OnZero,
+    zero: Reading<CurrentPat>,
     pids: Pids,
     failed: bool,
     alloc: Global,
 }
 
 impl InForce {
+    ghost use Rattle.ts_packet.specs.Header.{pid_of};
+    ghost use Rattle.ts_demux.specs.TablesOn.{Completes, packets_on};
+    ghost use Rattle.ts_demux.specs.TakenWhere.{taken_on};
     ghost use Rattle.plug_psi.specs.ForceStands.{StandsFor, has_failed};
+    ghost use Rattle.plug_psi.specs.InForce.{follows};
+    ghost use Rattle.plug_psi.specs.KeptTables.{is_kept, tables_in};
 
     /// Nothing is in force before a packet was fed.
     pub fn new(alloc: Global) -> Result<InForce, AllocError>
         ensures { IfOk result (λ force. StandsFor force []) }
     {
         Ok(InForce {
-            zero: OnZero::new(alloc)?,
-            pids: IndexMap::new(alloc),
+            zero: Reading::fresh(alloc, &(), PAT_PID)?,
+            pids: ByPid::new(alloc),
             failed: false,
             alloc,
         })
@@ -70,6 +78,23 @@ impl InForce {
         ensures spent { OnErr result (has_failed self.new ≡ true) }
         ensures stays_spent { has_failed self.old ≡ true → IsErr result }
     {
+        let came = self.follow(packet)?;
+        Ok(came.is_new())
+    }
+
+    /// Takes the next packet as `feed` does, and hands on the tables that it completes, where it is on PID 0 or on a PID whose
+    /// packets are taken: who wants these tables too need not read them again.
+    #[inline]
+    pub fn follow(&mut self, packet: &Packet) -> Result<Came, AllocError>
+        ensures stands { OnOk result ((fed : List (List ℕ)) → StandsFor self.old fed → StandsFor self.new (fed ++ packet.now ∷ [])) }
+        ensures same { IfOk result (λ came. (is_kept came.pats || is_kept came.pmts) ≡ false → (fed : List (List ℕ)) → StandsFor self.old fed → SameInForce fed packet.now) }
+        ensures pats { IfOk result (λ came. (fed : List (List ℕ)) → StandsFor self.old fed → pid_of packet.now ≡ 0
+            → Completes 0 (packets_on 0 fed) packet.now (tables_in came.pats)) }
+        ensures pmts { IfOk result (λ came. (fed : List (List ℕ)) → StandsFor self.old fed → follows (pid_of packet.now) (fed ++ packet.now ∷ []) ≡ true
+            → Completes (pid_of packet.now) (taken_on follows (pid_of packet.now) fed) packet.now (tables_in came.pmts)) }
+        ensures spent { OnErr result (has_failed self.new ≡ true) }
+        ensures stays_spent { has_failed self.old ≡ true → IsErr result }
+    {
         if self.failed {
             return Err(AllocError);
         }
@@ -86,21 +111,29 @@ impl InForce {
     pub fn pat(&self) -> Option<&Pat>
         ensures { (fed : List (List ℕ)) → StandsFor self.now fed → option_map pat_held (option_copied result) ≡ pat_of fed }
     {
-        self.zero.pat.as_ref()
+        self.zero.follower.as_ref()
     }
 
     /// Whether a service of the PAT in force has this PID.
     pub fn names(&self, pid: u16) -> bool
         ensures { (fed : List (List ℕ)) → StandsFor self.now fed → result ≡ names (pat_of fed) pid }
     {
-        self.zero.pat.names(pid)
+        self.zero.follower.names(pid)
+    }
+
+    /// Whether the packets of a PID are taken now: a service of the PAT in force has it, and it is not 8191.
+    #[inline]
+    pub fn follows(&self, pid: u16) -> bool
+        ensures { (fed : List (List ℕ)) → StandsFor self.now fed → result ≡ follows pid fed }
+    {
+        is_followed(&self.zero, pid)
     }
 
     /// The PMT in force of a service, if there is one.
     pub fn pmt(&self, service: u16) -> Option<&Pmt>
         ensures { (fed : List (List ℕ)) → StandsFor self.now fed → option_map pmt_held (option_copied result) ≡ pmt_of service fed }
     {
-        match self.zero.pat.pid_for(service) {
+        match self.zero.follower.pid_for(service) {
             Some(pid) => pmt_in(&self.pids, pid, service),
             None => None,
         }
@@ -108,80 +141,43 @@ impl InForce {
 
     /// Takes the next packet as long as memory was there.
     #[inline]
-    fn take(&mut self, packet: &Packet) -> Result<bool, AllocError>
+    fn take(&mut self, packet: &Packet) -> Result<Came, AllocError>
         ensures stands { OnOk result ((fed : List (List ℕ)) → StandsFor self.old fed → StandsFor self.new (fed ++ packet.now ∷ [])) }
-        ensures same { IfOk result (λ came. came ≡ false → (fed : List (List ℕ)) → StandsFor self.old fed → SameInForce fed packet.now) }
+        ensures same { IfOk result (λ came. (is_kept came.pats || is_kept came.pmts) ≡ false → (fed : List (List ℕ)) → StandsFor self.old fed → SameInForce fed packet.now) }
+        ensures pats { IfOk result (λ came. (fed : List (List ℕ)) → StandsFor self.old fed → pid_of packet.now ≡ 0
+            → Completes 0 (packets_on 0 fed) packet.now (tables_in came.pats)) }
+        ensures pmts { IfOk result (λ came. (fed : List (List ℕ)) → StandsFor self.old fed → follows (pid_of packet.now) (fed ++ packet.now ∷ []) ≡ true
+            → Completes (pid_of packet.now) (taken_on follows (pid_of packet.now) fed) packet.now (tables_in came.pmts)) }
         ensures same_failed { has_failed self.new ≡ has_failed self.old }
     {
-        let pat_came = self.zero.take(self.alloc, packet)?;
+        unfollowed_packets_change_nothing::<Reading<KeptPmts>>();
+        let pats = self.zero.meet(self.alloc, PAT_PID, packet)?;
         let pid = packet.pid();
-        if !is_taken(&self.zero, pid) {
-            return Ok(pat_came);
+        if !is_followed(&self.zero, pid) {
+            return Ok(Came { pats, pmts: None });
         }
-        see_entry(self.alloc, &mut self.pids, pid)?;
-        let pmt_came = take_on(self.alloc, &mut self.pids, pid, packet)?;
-        Ok(either(pat_came, pmt_came))
+        let kept = self.pids.take(self.alloc, &(), (), packet)?;
+        Ok(Came {
+            pats,
+            pmts: Some(kept),
+        })
     }
 }
 
 /// Whether the packets of a PID are taken.
-fn is_taken(zero: &OnZero, pid: u16) -> bool
-    ensures { result ≡ (names (option_map pat_held zero.now.pat) pid && not (pid == NULL_PID)) }
+#[inline]
+fn is_followed(zero: &Reading<CurrentPat>, pid: u16) -> bool
+    ensures { result ≡ is_named (option_map pat_held zero.now.follower) pid }
 {
-    zero.pat.names(pid) && pid != NULL_PID
+    zero.follower.names(pid) && pid != NULL_PID
 }
 
-/// Sees that a PID has its entry.
-#[inline(never)]
-fn see_entry(alloc: Global, pids: &mut Pids, pid: u16) -> Result<(), AllocError>
-    requires { pid < PID_COUNT }
-    ensures has_entry { OnOk result (HasEntry (get nat_eq pids.new pid)) }
-    ensures stands { OnOk result ((taken : List (List ℕ)) →
-        EntryStands (get nat_eq pids.old pid) pid taken → EntryStands (get nat_eq pids.new pid) pid taken) }
-    ensures others { OnOk result ((other : ℕ) → nat_eq pid other ≡ false → get nat_eq pids.new other ≡ get nat_eq pids.old other) }
-{
-    match pids.get(&pid) {
-        Some(_) => Ok(()),
-        None => fresh_entry(alloc, pids, pid),
-    }
-}
-
-/// Gives a PID its entry.
-fn fresh_entry(alloc: Global, pids: &mut Pids, pid: u16) -> Result<(), AllocError>
-    requires pid { pid < PID_COUNT }
-    requires none { get nat_eq pids.old pid ≡ None }
-    ensures has_entry { OnOk result (HasEntry (get nat_eq pids.new pid)) }
-    ensures stands { OnOk result ((taken : List (List ℕ)) →
-        EntryStands (get nat_eq pids.old pid) pid taken → EntryStands (get nat_eq pids.new pid) pid taken) }
-    ensures others { OnOk result ((other : ℕ) → nat_eq pid other ≡ false → get nat_eq pids.new other ≡ get nat_eq pids.old other) }
-{
-    let on = OnPid::new(alloc, pid)?;
-    put(pids, pid, on)?;
-    Ok(())
-}
-
-/// The PMT of a service, of the packets that were taken on a PID.
+/// The last PMT of a service, of the packets that were taken on a PID.
 fn pmt_in(pids: &Pids, pid: u16, service: u16) -> Option<&Pmt>
-    ensures { (taken : List (List ℕ)) → EntryStands (get nat_eq pids.now pid) pid taken
-        → option_map pmt_held (option_copied result) ≡ last_found (current_pmt service) (tables_on pid taken) }
+    ensures { (fed : List (List ℕ)) → HavePmts pids.now fed → option_map pmt_held (option_copied result) ≡ pmt_on pid service fed }
 {
-    match pids.get(&pid) {
-        Some(on) => on.pmts.get(&service),
+    match pids.get(pid) {
+        Some(on) => on.follower.pmts.get(&service),
         None => None,
-    }
-}
-
-/// Takes a packet on a PID that has its entry, and answers whether a PMT came with it.
-#[inline(never)]
-fn take_on(alloc: Global, pids: &mut Pids, pid: u16, packet: &Packet) -> Result<bool, AllocError>
-    requires { HasEntry (get nat_eq pids.old pid) }
-    ensures stands { OnOk result ((taken : List (List ℕ)) → EntryStands (get nat_eq pids.old pid) pid taken
-        → EntryStands (get nat_eq pids.new pid) pid (taken ++ packet.now ∷ [])) }
-    ensures same { IfOk result (λ came. came ≡ false → (service : ℕ) → pmt_seen (get nat_eq pids.new pid) service ≡ pmt_seen (get nat_eq pids.old pid) service) }
-    ensures others { OnOk result ((other : ℕ) → nat_eq pid other ≡ false → get nat_eq pids.new other ≡ get nat_eq pids.old other) }
-{
-    match pids.get_mut(&pid) {
-        Some(on) => on.take(alloc, packet),
-        None => Ok(false),
     }
 }

@@ -5,31 +5,52 @@
 //! `Referred`.
 #![tactic(auto)]
 
+mod by_pid;
+mod came;
 mod contents;
 mod current_pat;
+mod cycle_editor;
 mod edit;
 mod edited;
 mod editor;
+mod follow_editors;
+mod follow_laws;
+mod follow_readers;
+mod follows;
+mod follows_tables;
+mod given;
 mod handed_over;
 mod in_force;
+mod kept;
+mod kept_cat;
+mod kept_pat;
+mod kept_pmts;
 mod laws;
-mod on_one;
-mod on_pid;
-mod on_zero;
 mod pid_flags;
 mod pids_in_force;
 mod pids_of_pmt;
 mod read_or_same;
+mod reading;
 mod referred;
 mod written;
 
+pub use by_pid::ByPid;
+pub use came::Came;
+pub use cycle_editor::CycleEditor;
 pub use edit::{Edited, TableEdit};
 pub use editor::Editor;
+pub use follow_editors::SeededEdit;
+pub use follow_laws::unfollowed_packets_change_nothing;
+pub use follows::Follows;
+pub use follows_tables::FollowsTables;
+pub use given::Given;
 pub use handed_over::{both, put};
 pub use in_force::InForce;
+pub use kept::Kept;
 pub use laws::{contents_are_last_tables, last_found_is_the_last, later_packets_change_nothing};
 pub use pid_flags::{flag_of, no_flags, tell};
 pub use pids_of_pmt::add_pids;
 pub use read_or_same::{sections_or_same, table_or_none};
+pub use reading::Reading;
 pub use referred::Referred;
 pub use written::in_room;

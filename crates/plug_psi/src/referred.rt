@@ -7,17 +7,23 @@ ghost use Rattle.plug_psi.specs.CatInForce.{cat_of};
 ghost use Rattle.plug_psi.specs.ForceStands.{StandsFor as Forced};
 ghost use Rattle.plug_psi.specs.PidFlags.{AreFlags};
 ghost use Rattle.plug_psi.specs.Referred.{is_fixed, named_in, refers};
-ghost use Rattle.plug_psi.specs.ReferredState.{HasFedCat};
+ghost use Rattle.plug_psi.specs.ReferredState.{HasCat};
 
-use crate::editor::either;
+use crate::cycle_editor::either;
+use crate::follows::Follows;
 use crate::handed_over::both;
 use crate::in_force::InForce;
-use crate::on_one::OnOne;
+use crate::kept::Kept;
+use crate::kept_cat::KeptCat;
 use crate::pid_flags::{flag_of, no_flags, tell};
 use crate::pids_in_force::named_pids;
+use crate::reading::Reading;
 use std::alloc::{AllocError, Global};
 use ts_packet::{NULL_PID, PID_COUNT, Packet};
 use ts_psi::Cat;
+
+/// The PID of the CAT (ISO/IEC 13818-1, 2.4.4.6).
+const CAT_PID: u16 = 1;
 
 /// The greatest of the PIDs that are referred to whatever tables are in force, PID 8191 apart
 /// (ETSI EN 300 468, 5.1.3).
@@ -32,7 +38,7 @@ const LAST_FIXED_PID: u16 = 31;
 #[derive(Drop)]
 pub struct Referred {
     force: InForce,
-    one: OnOne,
+    one: Reading<KeptCat>,
     /// The PIDs that tables name. They are made anew where another table comes into force.
     flags: Vec<bool>,
     failed: bool,
@@ -47,7 +53,7 @@ impl Referred {
         ensures { IfOk result (λ referred. StandsFor referred []) }
     {
         let flags = no_flags(alloc)?;
-        let one = OnOne::new(alloc)?;
+        let one = Reading::fresh(alloc, &(), CAT_PID)?;
         let force = InForce::new(alloc);
         let (one, force) = both(one, force)?;
         Ok(Referred {
@@ -98,7 +104,7 @@ impl Referred {
     pub fn cat(&self) -> Option<&Cat>
         ensures { (fed : List (List ℕ)) → StandsFor self.now fed → option_map cat_held (option_copied result) ≡ cat_of fed }
     {
-        self.one.cat.as_ref()
+        self.one.follower.cat.as_ref()
     }
 
     /// Takes the next packet as long as memory was there.
@@ -108,8 +114,8 @@ impl Referred {
         ensures same_failed { has_failed self.new ≡ has_failed self.old }
     {
         let psi_came = self.force.update(packet)?;
-        let cat_came = self.one.take(self.alloc, packet)?;
-        let came = either(psi_came, cat_came);
+        let cats = self.one.meet(self.alloc, CAT_PID, packet)?;
+        let came = either(psi_came, Kept::is_some(&cats));
         renew_where(self.alloc, &self.force, &self.one, &mut self.flags, came)?;
         Ok(())
     }
@@ -128,11 +134,11 @@ fn is_fixed(pid: u16) -> bool
 fn renew_where(
     alloc: Global,
     force: &InForce,
-    one: &OnOne,
+    one: &Reading<KeptCat>,
     flags: &mut Vec<bool>,
     came: bool,
 ) -> Result<(), AllocError>
-    ensures { OnOk result ((fed : List (List ℕ)) (packet : List ℕ) → Forced force.now (fed ++ packet ∷ []) → HasFedCat one.now (fed ++ packet ∷ [])
+    ensures { OnOk result ((fed : List (List ℕ)) (packet : List ℕ) → Forced force.now (fed ++ packet ∷ []) → HasCat one.now (fed ++ packet ∷ [])
         → (came ≡ false → named_in (fed ++ packet ∷ []) ≡ named_in fed)
         → AreFlags flags.old.items (named_in fed) → AreFlags flags.new.items (named_in (fed ++ packet ∷ []))) }
 {
@@ -147,13 +153,13 @@ fn renew_where(
 fn renew(
     alloc: Global,
     force: &InForce,
-    one: &OnOne,
+    one: &Reading<KeptCat>,
     flags: &mut Vec<bool>,
 ) -> Result<(), AllocError>
-    ensures { OnOk result (length flags.old.items ≡ PID_COUNT → (fed : List (List ℕ)) → Forced force.now fed → HasFedCat one.now fed
+    ensures { OnOk result (length flags.old.items ≡ PID_COUNT → (fed : List (List ℕ)) → Forced force.now fed → HasCat one.now fed
         → AreFlags flags.new.items (named_in fed)) }
 {
-    let pids = named_pids(alloc, force, one.cat.as_ref())?;
+    let pids = named_pids(alloc, force, one.follower.cat.as_ref())?;
     tell(flags, &pids, &[]);
     Ok(())
 }

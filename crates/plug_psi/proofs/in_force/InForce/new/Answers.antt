@@ -1,5 +1,6 @@
-use Rattle.plug_psi.proofs.ForceLemmas.{forces-new}
+use Rattle.std.proofs.Common.{refl}
+use Rattle.plug_psi.specs.InForce.{follows}
 use Rattle.plug_psi.proofs.in_force.InForce.new.Goals as goal
 
 pub returns : goal.returns
-returns c = forces-new c.in_ok-new.field-0 c.new-2.result c.in_ok-new.ensures c.new-2.ensures.empty
+returns c = record { working = refl; pat_fed = c.in_ok-fresh.ensures; entries = c.new.ensures tt follows }

@@ -1,7 +1,7 @@
 use Rattle.std.proofs.Common.{ap, ◌∙◌}
 use Rattle.std.specs.Prelude.{option_map}
 use Rattle.ts_psi.specs.CatTables.{cat_held}
-use Rattle.plug_psi.proofs.CatLemmas.{cat-kept}
+use Rattle.plug_psi.proofs.NamedLemmas.{cat-kept}
 use Rattle.plug_psi.proofs.referred.Referred.cat.Goals as goal
 
 pub returns : goal.returns

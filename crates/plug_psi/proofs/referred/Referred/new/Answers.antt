@@ -1,7 +1,7 @@
 use Rattle.std.proofs.Common.{[], IfOk, false, refl, sym, subst}
 use Rattle.plug_psi.specs.ForceStands.{StandsFor}
 use Rattle.plug_psi.specs.Referred.{named_in}
-use Rattle.plug_psi.specs.ReferredState.{HasFedCat}
+use Rattle.plug_psi.specs.ReferredState.{HasCat}
 use Rattle.plug_psi.proofs.FlagLemmas.{flags-as}
 use Rattle.plug_psi.proofs.NamedLemmas.{named-none}
 use Rattle.plug_psi.proofs.referred.Referred.new.Goals as goal
@@ -10,6 +10,6 @@ pub returns : goal.returns
 returns c = record {
   working = refl;
   forced = subst (λ r. IfOk r (λ f. StandsFor f [])) c.in_ok-one-2.ensures.second c.new-force.ensures;
-  cat_fed = subst (λ o. HasFedCat o []) (sym c.in_ok-one-2.ensures.first) c.in_ok-one.ensures;
+  cat_fed = subst (λ o. HasCat o []) (sym c.in_ok-one-2.ensures.first) c.in_ok-one.ensures;
   flagged = flags-as c.in_ok-flags.flags.items (λ pid. false) (named_in []) (λ pid. sym (named-none pid)) c.in_ok-flags.ensures.told;
 }

@@ -1,0 +1,120 @@
+//! The cycle editor over tables that are read elsewhere.
+
+ghost use Rattle.std.specs.Prelude.{◌≡◌, ℕ, ◌<◌, ◌||◌, ◌++◌, ◌∷◌, [], List, IfOk, OnOk};
+ghost use Rattle.indexmap.specs.IndexMap.{values};
+ghost use Rattle.ts_packetize.specs.Packets.{packets_of};
+ghost use Rattle.plug_psi.specs.EditedCycles.{replaced};
+ghost use Rattle.plug_psi.specs.Edits.{edited_sections};
+ghost use Rattle.plug_psi.specs.EditorState.{NextInPlace, Renewed};
+
+use crate::contents::{Contents, Tables};
+use crate::edit::TableEdit;
+use crate::edited::edited;
+use std::alloc::{AllocError, Global};
+use ts_packet::{NULL_PID, Packet};
+use ts_packetize::Cycle;
+use ts_section::TableRun;
+
+/// Gives packets of cycles of the edited contents of a PID for the places of its taken packets, whose tables are read by
+/// somebody else: an `Editor`, or what follows the PID already.
+///
+/// The contents are edited and packed where a cycle begins, and only where they changed since the last one began.
+/// It holds the last tables and the packets of at most two cycles.
+#[derive(Drop)]
+pub struct CycleEditor<E: TableEdit + Drop> {
+    contents: Contents,
+    edit: E,
+    cycle: Cycle,
+    counter: u8,
+    /// Whether a table came since the cycle was last renewed.
+    changed: bool,
+}
+
+impl<E: TableEdit + Drop> CycleEditor<E> {
+    ghost use Rattle.ts_demux.specs.TablesOn.{Completes};
+    ghost use Rattle.plug_psi.specs.CycleStands.{InCycles, edit_of};
+
+    /// An editor that took no packet of its PID, below 8191.
+    pub fn new(alloc: Global, pid: u16, edit: E) -> Result<CycleEditor<E>, AllocError>
+        requires { pid < NULL_PID }
+        ensures fresh { IfOk result (λ editor. InCycles (E.change edit) editor pid []) }
+        ensures edit { IfOk result (λ editor. edit_of editor ≡ edit) }
+    {
+        let cycle = Cycle::new(alloc, pid)?;
+        Ok(CycleEditor {
+            contents: Contents::new(alloc),
+            edit,
+            cycle,
+            counter: 0,
+            changed: true,
+        })
+    }
+
+    /// Takes the next packet, of which the tables that it completes are enough, and gives the packet for its place: the one
+    /// of the cycle that runs, with its counter, or a null packet where a cycle would begin and there is nothing to carry.
+    /// The caller gives the packets that are taken and no others. After `AllocError` no more is to be asked.
+    pub fn advance(
+        &mut self,
+        alloc: Global,
+        tables: Vec<TableRun>,
+        packet: &Packet,
+    ) -> Result<Packet, AllocError>
+        ensures replaced { IfOk result (λ new. (pid : ℕ) (taken : List (List ℕ)) → InCycles (E.change (edit_of self.old)) self.old pid taken
+            → Completes pid taken packet.now tables.items → new ≡ replaced pid (E.change (edit_of self.old)) taken packet.now) }
+        ensures stands { OnOk result ((pid : ℕ) (taken : List (List ℕ)) → InCycles (E.change (edit_of self.old)) self.old pid taken
+            → Completes pid taken packet.now tables.items → InCycles (E.change (edit_of self.old)) self.new pid (taken ++ packet.now ∷ [])) }
+        ensures same_edit { edit_of self.new ≡ edit_of self.old }
+    {
+        // Nothing else of the packet matters.
+        let _ = packet;
+        let came = self.contents.keep(tables)?;
+        let changed = either(self.changed, came);
+        let tables = self.contents.tables();
+        let changed = renew_where_over(alloc, &self.edit, tables, &mut self.cycle, changed)?;
+        let (packet, counter) = next_in_place(&mut self.cycle, self.counter % 16);
+        self.changed = changed;
+        self.counter = counter;
+        Ok(packet)
+    }
+}
+
+/// Whether one of two holds.
+pub(crate) fn either(a: bool, b: bool) -> bool
+    ensures { result ≡ (a || b) }
+{
+    a || b
+}
+
+/// Sees that the cycle that begins next, if none runs, is that of the edited tables, which have changed or not since
+/// the last one began. Answers whether they have changed since the one that begins or runs now.
+fn renew_where_over<E: TableEdit>(
+    alloc: Global,
+    edit: &E,
+    tables: &Tables,
+    cycle: &mut Cycle,
+    changed: bool,
+) -> Result<bool, AllocError>
+    ensures { IfOk result (λ still. Renewed cycle.old cycle.new changed still
+        (packets_of cycle.old.pid (edited_sections (E.change edit.now) (values tables.now)))) }
+{
+    if !changed {
+        return Ok(false);
+    }
+    if !cycle.is_over() {
+        return Ok(true);
+    }
+    let sections = edited(alloc, edit, tables)?;
+    cycle.renew(sections)?;
+    Ok(false)
+}
+
+/// The next packet of a cycle, or a null packet where it has none, and the counter behind it.
+fn next_in_place(cycle: &mut Cycle, counter: u8) -> (Packet, u8)
+    requires { counter < 16 }
+    ensures { NextInPlace cycle.old cycle.new counter result.0 result.1 }
+{
+    match cycle.next(counter) {
+        Some(packet) => (packet, (counter + 1) % 16),
+        None => (Packet::null(), counter),
+    }
+}

@@ -1,0 +1,72 @@
+//! What follows a PID by its tables, with what reads them.
+
+ghost use Rattle.std.specs.Prelude.{◌≡◌, ◌<◌, ◌∷◌, ◌++◌, ◌==◌, ℕ, [], List, IfOk, OnOk};
+
+use crate::follows::Follows;
+use crate::follows_tables::FollowsTables;
+use std::alloc::{AllocError, Global};
+use ts_demux::PidTables;
+use ts_packet::Packet;
+
+/// What follows a PID by the tables that its packets complete, and what reads them.
+#[derive(Drop)]
+pub struct Reading<T: Drop> {
+    pub(crate) tables: PidTables,
+    pub(crate) follower: T,
+}
+
+impl<T: FollowsTables> Reading<T> {
+    ghost use Rattle.ts_demux.specs.TablesOn.{packets_on};
+    ghost use Rattle.plug_psi.specs.ReadingState.{Reads, TellsOn};
+
+    /// Takes the next packet, of any PID, where it is on this one, and tells of it then. After `AllocError` no more is to be
+    /// asked.
+    #[inline]
+    pub(crate) fn meet(
+        &mut self,
+        alloc: Global,
+        pid: u16,
+        packet: &Packet,
+    ) -> Result<Option<T::Told>, AllocError>
+        ensures stands { OnOk result ((seed : T.Seed) (met : List (List ℕ)) → Reads (T.stands seed) self.old pid (packets_on pid met)
+            → Reads (T.stands seed) self.new pid (packets_on pid (met ++ packet.now ∷ []))) }
+        ensures tells { IfOk result (λ told. (seed : T.Seed) (met : List (List ℕ)) → Reads (T.stands seed) self.old pid (packets_on pid met)
+            → TellsOn pid packet.now (T.tells seed pid (packets_on pid met) packet.now) told) }
+    {
+        // Nearly all packets are of other PIDs.
+        if packet.pid() != pid {
+            return Ok(None);
+        }
+        let told = self.take(alloc, (), packet)?;
+        Ok(Some(told))
+    }
+}
+
+impl<T: FollowsTables> Follows for Reading<T> {
+    ghost use Rattle.plug_psi.specs.ReadingState.{Reads};
+
+    type Seed = T::Seed;
+
+    type Input = ();
+
+    type Told = T::Told;
+
+    ghost stands = { λ seed it pid taken. Reads (T.stands seed) it pid taken };
+
+    ghost given = { λ pid taken packet input. Unit {0} };
+
+    ghost tells = { λ seed pid taken packet told. T.tells seed pid taken packet told };
+
+    fn fresh(alloc: Global, seed: &T::Seed, pid: u16) -> Result<Reading<T>, AllocError> {
+        let follower = T::fresh(alloc, seed, pid)?;
+        // The largest value comes last: nothing can fail while it is held.
+        let tables = PidTables::new(alloc, pid)?;
+        Ok(Reading { tables, follower })
+    }
+
+    fn take(&mut self, alloc: Global, _input: (), packet: &Packet) -> Result<T::Told, AllocError> {
+        let tables = self.tables.take(packet)?;
+        let told = self.follower.take(alloc, tables, packet)?;
+        Ok(told)
+    }
+}
