@@ -1,4 +1,3 @@
 pub mod ToldLemmas
 pub mod WatchedLemmas
-pub mod WatcherLemmas
 mod Rows

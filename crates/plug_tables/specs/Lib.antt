@@ -5,4 +5,3 @@ pub mod TablesState
 pub mod TablesWords
 pub mod WatchedPackets
 pub mod WatchedState
-pub mod WatcherState

@@ -9,7 +9,6 @@ mod tables_conf;
 mod tables_words;
 mod telling;
 mod watched;
-mod watcher;
 
 pub use limits::LAST_TABLE_ID;
 pub use tables::Tables;

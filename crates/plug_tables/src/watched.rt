@@ -1,23 +1,16 @@
 //! The tables of all PIDs that are watched.
-ghost use Rattle.std.specs.Prelude.{◌≡◌, ◌<◌, ◌==◌, ◌∷◌, ◌++◌, ℕ, [], List, IfOk, OnOk, length, true, false, nat_eq, None, if◌then◌else◌};
-ghost use Rattle.indexmap.specs.IndexMap.{get};
-ghost use Rattle.plug_psi.specs.LastFound.{tables_on};
+ghost use Rattle.std.specs.Prelude.{◌≡◌, ◌<◌, ◌==◌, ◌∷◌, ◌++◌, ℕ, [], List, IfOk, OnOk, length, true, false, if◌then◌else◌};
 ghost use Rattle.plug_tables.specs.TablesRule.{choice_of};
-ghost use Rattle.plug_tables.specs.WatchedState.{EntryStands, HasEntry};
 
-use crate::watcher::Watcher;
-use indexmap::IndexMap;
 use plug_conf::{NumberSet, PidSet};
-use plug_psi::{InForce, put};
+use plug_psi::{ByPid, InForce, unfollowed_packets_change_nothing};
 use std::alloc::{AllocError, Global};
+use ts_demux::PidTables;
 use ts_packet::{NULL_PID, PID_COUNT, Packet};
 use ts_section::TableRun;
 
 /// The PIDs that are watched without a list, besides those of the PMTs: PAT and CAT, and NIT, SDT and EIT.
 const USUAL_PIDS: [(u64, u64); 2] = [(0, 1), (16, 18)];
-
-/// What is kept of the PIDs on which packets were watched.
-type Watchers = IndexMap<u16, Watcher>;
 
 /// The PIDs that are watched, and their sections on their way to tables.
 #[derive(Drop)]
@@ -26,18 +19,17 @@ pub struct Watched {
     /// Whether the PIDs of the PMTs that the PAT in force names are watched too.
     follows: bool,
     force: InForce,
-    watchers: Watchers,
+    readers: ByPid<PidTables>,
     alloc: Global,
 }
 
 impl Watched {
-    ghost use Rattle.std.specs.Prelude.{◌≡◌, ◌<◌, ◌∷◌, ◌++◌, ℕ, [], List, IfOk, OnOk};
+    ghost use Rattle.std.specs.Prelude.{◌≡◌, ◌<◌, ◌∷◌, ◌++◌, ℕ, [], List, true, IfOk, OnOk};
     ghost use Rattle.ts_packet.specs.Header.{pid_of};
     ghost use Rattle.plug_psi.specs.ForceStands.{StandsFor as IsFed};
-    ghost use Rattle.plug_psi.specs.InForce.{pat_of};
     ghost use Rattle.plug_tables.specs.TablesRule.{choice_of};
-    ghost use Rattle.plug_tables.specs.WatchedPackets.{tables_with};
-    ghost use Rattle.plug_tables.specs.WatchedState.{HasMet, choice_in, is_watched};
+    ghost use Rattle.plug_tables.specs.WatchedPackets.{is_watched, tables_with};
+    ghost use Rattle.plug_tables.specs.WatchedState.{HasMet, choice_in};
 
     /// No packet was met. The PIDs that are watched are those of a list, or the usual ones where it is empty.
     pub fn new(alloc: Global, list: &NumberSet) -> Result<Watched, AllocError>
@@ -48,7 +40,7 @@ impl Watched {
             pids: pids_of(alloc, list)?,
             follows: list.is_empty(),
             force: InForce::new(alloc)?,
-            watchers: IndexMap::new(alloc),
+            readers: ByPid::new(alloc),
             alloc,
         })
     }
@@ -61,20 +53,21 @@ impl Watched {
             → tables.items ≡ tables_with (choice_in self.old) met packet.now) }
         ensures choice { choice_in self.new ≡ choice_in self.old }
     {
+        unfollowed_packets_change_nothing::<PidTables>();
         self.force.feed(packet)?;
         let pid = packet.pid();
         if !self.is_watched(pid) {
             return Ok(Vec::new(self.alloc));
         }
-        see_entry(self.alloc, &mut self.watchers, pid)?;
-        let tables = take_on(self.alloc, &mut self.watchers, pid, packet)?;
+        let tables = self.readers.take(self.alloc, &(), (), packet)?;
         Ok(tables)
     }
 
     // Whether the packets of a PID are watched now.
     fn is_watched(&self, pid: u16) -> bool
         requires { pid < PID_COUNT }
-        ensures { (fed : List (List ℕ)) → IsFed self.now.force fed → result ≡ is_watched (choice_in self.now) (pat_of fed) pid }
+        ensures tells { (fed : List (List ℕ)) → IsFed self.now.force fed → result ≡ is_watched (choice_in self.now) pid fed }
+        ensures in_range { result ≡ true → pid < NULL_PID }
     {
         (self.pids.has(pid) || (self.follows && self.force.names(pid))) && pid != NULL_PID
     }
@@ -91,52 +84,4 @@ fn pids_of(alloc: Global, list: &NumberSet) -> Result<PidSet, AllocError>
     let usual = NumberSet::of(Vec::from_slice(alloc, &USUAL_PIDS)?);
     let set = PidSet::of(alloc, &usual)?;
     Ok(set)
-}
-
-// Sees that a PID has its entry.
-fn see_entry(alloc: Global, watchers: &mut Watchers, pid: u16) -> Result<(), AllocError>
-    requires { pid < PID_COUNT }
-    ensures has_entry { OnOk result (HasEntry (get nat_eq watchers.new pid)) }
-    ensures stands { OnOk result ((watched : List (List ℕ)) →
-        EntryStands (get nat_eq watchers.old pid) pid watched → EntryStands (get nat_eq watchers.new pid) pid watched) }
-    ensures others { OnOk result ((other : ℕ) → nat_eq pid other ≡ false → get nat_eq watchers.new other ≡ get nat_eq watchers.old other) }
-{
-    match watchers.get(&pid) {
-        Some(_) => Ok(()),
-        None => fresh_entry(alloc, watchers, pid),
-    }
-}
-
-// Gives a PID its entry.
-fn fresh_entry(alloc: Global, watchers: &mut Watchers, pid: u16) -> Result<(), AllocError>
-    requires pid { pid < PID_COUNT }
-    requires none { get nat_eq watchers.old pid ≡ None }
-    ensures has_entry { OnOk result (HasEntry (get nat_eq watchers.new pid)) }
-    ensures stands { OnOk result ((watched : List (List ℕ)) →
-        EntryStands (get nat_eq watchers.old pid) pid watched → EntryStands (get nat_eq watchers.new pid) pid watched) }
-    ensures others { OnOk result ((other : ℕ) → nat_eq pid other ≡ false → get nat_eq watchers.new other ≡ get nat_eq watchers.old other) }
-{
-    let watcher = Watcher::new(alloc, pid)?;
-    put(watchers, pid, watcher)?;
-    Ok(())
-}
-
-// Takes a packet on a PID that has its entry, and gives the tables that it completes.
-fn take_on(
-    alloc: Global,
-    watchers: &mut Watchers,
-    pid: u16,
-    packet: &Packet,
-) -> Result<Vec<TableRun>, AllocError>
-    requires { HasEntry (get nat_eq watchers.old pid) }
-    ensures stands { OnOk result ((watched : List (List ℕ)) → EntryStands (get nat_eq watchers.old pid) pid watched
-        → EntryStands (get nat_eq watchers.new pid) pid (watched ++ packet.now ∷ [])) }
-    ensures tables { IfOk result (λ tables. (watched : List (List ℕ)) → EntryStands (get nat_eq watchers.old pid) pid watched
-        → tables_on pid (watched ++ packet.now ∷ []) ≡ tables_on pid watched ++ tables.items) }
-    ensures others { OnOk result ((other : ℕ) → nat_eq pid other ≡ false → get nat_eq watchers.new other ≡ get nat_eq watchers.old other) }
-{
-    match watchers.get_mut(&pid) {
-        Some(watcher) => watcher.take(alloc, packet),
-        None => Ok(Vec::new(alloc)),
-    }
 }
