@@ -1,6 +1,7 @@
 pub mod Targets
 pub mod MappedTables
 pub mod PidEdit
+pub mod CompletedTables
 pub mod MapperState
 pub mod RemapRule
 pub mod RemapState

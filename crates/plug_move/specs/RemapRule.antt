@@ -1,15 +1,15 @@
 -- The rule of `remap`. This project's own rule, over the PID of ISO/IEC 13818-1, 2.4.3.2, and over the PIDs that PAT,
 -- CAT and PMT name (2.4.4).
-use Rattle.std.specs.Prelude.{ℕ, List, [], ◌∷◌, ◌++◌, Bool, filter, not, Option, None, Some, is_some, nat_eq, ◌==◌, ◌&&◌, ◌||◌, if◌then◌else◌}
+use Rattle.std.specs.Prelude.{ℕ, List, [], ◌∷◌, ◌++◌, Bool, not, Option, None, Some, is_some, nat_eq, ◌==◌, ◌&&◌, ◌||◌, if◌then◌else◌}
 use Rattle.ts_packet.specs.Cells.{live_packets}
 use Rattle.ts_packet.specs.Header.{pid_of, with_pid}
 use Rattle.ts_packet.specs.declared.numbers.TheConstants.{NULL_PID}
-use Rattle.ts_table_rows.specs.TableValues.{TableHolding}
+use Rattle.ts_demux.specs.TakenWhere.{taken_on}
 use Rattle.chain_model.specs.declared.reason.Reason.TheVariants.{Pid}
 use Rattle.chain_model.specs.PluginRule.{PluginRule, passes, refuses}
 use Rattle.plugin_trait.specs.SilentRule.{silent_rule}
 use Rattle.plug_psi.specs.EditedCycles.{replaced}
-use Rattle.plug_psi.specs.InForce.{names, pat_of, taken_on}
+use Rattle.plug_psi.specs.InForce.{follows}
 use Rattle.plug_move.specs.MappedTables.{change_on}
 use Rattle.plug_move.specs.RemapSettings.{is_target}
 use Rattle.plug_move.specs.Targets.{target_of}
@@ -30,21 +30,16 @@ moved_to (Some target) packet = with_pid packet target
 abbrev pub is_fixed : ℕ → Bool
 is_fixed pid = nat_eq pid 0 || nat_eq pid 1
 
--- the tables on a PID are edited, where this PAT is in force: on a fixed PID, or on one that a service has; never on
--- that of null packets
-abbrev pub is_edited : Option TableHolding → ℕ → Bool
-is_edited pat pid = is_fixed pid || (names pat pid && not (pid == NULL_PID))
-
--- the packets of any PID that the editor of one takes: of a fixed PID all, and else those at whose positions the PAT in
--- force names it by a service
-abbrev pub taken_of : ℕ → List (List ℕ) → List (List ℕ)
-taken_of pid packets =
-    if is_fixed pid then filter (λ packet. nat_eq (pid_of packet) pid) packets else taken_on pid packets
+-- Whether the tables on a PID are edited at the last of some packets of any PID: on a fixed PID, or where a service of the
+-- PAT in force there has it; never on that of null packets. The packets on the PID of which this is so are those that its
+-- editor takes.
+abbrev pub is_edited : ℕ → List (List ℕ) → Bool
+is_edited pid packets = is_fixed pid || follows pid packets
 
 -- what the editor of the PID of a packet puts in its place, behind these packets
 abbrev pub edited : List (ℕ × ℕ) → List (List ℕ) → List ℕ → List ℕ
 edited pairs packets packet =
-    replaced (pid_of packet) (change_on pairs (pid_of packet)) (taken_of (pid_of packet) packets) packet
+    replaced (pid_of packet) (change_on pairs (pid_of packet)) (taken_on is_edited (pid_of packet) packets) packet
 
 -- what was put in, moved; a null packet that was put in stays one
 abbrev pub moved_edited : Option ℕ → List ℕ → List ℕ
@@ -53,7 +48,7 @@ moved_edited target packet = if pid_of packet == NULL_PID then packet else moved
 -- a packet edited and moved, behind these packets; the PAT in force is that of its own position
 abbrev pub with_tables : List (ℕ × ℕ) → List (List ℕ) → List ℕ → List ℕ
 with_tables pairs packets packet =
-    if is_edited (pat_of (packets ++ packet ∷ [])) (pid_of packet)
+    if is_edited (pid_of packet) (packets ++ packet ∷ [])
     then moved_edited (target_of pairs (pid_of packet)) (edited pairs packets packet)
     else moved_to (target_of pairs (pid_of packet)) packet
 

@@ -1,41 +1,46 @@
 //! Tables whose PIDs are mapped, in a running stream.
 
-ghost use Rattle.std.specs.Prelude.{◌≡◌, ℕ, ◌<◌, ◌++◌, ◌∷◌, [], List, None, true, false, IfOk, OnOk, OnErr, IsErr, nat_eq};
+ghost use Rattle.std.specs.Prelude.{◌≡◌, ℕ, ◌<◌, ◌++◌, ◌∷◌, [], List, true, false, IfOk, IfSome, MatchOption, OnOk, OnErr, IsErr};
 ghost use Rattle.std.specs.Option.{ForSome};
 ghost use Rattle.std.specs.List.{All};
-ghost use Rattle.std.specs.Arc.{arc_value};
-ghost use Rattle.indexmap.specs.IndexMap.{get};
 ghost use Rattle.ts_packet.specs.Header.{pid_of};
-ghost use Rattle.ts_packet.specs.declared.numbers.TheConstants.{PID_COUNT, NULL_PID};
-ghost use Rattle.plug_psi.specs.EditedCycles.{replaced};
-ghost use Rattle.plug_psi.specs.ForceStands as force;
-ghost use Rattle.plug_psi.specs.InForce.{pat_of};
-ghost use Rattle.plug_move.specs.MapperState.{EntryStands, HasEntry};
-ghost use Rattle.plug_move.specs.MappedTables.{change_on};
+ghost use Rattle.ts_packet.specs.declared.numbers.TheConstants.{PID_COUNT, NULL_PID as LAST_PID};
+ghost use Rattle.ts_demux.specs.PidTables as reading;
+ghost use Rattle.ts_demux.specs.TablesOn.{packets_on};
+ghost use Rattle.plug_psi.specs.ForceStands as forcing;
+ghost use Rattle.plug_move.specs.CompletedTables.{IsCompleted};
 ghost use Rattle.plug_move.specs.RemapRule.{is_edited, moved_edited, moved_to, with_tables};
 ghost use Rattle.plug_move.specs.RemapSettings.{IsPidPair};
 ghost use Rattle.plug_move.specs.Targets.{target_of};
 
 use crate::move_table::MoveTable;
 use crate::pid_edit::PidsOnTables;
-use indexmap::IndexMap;
 use plug_conf::PairList;
-use plug_psi::{Editor, InForce, put};
+use plug_psi::{ByPid, CycleEditor, Given, InForce, Kept, unfollowed_packets_change_nothing};
 use std::alloc::{AllocError, Global};
 use std::sync::Arc;
+use ts_demux::PidTables;
 use ts_packet::{NULL_PID, PID_COUNT, Packet};
+use ts_section::TableRun;
 
-/// The editors of the PIDs on which packets were edited.
-type Editors = IndexMap<u16, Editor<PidsOnTables>>;
+/// The PIDs of the PAT and of the CAT (ISO/IEC 13818-1, 2.4.3.3).
+const PAT_PID: u16 = 0;
+
+const CAT_PID: u16 = 1;
+
+/// The editor of the tables on a PID, which others read.
+type PidEditor = Given<CycleEditor<PidsOnTables>>;
 
 /// Maps the PIDs in PAT, CAT and PMTs of a stream, and moves its packets.
 ///
-/// It holds the PAT in force, and for each PID with edited tables what its editor holds.
+/// It holds the tables in force, which read PID 0 and the PIDs of PMTs, what reads the CATs, and for each PID with edited
+/// tables what its editor holds.
 #[derive(Drop)]
 pub(crate) struct TableMapper {
     table: Arc<MoveTable>,
     force: InForce,
-    editors: Editors,
+    cats: PidTables,
+    editors: ByPid<PidEditor>,
     failed: bool,
     alloc: Global,
 }
@@ -48,10 +53,15 @@ impl TableMapper {
         requires { All IsPidPair pairs.now }
         ensures { IfOk result (λ mapper. StandsFor pairs.now mapper []) }
     {
+        let table = Arc::new(alloc, MoveTable::of(alloc, pairs, true)?)?;
+        let cats = PidTables::new(alloc, CAT_PID)?;
+        // The largest value comes last: nothing can fail while it is held.
+        let force = InForce::new(alloc)?;
         Ok(TableMapper {
-            table: Arc::new(alloc, MoveTable::of(alloc, pairs, true)?)?,
-            force: InForce::new(alloc)?,
-            editors: IndexMap::new(alloc),
+            table,
+            force,
+            cats,
+            editors: ByPid::new(alloc),
             failed: false,
             alloc,
         })
@@ -95,14 +105,14 @@ impl TableMapper {
         ensures as_it_was { OnErr result (packet.new ≡ packet.old) }
         ensures same_failed { has_failed self.new ≡ has_failed self.old }
     {
-        self.force.feed(packet)?;
-        let pid = packet.pid();
-        if !is_edited(&self.force, pid) {
+        unfollowed_packets_change_nothing::<PidEditor>();
+        let tables = tables_with(self.alloc, &mut self.force, &mut self.cats, packet)?;
+        let Some(tables) = tables else {
             move_to(packet, target);
             return Ok(());
-        }
-        see_editor(self.alloc, &self.table, &mut self.editors, pid)?;
-        step_on(&mut self.editors, pid, packet)?;
+        };
+        let new = self.editors.take(self.alloc, &self.table, tables, packet)?;
+        *packet = new;
         move_edited(packet, target);
         Ok(())
     }
@@ -129,79 +139,35 @@ fn move_edited(packet: &mut Packet, target: Option<u16>)
     move_to(packet, target);
 }
 
-/// Whether the tables on a PID are edited.
-#[inline]
-fn is_edited(tables: &InForce, pid: u16) -> bool
-    requires { pid < PID_COUNT }
-    ensures edited { (met : List (List ℕ)) → force.StandsFor tables.now met → result ≡ is_edited (pat_of met) pid }
-    ensures in_range { result ≡ true → pid < NULL_PID }
+/// The tables that a packet completes on its PID, where these are edited. Each is read once: the PATs and PMTs are those
+/// that the tables in force have read.
+fn tables_with(
+    alloc: Global,
+    force: &mut InForce,
+    cats: &mut PidTables,
+    packet: &Packet,
+) -> Result<Option<Vec<TableRun>>, AllocError>
+    ensures force { OnOk result ((met : List (List ℕ)) → forcing.StandsFor force.old met → forcing.StandsFor force.new (met ++ packet.now ∷ [])) }
+    ensures cats { OnOk result ((met : List (List ℕ)) → reading.StandsFor cats.old 1 (packets_on 1 met)
+        → reading.StandsFor cats.new 1 (packets_on 1 (met ++ packet.now ∷ []))) }
+    ensures tables { IfOk result (λ tables. (met : List (List ℕ)) → forcing.StandsFor force.old met → reading.StandsFor cats.old 1 (packets_on 1 met)
+        → MatchOption tables (is_edited (pid_of packet.now) (met ++ packet.now ∷ []) ≡ false) (λ tables. IsCompleted met packet.now tables.items)) }
+    ensures in_range { IfOk result (λ tables. IfSome tables (λ _. pid_of packet.now < LAST_PID)) }
 {
-    if pid == 0 || pid == 1 {
-        return true;
+    let came = force.follow(packet)?;
+    let pid = packet.pid();
+    if pid == PAT_PID {
+        return Ok(Some(Kept::tables(alloc, came.pats)));
+    }
+    if pid == CAT_PID {
+        let tables = cats.take(packet)?;
+        return Ok(Some(tables));
     }
     if pid == NULL_PID {
-        return false;
+        return Ok(None);
     }
-    tables.names(pid)
-}
-
-/// Sees that a PID has its editor.
-fn see_editor(
-    alloc: Global,
-    table: &Arc<MoveTable>,
-    editors: &mut Editors,
-    pid: u16,
-) -> Result<(), AllocError>
-    requires { pid < NULL_PID }
-    ensures has_entry { OnOk result (HasEntry (get nat_eq editors.new pid)) }
-    ensures stands { OnOk result ((taken : List (List ℕ)) → EntryStands (arc_value table.now).0 (get nat_eq editors.old pid) pid taken
-        → EntryStands (arc_value table.now).0 (get nat_eq editors.new pid) pid taken) }
-    ensures others { OnOk result ((other : ℕ) → nat_eq pid other ≡ false → get nat_eq editors.new other ≡ get nat_eq editors.old other) }
-{
-    match editors.get(&pid) {
-        Some(_) => Ok(()),
-        None => fresh_editor(alloc, table, editors, pid),
+    if force.follows(pid) {
+        return Ok(Some(Kept::tables(alloc, came.pmts)));
     }
-}
-
-/// Gives a PID its editor.
-fn fresh_editor(
-    alloc: Global,
-    table: &Arc<MoveTable>,
-    editors: &mut Editors,
-    pid: u16,
-) -> Result<(), AllocError>
-    requires pid { pid < NULL_PID }
-    requires none { get nat_eq editors.old pid ≡ None }
-    ensures has_entry { OnOk result (HasEntry (get nat_eq editors.new pid)) }
-    ensures stands { OnOk result ((taken : List (List ℕ)) → EntryStands (arc_value table.now).0 (get nat_eq editors.old pid) pid taken
-        → EntryStands (arc_value table.now).0 (get nat_eq editors.new pid) pid taken) }
-    ensures others { OnOk result ((other : ℕ) → nat_eq pid other ≡ false → get nat_eq editors.new other ≡ get nat_eq editors.old other) }
-{
-    let edit = PidsOnTables {
-        table: Arc::try_clone(table)?,
-        pid,
-    };
-    let editor = Editor::new(alloc, pid, edit)?;
-    put(editors, pid, editor)?;
-    Ok(())
-}
-
-/// Puts in the place of a packet what the editor of its PID has for it.
-fn step_on(editors: &mut Editors, pid: u16, packet: &mut Packet) -> Result<(), AllocError>
-    requires { HasEntry (get nat_eq editors.old pid) }
-    ensures replaced { OnOk result ((pairs : List (ℕ × ℕ)) (taken : List (List ℕ)) → EntryStands pairs (get nat_eq editors.old pid) pid taken
-        → packet.new ≡ replaced pid (change_on pairs pid) taken packet.old) }
-    ensures stands { OnOk result ((pairs : List (ℕ × ℕ)) (taken : List (List ℕ)) → EntryStands pairs (get nat_eq editors.old pid) pid taken
-        → EntryStands pairs (get nat_eq editors.new pid) pid (taken ++ packet.old ∷ [])) }
-    ensures as_it_was { OnErr result (packet.new ≡ packet.old) }
-    ensures others { OnOk result ((other : ℕ) → nat_eq pid other ≡ false → get nat_eq editors.new other ≡ get nat_eq editors.old other) }
-{
-    match editors.get_mut(&pid) {
-        Some(editor) => {
-            editor.step(packet)?;
-            Ok(())
-        }
-        None => Ok(()),
-    }
+    Ok(None)
 }

@@ -1,0 +1,45 @@
+use Rattle.std.proofs.Common.{◌≡◌, ◌==◌, false, true, [], ◌∷◌, ◌++◌, sym, ◌∙◌, ap, refl, subst}
+use Rattle.std.proofs.lemmas.Bool.{ne_eqb}
+use Rattle.ts_packet.specs.Header.{pid_of}
+use Rattle.ts_demux.specs.PidTables.{StandsFor}
+use Rattle.ts_demux.specs.TablesOn.{packets_on}
+use Rattle.ts_demux.proofs.TakenLemmas.{on-other, on-own}
+use Rattle.plug_psi.specs.InForce.{follows}
+use Rattle.plug_move.specs.CompletedTables.{IsCompleted}
+use Rattle.plug_move.proofs.MapperLemmas.{fixed-completed, named-completed, not-fixed}
+use Rattle.plug_move.proofs.table_mapper.tables_with.Goals as goal
+
+pub returns-then-pid-eq-PAT_PID-clause-tables : goal.returns-then-pid-eq-PAT_PID-clause-tables
+returns-then-pid-eq-PAT_PID-clause-tables c = λ met f r.
+    let at : pid_of c.args.packet.now ≡ 0 = sym c.pid-pid.ensures.field ∙ c.if-pid-eq-PAT_PID.true in
+    subst (IsCompleted met c.args.packet.now) (sym c.tables.ensures) (fixed-completed 0 met c.args.packet.now _ refl at (c.in_ok-came.ensures.pats met f at))
+
+pub returns-then-pid-eq-CAT_PID-clause-cats : goal.returns-then-pid-eq-CAT_PID-clause-cats
+returns-then-pid-eq-CAT_PID-clause-cats c = λ met r.
+    let at : pid_of c.args.packet.now ≡ 1 = sym c.pid-pid.ensures.field ∙ c.if-pid-eq-CAT_PID.true in
+    subst (StandsFor c.take.new.self 1) (sym (on-own 1 met c.args.packet.now at)) (c.in_ok-tables.ensures.stands 1 (packets_on 1 met) r)
+
+pub returns-then-pid-eq-CAT_PID-clause-tables : goal.returns-then-pid-eq-CAT_PID-clause-tables
+returns-then-pid-eq-CAT_PID-clause-tables c = λ met f r.
+    let at : pid_of c.args.packet.now ≡ 1 = sym c.pid-pid.ensures.field ∙ c.if-pid-eq-CAT_PID.true in
+    fixed-completed 1 met c.args.packet.now c.in_ok-tables.tables.items refl at (c.in_ok-tables.ensures.completes 1 (packets_on 1 met) r)
+
+pub returns-then-follows-clause-cats : goal.returns-then-follows-clause-cats
+returns-then-follows-clause-cats c = λ met r.
+    let other : (pid_of c.args.packet.now == 1) ≡ false = ap (λ n. n == 1) (sym c.pid-pid.ensures.field) ∙ ne_eqb c.pid-pid.result 1 c.if-pid-eq-CAT_PID.false in
+    subst (StandsFor c.args.cats.now 1) (sym (on-other 1 met c.args.packet.now other)) r
+
+pub returns-then-follows-clause-tables : goal.returns-then-follows-clause-tables
+returns-then-follows-clause-tables c = λ met f r.
+    let upto = met ++ c.args.packet.now ∷ [] in
+    let here : follows (pid_of c.args.packet.now) upto ≡ true =
+    ap (λ n. follows n upto) (sym c.pid-pid.ensures.field) ∙ (sym (c.follows.ensures upto (c.in_ok-came.ensures.stands met f)) ∙ c.if-follows.true) in
+    subst (IsCompleted met c.args.packet.now) (sym c.tables-then-follows.ensures)
+    (named-completed met c.args.packet.now _
+    (not-fixed c.pid-pid.result c.args.packet.now c.pid-pid.ensures.field (ne_eqb c.pid-pid.result 0 c.if-pid-eq-PAT_PID.false) (ne_eqb c.pid-pid.result 1 c.if-pid-eq-CAT_PID.false))
+    here (c.in_ok-came.ensures.pmts met f here))
+
+pub returns-clause-cats : goal.returns-clause-cats
+returns-clause-cats c = λ met r.
+    let other : (pid_of c.args.packet.now == 1) ≡ false = ap (λ n. n == 1) (sym c.pid-pid.ensures.field) ∙ ne_eqb c.pid-pid.result 1 c.if-pid-eq-CAT_PID.false in
+    subst (StandsFor c.args.cats.now 1) (sym (on-other 1 met c.args.packet.now other)) r
