@@ -1,4 +1,4 @@
-pub mod TakenLemmas
+pub mod MetLemmas
 pub mod FateLemmas
 pub mod EditLemmas
 pub mod PartLemmas

@@ -1,32 +1,38 @@
 -- When editors stand for the packets that were met.
 -- This project's own rule.
-use Rattle.std.specs.Prelude.{◌≡◌, ℕ, Bool, List, [], Option, Some, None, nat_eq, if◌then◌else◌}
-use Rattle.indexmap.specs.IndexMap.{get}
-use Rattle.plug_psi.specs.declared.editor.Editor.{Editor}
+use Rattle.std.specs.Prelude.{◌≡◌, ℕ, Bool, List, Option, Some, None, if◌then◌else◌}
+use Rattle.ts_demux.specs.TablesOn.{packets_on}
+use Rattle.plug_psi.specs.ByPid.{AllStand}
+use Rattle.plug_psi.specs.CycleStands.{InSeededCycles, edit_of}
+use Rattle.plug_psi.specs.ReadingState.{Reads}
+use Rattle.plug_psi.specs.declared.cycle_editor.CycleEditor.{CycleEditor}
 use Rattle.plug_service.specs.ServiceEdits.{pat_change, sdt_change, pmt_change}
-use Rattle.plug_service.specs.EditorStands.{Edits}
-use Rattle.plug_service.specs.ServiceRule.{packets_on, taken_on}
+use Rattle.plug_service.specs.ServiceRule.{is_edited}
 use Rattle.plug_service.specs.declared.way.Way.{Way}
+use Rattle.plug_service.specs.declared.pat_part.PatPart.{PatPart}
+use Rattle.plug_service.specs.declared.sdt_part.SdtPart.{SdtPart}
 use Rattle.plug_service.specs.declared.pmt_alone.PmtAlone.{PmtAlone}
 use Rattle.plug_service.specs.declared.editors.Editors.{Editors}
 
--- the editor of a PID stands for the packets that were taken on it; without one none was taken
-abbrev pub EntryStands : ℕ → Option (Editor PmtAlone) → ℕ → List (List ℕ) → Type 0
-EntryStands service None pid taken = taken ≡ []
-EntryStands service (Some editor) pid taken = Edits (record { service = service }) (pmt_change service) editor pid taken
+-- an editor of PATs, of SDTs, or of PMTs edits by this way and this service, and stands for the packets that it took
+abbrev pub EditsPats : Way → ℕ → CycleEditor PatPart → ℕ → List (List ℕ) → Type 0
+EditsPats way service editor pid taken =
+    InSeededCycles (pat_change (edit_of editor).way (edit_of editor).service) (pat_change way service) editor pid taken
+
+abbrev pub EditsSdts : Way → ℕ → CycleEditor SdtPart → ℕ → List (List ℕ) → Type 0
+EditsSdts way service editor pid taken =
+    InSeededCycles (sdt_change (edit_of editor).way (edit_of editor).service) (sdt_change way service) editor pid taken
+
+abbrev pub EditsPmts : ℕ → CycleEditor PmtAlone → ℕ → List (List ℕ) → Type 0
+EditsPmts service editor pid taken = InSeededCycles (pmt_change (edit_of editor).service) (pmt_change service) editor pid taken
 
 -- the packet that is left in the place of one, where one passes
 abbrev pub left_by : Bool → List ℕ → Option (List ℕ)
 left_by passes packet = if passes then Some packet else None
 
--- a PID has its editor
-abbrev pub HasEntry : Option (Editor PmtAlone) → Type 0
-HasEntry None = ⊥
-HasEntry (Some editor) = Unit {0}
-
 -- the editors stand for the packets that were met
 pub record EditorsStand (way : Way) (service : ℕ) (editors : Editors) (met : List (List ℕ)) : Type 0 where
-  pub same_service : editors.pmts.service ≡ service
-  pub pats : Edits (record { way = way; service = service }) (pat_change way service) editors.pat 0 (packets_on 0 met)
-  pub sdts : Edits (record { way = way; service = service }) (sdt_change way service) editors.sdt 17 (packets_on 17 met)
-  pub pmts : (pid : ℕ) → EntryStands service (get nat_eq editors.pmts.editors pid) pid (taken_on way service pid met)
+  pub same_service : editors.alone.service ≡ service
+  pub pats : EditsPats way service editors.pat 0 (packets_on 0 met)
+  pub sdts : Reads (EditsSdts way service) editors.sdt 17 (packets_on 17 met)
+  pub pmts : AllStand (Reads (EditsPmts editors.alone.service)) editors.pmts (is_edited way service) met

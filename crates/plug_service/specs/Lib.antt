@@ -4,7 +4,6 @@ pub mod Fates
 pub mod ServiceEdits
 pub mod ServiceRule
 pub mod FatesState
-pub mod EditorStands
 pub mod EditorsState
 pub mod ServiceState
 pub mod ServiceSettings

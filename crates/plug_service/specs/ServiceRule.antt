@@ -1,9 +1,11 @@
 -- The rules of `zap` and `svremove`.
 -- This project's own rule, over the cycles of edited contents. What becomes of a packet goes by the PAT and the PMTs that
 -- are in force at its position, the position included.
-use Rattle.std.specs.Prelude.{ℕ, ◌==◌, ◌&&◌, Bool, List, [], ◌∷◌, ◌++◌, filter, Option, Some, None, if◌then◌else◌}
+use Rattle.std.specs.Prelude.{ℕ, Bool, List, [], ◌∷◌, ◌++◌, Option, Some, None}
 use Rattle.ts_packet.specs.Cells.{live_packets}
 use Rattle.ts_packet.specs.Header.{pid_of}
+use Rattle.ts_demux.specs.TablesOn.{packets_on}
+use Rattle.ts_demux.specs.TakenWhere.{taken_on}
 use Rattle.chain_model.specs.PluginRule.{PluginRule}
 use Rattle.plugin_trait.specs.Fates.{fate}
 use Rattle.plugin_trait.specs.SilentRule.{silent_rule}
@@ -16,33 +18,18 @@ use Rattle.plug_service.specs.declared.fate.Fate.{Fate}
 use Rattle.plug_service.specs.declared.fate.Fate.TheVariants.{EditPat, EditSdt, EditPmt, Pass, Drop}
 use Rattle.plug_service.specs.declared.service_conf.ServiceConf.{ServiceConf}
 
--- the packets on a PID, all of which are taken on PID 0 and PID 17
-unfoldable pub packets_on : ℕ → List (List ℕ) → List (List ℕ)
-packets_on pid packets = filter (λ packet. pid_of packet == pid) packets
-
--- whether a packet behind others, itself among them, is taken on a PID by the edit of PMTs
-abbrev pub is_taken : Way → ℕ → ℕ → List (List ℕ) → List ℕ → Bool
-is_taken way service pid upto packet = (pid_of packet == pid) && edits_pmt (fate_after way service upto pid)
-
--- the packets that the edit of PMTs takes on a PID behind others
-unfoldable pub taken_behind : Way → ℕ → ℕ → List (List ℕ) → List (List ℕ) → List (List ℕ)
-taken_behind way service pid before [] = []
-taken_behind way service pid before (packet ∷ packets) =
-    let upto = before ++ packet ∷ [] in
-    let others = taken_behind way service pid upto packets in
-    if is_taken way service pid upto packet then packet ∷ others else others
-
--- The packets of any PID that the edit of PMTs takes on one: those of the PID at whose positions the service that is kept
--- has its PMT there. On PID 0, PID 17 and PID 8191 there are none.
-abbrev pub taken_on : Way → ℕ → ℕ → List (List ℕ) → List (List ℕ)
-taken_on way service pid packets = taken_behind way service pid [] packets
+-- Whether the packets of a PID are edited as those of the service's PMT at the last of some packets of any PID: the service
+-- that is kept has its PMT there. The packets on the PID of which this is so are those that the edit of PMTs takes. On PID 0
+-- and PID 17 all packets are taken, and on PID 8191 none.
+abbrev pub is_edited : Way → ℕ → ℕ → List (List ℕ) → Bool
+is_edited way service pid packets = edits_pmt (fate_after way service packets pid)
 
 -- the packet in the place of one, by what becomes of it, behind the packets before; none where it does not pass
 abbrev pub made_by : Way → ℕ → Fate → List (List ℕ) → List ℕ → Option (List ℕ)
 made_by way service EditPat before packet = Some (replaced 0 (pat_change way service) (packets_on 0 before) packet)
 made_by way service EditSdt before packet = Some (replaced 17 (sdt_change way service) (packets_on 17 before) packet)
 made_by way service EditPmt before packet =
-    Some (replaced (pid_of packet) (pmt_change service) (taken_on way service (pid_of packet) before) packet)
+    Some (replaced (pid_of packet) (pmt_change service) (taken_on (is_edited way service) (pid_of packet) before) packet)
 made_by way service Pass before packet = Some packet
 made_by way service Drop before packet = None
 

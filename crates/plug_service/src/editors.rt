@@ -1,7 +1,9 @@
 //! The editors of all PIDs.
 
 ghost use Rattle.std.specs.Prelude.{◌≡◌, ℕ, ◌++◌, ◌∷◌, [], List, IfOk, OnOk, OnErr};
+ghost use Rattle.ts_demux.specs.TablesOn.{Completes, packets_on};
 ghost use Rattle.ts_packet.specs.Header.{pid_of};
+ghost use Rattle.plug_psi.specs.KeptTables.{tables_in};
 ghost use Rattle.plug_service.specs.Fates.{fate_after};
 ghost use Rattle.plug_service.specs.FatesState.{IsEditable};
 ghost use Rattle.plug_service.specs.ServiceRule.{made_by};
@@ -10,20 +12,26 @@ ghost use Rattle.plug_service.specs.EditorsState.{left_by};
 use crate::fate::Fate;
 use crate::limits::{PAT_PID, SDT_PID};
 use crate::pat_part::PatPart;
-use crate::pmt_editors::PmtEditors;
+use crate::pmt_alone::PmtAlone;
 use crate::sdt_part::SdtPart;
-use crate::step_editor::step_editor;
 use crate::way::Way;
-use plug_psi::{Editor, both};
+use plug_psi::{
+    ByPid, CycleEditor, Follows, FollowsTables, Kept, Reading, unfollowed_packets_change_nothing,
+};
 use std::alloc::{AllocError, Global};
 use ts_packet::Packet;
 
-/// The editors of PID 0, of PID 17 and of the PIDs that the service's PMT had.
+/// What reads and edits the tables of a PID that the service's PMT had.
+type PmtEditor = Reading<CycleEditor<PmtAlone>>;
+
+/// The editors of PID 0, whose tables the PATs in force have read, of PID 17 and of the PIDs that the service's PMT had.
 #[derive(Drop)]
 pub(crate) struct Editors {
-    pub(crate) pat: Editor<PatPart>,
-    pub(crate) sdt: Editor<SdtPart>,
-    pub(crate) pmts: PmtEditors,
+    pub(crate) pat: CycleEditor<PatPart>,
+    pub(crate) sdt: Reading<CycleEditor<SdtPart>>,
+    pub(crate) pmts: ByPid<PmtEditor>,
+    /// The edit of each of those PIDs.
+    pub(crate) alone: PmtAlone,
 }
 
 impl Editors {
@@ -33,13 +41,16 @@ impl Editors {
     pub(crate) fn new(alloc: Global, way: Way, service: u16) -> Result<Editors, AllocError>
         ensures { IfOk result (λ editors. EditorsStand way service editors []) }
     {
-        let pat = Editor::new(alloc, PAT_PID, PatPart { way, service })?;
-        let sdt = Editor::new(alloc, SDT_PID, SdtPart { way, service });
-        let (pat, sdt) = both(pat, sdt)?;
+        let pats = PatPart { way, service };
+        let sdts = SdtPart { way, service };
+        let pat = CycleEditor::fresh(alloc, &pats, PAT_PID)?;
+        // The largest value comes last: nothing can fail while it is held.
+        let sdt = Reading::fresh(alloc, &sdts, SDT_PID)?;
         Ok(Editors {
             pat,
             sdt,
-            pmts: PmtEditors::new(alloc, service),
+            pmts: ByPid::new(alloc),
+            alone: PmtAlone { service },
         })
     }
 
@@ -50,27 +61,36 @@ impl Editors {
         &mut self,
         alloc: Global,
         fate: Fate,
+        pats: Option<Kept>,
         packet: &mut Packet,
     ) -> Result<bool, AllocError>
         requires { IsEditable fate (pid_of packet.old) }
         ensures made { IfOk result (λ passes. (way : Way) (service : ℕ) (met : List (List ℕ)) → EditorsStand way service self.old met
+            → fate ≡ fate_after way service (met ++ packet.old ∷ []) (pid_of packet.old)
+            → (pid_of packet.old ≡ 0 → Completes 0 (packets_on 0 met) packet.old (tables_in pats))
             → left_by passes packet.new ≡ made_by way service fate met packet.old) }
         ensures stands { OnOk result ((way : Way) (service : ℕ) (met : List (List ℕ)) → EditorsStand way service self.old met
             → fate ≡ fate_after way service (met ++ packet.old ∷ []) (pid_of packet.old)
+            → (pid_of packet.old ≡ 0 → Completes 0 (packets_on 0 met) packet.old (tables_in pats))
             → EditorsStand way service self.new (met ++ packet.old ∷ [])) }
         ensures as_it_was { OnErr result (packet.new ≡ packet.old) }
     {
+        unfollowed_packets_change_nothing::<PmtEditor>();
         match fate {
             Fate::EditPat => {
-                step_editor(&mut self.pat, packet)?;
+                let tables = Kept::tables(alloc, pats);
+                let pat = self.pat.take(alloc, tables, packet)?;
+                *packet = pat;
                 Ok(true)
             }
             Fate::EditSdt => {
-                step_editor(&mut self.sdt, packet)?;
+                let sdt = self.sdt.take(alloc, (), packet)?;
+                *packet = sdt;
                 Ok(true)
             }
             Fate::EditPmt => {
-                self.pmts.edit(alloc, packet.pid(), packet)?;
+                let pmt = self.pmts.take(alloc, &self.alone, (), packet)?;
+                *packet = pmt;
                 Ok(true)
             }
             Fate::Pass => Ok(true),

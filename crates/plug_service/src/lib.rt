@@ -6,16 +6,15 @@
 mod editors;
 mod fate;
 mod limits;
+mod met;
 mod one_service;
 mod pat_part;
 mod pid_fates;
 mod pmt_alone;
-mod pmt_editors;
 mod sdt_part;
 mod service_conf;
 mod service_words;
 mod services;
-mod step_editor;
 mod svremove;
 mod watch;
 mod way;

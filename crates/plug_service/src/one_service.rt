@@ -125,8 +125,8 @@ impl OneService {
         ensures stuffing { self.new.stuffing ≡ self.old.stuffing }
         ensures failed { self.new.failed ≡ self.old.failed }
     {
-        let fate = self.watch.meet(self.alloc, packet)?;
-        let passes = self.editors.edit(self.alloc, fate, packet)?;
+        let met = self.watch.meet(self.alloc, packet)?;
+        let passes = self.editors.edit(self.alloc, met.fate, met.pats, packet)?;
         Ok(passes)
     }
 }

@@ -6,7 +6,7 @@ ghost use Rattle.plug_service.specs.ServiceEdits.{entry_stays, with_items};
 
 use crate::services::stays;
 use crate::way::Way;
-use plug_psi::{Edited, TableEdit, sections_or_same, table_or_none};
+use plug_psi::{Edited, SeededEdit, TableEdit, sections_or_same, table_or_none};
 use std::alloc::{AllocError, Global};
 use ts_psi::{Pat, PatService, PatServiceList};
 use ts_section::TableRun;
@@ -32,6 +32,21 @@ impl TableEdit for PatPart {
         }
         let edited = part_of_pat(self.way, self.service, pat);
         sections_or_same(edited.sections(alloc))
+    }
+}
+
+impl SeededEdit for PatPart {
+    ghost use Rattle.plug_service.specs.ServiceEdits.{pat_change};
+
+    type Seed = PatPart;
+
+    ghost change_on = { λ seed pid run. pat_change seed.way seed.service run };
+
+    fn on(_alloc: Global, seed: &PatPart, _pid: u16) -> Result<PatPart, AllocError> {
+        Ok(PatPart {
+            way: seed.way,
+            service: seed.service,
+        })
     }
 }
 

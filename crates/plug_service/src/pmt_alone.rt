@@ -1,6 +1,6 @@
 //! The edit of the PID of a PMT where its service is kept (ISO/IEC 13818-1, 2.4.4.8).
 
-use plug_psi::{Edited, TableEdit, table_or_none};
+use plug_psi::{Edited, SeededEdit, TableEdit, table_or_none};
 use std::alloc::{AllocError, Global};
 use ts_psi::Pmt;
 use ts_section::TableRun;
@@ -27,5 +27,19 @@ impl TableEdit for PmtAlone {
             return Ok(Edited::away());
         }
         Ok(Edited::same())
+    }
+}
+
+impl SeededEdit for PmtAlone {
+    ghost use Rattle.plug_service.specs.ServiceEdits.{pmt_change};
+
+    type Seed = PmtAlone;
+
+    ghost change_on = { λ seed pid run. pmt_change seed.service run };
+
+    fn on(_alloc: Global, seed: &PmtAlone, _pid: u16) -> Result<PmtAlone, AllocError> {
+        Ok(PmtAlone {
+            service: seed.service,
+        })
     }
 }

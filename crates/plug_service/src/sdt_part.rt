@@ -7,7 +7,7 @@ ghost use Rattle.plug_service.specs.ServiceEdits.{edited_sdt, service_stays, wit
 
 use crate::services::stays;
 use crate::way::Way;
-use plug_psi::{Edited, TableEdit, sections_or_same, table_or_none};
+use plug_psi::{Edited, SeededEdit, TableEdit, sections_or_same, table_or_none};
 use std::alloc::{AllocError, Global};
 use ts_section::TableRun;
 use ts_si::{Sdt, SdtService, SdtServiceList};
@@ -30,6 +30,21 @@ impl TableEdit for SdtPart {
             return Ok(Edited::away());
         }
         edit_sdt(alloc, self.way, self.service, run)
+    }
+}
+
+impl SeededEdit for SdtPart {
+    ghost use Rattle.plug_service.specs.ServiceEdits.{sdt_change};
+
+    type Seed = SdtPart;
+
+    ghost change_on = { λ seed pid run. sdt_change seed.way seed.service run };
+
+    fn on(_alloc: Global, seed: &SdtPart, _pid: u16) -> Result<SdtPart, AllocError> {
+        Ok(SdtPart {
+            way: seed.way,
+            service: seed.service,
+        })
     }
 }
 

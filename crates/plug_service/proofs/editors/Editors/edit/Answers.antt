@@ -1,42 +1,44 @@
-use Rattle.std.proofs.Common.{refl, sym, ◌∙◌, ap, Some}
-use Rattle.std.specs.Prelude.{nat_eq}
-use Rattle.ts_packet.specs.Header.{pid_of}
-use Rattle.plug_service.specs.ServiceRule.{made_by, packets_on, taken_on}
+use Rattle.std.proofs.Common.{refl, sym, ◌∙◌, ap, Some, subst}
+use Rattle.ts_demux.specs.TablesOn.{Completes, packets_on}
+use Rattle.plug_service.specs.Fates.{edits_pmt}
+use Rattle.plug_service.specs.ServiceRule.{is_edited, made_by}
 use Rattle.plug_service.specs.declared.fate.Fate.TheVariants.{EditPat, EditSdt, EditPmt, Pass, Drop}
-use Rattle.plug_service.proofs.EditLemmas.{editors-next, entry-next}
+use Rattle.plug_service.proofs.EditLemmas.{editors-next, on_zero}
 use Rattle.plug_service.proofs.editors.Editors.edit.Goals as goal
 
-pub returns-in_ok-step_editor-in-EditPat-clause-made : goal.returns-in_ok-step_editor-in-EditPat-clause-made
-returns-in_ok-step_editor-in-EditPat-clause-made c = λ way service met h.
-    ap Some (c.in_ok-step_editor-in-EditPat.ensures.made _ 0 (packets_on 0 met) h.pats) ∙ ap (λ f. made_by way service f met c.args.packet.now) (sym c.in-EditPat.is)
+pub returns-in_ok-pat-in-EditPat-clause-made : goal.returns-in_ok-pat-in-EditPat-clause-made
+returns-in_ok-pat-in-EditPat-clause-made c = λ way service met h e completes.
+    let given = subst (Completes 0 (packets_on 0 met) c.args.packet.now) (sym c.tables-tables.ensures) (completes (on_zero way service met c.args.packet.now (sym c.in-EditPat.is ∙ e))) in
+    ap Some (c.in_ok-pat-in-EditPat.ensures.tells (record { way = way; service = service }) 0 (packets_on 0 met) h.pats given) ∙ ap (λ f. made_by way service f met c.args.packet.now) (sym c.in-EditPat.is)
 
-pub returns-in_ok-step_editor-in-EditSdt-clause-made : goal.returns-in_ok-step_editor-in-EditSdt-clause-made
-returns-in_ok-step_editor-in-EditSdt-clause-made c = λ way service met h.
-    ap Some (c.in_ok-step_editor-in-EditSdt.ensures.made _ 17 (packets_on 17 met) h.sdts) ∙ ap (λ f. made_by way service f met c.args.packet.now) (sym c.in-EditSdt.is)
-
-pub returns-in_ok-step_editor-in-EditPat-clause-stands : goal.returns-in_ok-step_editor-in-EditPat-clause-stands
-returns-in_ok-step_editor-in-EditPat-clause-stands c = λ way service met h e.
+pub returns-in_ok-pat-in-EditPat-clause-stands : goal.returns-in_ok-pat-in-EditPat-clause-stands
+returns-in_ok-pat-in-EditPat-clause-stands c = λ way service met h e completes.
+    let given = subst (Completes 0 (packets_on 0 met) c.args.packet.now) (sym c.tables-tables.ensures) (completes (on_zero way service met c.args.packet.now (sym c.in-EditPat.is ∙ e))) in
     editors-next way service c.args.self.now _ met c.args.packet.now EditPat (sym c.in-EditPat.is ∙ e) h refl
-    (c.in_ok-step_editor-in-EditPat.ensures.stands _ 0 (packets_on 0 met) h.pats) h.sdts (h.pmts (pid_of c.args.packet.now)) (λ other o. refl)
+    (c.in_ok-pat-in-EditPat.ensures.stands (record { way = way; service = service }) 0 (packets_on 0 met) h.pats given) h.sdts
+    (c.unfollowed_packets_change_nothing.ensures c.args.self.now.alone c.args.self.now.pmts (is_edited way service) met c.args.packet.now h.pmts (sym (ap edits_pmt (sym c.in-EditPat.is ∙ e))))
 
-pub returns-in_ok-step_editor-in-EditSdt-clause-stands : goal.returns-in_ok-step_editor-in-EditSdt-clause-stands
-returns-in_ok-step_editor-in-EditSdt-clause-stands c = λ way service met h e.
+pub returns-in_ok-sdt-in-EditSdt-clause-made : goal.returns-in_ok-sdt-in-EditSdt-clause-made
+returns-in_ok-sdt-in-EditSdt-clause-made c = λ way service met h e completes.
+    ap Some (c.in_ok-sdt-in-EditSdt.ensures.tells (record { way = way; service = service }) 17 (packets_on 17 met) h.sdts tt) ∙ ap (λ f. made_by way service f met c.args.packet.now) (sym c.in-EditSdt.is)
+
+pub returns-in_ok-sdt-in-EditSdt-clause-stands : goal.returns-in_ok-sdt-in-EditSdt-clause-stands
+returns-in_ok-sdt-in-EditSdt-clause-stands c = λ way service met h e completes.
     editors-next way service c.args.self.now _ met c.args.packet.now EditSdt (sym c.in-EditSdt.is ∙ e) h refl
-    h.pats (c.in_ok-step_editor-in-EditSdt.ensures.stands _ 17 (packets_on 17 met) h.sdts) (h.pmts (pid_of c.args.packet.now)) (λ other o. refl)
+    h.pats (c.in_ok-sdt-in-EditSdt.ensures.stands (record { way = way; service = service }) 17 (packets_on 17 met) h.sdts tt)
+    (c.unfollowed_packets_change_nothing.ensures c.args.self.now.alone c.args.self.now.pmts (is_edited way service) met c.args.packet.now h.pmts (sym (ap edits_pmt (sym c.in-EditSdt.is ∙ e))))
 
-pub returns-in_ok-edit-in-EditPmt-clause-stands : goal.returns-in_ok-edit-in-EditPmt-clause-stands
-returns-in_ok-edit-in-EditPmt-clause-stands c = λ way service met h e.
-    editors-next way service c.args.self.now _ met c.args.packet.now EditPmt (sym c.in-EditPmt.is ∙ e) h c.in_ok-edit-in-EditPmt.ensures.service h.pats h.sdts
-    (entry-next c.args.self.now.pmts c.edit.new.self service _ (pid_of c.args.packet.now) c.pid.result (taken_on way service (pid_of c.args.packet.now) met) _ h.same_service c.pid.ensures.field
-    (c.in_ok-edit-in-EditPmt.ensures.stands (taken_on way service (pid_of c.args.packet.now) met)) (h.pmts (pid_of c.args.packet.now)))
-    (λ other o. c.in_ok-edit-in-EditPmt.ensures.others other (ap (λ n. nat_eq n other) c.pid.ensures.field ∙ o))
+pub returns-in_ok-pmt-in-EditPmt-clause-stands : goal.returns-in_ok-pmt-in-EditPmt-clause-stands
+returns-in_ok-pmt-in-EditPmt-clause-stands c = λ way service met h e completes.
+    editors-next way service c.args.self.now _ met c.args.packet.now EditPmt (sym c.in-EditPmt.is ∙ e) h refl h.pats h.sdts
+    (c.in_ok-pmt-in-EditPmt.ensures.stands (is_edited way service) met h.pmts (sym (ap edits_pmt (sym c.in-EditPmt.is ∙ e))) tt)
 
 pub returns-in-Pass-clause-stands : goal.returns-in-Pass-clause-stands
-returns-in-Pass-clause-stands c = λ way service met h e.
-    editors-next way service c.args.self.now c.args.self.now met c.args.packet.now Pass (sym c.in-Pass.is ∙ e) h refl
-    h.pats h.sdts (h.pmts (pid_of c.args.packet.now)) (λ other o. refl)
+returns-in-Pass-clause-stands c = λ way service met h e completes.
+    editors-next way service c.args.self.now c.args.self.now met c.args.packet.now Pass (sym c.in-Pass.is ∙ e) h refl h.pats h.sdts
+    (c.unfollowed_packets_change_nothing.ensures c.args.self.now.alone c.args.self.now.pmts (is_edited way service) met c.args.packet.now h.pmts (sym (ap edits_pmt (sym c.in-Pass.is ∙ e))))
 
 pub returns-in-Drop-clause-stands : goal.returns-in-Drop-clause-stands
-returns-in-Drop-clause-stands c = λ way service met h e.
-    editors-next way service c.args.self.now c.args.self.now met c.args.packet.now Drop (sym c.in-Drop.is ∙ e) h refl
-    h.pats h.sdts (h.pmts (pid_of c.args.packet.now)) (λ other o. refl)
+returns-in-Drop-clause-stands c = λ way service met h e completes.
+    editors-next way service c.args.self.now c.args.self.now met c.args.packet.now Drop (sym c.in-Drop.is ∙ e) h refl h.pats h.sdts
+    (c.unfollowed_packets_change_nothing.ensures c.args.self.now.alone c.args.self.now.pmts (is_edited way service) met c.args.packet.now h.pmts (sym (ap edits_pmt (sym c.in-Drop.is ∙ e))))
