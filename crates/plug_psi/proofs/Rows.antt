@@ -1,5 +1,5 @@
 -- Worked rows, computed on the definitions.
-use Rattle.std.proofs.Common.{◌≡◌, ℕ, ◌==◌, List, [], ◌∷◌, map, None, Some, true, false, refl}
+use Rattle.std.proofs.Common.{◌≡◌, ℕ, ◌==◌, List, [], ◌∷◌, length, map, None, Some, true, false, refl, nat_lt}
 use Rattle.std.specs.Prelude.{Option, if◌then◌else◌}
 use Rattle.bit_rows.specs.BitRow.{bit_of, field}
 use Rattle.ts_bits.specs.TaggedBody.{TaggedBody}
@@ -12,10 +12,13 @@ use Rattle.ts_table_rows.specs.BodyReading as table_reading
 use Rattle.ts_table_rows.specs.BodyReading.{read_body, read_fields, read_heading, read_last_loop, read_loop}
 use Rattle.ts_table_rows.specs.RunReading.{read_run, read_section, read_sections}
 use Rattle.ts_table_rows.specs.TableValues.{TableHolding}
+use Rattle.ts_demux.specs.TakenWhere.{taken_behind, taken_where}
 use Rattle.plug_psi.specs.CatInForce.{current_cat}
+use Rattle.plug_psi.specs.Contents.{entries_of}
+use Rattle.plug_psi.specs.InForce.{current_pat, current_pmt, services_in}
 use Rattle.plug_psi.specs.LastFound.{last_found}
 use Rattle.plug_psi.specs.Referred.{is_fixed, named_pids}
-use Rattle.plug_psi.specs.ServicePids.{pids_in}
+use Rattle.plug_psi.specs.ServicePids.{pids_in, pids_of}
 use Rattle.plug_psi.proofs.RowTables.{item_of, table_of}
 
 -- 18 00 E1 2C names the system 6144 and the PID 300
@@ -88,3 +91,38 @@ cat-rows = refl
 last-row : last_found current_cat (cat_run ∷ next_run ∷ pmt_run ∷ []) ≡ cat_in_run
 unfolding last_found read_run read_sections read_section read_body read_heading read_fields read_loop read_last_loop table_reading.read_behind descriptors_from bits number_of read_number read_bytes read_rest field bit_of
 last-row = refl
+
+-- a packet is taken where more than one stands up to it: all but the first
+taken-row : taken_where {X = ℕ} (λ upto x. nat_lt 1 (length upto)) (5 ∷ 6 ∷ 7 ∷ []) ≡ 6 ∷ 7 ∷ []
+unfolding taken_behind
+taken-row = refl
+
+-- it is asked with all up to it, those too that were not taken
+taken-behind-row : taken_behind {X = ℕ} (λ upto x. nat_lt (length upto) 3) (1 ∷ []) (5 ∷ 6 ∷ []) ≡ 5 ∷ []
+unfolding taken_behind
+taken-behind-row = refl
+
+-- a PAT of version 4 with service 1 on PID 4096, and one that takes its place
+abbrev pat_run : List (List ℕ)
+pat_run = (0x00 ∷ 0xB0 ∷ 0x0D ∷ 0x00 ∷ 0x05 ∷ 0xC9 ∷ 0x00 ∷ 0x00 ∷ 0x00 ∷ 0x01 ∷ 0xF0 ∷ 0x00 ∷ 0x72 ∷ 0xA9 ∷ 0x5C ∷ 0xD9 ∷ []) ∷ []
+
+abbrev pat_run_2 : List (List ℕ)
+pat_run_2 = (0x00 ∷ 0xB0 ∷ 0x0D ∷ 0x00 ∷ 0x05 ∷ 0xCB ∷ 0x00 ∷ 0x00 ∷ 0x00 ∷ 0x01 ∷ 0xF0 ∷ 0x01 ∷ 0x72 ∷ 0xA9 ∷ 0x5C ∷ 0xD9 ∷ []) ∷ []
+
+-- the PAT that takes the place of another stands where that stood, and the next CAT beside the current one
+contents-row : map (λ entry. entry.1) (entries_of (pat_run ∷ cat_run ∷ next_run ∷ pat_run_2 ∷ [])) ≡ pat_run_2 ∷ cat_run ∷ next_run ∷ []
+unfolding entries_of field bit_of
+contents-row = refl
+
+-- of tables none of which is a current PAT none is in force; of two the last one is
+pat-in-force : map (λ pat. services_in pat) (last_found current_pat (cat_run ∷ []) ∷ last_found current_pat (pat_run ∷ pat_run_2 ∷ cat_run ∷ []) ∷ []) ≡ [] ∷ ((1, 4097) ∷ []) ∷ []
+unfolding last_found read_run read_sections read_section read_body read_heading read_fields read_loop read_last_loop table_reading.read_behind descriptors_from bits number_of read_number read_bytes read_rest field bit_of read_field table_reading.read_items table_reading.read_next table_reading.read_item table_reading.read_described
+pat-in-force = refl
+
+-- a current PMT of service 1 without components, which is none of service 2
+abbrev pmt_of_1 : List (List ℕ)
+pmt_of_1 = (0x02 ∷ 0xB0 ∷ 0x0D ∷ 0x00 ∷ 0x01 ∷ 0xC1 ∷ 0x00 ∷ 0x00 ∷ 0xE1 ∷ 0x00 ∷ 0xF0 ∷ 0x00 ∷ 0x72 ∷ 0xA9 ∷ 0x5C ∷ 0xD9 ∷ []) ∷ []
+
+pmt-in-force : map (λ service. pids_of (current_pmt service pmt_of_1)) (1 ∷ 2 ∷ []) ≡ (256 ∷ []) ∷ [] ∷ []
+unfolding read_run read_sections read_section read_body read_heading read_fields read_loop read_last_loop table_reading.read_behind descriptors_from bits number_of read_number read_bytes read_rest field bit_of read_field table_reading.read_counted_loop table_reading.read_counted table_reading.read_items
+pmt-in-force = refl
