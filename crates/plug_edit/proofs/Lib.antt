@@ -3,3 +3,4 @@ pub mod PatLemmas
 pub mod CatLemmas
 pub mod Taking
 pub mod WordsLemmas
+mod Rows
