@@ -16,7 +16,7 @@ ghost use Rattle.plug_move.specs.Targets.{target_of};
 use crate::move_table::MoveTable;
 use crate::pid_edit::PidsOnTables;
 use plug_conf::PairList;
-use plug_psi::{ByPid, CycleEditor, Given, InForce, Kept, unfollowed_packets_change_nothing};
+use plug_psi::{ByPid, CycleEditor, Given, InForce, unfollowed_packets_change_nothing};
 use std::alloc::{AllocError, Global};
 use std::sync::Arc;
 use ts_demux::PidTables;
@@ -106,7 +106,7 @@ impl TableMapper {
         ensures same_failed { has_failed self.new ≡ has_failed self.old }
     {
         unfollowed_packets_change_nothing::<PidEditor>();
-        let tables = tables_with(self.alloc, &mut self.force, &mut self.cats, packet)?;
+        let tables = tables_with(&mut self.force, &mut self.cats, packet)?;
         let Some(tables) = tables else {
             move_to(packet, target);
             return Ok(());
@@ -142,7 +142,6 @@ fn move_edited(packet: &mut Packet, target: Option<u16>)
 /// The tables that a packet completes on its PID, where these are edited. Each is read once: the PATs and PMTs are those
 /// that the tables in force have read.
 fn tables_with(
-    alloc: Global,
     force: &mut InForce,
     cats: &mut PidTables,
     packet: &Packet,
@@ -154,10 +153,10 @@ fn tables_with(
         → MatchOption tables (is_edited (pid_of packet.now) (met ++ packet.now ∷ []) ≡ false) (λ tables. IsCompleted met packet.now tables.items)) }
     ensures in_range { IfOk result (λ tables. IfSome tables (λ _. pid_of packet.now < LAST_PID)) }
 {
-    let came = force.follow(packet)?;
+    force.update(packet)?;
     let pid = packet.pid();
     if pid == PAT_PID {
-        return Ok(Some(Kept::tables(alloc, came.pats)));
+        return Ok(Some(force.take_pats()));
     }
     if pid == CAT_PID {
         let tables = cats.take(packet)?;
@@ -167,7 +166,7 @@ fn tables_with(
         return Ok(None);
     }
     if force.follows(pid) {
-        return Ok(Some(Kept::tables(alloc, came.pmts)));
+        return Ok(Some(force.take_pmts()));
     }
     Ok(None)
 }

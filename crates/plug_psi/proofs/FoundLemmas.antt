@@ -44,6 +44,11 @@ pub found-same : {X : Type 0} (found : List (List ℕ) → Option X) (pid : ℕ)
 found-same found pid met p None other none = found-as found pid met p (packets_on pid met) (on-other pid met p other) refl
 found-same found pid met p (Some kept) (at, tells) none = found-as found pid met p (packets_on pid met ++ p ∷ []) (on-own pid met p at) (tells.same none)
 
+-- where nothing is told of a packet, it is not on the PID
+pub not-told : {X : Type 0} (pid : ℕ) (p : List ℕ) (tells : X → Type 0) (told : Option X) → told ≡ None → TellsOn pid p tells told → pid_of p ≡ pid → ⊥
+not-told pid p tells None none other at = eqb-false (pid_of p) pid other at
+not-told pid p tells (Some x) none t at = cc
+
 -- of a packet on the PID the tables are handed on
 pub found-completes : {X : Type 0} (found : List (List ℕ) → Option X) (pid : ℕ) (met : List (List ℕ)) (p : List ℕ) (told : Option Kept) →
     TellsOn pid p (TellsFound found pid (packets_on pid met) p) told → pid_of p ≡ pid → Completes pid (packets_on pid met) p (tables_in told)

@@ -8,6 +8,13 @@ use Rattle.plug_psi.specs.declared.in_force.InForce.{InForce}
 abbrev pub StandsFor : InForce → List (List ℕ) → Type 0
 StandsFor force fed = Forces force.zero force.pids force.failed fed
 
+-- the tables that are kept to be handed on: of the last packet on PID 0, and of the last one on a PID whose packets are taken
+abbrev pub pats_in : InForce → List (List (List ℕ))
+pats_in force = force.pats.items
+
+abbrev pub pmts_in : InForce → List (List (List ℕ))
+pmts_in force = force.pmts.items
+
 -- whether memory was wanting
 abbrev pub has_failed : InForce → Bool
 has_failed force = force.failed

@@ -1,23 +1,27 @@
 //! The tables in force.
 
-ghost use Rattle.std.specs.Prelude.{◌≡◌, ℕ, ◌<◌, ◌==◌, ◌++◌, ◌∷◌, ◌&&◌, ◌||◌, [], List, None, true, false, not, IfOk, OnOk, OnErr, IsErr, option_map};
+ghost use Rattle.std.specs.Prelude.{◌≡◌, ℕ, ◌<◌, ◌==◌, ◌++◌, ◌∷◌, ◌&&◌, [], List, None, true, false, not, IfOk, OnOk, OnErr, IsErr, option_map};
 ghost use Rattle.std.specs.Option.{option_copied};
 ghost use Rattle.ts_psi.specs.PatTables.{pat_held};
 ghost use Rattle.ts_psi.specs.PsiTables.{pmt_held};
 ghost use Rattle.plug_psi.specs.InForce.{is_named, names, pat_of, pmt_of, pmt_on};
-ghost use Rattle.plug_psi.specs.ForceState.{HavePmts};
+ghost use Rattle.ts_demux.specs.TablesOn.{Completes, packets_on};
+ghost use Rattle.ts_packet.specs.Header.{pid_of};
+ghost use Rattle.plug_psi.specs.ForceState.{HasPat, HavePmts};
 ghost use Rattle.plug_psi.specs.SameForce.{SameInForce};
 
 use crate::by_pid::ByPid;
-use crate::came::Came;
 use crate::current_pat::CurrentPat;
+use crate::cycle_editor::either;
 use crate::follow_laws::unfollowed_packets_change_nothing;
 use crate::follows::Follows;
 use crate::kept_pmts::KeptPmts;
 use crate::reading::Reading;
 use std::alloc::{AllocError, Global};
+use std::mem;
 use ts_packet::{NULL_PID, PID_COUNT, Packet};
 use ts_psi::{Pat, Pmt};
+use ts_section::TableRun;
 
 /// The PID of the PAT (ISO/IEC 13818-1, 2.4.3.3).
 const PAT_PID: u16 = 0;
@@ -35,6 +39,9 @@ type Pids = ByPid<Reading<KeptPmts>>;
 pub struct InForce {
     zero: Reading<CurrentPat>,
     pids: Pids,
+    /// The tables of the last packet on PID 0, and of the last one on a PID whose packets are taken.
+    pats: Vec<TableRun>,
+    pmts: Vec<TableRun>,
     failed: bool,
     alloc: Global,
 }
@@ -43,9 +50,8 @@ impl InForce {
     ghost use Rattle.ts_packet.specs.Header.{pid_of};
     ghost use Rattle.ts_demux.specs.TablesOn.{Completes, packets_on};
     ghost use Rattle.ts_demux.specs.TakenWhere.{taken_on};
-    ghost use Rattle.plug_psi.specs.ForceStands.{StandsFor, has_failed};
+    ghost use Rattle.plug_psi.specs.ForceStands.{StandsFor, has_failed, pats_in, pmts_in};
     ghost use Rattle.plug_psi.specs.InForce.{follows};
-    ghost use Rattle.plug_psi.specs.KeptTables.{is_kept, tables_in};
 
     /// Nothing is in force before a packet was fed.
     pub fn new(alloc: Global) -> Result<InForce, AllocError>
@@ -54,6 +60,8 @@ impl InForce {
         Ok(InForce {
             zero: Reading::fresh(alloc, &(), PAT_PID)?,
             pids: ByPid::new(alloc),
+            pats: Vec::new(alloc),
+            pmts: Vec::new(alloc),
             failed: false,
             alloc,
         })
@@ -71,27 +79,17 @@ impl InForce {
 
     /// Takes the next packet as `feed` does. Where the answer is `false`, the same PAT and PMTs are in force as before;
     /// `true` tells that a PAT or a PMT may have come into force with it, so what was made of them is to be made anew.
+    ///
+    /// The tables that it completes on PID 0, or on a PID whose packets are taken, can be had by `take_pats` and
+    /// `take_pmts`: who wants these tables too need not read them again.
     #[inline]
     pub fn update(&mut self, packet: &Packet) -> Result<bool, AllocError>
         ensures stands { OnOk result ((fed : List (List ℕ)) → StandsFor self.old fed → StandsFor self.new (fed ++ packet.now ∷ [])) }
         ensures same { IfOk result (λ came. came ≡ false → (fed : List (List ℕ)) → StandsFor self.old fed → SameInForce fed packet.now) }
-        ensures spent { OnErr result (has_failed self.new ≡ true) }
-        ensures stays_spent { has_failed self.old ≡ true → IsErr result }
-    {
-        let came = self.follow(packet)?;
-        Ok(came.is_new())
-    }
-
-    /// Takes the next packet as `feed` does, and hands on the tables that it completes, where it is on PID 0 or on a PID whose
-    /// packets are taken: who wants these tables too need not read them again.
-    #[inline]
-    pub fn follow(&mut self, packet: &Packet) -> Result<Came, AllocError>
-        ensures stands { OnOk result ((fed : List (List ℕ)) → StandsFor self.old fed → StandsFor self.new (fed ++ packet.now ∷ [])) }
-        ensures same { IfOk result (λ came. (is_kept came.pats || is_kept came.pmts) ≡ false → (fed : List (List ℕ)) → StandsFor self.old fed → SameInForce fed packet.now) }
-        ensures pats { IfOk result (λ came. (fed : List (List ℕ)) → StandsFor self.old fed → pid_of packet.now ≡ 0
-            → Completes 0 (packets_on 0 fed) packet.now (tables_in came.pats)) }
-        ensures pmts { IfOk result (λ came. (fed : List (List ℕ)) → StandsFor self.old fed → follows (pid_of packet.now) (fed ++ packet.now ∷ []) ≡ true
-            → Completes (pid_of packet.now) (taken_on follows (pid_of packet.now) fed) packet.now (tables_in came.pmts)) }
+        ensures pats { OnOk result ((fed : List (List ℕ)) → StandsFor self.old fed → pid_of packet.now ≡ 0
+            → Completes 0 (packets_on 0 fed) packet.now (pats_in self.new)) }
+        ensures pmts { OnOk result ((fed : List (List ℕ)) → StandsFor self.old fed → follows (pid_of packet.now) (fed ++ packet.now ∷ []) ≡ true
+            → Completes (pid_of packet.now) (taken_on follows (pid_of packet.now) fed) packet.now (pmts_in self.new)) }
         ensures spent { OnErr result (has_failed self.new ≡ true) }
         ensures stays_spent { has_failed self.old ≡ true → IsErr result }
     {
@@ -105,6 +103,22 @@ impl InForce {
                 Err(error)
             }
         }
+    }
+
+    /// Hands on the tables that the last packet on PID 0 completed, once.
+    pub fn take_pats(&mut self) -> Vec<TableRun>
+        ensures pats { result.items ≡ pats_in self.old }
+        ensures stands { (fed : List (List ℕ)) → StandsFor self.old fed → StandsFor self.new fed }
+    {
+        mem::replace(&mut self.pats, Vec::new(self.alloc))
+    }
+
+    /// Hands on the tables that the last packet completed which was on a PID whose packets are taken, once.
+    pub fn take_pmts(&mut self) -> Vec<TableRun>
+        ensures pmts { result.items ≡ pmts_in self.old }
+        ensures stands { (fed : List (List ℕ)) → StandsFor self.old fed → StandsFor self.new fed }
+    {
+        mem::replace(&mut self.pmts, Vec::new(self.alloc))
     }
 
     /// The PAT in force, if there is one.
@@ -141,27 +155,47 @@ impl InForce {
 
     /// Takes the next packet as long as memory was there.
     #[inline]
-    fn take(&mut self, packet: &Packet) -> Result<Came, AllocError>
+    fn take(&mut self, packet: &Packet) -> Result<bool, AllocError>
         ensures stands { OnOk result ((fed : List (List ℕ)) → StandsFor self.old fed → StandsFor self.new (fed ++ packet.now ∷ [])) }
-        ensures same { IfOk result (λ came. (is_kept came.pats || is_kept came.pmts) ≡ false → (fed : List (List ℕ)) → StandsFor self.old fed → SameInForce fed packet.now) }
-        ensures pats { IfOk result (λ came. (fed : List (List ℕ)) → StandsFor self.old fed → pid_of packet.now ≡ 0
-            → Completes 0 (packets_on 0 fed) packet.now (tables_in came.pats)) }
-        ensures pmts { IfOk result (λ came. (fed : List (List ℕ)) → StandsFor self.old fed → follows (pid_of packet.now) (fed ++ packet.now ∷ []) ≡ true
-            → Completes (pid_of packet.now) (taken_on follows (pid_of packet.now) fed) packet.now (tables_in came.pmts)) }
+        ensures same { IfOk result (λ came. came ≡ false → (fed : List (List ℕ)) → StandsFor self.old fed → SameInForce fed packet.now) }
+        ensures pats { OnOk result ((fed : List (List ℕ)) → StandsFor self.old fed → pid_of packet.now ≡ 0
+            → Completes 0 (packets_on 0 fed) packet.now (pats_in self.new)) }
+        ensures pmts { OnOk result ((fed : List (List ℕ)) → StandsFor self.old fed → follows (pid_of packet.now) (fed ++ packet.now ∷ []) ≡ true
+            → Completes (pid_of packet.now) (taken_on follows (pid_of packet.now) fed) packet.now (pmts_in self.new)) }
         ensures same_failed { has_failed self.new ≡ has_failed self.old }
     {
         unfollowed_packets_change_nothing::<Reading<KeptPmts>>();
-        let pats = self.zero.meet(self.alloc, PAT_PID, packet)?;
+        let pat_came = take_first(self.alloc, &mut self.zero, &mut self.pats, packet)?;
         let pid = packet.pid();
         if !is_followed(&self.zero, pid) {
-            return Ok(Came { pats, pmts: None });
+            return Ok(pat_came);
         }
         let kept = self.pids.take(self.alloc, &(), (), packet)?;
-        Ok(Came {
-            pats,
-            pmts: Some(kept),
-        })
+        self.pmts = kept.tables;
+        Ok(either(pat_came, kept.came))
     }
+}
+
+/// Has PID 0 take a packet, if it is on it, with the tables that it completes in the place of those before, and answers
+/// whether a PAT was kept.
+#[inline]
+fn take_first(
+    alloc: Global,
+    zero: &mut Reading<CurrentPat>,
+    pats: &mut Vec<TableRun>,
+    packet: &Packet,
+) -> Result<bool, AllocError>
+    ensures stands { OnOk result ((fed : List (List ℕ)) → HasPat zero.old fed → HasPat zero.new (fed ++ packet.now ∷ [])) }
+    ensures pats { OnOk result ((fed : List (List ℕ)) → HasPat zero.old fed → pid_of packet.now ≡ 0
+        → Completes 0 (packets_on 0 fed) packet.now pats.new.items) }
+    ensures same { IfOk result (λ came. came ≡ false → (fed : List (List ℕ)) → HasPat zero.old fed → pat_of (fed ++ packet.now ∷ []) ≡ pat_of fed) }
+{
+    let kept = zero.meet(alloc, PAT_PID, packet)?;
+    let Some(kept) = kept else {
+        return Ok(false);
+    };
+    *pats = kept.tables;
+    Ok(kept.came)
 }
 
 /// Whether the packets of a PID are taken.

@@ -6,7 +6,6 @@
 #![tactic(auto)]
 
 mod by_pid;
-mod came;
 mod contents;
 mod current_pat;
 mod cycle_editor;
@@ -35,7 +34,6 @@ mod referred;
 mod written;
 
 pub use by_pid::ByPid;
-pub use came::Came;
 pub use cycle_editor::CycleEditor;
 pub use edit::{Edited, TableEdit};
 pub use editor::Editor;
@@ -46,7 +44,6 @@ pub use follows_tables::FollowsTables;
 pub use given::Given;
 pub use handed_over::{both, put};
 pub use in_force::InForce;
-pub use kept::Kept;
 pub use laws::{contents_are_last_tables, last_found_is_the_last, later_packets_change_nothing};
 pub use pid_flags::{flag_of, no_flags, tell};
 pub use pids_of_pmt::add_pids;

@@ -3,7 +3,7 @@
 ghost use Rattle.std.specs.Prelude.{◌≡◌, ℕ, ◌++◌, ◌∷◌, [], List, IfOk, OnOk, OnErr};
 ghost use Rattle.ts_demux.specs.TablesOn.{Completes, packets_on};
 ghost use Rattle.ts_packet.specs.Header.{pid_of};
-ghost use Rattle.plug_psi.specs.KeptTables.{tables_in};
+ghost use Rattle.plug_psi.specs.ForceStands.{StandsFor as Forced, pats_in};
 ghost use Rattle.plug_service.specs.Fates.{fate_after};
 ghost use Rattle.plug_service.specs.FatesState.{IsEditable};
 ghost use Rattle.plug_service.specs.ServiceRule.{made_by};
@@ -16,7 +16,7 @@ use crate::pmt_alone::PmtAlone;
 use crate::sdt_part::SdtPart;
 use crate::way::Way;
 use plug_psi::{
-    ByPid, CycleEditor, Follows, FollowsTables, Kept, Reading, unfollowed_packets_change_nothing,
+    ByPid, CycleEditor, Follows, FollowsTables, InForce, Reading, unfollowed_packets_change_nothing,
 };
 use std::alloc::{AllocError, Global};
 use ts_packet::Packet;
@@ -55,30 +55,31 @@ impl Editors {
     }
 
     /// Edits a packet by its fate where it stands, and answers whether one passes in its place. What passes as it came
-    /// is not touched. After `AllocError` the packet is as it was.
+    /// is not touched. The tables on PID 0 are those that the tables in force have read. After `AllocError` the packet is as it was.
     #[inline]
     pub(crate) fn edit(
         &mut self,
         alloc: Global,
         fate: Fate,
-        pats: Option<Kept>,
+        force: &mut InForce,
         packet: &mut Packet,
     ) -> Result<bool, AllocError>
         requires { IsEditable fate (pid_of packet.old) }
         ensures made { IfOk result (λ passes. (way : Way) (service : ℕ) (met : List (List ℕ)) → EditorsStand way service self.old met
             → fate ≡ fate_after way service (met ++ packet.old ∷ []) (pid_of packet.old)
-            → (pid_of packet.old ≡ 0 → Completes 0 (packets_on 0 met) packet.old (tables_in pats))
+            → (pid_of packet.old ≡ 0 → Completes 0 (packets_on 0 met) packet.old (pats_in force.old))
             → left_by passes packet.new ≡ made_by way service fate met packet.old) }
         ensures stands { OnOk result ((way : Way) (service : ℕ) (met : List (List ℕ)) → EditorsStand way service self.old met
             → fate ≡ fate_after way service (met ++ packet.old ∷ []) (pid_of packet.old)
-            → (pid_of packet.old ≡ 0 → Completes 0 (packets_on 0 met) packet.old (tables_in pats))
+            → (pid_of packet.old ≡ 0 → Completes 0 (packets_on 0 met) packet.old (pats_in force.old))
             → EditorsStand way service self.new (met ++ packet.old ∷ [])) }
+        ensures force { OnOk result ((fed : List (List ℕ)) → Forced force.old fed → Forced force.new fed) }
         ensures as_it_was { OnErr result (packet.new ≡ packet.old) }
     {
         unfollowed_packets_change_nothing::<PmtEditor>();
         match fate {
             Fate::EditPat => {
-                let tables = Kept::tables(alloc, pats);
+                let tables = force.take_pats();
                 let pat = self.pat.take(alloc, tables, packet)?;
                 *packet = pat;
                 Ok(true)

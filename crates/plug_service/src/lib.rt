@@ -6,7 +6,6 @@
 mod editors;
 mod fate;
 mod limits;
-mod met;
 mod one_service;
 mod pat_part;
 mod pid_fates;

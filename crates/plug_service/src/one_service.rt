@@ -125,8 +125,9 @@ impl OneService {
         ensures stuffing { self.new.stuffing ≡ self.old.stuffing }
         ensures failed { self.new.failed ≡ self.old.failed }
     {
-        let met = self.watch.meet(self.alloc, packet)?;
-        let passes = self.editors.edit(self.alloc, met.fate, met.pats, packet)?;
+        let fate = self.watch.meet(self.alloc, packet)?;
+        let force = &mut self.watch.force;
+        let passes = self.editors.edit(self.alloc, fate, force, packet)?;
         Ok(passes)
     }
 }

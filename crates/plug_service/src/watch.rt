@@ -4,13 +4,12 @@ ghost use Rattle.std.specs.Prelude.{◌≡◌, ℕ, ◌++◌, ◌∷◌, [], Lis
 ghost use Rattle.ts_packet.specs.Header.{pid_of};
 ghost use Rattle.ts_demux.specs.TablesOn.{Completes, packets_on};
 ghost use Rattle.plug_psi.specs.InForce.{pat_of, pmt_of};
-ghost use Rattle.plug_psi.specs.KeptTables.{tables_in};
-ghost use Rattle.plug_psi.specs.ForceStands.{StandsFor as Forced};
+ghost use Rattle.plug_psi.specs.ForceStands.{StandsFor as Forced, pats_in};
 ghost use Rattle.plug_psi.specs.SameForce.{SameInForce};
 ghost use Rattle.plug_service.specs.Fates.{fate_after};
 ghost use Rattle.plug_service.specs.FatesState.{FatesStand, IsEditable};
 
-use crate::met::Met;
+use crate::fate::Fate;
 use crate::pid_fates::PidFates;
 use crate::way::Way;
 use plug_psi::{InForce, both};
@@ -38,25 +37,20 @@ impl Watch {
         Ok(Watch { force, fates })
     }
 
-    /// Meets the next packet, of any PID, and answers its fate, with the tables that it completes on PID 0.
+    /// Meets the next packet, of any PID, and answers its fate.
     #[inline]
-    pub(crate) fn meet(&mut self, alloc: Global, packet: &Packet) -> Result<Met, AllocError>
+    pub(crate) fn meet(&mut self, alloc: Global, packet: &Packet) -> Result<Fate, AllocError>
         ensures stands { OnOk result ((way : Way) (service : ℕ) (met : List (List ℕ)) → Watches way service self.old met
             → Watches way service self.new (met ++ packet.now ∷ [])) }
-        ensures tells { IfOk result (λ told. (way : Way) (service : ℕ) (met : List (List ℕ)) → Watches way service self.old met
-            → told.fate ≡ fate_after way service (met ++ packet.now ∷ []) (pid_of packet.now)) }
-        ensures pats { IfOk result (λ told. (way : Way) (service : ℕ) (met : List (List ℕ)) → Watches way service self.old met
-            → pid_of packet.now ≡ 0 → Completes 0 (packets_on 0 met) packet.now (tables_in told.pats)) }
-        ensures editable { IfOk result (λ told. IsEditable told.fate (pid_of packet.now)) }
+        ensures tells { IfOk result (λ fate. (way : Way) (service : ℕ) (met : List (List ℕ)) → Watches way service self.old met
+            → fate ≡ fate_after way service (met ++ packet.now ∷ []) (pid_of packet.now)) }
+        ensures pats { OnOk result ((way : Way) (service : ℕ) (met : List (List ℕ)) → Watches way service self.old met
+            → pid_of packet.now ≡ 0 → Completes 0 (packets_on 0 met) packet.now (pats_in self.new.force)) }
+        ensures editable { IfOk result (λ fate. IsEditable fate (pid_of packet.now)) }
     {
-        let came = self.force.follow(packet)?;
-        let renewed = came.is_new();
-        renew_where(alloc, &self.force, &mut self.fates, renewed)?;
-        let fate = self.fates.fate(packet.pid());
-        Ok(Met {
-            fate,
-            pats: came.pats,
-        })
+        let came = self.force.update(packet)?;
+        renew_where(alloc, &self.force, &mut self.fates, came)?;
+        Ok(self.fates.fate(packet.pid()))
     }
 }
 

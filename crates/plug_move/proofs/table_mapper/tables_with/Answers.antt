@@ -12,7 +12,7 @@ use Rattle.plug_move.proofs.table_mapper.tables_with.Goals as goal
 pub returns-then-pid-eq-PAT_PID-clause-tables : goal.returns-then-pid-eq-PAT_PID-clause-tables
 returns-then-pid-eq-PAT_PID-clause-tables c = λ met f r.
     let at : pid_of c.args.packet.now ≡ 0 = sym c.pid-pid.ensures.field ∙ c.if-pid-eq-PAT_PID.true in
-    subst (IsCompleted met c.args.packet.now) (sym c.tables.ensures) (fixed-completed 0 met c.args.packet.now _ refl at (c.in_ok-came.ensures.pats met f at))
+    subst (IsCompleted met c.args.packet.now) (sym c.take_pats.ensures.pats) (fixed-completed 0 met c.args.packet.now _ refl at (c.in_ok-update.ensures.pats met f at))
 
 pub returns-then-pid-eq-CAT_PID-clause-cats : goal.returns-then-pid-eq-CAT_PID-clause-cats
 returns-then-pid-eq-CAT_PID-clause-cats c = λ met r.
@@ -33,13 +33,19 @@ pub returns-then-follows-clause-tables : goal.returns-then-follows-clause-tables
 returns-then-follows-clause-tables c = λ met f r.
     let upto = met ++ c.args.packet.now ∷ [] in
     let here : follows (pid_of c.args.packet.now) upto ≡ true =
-    ap (λ n. follows n upto) (sym c.pid-pid.ensures.field) ∙ (sym (c.follows.ensures upto (c.in_ok-came.ensures.stands met f)) ∙ c.if-follows.true) in
-    subst (IsCompleted met c.args.packet.now) (sym c.tables-then-follows.ensures)
+    ap (λ n. follows n upto) (sym c.pid-pid.ensures.field) ∙ (sym (c.follows.ensures upto (c.in_ok-update.ensures.stands met f)) ∙ c.if-follows.true) in
+    subst (IsCompleted met c.args.packet.now) (sym c.take_pmts.ensures.pmts)
     (named-completed met c.args.packet.now _
     (not-fixed c.pid-pid.result c.args.packet.now c.pid-pid.ensures.field (ne_eqb c.pid-pid.result 0 c.if-pid-eq-PAT_PID.false) (ne_eqb c.pid-pid.result 1 c.if-pid-eq-CAT_PID.false))
-    here (c.in_ok-came.ensures.pmts met f here))
+    here (c.in_ok-update.ensures.pmts met f here))
 
 pub returns-clause-cats : goal.returns-clause-cats
 returns-clause-cats c = λ met r.
     let other : (pid_of c.args.packet.now == 1) ≡ false = ap (λ n. n == 1) (sym c.pid-pid.ensures.field) ∙ ne_eqb c.pid-pid.result 1 c.if-pid-eq-CAT_PID.false in
     subst (StandsFor c.args.cats.now 1) (sym (on-other 1 met c.args.packet.now other)) r
+
+pub returns-then-pid-eq-PAT_PID-clause-force : goal.returns-then-pid-eq-PAT_PID-clause-force
+returns-then-pid-eq-PAT_PID-clause-force c = λ met f. c.take_pats.ensures.stands _ (c.in_ok-update.ensures.stands met f)
+
+pub returns-then-follows-clause-force : goal.returns-then-follows-clause-force
+returns-then-follows-clause-force c = λ met f. c.take_pmts.ensures.stands _ (c.in_ok-update.ensures.stands met f)

@@ -8,12 +8,12 @@ use Rattle.plug_service.proofs.editors.Editors.edit.Goals as goal
 
 pub returns-in_ok-pat-in-EditPat-clause-made : goal.returns-in_ok-pat-in-EditPat-clause-made
 returns-in_ok-pat-in-EditPat-clause-made c = λ way service met h e completes.
-    let given = subst (Completes 0 (packets_on 0 met) c.args.packet.now) (sym c.tables-tables.ensures) (completes (on_zero way service met c.args.packet.now (sym c.in-EditPat.is ∙ e))) in
+    let given = subst (Completes 0 (packets_on 0 met) c.args.packet.now) (sym c.take_pats-tables.ensures.pats) (completes (on_zero way service met c.args.packet.now (sym c.in-EditPat.is ∙ e))) in
     ap Some (c.in_ok-pat-in-EditPat.ensures.tells (record { way = way; service = service }) 0 (packets_on 0 met) h.pats given) ∙ ap (λ f. made_by way service f met c.args.packet.now) (sym c.in-EditPat.is)
 
 pub returns-in_ok-pat-in-EditPat-clause-stands : goal.returns-in_ok-pat-in-EditPat-clause-stands
 returns-in_ok-pat-in-EditPat-clause-stands c = λ way service met h e completes.
-    let given = subst (Completes 0 (packets_on 0 met) c.args.packet.now) (sym c.tables-tables.ensures) (completes (on_zero way service met c.args.packet.now (sym c.in-EditPat.is ∙ e))) in
+    let given = subst (Completes 0 (packets_on 0 met) c.args.packet.now) (sym c.take_pats-tables.ensures.pats) (completes (on_zero way service met c.args.packet.now (sym c.in-EditPat.is ∙ e))) in
     editors-next way service c.args.self.now _ met c.args.packet.now EditPat (sym c.in-EditPat.is ∙ e) h refl
     (c.in_ok-pat-in-EditPat.ensures.stands (record { way = way; service = service }) 0 (packets_on 0 met) h.pats given) h.sdts
     (c.unfollowed_packets_change_nothing.ensures c.args.self.now.alone c.args.self.now.pmts (is_edited way service) met c.args.packet.now h.pmts (sym (ap edits_pmt (sym c.in-EditPat.is ∙ e))))
