@@ -1,5 +1,5 @@
 -- Lemmas on lines after lines.
-use Rattle.std.proofs.Common.{◌≡◌, ℕ, ◌+◌, ◌<◌, List, [], ◌∷◌, ◌++◌, length, take, map, ap, ap₂, sym, ◌∙◌, refl, Bool, append_assoc, append-nil, Option, None, Some, get_or, ◌==◌, if◌then◌else◌, codes}
+use Rattle.std.proofs.Common.{◌≡◌, ℕ, ◌+◌, ◌<◌, List, [], ◌∷◌, ◌++◌, length, take, map, ap, ap₂, sym, ◌∙◌, refl, Bool, true, false, append_assoc, append-nil, Option, None, Some, get_or, ◌==◌, if◌then◌else◌, codes}
 use Rattle.std.specs.Prelude.{cond}
 use Rattle.std.specs.Fmt.{decimal}
 use Rattle.std.proofs.lemmas.Bool.{ne_eqb}
@@ -128,3 +128,9 @@ pub pid_is : (pid : ℕ) (purpose purpose_new portion portion_new troubles troub
 pid_is pid purpose purpose_new portion portion_new troubles troubles_new a b c =
     ap (λ (x : List ℕ). pid_parts pid x portion troubles) a
     ∙ (ap (λ (x : List ℕ). pid_parts pid purpose_new x troubles) b ∙ ap (pid_parts pid purpose_new portion_new) c)
+
+-- what there is where a condition holds
+pub shown_is : {X : Type 0} (b : Bool) (numbers numbers_new : PidNumbers) (xs : List X) → Some numbers ≡ (if b then Some numbers_new else None)
+    → ((if b then xs else []) ≡ xs) × (numbers ≡ numbers_new)
+shown_is true numbers numbers_new xs is = (refl, cc)
+shown_is false numbers numbers_new xs is = cc

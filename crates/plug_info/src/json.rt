@@ -17,7 +17,9 @@ ghost use Rattle.plug_info.specs.SdtInForce.{items_in};
 ghost use Rattle.plug_info.specs.Tracked.{IsReady, Tracks};
 
 use crate::service_texts::service_body;
-use crate::summary::{pcr_pid_in, sdt_stream_id, service_packets, stream_numbers, use_of};
+use crate::summary::{
+    numbers_shown, pcr_pid_in, sdt_stream_id, service_packets, stream_numbers, use_of,
+};
 use crate::tracker::Tracker;
 use crate::users::{components_of, parts, services_of, users_of};
 use info_texts::json_texts::{
@@ -219,13 +221,9 @@ fn push_pid(
     ensures { OnOk result ((cells : List GivenCell) → Tracks tracker.now cells → scene.now ≡ scene_of cells
         → string_bytes items.new ≡ string_bytes items.old ++ flat_map behind_comma (pid_objects cells pid)) }
 {
-    let numbers = tracker.totals.numbers_on(pid);
-    if numbers.packets == 0 {
+    let Some(numbers) = numbers_shown(tracker, pid) else {
         return Ok(());
-    }
-    if users_of(&tracker.force, pid) != 0 {
-        return Ok(());
-    }
+    };
     let text = pid_json(alloc, tracker, scene, pid, &numbers)?;
     push_item(items, &text)?;
     Ok(())

@@ -1,5 +1,5 @@
 //! The summary of `info` as lines.
-ghost use Rattle.std.specs.Prelude.{◌≡◌, ◌<◌, ◌+◌, ◌*◌, Some, ◌++◌, ◌∷◌, [], ℕ, List, IfOk, OnOk, length, map, option_map, fold, if◌then◌else◌};
+ghost use Rattle.std.specs.Prelude.{◌≡◌, ◌<◌, ◌+◌, ◌*◌, ◌==◌, ◌&&◌, not, Some, None, ◌++◌, ◌∷◌, [], ℕ, List, IfOk, OnOk, length, map, option_map, fold, if◌then◌else◌};
 ghost use Rattle.std.specs.List.{flat_map};
 ghost use Rattle.std.specs.Option.{option_copied};
 ghost use Rattle.std.specs.String.{string_bytes};
@@ -11,7 +11,7 @@ ghost use Rattle.ts_psi.specs.PsiTables.{component_item, pmt_held};
 ghost use Rattle.plugin_notes.specs.PidPackets.{numbers_below};
 ghost use Rattle.plugin_trait.specs.PlacedLines.{placed_at};
 ghost use Rattle.plug_psi.specs.InForce.{pat_of, pmt_of, services_in};
-ghost use Rattle.plug_info.specs.InfoRule.{component_line, has_component, info_on, pcr_pid_in, pid_lines, scene_of, service_line, service_lines, service_packets, stream_id_in, stream_numbers, use_of};
+ghost use Rattle.plug_info.specs.InfoRule.{component_line, has_component, info_on, numbers_on, pcr_pid_in, pid_lines, scene_of, service_line, service_lines, service_packets, stream_id_in, stream_numbers, use_of, users_of};
 ghost use Rattle.info_texts.specs.InfoTexts.{pid_text, sdt_texts};
 ghost use Rattle.plug_info.specs.SdtInForce.{sdt_of};
 ghost use Rattle.plug_info.specs.Tracked.{Tracks};
@@ -290,6 +290,23 @@ fn push_pids(
     Ok(())
 }
 
+/// The numbers of a PID, if it has packets and is not a component's.
+pub fn numbers_shown(tracker: &Tracker, pid: u16) -> Option<PidNumbers>
+    requires ready { IsReady tracker.now }
+    requires on_pid { pid < PID_COUNT }
+    ensures { (cells : List GivenCell) → Tracks tracker.now cells
+        → result ≡ (if not (packets_on pid (live_packets cells) == 0) && (users_of (live_packets cells) pid == 0) then Some (numbers_on pid cells) else None) }
+{
+    let numbers = tracker.totals.numbers_on(pid);
+    if numbers.packets == 0 {
+        return None;
+    }
+    if users_of(&tracker.force, pid) != 0 {
+        return None;
+    }
+    Some(numbers)
+}
+
 // Appends the line of a PID, if it has packets and is not a component's.
 fn push_pid(
     lines: &mut Vec<Line>,
@@ -303,13 +320,9 @@ fn push_pid(
     ensures { OnOk result ((cells : List GivenCell) → Tracks tracker.now cells → scene.now ≡ scene_of cells
         → lines.new.items ≡ lines.old.items ++ placed_at cut (pid_lines cells pid)) }
 {
-    let numbers = tracker.totals.numbers_on(pid);
-    if numbers.packets == 0 {
+    let Some(numbers) = numbers_shown(tracker, pid) else {
         return Ok(());
-    }
-    if users_of(&tracker.force, pid) != 0 {
-        return Ok(());
-    }
+    };
     let alloc = *lines.allocator();
     let text = pid_text(alloc, tracker, scene, pid, &numbers)?;
     push_line(lines, cut, text)?;
