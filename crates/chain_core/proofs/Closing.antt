@@ -1,5 +1,5 @@
 -- The close of a run whose stages do as their lists say: the cut and the cause are the pure ones, or those of
--- a lawful fault.
+-- a fault that may end the chain.
 use Rattle.std.proofs.Common.{◌≡◌, ◌≢◌, ◌⊎◌, inl, inr, ℕ, zero, suc, ◌<◌, ◌≤◌, List, [], ◌∷◌, ◌++◌, length, take, drop, Bool, true, false, cond, Option, Some, None, refl, ap, sym, ◌∙◌, subst, arith}
 use Rattle.std.specs.Prelude.{is_some, unwrap_or, find, IsTrue}
 use Rattle.std.specs.Option.{option_or, option_and_then}
@@ -120,7 +120,7 @@ module _ (plan : CorePlan) (rules : List PluginRule) (input : StageList) (state 
       (greatest-all (agreement_at rules input) (stages_of plan.users) joint is))
       is
 
--- ---- the endings told, and those of the lists
+-- ---- the endings reported, and those of the lists
 
 -- the ending of a stage that ended by itself
 ended-ending : (progress : StagesProgress) (k : ℕ) (why : Cause) → EndsBy progress k why → ending_of_progress k (progress k) ≡ record { at = (progress k).given; cause = why } ∷ []
@@ -200,7 +200,7 @@ until-passed k last_passed h = refl
 until-passed k stopped h = absurd cc
 until-passed k (refused reason) h = absurd cc
 
--- a stage that told a last packet at the place
+-- a stage that reported a last packet at the place
 told-until : (progress : StagesProgress) (c k : ℕ) (u : Cause) → until_at c (ending_of_progress k (progress k)) ≡ Some u → EndsBy progress k u × ((progress k).ended ≡ Some Last) × ((progress k).given ≡ c) × (u ≡ cause.Until k)
 told-until progress c k u e =
     elim (told-cases progress c k) [
@@ -448,7 +448,7 @@ module _ (plan : CorePlan) (rules : List PluginRule) (input : StageList) (state 
         let by = told-until (progress_of_stages state) c t.0 u t.2 in
         subst (λ (w : Cause). Verdict w) (sym why) (inl (cut, sym why' ∙ pure-cause (joint-not not_) cut), inr (t.0, by.0, t.1, by.2))
 
-    -- no list ends at the cut behind one that does, where no last packet stands there
+    -- no list ends at the cut after one that does, where no last packet stands there
     none-behind : until_at c (up_to pure_row plan.plugins) ≡ None → (k : ℕ) → length (stage_list rules input k).cells ≡ c → (j : ℕ) → k < j → j ≤ plan.plugins → causes_at c (pure_row j) ≡ []
     none-behind none k at zero lt le = absurd (omega arith)
     none-behind none k at (suc i) lt le =

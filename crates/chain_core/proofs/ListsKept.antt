@@ -1,5 +1,5 @@
 -- In a run whose stages do as their lists say, each stage gives a first part of its pure list, ends as that
--- list does, and tells its agreement where it is due.
+-- list does, and reports its agreement where it is due.
 use Rattle.std.proofs.Common.{◌≡◌, ◌≢◌, inl, inr, ℕ, zero, suc, ◌+◌, ◌≤◌, List, [], ◌∷◌, ◌++◌, length, take, true, false, Option, Some, None, refl, ap, sym, ◌∙◌, subst, arith, length-append}
 use Rattle.std.specs.Option.{option_or}
 use Rattle.std.proofs.lemmas.Bool.{cases_eq, cases_lt, cond-true}

@@ -36,7 +36,7 @@ users-are : stages_of (record { bits = 6 }) ≡ 1 ∷ 2 ∷ []
 unfolding stages_of stages_below has_stage
 users-are = refl
 
--- the limit is known once both have told, and the output hears it
+-- the limit is known once both have reported, and the output receives it
 joint-news : news_of (plan_with 6) (progress_of_stages (state_after (plan_with 6) (reverse agreeing))) 3 ≡ record { taken = 6; limit = Some 5; written = 0; before_over = false; after_over = false }
 unfolding state_after visited served noted with_stage stages_of stages_below has_stage
 joint-news = refl

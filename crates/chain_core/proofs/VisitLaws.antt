@@ -162,7 +162,7 @@ module _ (plan : CorePlan) (state : ChainState) (sound : Sound plan state) (some
       let b = quiet.gave_all (suc j) le open_ in
       let c = sound.within (suc j) in let d = sound.handed j in omega arith
 
-  -- behind a stage that has ended every stage has ended
+  -- after a stage that has ended every stage has ended
   behind-ended : (j : ℕ) → suc j ≤ suc plan.plugins → IsSome (state.stages j).ended → IsSome (state.stages (suc j)).ended
   behind-ended j le is =
       elim (is-open (state.stages (suc j)).ended) [
@@ -175,7 +175,7 @@ module _ (plan : CorePlan) (state : ChainState) (sound : Sound plan state) (some
   first-open is zero le = is
   first-open is (suc j) le = behind-ended j le (first-open is j (omega arith))
 
-  -- behind a stage that goes on no stage has ended
+  -- after a stage that goes on no stage has ended
   none-ended : (state.stages 0).ended ≡ None → (k : ℕ) → k ≤ suc plan.plugins → (state.stages k).ended ≡ None
   none-ended is zero le = is
   none-ended is (suc j) le =

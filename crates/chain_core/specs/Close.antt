@@ -35,12 +35,12 @@ abbrev pub told_endings : StagesProgress → ℕ → List Ending
 told_endings progress zero = ending_of_progress zero (progress zero)
 told_endings progress (suc j) = told_endings progress j ++ ending_of_progress (suc j) (progress (suc j))
 
--- the lesser of a number that may be wanting and a number
+-- the lesser of a number, if it is known, and another number
 abbrev pub lesser_if : Option ℕ → ℕ → ℕ
 lesser_if None n = n
 lesser_if (Some m) n = min m n
 
--- the least of a number that may be wanting and the places of the endings
+-- the least of a number, if it is known, and the places of the endings
 abbrev pub least_among : Option ℕ → List Ending → Option ℕ
 least_among least [] = least
 least_among least (ending ∷ rest) = least_among (Some (lesser_if least ending.at)) rest
@@ -55,6 +55,6 @@ abbrev pub cause_at_close : CorePlan → StagesProgress → Cause
 cause_at_close plan progress =
     cause_among (cut_at_close plan progress) (limit_of plan progress) (told_endings progress (suc plan.plugins))
 
--- what a run whose stages have all ended comes to
+-- the result of a run whose stages have all ended
 abbrev pub closed_of : CorePlan → StagesProgress → Closed
 closed_of plan progress = record { cut = cut_at_close plan progress; cause = cause_at_close plan progress }

@@ -1,4 +1,4 @@
--- What the core keeps, and the one relation that ties it to the machine's state. This project's own rule.
+-- What the core keeps, and the relation that ties it to the machine's state. This project's own rule.
 use Rattle.std.specs.Prelude.{◌≡◌, ℕ, zero, suc, ◌+◌, ◌≤◌, max, ◌==◌, if◌then◌else◌, Bool, true, false, List, [], ◌++◌, slice_index_or, slice_set, Option, None, Some}
 use Rattle.std.specs.Option.{option_or}
 use Rattle.chain_core.specs.declared.core_plan.CorePlan.{CorePlan}
@@ -18,7 +18,7 @@ pub record IsLawfulPlan (plan : CorePlan) : Type 0 where
   pub most : 1 ≤ plan.most
   pub users : UsersArePlugins plan
 
--- what a core keeps: its plan, a progress for each stage, and the limit that the output was last told
+-- what a core keeps: its plan, a progress for each stage, and the limit that the output last received
 pub record CoreNumbers : Type 0 where
   pub plan : CorePlan
   pub progress : List Progress
@@ -41,7 +41,7 @@ pub record StandsFor (core : CoreNumbers) (state : ChainState) : Type 0 where
   pub progress : (k : ℕ) → progress_of_core core k ≡ progress_of_stages state k
   pub told : core.told ≡ state.told
 
--- the progress of a stage that has given so many cells more and told the word
+-- the progress of a stage that has given so many cells more and reported the word
 abbrev pub noted_progress : Bool → Progress → ℕ → StageWord → Progress
 noted_progress is_user progress done word = record {
   given = progress.given + done;
@@ -62,7 +62,7 @@ noted_numbers core stage done word = record {
   told = core.told;
 }
 
--- the numbers when the stage has taken of the cells that wait, and the output is told the limit
+-- the numbers when the stage has taken of the cells that wait, and the output is given the limit
 abbrev pub served_numbers : CoreNumbers → ℕ → CoreNumbers
 served_numbers core stage = record {
   plan = core.plan;
@@ -70,7 +70,7 @@ served_numbers core stage = record {
   told = if stage == suc core.plan.plugins then limit_of core.plan (progress_of_core core) else core.told;
 }
 
--- the greatest of agreements so far and one more, if none of them is wanting
+-- the greatest of agreements so far and one more, if all of them are known
 abbrev pub greatest_more : Bool → Option ℕ → Option ℕ → Option ℕ
 greatest_more false so_far agreed = agreed
 greatest_more true None agreed = None

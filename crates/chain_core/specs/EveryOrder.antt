@@ -24,7 +24,7 @@ pub record EndsBy (progress : StagesProgress) (k : ℕ) (why : Cause) : Type 0 w
   pub ended : (progress k).ended ≡ Some end
   pub gives : cause_of_stage k end ≡ Some why
 
--- the cut is known not to be behind `m`: some stage ended by itself and gave no more, or the limit is known
+-- the cut is known not to be after `m`: some stage ended by itself and gave no more, or the limit is known
 -- and is no more
 abbrev pub IsCutWithin : CorePlan → StagesProgress → ℕ → Type 0
 IsCutWithin plan progress m =
@@ -48,7 +48,7 @@ pub record SoFar (plan : CorePlan) (rules : List PluginRule) (input : StageList)
   -- a stage that followed gave at least all that will count
   pub followers : (k : ℕ) → (state.stages k).ended ≡ Some Followed → IsCutWithin plan (progress_of_stages state) (length (state.stages k).given)
 
--- the cause is joint termination at the limit, or a stage told it and gave as much as counts
+-- the cause is joint termination at the limit, or a stage reported it and gave as much as counts
 abbrev pub IsToldCause : CorePlan → StagesProgress → ℕ → Cause → Type 0
 IsToldCause plan progress cut cause =
     ((cause ≡ Joint) × (limit_of plan progress ≡ Some cut))

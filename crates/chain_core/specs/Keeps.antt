@@ -1,5 +1,5 @@
--- What a stage does: it gives its list, ends where its list ends, and tells its agreement. It is said of what
--- the stage took, gave and tells, and of nothing else. This project's own rule.
+-- What a stage does: it gives its list, ends where its list ends, and reports its agreement. It is said of what
+-- the stage took, gave and reports, and of nothing else. This project's own rule.
 use Rattle.std.specs.Prelude.{◌≡◌, ℕ, zero, suc, ◌+◌, ◌<◌, List, [], ◌∷◌, ◌++◌, length, take, Option, Some, false}
 use Rattle.std.specs.List.{All}
 use Rattle.ts_packet.specs.declared.cell.Cell.{Cell}
@@ -36,14 +36,14 @@ EndsAs plugins k list given WriteFault = k ≡ suc plugins
 EndsAs plugins k list given NoMemory = Unit {0}
 EndsAs plugins k list given Followed = Unit {0}
 
--- stage `k` has given `given`, of the list that it makes of the cells that it took, and tells this end:
--- that a last packet passed it tells with the visit that gives this packet
+-- stage `k` has given `given`, of the list that it makes of the cells that it took, and reports this end:
+-- it reports that a last packet passed with the visit that gives this packet
 pub record KeepsList (plugins k : ℕ) (list : StageList) (given : List Cell) (ended : Option StageEnd) : Type 0 where
   pub gives : IsPrefix given list.cells
   pub ends : (end : StageEnd) → ended ≡ Some end → EndsAs plugins k list given end
   pub last_at_once : IsEndOf list given last_passed → ended ≡ Some Last
 
--- a plugin that met the cells `met`, and had given `before` cells before this visit, tells its agreement with
+-- a plugin that met the cells `met`, and had given `before` cells before this visit, reports its agreement with
 -- the visit that gives the cell at which it first holds
 pub record KeepsAgreement (rule : PluginRule) (met : List Cell) (before : ℕ) (told : Option ℕ) : Type 0 where
   pub truly : (agreed : ℕ) → told ≡ Some agreed → agreement_of rule met ≡ Some agreed
@@ -54,12 +54,12 @@ abbrev pub list_made : List PluginRule → StageList → ℕ → List Cell → S
 list_made rules input zero took = input
 list_made rules input (suc j) took = apply (rule_behind rules j) took
 
--- the stage tells its agreement as its rule says; the input has none
+-- the stage reports its agreement as its rule says; the input has none
 abbrev pub Agrees : List PluginRule → ℕ → List Cell → ℕ → ℕ → Option ℕ → Type 0
 Agrees rules zero took before now told = Unit {0}
 Agrees rules (suc j) took before now told = KeepsAgreement (rule_behind rules j) (take now took) before told
 
--- stage `k`, which took and gave these cells before, gives `cells` and tells the word as its list says
+-- stage `k`, which took and gave these cells before, gives `cells` and reports the word as its list says
 pub record StageKeeps (rules : List PluginRule) (input : StageList) (plugins k : ℕ) (took given cells : List Cell) (word : StageWord) : Type 0 where
   pub list : KeepsList plugins k (list_made rules input k took) (given ++ cells) word.ended
   pub agreement : Agrees rules k took (length given) (length given + length cells) word.agreed

@@ -17,17 +17,17 @@ pub record ChangesOneStage (plan : CorePlan) (old new : ChainState) (visit : Vis
   pub others : (j : ℕ) → j ≢ visit.stage → new.stages j ≡ old.stages j
   -- no cell is taken back
   pub no_less : (old.stages visit.stage).taken ≤ (new.stages visit.stage).taken
-  -- the output was told the limit of its news, and no other visit tells it one
+  -- the output received the limit of its news, and no other visit changes the limit that it received
   pub told : visit.stage ≡ suc plan.plugins → new.told ≡ limit_of plan (progress_of_stages new)
   pub not_told : visit.stage ≢ suc plan.plugins → new.told ≡ old.told
 
--- what another stage is about to give and tell stays as it was: allowed, and as its list says
+-- what another stage is about to give and report stays as it was: allowed, and as its list says
 pub record LeavesOthers (plan : CorePlan) (old new : ChainState) (visit : Visit) : Type 0 where
   pub allowed : (other : Visit) → other.stage ≢ visit.stage → Allowed plan old other → Allowed plan new other
   pub took_same : (j : ℕ) → j ≢ visit.stage → took new j ≡ took old j
   pub keeps : (rules : List PluginRule) (input : StageList) (other : Visit) → other.stage ≢ visit.stage → Keeps plan rules input old other → Keeps plan rules input new other
 
--- the promises on the news that stage `k` may be told in this state
+-- what the news promise that stage `k` may receive in this state
 pub record NewsHold (plan : CorePlan) (state : ChainState) (k : ℕ) : Type 0 where
   pub taken_ahead : (news_of plan (progress_of_stages state) k).taken ≤ (news_of plan (progress_of_stages state) k).written + plan.buffer
   pub taken_below : (news_of plan (progress_of_stages state) k).taken ≤ POSITION_LIMIT
@@ -35,7 +35,7 @@ pub record NewsHold (plan : CorePlan) (state : ChainState) (k : ℕ) : Type 0 wh
   pub given_within : length (state.stages k).given ≤ (news_of plan (progress_of_stages state) k).taken
   pub taken_within : (j : ℕ) → k ≡ suc j → (news_of plan (progress_of_stages state) k).taken ≤ length (state.stages j).given
 
--- the news do not fall behind: what was written stays written, and a limit that is known stays
+-- the news do not go back: what was written stays written, and a limit that is known stays
 pub record NewsGrow (plan : CorePlan) (old new : ChainState) : Type 0 where
   pub written : written_of plan (progress_of_stages old) ≤ written_of plan (progress_of_stages new)
   pub limit : (limit : ℕ) → limit_of plan (progress_of_stages old) ≡ Some limit → limit_of plan (progress_of_stages new) ≡ Some limit

@@ -1,3 +1,4 @@
+-- The definitions of the chain as numbers, and its theorem.
 pub mod Stages
 pub mod Numbers
 pub mod Machine

@@ -9,25 +9,25 @@ use Rattle.chain_core.specs.declared.stage_end.StageEnd.{StageEnd}
 use Rattle.chain_core.specs.declared.stage_word.StageWord.{StageWord}
 use Rattle.chain_core.specs.Numbers.{StagesProgress, limit_of, takes_of, agreed_with, news_of, MayVisit}
 
--- a stage: the cells that it has given, how many it has taken, and the agreement and the end that it told
+-- a stage: the cells that it has given, how many it has taken, and the agreement and the end that it reported
 pub record StageState : Type 0 where
   pub given : List Cell
   pub taken : ℕ
   pub agreed : Option ℕ
   pub ended : Option StageEnd
 
--- all stages by their numbers, and the limit that the output was last told
+-- all stages by their numbers, and the limit that the output last received
 pub record ChainState : Type 0 where
   pub stages : ℕ → StageState
   pub told : Option ℕ
 
--- the visit of a stage: the cells that it gives on and the word that it tells
+-- the visit of a stage: the cells that it gives on and the word that it reports
 pub record Visit : Type 0 where
   pub stage : ℕ
   pub cells : List Cell
   pub word : StageWord
 
--- the visit of a stage that gives these cells and tells this word
+-- the visit of a stage that gives these cells and reports this word
 abbrev pub visit_of : ℕ → List Cell → StageWord → Visit
 visit_of stage cells word = record { stage = stage; cells = cells; word = word }
 
@@ -59,7 +59,7 @@ noted plan state visit = record {
   told = state.told;
 }
 
--- the second step: the stage takes of the cells that wait, and the output is told the limit
+-- the second step: the stage takes of the cells that wait, and the output is given the limit
 unfoldable pub served : CorePlan → ChainState → ℕ → ChainState
 served plan state k = record {
   stages = with_stage state.stages k (record {
@@ -80,6 +80,6 @@ abbrev pub Allowed : CorePlan → ChainState → Visit → Type 0
 Allowed plan state visit =
     MayVisit plan (progress_of_stages state) state.told visit.stage (length visit.cells) visit.word
 
--- what the stage is told by a visit
+-- the news that a visit returns to the stage
 abbrev pub news_after : CorePlan → ChainState → Visit → News
 news_after plan state visit = news_of plan (progress_of_stages (visited plan state visit)) visit.stage

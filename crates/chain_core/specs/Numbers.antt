@@ -21,7 +21,7 @@ StagesProgress = ℕ → Progress
 abbrev pub UsersArePlugins : CorePlan → Type 0
 UsersArePlugins plan = All (λ k. (1 ≤ k) × (k ≤ plan.plugins)) (stages_of plan.users)
 
--- the joint position, once every plugin that uses joint termination has told its agreement
+-- the joint position, once every plugin that uses joint termination has reported its agreement
 abbrev pub limit_of : CorePlan → StagesProgress → Option ℕ
 limit_of plan progress = greatest_if_all (map (λ k. (progress k).agreed) (stages_of plan.users))
 
@@ -34,11 +34,11 @@ abbrev pub is_before_over : StagesProgress → ℕ → Bool
 is_before_over progress zero = false
 is_before_over progress (suc j) = is_some (progress j).ended && (progress (suc j)).given == (progress j).given
 
--- the stage behind has ended; there is none behind the output
+-- the next stage has ended; there is none after the output
 abbrev pub is_after_over : CorePlan → StagesProgress → ℕ → Bool
 is_after_over plan progress k = nat_le k plan.plugins && is_some (progress (suc k)).ended
 
--- what a stage is told
+-- the news of a stage
 abbrev pub news_of : CorePlan → StagesProgress → ℕ → News
 news_of plan progress k = record {
   taken = (progress k).taken;
@@ -58,11 +58,11 @@ reach_of plan progress (suc j) = (progress j).given
 abbrev pub takes_of : CorePlan → StagesProgress → ℕ → ℕ
 takes_of plan progress k = min plan.most (reach_of plan progress k - (progress k).taken)
 
--- the agreement that is known of a stage: the first one that it told, if it uses joint termination
+-- the agreement that is known of a stage: the first one that it reported, if it uses joint termination
 abbrev pub agreed_with : CorePlan → ℕ → Option ℕ → Option ℕ → Option ℕ
 agreed_with plan k known told = if has_stage plan.users k then option_or known told else known
 
--- a stage that had given `before` cells and has given `now` may tell this agreement
+-- a stage that had given `before` cells and has given `now` may report this agreement
 abbrev pub IsAgreement : ℕ → ℕ → ℕ → Type 0
 IsAgreement before now agreed = ((before < agreed) × (agreed ≤ now)) ⊎ (agreed ≡ now)
 
@@ -73,8 +73,8 @@ MayFollow plan progress k now =
     ⊎ (IsTrue (is_after_over plan progress k)
     ⊎ ((limit : ℕ) × (limit_of plan progress ≡ Some limit) × (limit ≤ now)))
 
--- the machine allows a visit in which the stage gives so many cells; `told` is the limit that the
--- output was last told
+-- the machine allows a visit in which the stage gives so many cells; `told` is the limit that
+-- the output last received
 pub record MayVisit (plan : CorePlan) (progress : StagesProgress) (told : Option ℕ) (stage done : ℕ) (word : StageWord) : Type 0 where
   pub is_stage : stage ≤ suc plan.plugins
   pub goes_on : (progress stage).ended ≡ None

@@ -1,3 +1,5 @@
+//! The result of a run: the cut and its cause.
+
 use chain_model::Cause;
 
 /// Where a chain was cut, and why.

@@ -1,6 +1,8 @@
+//! The plan of a chain core.
+
 use crate::StageSet;
 
-/// What a chain's core has to know. Stage 0 is the input, stages 1 to `plugins` are the plugins,
+/// What the core of a chain is made of. Stage 0 is the input, stages 1 to `plugins` are the plugins,
 /// and stage `plugins` + 1 is the output.
 #[derive(Clone, Copy)]
 pub struct CorePlan {

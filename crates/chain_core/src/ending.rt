@@ -20,7 +20,7 @@ pub(crate) fn least_end(progress: &[Progress], limit: Option<u64>) -> Option<u64
     least
 }
 
-// The lesser of a number that may be wanting and the place of an ending, where there is a cause.
+// The lesser of a number, if it is known, and the place of an ending, where there is a cause.
 fn lesser_with(least: Option<u64>, at: u64, own: Option<Cause>) -> Option<u64>
     ensures { result ≡ least_among least (ending_with at own) }
 {

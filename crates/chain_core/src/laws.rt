@@ -1,4 +1,4 @@
-//! Laws of the machine that the layers above build on, each a fact and no code.
+//! Laws of the machine that the layers above build on. They run nothing.
 
 ghost use Rattle.std.specs.Prelude.{◌≡◌, ◌≤◌, ℕ, List, ◌∷◌, length, Option, None};
 ghost use Rattle.ts_packet.specs.declared.cell.Cell.{Cell};
@@ -14,7 +14,7 @@ ghost use Rattle.chain_core.specs.ChainRun.{ChainRun, state_after, AllEnded};
 ghost use Rattle.chain_core.specs.Keeps.{KeepsList};
 ghost use Rattle.chain_core.specs.Laws.{ChangesOneStage, LeavesOthers, NewsHold, NewsGrow, IsQuiet};
 
-/// What one visit changes, and what it leaves: a stage's part of the run is its own.
+/// What one visit changes, and what it leaves: the other stages, and what they are about to do.
 pub fn one_visit()
     ensures changes { (plan : CorePlan) (state : ChainState) (visit : Visit)
         → ChangesOneStage plan state (visited plan state visit) visit }
@@ -23,7 +23,7 @@ pub fn one_visit()
         → LeavesOthers plan (state_after plan visits) (state_after plan (visit ∷ visits)) visit }
 {}
 
-/// The promises on the news of every visit of every run.
+/// What the news of every visit of every run promise.
 pub fn news_promises()
     ensures hold { (plan : CorePlan) (visits : List Visit) (k : ℕ)
         → UsersArePlugins plan → ChainRun plan visits
@@ -33,7 +33,7 @@ pub fn news_promises()
         → NewsGrow plan (state_after plan visits) (state_after plan (visit ∷ visits)) }
 {}
 
-/// Where nothing moves, every stage has ended: no run waits for itself.
+/// Where nothing moves, every stage has ended: no run blocks itself.
 pub fn quiet_is_over()
     ensures { (plan : CorePlan) (visits : List Visit)
         → UsersArePlugins plan → 1 ≤ plan.buffer → ChainRun plan visits

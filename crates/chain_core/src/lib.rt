@@ -1,4 +1,4 @@
-//! The chain as numbers: visits of stages come in, news and at last the cut and its cause go out.
+//! The chain as numbers: visits of stages come in; news, and at the end the cut and its cause, go out.
 //! The layer above uses `Core::visit` (one visit is one event of the machine) and `every_order`.
 #![tactic(auto)]
 

@@ -34,7 +34,7 @@ fn agreed_at(progress: &[Progress], stage: usize) -> Option<u64>
     }
 }
 
-// The greatest of those so far and one more, if none of them is wanting.
+// The greatest of those so far and one more, if all of them are known.
 fn joined(asked: bool, so_far: Option<u64>, agreed: Option<u64>) -> Option<u64>
     ensures { result ≡ greatest_more asked so_far agreed }
 {
@@ -57,7 +57,7 @@ pub(crate) fn within_limit(n: u64, limit: Option<u64>) -> u64
     }
 }
 
-/// The lesser of a number that may be wanting and a number.
+/// The lesser of a number, if it is known, and another number.
 pub(crate) fn lesser(least: Option<u64>, n: u64) -> u64
     ensures { result ≡ lesser_if least n }
 {

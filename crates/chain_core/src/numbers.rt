@@ -1,3 +1,5 @@
+//! The core of a chain: the progress of all stages, and one visit.
+
 use crate::ending::{cause_at, least_end};
 use crate::limit::{limit_of, within_limit};
 use crate::{Closed, CorePlan, News, Progress, StageWord};
@@ -35,7 +37,7 @@ impl Core {
     ghost use Rattle.chain_core.specs.Close.{closed_of};
     ghost use Rattle.chain_core.specs.CoreNumbers.{CoreNumbers, IsLawfulPlan, StandsFor, progress_of_core, noted_numbers, served_numbers};
 
-    /// A core of a chain in which nothing was given or taken. After an `AllocError` there is none.
+    /// A core of a chain in which nothing was given or taken. `AllocError` where there is no memory for it.
     pub fn new(alloc: Global, plan: &CorePlan) -> Result<Core, AllocError>
         requires { IsLawfulPlan plan.now }
         ensures plan { IfOk result (λ core. core.plan ≡ plan.now) }
@@ -57,7 +59,7 @@ impl Core {
         self.progress[stage]
     }
 
-    /// One visit of a stage, which gives `done` of the cells in its hands and tells the word. It is
+    /// One visit of a stage, which gives `done` of the cells in its hands and reports the word. It is
     /// the machine's visit, whatever the cells are, and its answer the machine's news. It takes no
     /// memory.
     pub fn visit(&mut self, stage: usize, done: usize, word: StageWord) -> News
@@ -90,7 +92,7 @@ impl Core {
         self.progress[stage] = self.progress[stage].noted(is_user, done, word);
     }
 
-    // The stage takes of the cells that wait, and the output is told the limit.
+    // The stage takes of the cells that wait, and the output is given the limit.
     fn serve(&mut self, stage: usize, limit: Option<u64>)
         requires is_stage { stage ≤ suc self.old.plan.plugins }
         requires limit { limit ≡ limit_of_marks self.old.plan (progress_of_core self.old) }
@@ -111,7 +113,7 @@ impl Core {
         }
     }
 
-    // What the stage is told.
+    // The news of the stage.
     fn news(&self, stage: usize, limit: Option<u64>) -> News
         requires is_stage { stage ≤ suc self.now.plan.plugins }
         requires limit { limit ≡ limit_of_marks self.now.plan (progress_of_core self.now) }

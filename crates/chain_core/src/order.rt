@@ -1,3 +1,5 @@
+//! The chain theorem, as a law.
+
 ghost use Rattle.std.specs.Prelude.{List};
 ghost use Rattle.chain_model.specs.PluginRule.{PluginRule};
 ghost use Rattle.chain_model.specs.Apply.{StageList};

@@ -1,3 +1,5 @@
+//! The progress of one stage.
+
 use crate::{StageEnd, StageWord};
 use chain_model::Cause;
 
@@ -8,7 +10,7 @@ pub struct Progress {
     pub given: u64,
     /// How many cells the stage has taken.
     pub taken: u64,
-    /// The first agreement that the stage told, where it uses joint termination.
+    /// The first agreement that the stage reported, where it uses joint termination.
     pub agreed: Option<u64>,
     /// How the stage has ended.
     pub ended: Option<StageEnd>,
@@ -33,7 +35,7 @@ impl Progress {
         }
     }
 
-    /// The progress of the stage when it has given `done` cells more and told the word.
+    /// The progress of the stage when it has given `done` cells more and reported the word.
     pub(crate) fn noted(self, is_user: bool, done: usize, word: StageWord) -> Progress
         requires { self.given + done ≤ self.taken }
         ensures { result ≡ noted_progress is_user self done word }

@@ -1,11 +1,13 @@
+//! The ends of a stage, and the causes that they give.
+
 use chain_model::{Cause, InputEnd, Reason};
 
-/// How a stage ends. `Followed` alone is not an end of the stage's own.
+/// How a stage ends. All but `Followed` are ends of the stage's own.
 #[derive(Debug, Clone, Copy, PartialEq, Eq)]
 pub enum StageEnd {
     /// The input has no further packet.
     Input(InputEnd),
-    /// The plugin passed its last packet, with the visit that tells this.
+    /// The plugin passed its last packet, with the visit that reports this.
     Last,
     /// The plugin stopped before the next packet.
     Stop,
@@ -13,7 +15,7 @@ pub enum StageEnd {
     Refuse(Reason),
     /// The output did not take the next packet whole.
     WriteFault,
-    /// The stage wanted memory at the next packet.
+    /// The stage ran out of memory at the next packet.
     NoMemory,
     /// The stage ends since a neighbour has ended, or since it gave all cells below the limit.
     Followed,

@@ -1,3 +1,5 @@
+//! Sets of stages, kept as bits.
+
 ghost use Rattle.std.specs.Prelude.{◌≡◌, ℕ, ◌<◌, [], ◌∷◌, ◌++◌, ◌==◌, ◌||◌, ◌≤◌, false, All, IfNone, IfSome};
 
 /// A set of stage numbers below 64.
@@ -9,7 +11,7 @@ pub struct StageSet {
 impl StageSet {
     ghost use Rattle.chain_core.specs.Stages.{has_stage, stages_of, IsNextFrom};
 
-    /// No stage at all.
+    /// The empty set.
     pub fn none() -> StageSet
         ensures { stages_of result ≡ [] }
     {

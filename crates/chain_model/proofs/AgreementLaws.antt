@@ -5,7 +5,7 @@ use Rattle.ts_packet.specs.declared.cell.Cell.{Cell}
 use Rattle.chain_model.specs.PluginRule.{PluginRule}
 use Rattle.chain_model.specs.Joint.{agreement_after, agreement_of}
 
--- a rule that agrees behind the history agrees there
+-- a rule that agrees after the history agrees there
 agreement_after-here : (rule : PluginRule) (history xs : List Cell) → rule.agrees history ≡ true → agreement_after rule history xs ≡ Some (length history)
 agreement_after-here rule history [] yes_ = cond-true (rule.agrees history) (Some (length history)) None yes_
 agreement_after-here rule history (x ∷ xs) yes_ =

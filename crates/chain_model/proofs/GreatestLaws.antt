@@ -1,9 +1,9 @@
--- The greatest of numbers of which some may be wanting.
+-- The greatest of numbers of which some may be missing.
 use Rattle.std.proofs.Common.{◌≡◌, ℕ, max, ◌≤◌, List, [], ◌∷◌, map, Option, Some, None, refl, ap, sym, ◌∙◌, arith}
 use Rattle.std.specs.List.{AllByRecursion}
 use Rattle.chain_model.specs.Joint.{greatest_with, greatest_if_all}
 
--- the number at `u` is known and not above `limit`
+-- the number at `u` is known and at most `limit`
 abbrev pub IsKnownWithin : (ℕ → Option ℕ) → ℕ → ℕ → Type 0
 IsKnownWithin f limit u = (n : ℕ) × (f u ≡ Some n) × (n ≤ limit)
 
@@ -11,7 +11,7 @@ IsKnownWithin f limit u = (n : ℕ) × (f u ≡ Some n) × (n ≤ limit)
 abbrev pub IsKept : (ℕ → Option ℕ) → (ℕ → Option ℕ) → ℕ → Type 0
 IsKept f g u = (n : ℕ) → f u ≡ Some n → g u ≡ Some n
 
--- what `g` alone knows at `u` is not below `m`
+-- what `g` alone knows at `u` is at least `m`
 abbrev pub IsNewFrom : (ℕ → Option ℕ) → (ℕ → Option ℕ) → ℕ → ℕ → Type 0
 IsNewFrom f g m u = (n : ℕ) → f u ≡ None → g u ≡ Some n → m ≤ n
 
@@ -24,7 +24,7 @@ greatest_with-all f n (u ∷ us) limit e =
       | Some m ↦ (λ is h. let s = greatest_with-all f (max n m) us limit h in let le : max n m ≤ limit = s.0 in (omega arith, ((m, is, omega arith), s.1)))
     ] refl e
 
--- each of the numbers is known, and not above their greatest
+-- each of the numbers is known, and at most their greatest
 pub greatest-all : (f : ℕ → Option ℕ) (us : List ℕ) (limit : ℕ) → greatest_if_all (map f us) ≡ Some limit → AllByRecursion (IsKnownWithin f limit) us
 greatest-all f [] limit e = absurd cc
 greatest-all f (u ∷ us) limit e =
@@ -58,7 +58,7 @@ greatest_with-new f g m n (u ∷ us) limit kept fresh none e =
       | Some x ↦ (λ is h. greatest_with-new f g m (max n x) us limit kept.1 fresh.1 h (ap (λ (o : Option ℕ). greatest_with n (o ∷ map g us)) (sym (kept.0 x is)) ∙ e))
     ] refl none
 
--- where the greatest becomes known by `g` alone, it is not below what `g` alone knows
+-- where the greatest becomes known by `g` alone, it is at least what `g` alone knows
 pub greatest-new : (f g : ℕ → Option ℕ) (m : ℕ) (us : List ℕ) (limit : ℕ) → AllByRecursion (IsKept f g) us → AllByRecursion (IsNewFrom f g m) us → greatest_if_all (map f us) ≡ None → greatest_if_all (map g us) ≡ Some limit → m ≤ limit
 greatest-new f g m [] limit kept fresh none e = absurd cc
 greatest-new f g m (u ∷ us) limit kept fresh none e =

@@ -21,7 +21,7 @@ cell-goes_on : (rule : PluginRule) → NeverEnds rule → (history : List Cell) 
 cell-goes_on rule h history (Live packet labels) = live-goes_on (rule.outcome_of history packet labels) (rule.labels_of history packet labels) (h.goes_on history packet labels)
 cell-goes_on rule h history Dropped = (Dropped, refl)
 
--- the cell that is given for one, and with it the list of any cells behind that one
+-- the cell that is given for one, and with it the list of any cells after that one
 record Given (rule : PluginRule) (history : List Cell) (x : Cell) : Type 0 where
   cell : Cell
   is : became rule history x ≡ goes_on cell

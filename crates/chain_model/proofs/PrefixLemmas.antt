@@ -1,4 +1,4 @@
--- A longer list of cells gives longer lists behind it: what a chain gives for a first part of its
+-- More cells give longer lists: what a chain gives for a first part of its
 -- input is a first part of what it gives for the whole.
 use Rattle.std.proofs.Common.{ℕ, zero, suc, List, [], ◌∷◌, ◌++◌, take, drop, refl, ap, sym, ◌∙◌, append_assoc}
 use Rattle.std.proofs.lemmas.List.{take-append-drop}

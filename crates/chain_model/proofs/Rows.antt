@@ -1,4 +1,4 @@
--- Worked rows, computed on the definitions. Packets of one byte do as well as whole ones here.
+-- Worked rows, computed on the definitions. Packets have one byte here.
 use Rattle.std.proofs.Common.{◌≡◌, ℕ, List, [], ◌∷◌, length, replicate, Some, None, refl}
 use Rattle.std.specs.Prelude.{nat_le, ◌==◌, if◌then◌else◌}
 use Rattle.ts_packet.specs.Cells.{Live, Dropped}
@@ -13,7 +13,7 @@ use Rattle.chain_model.specs.Joint.{agreement_of, joint_position}
 use Rattle.chain_model.specs.Cut.{cut_of, cause_of}
 use Rattle.chain_model.specs.Stuffed.{stuffed}
 
--- a rule that gives this fate behind so many cells, passes before, and agrees behind so many others
+-- a rule that gives this fate after so many cells, passes before, and agrees after so many others
 abbrev rule_at : ℕ → (List ℕ → RuleOutcome) → ℕ → PluginRule
 rule_at n fate agreed = record {
   outcome_of = λ history packet labels. if length history == n then fate packet else passes packet;
@@ -66,7 +66,7 @@ never-joint = refl
 never-cut : cut_of (agrees_at 5 ∷ agrees_at 9 ∷ []) (input 8) (1 ∷ 2 ∷ []) ≡ 8
 never-cut = refl
 
--- an agreement at the end of the list that is met still counts, one behind it does not
+-- an agreement at the end of the list that is met still counts, one after it does not
 agreed-at_end : agreement_of (agrees_at 8) (input 8).cells ≡ Some 8
 agreed-at_end = refl
 
@@ -101,7 +101,7 @@ dropped-list = refl
 dropped-joint : joint_position (drops_at 1 ∷ agrees_at 3 ∷ []) (input 8) (2 ∷ []) ≡ Some 3
 dropped-joint = refl
 
--- stop nulls stand behind the input's end, and so behind the joint cut: they do not count
+-- stop nulls come after the input's end, and so after the joint cut: they do not count
 nulls-cells : length (stuffed (record { start = 0; stop = 4; null = 0; every = 1 }) (record { packets = replicate 3 packet; ended = End 0 })).cells ≡ 7
 nulls-cells = refl
 

@@ -20,7 +20,7 @@ abbrev pub cut_of : List PluginRule → StageList → List ℕ → ℕ
 cut_of rules input users =
     lesser_end (length (end_list rules input).cells) (joint_position rules input users)
 
--- the number stands there
+-- the number is known and is `n`
 abbrev pub is_at : Option ℕ → ℕ → Bool
 is_at None n = false
 is_at (Some m) n = m == n
@@ -77,14 +77,14 @@ abbrev pub IsPureClose : List PluginRule → StageList → List ℕ → ℕ → 
 IsPureClose rules input users cut cause =
     (cut ≡ cut_of rules input users) × (cause ≡ cause_of rules input users)
 
--- a cause that only a fault outside, or want of memory, can give
+-- a cause that only a fault outside, or running out of memory, gives
 abbrev pub is_fault : Cause → Bool
 is_fault (Input ReadFault) = true
 is_fault WriteFault = true
 is_fault (NoMemory k) = true
 is_fault _ = false
 
--- a fault may end the chain at `m`: not behind the cut, and not where another cause stands before it
+-- a fault may end the chain at `m`: not after the cut, and not where another cause stands before it
 pub record IsLawfulFault (rules : List PluginRule) (input : StageList) (users : List ℕ) (m : ℕ) (cause : Cause) : Type 0 where
   pub fault : IsTrue (is_fault cause)
   pub within : m ≤ cut_of rules input users

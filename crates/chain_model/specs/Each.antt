@@ -1,7 +1,7 @@
--- Each of a list is so.
+-- All members of a list have a property.
 use Rattle.std.specs.Prelude.{List, [], ◌∷◌}
 
--- each of them is so
+-- all members have the property
 abbrev pub Each : {X : Type 0} → (X → Type 0) → List X → Type 0
 Each F [] = Unit {0}
 Each F (x ∷ xs) = F x × Each F xs

@@ -6,7 +6,7 @@ use Rattle.chain_model.specs.declared.input_end.InputEnd.{InputEnd}
 use Rattle.chain_model.specs.declared.input_end.InputEnd.TheVariants.{End, Sync}
 use Rattle.ts_packet.specs.Packet.{null_packet}
 
--- the packets that an input gives, and how it ends behind them
+-- the packets that an input gives, and how it ends after them
 pub record InputList : Type 0 where
   pub packets : List (List ℕ)
   pub ended : InputEnd
@@ -25,7 +25,7 @@ packets_within (suc most) bytes =
 abbrev pub packets_of : List ℕ → List (List ℕ)
 packets_of bytes = packets_within (length bytes) bytes
 
--- how an input ends whose bytes behind the first `n` packets hold no further packet
+-- how an input ends whose bytes after the first `n` packets hold no further packet
 abbrev pub end_behind : ℕ → List ℕ → InputEnd
 end_behind n [] = End 0
 end_behind n (first ∷ rest) =

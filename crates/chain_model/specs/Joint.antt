@@ -6,7 +6,7 @@ use Rattle.chain_model.specs.PluginRule.{PluginRule}
 use Rattle.chain_model.specs.Apply.{StageList}
 use Rattle.chain_model.specs.StageLists.{rule_behind, stage_list}
 
--- the least number of cells behind a history at which the rule agrees, counted with the history
+-- the least number of cells after a history at which the rule agrees, counted with the history
 abbrev pub agreement_after : PluginRule → List Cell → List Cell → Option ℕ
 agreement_after rule history [] = if rule.agrees history then Some (length history) else None
 agreement_after rule history (cell ∷ cells) =
@@ -17,13 +17,13 @@ agreement_after rule history (cell ∷ cells) =
 abbrev pub agreement_of : PluginRule → List Cell → Option ℕ
 agreement_of rule cells = agreement_after rule [] cells
 
--- what the numbers behind a first one add to it
+-- the greatest of a number and of these, if each of these is known
 abbrev pub greatest_with : ℕ → List (Option ℕ) → Option ℕ
 greatest_with n [] = Some n
 greatest_with n (None ∷ rest) = None
 greatest_with n (Some m ∷ rest) = greatest_with (max n m) rest
 
--- the greatest number, if nobody's is wanting and somebody is asked
+-- the greatest of the users' numbers, if each of them is known and there is a user
 abbrev pub greatest_if_all : List (Option ℕ) → Option ℕ
 greatest_if_all [] = None
 greatest_if_all (None ∷ rest) = None

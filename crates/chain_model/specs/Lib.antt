@@ -1,3 +1,4 @@
+-- The definitions of the meaning of a chain.
 pub mod Prefix
 pub mod Each
 pub mod Written

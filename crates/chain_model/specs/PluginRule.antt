@@ -18,7 +18,7 @@ pub data RuleOutcome : Type 0 where
   refuses : (reason : Reason) → RuleOutcome
 
 -- what a plugin is: what becomes of a live packet with its labels, the labels that its cell has then, the lines
--- that the plugin gives at the packet's position, its summary over a history, and whether it agrees to end behind
+-- that the plugin gives at the packet's position, its summary over a history, and whether it agrees to end after
 -- that history
 pub record PluginRule : Type 0 where
   pub outcome_of : List Cell → List ℕ → ℕ → RuleOutcome
@@ -27,7 +27,7 @@ pub record PluginRule : Type 0 where
   pub summary_of : List Cell → List (List ℕ)
   pub agrees : List Cell → Bool
 
--- the rule that changes neither packets nor labels and says nothing: that of the output
+-- the rule that changes neither packets nor labels and reports nothing: that of the output
 unfoldable pub passing_rule : PluginRule
 passing_rule = record {
   outcome_of = λ _ packet _. passes packet;

@@ -14,14 +14,14 @@ use Rattle.chain_model.specs.PluginRule.{PluginRule}
 use Rattle.chain_model.specs.Apply.{StageList}
 use Rattle.chain_model.specs.StageLists.{stage_list}
 
--- the lines that a rule gives on the live cells behind a history, in the order of their positions
+-- the lines that a rule gives on the live cells after a history, in the order of their positions
 abbrev pub lines_after : PluginRule → List Cell → List Cell → List (List ℕ)
 lines_after rule history [] = []
 lines_after rule history (Live packet labels ∷ cells) =
     rule.lines_of history packet labels ++ lines_after rule (history ++ Live packet labels ∷ []) cells
 lines_after rule history (Dropped ∷ cells) = lines_after rule (history ++ Dropped ∷ []) cells
 
--- what a plugin says of the cells that count: its lines, then its summary
+-- what a plugin reports of the cells that count: its lines, then its summary
 abbrev pub said_of : PluginRule → List Cell → List (List ℕ)
 said_of rule cells = lines_after rule [] cells ++ rule.summary_of cells
 
@@ -42,7 +42,7 @@ pub record NamedRule : Type 0 where
 abbrev pub rules_of : List NamedRule → List PluginRule
 rules_of plugins = map (λ plugin. plugin.rule) plugins
 
--- the reports of plugin `j` and those behind it: each over the first `m` cells of the list that it meets
+-- the reports of plugin `j` and those after it: each over the first `m` cells of the list that it meets
 abbrev pub reports_from : List PluginRule → StageList → ℕ → ℕ → List NamedRule → List ℕ
 reports_from rules input m j [] = []
 reports_from rules input m j (plugin ∷ rest) =
@@ -67,7 +67,7 @@ reason_text (Refuse j reason) rest =
 reason_text WriteFault rest = codes "write fault" ++ rest
 reason_text (NoMemory k) rest = codes "no memory" ++ rest
 
--- the bytes that are left out behind the last whole packet, if there are any, and then the rest of the line
+-- the bytes that are left out after the last whole packet, if there are any, and then the rest of the line
 abbrev pub left_out : Cause → List ℕ → List ℕ
 left_out (Input (End left)) rest =
     if left == 0 then rest else codes ", " ++ (decimal left ++ (codes " bytes left out" ++ rest))

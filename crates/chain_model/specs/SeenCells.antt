@@ -1,4 +1,4 @@
--- What a plugin sees where it is to see packets with some labels alone, and what its rule is then.
+-- What a plugin sees that goes by some labels alone, and what its rule is then.
 -- This project's own rule.
 use Rattle.std.specs.Prelude.{ℕ, List, [], map, if◌then◌else◌}
 use Rattle.ts_packet.specs.declared.cell.Cell.{Cell}
@@ -16,7 +16,7 @@ abbrev pub seen : ℕ → List Cell → List Cell
 seen only cells = map (sees only) cells
 
 -- the rule of a plugin that sees packets with these labels alone: what it does not see passes as it is and with its
--- labels, and is no part of what the plugin says, counts or agrees to
+-- labels, and is no part of what the plugin reports, counts or agrees to
 abbrev pub only_rule : ℕ → PluginRule → PluginRule
 only_rule only rule = record {
   outcome_of = λ history packet labels.

@@ -4,7 +4,7 @@ use Rattle.std.specs.Prelude.{ℕ, zero, suc, List, [], ◌∷◌, length}
 use Rattle.chain_model.specs.PluginRule.{PluginRule, passing_rule}
 use Rattle.chain_model.specs.Apply.{StageList, apply}
 
--- the rule of the plugin behind `j` others; past the last one everything passes
+-- the rule of the plugin after `j` others; past the last one everything passes
 abbrev pub rule_behind : List PluginRule → ℕ → PluginRule
 rule_behind [] j = passing_rule
 rule_behind (rule ∷ rules) zero = rule

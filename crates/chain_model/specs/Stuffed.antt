@@ -11,7 +11,7 @@ use Rattle.chain_model.specs.declared.input_end.InputEnd.TheVariants.{End, TooLo
 use Rattle.chain_model.specs.Apply.{StageList, input_over}
 use Rattle.chain_model.specs.InputList.{InputList}
 
--- how many null packets stand before the input's, behind its end, and behind each `every`-th of its packets
+-- how many null packets stand before the input's, after its end, and after each `every`-th of its packets
 pub record Stuffing : Type 0 where
   pub start : ℕ
   pub stop : ℕ
@@ -25,17 +25,17 @@ no_stuffing = record { start = 0; stop = 0; null = 0; every = 1 }
 abbrev pub null_cells : ℕ → List Cell
 null_cells n = replicate n (Live null_packet no_labels)
 
--- the null packets behind the `n`-th packet of the input, counted from 1
+-- the null packets after the `n`-th packet of the input, counted from 1
 abbrev pub nulls_behind : Stuffing → ℕ → List Cell
 nulls_behind stuffing n = if n % stuffing.every == 0 then null_cells stuffing.null else []
 
--- the packets of the input that follow `n` others, each with the null packets behind it
+-- the packets of the input that follow `n` others, each with its null packets after it
 abbrev pub stuffed_after : Stuffing → ℕ → List (List ℕ) → List Cell
 stuffed_after stuffing n [] = []
 stuffed_after stuffing n (packet ∷ packets) =
     Live packet no_labels ∷ (nulls_behind stuffing (n + 1) ++ stuffed_after stuffing (n + 1) packets)
 
--- the null packets behind the end: after a plain end alone
+-- the null packets after the end: after a plain end alone
 abbrev pub stop_nulls : Stuffing → InputEnd → List Cell
 stop_nulls stuffing (End left) = null_cells stuffing.stop
 stop_nulls stuffing _ = []

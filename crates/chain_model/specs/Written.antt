@@ -4,7 +4,7 @@ use Rattle.std.specs.List.{flat_map}
 use Rattle.ts_packet.specs.declared.cell.Cell.{Cell}
 use Rattle.ts_packet.specs.Cells.{Live, Dropped}
 
--- the bytes that a cell writes: its packet's, and none of its labels, or none where the packet was dropped
+-- the bytes that a cell writes: those of its packet, or none where the packet was dropped; labels are not written
 abbrev pub cell_bytes : Cell → List ℕ
 cell_bytes (Live packet labels) = packet
 cell_bytes Dropped = []

@@ -1,3 +1,5 @@
+//! Why a chain ended.
+
 use crate::{InputEnd, Reason};
 
 /// Why a chain ended where it did. Plugins count from 1; stage 0 is the input.
@@ -15,6 +17,6 @@ pub enum Cause {
     Refuse(usize, Reason),
     /// The output did not take a packet whole.
     WriteFault,
-    /// This stage wanted memory.
+    /// This stage ran out of memory.
     NoMemory(usize),
 }

@@ -1,3 +1,5 @@
+//! The ends of an input.
+
 /// How the input's list of packets ends.
 #[derive(Debug, Clone, Copy, PartialEq, Eq)]
 pub enum InputEnd {

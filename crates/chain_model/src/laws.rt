@@ -1,4 +1,4 @@
-//! Laws of the run without faults, each a fact and no code.
+//! Laws of the run without faults. They run nothing.
 
 ghost use Rattle.std.specs.Prelude.{◌≡◌, ◌<◌, ◌++◌, ℕ, List, Some, None, IsSome, length, slice_index_or, take};
 ghost use Rattle.ts_packet.specs.declared.cell.Cell.{Cell};
@@ -19,8 +19,8 @@ pub fn joint_is_at_the_cut()
         → joint_position rules input users ≡ Some (cut_of rules input users) → cause_of rules input users ≡ Joint }
 {}
 
-/// A rule that never ends its list gives one cell for each, in its place: what it makes of that cell behind those before
-/// it. So what it gives for a list behind another stands behind what it gives for that other.
+/// A rule that never ends its list gives one cell for each cell, at the same position: what it makes of that cell after the
+/// cells before it. So what it gives for two joined lists begins with what it gives for the first of them.
 pub fn each_position_by_itself()
     ensures ended { (rule : PluginRule) (cells : List Cell) → NeverEnds rule → (apply rule cells).ended ≡ None }
     ensures count { (rule : PluginRule) (cells : List Cell) → NeverEnds rule

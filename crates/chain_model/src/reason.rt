@@ -1,3 +1,5 @@
+//! The refusals of plugins.
+
 /// Why a plugin refuses a packet.
 #[derive(Debug, Clone, Copy, PartialEq, Eq)]
 pub enum Reason {

@@ -74,7 +74,7 @@ tells_step rule met x before told r noted noted' None false has is tells within 
       notes = now.1 ∙ ap (λ (o : Option ℕ). is_some o) (sym more);
     }
 
--- one cell more was met, and the plugin was asked behind it
+-- one cell more was met, and the plugin was asked after it
 pub TellsAgreement-step : (rule : PluginRule) (met : List Cell) (x : Cell) (before : ℕ) (told r : Option ℕ) (noted noted' : Bool)
     → TellsAgreement rule met before told noted → before ≤ length met → AgreesNow noted (rule.agrees (met ++ x ∷ [])) (length met + 1) r noted'
     → TellsAgreement rule (met ++ x ∷ []) before (option_or told r) noted'
@@ -97,7 +97,7 @@ agreed_step rule rule' history cells i at cell told r told' noted noted' within 
     subst (λ (l : List Cell). TellsAgreement rule l at told' noted') (sym (met-more history cells i cell within is))
     (subst (λ (t : Option ℕ). TellsAgreement rule (met ++ cell ∷ []) at t noted') (sym tells) step)
 
--- an agreement that was known before is not told again
+-- an agreement that was known before is not reported again
 pub newly_agreed-within : (before : ℕ) (a : Option ℕ) → ((m : ℕ) → a ≡ Some m → m ≤ before) → newly_agreed before a ≡ None
 newly_agreed-within before None within = refl
 newly_agreed-within before (Some m) within =

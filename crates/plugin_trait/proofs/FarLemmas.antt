@@ -1,4 +1,4 @@
--- What a plugin makes of two lists of cells, one behind the other, and cell by cell.
+-- What a plugin makes of two lists of cells, one after the other, and cell by cell.
 use Rattle.std.proofs.Common.{◌≡◌, ℕ, ◌+◌, ◌<◌, List, [], ◌∷◌, ◌++◌, length, take, get_or, set, refl, ap, sym, ◌∙◌, arith, append_assoc, append-nil, None}
 use Rattle.std.proofs.lemmas.List.{take_more, take_more_set, take-set}
 use Rattle.ts_packet.specs.declared.cell.Cell.{Cell}
@@ -14,7 +14,7 @@ onto-behind (goes_on cell) a b c step open_ = ap (onto (goes_on cell)) (step ope
 onto-behind (ends_after cell) a b c step open_ = cc
 onto-behind (ends_before how) a b c step open_ = cc
 
--- a list that has not ended goes on with what is made of the cells behind it
+-- a list that has not ended goes on with what is made of the cells after it
 pub apply_after-append : (rule : PluginRule) (history xs ys : List Cell) → (apply_after rule history xs).ended ≡ None
     → apply_after rule history (xs ++ ys) ≡ behind (apply_after rule history xs).cells (apply_after rule (history ++ xs) ys)
 apply_after-append rule history [] ys open_ = ap (λ (h : List Cell). apply_after rule h ys) (sym (append-nil history))

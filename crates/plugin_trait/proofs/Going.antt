@@ -1,4 +1,4 @@
--- A plugin half way through a list: what was made stands in front of what the rule makes of the rest.
+-- A plugin in the middle of a list: what was made, and then what the rule makes of the rest.
 use Rattle.std.proofs.Common.{◌≡◌, ℕ, ◌+◌, ◌<◌, List, [], ◌∷◌, ◌++◌, length, take, drop, get_or, set, ap, sym, subst, ◌∙◌, ◌⊎◌, inl, inr, append_assoc, append-nil, add-zero, drop-drop, arith, None, Some, ◌≤◌}
 use Rattle.std.proofs.lemmas.List.{drop_all, drop_more, set-get_or, take_more, take_more_set, take-set, get_or-drop, drop-set-lt}
 use Rattle.ts_packet.specs.declared.cell.Cell.{Cell}
@@ -64,7 +64,7 @@ module _ (rule : PluginRule) (history given made : List Cell) (i : ℕ) (cell : 
       let known = half_known (ends_before how) e in
       (take-set made i left ∙ (sym (append-nil (take i made)) ∙ sym (ap (λ (s : StageList). s.cells) known)), ap (λ (s : StageList). s.ended) known)
 
--- an outcome with which the list goes on tells of the cell that goes on
+-- an outcome with which the list goes on gives the cell that goes on
 pub tells_goes_on : (rule : PluginRule) (history : List Cell) (cell left : Cell) (outcome : Outcome)
     → (outcome ≡ Pass) ⊎ (outcome ≡ Drop) → StepTells rule history cell outcome left → became rule history cell ≡ goes_on left
 tells_goes_on rule history cell left outcome one told =
@@ -84,7 +84,7 @@ pub same_at : (xs ys : List Cell) (i : ℕ) (d : Cell) → drop i xs ≡ drop i 
 same_at xs ys i d same =
     ap (λ (n : ℕ). get_or xs n d) (sym (add-zero i)) ∙ (sym (get_or-drop i xs 0 d) ∙ (ap (λ (zs : List Cell). get_or zs 0 d) same ∙ (get_or-drop i ys 0 d ∙ ap (λ (n : ℕ). get_or ys n d) (add-zero i))))
 
--- and behind that place, whatever is written there
+-- and after that place, whatever is written there
 pub same_behind : (xs ys : List Cell) (i : ℕ) (left : Cell) → drop i xs ≡ drop i ys → drop (i + 1) (set xs i left) ≡ drop (i + 1) ys
 same_behind xs ys i left same =
     drop-set-lt (i + 1) xs i left (omega arith) ∙ (sym (drop-drop 1 i xs) ∙ (ap (drop 1) same ∙ drop-drop 1 i ys))

@@ -21,7 +21,7 @@ pub texts-append : (xs ys : List Line) → map text_of (xs ++ ys) ≡ map text_o
 texts-append [] ys = refl
 texts-append (x ∷ xs) ys = ap (λ (rest : List (List ℕ)). text_of x ∷ rest) (texts-append xs ys)
 
--- the texts of the lines on the cells behind a history
+-- the texts of the lines on the cells after a history
 pub texts-placed_after : (rule : PluginRule) (history cells : List Cell) → map text_of (placed_after rule history cells) ≡ lines_after rule history cells
 texts-placed_after rule history [] = refl
 texts-placed_after rule history (Live packet labels ∷ cells) =
@@ -30,7 +30,7 @@ texts-placed_after rule history (Live packet labels ∷ cells) =
     ∙ ap (λ (texts : List (List ℕ)). rule.lines_of history packet labels ++ texts) (texts-placed_after rule (history ++ Live packet labels ∷ []) cells))
 texts-placed_after rule history (Dropped ∷ cells) = texts-placed_after rule (history ++ Dropped ∷ []) cells
 
--- the texts of all that a plugin says
+-- the texts of all that a plugin reports
 pub texts-placed_of : (rule : PluginRule) (cells : List Cell) → map text_of (placed_of rule cells) ≡ said_of rule cells
 texts-placed_of rule cells =
     texts-append (placed_after rule [] cells) (placed_at (length cells) (rule.summary_of cells))
@@ -45,7 +45,7 @@ silent-placed_after rule history (Live packet labels ∷ cells) silent =
     ∙ silent-placed_after rule (history ++ Live packet labels ∷ []) cells silent
 silent-placed_after rule history (Dropped ∷ cells) silent = silent-placed_after rule (history ++ Dropped ∷ []) cells silent
 
--- a silent rule says nothing
+-- a silent rule reports nothing
 pub silent-placed_of : (rule : PluginRule) (cells : List Cell) → IsSilent rule → [] ≡ placed_of rule cells
 silent-placed_of rule cells silent =
     sym (ap (λ (lines : List Line). lines ++ placed_at (length cells) (rule.summary_of cells)) (silent-placed_after rule [] cells silent)

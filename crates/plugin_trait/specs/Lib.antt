@@ -1,3 +1,4 @@
+-- The definitions of what a plugin is.
 pub mod Steps
 pub mod Marks
 pub mod PlacedLines

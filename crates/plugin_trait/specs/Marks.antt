@@ -3,7 +3,7 @@ use Rattle.std.specs.Prelude.{ℕ, ◌≤◌, List, length, Result, is_ok, if◌
 use Rattle.ts_packet.specs.declared.cell.Cell.{Cell}
 use Rattle.std.specs.declared.alloc.AllocError.{AllocError}
 
--- a plugin to which this mark, or cut, may be told
+-- a plugin that may be given this mark, or cut
 pub record AllowsMark (stands : List Cell → ℕ → Type 0) (written : ℕ) : Type 0 where
   pub history : List Cell
   pub mark : ℕ
@@ -11,7 +11,7 @@ pub record AllowsMark (stands : List Cell → ℕ → Type 0) (written : ℕ) : 
   pub not_below : mark ≤ written
   pub met : written ≤ length history
 
--- after it was told, the plugin stands for the same cells with this mark, or as before where memory was wanted
+-- after it was given, the plugin stands for the same cells with this mark, or as before where memory ran out
 abbrev pub Notes : (List Cell → ℕ → Type 0) → (List Cell → ℕ → Type 0) → ℕ → Result Unit AllocError → Type 0
 Notes old new written answer =
     (history : List Cell) (mark : ℕ) → old history mark → mark ≤ written → written ≤ length history

@@ -9,7 +9,7 @@ use Rattle.plugin_trait.specs.declared.line.Line.{Line}
 abbrev pub placed_at : ℕ → List (List ℕ) → List Line
 placed_at position texts = map (λ text. record { at = position; text = text }) texts
 
--- the lines of a rule on the live cells behind a history, each at its cell's position
+-- the lines of a rule on the live cells after a history, each at its cell's position
 abbrev pub placed_after : PluginRule → List Cell → List Cell → List Line
 placed_after rule history [] = []
 placed_after rule history (Live packet labels ∷ cells) =
@@ -17,7 +17,7 @@ placed_after rule history (Live packet labels ∷ cells) =
     ++ placed_after rule (history ++ Live packet labels ∷ []) cells
 placed_after rule history (Dropped ∷ cells) = placed_after rule (history ++ Dropped ∷ []) cells
 
--- all that a plugin says of the cells that count: its lines, then its summary at their end
+-- all that a plugin reports of the cells that count: its lines, then its summary at their end
 abbrev pub placed_of : PluginRule → List Cell → List Line
 placed_of rule cells = placed_after rule [] cells ++ placed_at (length cells) (rule.summary_of cells)
 

@@ -1,4 +1,4 @@
--- The rule of a plugin that says nothing. This project's own rule.
+-- The rule of a plugin that reports nothing. This project's own rule.
 use Rattle.std.specs.Prelude.{ℕ, List, [], false}
 use Rattle.ts_packet.specs.declared.cell.Cell.{Cell}
 use Rattle.chain_model.specs.PluginRule.{PluginRule, RuleOutcome}

@@ -31,7 +31,7 @@ abbrev pub IsLive : Cell → Type 0
 IsLive (Live packet labels) = Unit {0}
 IsLive Dropped = ⊥
 
--- what an outcome, with the cell that is left, tells of what became of the cell that came
+-- what became of the cell that came, by the outcome and the cell that is left
 abbrev pub StepTells : PluginRule → List Cell → Cell → Outcome → Cell → Type 0
 StepTells rule history cell Pass left = (became rule history cell ≡ goes_on left) × SameKind cell left
 StepTells rule history cell Drop left =
@@ -51,7 +51,7 @@ met_after Stop history cell = history
 met_after (Refuse reason) history cell = history
 met_after NoMemory history cell = history
 
--- the step tells what the rule says, of each list that the plugin stood for
+-- the outcome is what the rule says, for each list that the plugin stood for
 abbrev pub Tells : PluginRule → (List Cell → ℕ → Type 0) → ℕ → Cell → Outcome → Cell → Type 0
 Tells rule stands at cell outcome left =
     (history : List Cell) (mark : ℕ) → stands history mark → length history ≡ at
@@ -73,7 +73,7 @@ pub record HasRoom (steady : Option ℕ) (stands : List Cell → ℕ → Type 0)
   pub count : length history ≡ at
   pub within : at < mark + room
 
--- room was made before the run for notes on so many positions behind the mark
+-- room was made before the run for notes on so many positions after the mark
 abbrev pub IsSteadyFor : Option ℕ → ℕ → Type 0
 IsSteadyFor None count = ⊥
 IsSteadyFor (Some room) count = count ≤ room

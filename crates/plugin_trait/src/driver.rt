@@ -1,4 +1,4 @@
-//! The driver of a plugin: a list of cells through it.
+//! The driver of a plugin, which takes a list of cells through it.
 ghost use Rattle.std.specs.Prelude.{◌≡◌, ◌≢◌, ◌≤◌, ℕ, [], take, vec_len};
 ghost use Rattle.chain_model.specs.declared.positions.TheConstants.{POSITION_LIMIT};
 ghost use Rattle.chain_model.specs.Apply.{apply};
@@ -8,7 +8,7 @@ ghost use Rattle.plugin_trait.specs.Driving.{Makes, AgreesNow};
 use crate::{ListEnd, Plugin};
 use ts_packet::Cell;
 
-/// Notes that a plugin agrees, where it does so for the first time. The answer is then the number of cells.
+/// Notes that a plugin agrees, where it does so for the first time; then it returns the number of cells.
 #[inline]
 pub(crate) fn note_agreement(agrees: bool, noted: &mut bool, now: u64) -> Option<u64>
     ensures { AgreesNow noted.old agrees now result noted.new }
@@ -20,8 +20,8 @@ pub(crate) fn note_agreement(agrees: bool, noted: &mut bool, now: u64) -> Option
     None
 }
 
-/// Takes a whole list of cells through a plugin that met none yet. The list becomes the plugin's own. Memory is wanted only
-/// where the plugin made no room for the notes on so many cells.
+/// Takes a whole list of cells through a plugin that met none yet. The list becomes the plugin's own. It runs out of
+/// memory only where the plugin made no room for the notes on so many cells.
 pub fn apply_plugin<P: Plugin>(plugin: &mut P, cells: &mut Vec<Cell>) -> ListEnd
     requires met { MeetsCells (P.stands_for plugin.old) 0 }
     requires in_range { vec_len cells.old ≤ POSITION_LIMIT }

@@ -1,5 +1,5 @@
 //! What a plugin is to the chain: a cell comes in with its position, the cell and an outcome go out.
-//! The layer above uses the clauses of `Plugin`, which hold its rule to a list of cells, and nothing else.
+//! The layer above uses the clauses of `Plugin`, which tie what it does to its rule, and nothing else.
 #![tactic(auto)]
 
 mod driver;

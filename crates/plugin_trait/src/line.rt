@@ -1,6 +1,8 @@
+//! A line of a report with its position.
+
 use crate::LineText;
 
-/// A line that a plugin has to report.
+/// A line that a plugin reports.
 #[derive(Drop)]
 pub struct Line {
     /// The position of the packet that the line is about. For a line of the summary it is the cut.

@@ -1,3 +1,5 @@
+//! The text of a line of a report.
+
 ghost use Rattle.std.specs.Prelude.{◌≡◌};
 ghost use Rattle.std.specs.String.{string_bytes};
 
@@ -19,14 +21,14 @@ impl Model for LineText {
 }
 
 impl LineText {
-    /// Keeps a text as it is, and takes no memory.
+    /// A line with this text. It allocates nothing.
     pub fn of(text: String) -> LineText
         ensures { result ≡ string_bytes text }
     {
         LineText { text }
     }
 
-    /// Lends the text.
+    /// The text.
     pub fn as_str(&self) -> &str
         ensures { result.now ≡ self.now }
     {

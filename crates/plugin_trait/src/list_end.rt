@@ -1,3 +1,5 @@
+//! What a plugin made of a list of cells, and how it left it.
+
 use chain_model::Reason;
 
 /// How a plugin left a list of cells.
@@ -11,7 +13,7 @@ pub enum ListEnd {
     Stop,
     /// It refused a packet.
     Refuse(Reason),
-    /// It wanted memory for a packet.
+    /// It ran out of memory at a packet.
     NoMemory,
 }
 

@@ -1,3 +1,5 @@
+//! The outcomes of one step of a plugin.
+
 use chain_model::Reason;
 
 /// What a plugin does with a cell.
@@ -13,6 +15,6 @@ pub enum Outcome {
     Stop,
     /// The list ends before the packet, which is refused.
     Refuse(Reason),
-    /// Memory was wanted. The cell is as it was, and the plugin stands for the cells that it met before it.
+    /// Out of memory. The cell is as it was, and the plugin stands for the cells that it met before it.
     NoMemory,
 }

@@ -1,3 +1,5 @@
+//! The trait of all plugins.
+
 use crate::driver::note_agreement;
 use crate::{Applied, Line, ListEnd, Outcome};
 use std::alloc::AllocError;
@@ -6,7 +8,7 @@ use ts_packet::Cell;
 /// A plugin of the chain. It means a rule, a function of the whole history of the cells that it met.
 ///
 /// A value of a plugin stands for the list of the cells that it met, and for the greatest mark that
-/// it was told. It is a relation, since the value keeps less than the list: a call asks for one list
+/// it was given. It is a relation, since the value keeps less than the list: a call asks for one list
 /// and mark that the value stands for, and what it promises holds for each.
 pub trait Plugin {
     ghost use Rattle.std.specs.Prelude.{◌≡◌, ◌≢◌, ◌<◌, ◌+◌, ◌≤◌, ℕ, List, [], ◌++◌, Bool, true, false, Option, Some, IsOk, IfOk, IsSome, is_some, take, drop, length};
@@ -27,7 +29,7 @@ pub trait Plugin {
     /// The value stands for these cells that it met, and for this greatest mark.
     ghost stands_for: { Self → List Cell → ℕ → Type 0 };
 
-    /// Where it is a number, memory was taken before the run for notes on so many positions behind
+    /// Where it is a number, memory was taken before the run for notes on so many positions after
     /// the greatest mark. No call changes it.
     ghost steady: { Self → Option ℕ };
 
@@ -47,9 +49,9 @@ pub trait Plugin {
 
     /// Takes the cells from a position on, in place, until the plugin ends its list.
     ///
-    /// The cells behind the plugin's own list are as they were. `noted` says whether the plugin agreed before; where it
-    /// did not, its agreement is answered and noted. Memory is wanted only where the plugin made no room for the notes
-    /// on all these cells.
+    /// The cells after the plugin's own list are as they were. `noted` says whether the plugin agreed before; where it
+    /// did not, its agreement is returned and noted. It runs out of memory only where the plugin made no room for the
+    /// notes on all these cells.
     fn steps(&mut self, at: u64, cells: &mut [Cell], noted: &mut bool) -> Applied
         requires met { MeetsCells (stands_for self.old) at }
         requires in_range { at + length cells.old ≤ POSITION_LIMIT }
@@ -109,8 +111,8 @@ pub trait Plugin {
         }
     }
 
-    /// Is told that the positions below a mark are written, so that notes on them may be folded.
-    /// A mark is not below the marks before it, and not above the number of cells that were met.
+    /// Receives a mark: the positions below it are written, so that notes on them may be folded.
+    /// No mark is less than the one before it, and none exceeds the number of cells that were met.
     fn note(&mut self, written: u64) -> Result<(), AllocError>
         requires { AllowsMark (stands_for self.old) written }
         ensures notes { Notes (stands_for self.old) (stands_for self.new) written result }
@@ -118,14 +120,14 @@ pub trait Plugin {
         ensures same_steady { steady self.new ≡ steady self.old }
         ensures room { IsSome (steady self.old) → IsOk result };
 
-    /// Whether the plugin uses joint termination and agrees to end behind the cells that it met.
+    /// Whether the plugin uses joint termination and agrees to end after the cells that it met.
     fn agreed(&self) -> bool
         requires { MeetsSome (stands_for self.now) }
         ensures { (history : List Cell) (mark : ℕ) → stands_for self.now history mark
             → result ≡ (rule self.now).agrees history };
 
-    /// Gives the lines on the first `cut` cells that were met, and the summary over them, whose lines
-    /// stand at `cut`. It is called once, with a cut that is not below the greatest mark.
+    /// Returns the lines on the first `cut` cells that were met, and the summary over them, whose lines
+    /// stand at `cut`. It is called once, with a cut that is no less than the greatest mark.
     fn finish(&mut self, cut: u64) -> Result<Vec<Line>, AllocError>
         requires { AllowsMark (stands_for self.old) cut }
         ensures { (history : List Cell) (mark : ℕ) → stands_for self.old history mark → mark ≤ cut

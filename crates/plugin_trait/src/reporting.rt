@@ -9,8 +9,8 @@ ghost use Rattle.plugin_trait.specs.PlacedLines.{placed_of, IsSilent};
 use crate::{Line, Plugin};
 use std::alloc::{AllocError, Global};
 
-/// Takes from a plugin all that it has to say of the first `cut` cells: its lines, then its summary.
-/// It is called once, with a cut that is not below the greatest mark.
+/// All that a plugin reports of the first `cut` cells: its lines, then its summary.
+/// It is called once, with a cut that is no less than the greatest mark.
 pub fn report<P: Plugin>(plugin: &mut P, cut: u64) -> Result<Vec<Line>, AllocError>
     requires { AllowsMark (P.stands_for plugin.old) cut }
     ensures { (history : List Cell) (mark : ℕ) → P.stands_for plugin.old history mark → mark ≤ cut
@@ -21,7 +21,7 @@ pub fn report<P: Plugin>(plugin: &mut P, cut: u64) -> Result<Vec<Line>, AllocErr
     plugin.finish(cut)
 }
 
-/// The report of a plugin whose rule says nothing. It takes no memory.
+/// The report of a plugin whose rule has neither lines nor a summary. It allocates nothing.
 pub fn silent_report(alloc: Global) -> Vec<Line>
     ensures { (rule : PluginRule) (cells : List Cell) → IsSilent rule → result.items ≡ placed_of rule cells }
 {
