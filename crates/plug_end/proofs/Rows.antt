@@ -1,4 +1,4 @@
--- Worked rows of `until`, computed on the definitions. Packets of two bytes do as well as whole ones here.
+-- Worked rows of `until`, computed on the definitions. Packets have two bytes here.
 use Rattle.std.proofs.Common.{◌≡◌, ℕ, List, [], ◌∷◌, None, Some, true, false, refl}
 use Rattle.bit_rows.specs.BitRow.{bit_of, field}
 use Rattle.ts_packet.specs.declared.cell.Cell.{Cell}
@@ -32,7 +32,7 @@ third-left_out : apply (until_rule (record by_packets { exclude_last = true })) 
 unfolding field bit_of
 third-left_out = refl
 
--- six packets never come
+-- a sixth packet never comes
 never-reached : apply (until_rule (record by_packets { packets = Some 6 })) cells ≡ record { cells = cells; ended = None }
 unfolding field bit_of
 never-reached = refl
@@ -57,7 +57,7 @@ second-start : apply (until_rule by_starts) cells ≡ record { cells = Dropped �
 unfolding field bit_of
 second-start = refl
 
--- with `--joint-termination` all packets pass, and the plugin agrees behind the cell of the third packet: the dropped
+-- with `--joint-termination` all packets pass, and the plugin agrees after the cell of the third packet: the dropped
 -- cell is a place and no packet
 abbrev jointly : UntilConf
 jointly = record by_packets { joint_termination = true }

@@ -1,3 +1,4 @@
+-- The definitions of `until`.
 pub mod UntilRule
 pub mod UntilState
 pub mod UntilSettings

@@ -29,7 +29,7 @@ abbrev pub outcome_at_end : UntilConf → List ℕ → RuleOutcome
 outcome_at_end conf packet =
     if conf.joint_termination then passes packet else if conf.exclude_last then stops else lasts packet
 
--- what becomes of a packet behind a history: it passes, or the number is reached with it
+-- what becomes of a packet after a history: it passes, or the number is reached with it
 abbrev pub until_outcome : UntilConf → List Cell → List ℕ → ℕ → RuleOutcome
 until_outcome conf history packet labels =
     if is_reached conf (history ++ Live packet labels ∷ []) then outcome_at_end conf packet else passes packet

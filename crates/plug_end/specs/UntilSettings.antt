@@ -1,4 +1,4 @@
--- Lawful settings of `until`.
+-- Valid settings of `until`.
 -- This project's own rule.
 use Rattle.std.specs.Prelude.{◌==◌, ◌+◌, ◌≤◌, ◌&&◌, not, ℕ, Bool, IfSome, IsTrue, Option, if◌then◌else◌, is_some}
 use Rattle.plug_conf.specs.declared.limits.TheConstants.{MOST_NUMBER}
@@ -20,7 +20,7 @@ IsCount n = IfSome n (λ k. (1 ≤ k) × (k ≤ MOST_NUMBER))
 abbrev pub until_together : UntilConf → Bool
 until_together c = counts_given c == 1 && not (c.exclude_last && c.joint_termination)
 
--- the settings have what `until` needs, each number in its range, and no two that exclude each other
+-- the settings give what `until` needs, each number in its range, and no two that exclude each other
 pub record IsLawfulUntil (c : UntilConf) : Type 0 where
   pub of_packets : IsCount c.packets
   pub of_bytes : IsCount c.bytes

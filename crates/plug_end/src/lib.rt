@@ -1,5 +1,5 @@
 //! The plugin that ends a chain: `until` passes packets until a number of them is reached.
-//! The layer above reads settings of words, makes it of its settings, and uses it by the clauses of `Plugin`.
+//! The layer above reads the settings from the words, makes the plugin from them, and uses it by the clauses of `Plugin`.
 #![tactic(auto)]
 
 mod until;

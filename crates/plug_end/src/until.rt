@@ -1,3 +1,5 @@
+//! The plugin `until`.
+
 ghost use Rattle.std.specs.Prelude.{◌≡◌, IfOk, [], Some};
 ghost use Rattle.plug_end.specs.UntilRule.{until_rule, reaches};
 
@@ -6,7 +8,7 @@ use plugin_trait::{Line, Outcome, Plugin, silent_report};
 use std::alloc::{AllocError, Global};
 use ts_packet::{Cell, PACKET_SIZE};
 
-/// Passes packets until a number of packets, of their bytes or of unit starts is reached. The packet
+/// Passes packets until a number of packets, of their bytes or of payload unit starts is reached. The packet
 /// with which it is reached is the last one, or is left out. With joint termination every packet
 /// passes, and the plugin agrees to end from that packet on.
 #[derive(Drop)]
@@ -29,7 +31,7 @@ impl Until {
     ghost use Rattle.plug_end.specs.UntilSettings.{IsLawfulUntil};
     ghost use Rattle.plug_end.specs.UntilRule.{until_rule, reaches};
 
-    /// A plugin that met no cell yet. It takes no memory, here and in its steps.
+    /// A plugin that met no cell yet. It allocates nothing, here and in its steps.
     pub fn new(alloc: Global, conf: &UntilConf, buffer: usize) -> Result<Until, AllocError>
         requires { IsLawfulUntil conf.now }
         ensures rule { IfOk result (λ plugin. ⟦<Until as Plugin>⟧.rule plugin ≡ until_rule conf.now) }

@@ -1,3 +1,5 @@
+//! The settings of `until`.
+
 ghost use Rattle.std.specs.Prelude.{◌≡◌};
 ghost use Rattle.plug_end.specs.UntilSettings.{until_together};
 

@@ -1,4 +1,4 @@
--- A pattern over and over: its first bytes, and how many there are.
+-- A repeated pattern: its first bytes, and how many there are.
 use Rattle.std.proofs.Common.{◌≡◌, ℕ, zero, suc, ◌+◌, ◌-◌, ◌<◌, ◌≤◌, ◌%◌, List, [], ◌∷◌, ◌++◌, length, take, get_or, ap, ◌∙◌, refl, add-zero, add-one, arith, length-append}
 use Rattle.std.proofs.lemmas.List.{take-append-le, take_all}
 use Rattle.std.proofs.lemmas.Bool.Decides.{nat_tests}
@@ -28,7 +28,7 @@ take-repeated_more pattern m (suc k) =
     ∙ (take-append-le m (repeated pattern (m + k)) (get_or pattern ((m + k) % length pattern) 0 ∷ []) (omega (arith, length-repeated pattern (m + k)))
     ∙ take-repeated_more pattern m k)
 
--- the first bytes of the pattern over and over
+-- the first bytes of the repeated pattern
 pub take-repeated : (pattern : List ℕ) (m n : ℕ) → m ≤ n → take m (repeated pattern n) ≡ repeated pattern m
 take-repeated pattern m n le =
     let e : n ≡ m + (n - m) = omega arith in

@@ -1,5 +1,5 @@
--- Worked rows of the rules, computed on the definitions. Packets of four bytes do as well as whole ones here, but for
--- `pattern`, which writes to the end of a whole one.
+-- Worked rows of the rules, computed on the definitions. Packets have four bytes here, but those of `pattern`
+-- are whole.
 use Rattle.std.proofs.Common.{◌≡◌, ℕ, List, [], ◌∷◌, ◌++◌, replicate, None, Some, true, false, refl, lit≤}
 use Rattle.bit_rows.specs.BitRow.{bit_of, field}
 use Rattle.ts_packet.specs.declared.cell.Cell.{Cell}
@@ -95,7 +95,7 @@ sliced-packets : apply (slice_rule slices) (Dropped ∷ Live on_256 0 ∷ Droppe
     ≡ record { cells = Dropped ∷ Live on_256 0 ∷ Dropped ∷ Dropped ∷ Dropped ∷ []; ended = None }
 sliced-packets = refl
 
--- the pattern begins again behind its last byte
+-- the pattern begins again after its last byte
 seven-repeated : repeated (1 ∷ 2 ∷ 3 ∷ []) 7 ≡ 1 ∷ 2 ∷ 3 ∷ 1 ∷ 2 ∷ 3 ∷ 1 ∷ []
 unfolding repeated
 seven-repeated = refl
@@ -112,7 +112,7 @@ patterned-other : (apply (pattern_rule patterns) (Live (on_256 ++ replicate 184 
 unfolding field bit_of adaptation_length_of payload_start_of repeated
 patterned-other = refl
 
--- behind an adaptation field of two bytes the place is behind the packet's end, and a field alone has no payload
+-- after an adaptation field of two bytes the place is after the packet's end, and a field alone has no payload
 behind-end : (apply (pattern_rule patterns) (Live (0x47 ∷ 0x01 ∷ 0x00 ∷ 0x30 ∷ 2 ∷ replicate 183 0) 0 ∷ [])).cells ≡ Live (0x47 ∷ 0x01 ∷ 0x00 ∷ 0x30 ∷ 2 ∷ replicate 183 0) 0 ∷ []
 unfolding field bit_of adaptation_length_of payload_start_of repeated
 behind-end = refl

@@ -1,4 +1,4 @@
--- Lawful settings of `filter`.
+-- Valid settings of `filter`.
 -- This project's own rule.
 use Rattle.std.specs.Prelude.{◌==◌, ◌||◌, ◌&&◌, Bool, IsTrue, length, not}
 use Rattle.ts_packet.specs.declared.labels.TheConstants.{LABEL_COUNT}
@@ -19,7 +19,7 @@ sets_labels c = not (length c.set_label == 0)
 abbrev pub filter_together : FilterConf → Bool
 filter_together c = not (sets_labels c && c.stuffing)
 
--- the settings have what `filter` needs, each number in its range, and no two that exclude each other
+-- the settings give what `filter` needs, each number in its range, and no two that exclude each other
 pub record IsLawfulFilter (c : FilterConf) : Type 0 where
   pub pids : AllBelow PID_COUNT c.pid
   pub labels : AllBelow LABEL_COUNT c.label

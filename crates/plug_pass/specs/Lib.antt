@@ -1,3 +1,4 @@
+-- The definitions of `filter`, `skip`, `slice` and `pattern`.
 pub mod FilterRule
 pub mod FilterState
 pub mod PatternRule

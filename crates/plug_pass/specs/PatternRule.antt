@@ -8,7 +8,7 @@ use Rattle.chain_model.specs.PluginRule.{PluginRule, passes}
 use Rattle.plug_conf.specs.Selection.{is_selected}
 use Rattle.plug_pass.specs.declared.pattern_conf.PatternConf.{PatternConf}
 
--- so many bytes of the pattern, which begins again behind its last byte
+-- so many bytes of the pattern, which begins again after its last byte
 unfoldable pub repeated : List ℕ → ℕ → List ℕ
 repeated pattern zero = []
 repeated pattern (suc n) = repeated pattern n ++ slice_index pattern (n % length pattern) ∷ []
@@ -18,7 +18,7 @@ abbrev pub offset_for : PatternConf → List ℕ → ℕ
 offset_for conf packet =
     if unit_start_of packet then unwrap_or conf.offset_pusi 0 else unwrap_or conf.offset_non_pusi 0
 
--- the packet with the pattern from a place to its end; behind the end there is no place
+-- the packet with the pattern from a place to its end; at or after the end nothing is written
 abbrev pub patterned_from : List ℕ → ℕ → List ℕ → List ℕ
 patterned_from pattern at packet =
     if nat_lt at PACKET_SIZE then with_piece packet at (repeated pattern (PACKET_SIZE - at)) else packet

@@ -16,7 +16,7 @@ conf_of s = record {
   offset_non_pusi = s.offset_non_pusi;
 }
 
--- the row of bytes is the pattern over and over, and the offsets lie in a payload
+-- the row of bytes is the pattern repeated, and the offsets lie in a payload
 pub record IsMade (filled pattern : List ℕ) (with_start without_start : Option ℕ) : Type 0 where
   pub is_filled : filled ≡ repeated pattern PAYLOAD_SIZE
   pub first : IsOffset with_start

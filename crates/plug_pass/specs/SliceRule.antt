@@ -6,7 +6,7 @@ use Rattle.chain_model.specs.PluginRule.{PluginRule, RuleOutcome, passes, drops,
 use Rattle.plug_pass.specs.declared.slice_conf.SliceConf.{SliceConf}
 use Rattle.plugin_trait.specs.LiveCount.{live_count}
 
--- an option's number is not above the live index, and is greater than `n`
+-- an option's number is at most the live index, and is greater than `n`
 abbrev pub is_between : ℕ → ℕ → Option ℕ → Bool
 is_between n index None = false
 is_between n index (Some other) = nat_lt n other && nat_le other index
@@ -16,7 +16,7 @@ abbrev pub is_overtaken : SliceConf → ℕ → ℕ → Bool
 is_overtaken conf index n = is_between n index conf.drop
     || (is_between n index conf.null || (is_between n index conf.pass || is_between n index conf.stop))
 
--- an option with number n decides if n is not above the live index, and no other such number is greater
+-- an option with number n decides if n is at most the live index, and no other such number is greater
 abbrev pub decides : SliceConf → ℕ → Option ℕ → Bool
 decides conf index None = false
 decides conf index (Some n) = nat_le n index && not (is_overtaken conf index n)

@@ -1,4 +1,4 @@
--- Lawful settings of `slice`.
+-- Valid settings of `slice`.
 -- This project's own rule.
 use Rattle.std.specs.Prelude.{◌==◌, ◌≤◌, ◌&&◌, ◌||◌, ℕ, Bool, IfSome, IsTrue, Option, Some, false, is_some, not}
 use Rattle.plug_conf.specs.declared.limits.TheConstants.{MOST_NUMBER}
@@ -23,7 +23,7 @@ slices_differ c = not (same_numbers c.drop c.null) && (not (same_numbers c.drop 
 abbrev pub IsBounded : Option ℕ → Type 0
 IsBounded n = IfSome n (λ k. k ≤ MOST_NUMBER)
 
--- the settings have what `slice` needs, each number in its range, and no two that exclude each other
+-- the settings give what `slice` needs, each number in its range, and no two that exclude each other
 pub record IsLawfulSlice (c : SliceConf) : Type 0 where
   pub dropped : IsBounded c.drop
   pub nulled : IsBounded c.null

@@ -1,3 +1,5 @@
+//! The plugin `filter`.
+
 ghost use Rattle.std.specs.Prelude.{◌≡◌, IfOk, [], Some};
 ghost use Rattle.plug_pass.specs.FilterRule.{filter_rule};
 
@@ -82,7 +84,7 @@ impl Plugin for Filter {
 
     ghost steady = { λ s. Some s.buffer };
 
-    // Else the loop of `steps` has a call for each cell.
+    // Inlined: otherwise the loop of `steps` has a call for each cell.
     #[inline(always)]
     fn step(&mut self, _at: u64, cell: &mut Cell) -> Outcome {
         let Some(live) = cell.live_mut() else {

@@ -1,3 +1,5 @@
+//! The settings of `filter`.
+
 ghost use Rattle.std.specs.Prelude.{◌≡◌};
 ghost use Rattle.plug_pass.specs.FilterSettings.{filter_together, sets_labels};
 
@@ -13,15 +15,15 @@ pub struct FilterConf {
     pub pid: NumberSet,
     /// The packet has a PCR.
     pub pcr: bool,
-    /// The packet has the payload unit start indicator.
+    /// The packet has its payload unit start indicator set.
     pub unit_start: bool,
     /// The scrambling control is not 0.
     pub scrambled: bool,
     /// The packet has one of these labels, 0 to 31; none where it is no condition.
     pub label: NumberSet,
-    /// The packets that meet none are selected in place of those that do.
+    /// The packets that meet none are selected instead of those that meet one.
     pub negate: bool,
-    /// What is not passed becomes a null packet and is not dropped. It excludes labels to be set.
+    /// A packet that does not pass becomes a null packet instead of being dropped. It excludes labels to be set.
     pub stuffing: bool,
     /// The labels, 0 to 31, that selected packets get besides their own; none where no labels are set.
     pub set_label: NumberSet,
@@ -35,7 +37,7 @@ impl FilterConf {
         !self.set_label.is_empty()
     }
 
-    /// Whether not both, labels to be set and stuffing, are given.
+    /// Whether labels to be set and stuffing are not both given.
     pub fn goes_together(&self) -> bool
         ensures { result ≡ filter_together self.now }
     {

@@ -1,5 +1,5 @@
 //! The plugins that pass, drop, label or overwrite packets: `filter`, `skip`, `slice`, `pattern`, each with its options.
-//! The layer above reads settings of words, makes each of its settings, and uses it by the clauses of `Plugin`.
+//! The layer above reads the settings from the words, makes each plugin from its settings, and uses it by the clauses of `Plugin`.
 #![tactic(auto)]
 
 mod filter;

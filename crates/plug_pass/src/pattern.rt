@@ -1,3 +1,5 @@
+//! The plugin `pattern`.
+
 ghost use Rattle.std.specs.Prelude.{◌≡◌, ◌≤◌, ◌<◌, IfOk, ℕ, List, [], Some, length};
 ghost use Rattle.plug_pass.specs.PatternRule.{pattern_rule, repeated, patterned_from};
 
@@ -16,7 +18,7 @@ pub struct Pattern {
     negate: bool,
     offset_pusi: Option<u64>,
     offset_non_pusi: Option<u64>,
-    /// The pattern over and over, as long as the longest payload.
+    /// The pattern repeated, as long as the longest payload.
     filled: [u8; PAYLOAD_SIZE],
     buffer: usize,
     alloc: Global,
@@ -62,7 +64,7 @@ impl Pattern {
         offset.unwrap_or(0)
     }
 
-    // Writes the pattern, where it is to be in the packet.
+    // Writes the pattern, if the packet's PID is selected and the place is in the packet.
     fn edit(&self, packet: &mut Packet)
         requires { IsMade self.now.filled self.now.pattern self.now.offset_pusi self.now.offset_non_pusi }
         ensures { packet.new ≡ edited (conf_of self.now) packet.old }
@@ -80,7 +82,7 @@ impl Pattern {
     }
 }
 
-// The pattern over and over.
+// The pattern repeated.
 fn filled_with(pattern: &[u8]) -> [u8; PAYLOAD_SIZE]
     requires { 1 ≤ length pattern.now }
     ensures { result ≡ repeated pattern.now PAYLOAD_SIZE }

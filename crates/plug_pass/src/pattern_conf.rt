@@ -1,3 +1,5 @@
+//! The settings of `pattern`.
+
 use plug_conf::NumberSet;
 use ts_outside::FileBytes;
 
@@ -8,10 +10,10 @@ pub struct PatternConf {
     pub operand: FileBytes,
     /// The PIDs of the packets that are changed; none where all are.
     pub pid: NumberSet,
-    /// The packets on other PIDs are changed in place of those.
+    /// The packets on all other PIDs are changed instead.
     pub negate: bool,
-    /// Where in the payload the pattern begins in a packet with unit start, 0 to 183; without it 0.
+    /// Where in the payload the pattern begins in a packet with the payload unit start indicator, 0 to 183; 0 where not given.
     pub offset_pusi: Option<u64>,
-    /// Where it begins in a packet without unit start, 0 to 183; without it 0.
+    /// Where it begins in a packet without that indicator, 0 to 183; 0 where not given.
     pub offset_non_pusi: Option<u64>,
 }

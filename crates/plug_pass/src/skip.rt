@@ -1,3 +1,5 @@
+//! The plugin `skip`.
+
 ghost use Rattle.std.specs.Prelude.{◌≡◌, ◌<◌, IfOk, [], Some};
 ghost use Rattle.plug_pass.specs.SkipRule.{skip_rule};
 
@@ -13,7 +15,7 @@ pub struct Skip {
     count: u64,
     /// How many packets are still to be dropped.
     left: u64,
-    /// For how many positions behind the last mark there is room.
+    /// For how many positions after the last mark there is room.
     buffer: usize,
     alloc: Global,
 }

@@ -1,3 +1,5 @@
+//! The settings of `skip`.
+
 /// Settings of `skip`, which drops the first packets.
 #[derive(Drop)]
 pub struct SkipConf {

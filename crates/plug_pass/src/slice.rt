@@ -1,3 +1,5 @@
+//! The plugin `slice`.
+
 ghost use Rattle.std.specs.Prelude.{◌≡◌, IfOk, [], Some};
 ghost use Rattle.plug_pass.specs.SliceRule.{slice_rule, is_between};
 
@@ -6,8 +8,8 @@ use plugin_trait::{Line, Outcome, Plugin, silent_report};
 use std::alloc::{AllocError, Global};
 use ts_packet::{Cell, Packet};
 
-/// Drops, passes or overwrites packets by where they stand, or stops: of its options the one with the
-/// greatest number that is not above the number of packets met before decides.
+/// Drops, passes or overwrites packets by their index, or stops: the option with the greatest number that is at most
+/// the number of packets met before decides.
 #[derive(Drop)]
 pub struct Slice {
     drop: Option<u64>,
@@ -26,7 +28,7 @@ impl Slice {
     ghost use Rattle.plug_pass.specs.SliceRule.{slice_rule, decides, is_overtaken};
     ghost use Rattle.plug_pass.specs.SliceState.{conf_of};
 
-    /// A plugin that met no cell yet. It takes no memory, here and in its steps.
+    /// A plugin that met no cell yet. It allocates nothing, here and in its steps.
     pub fn new(alloc: Global, conf: &SliceConf, buffer: usize) -> Result<Slice, AllocError>
         requires { IsLawfulSlice conf.now }
         ensures rule { IfOk result (λ plugin. ⟦<Slice as Plugin>⟧.rule plugin ≡ slice_rule conf.now) }
@@ -54,7 +56,7 @@ impl Slice {
         }
     }
 
-    // Whether an option has a greater number that is not above the next packet's.
+    // Whether an option has a greater number that is at most the next packet's.
     fn is_overtaken(&self, from: u64) -> bool
         ensures { result ≡ is_overtaken (conf_of self.now) self.now.met from }
     {
@@ -65,7 +67,7 @@ impl Slice {
     }
 }
 
-// Whether the number is given, greater than the one and not above the index.
+// Whether the number is given, greater than the one and at most the index.
 fn is_between(from: u64, index: u64, other: Option<u64>) -> bool
     ensures { result ≡ is_between from index other }
 {
@@ -87,7 +89,7 @@ impl Plugin for Slice {
 
     ghost steady = { λ s. Some s.buffer };
 
-    // Else the loop of `steps` has a call for each cell.
+    // Inlined: otherwise the loop of `steps` has a call for each cell.
     #[inline(always)]
     fn step(&mut self, _at: u64, cell: &mut Cell) -> Outcome {
         let Some(live) = cell.live_mut() else {

@@ -1,7 +1,9 @@
+//! The settings of `slice`.
+
 ghost use Rattle.std.specs.Prelude.{◌≡◌};
 ghost use Rattle.plug_pass.specs.SliceSettings.{same_numbers, slices_differ};
 
-/// Settings of `slice`, whose options each name the packet from which on they hold.
+/// Settings of `slice`, each option of which names the packet from which on it holds.
 ///
 /// Packets are counted from 0. At least one option is given, and no two have the same number. Each
 /// number is at most 2^60.
@@ -13,7 +15,7 @@ pub struct SliceConf {
     pub null: Option<u64>,
     /// From here on packets pass.
     pub pass: Option<u64>,
-    /// Here the chain ends.
+    /// The chain ends before this packet.
     pub stop: Option<u64>,
 }
 
