@@ -165,7 +165,7 @@ module _ {S K P : Type 0} (see : Seeing S K P)
     written-cut =
         let a = written-given laws begun.plan goes.lawful_run.lawful.users goes.visits by.run out (omega arith) in let b = given-cut in omega arith
 
-    -- a failed read is told by the input alone
+    -- a failed read is reported by the input alone
     read-told : why ≡ cause.Input ReadFault → ((state.stages 0).ended ≡ Some (Input ReadFault)) × (length (state.stages 0).given ≡ cut)
     read-told is =
         elim at-close.told [

@@ -42,7 +42,7 @@ module _ {S K P : Type 0} (see : Seeing S K P) where
     first-kind : kind_of first ≡ an_input
     first-kind = ap kind_of first-is ∙ ((goes.by.stands 0 (omega arith)).input refl).kind
 
-    -- the stages behind the first are those of the plugins, and the output's
+    -- the stages after the first are those of the plugins, and the output's
     rest-kinds : ArePluginsAndOutput see rest
     rest-kinds =
         all 0 rest (omega (arith, rest-length)) (omega (arith, rest-length)) (λ i d lt. rest-is i d lt ∙ ap (λ n. goes.part (suc n)) (omega arith))

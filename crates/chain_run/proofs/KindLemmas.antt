@@ -80,13 +80,13 @@ module _ {S K P : Type 0} (see : Seeing S K P) where
 
   -- ---- memory
 
-  -- a stage that may want memory is a plugin's that made no room
+  -- a stage that may run out of memory is a plugin's that made no room
   pub wants-kind : (part : StagePart S K P) (ahead : ℕ) → MayWantMemory see part ahead → (kind_of part ≡ a_plugin) × (IsSteadyFor (steady_of see part) ahead → ⊥)
   wants-kind (Input stage) ahead wants = absurd wants
   wants-kind (Plugin stage) ahead wants = (refl, wants)
   wants-kind (Output stage) ahead wants = absurd wants
 
-  -- it may want it for more positions too, behind a visit
+  -- it may run out of it for more positions too, after a visit
   pub wants-more : (old new : StagePart S K P) (less more : ℕ) → kind_of new ≡ kind_of old → steady_of see new ≡ steady_of see old → less ≤ more → MayWantMemory see old less → MayWantMemory see new more
   wants-more (Input old) new less more kind same le wants = absurd wants
   wants-more (Output old) new less more kind same le wants = absurd wants

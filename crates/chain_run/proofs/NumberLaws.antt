@@ -9,7 +9,7 @@ use Rattle.chain_core.specs.ChainRun.{ChainRun, state_after}
 use Rattle.chain_core.specs.Laws.{ChangesOneStage}
 use Rattle.chain_run.specs.Laws.{MachineLaws}
 
--- the state behind one visit more
+-- the state after one visit more
 pub after-visit : (plan : CorePlan) (visits : List Visit) (visit : Visit) → state_after plan (visit ∷ visits) ≡ visited plan (state_after plan visits) visit
 unfolding state_after
 after-visit plan visits visit = refl
@@ -42,7 +42,7 @@ module _ (laws : MachineLaws) (plan : CorePlan) (users : UsersArePlugins plan) (
   pub written-given : (k : ℕ) → k ≤ suc plan.plugins → written_of plan (progress_of_stages state) ≤ length (state.stages k).given
   written-given k le = (laws.hold plan visits k users run).written_within le
 
-  -- no stage took more than the buffer behind what was written
+  -- no stage took more than the buffer after what was written
   pub taken-ahead : (k : ℕ) → (state.stages k).taken ≤ written_of plan (progress_of_stages state) + plan.buffer
   taken-ahead k = (laws.hold plan visits k users run).taken_ahead
 

@@ -15,7 +15,7 @@ use Rattle.chain_run.specs.Runs.{nothing_told}
 use Rattle.chain_run.specs.SerialRuns.{still_of, remaining_work, IsIdleOrOver}
 use Rattle.chain_run.proofs.TurnLemmas.{quiet-mark, quiet-agreed}
 
--- the progress when a stage took of what waits, gave nothing and told nothing
+-- the progress when a stage took of what waits, gave nothing and reported nothing
 abbrev taking_progress : CorePlan → StagesProgress → ℕ → Progress
 taking_progress plan progress k = record {
   given = (progress k).given;

@@ -1,4 +1,4 @@
--- A visit that gives nothing and tells nothing: all stages stand for what they stood for.
+-- A visit that gives nothing and reports nothing: all stages stand for what they stood for.
 use Rattle.std.proofs.Common.{◌≡◌, ℕ, zero, suc, ◌+◌, ◌<◌, ◌≤◌, List, [], ◌∷◌, ◌++◌, length, take, drop, Option, None, refl, ap, sym, ◌∙◌, subst, arith, inl, inr, append-nil}
 use Rattle.std.specs.Prelude.{slice_index_or, slice_set}
 use Rattle.std.proofs.lemmas.Bool.{cases_eq}
@@ -30,7 +30,7 @@ use Rattle.chain_run.specs.Laws.{MachineLaws}
 use Rattle.chain_run.proofs.NumberLaws.{change, stage-other, written-grows, given-falls}
 use Rattle.chain_run.proofs.StepLemmas.{set_at, pick, doing-more, Own, stepped}
 
--- ---- a stage that goes on may tell nothing
+-- ---- a stage that goes on may report nothing
 
 list-going : (plugins k : ℕ) (list : StageList) (given same : List Cell) (ended : Option StageEnd) → ended ≡ None → same ≡ given → KeepsList plugins k list given ended → KeepsList plugins k list (same ++ []) None
 list-going plugins k list given same ended none is keeps =

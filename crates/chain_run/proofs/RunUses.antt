@@ -29,7 +29,7 @@ met-to stands rules input gave cut j (plugin ∷ plugins) met =
       met-to stands rules input gave cut (suc j) plugins met.1,
     )
 
--- where each plugin made room for the buffer, none wants memory
+-- where each plugin made room for the buffer, none runs out of memory
 pub steady-wants_none : {P : Type 0} (steady : P → Option ℕ) (buffer : ℕ) (plugins : List P) (k : ℕ) → AreSteadyFor steady buffer plugins → WantsMemory (map steady plugins) buffer k → ⊥
 steady-wants_none steady buffer plugins k are wants =
     wants.no_room (at plugins (k - 1) are (let a = wants.there_is in let b = wants.behind_input in omega (arith, length-map plugins steady)))

@@ -29,7 +29,7 @@ holds-right f at [] ys a = subst (λ n. HoldsFrom f n ys) (omega arith) a
 holds-right f at (x ∷ xs) ys a =
     subst (λ n. HoldsFrom f n ys) (omega arith) (holds-right f (suc at) xs ys a.1)
 
--- the first of the cells, and those behind them
+-- the first of the cells, and those after them
 pub holds-take : (f : ℕ → Cell) (at n : ℕ) (xs : List Cell) → HoldsFrom f at xs → HoldsFrom f at (take n xs)
 holds-take f at n xs a =
     holds-left f at (take n xs) (drop n xs) (subst (HoldsFrom f at) (sym (take-append-drop n xs)) a)
@@ -47,7 +47,7 @@ holds-same f g at (x ∷ xs) same a =
 
 -- ---- positions and slots
 
--- the slots behind that of a position, as long as the row goes on
+-- the slots after that of a position, as long as the row goes on
 pub slot-shift : (at i slots : ℕ) → at % slots + i < slots → (at + i) % slots ≡ at % slots + i
 slot-shift at i slots lt =
     let q : ℕ = at / slots in

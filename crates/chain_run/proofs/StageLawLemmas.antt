@@ -22,7 +22,7 @@ use Rattle.chain_run.proofs.StepLemmas.{doing-more}
 use Rattle.chain_run.proofs.RanLemmas.{so-far-up_to}
 use Rattle.chain_run.proofs.StageVisit as stage
 
--- a stage that gives and tells nothing at first does as its rule says
+-- a stage that gives and reports nothing at first does as its rule says
 first-quiet : (rules : List PluginRule) (input : StageList) (plugins k : ℕ) → (0 ≡ k → input.ended ≢ Some last_passed) → StageKeeps rules input plugins k (took start k) [] [] nothing_told
 first-quiet rules input plugins zero no_last = record {
   list = record { gives = (input.cells, refl); ends = λ end e. cc; last_at_once = λ last. absurd (no_last refl last.ended) };

@@ -58,7 +58,7 @@ pub given-parts : (all : List Cell) (given len done : ℕ) → done ≤ len → 
 given-parts all given len done le =
     ap (λ (l : List Cell). take given all ++ l) (take-take done len (drop given all) le) ∙ sym (take-add given done all)
 
--- what is left is the rest of the window, and what stands behind it
+-- what is left is the rest of the window, and what comes after it
 pub left-parts : (all : List Cell) (given len done : ℕ) → done ≤ len → given + len ≤ length all → drop (given + done) all ≡ drop done (take len (drop given all)) ++ drop (given + len) all
 left-parts all given len done le within =
     sym (drop-drop done given all)
@@ -198,7 +198,7 @@ module _ {S K P : Type 0} (see : Seeing S K P) (begun : RunStart S K)
     pub less : (list : StageList) → MayBe see begun new_part k after list → MayBe see begun part k lists list
     less list may-be = λ first. (did first).gives list (may-be first)
 
-    -- ---- a stage behind stage `j`
+    -- ---- a stage after stage `j`
 
     module _ (j : ℕ) (e : suc j ≡ k) (le : j ≤ begun.plan.plugins) where
       abbrev all : List Cell

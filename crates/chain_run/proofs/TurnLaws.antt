@@ -17,7 +17,7 @@ use Rattle.chain_run.specs.Laws.{MachineLaws}
 use Rattle.chain_run.proofs.TurnWorks.{Looked, look, work-written, work-given, work-taken, work-stands, work-may, turned}
 use Rattle.chain_run.proofs.TurnMoves.{moves, rests, idle}
 
--- a stage that goes on has looked, and so it may work and tell what it has done
+-- a stage that goes on has looked, and so it may work and report what it has done
 module _ {S K P : Type 0} (see : Seeing S K P) (laws : MachineLaws)
     (core core1 : CoreNumbers) (parts : List (StagePart S K P)) (cells : List Cell) (k : ℕ) (news : News)
     (goes : IsRunningSomehow see core parts cells) (is_stage : k ≤ suc core.plan.plugins) (open_ : (progress_of_core core k).ended ≡ None)

@@ -78,7 +78,7 @@ not-following plan progress k now no_ (inr (inr reached)) =
     or-both false true = refl
     or-both false false = refl
 
--- the progress of a stage that gave and told nothing
+-- the progress of a stage that gave and reported nothing
 module _ (plan : CorePlan) (state : ChainState) (k : ℕ) (open_ : (state.stages k).ended ≡ None) where
   abbrev pub quiet : Visit
   quiet = visit_of k [] nothing_told

@@ -1,4 +1,4 @@
--- A turn of a stage: it looks, works, and tells what it has done.
+-- A turn of a stage: it looks, works, and reports what it has done.
 use Rattle.std.proofs.Common.{◌≡◌, ℕ, suc, ◌+◌, ◌%◌, ◌^◌, ◌≤◌, List, [], ◌∷◌, ◌++◌, length, take, drop, None, refl, ap, sym, ◌∙◌, subst, arith}
 use Rattle.std.specs.Prelude.{slice_index_or, slice_set}
 use Rattle.std.proofs.lemmas.List.{length-take, length-drop, length-set}

@@ -1,4 +1,4 @@
--- A visit of the one thread that tells what a stage has done: what all stages stand for then, and the buffer.
+-- A visit of the one thread that reports what a stage has done: what all stages stand for then, and the buffer.
 use Rattle.std.proofs.Common.{◌≡◌, ◌≢◌, ◌⊎◌, ℕ, suc, ◌+◌, ◌%◌, ◌<◌, ◌≤◌, List, ◌∷◌, ◌++◌, length, take, drop, Option, None, ap, sym, ◌∙◌, subst, arith, inl, inr, length-append}
 use Rattle.std.specs.Prelude.{slice_set}
 use Rattle.std.proofs.lemmas.Bool.{cases_eq, cases_lt}
@@ -97,7 +97,7 @@ module _ {S K P : Type 0} (see : Seeing S K P) (begun : RunStart S K)
     taken-within : (old.stages k).taken ≤ low + begun.plan.buffer
     taken-within = taken-ahead laws begun.plan r.lawful.users visits by.ran.run k
 
-    -- the cells behind those that the stage gave stand in the buffer
+    -- the cells after those that the stage gave stand in the buffer
     module _ (j : ℕ) (e : suc j ≡ k) (le : j ≤ begun.plan.plugins) where
       taken-all : (old.stages k).taken ≤ length (old.stages j).given
       taken-all = subst (λ i. (old.stages i).taken ≤ length (old.stages j).given) e (taken-given laws begun.plan r.lawful.users visits by.ran.run j)
@@ -310,7 +310,7 @@ module _ {S K P : Type 0} (see : Seeing S K P) (begun : RunStart S K)
           buffer = buffer-all;
         }
 
-        -- the chain behind the visit
+        -- the chain after the visit
         pub worked-visit : StandsFor new_core new → suc begun.plan.plugins < length parts
             → RunsBy see begun new_core (slice_set parts k new_part) new_cells (visit_of k given word ∷ visits) (set_at part k new_part) (set_at lists k after)
         worked-visit numbers long =

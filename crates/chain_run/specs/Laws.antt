@@ -1,4 +1,4 @@
--- What a run needs of the machine, as one. This project's own rule.
+-- All that a run needs of the machine. This project's own rule.
 use Rattle.std.specs.Prelude.{◌≤◌, ℕ, List, ◌∷◌, Option}
 use Rattle.ts_packet.specs.declared.cell.Cell.{Cell}
 use Rattle.chain_model.specs.Prefix.{IsPrefix}

@@ -1,3 +1,4 @@
+-- The definitions of a run of a chain.
 pub mod Fresh
 pub mod Laws
 pub mod Met

@@ -5,7 +5,7 @@ use Rattle.chain_model.specs.PluginRule.{PluginRule}
 use Rattle.chain_model.specs.Apply.{StageList}
 use Rattle.chain_model.specs.StageLists.{stage_list}
 
--- a plugin met at least the first `cut` cells of a list, and was told no mark above the cut
+-- a plugin met at least the first `cut` cells of a list, and was given no mark above the cut
 pub record MetTo {P : Type 0} (stands : P → List Cell → ℕ → Type 0) (plugin : P) (list : List Cell)
     (cut : ℕ) : Type 0 where
   pub history : List Cell
@@ -15,14 +15,14 @@ pub record MetTo {P : Type 0} (stands : P → List Cell → ℕ → Type 0) (plu
   pub reach : cut ≤ length history
   pub same : take cut history ≡ take cut list
 
--- each plugin met the first `cut` cells of the list of the stage before it; the first of them stands behind stage `j`
+-- each plugin met the first `cut` cells of the list of the stage before it; the first of them comes after stage `j`
 abbrev pub AllMetTo : {P : Type 0} → (P → List Cell → ℕ → Type 0) → List PluginRule → StageList → ℕ → ℕ
     → List P → Type 0
 AllMetTo stands rules input cut j [] = Unit {0}
 AllMetTo stands rules input cut j (plugin ∷ plugins) =
     MetTo stands plugin (stage_list rules input j).cells cut × AllMetTo stands rules input cut (suc j) plugins
 
--- a plugin met just the first `count` cells of a list, those before the cut among them, and was told no mark above the cut
+-- a plugin met just the first `count` cells of a list, those before the cut among them, and was given no mark above the cut
 pub record MetFirst {P : Type 0} (stands : P → List Cell → ℕ → Type 0) (plugin : P) (list : List Cell)
     (count cut : ℕ) : Type 0 where
   pub mark : ℕ

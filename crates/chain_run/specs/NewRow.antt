@@ -8,7 +8,7 @@ use Rattle.chain_run.specs.Runs.{RunStart}
 use Rattle.chain_run.specs.OneStage.{Doing}
 use Rattle.chain_run.specs.Ran.{IsLawfulRun}
 
--- each stage has given, told and taken nothing, by lists that a stage may begin with; `part` is each stage
+-- each stage has given, reported and taken nothing, by lists that a stage may begin with; `part` is each stage
 pub record IsNewRow {S K P : Type 0} (see : Seeing S K P) (begun : RunStart S K)
     (parts : List (StagePart S K P)) : Type 0 where
   pub run : IsLawfulRun begun

@@ -37,7 +37,7 @@ module _ {S K P : Type 0} (see : Seeing S K P) (begun : RunStart S K) where
     pub is_list : (input : StageList) → PartGives see part lists input
         → IsListOf see.source begun.from begun.stuffing input
 
-  -- the plugin behind `j` others, which met as many of the cells that were given before it as it gave
+  -- the plugin after `j` others, which met as many of the cells that were given before it as it gave
   pub record IsPlugin (part : StagePart S K P) (j : ℕ) (lists : PartLists) (given before : List Cell)
       : Type 0 where
     pub kind : kind_of part ≡ a_plugin
@@ -62,7 +62,7 @@ module _ {S K P : Type 0} (see : Seeing S K P) (begun : RunStart S K) where
     pub sink : IsSinkOf see.sink begun.to lists.sink
     pub failed : ended ≡ Some WriteFault → Failed lists given before taken Gives
 
-  -- stage `k` stands for these lists: it gave `given` and told `ended`, as it knew that `low` cells were
+  -- stage `k` stands for these lists: it gave `given` and reported `ended`, as it knew that `low` cells were
   -- written, that it took `taken` cells, and what each other stage gave
   pub record Doing (part : StagePart S K P) (k : ℕ) (lists : PartLists) (given : List Cell)
       (ended : Option StageEnd) (low taken : ℕ) (gave : ℕ → List Cell) (Gives : StageList → Type 0)
@@ -70,7 +70,7 @@ module _ {S K P : Type 0} (see : Seeing S K P) (begun : RunStart S K) where
     pub stands_for : PartStands see part lists ended
     pub given_is : lists.given ≡ given
     pub mark : lists.mark ≤ low
-    -- no stage takes more than the buffer ahead of the mark, so memory may be wanted only where there is no room for that
+    -- no stage takes more than the buffer ahead of the mark, so it may run out of memory only where there is no room for that
     pub memory : ended ≡ Some NoMemory → MayWantMemory see part begun.plan.buffer
     pub input : 0 ≡ k → IsInput part lists low
     pub plugin : (j : ℕ) → suc j ≡ k → j < begun.plan.plugins → IsPlugin part j lists given (gave j)

@@ -1,4 +1,4 @@
--- The stages of a chain before a run and behind it. This project's own rule.
+-- The stages of a chain before a run and after it. This project's own rule.
 use Rattle.std.specs.Prelude.{◌≡◌, ℕ, List, [], ◌∷◌, ◌++◌, Option, None, Some}
 use Rattle.ts_outside.specs.Source.{SourceView}
 use Rattle.ts_outside.specs.Sink.{SinkView}
@@ -27,19 +27,19 @@ module _ {S K P : Type 0} (see : Seeing S K P) where
   AreMadeOf (part ∷ parts) (plugin ∷ plugins) = MadeOf part plugin × AreMadeOf parts plugins
   AreMadeOf _ _ = ⊥
 
-  -- the plugin that a stage gives back
+  -- the plugin that a stage returns
   pub record TakenFrom (part : StagePart S K P) (plugin : P) : Type 0 where
     pub same_rule : see.rule plugin ≡ rule_of see part
     pub holds : (lists : PartLists) (told : Option StageEnd) → PartStands see part lists told
         → see.stands plugin lists.met lists.mark
 
-  -- each is the plugin that the stage at its place gives back; behind them stands the output's stage
+  -- each is the plugin that the stage at its place returns; after them stands the output's stage
   abbrev pub AreTakenFrom : List (StagePart S K P) → List P → Type 0
   AreTakenFrom (part ∷ parts) (plugin ∷ plugins) = TakenFrom part plugin × AreTakenFrom parts plugins
   AreTakenFrom (output ∷ []) [] = Unit {0}
   AreTakenFrom _ _ = ⊥
 
-  -- the stages of plugins, and behind them the output's
+  -- the stages of plugins, and after them the output's
   abbrev pub ArePluginsAndOutput : List (StagePart S K P) → Type 0
   ArePluginsAndOutput [] = ⊥
   ArePluginsAndOutput (part ∷ []) = kind_of part ≡ an_output
@@ -50,7 +50,7 @@ module _ {S K P : Type 0} (see : Seeing S K P) where
   AreStages [] = ⊥
   AreStages (part ∷ parts) = (kind_of part ≡ an_input) × ArePluginsAndOutput parts
 
-  -- the stages of a chain gave back the input, the plugins and the output: each is what its stage leaves by whatever
+  -- the stages of a chain returned the input, the plugins and the output: each is what its stage leaves by whatever
   -- the stage stood for
   pub record GaveBack (parts : List (StagePart S K P)) (input : InputPart S) (plugins : List P)
       (output : OutputPart K) : Type 0 where

@@ -1,4 +1,4 @@
--- What a run of a chain comes to: where it was cut and why, what was read, what was written, and what the plugins met.
+-- The result of a run of a chain: where it was cut and why, what was read, what was written, and what the plugins met.
 -- This project's own rule.
 use Rattle.std.specs.Prelude.{◌≡◌, ◌≢◌, ◌⊎◌, ℕ, suc, ◌+◌, ◌≤◌, List, length, map, take}
 use Rattle.ts_packet.specs.declared.cell.Cell.{Cell}
@@ -39,7 +39,7 @@ LeftInput seen stuffing buffer (Generated old packets) (Generated new same) cut 
 LeftInput seen stuffing buffer _ _ cut cause = ⊥
 
 -- the sink took the live packets of the cells before the cut; where the run ended by a failed write, and that is the last
--- call, a part of the packet behind them too
+-- call, a part of the packet after them too
 abbrev pub TakesTo : SinkView → SinkView → List Cell → ℕ → Cause → Type 0
 TakesTo old new cells cut WriteFault = CutsAt old new cells cut
 TakesTo old new cells cut _ = new ≡ took old (written (take cut cells))
@@ -69,7 +69,7 @@ pub record Gave (plugins buffer cut : ℕ) (gave : ℕ → ℕ) : Type 0 where
 pub record RunOf {S K P : Type 0} (see : Seeing S K P)
     (from made_from : InputPart S) (stuffing : Stuffing) (plugins made : List P) (to made_to : OutputPart K)
     (plan : CorePlan) (closed : Closed) : Type 0 where
-  -- the list of the input with its stuffing: that of the bytes of its source, as far as it tells them
+  -- the list of the input with its stuffing: that of the bytes of its source, as far as they are known
   pub list : StageList
   pub is_list : IsListOf see.source from (stuffing_of stuffing) list
   pub closes : ClosesRight (map see.rule plugins) list (stages_of plan.users) closed
@@ -81,7 +81,7 @@ pub record RunOf {S K P : Type 0} (see : Seeing S K P)
   pub gave_to : Gave plan.plugins plan.buffer closed.cut gave
   pub input_gave : gave 0 ≤ length list.cells
   pub met : AllMetFirst see.stands (map see.rule plugins) list gave closed.cut 0 made
-  -- memory was wanted of a plugin alone, and of none that made room for as many positions as the buffer has
+  -- only a plugin ran out of memory, and none that made room for as many positions as the buffer has
   pub memory : (k : ℕ) → closed.cause ≡ NoMemory k → WantsMemory (map see.steady plugins) plan.buffer k
   pub rules : map see.rule made ≡ map see.rule plugins
 

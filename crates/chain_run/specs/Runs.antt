@@ -12,7 +12,7 @@ use Rattle.stage_run.specs.declared.output_part.OutputPart.{OutputPart}
 use Rattle.stage_run.specs.declared.stuffing.Stuffing.{Stuffing}
 use Rattle.stage_run.specs.InputStands.{stuffing_of}
 
--- a stage that tells nothing
+-- the word of a stage that reports nothing
 abbrev pub nothing_told : StageWord
 nothing_told = record { agreed = None; ended = None }
 
@@ -26,7 +26,7 @@ pub record RunStart (S K : Type 0) : Type 0 where
   pub to : OutputPart K
   pub stuffing : model.Stuffing
   pub rules : List PluginRule
-  -- for how many positions behind its mark each plugin made room, where it did
+  -- for how many positions after its mark each plugin made room, where it did
   pub rooms : List (Option ℕ)
   pub plan : CorePlan
 

@@ -27,12 +27,12 @@ pub record NumbersFit {S K : Type 0} (begun : RunStart S K) (core : CoreNumbers)
   pub slots_are : slots ≡ begun.plan.buffer
 
 module _ {S K P : Type 0} (see : Seeing S K P) (begun : RunStart S K) where
-  -- the stages have made these visits, and numbers and buffer are those behind them
+  -- the stages have made these visits, and numbers and buffer are those after them
   pub record RunsBy (core : CoreNumbers) (parts : List (StagePart S K P)) (cells : List Cell)
       (visits : List Visit) (part : ℕ → StagePart S K P) (lists : ℕ → PartLists) : Type 0 where
     pub ran : RanBy see begun parts visits part lists
     pub numbers : StandsFor core (state_after begun.plan visits)
-    -- a stage that goes on may tell nothing, too
+    -- a stage that goes on may report nothing, too
     pub going : (input : StageList) → PartGives see (part 0) (lists 0) input
         → (k : ℕ) → ((state_after begun.plan visits).stages k).ended ≡ None
         → StageKeeps begun.rules input begun.plan.plugins k (took (state_after begun.plan visits) k)

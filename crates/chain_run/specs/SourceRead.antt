@@ -7,7 +7,7 @@ use Rattle.chain_model.specs.declared.cause.Cause.TheVariants.{Input}
 use Rattle.chain_model.specs.InputRead.{MayRead, list_at_fault, IsInSyncSoFar}
 use Rattle.chain_model.specs.Stuffed.{Stuffing}
 
--- behind a failed read the cut is where the list up to the fault ends
+-- after a failed read the cut is where the list up to the fault ends
 pub record CutsAtFault (stuffing : Stuffing) (old new : SourceView) (read : List ℕ) (cut : ℕ) : Type 0 where
   pub failed : read_failed old ≡ unread read new
   pub in_sync : IsInSyncSoFar read

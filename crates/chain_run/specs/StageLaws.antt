@@ -33,7 +33,7 @@ module _ {S K P : Type 0} (see : Seeing S K P) (begun : RunStart S K) where
   premise (HeldSoFar visits) input = SoFarUpTo begun.plan begun.rules visits input
   premise (GivenBy part lists) input = PartGives see part lists input
 
-  -- a stage that goes on, behind these visits, and its news
+  -- a stage that goes on, after these visits, and its news
   pub record HasNews (visits : List Visit) (k : ℕ) (part : StagePart S K P) (lists : PartLists)
       (known : Premise S K P) (news : News) : Type 0 where
     pub lawful : IsLawfulRun begun
@@ -82,12 +82,12 @@ pub record StageLaws {S K P : Type 0} (see : Seeing S K P) : Type 0 where
       → Doing see begun part k lists given ended low taken before (premise see begun known)
       → Doing see begun part k lists given ended low_later taken_later before_later
       (premise see begun known_later)
-  -- at first it stands for giving and telling nothing
+  -- at first it stands for giving and reporting nothing
   pub first : (begun : RunStart S K) (part : StagePart S K P) (k plugins : ℕ) (lists : PartLists)
       (known : Premise S K P) (input : StageList)
       → Doing see begun part k lists [] None 0 0 (λ _. []) (premise see begun known) → MayBe see begun part k lists input
       → StageKeeps begun.rules input plugins k (took start k) [] [] nothing_told
-  -- its part may work behind a visit
+  -- its part may work after a visit
   pub may_work : (begun : RunStart S K) (visits : List Visit) (k : ℕ) (part : StagePart S K P) (lists : PartLists)
       (known : Premise S K P) (news : News) → HasNews see begun visits k part lists known news
       → MayWork (PartStands see part) (length ((state_after begun.plan visits).stages k).given) news.written lists

@@ -50,7 +50,7 @@ module _ {S K P : Type 0} (see : Seeing S K P) where
   RunsOn old new = (begun : RunStart S K) → IsRunning begun old.core old.parts.items old.cells.items
       → IsRunning begun new.core new.parts.items new.cells.items
 
-  -- the stage worked on cells behind those that it has given
+  -- the stage worked on cells after those that it has given
   abbrev pub WorksOn : SerialChain S K P → SerialChain S K P → ℕ → News → Work → Type 0
   WorksOn old new stage news work =
       StageWorks old.parts.items new.parts.items old.cells.items new.cells.items
@@ -62,7 +62,7 @@ LeavesLess old new =
     remaining_work (progress_of_core new.core) (old.core.plan.plugins + 2)
     < remaining_work (progress_of_core old.core) (old.core.plan.plugins + 2)
 
--- a stage made a visit that gave and told nothing, and these are its news
+-- a stage made a visit that gave and reported nothing, and these are its news
 pub record Looks (core new : CoreNumbers) (stage : ℕ) (news : News) : Type 0 where
   pub plan_same : new.plan ≡ core.plan
   pub visited_is : (state : ChainState) (gave : List Cell) → length gave ≡ 0 → StandsFor core state

@@ -17,7 +17,7 @@ use chain_core::{every_order, more_cells, news_promises, one_visit, quiet_is_ove
 use plugin_trait::Plugin;
 use ts_outside::{Sink, Source};
 
-/// What holds of every run of the machine, in whatever order its stages are served. It runs nothing.
+/// What holds of every run of the machine, in whatever order its stages are served. A law; it runs nothing.
 pub fn machine_laws()
     ensures { MachineLaws }
 {
@@ -28,9 +28,9 @@ pub fn machine_laws()
     every_order();
 }
 
-/// What any run comes to, whoever served its stages. Its parts are the stages of a chain, which `take_apart`
-/// takes apart; and where all stages have ended, the cut and the cause are the machine's, and the parts gave
-/// back what they held, the run is what `RunOf` says. There is nothing to run.
+/// The result of any run, whoever served its stages. Its parts are the stages of a chain, which `take_apart` takes
+/// apart. Where all stages have ended, the cut and the cause are the machine's, and the parts returned what they
+/// held, the run is what `RunOf` says. A law; it runs nothing.
 pub fn any_run<S: Source, K: Sink, P: Plugin>()
     ensures stages { (begun : RunStart S K) (parts : List (StagePart S K P))
         → let see = seeing S.seen K.seen P.rule P.stands_for P.steady in

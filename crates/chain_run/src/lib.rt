@@ -1,4 +1,4 @@
-//! The chain from its stages: an input, plugins and an output come in, and come back with the cut and its cause.
+//! A run of a chain: an input, plugins and an output come in, and are returned with the cut and its cause.
 //! The layer above uses the clauses of `run_serial`: cut, cause, what was written and what the plugins met are those of the
 //! run without faults, or a fault ended the chain where it may.
 #![tactic(auto)]

@@ -1,4 +1,4 @@
-//! Plugins on their way into the stages of a chain and back.
+//! The stages of a chain from its parts, and the parts from its stages.
 ghost use Rattle.std.specs.Prelude.{◌≡◌, ◌+◌, ◌≤◌, ◌<◌, ◌++◌, ◌∷◌, [], ℕ, List, length, vec_len, vec_capacity};
 ghost use Rattle.stage_run.specs.Seeing.{seeing};
 ghost use Rattle.chain_core.specs.declared.core_plan.CorePlan.{CorePlan};
@@ -14,7 +14,7 @@ use plugin_trait::Plugin;
 use stage_run::{InputPart, IoBuffer, OutputPart, StagePart, Stuffing};
 use ts_outside::{Sink, Source};
 
-/// Moves the plugins behind the stages, for which there is room.
+/// Appends the stages of the plugins to the stages, which have room for them.
 pub(crate) fn add_plugins<S: Source, K: Sink, P: Plugin>(
     parts: &mut Vec<StagePart<S, K, P>>,
     plugins: &mut Vec<P>,
@@ -72,7 +72,7 @@ pub fn lay_stages<S: Source, K: Sink, P: Plugin>(
     row
 }
 
-/// What the stages of a chain give back.
+/// What the stages of a chain return.
 pub struct GivenBack<S, K, P> {
     /// The input's part.
     pub input: InputPart<S>,
@@ -102,9 +102,9 @@ pub(crate) fn take_plugins<S: Source, K: Sink, P: Plugin>(
     take_plugins(parts, plugins);
 }
 
-/// Takes the stages of a chain apart: the input, the plugins and the output that they hold, each in the state that its stage left.
+/// Takes the stages of a chain apart: the input, the plugins and the output that they hold, each as its stage left it.
 ///
-/// The plugins go into the row that is passed for them, which has room. It takes no memory.
+/// The plugins go into the row that is passed for them, which has room. It allocates nothing.
 pub fn take_apart<S: Source, K: Sink, P: Plugin>(
     mut parts: Vec<StagePart<S, K, P>>,
     mut plugins: Vec<P>,

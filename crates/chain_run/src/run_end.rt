@@ -1,15 +1,15 @@
-//! What a run gives back.
+//! What a run returns.
 
 use chain_core::Closed;
 use stage_run::{InputPart, OutputPart};
 use std::alloc::AllocError;
 
-/// What a run gives back.
+/// What a run returns.
 pub struct RunEnd<S, K, P> {
     pub input: InputPart<S>,
     /// The plugins in the same order.
     pub plugins: Vec<P>,
     pub output: OutputPart<K>,
-    /// The cut and its cause. `AllocError` where there was no memory for the run; then it never began.
+    /// The cut and its cause. `AllocError` where there was no memory for the run; then nothing was done.
     pub closed: Result<Closed, AllocError>,
 }

@@ -12,13 +12,13 @@ use stage_run::{StagePart, Work};
 use ts_outside::{Gate, Sink, Source};
 use ts_packet::Cell;
 
-/// A stage that tells nothing.
+/// The word of a stage that reports nothing.
 const NOTHING: StageWord = StageWord {
     agreed: None,
     ended: None,
 };
 
-/// The place behind this one in a row of so many, the first behind the last.
+/// The next place in a row of so many; after the last one comes the first.
 fn after(place: usize, len: usize) -> usize
     requires { place < len }
     ensures { result < len }
@@ -33,7 +33,7 @@ fn one_holds(one: bool, other: bool) -> bool
     one || other
 }
 
-/// A visit of a stage that gives and tells nothing: it takes of the cells that wait, and the answer is its news.
+/// A visit of a stage that gives and reports nothing: it takes of the cells that wait. Returns its news.
 fn look(core: &mut Core, stage: usize) -> News
     requires { MayVisit core.old.plan (progress_of_core core.old) core.old.told stage 0 nothing_told }
     ensures { Looks core.old core.new stage result }
@@ -70,7 +70,7 @@ impl<S: Source, K: Sink, P: Plugin> SerialChain<S, K, P> {
         self.core.progress(stage).ended.is_some()
     }
 
-    /// Lets a stage work on the cells in its hands, as far as they stand in one row, on at most `most` of them.
+    /// Lets a stage work on the cells in its hands that are in one row of the buffer, on at most `most` of them.
     fn work<G: Gate>(&mut self, stage: usize, most: usize, news: &News, gate: &G) -> Work
         requires is_stage { stage ≤ suc self.old.core.plan.plugins }
         requires has_part { stage < length self.old.parts.items }
@@ -93,7 +93,7 @@ impl<S: Source, K: Sink, P: Plugin> SerialChain<S, K, P> {
         self.parts[stage].work(stage, at, &mut self.cells[start..start + len], news, gate)
     }
 
-    /// The turn of a stage: it takes of the cells that wait, works, and gives on what it has done. Whether anything moved.
+    /// The turn of a stage: it takes of the cells that wait, works, and gives on what it has done. Returns whether anything moved.
     fn turn<G: Gate>(&mut self, stage: usize, most: usize, gate: &G) -> bool
         requires runs { RunsSomehow (seeing S.seen K.seen P.rule P.stands_for P.steady) self.old }
         requires is_stage { stage ≤ suc self.old.core.plan.plugins }
@@ -109,7 +109,7 @@ impl<S: Source, K: Sink, P: Plugin> SerialChain<S, K, P> {
         if self.has_ended(stage) {
             return false;
         }
-        // Runs nothing: the proof cites it.
+        // It runs nothing: the proof cites it.
         machine_laws();
         let news = look(&mut self.core, stage);
         let work = self.work(stage, most, &news, gate);
@@ -117,7 +117,7 @@ impl<S: Source, K: Sink, P: Plugin> SerialChain<S, K, P> {
         work.done > 0 || work.word.ended.is_some()
     }
 
-    /// The turns of all stages. Whether anything moved.
+    /// The turns of all stages. Returns whether anything moved.
     fn turns<G: Gate>(&mut self, sizes: &[u32], next: &mut usize, gate: &G) -> bool
         requires runs { RunsSomehow (seeing S.seen K.seen P.rule P.stands_for P.steady) self.old }
         requires sizes { All (λ size. 1 ≤ size) sizes.now }
@@ -147,7 +147,7 @@ impl<S: Source, K: Sink, P: Plugin> SerialChain<S, K, P> {
         ensures runs { RunsOn (seeing S.seen K.seen P.rule P.stands_for P.steady) self.old self.new }
         ensures over { AllEnded self.new.core.plan (progress_of_core self.new.core) }
     {
-        // Runs nothing: the proof cites it.
+        // It runs nothing: the proof cites it.
         machine_laws();
         let mut next = 0;
         while self.turns(sizes, &mut next, gate) {}

@@ -33,7 +33,7 @@ struct SerialMemory<S, K, P> {
 }
 
 impl<S, K, P> SerialMemory<S, K, P> {
-    /// Takes the memory for a chain with this plan. After an `AllocError` nothing is taken.
+    /// Takes the memory for a chain with this plan. After an `AllocError` no memory is held.
     fn new(alloc: Global, plan: &CorePlan) -> Result<SerialMemory<S, K, P>, AllocError>
         requires { IsLawfulPlan plan.now }
         ensures plan { IfOk result (λ memory. memory.core.plan ≡ plan.now) }
@@ -106,7 +106,7 @@ fn run_laid<S: Source, K: Sink, P: Plugin, G: Gate>(
     ensures ran { IsOk result.closed }
 {
     chain.run(sizes, gate);
-    // Runs nothing: the proof cites it.
+    // It runs nothing: the proof cites it.
     any_run::<S, K, P>();
     let SerialChain {
         core,
@@ -127,10 +127,10 @@ fn run_laid<S: Source, K: Sink, P: Plugin, G: Gate>(
     }
 }
 
-/// Runs a chain in one thread, its stages in turn, and gives its parts back.
+/// Runs a chain in one thread, its stages in turn, and returns its parts.
 ///
 /// The i-th turn works on at most as many cells as `sizes` has at i modulo its length. All memory but that of the
-/// plugins' steps is taken before the first read; where it is wanting, `closed` is `AllocError` and nothing was done.
+/// plugins' steps is taken before the first read; where there is not enough, `closed` is `AllocError` and nothing was done.
 pub fn run_serial<S: Source, K: Sink, P: Plugin, G: Gate>(
     alloc: Global,
     stages: Stages<S, K, P>,

@@ -1,4 +1,4 @@
-//! What a layer above may say of one stage.
+//! The laws of one stage of a run. They run nothing.
 ghost use Rattle.stage_run.specs.Seeing.{seeing};
 ghost use Rattle.chain_run.specs.StageLaws.{StageLaws};
 
@@ -7,7 +7,7 @@ use plugin_trait::Plugin;
 use ts_outside::{Sink, Source};
 
 /// What can be said of one stage of a run, whoever serves it: what it stands for stays so while others visit, its part may
-/// work behind each visit, and what it worked on it may give with the next one. There is nothing to run.
+/// work after each visit, and what it worked on it may give with the next one. A law; it runs nothing.
 pub fn one_stage<S: Source, K: Sink, P: Plugin>()
     ensures { StageLaws (seeing S.seen K.seen P.rule P.stands_for P.steady) }
 {

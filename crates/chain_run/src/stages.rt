@@ -1,4 +1,4 @@
-//! What a run is given.
+//! The parts of a chain before its run.
 
 use stage_run::{InputPart, OutputPart, Stuffing};
 

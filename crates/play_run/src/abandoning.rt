@@ -1,4 +1,4 @@
-//! A play that is not played: its output's seat tells that it stops, and its input ends.
+//! A play that is not played: the seat of its output reports that it stops, and its input ends.
 ghost use Rattle.std.specs.Prelude.{◌≡◌, ◌≤◌, suc, true, false};
 ghost use Rattle.chain_core.specs.declared.core_plan.CorePlan.{CorePlan};
 ghost use Rattle.chain_core.specs.CoreNumbers.{IsLawfulPlan};
@@ -29,7 +29,7 @@ const STOP: StageWord = StageWord {
     ended: Some(StageEnd::Stop),
 };
 
-/// One try to tell, by a seat's first visit, that its stage stops. Whether it was told.
+/// One try to report, by a seat's first visit, that its stage stops. Returns whether the visit was made.
 fn stops(ring: &Ring, seat: &mut StageSeat) -> bool
     requires words { (table_of ring.now).words ≡ 1 }
     requires slots { (table_of ring.now).slots ≡ 1 }
@@ -40,7 +40,7 @@ fn stops(ring: &Ring, seat: &mut StageSeat) -> bool
     ensures again { result ≡ false → IsUnvisited (key_of ring.now) (table_of ring.now) seat.old.stage seat.new }
     ensures stage { seat.new.stage ≡ seat.old.stage }
 {
-    // Run nothing: the proof cites them.
+    // They run nothing: the proof cites them.
     one_visit();
     seat_laws();
     match ring.visit(seat, 0, STOP) {
@@ -49,7 +49,7 @@ fn stops(ring: &Ring, seat: &mut StageSeat) -> bool
     }
 }
 
-/// The first visit of a seat tells that its stage stops.
+/// The first visit of a seat reports that its stage stops.
 fn stop<R: Wait>(rt: &R, ring: &Ring, seat: &mut StageSeat)
     requires words { (table_of ring.now).words ≡ 1 }
     requires slots { (table_of ring.now).slots ≡ 1 }
@@ -65,11 +65,11 @@ fn stop<R: Wait>(rt: &R, ring: &Ring, seat: &mut StageSeat)
     }
 }
 
-/// Ends a play that is not played, and gives its source back.
+/// Ends a play that is not played, and returns its source.
 ///
-/// The output's seat tells that it stops, before it gave anything. Then the input, where it has not ended, tells its own end or
-/// that it follows, without a further read. Of the source some bytes were read, and at most one call failed, the last one.
-/// The play's memory is given back too. It may wait, and owes no return.
+/// The output's seat reports that it stops, before it gave anything. Then the input, where it has not ended, reports its own end or
+/// that it follows, and reads nothing more. Of the source some bytes were read, and at most one call failed, the last one.
+/// The memory of the play is freed too. It may wait; no clause says that it returns.
 pub fn abandon<R: Wait, S: Source, K: Sink, P: Plugin, G: Gate>(
     rt: &R,
     gate: &G,

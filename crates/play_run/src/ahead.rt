@@ -24,7 +24,7 @@ pub const NO_STUFFING: Stuffing = Stuffing {
 
 /// A play whose input is open: a ring of its own, the stage of its input, which may read ahead, and what its output will need.
 ///
-/// Nothing of the output is known here: it joins the play when the play before it is over.
+/// It does not know the output, which joins the play when the play before it is over.
 pub struct AheadPlay<S, K, P> {
     pub(crate) ring: Ring,
     pub(crate) root: Seat<State, View>,
@@ -49,7 +49,7 @@ struct PlayMemory<S, K, P> {
 }
 
 impl<S, K, P> PlayMemory<S, K, P> {
-    /// Takes the memory of a play with this plan. After an `AllocError` nothing is taken.
+    /// Takes the memory of a play with this plan. After an `AllocError` no memory is held.
     fn new(alloc: Global, plan: &CorePlan) -> Result<PlayMemory<S, K, P>, AllocError>
         requires { IsLawfulPlan plan.now }
         ensures ring { IfOk result (λ memory. IsNew plan.now memory.ring) }
@@ -66,7 +66,7 @@ impl<S, K, P> PlayMemory<S, K, P> {
             stages.destroy_empty();
             return Err(AllocError);
         };
-        // The last of what may fail: its seats can be given back only when their stages have ended.
+        // The last allocation: its seats can be given back only when their stages have ended.
         let Ok(ring) = new_ring(alloc, plan) else {
             stages.destroy_empty();
             parts.destroy_empty();
@@ -121,7 +121,7 @@ fn seat_input<S: Source, K: Sink, P: Plugin>(
 
 /// A play of a source, of which nothing was read yet.
 ///
-/// All memory of the play is taken here. Where there is not enough, the source is given back and nothing is taken.
+/// All memory of the play is taken here. Where there is not enough, the source is returned and nothing is taken.
 pub fn open_play<S: Source, K: Sink, P: Plugin>(
     alloc: Global,
     plan: &CorePlan,

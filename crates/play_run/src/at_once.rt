@@ -15,7 +15,7 @@ fn at_one<T, F: Fn(usize, &mut [T])>(f: &F, number: usize, xs: &mut [T])
 }
 
 /// Calls `f(0, first)` in a thread of its own and `f(1, second)` in the caller's. Where no thread can be started, the caller
-/// calls both, the first one last.
+/// makes both calls, that with 0 last.
 pub(crate) fn on_both<R: Threads + Sync, T: Send, F: Fn(usize, &mut [T]) + Sync>(
     rt: &R,
     f: &F,

@@ -16,8 +16,8 @@ use thread_run::{Stage, drive_ahead, drive_all};
 use ts_outside::{Gate, Sink, Source};
 use window_ring::Ring;
 
-/// Drives the one stage of the next ring as far as it gets; or else those of the present ring until all have ended, which it
-/// tells the other side.
+/// Drives the one stage of the next ring as far as it gets; or else those of the present ring until all have ended; then it
+/// sets the flag at which the other side stops.
 fn drive_side<
     R: Threads + Wait + Sync,
     S: Source + Send,

@@ -16,7 +16,7 @@ use ts_outside::{Gate, Sink, Source};
 /// A stage takes no more packets at a time than this.
 const MOST_AT_A_TIME: usize = 1024;
 
-/// Plays a source to its end in the caller's thread, and gives source and output back.
+/// Plays a source to its end in the caller's thread, and returns source and output.
 ///
 /// It starts no thread and waits for none: it returns where the source and the sink do. Where there is not enough memory for
 /// the run, nothing was read or written.

@@ -18,7 +18,7 @@ use std::sync::Wait;
 use std::thread::Threads;
 use ts_outside::{Gate, Sink, Source};
 
-/// Plays an open play to its end, and gives source and output back.
+/// Plays an open play to its end, and returns source and output.
 ///
 /// Input and output run each in a thread of its own where these can be started, else both in the caller's. It may wait, and
 /// owes no return.
@@ -38,10 +38,10 @@ pub fn play_alone<R: Threads + Wait + Sync, S: Source + Send, K: Sink + Send, G:
     played_out(play(rt, alloc, gate, now, output))
 }
 
-/// Plays an open play to its end, and gives source and output back. Meanwhile the input of the next play reads ahead.
+/// Plays an open play to its end, and returns source and output. Meanwhile the input of the next play reads ahead.
 ///
 /// The next one reads in a thread of its own, until its ring is full, it has ended, or the present play is over. Where no thread
-/// can be started for it, nothing of it is read before its turn. It may wait, and owes no return.
+/// can be started for it, nothing of it is read before its turn. It may wait; no clause says that it returns.
 pub fn play_with_next<R: Threads + Wait + Sync, S: Source + Send, K: Sink + Send, G: Gate>(
     rt: &R,
     alloc: Global,

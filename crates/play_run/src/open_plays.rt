@@ -30,8 +30,8 @@ pub trait OpenPlay<S: Source> {
         ensures opened { IfOk result (λ play. is_open plan.now source play) }
         ensures back { IfErr result (λ back. back ≡ source) };
 
-    /// The play is not played: its source is given back, of which some bytes may have been read, and at most one call failed,
-    /// the last one. It may wait, and owes no return.
+    /// The play is not played: its source is returned, of which some bytes may have been read, and at most one call failed,
+    /// the last one. It may wait; no clause says that it returns.
     fn leave<R: Wait>(self, rt: &R) -> S
         requires { (plan : CorePlan) × (source : S) × is_open plan source self }
         ensures { (plan : CorePlan) (source : S) → is_open plan source self

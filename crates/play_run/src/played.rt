@@ -1,4 +1,4 @@
-//! What a play came to, in its own words: there is no plugin in it that could end it or want memory.
+//! The result of a play, in its own types: it has no plugin that could end it or run out of memory.
 ghost use Rattle.std.specs.Prelude.{◌≡◌, [], IfOk, OnErr};
 ghost use Rattle.chain_core.specs.declared.core_plan.CorePlan.{CorePlan};
 ghost use Rattle.chain_core.specs.CoreNumbers.{IsLawfulPlan};
@@ -19,11 +19,11 @@ use ts_outside::{Sink, Source};
 pub enum PlayEnd {
     /// The list of the file ended so, or a read failed; all packets before that were given.
     Input(InputEnd),
-    /// The output failed behind the packets that were counted.
+    /// The output failed after the packets that were counted.
     WriteFault,
 }
 
-/// How many packets of a play were written whole or counted, and why it ended behind them.
+/// How many packets of a play were written whole or counted, and why it ended after them.
 #[derive(Debug, Clone, Copy, PartialEq, Eq)]
 pub struct PlayCut {
     /// At most 2^60.
@@ -31,17 +31,17 @@ pub struct PlayCut {
     pub end: PlayEnd,
 }
 
-/// A play that was played, or for which there was no memory: its source and the output are given back.
+/// A play that was played, or for which there was no memory: its source and the output are returned.
 pub struct PlayedOut<S, K> {
-    /// Behind what was read of it.
+    /// The source, in the state that the play left.
     pub source: S,
-    /// Behind what was written to it.
+    /// The output, in the state that the play left.
     pub output: OutputPart<K>,
     /// After an `AllocError` nothing was read or written.
     pub cut: Result<PlayCut, AllocError>,
 }
 
-/// The end of a play in its own words.
+/// The end of a play in its own type.
 fn end_of(cause: Cause) -> PlayEnd
     requires { (end : PlayEnd) × (cause ≡ cause_of end) }
     ensures { cause_of result ≡ cause }
@@ -53,7 +53,7 @@ fn end_of(cause: Cause) -> PlayEnd
     }
 }
 
-/// The cut of a play in its own words.
+/// The cut of a play in its own type.
 fn cut_of(closed: Closed) -> PlayCut
     requires { (end : PlayEnd) × (closed.cause ≡ cause_of end) }
     ensures { CutsPlay closed result }
@@ -64,7 +64,7 @@ fn cut_of(closed: Closed) -> PlayCut
     }
 }
 
-/// What a run of a play, which has no plugins, came to.
+/// The result of a run of a play, which has no plugins.
 pub(crate) fn played_out<S: Source, K: Sink, P: Plugin + Drop>(
     end: RunEnd<S, K, P>,
 ) -> PlayedOut<S, K>

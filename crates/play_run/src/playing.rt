@@ -61,7 +61,7 @@ fn seat_output<S: Source, K: Sink, P: Plugin>(
     }
 }
 
-/// Both stages have ended: the ring is closed, and the two ends are given back.
+/// Both stages have ended: the ring is closed, and the two ends are returned.
 fn end_play<S: Source, K: Sink, P: Plugin>(
     alloc: Global,
     playing: Playing<S, K, P>,
@@ -85,9 +85,9 @@ fn end_play<S: Source, K: Sink, P: Plugin>(
     end_run(ring, root, seats, parts, Vec::new(alloc))
 }
 
-/// Plays a play to its end, and gives its two ends back.
+/// Plays a play to its end, and returns its two ends.
 ///
-/// It may wait, and owes no return.
+/// It may wait; no clause says that it returns.
 pub(crate) fn play<
     R: Threads + Wait + Sync,
     S: Source + Send,
@@ -114,10 +114,10 @@ pub(crate) fn play<
     end_play(alloc, playing)
 }
 
-/// Plays a play to its end, and gives its two ends back. Meanwhile the input of the next one reads ahead, in a thread of its
+/// Plays a play to its end, and returns its two ends. Meanwhile the input of the next one reads ahead, in a thread of its
 /// own where one can be started.
 ///
-/// It may wait, and owes no return.
+/// It may wait; no clause says that it returns.
 pub(crate) fn play_beside<
     R: Threads + Wait + Sync,
     S: Source + Send,

@@ -40,7 +40,7 @@ begins-more hand more begins = record {
   sync = get_or_append_left hand more 0 0 (let whole = begins.whole in omega arith) ∙ begins.sync;
 }
 
--- how the input ends that has no packet behind the rows
+-- how the input ends that has no packet after the rows
 pub ended-behind : (rows : List (List ℕ)) (rest : List ℕ) → All IsPacket rows → is_packet_in_front rest ≡ false
     → (input_of_bytes (concat rows ++ rest)).ended ≡ end_behind (length rows) rest
 ended-behind rows rest are none =

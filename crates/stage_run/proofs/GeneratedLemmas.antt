@@ -26,7 +26,7 @@ generated-push seed n =
     let behind : n ≡ 0 + n = omega arith in
     ap (λ (k : ℕ). generated_from seed 0 n ++ generated_from seed k 1) behind ∙ sym (generated-append seed 0 n 1)
 
--- the packets that were put, and those behind them
+-- the packets that were put, and those after them
 pub generated-split : (seed count all : ℕ) → count ≤ all
     → generated_from seed 0 all ≡ generated_from seed 0 count ++ generated_from seed count (all - count)
 generated-split seed count all within =

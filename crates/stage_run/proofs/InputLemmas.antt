@@ -24,7 +24,7 @@ use Rattle.stage_run.specs.Feeds.{FeedStands, FeedLooks, FeedPuts, FeedPutsAll, 
 use Rattle.stage_run.specs.InputStands.{InputHolds, FeedGives, MayGive, stuffing_of, stuffed_so_far}
 use Rattle.stage_run.specs.InputSteps.{InputGoes, IsOver, IsFilled, EndsAtLimit, cell_put, with_more, stop_count, null_count}
 
--- one packet more, with the null packets behind it
+-- one packet more, with the null packets after it
 pub stuffed_after-push : (stuffing : model.Stuffing) (n : ℕ) (rows : List (List ℕ)) (row : List ℕ)
     → stuffed_after stuffing n (rows ++ row ∷ []) ≡ stuffed_after stuffing n rows ++ (Live row no_labels ∷ nulls_behind stuffing (n + length rows + 1))
 stuffed_after-push stuffing n [] row =
@@ -62,11 +62,11 @@ length-live_cells : (rows : List (List ℕ)) → length (live_cells rows) ≡ le
 length-live_cells [] = refl
 length-live_cells (row ∷ rows) = omega (arith, length-live_cells rows)
 
--- the null packets that are due behind a packet
+-- the null packets that are due after a packet
 pub null_cells-due : (stuffing : model.Stuffing) (packet : ℕ) → null_cells (null_count stuffing packet) ≡ nulls_behind stuffing packet
 null_cells-due stuffing packet = null_cells-if (packet % stuffing.every == 0) stuffing.null
 
--- and those behind the end
+-- and those after the end
 pub stuffed-stop : (stuffing : model.Stuffing) (rows : List (List ℕ)) (ended : Option InputEnd)
     → stuffed_so_far stuffing rows None ++ null_cells (stop_count ended stuffing.stop) ≡ stuffed_so_far stuffing rows ended
 stuffed-stop stuffing rows None = append-nil (null_cells stuffing.start ++ stuffed_after stuffing 0 rows)
@@ -75,7 +75,7 @@ stuffed-stop stuffing rows (Some (Sync packet)) = append_assoc (null_cells stuff
 stuffed-stop stuffing rows (Some ReadFault) = append_assoc (null_cells stuffing.start) (stuffed_after stuffing 0 rows) []
 stuffed-stop stuffing rows (Some TooLong) = append_assoc (null_cells stuffing.start) (stuffed_after stuffing 0 rows) []
 
--- what a source has left was left behind what was read since
+-- what was left of a source before is what was read since and what is left now
 pub left-grows : (old new : Option (List ℕ)) (read bytes more : List ℕ) → before read old ≡ before (read ++ bytes) new
     → IfSome new (λ left. left ≡ more) → IfSome old (λ left. left ≡ bytes ++ more)
 left-grows None new read bytes more same is = tt
@@ -202,7 +202,7 @@ module _ {S : Type 0} (seen : S → SourceView) where
         reads = λ most within fits. subst (λ (r : List ℕ). length r ≤ 188 * most) (sym read_same) within;
       }
 
-  -- packets that were put, with the null packets that are due behind them
+  -- packets that were put, with the null packets that are due after them
   InputGoes-behind : (old : InputStage S) (feed : PacketFeed S) (nulls : ℕ) (lists : PartLists) (wanted : ℕ) (cells : List Cell) (put : List (List ℕ))
       → old.nulls ≡ 0 → old.ended ≡ None → (holds : InputHolds seen old lists) → SameFeed old.feed feed
       → FeedStands seen feed lists.source lists.read (holds.rows ++ put) None
@@ -244,7 +244,7 @@ module _ {S : Type 0} (seen : S → SourceView) where
         reads = λ most within fits. subst (λ (r : List ℕ). length r ≤ 188 * most) (sym read_same) within;
       }
 
-  -- one packet, with which the null packets behind it are due
+  -- one packet, with which the null packets after it are due
   pub InputGoes-put : (old : InputStage S) (feed : PacketFeed S) (nulls : ℕ) (lists : PartLists) (wanted : ℕ) (cell : Cell)
       → old.nulls ≡ 0 → old.ended ≡ None → nulls ≡ null_count (stuffing_of old.stuffing) (packets_put feed) → InputHolds seen old lists
       → ((first : SourceView) (read : List ℕ) (rows : List (List ℕ)) → FeedStands seen old.feed first read rows None → FeedPuts seen old.feed feed first read rows cell)
@@ -340,7 +340,7 @@ module _ {S : Type 0} (seen : S → SourceView) where
   InputGoes-stop old new lists wanted cell None some goes = cc
   InputGoes-stop old new lists wanted cell (Some how) some goes = goes
 
--- the end of the packets is known, and no null packets are due behind it
+-- the end of the packets is known, and no null packets are due after it
 pub IsOver-some : {S : Type 0} (stage : InputStage S) (ended : Option InputEnd) → stage.ended ≡ ended → stage.nulls ≡ 0
     → IfSome ended (λ how. IsOver stage how)
 IsOver-some stage None is none = tt

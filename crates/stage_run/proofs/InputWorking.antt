@@ -34,7 +34,7 @@ abbrev pub EndsSo : Option InputEnd → ℕ → Type 0 → InputEnd → Type 0
 EndsSo ended nulls Ready TooLong = (0 < nulls) ⊎ (((ended ≡ None) × Ready) ⊎ (ended ≡ Some TooLong))
 EndsSo ended nulls Ready how = (ended ≡ Some how) × (nulls ≡ 0)
 
--- the count of faults behind an end
+-- the count of faults after an end
 abbrev pub faults_by : Option InputEnd → ℕ → ℕ
 faults_by (Some ReadFault) n = raised n
 faults_by _ n = n
@@ -102,7 +102,7 @@ read_for-free at len free = cond-false _ _ _ (ne_eqb at (2 ^ 60) free)
 abbrev pub plain_work : ℕ → Option StageEnd → Work
 plain_work done told = record { done = done; word = record { agreed = None; ended = told } }
 
--- what an input stands for behind its work
+-- what an input stands for after its work
 abbrev pub lists_behind : PartLists → List ℕ → List Cell → List Cell → PartLists
 lists_behind lists bytes cells given = record {
   met = lists.met ++ cells;
@@ -120,7 +120,7 @@ EndsSo-limit stage (Sync packet) ends = (ends.ended, ends.nulls)
 EndsSo-limit stage ReadFault ends = (ends.ended, ends.nulls)
 EndsSo-limit stage TooLong ends = ends
 
--- what is told at the last position fits what is known
+-- what is reported at the last position fits what is known
 fits_at_limit : (how : InputEnd) (ended : Option InputEnd) (nulls : ℕ) (Ready : Type 0) (lists : PartLists)
     → length lists.given ≡ 2 ^ 60 → EndsSo ended nulls Ready how → (0 < nulls → IsOpen ended) → (ended ≡ Some TooLong → ⊥)
     → FitsTold ended nulls lists (Some (Input how))
@@ -141,7 +141,7 @@ longer_at_limit TooLong ended nulls Ready rest (inl some) more lost = omega arit
 longer_at_limit TooLong ended nulls Ready rest (inr (inl ready)) more lost = let some : 0 < rest = more ready.0 ready.1 in omega arith
 longer_at_limit TooLong ended nulls Ready rest (inr (inr is)) more lost = absurd (lost is)
 
--- what is told where the list is over
+-- what is reported where the list is over
 fits_over : (how : InputEnd) (ended : Option InputEnd) (nulls : ℕ) (lists : PartLists) → ended ≡ Some how → nulls ≡ 0 → (ended ≡ Some TooLong → ⊥)
     → FitsTold ended nulls lists (Some (Input how))
 fits_over (End left) ended nulls lists is none lost = (is, none)
@@ -155,7 +155,7 @@ longer_over (Sync packet) nulls rest lost = tt
 longer_over ReadFault nulls rest lost = tt
 longer_over TooLong nulls rest lost = absurd (lost refl)
 
--- what is told where the window is full
+-- what is reported where the window is full
 fits_followed : (b : Bool) (ended : Option InputEnd) (nulls : ℕ) (lists : PartLists) → IsGoingOn ended lists
     → FitsTold ended nulls lists (if b then Some Followed else None)
 fits_followed true ended nulls lists goes = goes

@@ -1,4 +1,4 @@
--- What an input gives and tells, as a stage's list says.
+-- What an input gives and reports, as a stage's list says.
 use Rattle.std.proofs.Common.{◌≡◌, ℕ, ◌+◌, ◌^◌, ◌<◌, ◌≤◌, List, [], ◌++◌, length, refl, ap, sym, ◌∙◌, arith, append_assoc, append-nil, length-append, subst, take_at, Option, Some}
 use Rattle.std.proofs.lemmas.List.{length-replicate}
 use Rattle.ts_packet.specs.Packet.{null_packet}
@@ -18,7 +18,7 @@ use Rattle.stage_run.specs.PartLists.{PartLists}
 use Rattle.stage_run.specs.InputStands.{FitsTold, stuffed_so_far}
 use Rattle.stage_run.proofs.ContinuesLemmas.{Continues, EndsWith, within_limit-short, within_limit-long, within_limit-ends, within_limit-prefix}
 
--- more cells would come than there are positions, where this is told
+-- more cells would come than there are positions, where this is reported
 abbrev pub IsLonger : Option StageEnd → ℕ → ℕ → Type 0
 IsLonger (Some (Input TooLong)) nulls rest = 0 < nulls + rest
 IsLonger _ nulls rest = Unit {0}
@@ -27,7 +27,7 @@ module _ (stuffing : model.Stuffing) (rows : List (List ℕ)) (ended : Option In
     (continues : Continues stuffing rows ended Ready input)
     (cells : lists.given ++ null_cells nulls ≡ stuffed_so_far stuffing rows ended)
     (fits : length lists.given ≤ 2 ^ 60) where
-  -- the list behind what was given
+  -- the list after what was given
   all_is : input ≡ within_limit (lists.given ++ (null_cells nulls ++ continues.rest)) continues.how
   all_is =
       continues.is

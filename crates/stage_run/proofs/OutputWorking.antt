@@ -33,7 +33,7 @@ unfolding passing_rule
 agreement_after-passes history [] = refl
 agreement_after-passes history (x ∷ xs) = agreement_after-passes (history ++ x ∷ []) xs
 
--- what an output tells
+-- what an output reports
 abbrev pub IsOutputEnd : Option StageEnd → Type 0
 IsOutputEnd None = Unit {0}
 IsOutputEnd (Some Followed) = Unit {0}

@@ -63,7 +63,7 @@ packets_within-front most (row ∷ rows) rest are =
     ∙ packets_within-one (length rows + most) row (concat rows ++ rest) (All-head IsPacket row rows are)
     ∙ ap (λ rest. row ∷ rest) (packets_within-front most rows rest (All-tail IsPacket row rows are))
 
--- how many packets may stand behind the rows, at most
+-- how many packets may come after the rows, at most
 abbrev pub fuel_behind : List (List ℕ) → List ℕ → ℕ
 fuel_behind rows rest = length (concat rows ++ rest) - length rows
 
@@ -87,7 +87,7 @@ packets_of-all rows rest are none =
     ∙ ap (λ (l : List (List ℕ)). rows ++ l) (packets_within-none (fuel_behind rows rest) rest none)
     ∙ append-nil rows
 
--- and behind them stands the rest
+-- and after them stands the rest
 pub rest-behind : (rows : List (List ℕ)) (rest : List ℕ) → All IsPacket rows → drop (188 * length rows) (concat rows ++ rest) ≡ rest
 rest-behind rows rest are = drop_at (concat rows) rest (188 * length rows) (length-concat rows are)
 

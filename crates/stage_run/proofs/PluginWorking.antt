@@ -30,7 +30,7 @@ use Rattle.stage_run.specs.Telling.{may_follow, followed, FollowsNews, told_of}
 use Rattle.stage_run.specs.Works.{Works, PluginWorks, PluginTells}
 use Rattle.plugin_trait.proofs.FarLemmas.{apply_after-append, apply_after-same_length}
 
--- an agreement that is told is the one that holds, and is above what was given before
+-- an agreement that is reported is the one that holds, and is above what was given before
 pub newly_agreed-Some : (before : ℕ) (a : Option ℕ) (n : ℕ) → newly_agreed before a ≡ Some n → (before < n) × (a ≡ Some n)
 newly_agreed-Some before None n e = cc
 newly_agreed-Some before (Some m) n e =
@@ -45,7 +45,7 @@ newly_agreed-Some before (Some m) n e =
 newly_agreed-above : (before n : ℕ) → before < n → newly_agreed before (Some n) ≡ Some n
 newly_agreed-above before n above = cond-true _ _ _ (lt-ltb before n above)
 
--- what the news let a stage tell is what they say
+-- what the news let a stage report is what they say
 pub FollowsNews-followed : (news : News) (now : ℕ) → FollowsNews news now (followed news now)
 FollowsNews-followed news now = follows (may_follow news now) refl
   where
@@ -97,7 +97,7 @@ module _ (rule : PluginRule) (met given cells made : List Cell) (done : ℕ) (en
       ∙ ap (λ (l : List Cell). behind l (apply_after rule met (take done cells))) (sym given_is)
       ∙ ap (behind given) far
 
-  -- the rest behind the cells that were met
+  -- the rest after the cells that were met
   met_behind : (rest : List Cell) → met ++ (cells ++ rest) ≡ (met ++ take done cells) ++ (drop done cells ++ rest)
   met_behind rest =
       ap (λ (l : List Cell). met ++ (l ++ rest)) (sym (take-append-drop done cells))
@@ -133,7 +133,7 @@ followed_ends : (b : Bool) (plugins k : ℕ) (list : StageList) (given : List Ce
 followed_ends true plugins k list given x e = from_some plugins k list given Followed x e tt
 followed_ends false plugins k list given x e = cc
 
--- what is told of a window is an end of the stage's list
+-- what is reported of a window is an end of the stage's list
 ends_by : (end : ListEnd) (window_list list : StageList) (made given : List Cell) (news : News) (now plugins k : ℕ) → Makes window_list made end
     → ((own : OwnEnd) → made ≡ window_list.cells → window_list.ended ≡ Some own → IsEndOf list given own)
     → (x : StageEnd) → told_by end news now ≡ Some x → EndsAs plugins k list given x
@@ -150,7 +150,7 @@ last_told window.Stop news now e = cc
 last_told (window.Refuse reason) news now e = cc
 last_told window.NoMemory news now e = cc
 
--- that memory was wanted is told where the plugin wanted it, and there alone
+-- running out of memory is reported where the plugin ran out of it, and there alone
 pub no_memory_told : (end : ListEnd) (news : News) (now : ℕ) → told_by end news now ≡ Some NoMemory → end ≡ window.NoMemory
 no_memory_told Through news now e = absurd (by_follow (may_follow news now) e)
   where
@@ -172,7 +172,7 @@ tells_followed : (b : Bool) (list : StageList) (given : List Cell) (news : News)
 tells_followed true list given news all none e = (all, sym (cond-true _ _ _ e) ∙ ap (λ (o : Option OwnEnd). told_of o news (length given)) (sym none))
 tells_followed false list given news all none e = (all, sym (cond-false _ _ _ e) ∙ ap (λ (o : Option OwnEnd). told_of o news (length given)) (sym none))
 
--- it is told exactly
+-- what is reported, by how the window was left
 tells_by : (end : ListEnd) (window_list list : StageList) (before made : List Cell) (news : News) → list ≡ behind before window_list → Makes window_list made end
     → PluginTells list (before ++ made) news (told_by end news (length (before ++ made)))
 tells_by Through window_list list before made news is makes =
@@ -207,7 +207,7 @@ lists_met lists cells given mark = record {
   mark = mark;
 }
 
--- what is told of a window
+-- what is reported of a window
 abbrev pub plugin_work : ℕ → Option ℕ → ListEnd → News → ℕ → Work
 plugin_work done agreed end news now = record { done = done; word = record { agreed = agreed; ended = told_by end news now } }
 

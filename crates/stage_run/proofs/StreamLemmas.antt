@@ -22,7 +22,7 @@ use Rattle.stage_run.specs.Feeds.{hand_of, HasRoom, ReadsMore, FailsToRead, Stre
 pub length-put_mid : (have k : ℕ) (old got : List ℕ) → have + k ≤ length old → length got ≡ k → length (put_mid have k old got) ≡ length old
 length-put_mid have k old got fits long = grind (arith, common_steps)
 
--- the bytes in hand behind a read into the room behind them
+-- the bytes in hand after a read into the room after them
 pub hand-more : {Z : Type 0} (v : Vec ℕ Z) (have k count from : ℕ) (old got : List ℕ)
     → have + k ≤ length old → length got ≡ k → count ≤ k → length old ≡ v.len → from ≡ 0
     → take (have + count) (drop from (with_items v (put_mid have k old got)).items) ≡ take have old ++ take count got
@@ -31,7 +31,7 @@ hand-more v have k count from old got fits long few size front =
     ∙ ap (take (have + count)) (with_items_is v (put_mid have k old got) (length-put_mid have k old got fits long ∙ size))
     ∙ take-filled have k count old got (omega arith) (omega arith)
 
--- and behind one that failed
+-- and after a read that failed
 pub hand-kept : {Z : Type 0} (v : Vec ℕ Z) (have k from : ℕ) (old got : List ℕ)
     → have + k ≤ length old → length got ≡ k → length old ≡ v.len → from ≡ 0
     → take have (drop from (with_items v (put_mid have k old got)).items) ≡ take have old
@@ -40,7 +40,7 @@ hand-kept v have k from old got fits long size front =
     ∙ ap (take have) (with_items_is v (put_mid have k old got) (length-put_mid have k old got fits long ∙ size))
     ∙ take-put_mid_below have k old got have (omega arith) (omega arith)
 
--- the packet in front, and the bytes behind it
+-- the packet in front, and the bytes after it
 pub hand-split : (from have : ℕ) (bytes : List ℕ) → 188 ≤ have
     → take have (drop from bytes) ≡ take 188 (drop from bytes) ++ take (have - 188) (drop (from + 188) bytes)
 hand-split from have bytes whole =
@@ -84,7 +84,7 @@ module _ {S : Type 0} (seen : S → SourceView) where
     stands = subst (λ (r : List (List ℕ)). StreamStands seen stream first read r None) (sym (append-nil rows)) stands;
   }
 
-  -- and one more was put behind those before
+  -- and one more was put after those before
   pub StreamPutsAll-push : (mid new : PacketStream S) (first : SourceView) (read : List ℕ) (rows : List (List ℕ)) (cells : List Cell) (cell : Cell)
       → (puts : StreamPutsAll seen mid first read rows cells) → StreamPuts seen new first read (rows ++ puts.put) cell
       → StreamPutsAll seen new first read rows (cells ++ cell ∷ [])

@@ -22,7 +22,7 @@ plain-stage Old New Wants Fills Does at news cells cells_new work done told is f
     subst (λ (w : Work). StageWork Old New Wants Fills (Does w) at news cells cells_new w) (sym is)
     (record { done = few; rest = rest; goes_on = goes_on; follows = follows; agreed = λ agreed e. cc; memory = λ e. absurd (memory e); works = works })
 
--- a stage that follows its news wants no memory
+-- a stage that follows its news does not run out of memory
 pub followed-memory : (news : News) (now : ℕ) → followed news now ≡ Some NoMemory → ⊥
 followed-memory news now e = by (may_follow news now) e
   where

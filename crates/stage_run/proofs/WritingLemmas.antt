@@ -57,7 +57,7 @@ StandsAt-live cells place left byte cell packet labels within here live inside a
 pub written-take-least : (n : ℕ) (cells : List Cell) → length (written (take n cells)) ≤ length (written cells)
 written-take-least n cells = omega (arith, ap length (written-take-drop n cells), length-append (written (take n cells)) (written (drop n cells)))
 
--- the sink took what the cells before a place write, and then those behind it
+-- the sink took what the cells before a place write, and then those after it
 pub taken-more : (first mid now : SinkView) (cells : List Cell) (done n : ℕ) (piece : List ℕ)
     → mid ≡ took first (written (take done cells)) → now ≡ took mid piece → piece ≡ written (take n (drop done cells))
     → now ≡ took first (written (take (done + n) cells))
@@ -67,7 +67,7 @@ taken-more first mid now cells done n piece before then is =
     ∙ took-took first (written (take done cells)) piece
     ∙ ap (took first) (ap (λ (l : List ℕ). written (take done cells) ++ l) is ∙ sym (written-take-add done n cells))
 
--- a write failed behind the cells before a place
+-- a write failed after the cells before a place
 pub cut-behind : (first mid now : SinkView) (cells : List Cell) (done n taken place : ℕ) (piece : List ℕ)
     → mid ≡ took first (written (take done cells)) → now ≡ write_failed (took mid (take taken piece))
     → piece ≡ written (take n (drop done cells)) → taken < length piece → place < length (drop done cells)

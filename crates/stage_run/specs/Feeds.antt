@@ -1,4 +1,4 @@
--- How the packets of an input stand behind the bytes that were read. This project's own rule.
+-- How the packets of an input follow from the bytes that were read. This project's own rule.
 use Rattle.std.specs.Prelude.{◌≡◌, ℕ, ◌+◌, ◌*◌, ◌<◌, ◌≤◌, List, [], ◌∷◌, ◌++◌, length, take, drop, replicate, Option, None, Some, IfSome, vec_len}
 use Rattle.std.specs.List.{All, concat}
 use Rattle.ts_packet.specs.declared.numbers.TheConstants.{PACKET_SIZE}
@@ -22,8 +22,8 @@ use Rattle.stage_run.specs.Rows.{IsUnfinished, IsOutOfSync, BeginsPacket}
 abbrev pub hand_of : {S : Type 0} → PacketStream S → List ℕ
 hand_of stream = take stream.have (drop stream.from stream.room.bytes.items)
 
--- how a stream stands to its source: `first` is the source as it was, `now` as it is, `read` was read from it, and the
--- bytes in hand stand behind `count` packets
+-- how a stream relates to its source: `first` is the source as it was, `now` as it is, `read` was read from it, and the
+-- bytes in hand come after `count` packets
 abbrev pub StandsAtSource : SourceView → SourceView → List ℕ → List ℕ → ℕ → Option InputEnd → Type 0
 StandsAtSource first now read hand count None = first ≡ unread read now
 StandsAtSource first now read hand count (Some (End left)) =
@@ -55,7 +55,7 @@ pub record MovesHand {S : Type 0} (old new : PacketStream S) : Type 0 where
   pub packets : new.packets ≡ old.packets
   pub size : vec_len new.room.bytes ≡ vec_len old.room.bytes
 
--- so many bytes more are in hand, and they were read from the source; none were the end
+-- so many more bytes are in hand, and they were read from the source; where there are none, no byte was left of it, if that is known
 pub record ReadsMore {S : Type 0} (seen : S → SourceView) (old new : PacketStream S)
     (count : ℕ) : Type 0 where
   pub bytes : List ℕ
@@ -71,7 +71,7 @@ pub record FailsToRead {S : Type 0} (seen : S → SourceView) (old new : PacketS
   pub have : new.have ≡ old.have
   pub source : seen new.source ≡ read_failed (seen old.source)
 
--- some bytes were read so that a packet is ready or the end is known; no more than `wanted` packets want
+-- some bytes were read so that a packet is ready or the end is known; no more than `wanted` packets need
 pub record StreamLooks {S : Type 0} (seen : S → SourceView) (new : PacketStream S) (wanted : ℕ)
     (first : SourceView) (read : List ℕ) (rows : List (List ℕ)) (ended : Option InputEnd) : Type 0 where
   pub bytes : List ℕ
@@ -91,7 +91,7 @@ abbrev pub live_cells : List (List ℕ) → List Cell
 live_cells [] = []
 live_cells (row ∷ rows) = Live row no_labels ∷ live_cells rows
 
--- the packets behind them were put into cells, one after another
+-- the packets after them were put into cells, one after another
 pub record StreamPutsAll {S : Type 0} (seen : S → SourceView) (new : PacketStream S) (first : SourceView)
     (read : List ℕ) (rows : List (List ℕ)) (cells : List Cell) : Type 0 where
   pub put : List (List ℕ)
@@ -106,7 +106,7 @@ EndsWhenPut all count (Some (Sync packet)) = ⊥
 EndsWhenPut all count (Some ReadFault) = ⊥
 EndsWhenPut all count (Some TooLong) = ⊥
 
--- the input that a feed gives back
+-- the input that a feed returns
 abbrev pub part_of_feed : {S : Type 0} → PacketFeed S → InputPart S
 part_of_feed (Stream stream) = part.Stream stream.source
 part_of_feed (Nulls feed) = part.Nulls feed.all
@@ -124,7 +124,7 @@ IsReady (Stream stream) = BeginsPacket (hand_of stream)
 IsReady (Nulls feed) = feed.packets < feed.all
 IsReady (Generated feed) = feed.packets < feed.all
 
--- a packet more has to be read: of a source none is in hand, and the bytes there do not tell the end either
+-- one more packet has to be read: a source has none in hand, and the bytes in hand do not decide the end either
 abbrev pub WantsMore : {S : Type 0} → PacketFeed S → Type 0
 WantsMore (Stream stream) = IsUnfinished (hand_of stream)
 WantsMore (Nulls feed) = ⊥
@@ -184,7 +184,7 @@ pub record FeedPuts {S : Type 0} (seen : S → SourceView) (old new : PacketFeed
   pub is_put : cell ≡ Live row no_labels
   pub stands : FeedStands seen new first read (rows ++ row ∷ []) None
 
--- the packets behind them were put into cells, one after another
+-- the packets after them were put into cells, one after another
 pub record FeedPutsAll {S : Type 0} (seen : S → SourceView) (old new : PacketFeed S) (first : SourceView)
     (read : List ℕ) (rows : List (List ℕ)) (cells : List Cell) : Type 0 where
   pub same : SameFeed old new

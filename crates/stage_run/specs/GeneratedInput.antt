@@ -9,6 +9,6 @@ abbrev pub generated_from : ℕ → ℕ → ℕ → List (List ℕ)
 generated_from seed at zero = []
 generated_from seed at (suc n) = generated seed at ∷ generated_from seed (at + 1) n
 
--- the first `n` packets of the generated stream of a seed, and a plain end behind them
+-- the first `n` packets of the generated stream of a seed, and a plain end after them
 abbrev pub input_of_generated : ℕ → ℕ → InputList
 input_of_generated seed n = record { packets = generated_from seed 0 n; ended = End 0 }

@@ -25,7 +25,7 @@ abbrev pub stuffing_of : Stuffing → model.Stuffing
 stuffing_of stuffing =
     record { start = stuffing.start; stop = stuffing.stop; null = stuffing.null; every = stuffing.every }
 
--- the stuffed list of these packets, with the nulls behind the end once it is known
+-- the stuffed list of these packets, with the nulls after the end once it is known
 abbrev pub stuffed_so_far : model.Stuffing → List (List ℕ) → Option InputEnd → List Cell
 stuffed_so_far stuffing rows None = null_cells stuffing.start ++ stuffed_after stuffing 0 rows
 stuffed_so_far stuffing rows (Some how) =
@@ -37,13 +37,13 @@ IsOpen None = Unit {0}
 IsOpen (Some (End left)) = Unit {0}
 IsOpen (Some how) = ⊥
 
--- before it tells its end an input can go on, and it has read one packet more, at most, than the cells that it gave have
+-- before it reports its end an input can go on, and it has read one packet more, at most, than the cells that it gave have
 -- room for
 pub record IsGoingOn (ended : Option InputEnd) (lists : PartLists) : Type 0 where
   pub can : IsOpen ended
   pub reads : length lists.read ≤ PACKET_SIZE * (length lists.given + 1)
 
--- what is told of an input's end fits what is known of it: nothing is left to give, or no position
+-- what is reported of an input's end fits what is known of it: nothing is left to give, or no position
 abbrev pub FitsTold : Option InputEnd → ℕ → PartLists → Option StageEnd → Type 0
 FitsTold ended nulls lists None = IsGoingOn ended lists
 FitsTold ended nulls lists (Some Followed) = IsGoingOn ended lists
@@ -63,7 +63,7 @@ pub record InputHolds {S : Type 0} (seen : S → SourceView) (stage : InputStage
   pub put : length rows ≤ length lists.given
   pub every : 1 ≤ stage.stuffing.every
 
--- the input read and gave these lists, and told this end
+-- the input read and gave these lists, and reported this end
 pub record InputStands {S : Type 0} (seen : S → SourceView) (stage : InputStage S) (lists : PartLists)
     (told : Option StageEnd) : Type 0 where
   pub holds : InputHolds seen stage lists
@@ -76,7 +76,7 @@ abbrev pub MayFollowEnd : Option InputEnd → List ℕ → Type 0
 MayFollowEnd (Some (End left)) more = more ≡ []
 MayFollowEnd _ more = Unit {0}
 
--- the stuffed list of a feed's packets may be this one, as far as its source tells and as far as it was read
+-- the stuffed list of a feed's packets may be this one, as far as its source is known and as far as it was read
 abbrev pub FeedGives : {S : Type 0} → (S → SourceView) → PacketFeed S → model.Stuffing → List ℕ
     → Option InputEnd → StageList → Type 0
 FeedGives seen (feed.Stream stream) stuffing read ended input =

@@ -24,12 +24,12 @@ with_more lists bytes cells = record {
   mark = lists.mark;
 }
 
--- how many null packets stand behind an end
+-- how many null packets come after an end
 abbrev pub stop_count : Option InputEnd → ℕ → ℕ
 stop_count (Some (End left)) stop = stop
 stop_count _ stop = 0
 
--- how many null packets stand behind the packet of this number, counted from 1
+-- how many null packets come after the packet of this number, counted from 1
 abbrev pub null_count : model.Stuffing → ℕ → ℕ
 null_count stuffing packet = if packet % stuffing.every == 0 then stuffing.null else 0
 
@@ -38,7 +38,7 @@ pub record InputFits {S : Type 0} (stage : InputStage S) : Type 0 where
   pub room : FeedHasRoom stage.feed
   pub every : 1 ≤ stage.stuffing.every
 
--- the input gave these cells more, and read no more than `wanted` cells want
+-- the input gave these cells more, and read no more than `wanted` cells need
 pub record InputGoes {S : Type 0} (seen : S → SourceView) (old new : InputStage S) (lists : PartLists)
     (wanted : ℕ) (cells : List Cell) : Type 0 where
   pub same : SameFeed old.feed new.feed
@@ -59,11 +59,11 @@ abbrev pub cell_put : Option InputEnd → Cell → List Cell
 cell_put None cell = cell ∷ []
 cell_put (Some how) cell = []
 
--- the next cell wants a read: no null packets are due, no end is known, and a packet more has to be read
+-- the next cell needs a read: no null packets are due, no end is known, and a packet more has to be read
 abbrev pub WantsRead : {S : Type 0} → InputStage S → Type 0
 WantsRead stage = (stage.nulls ≡ 0) × (stage.ended ≡ None) × WantsMore stage.feed
 
--- all cells of the window were put, or some were and the next one wants a read
+-- all cells of the window were put, or some were and the next one needs a read
 abbrev pub FillsWindow : {S : Type 0} → InputStage S → ℕ → ℕ → Type 0
 FillsWindow new len done = (done ≡ len) ⊎ ((0 < done) × WantsRead new)
 
@@ -72,7 +72,7 @@ abbrev pub IsFilled : {S : Type 0} → InputStage S → ℕ → ℕ → Option I
 IsFilled new len done None = FillsWindow new len done
 IsFilled new len done (Some how) = IsOver new how
 
--- a cell more would come, or the list is over
+-- one more cell would come, or the list is over
 abbrev pub EndsAtLimit : {S : Type 0} → InputStage S → InputEnd → Type 0
 EndsAtLimit new TooLong =
     (0 < new.nulls) ⊎ (((new.ended ≡ None) × IsReady new.feed) ⊎ (new.ended ≡ Some TooLong))

@@ -1,3 +1,4 @@
+-- The definitions of the stages of a chain.
 pub mod Seeing
 pub mod PartLists
 pub mod Rows

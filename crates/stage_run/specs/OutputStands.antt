@@ -10,7 +10,7 @@ use Rattle.stage_run.specs.declared.output_part.OutputPart.TheVariants.{Stream, 
 use Rattle.stage_run.specs.declared.output_stage.OutputStage.{OutputStage}
 use Rattle.stage_run.specs.PartLists.{PartLists}
 
--- a sink that took what these cells write and a part of the packet behind them, of which a write failed
+-- a sink that took what these cells write and a part of the packet after them, of which a write failed
 abbrev pub failed_behind : SinkView → List Cell → List ℕ → SinkView
 failed_behind first given part = write_failed (took first (written given ++ part))
 
@@ -31,7 +31,7 @@ abbrev pub PartTook : {K : Type 0} → (K → SinkView) → OutputPart K → Par
 PartTook seen (Stream sink) lists told = SinkTook lists.sink (seen sink) lists.given lists.cut told
 PartTook seen Discard lists told = told ≢ Some WriteFault
 
--- the output met and gave these lists, and told this end
+-- the output met and gave these lists, and reported this end
 pub record OutputStands {K : Type 0} (seen : K → SinkView) (stage : OutputStage K) (lists : PartLists)
     (told : Option StageEnd) : Type 0 where
   -- it gives its cells unchanged

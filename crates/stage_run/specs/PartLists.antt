@@ -17,7 +17,7 @@ pub record PartLists : Type 0 where
   -- the source of an input, and the sink of an output, as they were when the part was made
   pub source : SourceView
   pub sink : SinkView
-  -- the greatest mark that a plugin was told
+  -- the greatest mark that a plugin was given
   pub mark : ℕ
 
 -- the lists of a part that was just made

@@ -36,7 +36,7 @@ rule_of see (Input stage) = passing_rule
 rule_of see (Plugin stage) = see.rule stage.plugin
 rule_of see (Output stage) = passing_rule
 
--- where it is a number, a plugin made room before the run for notes on so many positions behind its mark
+-- where it is a number, a plugin made room before the run for notes on so many positions after its mark
 abbrev pub steady_of : {S K P : Type 0} → Seeing S K P → StagePart S K P → Option ℕ
 steady_of see (Input stage) = None
 steady_of see (Plugin stage) = see.steady stage.plugin
@@ -78,7 +78,7 @@ stream_kind (Input stage) = feed_kind stage.feed
 stream_kind (Plugin stage) = no_stream
 stream_kind (Output stage) = sink_kind stage.part
 
--- the part met, gave, read and wrote what these lists say, and told this end
+-- the part met, gave, read and wrote what these lists say, and reported this end
 abbrev pub PartStands : {S K P : Type 0} → Seeing S K P → StagePart S K P → PartLists → Option StageEnd
     → Type 0
 PartStands see (Input stage) lists told = InputStands see.source stage lists told
@@ -91,13 +91,13 @@ PartGives see (Input stage) lists input = MayGive see.source stage lists input
 PartGives see (Plugin stage) lists input = Unit {0}
 PartGives see (Output stage) lists input = Unit {0}
 
--- a stage may want memory that works on so many positions behind the mark: a plugin's, where no room was made for them
+-- a stage that works on so many positions after the mark may run out of memory: a plugin's, where no room was made for them
 abbrev pub MayWantMemory : {S K P : Type 0} → Seeing S K P → StagePart S K P → ℕ → Type 0
 MayWantMemory see (Input stage) ahead = ⊥
 MayWantMemory see (Plugin stage) ahead = IsSteadyFor (see.steady stage.plugin) ahead → ⊥
 MayWantMemory see (Output stage) ahead = ⊥
 
--- a part that stands for these lists, and has not ended, may work behind its first `at` cells with this mark
+-- a part that stands for these lists, and has not ended, may work after its first `at` cells with this mark
 pub record MayWork (stands : PartLists → Option StageEnd → Type 0) (at written : ℕ)
     (lists : PartLists) : Type 0 where
   pub goes_on : stands lists None

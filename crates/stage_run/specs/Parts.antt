@@ -1,4 +1,4 @@
--- What the input and the output of a chain are before a run and behind it. This project's own rule.
+-- What the input and the output of a chain are before a run and after it. This project's own rule.
 use Rattle.std.specs.Prelude.{◌≡◌, ◌≢◌, ℕ, List, Option, Some, IfSome}
 use Rattle.ts_outside.specs.Source.{SourceView, unread, read_failed}
 use Rattle.ts_outside.specs.Sink.{SinkView}
@@ -19,7 +19,7 @@ use Rattle.stage_run.specs.GeneratedInput.{input_of_generated}
 use Rattle.stage_run.specs.PartLists.{PartLists}
 use Rattle.stage_run.specs.OutputStands.{SinkTook}
 
--- the list of an input with its stuffing, as far as its source tells its bytes
+-- the list of an input with its stuffing, as far as the bytes of its source are known
 abbrev pub IsListOf : {S : Type 0} → (S → SourceView) → InputPart S → model.Stuffing → StageList → Type 0
 IsListOf seen (Stream source) stuffing input =
     (bytes : List ℕ) × (input ≡ stuffed stuffing (input_of_bytes bytes))
@@ -51,12 +51,12 @@ pub record FailedReading (stuffing : model.Stuffing) (first now : SourceView)
   pub in_sync : IsInSyncSoFar lists.read
   pub given : lists.given ≡ (list_at_fault stuffing lists.read).cells
 
--- the source that an input leaves: what was read was read from it, and only where a read fault was told a call failed
+-- the source that an input leaves: what was read was read from it, and only where a read fault was reported a call failed
 abbrev pub LeavesSource : model.Stuffing → SourceView → SourceView → PartLists → Option StageEnd → Type 0
 LeavesSource stuffing first now lists (Some (Input ReadFault)) = FailedReading stuffing first now lists
 LeavesSource stuffing first now lists told = first ≡ unread lists.read now
 
--- the input that a stage gives back
+-- the input that a stage returns
 abbrev pub LeavesInput : {S : Type 0} → (S → SourceView) → InputPart S → model.Stuffing → PartLists
     → Option StageEnd → Type 0
 LeavesInput seen (Stream source) stuffing lists told =
@@ -64,7 +64,7 @@ LeavesInput seen (Stream source) stuffing lists told =
 LeavesInput seen (Nulls count) stuffing lists told = told ≢ Some (Input ReadFault)
 LeavesInput seen (Generated generator count) stuffing lists told = told ≢ Some (Input ReadFault)
 
--- the output that a stage gives back: its sink took the live cells that were given, and a part of a packet where a
+-- the output that a stage returns: its sink took the live cells that were given, and a part of a packet where a
 -- write failed
 abbrev pub LeavesOutput : {K : Type 0} → (K → SinkView) → OutputPart K → PartLists → Option StageEnd → Type 0
 LeavesOutput seen (out.Stream sink) lists told = SinkTook lists.sink (seen sink) lists.given lists.cut told

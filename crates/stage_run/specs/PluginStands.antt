@@ -9,12 +9,12 @@ use Rattle.chain_core.specs.declared.stage_end.StageEnd.TheVariants.{Last}
 use Rattle.stage_run.specs.declared.plugin_stage.PluginStage.{PluginStage}
 use Rattle.stage_run.specs.PartLists.{PartLists}
 
--- how the list of the cells that were met has ended: behind a last packet, or not
+-- how the list of the cells that were met has ended: after a last packet, or not
 abbrev pub end_behind_met : Option StageEnd → Option OwnEnd
 end_behind_met (Some Last) = Some last_passed
 end_behind_met _ = None
 
--- the plugin met and gave these lists, and told this end
+-- the plugin met and gave these lists, and reported this end
 pub record PluginStands {P : Type 0} (rule : P → PluginRule) (stands : P → List Cell → ℕ → Type 0)
     (stage : PluginStage P) (lists : PartLists) (told : Option StageEnd) : Type 0 where
   pub plugin : stands stage.plugin lists.met lists.mark

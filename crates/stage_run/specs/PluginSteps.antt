@@ -9,7 +9,7 @@ use Rattle.chain_core.specs.declared.stage_end.StageEnd.{StageEnd}
 use Rattle.chain_core.specs.declared.stage_end.StageEnd.TheVariants.{Last, Stop, Refuse, NoMemory}
 use Rattle.stage_run.specs.Telling.{followed}
 
--- what is told of how a plugin left its window
+-- what is reported of how a plugin left its window
 abbrev pub told_by : ListEnd → News → ℕ → Option StageEnd
 told_by Through news now = followed news now
 told_by left.Last news now = Some Last
@@ -17,7 +17,7 @@ told_by left.Stop news now = Some Stop
 told_by (left.Refuse reason) news now = Some (Refuse reason)
 told_by left.NoMemory news now = Some NoMemory
 
--- a plugin that stands for these cells, so many, may be told this mark
+-- a plugin that stands for these cells, so many, may be given this mark
 pub record Allows (stands : List Cell → ℕ → Type 0) (at written : ℕ) (history : List Cell)
     (mark : ℕ) : Type 0 where
   pub holds : stands history mark
@@ -31,7 +31,7 @@ pub record MayPass (stands : List Cell → ℕ → Type 0) (at written : ℕ) : 
   pub mark : ℕ
   pub allows : Allows stands at written history mark
 
--- the plugin stands for these cells; it was told this mark, but where memory was wanted, and no greater one
+-- the plugin stands for these cells; it was given this mark, unless memory ran out, and no greater one
 pub record StandsTold (stands : List Cell → ℕ → Type 0) (history : List Cell) (written : ℕ)
     (end : ListEnd) : Type 0 where
   pub mark : ℕ

@@ -1,4 +1,4 @@
--- What stands behind the whole packets that were read. ISO/IEC 13818-1, 2.4.3.2 (a packet is 188 bytes and begins
+-- What comes after the whole packets that were read. ISO/IEC 13818-1, 2.4.3.2 (a packet is 188 bytes and begins
 -- with 0x47).
 use Rattle.std.specs.Prelude.{◌≡◌, ◌≢◌, ℕ, ◌<◌, ◌≤◌, List, [], ◌∷◌, length, slice_index}
 use Rattle.ts_packet.specs.declared.numbers.TheConstants.{PACKET_SIZE}
@@ -18,7 +18,7 @@ abbrev pub IsInSync : List ℕ → Type 0
 IsInSync [] = Unit {0}
 IsInSync (first ∷ rest) = first ≡ 0x47
 
--- a whole packet stands in front
+-- the bytes begin with a whole packet
 pub record BeginsPacket (bytes : List ℕ) : Type 0 where
   pub whole : PACKET_SIZE ≤ length bytes
   pub sync : slice_index bytes 0 ≡ 0x47

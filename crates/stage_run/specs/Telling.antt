@@ -1,4 +1,4 @@
--- What a stage tells with its cells. This project's own rule.
+-- What a stage reports with its cells. This project's own rule.
 use Rattle.std.specs.Prelude.{◌≡◌, ℕ, ◌-◌, min, nat_le, ◌||◌, Bool, true, false, Option, None, Some, if◌then◌else◌}
 use Rattle.chain_model.specs.Apply.{OwnEnd, input_over, last_passed, stopped, refused}
 use Rattle.chain_core.specs.declared.news.News.{News}
@@ -18,21 +18,21 @@ may_follow news now = news.before_over || (news.after_over || is_reached news.li
 abbrev pub followed : News → ℕ → Option StageEnd
 followed news now = if may_follow news now then Some Followed else None
 
--- `Followed` is told where the news let the stage follow and it has met no end of its own, and nothing is told where
+-- `Followed` is reported where the news let the stage follow and it has met no end of its own, and nothing is reported where
 -- they do not
 abbrev pub FollowsNews : News → ℕ → Option StageEnd → Type 0
 FollowsNews news now None = may_follow news now ≡ false
 FollowsNews news now (Some Followed) = may_follow news now ≡ true
 FollowsNews news now (Some _) = Unit {0}
 
--- how the end of a stage's own list is told
+-- how the end of a stage's own list is reported
 abbrev pub end_told : OwnEnd → StageEnd
 end_told (input_over how) = Input how
 end_told last_passed = Last
 end_told stopped = Stop
 end_told (refused reason) = Refuse reason
 
--- what is told of a list: its own end where it has one, and otherwise what the news let the stage tell
+-- what is reported of a list: its own end where it has one, and otherwise what the news let the stage report
 abbrev pub told_of : Option OwnEnd → News → ℕ → Option StageEnd
 told_of None news now = followed news now
 told_of (Some own) news now = Some (end_told own)

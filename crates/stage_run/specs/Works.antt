@@ -40,7 +40,7 @@ use Rattle.chain_model.specs.Written.{IsPartOfFirst}
 use Rattle.stage_run.specs.PartStands.{PartStands, MayWork, MayWantMemory, rule_of, kind_of, steady_of, stuffing_in}
 use Rattle.stage_run.specs.Telling.{FollowsNews, may_follow, told_of, below_limit}
 
--- the lists behind a visit: more was met and given; what was read and written and the mark are a part's own
+-- the lists after a visit: more was met and given; what was read and written and the mark are a part's own
 pub record Behind (old new : PartLists) (cells cells_given : List Cell) (written : ℕ) : Type 0 where
   pub met : new.met ≡ old.met ++ cells
   pub given : new.given ≡ old.given ++ cells_given
@@ -49,12 +49,12 @@ pub record Behind (old new : PartLists) (cells cells_given : List Cell) (written
   pub sink : new.sink ≡ old.sink
   pub mark : new.mark ≤ written
 
--- for how many packets, counted from its beginning, an input may read that works on `len` cells behind `at`: for its
+-- for how many packets, counted from its beginning, an input may read that works on `len` cells after `at`: for its
 -- cells, but for one packet more at the last position
 abbrev pub read_for : ℕ → ℕ → ℕ
 read_for at len = if at == POSITION_LIMIT then at + 1 else at + len
 
--- a count of faults rose by one where this fault was told, and stood still otherwise
+-- a count of faults rose by one where this fault was reported, and did not change otherwise
 abbrev pub FaultsTold : ℕ → ℕ → Option StageEnd → StageEnd → Type 0
 FaultsTold old new told fault = (told ≡ Some fault → new ≡ raised old) × ((told ≡ Some fault → ⊥) → new ≡ old)
 
@@ -82,7 +82,7 @@ pub record InputWorks {S : Type 0} (seen : S → SourceView) (old new : InputSta
   pub same : SameFeed old.feed new.feed
   pub faults : FaultsTold (source_faults seen old.feed) (source_faults seen new.feed) work.word.ended
       (Input ReadFault)
-  -- no more is read than the cells want
+  -- no more is read than the cells need
   pub reads : (most : ℕ) → length before.read ≤ PACKET_SIZE * most
       → read_for (length before.given) (length cells) ≤ most → length after.read ≤ PACKET_SIZE * most
   -- what may follow now might have followed before, and of each such list the visit is a stage's
@@ -90,12 +90,12 @@ pub record InputWorks {S : Type 0} (seen : S → SourceView) (old new : InputSta
       × ((rules : List PluginRule) (plugins : ℕ)
       → StageKeeps rules input plugins 0 [] before.given (take work.done cells_new) work.word)
 
--- a plugin's stage gives the image of all its cells and tells how that ends, but for want of memory
+-- a plugin's stage gives the image of all its cells and reports how that ends, unless it runs out of memory
 abbrev pub PluginTells : StageList → List Cell → News → Option StageEnd → Type 0
 PluginTells list given news (Some NoMemory) = IsPrefix given list.cells
 PluginTells list given news told = (given ≡ list.cells) × (told ≡ told_of list.ended news (length given))
 
--- of the cells in the stage's hands, whatever waits behind them, and whatever its number, the visit is that of the
+-- of the cells in the stage's hands, whatever waits after them, and whatever its number, the visit is that of the
 -- stage with the rule
 abbrev pub KeepsRule : PluginRule → PartLists → List Cell → List Cell → StageWord → ℕ → ℕ → Type 0
 KeepsRule rule before cells given word plugins j =
@@ -106,7 +106,7 @@ pub record PluginWorks (rule : PluginRule) (before : PartLists) (news : News) (c
     (work : Work) (after : PartLists) : Type 0 where
   pub tells : PluginTells (apply rule (before.met ++ cells)) after.given news work.word.ended
   pub agreed : work.word.agreed ≡ newly_agreed (length before.given) (agreement_of rule after.met)
-  -- where there is a cell to work on the plugin was told what is written, but for want of memory
+  -- where there is a cell to work on, the plugin was given the mark of what is written, unless it ran out of memory
   pub told : 0 < length cells → (work.word.ended ≡ Some NoMemory → ⊥) → after.mark ≡ news.written
   pub keeps : (plugins j : ℕ) → KeepsRule rule before cells (take work.done cells_new) work.word plugins j
 
@@ -166,7 +166,7 @@ FillsByKind (part.Plugin new) = DoesAll
 FillsByKind (part.Output new) = DoesAll
 
 -- the work of a stage, of whatever kind: `Old` and `New` are what it stood for and stands for, `Wants` says whether it may
--- want memory that works so far ahead of the mark, `Fills` how many of its cells it does that goes on, and `Does` what its
+-- run out of memory where it works so far ahead of the mark, `Fills` how many of its cells it does that goes on, and `Does` what its
 -- kind does
 pub record StageWork (Old New : PartLists → Option StageEnd → Type 0) (Wants : ℕ → Type 0) (Fills : ℕ → ℕ → Type 0)
     (Does : PartLists → PartLists → Type 0) (at : ℕ) (news : News)
@@ -183,14 +183,14 @@ pub record StageWork (Old New : PartLists → Option StageEnd → Type 0) (Wants
   pub works : (before : PartLists) → MayWork Old at news.written before
       → Works New (Does before) before news.written cells cells_new work
 
--- the work of an input: it wants no memory
+-- the work of an input: it does not run out of memory
 abbrev pub InputWork : {S : Type 0} → (S → SourceView) → InputStage S → InputStage S
     → ℕ → News → List Cell → List Cell → Work → Type 0
 InputWork seen old new at news cells cells_new work =
     StageWork (InputStands seen old) (InputStands seen new) (λ _. ⊥) (FillsWindow new)
     (λ before. InputWorks seen old new before news cells cells_new work) at news cells cells_new work
 
--- the work of a plugin's stage: it wants no memory where room was made for all that it is given to work on
+-- the work of a plugin's stage: it does not run out of memory where room was made for all that it is given to work on
 abbrev pub PluginWork : {P : Type 0} → (P → PluginRule) → (P → List Cell → ℕ → Type 0) → (P → Option ℕ)
     → PluginStage P → PluginStage P → ℕ → News → List Cell → List Cell → Work → Type 0
 PluginWork rule stands steady old new at news cells cells_new work =
@@ -198,14 +198,14 @@ PluginWork rule stands steady old new at news cells cells_new work =
     (λ ahead. IsSteadyFor (steady old.plugin) ahead → ⊥) DoesAll
     (λ before. PluginWorks (rule old.plugin) before news cells cells_new work) at news cells cells_new work
 
--- the work of an output: it wants no memory
+-- the work of an output: it does not run out of memory
 abbrev pub OutputWork : {K : Type 0} → (K → SinkView) → OutputStage K → OutputStage K
     → ℕ → News → List Cell → List Cell → Work → Type 0
 OutputWork seen old new at news cells cells_new work =
     StageWork (OutputStands seen old) (OutputStands seen new) (λ _. ⊥) DoesAll
     (λ before. OutputWorks seen old new before news cells cells_new work) at news cells cells_new work
 
--- a part worked on cells that stand behind its first `at`; it stays what it is
+-- a part worked on cells that come after its first `at`; it stays what it is
 pub record PartWork {S K P : Type 0} (see : Seeing S K P) (old new : StagePart S K P)
     (at : ℕ) (news : News) (cells cells_new : List Cell) (work : Work) : Type 0 where
   pub same_kind : kind_of new ≡ kind_of old

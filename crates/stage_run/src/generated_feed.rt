@@ -1,14 +1,16 @@
+//! The packets of an input that is a generated stream.
+
 use chain_core::InputEnd;
 use ts_packet::Cell;
 use ts_testgen::TestGen;
 
-/// The packets of the generated stream of an input that has nothing else.
+/// The packets of an input that is a generated stream.
 #[derive(Drop)]
 pub(crate) struct GeneratedFeed {
     pub(crate) generator: TestGen,
-    /// How many there are.
+    /// How many packets the input has.
     pub(crate) all: u64,
-    /// How many were put: as many as the generator has given.
+    /// How many packets were put: as many as the generator has given.
     pub(crate) packets: u64,
 }
 
@@ -21,7 +23,7 @@ impl GeneratedFeed {
     ghost use Rattle.ts_testgen.specs.Generated.{generated};
     ghost use Rattle.stage_run.specs.Feeds.{IsCounted};
 
-    /// Whether a packet is left, or how they end.
+    /// Whether a packet is left, or how the packets end.
     pub(crate) fn ensure_packet(&self) -> Option<InputEnd>
         ensures { result ≡ (if nat_lt self.now.packets self.now.all then None else Some (End 0)) }
     {

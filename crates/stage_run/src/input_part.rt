@@ -1,3 +1,5 @@
+//! The kinds of inputs.
+
 use ts_testgen::TestGen;
 
 /// Where the input's packets come from.

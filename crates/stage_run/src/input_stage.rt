@@ -1,3 +1,5 @@
+//! The stage of an input.
+
 ghost use Rattle.std.specs.Prelude.{◌≡◌, ◌≤◌};
 ghost use Rattle.stage_run.specs.InputStands.{stuffing_of};
 ghost use Rattle.stage_run.specs.InputSteps.{stop_count, null_count};
@@ -25,11 +27,11 @@ pub struct InputStage<S> {
 struct Filled {
     /// How many cells, from the front.
     done: usize,
-    /// How the list ends behind them, if it does.
+    /// How the list ends after them, if it does.
     over: Option<InputEnd>,
 }
 
-/// How many null packets stand behind an end.
+/// How many null packets come after an end.
 fn stop_count(ended: Option<InputEnd>, stop: u64) -> u64
     ensures { result ≡ stop_count ended stop }
 {
@@ -39,7 +41,7 @@ fn stop_count(ended: Option<InputEnd>, stop: u64) -> u64
     }
 }
 
-/// How many null packets stand behind the packet of this number, counted from 1.
+/// How many null packets come after the packet of this number, counted from 1.
 fn null_count(packets: u64, stuffing: &Stuffing) -> u64
     requires { 1 ≤ stuffing.now.every }
     ensures { result ≡ null_count (stuffing_of stuffing.now) packets }
@@ -89,7 +91,7 @@ impl<S: Source> InputStage<S> {
         }
     }
 
-    /// Gives the input back.
+    /// Returns the input.
     pub(crate) fn into_part(self) -> InputPart<S>
         ensures stream { source_kind result ≡ feed_kind self.feed }
         ensures leaves { (lists : PartLists) (told : Option StageEnd) → InputStands S.seen self lists told
@@ -106,7 +108,7 @@ impl<S: Source> InputStage<S> {
         feed.into_part()
     }
 
-    /// Sees to it that the next cell can be put: a null packet is due, a packet is ready, or the end is known.
+    /// Ensures that the next cell can be put: a null packet is due, a packet is ready, or the end is known.
     fn ensure_packet(&mut self, wanted: usize)
         requires some { 1 ≤ wanted }
         requires fits { InputFits self.old }
@@ -128,7 +130,7 @@ impl<S: Source> InputStage<S> {
         self.nulls = stop_count(self.ended, self.stuffing.stop);
     }
 
-    /// Puts the next cell of the list, or answers how the list ends. `wanted` cells are wanted, with this one.
+    /// Puts the next cell of the list, or returns how the list ends. `wanted` cells are asked for, with this one.
     fn next_cell(&mut self, cell: &mut Cell, wanted: usize) -> Option<InputEnd>
         requires some { 1 ≤ wanted }
         requires fits { InputFits self.old }
@@ -156,7 +158,7 @@ impl<S: Source> InputStage<S> {
         None
     }
 
-    /// Whether the cells that were put, so many, are handed on before the next one, since that wants a read.
+    /// Whether the cells that were put, so many, are handed on before the next one, since that one needs a read.
     fn hands_on(&self, done: usize) -> bool
         requires fits { InputFits self.now }
         ensures { result ≡ true → (0 < done) × WantsRead self.now }
@@ -171,7 +173,7 @@ impl<S: Source> InputStage<S> {
     }
 
     /// Puts the next cells of the list, until the window is full, the list ends, or some cells were put and the next one
-    /// wants a read.
+    /// needs a read.
     fn fill(&mut self, cells: &mut [Cell]) -> Filled
         requires fits { InputFits self.old }
         requires in_range { packets_put self.old.feed + length cells.old ≤ POSITION_LIMIT }
@@ -202,7 +204,7 @@ impl<S: Source> InputStage<S> {
         }
     }
 
-    /// Puts the packets that are in hand, where no null packets stand between them, and answers how many.
+    /// Puts the packets that are in hand, where no null packets stand between them, and returns how many.
     fn put_in_hand(&mut self, cells: &mut [Cell]) -> usize
         requires fits { InputFits self.old }
         requires in_range { packets_put self.old.feed + length cells.old ≤ POSITION_LIMIT }
@@ -227,7 +229,7 @@ impl<S: Source> InputStage<S> {
         self.feed.put_in_hand(cells)
     }
 
-    /// How the list ends at the last position: any cell more would stand at the limit.
+    /// How the list ends at the last position: one more cell would be at the limit of positions.
     fn end_at_limit(&mut self) -> InputEnd
         requires { InputFits self.old }
         ensures goes { (lists : PartLists) → InputHolds S.seen self.old lists
@@ -243,7 +245,7 @@ impl<S: Source> InputStage<S> {
         }
     }
 
-    /// Reads and gives for its cells, unless the news let the input follow already: for all of them, or until the list ends
+    /// Reads and puts packets into its cells, unless the news let the input follow already: for all of them, or until the list ends
     /// or a second read would be needed.
     pub(crate) fn work(&mut self, at: u64, cells: &mut [Cell], news: &News) -> Work
         requires stands { MayWorkOnSome (InputStands S.seen self.old) at news.now.written }

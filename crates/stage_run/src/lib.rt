@@ -1,5 +1,5 @@
-//! The stages of a chain, without a seat in it: the cells in a stage's hands come in with the news of its last visit,
-//! the cells that it gives on and its word go out. The layer above uses the clauses of `StagePart`, `work` before all.
+//! The stages of a chain, without their seats in the ring: the cells in a stage's hands come in with the news of its last visit,
+//! the cells that it gives on and its word go out. The layer above uses the clauses of `StagePart`, above all of `work`.
 #![tactic(auto)]
 
 mod generated_feed;

@@ -1,13 +1,15 @@
+//! The packets of an input that consists of null packets.
+
 ghost use Rattle.std.specs.Prelude.{◌≤◌};
 
 use chain_core::InputEnd;
 
-/// The null packets of an input that has nothing else.
+/// The packets of an input that consists of null packets.
 #[derive(Clone, Copy)]
 pub(crate) struct NullFeed {
-    /// How many there are.
+    /// How many packets the input has.
     pub(crate) all: u64,
-    /// How many were put.
+    /// How many packets were put.
     pub(crate) packets: u64,
     ghost within: { packets ≤ all },
 }
@@ -16,7 +18,7 @@ impl NullFeed {
     ghost use Rattle.std.specs.Prelude.{◌≡◌, None, Some, nat_lt, if◌then◌else◌};
     ghost use Rattle.chain_model.specs.declared.input_end.InputEnd.TheVariants.{End};
 
-    /// Whether a packet is left, or how they end.
+    /// Whether a packet is left, or how the packets end.
     pub(crate) fn ensure_packet(&self) -> Option<InputEnd>
         ensures { result ≡ (if nat_lt self.now.packets self.now.all then None else Some (End 0)) }
     {

@@ -1,3 +1,5 @@
+//! The kinds of outputs.
+
 /// Where the output's packets go.
 pub enum OutputPart<K> {
     /// A sink takes the bytes of the live packets.

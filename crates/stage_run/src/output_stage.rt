@@ -1,3 +1,5 @@
+//! The stage of an output.
+
 use crate::telling::{below_limit, followed};
 use crate::writing::write_cells;
 use crate::{IoBuffer, OutputPart, Work};
@@ -5,7 +7,7 @@ use chain_core::{News, StageEnd};
 use ts_outside::Sink;
 use ts_packet::Cell;
 
-/// An output with its room.
+/// An output with its buffer.
 pub struct OutputStage<K> {
     pub(crate) part: OutputPart<K>,
     pub(crate) room: IoBuffer,
@@ -33,7 +35,7 @@ impl<K: Sink> OutputStage<K> {
         OutputStage { part, room }
     }
 
-    /// Gives the output back.
+    /// Returns the output.
     pub(crate) fn into_part(self) -> OutputPart<K>
         ensures stream { sink_kind result ≡ sink_kind self.part }
         ensures leaves { (lists : PartLists) (told : Option StageEnd) → OutputStands K.seen self lists told
@@ -43,7 +45,7 @@ impl<K: Sink> OutputStage<K> {
         part
     }
 
-    /// Writes the cells; the answer is the number of those before the one whose packet was not taken whole, or all.
+    /// Writes the cells; the result is the number of those before the one whose packet was not taken whole, or all.
     fn write(&mut self, cells: &[Cell]) -> usize
         ensures within { result ≤ length cells.now }
         ensures writes { PartWrites K.seen self.old.part self.new.part cells.now result }

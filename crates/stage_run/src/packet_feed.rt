@@ -1,3 +1,5 @@
+//! The packets of an input of any kind.
+
 use crate::generated_feed::GeneratedFeed;
 use crate::null_feed::NullFeed;
 use crate::packet_stream::PacketStream;
@@ -19,7 +21,7 @@ impl<S: Source> PacketFeed<S> {
     ghost use Rattle.ts_outside.specs.Source.{SourceView};
     ghost use Rattle.stage_run.specs.Feeds.{FeedStands, FeedHasRoom, FeedLooks, FeedPuts, FeedPutsAll, IsFeedOf, IsReady, WantsMore, packets_put, part_of_feed};
 
-    /// The packets of an input of which nothing was read yet; what is read goes into the room.
+    /// The packets of an input of which nothing was read yet; what is read goes into the buffer.
     pub(crate) fn of(part: InputPart<S>, room: IoBuffer) -> Self
         ensures { IsFeedOf part result }
     {
@@ -40,7 +42,7 @@ impl<S: Source> PacketFeed<S> {
         }
     }
 
-    /// Gives the input back.
+    /// Returns the input.
     pub(crate) fn into_part(self) -> InputPart<S>
         ensures { result ≡ part_of_feed self }
     {
@@ -65,7 +67,7 @@ impl<S: Source> PacketFeed<S> {
         }
     }
 
-    /// Sees to it that a packet can be put, or answers how the packets ended.
+    /// Ensures that a packet can be put, or returns how the packets ended.
     pub(crate) fn ensure_packet(&mut self, wanted: usize) -> Option<InputEnd>
         requires some { 1 ≤ wanted }
         requires room { FeedHasRoom self.old }
@@ -83,7 +85,7 @@ impl<S: Source> PacketFeed<S> {
         }
     }
 
-    /// Whether a packet more has to be read.
+    /// Whether one more packet has to be read.
     pub(crate) fn wants_read(&self) -> bool
         requires { FeedHasRoom self.now }
         ensures { result ≡ true → WantsMore self.now }
@@ -115,7 +117,7 @@ impl<S: Source> PacketFeed<S> {
         }
     }
 
-    /// Puts the packets in hand into the first cells, and answers how many.
+    /// Puts the packets in hand into the first cells, and returns how many.
     pub(crate) fn put_in_hand(&mut self, cells: &mut [Cell]) -> usize
         requires room { FeedHasRoom self.old }
         requires in_range { packets_put self.old + length cells.old ≤ POSITION_LIMIT }

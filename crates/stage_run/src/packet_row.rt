@@ -6,7 +6,7 @@ ghost use Rattle.ts_packet.specs.Labels.{no_labels};
 
 use ts_packet::{Cell, PACKET_SIZE};
 
-/// Puts the packet that stands at a place of a row of bytes into a cell. It is copied once.
+/// Puts the packet at a place of a row of bytes into a cell. It is copied once.
 pub(crate) fn put_packet(cell: &mut Cell, bytes: &[u8], from: usize)
     requires whole { from + PACKET_SIZE ≤ length bytes.now }
     requires sync { slice_index bytes.now from ≡ 0x47 }

@@ -1,3 +1,5 @@
+//! The packets of a source, read in large pieces.
+
 use crate::IoBuffer;
 use crate::packet_row::put_packet;
 use chain_core::InputEnd;
@@ -10,7 +12,7 @@ const SYNC_BYTE: u8 = ts_packet::SYNC_BYTE;
 pub(crate) struct PacketStream<S> {
     pub(crate) source: S,
     pub(crate) room: IoBuffer,
-    /// Where the bytes stand in the room that were read and are in no packet yet.
+    /// Where in the buffer the bytes begin that were read and not put yet.
     pub(crate) from: usize,
     /// How many they are.
     pub(crate) have: usize,
@@ -24,7 +26,7 @@ impl<S: Source> PacketStream<S> {
     ghost use Rattle.stage_run.specs.Rows.{IsUnfinished, IsInSync, IsOutOfSync, BeginsPacket};
     ghost use Rattle.stage_run.specs.Feeds.{hand_of, HasRoom, ReadsMore, FailsToRead, MovesHand, StreamStands, StreamLooks, StreamPuts, StreamPutsAll};
 
-    /// Gives the source back.
+    /// Returns the source.
     pub(crate) fn into_source(self) -> S
         ensures { result ≡ self.source }
     {
@@ -38,7 +40,7 @@ impl<S: Source> PacketStream<S> {
         source
     }
 
-    /// Whether the bytes in hand begin with another byte than a packet.
+    /// Whether the first byte in hand is not the sync byte.
     fn is_lost(&self) -> bool
         requires { HasRoom self.now }
         ensures lost { result ≡ true → IsOutOfSync (hand_of self.now) }
@@ -59,7 +61,7 @@ impl<S: Source> PacketStream<S> {
         self.from = 0;
     }
 
-    /// Reads once, for as much as `wanted` packets want beside the bytes in hand, if there is room for it.
+    /// Reads once, at most as much as `wanted` packets need beside the bytes in hand, if there is room for it.
     fn read_more(&mut self, wanted: usize) -> Result<usize, Failed>
         requires some { 1 ≤ wanted }
         requires few { self.old.have < PACKET_SIZE }
@@ -78,10 +80,10 @@ impl<S: Source> PacketStream<S> {
         Ok(count)
     }
 
-    /// Reads until a whole packet stands in front of the bytes in hand, or answers how the packets ended.
+    /// Reads until a whole packet stands in front of the bytes in hand, or returns how the packets ended.
     ///
-    /// The first byte of a packet that was read decides before any further read. Of the source no more is asked than
-    /// `wanted` packets want behind those that were put.
+    /// The first byte of a packet that was read is checked before any further read. No more is read than `wanted` packets
+    /// need after those that were put.
     pub(crate) fn ensure_packet(&mut self, wanted: usize) -> Option<InputEnd>
         requires some { 1 ≤ wanted }
         requires room { HasRoom self.old }
@@ -113,7 +115,7 @@ impl<S: Source> PacketStream<S> {
         }
     }
 
-    /// Whether a packet more has to be read: there is none in hand, and the bytes there do not tell the end either.
+    /// Whether one more packet has to be read: there is none in hand, and the bytes in hand do not decide the end either.
     pub(crate) fn wants_read(&self) -> bool
         requires { HasRoom self.now }
         ensures { result ≡ true → IsUnfinished (hand_of self.now) }
@@ -149,7 +151,7 @@ impl<S: Source> PacketStream<S> {
         self.have >= PACKET_SIZE && !self.is_lost()
     }
 
-    /// Puts the packets in hand into the first cells, as far as there are cells, and answers how many.
+    /// Puts the packets in hand into the first cells, as far as there are cells, and returns how many.
     pub(crate) fn put_in_hand(&mut self, cells: &mut [Cell]) -> usize
         requires room { HasRoom self.old }
         requires in_range { self.old.packets + length cells.old ≤ 2 ^ 62 }

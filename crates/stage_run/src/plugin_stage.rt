@@ -1,3 +1,5 @@
+//! The stage of a plugin.
+
 ghost use Rattle.std.specs.Prelude.{◌≡◌};
 ghost use Rattle.stage_run.specs.PluginSteps.{told_by};
 
@@ -8,13 +10,13 @@ use plugin_trait::{Applied, ListEnd, Plugin};
 use ts_outside::Gate;
 use ts_packet::Cell;
 
-/// A plugin, and whether its agreement was told.
+/// A plugin, and whether its agreement was reported.
 pub struct PluginStage<P> {
     pub(crate) plugin: P,
     pub(crate) agreed: bool,
 }
 
-/// What a plugin's stage tells of how the plugin left its window.
+/// What a plugin's stage reports of how the plugin left its window.
 fn told(end: ListEnd, news: &News, now: u64) -> Option<StageEnd>
     ensures { result ≡ told_by end news.now now }
 {
@@ -58,7 +60,7 @@ impl<P: Plugin> PluginStage<P> {
         }
     }
 
-    /// Gives the plugin back.
+    /// Returns the plugin.
     pub(crate) fn into_plugin(self) -> P
         ensures { result ≡ self.plugin }
     {
@@ -66,7 +68,7 @@ impl<P: Plugin> PluginStage<P> {
         plugin
     }
 
-    /// Tells the mark and steps over the cells.
+    /// Gives the plugin the mark and takes it over the cells.
     fn pass(&mut self, at: u64, cells: &mut [Cell], written: u64) -> Applied
         requires may { MayPass (P.stands_for self.old.plugin) at written }
         requires in_range { at + length cells.old ≤ POSITION_LIMIT }
@@ -104,7 +106,7 @@ impl<P: Plugin> PluginStage<P> {
         self.plugin.steps(at, cells, &mut self.agreed)
     }
 
-    /// Tells the plugin the mark and lets it step over all cells, between the gate's two calls.
+    /// Gives the plugin the mark and takes it over all cells, between the two calls of the gate.
     pub(crate) fn work<G: Gate>(
         &mut self,
         stage: usize,

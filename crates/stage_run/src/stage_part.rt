@@ -1,3 +1,5 @@
+//! A stage of any kind: an input, a plugin or an output.
+
 use crate::{
     InputPart, InputStage, IoBuffer, OutputPart, OutputStage, PluginStage, Stuffing, Work,
 };
@@ -32,7 +34,7 @@ impl<S: Source, K: Sink, P: Plugin> StagePart<S, K, P> {
     ghost use Rattle.stage_run.specs.PartStands.{PartStands, PartGives, MayWork, MayWorkOnSome, rule_of, steady_of, kind_of, stuffing_in, source_kind, sink_kind, stream_kind, an_input, a_plugin, an_output};
     ghost use Rattle.stage_run.specs.Works.{PartWork};
 
-    /// The input's stage. It reads into the room. Nothing was read or given yet.
+    /// The input's stage. It reads into the buffer. Nothing was read or given yet.
     pub fn of_input(part: InputPart<S>, stuffing: Stuffing, room: IoBuffer) -> Self
         requires every { 1 ≤ stuffing.every }
         requires unused { IsUnused part }
@@ -63,7 +65,7 @@ impl<S: Source, K: Sink, P: Plugin> StagePart<S, K, P> {
         StagePart::Plugin(PluginStage::of(plugin))
     }
 
-    /// The output's stage. It gathers in the room what it writes. Nothing was written yet.
+    /// The output's stage. It gathers what it writes in the buffer. Nothing was written yet.
     pub fn of_output(part: OutputPart<K>, room: IoBuffer) -> Self
         ensures kind { kind_of result ≡ an_output }
         ensures stream { stream_kind result ≡ sink_kind part }
@@ -74,7 +76,7 @@ impl<S: Source, K: Sink, P: Plugin> StagePart<S, K, P> {
         StagePart::Output(OutputStage::of(part, room))
     }
 
-    /// Gives the input back. Whatever it stands for, some list may be the input's, and each such list ends as inputs do.
+    /// Returns the input. Whatever it stands for, some list may be that of the input, and each such list ends by an end of the input.
     pub fn into_input(self) -> InputPart<S>
         requires { kind_of self ≡ an_input }
         ensures stream { source_kind result ≡ stream_kind self }
@@ -91,7 +93,7 @@ impl<S: Source, K: Sink, P: Plugin> StagePart<S, K, P> {
         }
     }
 
-    /// Gives the plugin back.
+    /// Returns the plugin.
     pub fn into_plugin(self) -> P
         requires { kind_of self ≡ a_plugin }
         ensures rule { P.rule result ≡ rule_of (seeing S.seen K.seen P.rule P.stands_for P.steady) self }
@@ -105,7 +107,7 @@ impl<S: Source, K: Sink, P: Plugin> StagePart<S, K, P> {
         }
     }
 
-    /// Gives the output back.
+    /// Returns the output.
     pub fn into_output(self) -> OutputPart<K>
         requires { kind_of self ≡ an_output }
         ensures stream { sink_kind result ≡ stream_kind self }
@@ -121,10 +123,10 @@ impl<S: Source, K: Sink, P: Plugin> StagePart<S, K, P> {
 
     /// Works on the first cells in the stage's hands, at the position `at`, with the news of its last visit.
     ///
-    /// An input reads for all of them at once, and goes on with the packets that came, a plugin is told the mark and
-    /// steps over them between the gate's two calls, an output writes the live packets of those below the limit
-    /// together. Of the work's answer the next visit tells: the first `done` cells are the next ones of the stage's
-    /// list, and the word says what it agrees to and how it ends. It takes no memory, but for what a plugin takes.
+    /// An input reads for all of them at once, and goes on with the packets that came; a plugin receives the mark and
+    /// goes over them between the two calls of the gate; an output writes the live packets of those below the limit
+    /// together. The next visit reports the result: the first `done` cells are the next ones of the stage's list, and the
+    /// word says what it agrees to and how it ends. Nothing is allocated but what a plugin takes.
     pub fn work<G: Gate>(
         &mut self,
         stage: usize,

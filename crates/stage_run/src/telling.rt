@@ -1,4 +1,4 @@
-//! What the news let a stage tell.
+//! What the news let a stage report.
 ghost use Rattle.std.specs.Prelude.{◌≡◌, ◌≤◌};
 ghost use Rattle.stage_run.specs.Telling.{is_reached, may_follow, followed, below_limit};
 
@@ -32,7 +32,7 @@ pub(crate) fn followed(news: &News, now: u64) -> Option<StageEnd>
     }
 }
 
-/// How many of the cells behind `at` are below the limit.
+/// How many of the cells after `at` are below the limit.
 pub(crate) fn below_limit(limit: Option<u64>, at: u64, len: usize) -> usize
     ensures below { result ≡ below_limit limit at len }
     ensures within { result ≤ len }

@@ -1,3 +1,5 @@
+//! The result of a stage's work.
+
 ghost use Rattle.std.specs.Prelude.{◌≡◌, None};
 
 use chain_core::{StageEnd, StageWord};
@@ -5,14 +7,14 @@ use chain_core::{StageEnd, StageWord};
 /// What a stage did with the cells in its hands.
 #[derive(Clone, Copy, PartialEq, Eq)]
 pub struct Work {
-    /// So many of the first cells are the next cells of the stage's list; its next visit gives them on.
+    /// So many of the first cells are the next cells of the stage's list, and the next visit gives them on.
     pub done: usize,
-    /// What the stage tells with that visit.
+    /// What the stage reports with that visit.
     pub word: StageWord,
 }
 
 impl Work {
-    /// The work of a stage that has no agreement to tell.
+    /// The work of a stage that has no agreement to report.
     pub(crate) fn ending(done: usize, ended: Option<StageEnd>) -> Work
         ensures { result ≡ record { done = done; word = record { agreed = None; ended = ended } } }
     {

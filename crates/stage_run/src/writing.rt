@@ -15,7 +15,7 @@ struct Gathered {
     bytes: usize,
 }
 
-/// Puts the packets of the live cells one after another into the room, as many as there is room for.
+/// Puts the packets of the live cells one after another into the buffer, as many as fit.
 fn gather(room: &mut [u8], cells: &[Cell]) -> Gathered
     requires { PACKET_SIZE ≤ length room.old }
     ensures within { result.cells ≤ length cells.now }
@@ -58,9 +58,9 @@ fn cell_of_byte(cells: &[Cell], byte: usize) -> usize
     unreachable!()
 }
 
-/// Writes the packets of the live cells, in pieces as large as the room.
+/// Writes the packets of the live cells, in pieces as large as the buffer.
 ///
-/// The answer is the number of cells before the one whose packet was not taken whole, or all of them.
+/// Returns the number of cells before the one whose packet was not taken whole, or all of them.
 pub(crate) fn write_cells<K: Sink>(sink: &mut K, room: &mut [u8], cells: &[Cell]) -> usize
     requires { PACKET_SIZE ≤ length room.old }
     ensures within { result ≤ length cells.now }

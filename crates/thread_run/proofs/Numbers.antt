@@ -9,7 +9,7 @@ use Rattle.chain_core.specs.ChainRun.{ChainRun, state_after}
 use Rattle.chain_core.specs.Laws.{ChangesOneStage}
 use Rattle.chain_run.specs.Laws.{MachineLaws}
 
--- the state behind one visit more
+-- the state after one visit more
 pub after-visit : (plan : CorePlan) (visits : List Visit) (visit : Visit) → state_after plan (visit ∷ visits) ≡ visited plan (state_after plan visits) visit
 unfolding state_after
 after-visit plan visits visit = refl

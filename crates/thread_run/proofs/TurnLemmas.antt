@@ -1,4 +1,4 @@
--- One turn of a stage: its visit, and what it stands for behind it.
+-- One turn of a stage: its visit, and what it stands for after it.
 use Rattle.std.proofs.Common.{◌≡◌, ℕ, suc, ◌+◌, ◌-◌, ◌≤◌, List, [], ◌∷◌, ◌++◌, length, take, drop, None, sym, ap, ◌∙◌, subst, arith, length-append, length-drop, append-nil, append_assoc, le_trans}
 use Rattle.std.specs.Prelude.{IsSome}
 use Rattle.std.proofs.lemmas.List.{take-append-drop, drop-drop, length-take, drop-take, take-append-le}
@@ -188,7 +188,7 @@ module _ {S K P : Type 0} (see : Seeing S K P) (begun : RunStart S K) where
       seat-now : IsSeat (key_at begun base) table new
       seat-now = laws.seats.again (key_at begun base) table old new done word news w stage of_table st.seat_is
 
-      -- a stage that told its end has ended
+      -- a stage that reported its end has ended
       pub over-now : IsSome word.ended → IsOver see begun base table new part
       over-now some =
           let o : Over see begun k now part = record {

@@ -1,4 +1,4 @@
--- The stages of a run in threads with their seats: before any of them began, and their parts behind the run. This project's
+-- The stages of a run in threads with their seats: before any of them began, and their parts after the run. This project's
 -- own rule.
 use Rattle.std.specs.Prelude.{◌≡◌, ◌+◌, List, [], ◌∷◌, length, false}
 use Rattle.stage_run.specs.Seeing.{Seeing}

@@ -13,7 +13,7 @@ use Rattle.thread_run.specs.declared.turn.Turn.TheVariants.{Ended}
 use Rattle.thread_run.specs.Standing.{key_at}
 use Rattle.thread_run.specs.Turning.{Stands, Ends}
 
--- two rows are as long as each other, and what stands beside each other is so
+-- two rows have one length, and the members at each place have the property
 unfoldable pub AreBeside : {X : Type 0} → (X → X → Type 0) → List X → List X → Type 0
 AreBeside F [] [] = Unit {0}
 AreBeside F (x ∷ xs) (y ∷ ys) = F x y × AreBeside F xs ys

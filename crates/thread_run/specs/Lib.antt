@@ -1,3 +1,4 @@
+-- The definitions of a run in threads.
 pub mod Standing
 pub mod Turning
 pub mod Over

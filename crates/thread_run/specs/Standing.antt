@@ -36,7 +36,7 @@ module _ {S K P : Type 0} (see : Seeing S K P) (begun : RunStart S K) where
   written_by seen = written_of begun.plan (progress_of_stages (state_after begun.plan seen))
 
   -- between two turns: stage `k` has seen this part of the run, has these cells in its hands, and is about to give the
-  -- first `done` of them and to tell the word
+  -- first `done` of them and to report the word
   pub record Standing (k : ℕ) (seen : List Visit) (hand : Row) (part : StagePart S K P) (done : ℕ)
       (word : StageWord) : Type 0 where
     pub lists : PartLists

@@ -24,14 +24,14 @@ use Rattle.chain_run.specs.OneStage.{Doing}
 use Rattle.chain_run.specs.Ran.{IsLawfulRun}
 use Rattle.thread_run.specs.Standing.{key_at, StandsAt, IsOver}
 
--- the visit that a stage is about to make was made, behind those that its seat had seen and some of the other stages
+-- the visit that a stage is about to make was made, after those that its seat had seen and some of the other stages
 abbrev pub MadeVisit : {S K P : Type 0} → Stage S K P → Stage S K P → Type 0
 MadeVisit old new = (between : List Visit) × NoneOf old.seat.stage between
     × (seen_of new.seat ≡ visit_from old.seat old.done old.word ∷ (between ++ seen_of old.seat))
     × (busy_of new.seat ≡ [])
 
--- another stage had the turn, which the seat remembers: nothing was given or told, no work was done, and the same is
--- to be told by the next visit
+-- another stage had the turn, which the seat remembers: nothing was given or reported, no work was done, and the next visit
+-- is to report the same
 pub record FoundBusy {S K P : Type 0} (old new : Stage S K P) : Type 0 where
   pub holder : ℕ
   pub another : holder ≢ old.seat.stage
@@ -42,7 +42,7 @@ pub record FoundBusy {S K P : Type 0} (old new : Stage S K P) : Type 0 where
   pub done : new.done ≡ old.done
   pub word : new.word ≡ old.word
 
--- the answer of a turn whose stage goes on: it waits for news where it has no cell in hand and no end to tell
+-- the answer of a turn whose stage goes on: it waits for news where it has no cell in hand and no end to report
 abbrev pub answer_of : Bool → Bool → Turn
 answer_of empty ends = if empty && not ends then Idle else Worked
 

@@ -1,3 +1,5 @@
+//! Stages that are driven until they have ended, from one thread.
+
 ghost use Rattle.std.specs.Prelude.{◌≡◌, ◌&&◌, true, length};
 ghost use Rattle.stage_run.specs.Seeing.{seeing};
 ghost use Rattle.thread_run.specs.Driving.{IsReady, AreReady, Keeps, Carried, HaveEnded};
@@ -11,10 +13,10 @@ use std::thread::yield_now;
 use ts_outside::{Gate, Sink, Source};
 use window_ring::Ring;
 
-/// How often a stage tries again at once where another one has the turn.
+/// How often a stage retries at once where another one has the turn.
 const TRIES: u32 = 10;
 
-/// Serves the first of some stages. Whether it has ended.
+/// Serves the only stage of a row. Returns whether it has ended.
 fn serve_first<S: Source, K: Sink, P: Plugin, G: Gate>(
     ring: &Ring,
     gate: &G,
@@ -28,14 +30,14 @@ fn serve_first<S: Source, K: Sink, P: Plugin, G: Gate>(
     stages[0].serve(ring, gate).ends()
 }
 
-/// Whether both are so.
+/// Whether both are true.
 fn both(one: bool, other: bool) -> bool
     ensures { result ≡ (one && other) }
 {
     one && other
 }
 
-/// Serves each stage that has not ended, in order. Whether all have ended.
+/// Serves each stage that has not ended, in order. Returns whether all have ended.
 #[tactic(auto, using(crate::proofs::Carries::both, crate::proofs::Carries::same, crate::proofs::Carries::over_both))]
 fn round<S: Source, K: Sink, P: Plugin, G: Gate>(
     ring: &Ring,
@@ -57,7 +59,7 @@ fn round<S: Source, K: Sink, P: Plugin, G: Gate>(
 
 /// Drives all stages from the caller's thread, in rounds, until all have ended.
 ///
-/// It needs no other thread, and may wait for none. It owes no return.
+/// It needs no other thread, and may wait for none; no clause says that it returns.
 #[tactic(auto, using(crate::proofs::Carries::same, crate::proofs::Carries::then_, crate::proofs::Carries::still_ready))]
 pub fn finish<R: Wait, S: Source, K: Sink, P: Plugin, G: Gate>(
     rt: &R,
@@ -92,7 +94,7 @@ pub(crate) fn drive<R: Wait, S: Source, K: Sink, P: Plugin, G: Gate>(
     let number = stage.seat.stage();
     let mut tries = 0;
     for _ in rt.forever() {
-        // Counted before the visit, so that no ring behind it is missed.
+        // Counted before the visit, so that no ring after it is missed.
         let heard = ring.heard(number);
         match stage.step(ring, gate) {
             Turn::Ended => return,
@@ -103,7 +105,7 @@ pub(crate) fn drive<R: Wait, S: Source, K: Sink, P: Plugin, G: Gate>(
     }
 }
 
-/// Drives one stage as far as it gets by itself: until it has ended, there is nothing for it to do, or it is told to stop.
+/// Drives one stage as far as it gets by itself: until it has ended, has nothing to do, or has to stop.
 #[tactic(auto, using(crate::proofs::Carries::kept_same, crate::proofs::Carries::kept_then, crate::proofs::Carries::one_still_ready))]
 fn go_ahead<S: Source, K: Sink, P: Plugin, G: Gate>(
     ring: &Ring,
@@ -127,10 +129,9 @@ fn go_ahead<S: Source, K: Sink, P: Plugin, G: Gate>(
     }
 }
 
-/// Drives the only stage of a row as far as it gets by itself: until it has ended, there is nothing for it to do, or it is
-/// told to stop.
+/// Drives the only stage of a row as far as it gets by itself: until it has ended, has nothing to do, or has to stop.
 ///
-/// It waits for no other stage of the ring, and needs none to be driven meanwhile: an input fills the ring and is back.
+/// It waits for no other stage of the ring, and needs none to be driven meanwhile: an input fills the ring and then returns.
 pub fn drive_ahead<S: Source, K: Sink, P: Plugin, G: Gate>(
     ring: &Ring,
     gate: &G,
@@ -144,7 +145,7 @@ pub fn drive_ahead<S: Source, K: Sink, P: Plugin, G: Gate>(
     go_ahead(ring, gate, stop, &mut stages[0]);
 }
 
-/// One more try; after so many of them others go first.
+/// Counts one more try; after so many of them it yields to other threads.
 fn tried(tries: u32) -> u32 {
     if tries < TRIES {
         return tries + 1;

@@ -27,9 +27,9 @@ pub(crate) fn run_laws<S: Source, K: Sink, P: Plugin>()
     seat_laws();
 }
 
-/// What the stages did each for itself is one run of the chain, in whatever order the threads served them: the ring of stages
+/// What the single stages did is one run of the chain, in whatever order the threads served them: the ring of stages
 /// that have ended can be closed, and the close is that of one run, in which each part stands for its list. `any_run` of
-/// `chain_run` says what this run comes to. There is nothing to run.
+/// `chain_run` gives the result of this run. A law; it runs nothing.
 pub fn together<S: Source, K: Sink, P: Plugin>()
     ensures whole { (begun : RunStart S K) (base : Ptr) (table : TableId) (seats : List StageSeat)
         (parts : List (StagePart S K P))

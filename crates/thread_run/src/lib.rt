@@ -1,4 +1,4 @@
-//! Stages with their seats in the ring: each takes its turns from whatever thread it is in, and what all of them did is one run
+//! Stages with their seats in the ring: each takes its turns from any thread, and what all of them did is one run
 //! of the chain. The layer above uses the clauses of `run_threads`, which are those of `run_serial` in `chain_run`.
 #![tactic(auto)]
 

@@ -1,3 +1,5 @@
+//! A stage with its seat, and its turns.
+
 ghost use Rattle.std.specs.Prelude.{◌≡◌, ◌+◌, ◌≤◌, ◌==◌, length};
 ghost use Rattle.chain_model.specs.declared.positions.TheConstants.{POSITION_LIMIT};
 ghost use Rattle.stage_run.specs.Seeing.{seeing};
@@ -14,7 +16,7 @@ use window_ring::{Ring, StageSeat, Visited};
 
 /// A stage of a chain with its seat in the ring.
 ///
-/// It may go to another thread. Its next visit gives the first `done` of the cells in hand, and tells the word.
+/// It may go to another thread. Its next visit gives the first `done` of the cells in hand, and reports the word.
 pub struct Stage<S, K, P> {
     pub(crate) seat: StageSeat,
     pub(crate) part: StagePart<S, K, P>,
@@ -66,7 +68,7 @@ fn work_in_hand<S: Source, K: Sink, P: Plugin, G: Gate>(
 impl<S, K, P> Stage<S, K, P> {
     ghost use Rattle.std.specs.Prelude.{◌≡◌};
 
-    /// Gives the part and the seat back.
+    /// Returns the part and the seat.
     pub fn into_parts(self) -> (StagePart<S, K, P>, StageSeat)
         ensures part { result.0 ≡ self.part }
         ensures seat { result.1 ≡ self.seat }
@@ -104,7 +106,7 @@ impl<S: Source, K: Sink, P: Plugin> Stage<S, K, P> {
             → let see = seeing S.seen K.seen P.rule P.stands_for P.steady in
             IsNewStage see begun base table part seat → Stands see begun base table result }
     {
-        // Runs nothing: the proof cites it.
+        // It runs nothing: the proof cites it.
         run_laws::<S, K, P>();
         Stage {
             seat,
@@ -118,9 +120,9 @@ impl<S: Source, K: Sink, P: Plugin> Stage<S, K, P> {
         }
     }
 
-    /// One visit, which tells the work before it, and then work on the cells in hand.
+    /// One visit, which reports the work before it, and then work on the cells in hand.
     ///
-    /// The stage has not ended. It takes no memory, but for what a plugin takes.
+    /// The stage has not ended. Nothing is allocated but what a plugin takes.
     pub fn turn<G: Gate>(&mut self, ring: &Ring, gate: &G) -> Turn
         requires { (begun : RunStart S K) × (base : Ptr) × (key_of ring.now ≡ key_at begun base)
             × Stands (seeing S.seen K.seen P.rule P.stands_for P.steady) begun base (table_of ring.now) self.old }
@@ -131,7 +133,7 @@ impl<S: Source, K: Sink, P: Plugin> Stage<S, K, P> {
         ensures over { self.new.over ≡ self.old.over }
         ensures stage { self.new.seat.stage ≡ self.old.seat.stage }
     {
-        // Runs nothing: the proof cites it.
+        // It runs nothing: the proof cites it.
         run_laws::<S, K, P>();
         match ring.visit(&mut self.seat, self.done, self.word) {
             Visited::Busy { holder: _ } => Turn::Busy,
@@ -152,7 +154,7 @@ impl<S: Source, K: Sink, P: Plugin> Stage<S, K, P> {
         }
     }
 
-    /// A turn, unless the stage has ended: then it answers `Ended`, and nothing is done.
+    /// A turn, unless the stage has ended: then it returns `Ended`, and nothing is done.
     pub(crate) fn step<G: Gate>(&mut self, ring: &Ring, gate: &G) -> Turn
         requires { IsReady (seeing S.seen K.seen P.rule P.stands_for P.steady) ring.now self.old }
         ensures keeps { Keeps (seeing S.seen K.seen P.rule P.stands_for P.steady) ring.now self.old self.new }
@@ -166,8 +168,8 @@ impl<S: Source, K: Sink, P: Plugin> Stage<S, K, P> {
         turn
     }
 
-    /// A turn, and where it worked another one, which gives on what was worked on: the stage behind it finds it at its next
-    /// turn. What the last one came to.
+    /// A turn, and where it worked another one, which gives on what was worked on: the stage after it finds it at its next
+    /// turn. Returns the result of the last one.
     #[tactic(auto, using(crate::proofs::Carries::kept_then))]
     pub(crate) fn serve<G: Gate>(&mut self, ring: &Ring, gate: &G) -> Turn
         requires { IsReady (seeing S.seen K.seen P.rule P.stands_for P.steady) ring.now self.old }

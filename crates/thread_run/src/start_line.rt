@@ -1,12 +1,14 @@
+//! The line at which the threads of all stages meet.
+
 use std::sync::Wait;
 use std::sync::atomic::AtomicU64;
 use std::sync::atomic::Ordering::SeqCst;
 use std::time::Duration;
 
-/// Nothing is decided yet.
+/// Not decided yet.
 const OPEN: u64 = 0;
 
-/// All are here.
+/// All have come.
 const MET: u64 = 1;
 
 /// The wait was given up.
@@ -15,8 +17,8 @@ const GIVEN_UP: u64 = 2;
 /// Where the threads of all stages meet before any of them begins.
 ///
 /// A stage may sleep until another one wakes it, so none begins before all have a thread of their own. One word
-/// decides, and who writes it first: so either every thread is told that all are here, or every one that the wait was
-/// given up. No clause speaks of it.
+/// decides, and its first writer: so either every thread learns that all have come, or every one that the wait was given
+/// up. No clause depends on it.
 #[derive(Drop)]
 pub(crate) struct StartLine {
     stages: u64,
@@ -27,7 +29,7 @@ pub(crate) struct StartLine {
 }
 
 impl StartLine {
-    /// For so many stages, each of which waits so many milliseconds for the others. Where there are none, all are here.
+    /// For so many stages, each of which waits at most `patience` milliseconds for the others. Where there are none, all have come.
     pub(crate) fn new(stages: usize, patience: u64) -> StartLine {
         StartLine {
             stages: stages as u64,
@@ -37,7 +39,7 @@ impl StartLine {
         }
     }
 
-    /// Waits a while until the threads of all stages have called this. Whether they have.
+    /// Waits until the threads of all stages have called this or the wait is given up. Returns whether all have.
     pub(crate) fn all_here<R: Wait>(&self, rt: &R) -> bool {
         let before = self.here.fetch_add(1, SeqCst);
         if before.wrapping_add(1) == self.stages {
@@ -50,12 +52,12 @@ impl StartLine {
         self.has_met()
     }
 
-    /// Whether all were here before the wait was given up.
+    /// Whether all had come before the wait was given up.
     pub(crate) fn has_met(&self) -> bool {
         self.decision.load(SeqCst) == MET
     }
 
-    /// Decides, unless that was done.
+    /// Decides, unless it is decided.
     fn decide(&self, decision: u64) {
         if self
             .decision

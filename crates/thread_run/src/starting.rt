@@ -28,7 +28,7 @@ impl Latch {
     }
 }
 
-/// Whether so many threads can be started beside the caller's, all of which are there at once. They have no work, and end
+/// Whether so many threads can run at once beside the caller's. They are started for this alone, have no work, and end
 /// before this returns.
 pub(crate) fn can_start<R: Threads + Wait + Sync>(rt: &R, threads: usize) -> bool {
     let latch = Latch {

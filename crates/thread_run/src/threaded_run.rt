@@ -41,7 +41,7 @@ struct ThreadedMemory<S, K, P> {
 }
 
 impl<S, K, P> ThreadedMemory<S, K, P> {
-    /// Takes the memory for a chain with this plan. After an `AllocError` nothing is taken.
+    /// Takes the memory for a chain with this plan. After an `AllocError` no memory is held.
     fn new(alloc: Global, plan: &CorePlan) -> Result<ThreadedMemory<S, K, P>, AllocError>
         requires { IsLawfulPlan plan.now }
         ensures ring { IfOk result (λ memory. IsNew plan.now memory.ring) }
@@ -58,7 +58,7 @@ impl<S, K, P> ThreadedMemory<S, K, P> {
             stages.destroy_empty();
             return Err(AllocError);
         };
-        // The last of what may fail: its seats can be given back only when their stages have ended.
+        // The last allocation: its seats can be given back only when their stages have ended.
         let Ok(ring) = new_ring(alloc, plan) else {
             stages.destroy_empty();
             row.destroy_empty();
@@ -72,7 +72,7 @@ impl<S, K, P> ThreadedMemory<S, K, P> {
     }
 }
 
-/// Moves each part with the seat at its place behind the stages, for which there is room.
+/// Appends to the stages each part with the seat at its place; there is room for them.
 fn seat_all<S: Source, K: Sink, P: Plugin>(
     parts: &mut Vec<StagePart<S, K, P>>,
     seats: &mut Vec<StageSeat>,
@@ -95,7 +95,7 @@ fn seat_all<S: Source, K: Sink, P: Plugin>(
     seat_all(parts, seats, stages);
 }
 
-/// Moves the part and the seat of each stage behind the others, for which there is room.
+/// Appends the part and the seat of each stage to the others; there is room for them.
 pub fn unseat_all<S, K, P>(
     mut stages: Vec<Stage<S, K, P>>,
     parts: &mut Vec<StagePart<S, K, P>>,
@@ -139,7 +139,7 @@ fn drive_parts<
         AreNew see begun ring.now parts.old.items seats.old.items
         → AllHaveEnded see begun (key_of ring.now).base (table_of ring.now) seats.new.items parts.new.items }
 {
-    // Runs nothing: the proof cites it.
+    // It runs nothing: the proof cites it.
     run_laws::<S, K, P>();
     seat_all(parts, seats, &mut stages);
     drive_all(rt, ring, gate, &mut stages);
@@ -174,7 +174,7 @@ pub fn end_run<S: Source, K: Sink, P: Plugin>(
         (RunOf see from result.input stuffing met_none result.plugins.items to result.output plan) }
     ensures ran { IsOk result.closed }
 {
-    // Run nothing: the proof cites them.
+    // They run nothing: the proof cites them.
     together::<S, K, P>();
     any_run::<S, K, P>();
     let closed = ring.close(root, seats);
@@ -224,11 +224,11 @@ fn run_laid<R: Threads + Wait + Sync, S: Source + Send, K: Sink + Send, P: Plugi
     end_run(ring, root, seats, parts, plugins)
 }
 
-/// Runs a chain with a thread for each stage, the caller's among them, and gives its parts back. Where so many threads
+/// Runs a chain with a thread for each stage, the caller's among them, and returns its parts. Where so many threads
 /// cannot be started, all stages run in the caller's.
 ///
-/// All memory but that of the plugins' steps is taken before the first read; where it is wanting, `closed` is
-/// `AllocError` and nothing was done. It may wait, and owes no return.
+/// All memory but that of the plugins' steps is taken before the first read; where there is not enough, `closed` is
+/// `AllocError` and nothing was done. It may wait; no clause says that it returns.
 pub fn run_threads<
     R: Threads + Wait + Sync,
     S: Source + Send,

@@ -1,3 +1,5 @@
+//! Stages that are driven each in a thread of its own.
+
 ghost use Rattle.std.specs.Prelude.{◌≡◌, ◌<◌, true, length};
 ghost use Rattle.std.specs.Thread.{IsSync};
 ghost use Rattle.stage_run.specs.Seeing.{seeing};
@@ -18,7 +20,7 @@ use window_ring::Ring;
 /// that.
 const FIRST_PATIENCE: u64 = 50;
 
-/// Drives a stage until it has ended, once the threads of all are at the line; where the wait was given up, it stays as it
+/// Drives a stage until it has ended, once the threads of all are at the line. Where the wait was given up, it stays as it
 /// is.
 #[tactic(auto, using(crate::proofs::Carries::kept_same))]
 fn drive_from<R: Wait, S: Source, K: Sink, P: Plugin, G: Gate>(
@@ -62,8 +64,8 @@ fn spread<R: Threads + Wait + Sync, S: Source + Send, K: Sink + Send, P: Plugin 
     );
 }
 
-/// Drives the stages, each in a thread of its own, where all of these threads have come before the patience is over. Whether
-/// they have; the stages stay as they are where not, and each thread that was started has come by then.
+/// Drives the stages, each in a thread of its own, where all of these threads have come before the patience is over. Returns
+/// whether they have. Where not, the stages stay as they are, and each thread that was started has ended.
 fn try_threads<
     R: Threads + Wait + Sync,
     S: Source + Send,
@@ -110,7 +112,7 @@ fn drive_apart<
 /// Drives all stages of a ring until they have ended, each in a thread of its own, the caller's among them; where so many
 /// threads cannot be started, all of them from the caller's.
 ///
-/// It may wait, and owes no return.
+/// It may wait; no clause says that it returns.
 #[tactic(auto, using(crate::proofs::Carries::then_, crate::proofs::Carries::still_ready))]
 pub fn drive_all<
     R: Threads + Wait + Sync,

@@ -1,24 +1,26 @@
+//! The results of a turn.
+
 ghost use Rattle.std.specs.Prelude.{◌≡◌, is_some};
 ghost use Rattle.thread_run.specs.Turning.{answer_of};
 ghost use Rattle.thread_run.specs.Driving.{is_ended};
 
 use chain_core::StageWord;
 
-/// What a turn of a stage comes to.
+/// The result of a turn of a stage.
 #[derive(Debug, Clone, Copy, PartialEq, Eq)]
 pub enum Turn {
-    /// Another stage had the turn of the ring. Nothing was given, told or worked on.
+    /// Another stage had the turn of the ring. Nothing was given, reported or worked on.
     Busy,
-    /// The visit told the stage's end.
+    /// The visit reported the stage's end.
     Ended,
-    /// The visit was made; the stage has no cell in hand, and no end to tell.
+    /// The visit was made; the stage has no cell in hand, and no end to report.
     Idle,
-    /// The visit was made, and the stage worked on cells in hand, or has an end to tell with its next visit.
+    /// The visit was made, and the stage worked on cells in hand, or has an end to report with its next visit.
     Worked,
 }
 
 impl Turn {
-    /// The answer of a turn whose stage goes on: whether its hand is empty, and what it is to tell.
+    /// The result of a turn whose stage goes on, by whether its hand is empty and by what it is to report.
     pub(crate) fn of(empty: bool, word: &StageWord) -> Turn
         ensures { result ≡ answer_of empty (is_some word.now.ended) }
     {

@@ -100,7 +100,7 @@ module _ (key : Key) (table : TableId) (lawful : IsLawfulPlan key.plan)
               (ap (λ (r : Row). r.at) row, ap (λ (r : Row). r.land) row, (let n = ap (λ (r : Row). length r.cells) row ∙ length-drop (T (suc k)) (s.stages k).given in let l = linked k in omega (arith, n, l)));
         }
 
-    -- the hand of stage `j`, and what lies behind it
+    -- the hand of stage `j`, and what lies after it
     module _ (j : ℕ) (stage : j ≤ n1) (left : Left) (p : Parted key s j left) (seat : StageSeat) (done : IsDone key table j seat) (since : Since j (seen_of seat) history) where
       pub hand_is : IsHandOf s j (land_of key) seat.hand
       hand_is = subst (λ l. IsHandOf (state_after key.plan l) j (land_of key) seat.hand) (sym since.2)
@@ -176,7 +176,7 @@ module _ (key : Key) (table : TableId) (lawful : IsLawfulPlan key.plan)
           (λ above. let n = longer seats rest last is in let e : length rest ≡ k = omega (arith, lt, above, n) in
           subst (λ x. Since k (seen_of x) g.history) (sym (at_last seats rest last is k d e)) (subst (λ i. Since i (seen_of last) g.history) e last_since)) (cases_lt k (length rest))
 
--- what the machine promises, as its laws tell it
+-- what the laws of the machine promise
 pub record Laws : Type 0 where
   pub changes : (plan : CorePlan) (state : ChainState) (visit : Visit) → ChangesOneStage plan state (visited plan state visit) visit
   pub leaves : (plan : CorePlan) (visits : List Visit) (visit : Visit) → UsersArePlugins plan → ChainRun plan (visit ∷ visits) → LeavesOthers plan (state_after plan visits) (state_after plan (visit ∷ visits)) visit
@@ -210,7 +210,7 @@ taken {key} {table} {made} {held} {seats} {rest} {last} {root} {popped} laws law
       more = covering key table lawful laws.changes laws.leaves laws.hold held seats rest last is few seats_are done covers;
     }
 
--- the hands of the others and the cells behind them are together: the last hand comes before them
+-- the hands of the others and the cells after them are together: the last hand comes before them
 module _ {key : Key} {table : TableId} {made : ℕ} {held : List Holding} {seats rest : List StageSeat} {last : StageSeat} {root : Me State View} (t : Taken key table made held seats rest last root)
     {left : Left} (g : Gathered key (holding last.stage (seen_of last) ∷ held) rest left) where
   abbrev o : Laws

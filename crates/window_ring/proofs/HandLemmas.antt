@@ -1,4 +1,4 @@
--- Rows of cells in a block that they wrap round once at most.
+-- Rows of cells in a block, which wrap around at most once.
 use Rattle.std.proofs.Common.{⊎_elim, ◌≡◌, ◌≢◌, ℕ, zero, suc, ◌+◌, ◌*◌, ◌/◌, ◌%◌, ◌<◌, ◌≤◌, List, [], ◌∷◌, ◌++◌, length, take, drop, Option, None, Some, refl, sym, ap, ◌∙◌, subst, arith, length-append, length-drop, append-nil}
 use Rattle.std.proofs.lemmas.Nat.{mod-mul-add}
 use Rattle.std.proofs.Math.Nat.{add-mul, div-add-mod', eq-or-lt_of_le}
@@ -78,7 +78,7 @@ module _ (at : ℕ) (base : Ptr) (count : ℕ) where
   some_cell w (Some u) h = omega (arith, h.1.some, length-append w.cells u.cells)
 
   module _ (w : Piece Cell) where
-    -- behind two pieces comes one, just behind the second
+    -- after two pieces comes one, just after the second
     pub behind_two : (u t : Piece Cell) (more : Option (Piece Cell)) (next : ℕ) → IsHand at base count (Some w) (Some u) → IsHand next base count (Some t) more → next ≡ at + (length w.cells + length u.cells)
         → (length w.cells + length u.cells) + length (pieces (Some t) more) ≤ count → (more ≡ None) × (t.start ≡ u.start + length u.cells)
     behind_two u t None next h k e fits = (refl, k.1.start ∙ ap (λ n. n % count) e ∙ next_lap at (length w.cells + length u.cells) (length u.cells) count (omega (arith, h.3, h.1.start)) (omega (arith, fits, h.1.some)) ∙ (let s = h.2.start in omega (arith, s)))
@@ -86,7 +86,7 @@ module _ (at : ℕ) (base : Ptr) (count : ℕ) where
         let st : t.start ≡ length u.cells = k.1.start ∙ ap (λ n. n % count) e ∙ next_lap at (length w.cells + length u.cells) (length u.cells) count (omega (arith, h.3, h.1.start)) (omega (arith, fits, h.1.some, h.2.some)) in
         absurd (omega (arith, fits, st, k.3, k.2.some, h.1.some, length-append t.cells m.cells))
 
-    -- behind one piece comes the block's beginning, or what lies just behind it
+    -- after one piece comes the block's beginning, or what lies just after it
     pub behind_one : (t : Piece Cell) (more : Option (Piece Cell)) (next : ℕ) → IsHand at base count (Some w) None → IsHand next base count (Some t) more → next ≡ at + length w.cells
         → (t.start ≡ 0 → (w.start + length w.cells ≡ count)) × (t.start ≢ 0 → t.start ≡ w.start + length w.cells)
     behind_one t more next h k e = ⊎_elim (λ full. ((λ z. full), λ n. absurd (n (first t more k ∙ next_lap at (length w.cells) 0 count (omega (arith, full, h.1.start)) h.0))))
@@ -104,12 +104,12 @@ module _ (at : ℕ) (base : Ptr) (count : ℕ) where
     pub with_first : (t : Piece Cell) (next : ℕ) → IsHand at base count (Some w) None → IsHand next base count (Some t) None → t.start ≡ 0 → w.start + length w.cells ≡ count → IsHand at base count (Some w) (Some t)
     with_first t next h k z full = (h.0, h.1, record { land = k.1.land; start = z; some = k.1.some; inside = k.1.inside }, full)
 
-    -- one piece and one just behind it
+    -- one piece and one just after it
     pub with_next : (t : Piece Cell) (more : Option (Piece Cell)) (next : ℕ) → IsHand at base count (Some w) None → IsHand next base count (Some t) more → t.start ≡ w.start + length w.cells → IsHand at base count (Some (joined t)) more
     with_next t None next h k e = (h.0, record { land = h.1.land; start = h.1.start; some = omega (arith, h.1.some, length-append w.cells t.cells); inside = omega (arith, e, k.1.inside, length-append w.cells t.cells) })
     with_next t (Some m) next h k e = (h.0, record { land = h.1.land; start = h.1.start; some = omega (arith, h.1.some, length-append w.cells t.cells); inside = omega (arith, e, k.1.inside, length-append w.cells t.cells) }, k.2, omega (arith, e, k.3, length-append w.cells t.cells))
 
-    -- two pieces, and one just behind the second
+    -- two pieces, and one just after the second
     pub with_last : (u t : Piece Cell) (next : ℕ) → IsHand at base count (Some w) (Some u) → IsHand next base count (Some t) None → t.start ≡ u.start + length u.cells
         → IsHand at base count (Some w) (Some (record { land = u.land; start = u.start; cells = u.cells ++ t.cells }))
     with_last u t next h k e = (h.0, h.1, record { land = h.2.land; start = h.2.start; some = omega (arith, h.2.some, length-append u.cells t.cells); inside = omega (arith, e, k.1.inside, length-append u.cells t.cells) }, h.3)
@@ -153,12 +153,12 @@ one_more at next count base w t (Some m) f z =
     absurd (omega (arith, z, k.3, k.2.some, a, b, length-append w.cells [], length-append t.cells m.cells))
 
 module _ (at next count : ℕ) (base : Ptr) (w t : Piece Cell) (more : Option (Piece Cell)) where
-  -- what comes behind two windows
+  -- what comes after two windows
   pub after_two : (u : Piece Cell) → Fits at next count base (Some w) (Some u) (Some t) more → (more ≡ None) × (t.start ≡ u.start + length u.cells)
   after_two u f = behind_two at base count w u t more next f.mine f.hand (f.follows ∙ ap (λ n. at + n) (length-append w.cells u.cells))
       (let l = length-append w.cells u.cells in let m = f.room in omega (arith, l, m))
 
-  -- what comes behind one
+  -- what comes after one
   pub after_one : Fits at next count base (Some w) None (Some t) more → (t.start ≡ 0 → w.start + length w.cells ≡ count) × (t.start ≢ 0 → t.start ≡ w.start + length w.cells)
   after_one f = behind_one at base count w t more next f.mine f.hand (f.follows ∙ ap (λ n. at + n) (ap length (append-nil w.cells)))
 
@@ -166,7 +166,7 @@ module _ (at next count : ℕ) (base : Ptr) (w t : Piece Cell) (more : Option (P
   pub both_first : Fits at next count base (Some w) None (Some t) more → t.start ≡ 0 → IsHand at base count (Some w) (Some t)
   both_first f z = with_first at base count w t next f.mine (subst (λ m. IsHand next base count (Some t) m) (one_more at next count base w t more f z) f.hand) z ((after_one f).0 z)
 
-  -- or what lies just behind it
+  -- or what lies just after it
   pub both_next : Fits at next count base (Some w) None (Some t) more → t.start ≢ 0 → IsHand at base count (Some (joined at base count w t)) more
   both_next f n = with_next at base count w t more next f.mine f.hand ((after_one f).1 n)
 

@@ -32,7 +32,7 @@ module _ (plan : CorePlan) (s s2 : ChainState) (v : Visit) (changes : ChangesOne
   next_in : v.stage ≢ suc plan.plugins → next ≡ suc v.stage
   next_in n = ap (λ b. if b then 0 else suc v.stage) (ne_eqb v.stage (suc plan.plugins) n)
 
-  -- the link behind a stage is not the one before it
+  -- the link after a stage is not the one before it
   apart : v.stage ≢ next
   apart e = dite (ℕ_discrete v.stage (suc plan.plugins)) (λ out. let z = next_out out in omega (arith, e, out, z)) (λ inner. let z = next_in inner in omega (arith, e, z))
 

@@ -1,4 +1,4 @@
--- What the calls of one visit tell, step by step, and what follows for the next call.
+-- What the calls of one visit ensure, step by step, and what follows for the next call.
 use Rattle.std.proofs.Common.{◌≡◌, ℕ, suc, ◌+◌, ◌-◌, ◌^◌, ◌<◌, ◌≤◌, ◌==◌, if◌then◌else◌, List, ◌∷◌, ◌++◌, length, take, drop, set, sym, refl, ap, ◌∙◌, subst, arith, length-take-le, length-drop, length-append}
 use Rattle.std.proofs.lemmas.List.{get_or-set_other}
 use Rattle.chain_core.specs.declared.core_plan.CorePlan.{CorePlan}
@@ -38,7 +38,7 @@ module _ {key : Key} {value : State} {history : List Visit} {hand : Row} {stage 
   abbrev next : ℕ
   next = behind key.plan stage
 
-  -- what the machine promises of the state before the visit and the one behind it
+  -- what the machine promises of the state before the visit and the one after it
   pub record Promised : Type 0 where
     pub hold : (k : ℕ) → NewsHold key.plan s k
     pub changes : ChangesOneStage key.plan s s2 v
@@ -52,7 +52,7 @@ module _ {key : Key} {value : State} {history : List Visit} {hand : Row} {stage 
     hold2 = held key.plan history v (λ k. hold key.plan (v ∷ history) k may.lawful.users (may.run, may.allowed));
   }
 
-  -- the hand is cut, and this is the link behind the stage
+  -- the hand is cut, and this is the link after the stage
   pub record Cut (front rest : Row) (behind_it : ℕ) : Type 0 where
     pub front_is : front ≡ row_of hand.at hand.land (take done hand.cells)
     pub rest_is : rest ≡ row_of (hand.at + done) hand.land (drop done hand.cells)
@@ -72,7 +72,7 @@ module _ {key : Key} {value : State} {history : List Visit} {hand : Row} {stage 
   many = length-take-le done hand.cells may.done_within
 
   module _ (p : Promised) {front rest : Row} {n : ℕ} (cut : Cut front rest n) where
-    -- the given cells go behind those of the next link
+    -- the given cells go after those of the next link
     pub goes_behind : (given : Row) → given ≡ row_of (if n == 0 then front.at + front.land.count else front.at) front.land front.cells
         → given.at ≡ (on_link links n).at + length (on_link links n).cells
     goes_behind given is =
@@ -92,7 +92,7 @@ module _ {key : Key} {value : State} {history : List Visit} {hand : Row} {stage 
     own : (pushed : List Row) (r : Row) → pushed ≡ set links n r → on_link pushed stage ≡ link value stage
     own pushed r is = ap (λ l. on_link l stage) is ∙ get_or-set_other links n stage r no_row (λ e. fit.apart key value history hand stage done word may p.hold (e ∙ cut.next_is))
 
-    -- what the stage is told, and the links with the given cells
+    -- the news of the stage, and the links with the given cells
     pub record Told (news : News) (before : Progress) (pushed : List Row) : Type 0 where
       pub news_is : news ≡ news_after key.plan s v
       pub before_is : before.taken ≡ (s.stages stage).taken
@@ -125,7 +125,7 @@ module _ {key : Key} {value : State} {history : List Visit} {hand : Row} {stage 
       pub own_low : (on_link pushed stage).at + length (on_link pushed stage).cells < 2 ^ 63
       own_low = let a = fit.own_low key value history hand stage done word may p.hold stage may.allowed.is_stage in let o = ap (λ r. r.at + length r.cells) t.own_is in omega (arith, a, o)
 
-      -- the cells taken go behind the rest of the hand
+      -- the cells taken go after the rest of the hand
       module _ (taken : Row) (is : taken ≡ row_of (on_link pushed stage).at (on_link pushed stage).land (take more (on_link pushed stage).cells)) where
         rest_long : length rest.cells ≡ length hand.cells - done
         rest_long = ap (λ r. length r.cells) cut.rest_is ∙ length-drop done hand.cells

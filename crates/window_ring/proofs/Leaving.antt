@@ -66,7 +66,7 @@ module _ (key : Key) (value : State) (history : List Visit) (hand : Row) (stage 
   behind_link : on_link pulled next ≡ row_of (on_link links next).at (on_link links next).land ((on_link links next).cells ++ v.cells)
   behind_link = get_or-set_other pushed stage next _ no_row (λ e. apart (sym e)) ∙ get_or-set_same links next _ no_row (let a = fit.next_there key value history hand stage done word may hold in let b = may.stands.count in omega (arith, a, b))
 
-  -- the cells given stand last on the link behind the stage
+  -- the cells given stand last on the link after the stage
   pub last_cells : drop (length (on_link pulled next).cells - done) (on_link pulled next).cells ≡ v.cells
   last_cells =
       let xs = (on_link links next).cells in

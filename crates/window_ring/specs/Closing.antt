@@ -57,7 +57,7 @@ abbrev pub Linked : Key → ChainState → ℕ → Row → Type 0
 Linked key state k row = (row.at ≡ (state.stages (suc k)).taken) × (row.land ≡ land_of key)
     × (length row.cells + (state.stages (suc k)).taken ≡ length (state.stages k).given)
 
--- the cells from those that stage `j` took to the last ones are in one hand, and the links behind it are left
+-- the cells from those that stage `j` took to the last ones are in one hand, and the links after it are left
 pub record Parted (key : Key) (state : ChainState) (j : ℕ) (left : Left) : Type 0 where
   pub closed : left.closed ≡ closed_of key.plan (progress_of_stages state)
   pub at : left.all.at ≡ (state.stages j).taken
@@ -68,7 +68,7 @@ pub record Parted (key : Key) (state : ChainState) (j : ℕ) (left : Left) : Typ
   pub link : (i k : ℕ) → k ≡ j + i → i < length left.links.items
       → Linked key state k (slice_index_or left.links.items i no_row)
 
--- the hands of the other stages and the cells behind them are together: there is one run, of which the seats and the
+-- the hands of the other stages and the cells after them are together: there is one run, of which the seats and the
 -- holdings have seen their parts
 pub record Gathered (key : Key) (held : List Holding) (seats : List StageSeat) (left : Left) : Type 0 where
   pub history : List Visit

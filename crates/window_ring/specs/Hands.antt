@@ -57,7 +57,7 @@ abbrev pub no_row : Row
 no_row = row_of 0 (land_at null_ptr 0) []
 
 -- a window that stands before these cells, at this position: it ends where the block ends, or nothing stands
--- behind it
+-- after it
 pub record IsFront (at : ℕ) (rest : Row) (w : Piece Cell) : Type 0 where
   pub land : w.land ≡ rest.land
   pub start : w.start ≡ at % rest.land.count

@@ -1,3 +1,4 @@
+-- The definitions of the ring.
 pub mod Codes
 pub mod Hands
 pub mod Views

@@ -20,11 +20,11 @@ pub record SeatLaws : Type 0 where
   -- a seat of which no visit was made is one
   pub fresh : (key : Key) (table : TableId) (seat : StageSeat) → IsFresh key table seat.stage seat
       → IsSeat key table seat
-  -- it is one again behind a visit that it made
+  -- it is one again after a visit that it made
   pub again : (key : Key) (table : TableId) (old new : StageSeat) (done : ℕ) (word : StageWord) (news : News)
       → Went key old new done word news → new.stage ≡ old.stage → new.seat.table_id ≡ old.seat.table_id
       → IsSeat key table old → IsSeat key table new
-  -- and behind one that found the turn held
+  -- and after one that found the turn held
   pub still : (key : Key) (table : TableId) (old new : StageSeat) (holder : ℕ)
       → new.seat.me ≡ (at_rest key old.stage (seen_of old) (holder ∷ busy_of old), []) → new.hand ≡ old.hand
       → new.stage ≡ old.stage → new.seat.table_id ≡ old.seat.table_id

@@ -57,8 +57,8 @@ pub record IsAt (key : Key) (table : TableId) (seat : StageSeat) (done : ℕ) (w
 abbrev pub visit_from : StageSeat → ℕ → StageWord → Visit
 visit_from seat done word = giving seat.hand seat.stage done word
 
--- the visit was made: it is one event of the run, behind those that were seen and some of the other stages;
--- the seat has seen it; the news are the machine's; and in its hands are the cells not given and behind
+-- the visit was made: it is one event of the run, after those that were seen and some of the other stages;
+-- the seat has seen it; the news are the machine's; and in its hands are the cells not given and after
 -- them those taken
 pub record Went (key : Key) (old new : StageSeat) (done : ℕ) (word : StageWord) (news : News) : Type 0 where
   pub between : List Visit

@@ -11,7 +11,7 @@ use Rattle.window_ring.specs.Views.{land_of}
 use Rattle.window_ring.specs.declared.state.State.{State}
 use Rattle.window_ring.specs.declared.view.Key.{Key}
 
--- the link behind a stage: behind the output lie the free cells
+-- the link after a stage: after the output lie the free cells
 abbrev pub behind : CorePlan → ℕ → ℕ
 behind plan stage = if stage == suc plan.plugins then 0 else suc stage
 
@@ -27,7 +27,7 @@ link value k = on_link value.links.items k
 abbrev pub last_cells : Row → ℕ → List Cell
 last_cells row done = drop (length row.cells - done) row.cells
 
--- the last visit: the cells that it gave stand last on the link behind its stage
+-- the last visit: the cells that it gave stand last on the link after its stage
 abbrev pub visit_in : CorePlan → State → Visit
 visit_in plan value =
     visit_of value.last.stage
@@ -38,7 +38,7 @@ abbrev pub waiting : ChainState → ℕ → List Cell
 waiting state k = drop (state.stages (suc k)).taken (state.stages k).given
 
 -- the value stands for a history: it has its numbers, and on each link lie the cells that the stage before
--- it gave and the one behind it has not taken; the free cells are the others, in the slots that the input
+-- it gave and the one after it has not taken; the free cells are the others, in the slots that the input
 -- takes next
 pub record Stands (key : Key) (value : State) (history : List Visit) : Type 0 where
   pub plan_is : value.core.plan ≡ key.plan

@@ -92,7 +92,7 @@ pub record Found (v : Me State View) (n : ℕ) (w : Me State View) : Type 0 wher
   pub stage : holder ≤ suc v.0.key.plan.plugins
   pub another : Each (λ (h : Holding). h.stage ≢ holder) v.0.held
 
--- what the compare tells: 0 where the turn is taken, else one more than the stage that holds it
+-- what the compare returns: 0 where the turn is taken, else one more than the stage that holds it
 abbrev pub Takes : Step State → Me State View → ℕ → Me State View → Type 0
 Takes step v n w = ((n ≡ 0) × Took v w) ⊎ Found v n w
 

@@ -23,7 +23,7 @@ pub record IsHandOf (state : ChainState) (stage : ℕ) (land : Land) (hand : Row
   pub cells : length hand.cells + length (state.stages stage).given ≡ (state.stages stage).taken
   pub same : hand.land ≡ land
 
--- a stage behind another took these cells: of those that the other gave, the next ones
+-- a stage after another took these cells: of those that the other gave, the next ones
 abbrev pub Brings : ChainState → ℕ → List Cell → News → Type 0
 Brings state stage cells news = (j : ℕ) → stage ≡ suc j
     → cells ≡ take (news.taken - (state.stages stage).taken)

@@ -1,13 +1,15 @@
+//! The bell that wakes a stage.
+
 use std::sync::Wait;
 use std::sync::atomic::AtomicU64;
 use std::sync::atomic::Ordering::SeqCst;
 
-/// Rings when there may be news for a stage. No clause speaks of it.
+/// Rings when there may be news for a stage. It changes no list, and no clause depends on it.
 #[derive(Drop)]
 pub(crate) struct Bell {
     // How often it rang.
     rung: AtomicU64,
-    // How many wait for it, so that nobody is woken where nobody sleeps.
+    // How many wait for it, so that no wake-up is asked for where nobody sleeps.
     sleepers: AtomicU64,
 }
 
@@ -24,7 +26,7 @@ impl Bell {
         self.rung.load(SeqCst)
     }
 
-    /// Rings, and wakes who waits.
+    /// Rings, and wakes all that wait.
     pub(crate) fn ring(&self) {
         self.rung.fetch_add(1, SeqCst);
         if self.sleepers.load(SeqCst) > 0 {
@@ -32,7 +34,7 @@ impl Bell {
         }
     }
 
-    /// Sleeps while it has not rung again; it may return for no reason.
+    /// Sleeps while it has rung `heard` times; spurious wake-ups are possible.
     pub(crate) fn wait<R: Wait>(&self, rt: &R, heard: u64) {
         self.sleepers.fetch_add(1, SeqCst);
         self.rung.park(rt, (heard & 0xFFFF_FFFF) as u32);

@@ -1,3 +1,5 @@
+//! The close of a ring.
+
 ghost use Rattle.std.specs.Prelude.{◌≡◌, ◌+◌, ◌≤◌, ◌<◌, ℕ, suc, List, [], length, slice_index_or};
 ghost use Rattle.chain_core.specs.Machine.{Visit, progress_of_stages};
 ghost use Rattle.chain_core.specs.ChainRun.{ChainRun, state_after};
@@ -16,7 +18,7 @@ use crate::view::View;
 use atomic_table::Seat;
 use chain_core::{Closed, news_promises, one_visit};
 
-/// What is left when the hands are together.
+/// What is left when all hands are joined.
 pub(crate) struct Left {
     pub(crate) links: Vec<Hand>,
     pub(crate) all: Hand,
@@ -38,7 +40,7 @@ impl Ring {
         value
     }
 
-    // The seats of the first stages go into the root, and their hands together with the cells behind them.
+    // Joins the seats of the first stages into the root, and their hands with the cells after them.
     fn gather(self, mut root: Seat<State, View>, mut seats: Vec<StageSeat>) -> Left
         requires of_table { root.table_id ≡ table_of self }
         requires words { 0 < (table_of self).words }
@@ -79,7 +81,7 @@ impl Ring {
         Left { links, all, closed }
     }
 
-    /// All stages have ended: the ring ends, and its memory is given back. The cut and its cause are the
+    /// All stages have ended: the ring is dropped, and its memory is freed. The cut and its cause are the
     /// machine's.
     pub fn close(self, mut root: Seat<State, View>, mut seats: Vec<StageSeat>) -> Closed
         requires of_table { root.table_id ≡ table_of self }

@@ -1,3 +1,5 @@
+//! The cells in the hands of a stage, in at most two windows of the block.
+
 ghost use Rattle.std.specs.Prelude.{if◌then◌else◌, ◌≡◌, ◌+◌, ◌^◌, ◌≤◌, ◌<◌, length, take, drop, ◌++◌, ℕ, [], IsTrue, IfNone, IfSome};
 ghost use Rattle.std.specs.Prelude.{None, Some};
 ghost use Rattle.window_ring.specs.Hands.{row_of, land_at, pieces, IsHand, IsFront, LiftsFront};
@@ -7,8 +9,7 @@ use std::mem;
 use ts_land::Window;
 use ts_packet::Cell;
 
-/// Cells at successive positions, where they stand in the block: in at most two windows, since so many wrap
-/// at most once.
+/// Cells at successive positions, in at most two windows of the block, since they wrap around at most once.
 pub struct Hand {
     at: u64,
     base: *mut Cell,
@@ -53,7 +54,7 @@ impl Hand {
         }
     }
 
-    /// The first `n` cells, and the others.
+    /// Splits off the first `n` cells: these, and the others.
     pub(crate) fn cut(self, n: usize) -> (Hand, Hand)
         requires within { n ≤ length self.cells }
         requires low { self.at + length self.cells < 2 ^ 63 }
@@ -97,7 +98,7 @@ impl Hand {
         )
     }
 
-    /// The cells, with those of another hand behind them.
+    /// The cells, with those of another hand after them.
     pub(crate) fn with(self, other: Hand) -> Hand
         requires behind { other.at ≡ self.at + length self.cells }
         requires same { other.land ≡ self.land }
@@ -138,7 +139,7 @@ impl Hand {
         Hand::of(at, base, count, Some(first.join(theirs)), more)
     }
 
-    /// A hand in which there is nothing ends.
+    /// Drops a hand that has no cells.
     pub(crate) fn end(self)
         requires { self.cells ≡ [] }
     {
@@ -170,8 +171,8 @@ impl Hand {
         mem::replace(self, hand).end();
     }
 
-    /// Gives its first `n` cells to another hand, behind that one's own; where `lap` is set they go one lap
-    /// later. Where none goes, both hands are left alone.
+    /// Gives its first `n` cells to another hand, after that one's own; where `lap` is set they go one lap
+    /// later. Where `n` is 0, both hands stay as they are.
     #[inline]
     pub(crate) fn pass(&mut self, n: usize, other: &mut Hand, lap: bool)
         requires within { n ≤ length self.old.cells }
@@ -190,7 +191,7 @@ impl Hand {
         }
     }
 
-    // The same, where some go.
+    // The same, where `n` is at least 1.
     fn hand_on(&mut self, n: usize, other: &mut Hand, lap: bool)
         requires within { n ≤ length self.old.cells }
         requires low { self.old.at + length self.old.cells < 2 ^ 63 }
@@ -250,7 +251,7 @@ impl Hand {
         Hand::of(0, base, count, Some(window), None)
     }
 
-    /// A hand with all cells of the block gives it back.
+    /// Frees the block of a hand that has all its cells.
     pub(crate) fn close(self)
         requires { length self.cells ≡ self.land.count }
     {
@@ -323,7 +324,7 @@ impl Hand {
     }
 }
 
-// A cut behind the first window.
+// A cut after the first window.
 fn cut_behind(
     at: u64,
     base: *mut Cell,
@@ -357,7 +358,7 @@ fn cut_behind(
     )
 }
 
-// Where there is no window, nothing is let go.
+// Drops no window.
 fn nothing(window: Option<Window<Cell>>)
     requires { window ≡ None }
 {

@@ -1,3 +1,5 @@
+//! The seats of a new ring, split from its root and joined into it again.
+
 ghost use Rattle.std.specs.Prelude.{IfOk, IfErr, ◌≡◌, ◌+◌, ◌<◌, ℕ, List, [], ◌∷◌};
 ghost use Rattle.chain_core.specs.Machine.{Visit};
 ghost use Rattle.window_ring.specs.declared.view.Holding.{Holding};
@@ -47,7 +49,7 @@ impl Ring {
         self.table.shared.split_seat::<Seating>(root)
     }
 
-    /// The seat of a stage comes back.
+    /// Joins the seat of a stage into the root.
     pub(crate) fn take_back(&self, root: &mut Seat<State, View>, seat: Seat<State, View>)
         requires of_table { (root.old.table_id ≡ table_of self.now) × (seat.table_id ≡ table_of self.now) }
         requires words { 0 < (table_of self.now).words }

@@ -1,3 +1,5 @@
+//! The making of a ring: all its memory, its seats and its bells.
+
 ghost use Rattle.std.specs.Prelude.{IfOk, ◌≡◌, ◌+◌, ◌≤◌, ◌<◌, ℕ, suc, List, [], ◌∷◌, ◌++◌, length, replicate, slice_index_or, vec_len, vec_capacity};
 ghost use Rattle.chain_core.specs.CoreNumbers.{IsLawfulPlan};
 ghost use Rattle.chain_core.specs.declared.core_plan.CorePlan.{CorePlan};
@@ -48,7 +50,7 @@ fn bells_of(alloc: Global, stages: usize) -> Result<Vec<Bell>, AllocError> {
     Ok(bells)
 }
 
-// Empty hands behind those that are there.
+// Appends empty hands to those that are there.
 fn fill_links(links: &mut Vec<Hand>, base: *mut Cell, count: usize, len: usize)
     requires some { 0 < count }
     requires room { len ≤ vec_capacity links.old }
@@ -64,7 +66,7 @@ fn fill_links(links: &mut Vec<Hand>, base: *mut Cell, count: usize, len: usize)
     fill_links(links, base, count, len);
 }
 
-// The seats of the stages behind those that have one.
+// The seats of the stages after those that have one.
 fn fill_seats(
     ring: &Ring,
     root: &mut Seat<State, View>,
@@ -144,7 +146,7 @@ fn set_up(alloc: Global, plan: &CorePlan) -> Result<Ready, AllocError>
     })
 }
 
-// Hands in which there is nothing end.
+// Drops hands that have no cells.
 fn end_all(mut links: Vec<Hand>)
     requires { (i : ℕ) (d : Row) → i < length links.items → (slice_index_or links.items i d).cells ≡ [] }
 {
@@ -157,7 +159,7 @@ fn end_all(mut links: Vec<Hand>)
     }
 }
 
-// What was to be guarded is given back.
+// Frees what the turn was to guard.
 fn discard(mut slots: Vec<State>)
     requires { (plan : CorePlan) × (key : Key) × IsReady plan key slots.items }
 {
@@ -175,7 +177,7 @@ fn discard(mut slots: Vec<State>)
     end_all(links);
 }
 
-/// A ring of this plan, or there was no memory for it. Only this call takes memory.
+/// A ring of this plan, or `AllocError` where there is no memory for it. Later calls allocate nothing.
 pub fn new_ring(alloc: Global, plan: &CorePlan) -> Result<NewRing, AllocError>
     requires { IsLawfulPlan plan.now }
     ensures { IfOk result (λ r. IsNew plan.now r) }

@@ -1,3 +1,5 @@
+//! The ring that all stages share, and one visit of it.
+
 ghost use Rattle.std.specs.Prelude.{◌≡◌, ◌+◌, [], ◌∷◌, length};
 ghost use Rattle.window_ring.specs.Seats.{key_of, table_of, IsAt, HasVisited};
 
@@ -20,11 +22,11 @@ pub struct Ring {
 }
 
 impl Ring {
-    /// One visit of the seat's stage: it gives on the first `done` of the cells in its hands, tells the
-    /// word, takes of the cells that wait for it, and is told the news. Or another stage has the turn, and
+    /// One visit of the seat's stage: it gives on the first `done` of the cells in its hands, reports the
+    /// word, takes of the cells that wait for it, and receives the news. Where another stage has the turn,
     /// nothing changes.
     ///
-    /// It makes one compare, and neither waits nor takes memory.
+    /// It makes one compare, and neither waits nor allocates.
     pub fn visit(&self, seat: &mut StageSeat, done: usize, word: StageWord) -> Visited
         requires { IsAt (key_of self.now) (table_of self.now) seat.old done word }
         ensures visited { HasVisited (key_of self.now) seat.old seat.new done word result }
@@ -50,12 +52,12 @@ impl Ring {
         Visited::Given(news)
     }
 
-    /// Waits until there may be news for this stage since so many rings were heard, or returns at once. It changes no
-    /// list.
+    /// Waits until there may be news for this stage since so many rings were counted, or returns at once. It changes
+    /// no list.
     ///
     /// Nothing is missed where the rings were counted before the stage made its visit. What may be news for a stage, as
     /// cells, free slots, an end beside it or the limit, another stage's visit makes within its turn, and it rings
-    /// behind that turn. So either the stage's own visit came later and found the news, or the ring comes behind the
+    /// after that turn. So either the stage's own visit came later and found the news, or the ring comes after the
     /// count, and this returns.
     pub fn wait_news<R: Wait>(&self, rt: &R, stage: usize, heard: u64) {
         if let Some(bell) = self.bells.get(stage) {
@@ -71,7 +73,7 @@ impl Ring {
         }
     }
 
-    // Rings for whom a visit may be news: the stage behind for cells, the input for free slots, both
+    // Rings for those to whom a visit may be news: the next stage for cells, the input for free slots, both
     // neighbours for an end, and all where an agreement may have made the limit known.
     fn call(&self, stage: usize, done: usize, word: StageWord, news: &News) {
         if word.agreed.is_some() && news.limit.is_some() {
@@ -89,7 +91,7 @@ impl Ring {
         }
     }
 
-    // The stage behind this one; behind the last one comes the input, for which the free slots are.
+    // The stage after this one; after the last one comes the input, which takes the free slots.
     fn next_of(&self, stage: usize) -> usize {
         let next = stage.saturating_add(1);
         if next < self.bells.len() { next } else { 0 }

@@ -1,3 +1,5 @@
+//! The rule of the ring, as steps of its table.
+
 ghost use Rattle.std.specs.Prelude.{◌+◌, ◌++◌, []};
 ghost use Rattle.window_ring.specs.Turns.{Kept, Takes, Leaves};
 ghost use Rattle.window_ring.specs.Views.{first_view, root_view, at_rest, spent_view};

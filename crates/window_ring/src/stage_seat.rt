@@ -1,3 +1,5 @@
+//! The seat of a stage.
+
 ghost use Rattle.std.specs.Prelude.{◌≡◌, ◌+◌, ◌<◌, ◌^◌, ◌++◌, ℕ, [], length, IfNone, IfSome};
 ghost use Rattle.window_ring.specs.Hands.{IsFront, LiftsFront, row_of};
 

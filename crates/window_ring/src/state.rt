@@ -1,3 +1,5 @@
+//! The value that the turn guards.
+
 ghost use Rattle.std.specs.Prelude.{slice_set, if◌then◌else◌, ◌==◌, ◌≡◌, ◌+◌, ◌^◌, ◌≤◌, ◌<◌, ℕ, suc, List, length, take, drop, ◌++◌};
 ghost use Rattle.chain_core.specs.Machine.{Visit};
 ghost use Rattle.window_ring.specs.Hands.{row_of};
@@ -9,11 +11,11 @@ use chain_core::{Core, News, StageWord, news_promises, one_visit};
 /// The last visit.
 #[derive(Clone, Copy)]
 pub struct Last {
-    /// Whose it was.
+    /// The stage that made it.
     pub stage: usize,
     /// How many cells it gave.
     pub done: usize,
-    /// What it told.
+    /// What it reported.
     pub word: StageWord,
 }
 
@@ -23,7 +25,7 @@ pub struct State {
     pub core: Core,
     /// Before each stage the cells that wait for it; those that wait for the input are the free ones.
     pub links: Vec<Hand>,
-    /// The last visit: the cells that it gave stand last on the link behind its stage.
+    /// The last visit: the cells that it gave stand last on the link after its stage.
     pub last: Last,
 }
 
@@ -57,7 +59,7 @@ impl State {
     }
 }
 
-// The link behind a stage: behind the last one lie the free cells.
+// The link after a stage. The free cells are on the link after the last one.
 fn next_of(stage: usize, last: usize) -> usize
     requires { stage ≤ last }
     ensures { result ≡ (if stage == last then 0 else suc stage) }
@@ -65,7 +67,7 @@ fn next_of(stage: usize, last: usize) -> usize
     if stage == last { 0 } else { stage + 1 }
 }
 
-// Puts the first `done` cells of a hand behind those of a link. The free cells lie one lap later.
+// Puts the first `done` cells of a hand after those of a link. The free cells come one lap later.
 fn give(hand: &mut Hand, done: usize, links: &mut Vec<Hand>, next: usize)
     requires there { next < length links.old.items }
     requires within { done ≤ length hand.old.cells }
@@ -84,7 +86,7 @@ fn give(hand: &mut Hand, done: usize, links: &mut Vec<Hand>, next: usize)
     hand.pass(done, &mut links[next], next == 0);
 }
 
-// Puts the first `n` cells of a link behind those of a hand.
+// Puts the first `n` cells of a link after those of a hand.
 fn take_from(links: &mut Vec<Hand>, stage: usize, n: usize, hand: &mut Hand)
     requires there { stage < length links.old.items }
     requires within { n ≤ length (on_link links.old.items stage).cells }

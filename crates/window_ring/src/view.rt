@@ -1,3 +1,5 @@
+//! What a seat knows of the ring, in proofs alone.
+
 use chain_core::{CorePlan, StageWord};
 use std::collections::LinkedList;
 use std::marker::Model;
@@ -42,7 +44,7 @@ pub struct View {
     pub held: LinkedList<Holding>,
     /// Whether it has the turn.
     pub inside: bool,
-    /// The visits that it found when it took the turn.
+    /// The visits that had been made when it took the turn.
     pub at: LinkedList<PastVisit>,
     /// The stages that its compares found with the turn since it last had it, the last one first.
     pub busy: LinkedList<usize>,
@@ -53,6 +55,6 @@ pub struct View {
 pub struct Key {
     /// The chain's plan.
     pub plan: CorePlan,
-    /// Where the block begins. It gives no right to it.
+    /// Where the block begins. The address gives no access to it.
     pub base: *mut Cell,
 }

@@ -1,9 +1,11 @@
+//! The results of a visit.
+
 use chain_core::News;
 
-/// What a visit comes to.
+/// The result of a visit.
 pub enum Visited {
-    /// The compare found another stage with the turn. Nothing was given or taken, and the word was not told.
+    /// The compare found another stage with the turn. Nothing was given or taken, and the word was not reported.
     Busy { holder: usize },
-    /// The cells were given on, the stage took of those that wait, and this is what it is told.
+    /// The cells were given on, the stage took of those that wait, and this is its news.
     Given(News),
 }

@@ -9,7 +9,7 @@ use Rattle.plugin_trait.specs.Driving.{Makes, TellsAgreement, made_so_far}
 use Rattle.plugin_trait.proofs.AgreeingLemmas.{newly_agreed-within}
 use Rattle.stage_run.proofs.plugin_stage.PluginStage.pass.Goals as goal
 
--- a mark that was told
+-- a mark that was given
 noted : {P : Type 0} (stands : P → List Cell → ℕ → Type 0) (plugin : P) (history : List Cell) (written mark : ℕ) (ok err : Bool)
     → ok ≡ not err → err ≡ false → stands plugin history (if ok then written else mark) → stands plugin history written
 noted stands plugin history written mark true err is none holds = holds

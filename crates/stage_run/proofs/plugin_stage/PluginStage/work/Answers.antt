@@ -24,7 +24,7 @@ use Rattle.stage_run.proofs.WorkLemmas.{plain-stage, followed-memory}
 use Rattle.stage_run.proofs.PluginWorking.{plugin_works, newly_agreed-Some, through_all, no_memory_told, steady_less, FollowsNews-followed, FollowsNews-told}
 use Rattle.stage_run.proofs.plugin_stage.PluginStage.work.Goals as goal
 
--- lists behind which a plugin's stage may work allow its mark
+-- lists after which a plugin's stage may work allow its mark
 allowed : {P : Type 0} (rule : P → PluginRule) (stands : P → List Cell → ℕ → Type 0) (old : PluginStage P) (lists : PartLists) (at written : ℕ)
     → MayWork (PluginStands rule stands old) at written lists → written ≤ at → Allows (stands old.plugin) at written lists.met lists.mark
 allowed rule stands old lists at written may within =
