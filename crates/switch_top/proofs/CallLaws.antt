@@ -51,7 +51,7 @@ part-rest cells n WriteFault part p = part-of (drop n cells) part p
 assoc : (b t p r x : List ℕ) → b ++ ((t ++ (p ++ r)) ++ x) ≡ (b ++ (t ++ p)) ++ (r ++ x)
 assoc b t p r x = ap (λ l. b ++ l) (append_assoc t (p ++ r) x ∙ ap (λ l. t ++ l) (append_assoc p r x) ∙ sym (append_assoc t p (r ++ x))) ∙ sym (append_assoc b (t ++ p) (r ++ x))
 
--- packets of plays behind, some of the next one, and a part of one packet more begin all of them
+-- packets of plays that are over, some of the next one, and a part of one packet more begin all of them
 begins-all : (behind cells later : List Cell) (n : ℕ) (end : PlayEnd) (part : List ℕ) → IsPart cells n end part
     → (rest : List ℕ) × (written (behind ++ (cells ++ later)) ≡ (written behind ++ (written (take n cells) ++ part)) ++ rest)
 begins-all behind cells later n end part p =
@@ -80,7 +80,7 @@ IsOwn (Input how.ReadFault) = ⊥
 IsOwn (Input how.TooLong) = Unit {0}
 IsOwn WriteFault = ⊥
 
--- a status behind which the whole list is written is that of the end itself, which is the list's own
+-- a status after which the whole list is written is that of the end itself, which is the list's own
 whole-own : (late : Bool) (input : ℕ) (end : PlayEnd) → TellsWhole (late_status late input end) → IsOwn end × (late_status late input end ≡ status_of input end)
 whole-own true input (Input (how.End left)) t = absurd t
 whole-own true input (Input (how.Sync packet)) t = (tt, refl)
@@ -106,7 +106,7 @@ fault-own false input (Input how.ReadFault) e = refl
 fault-own false input (Input how.TooLong) e = absurd (let bad : status.TooLong ≡ status.ReadFault = e in cc)
 fault-own false input WriteFault e = absurd (let bad : status.WriteFault ≡ status.ReadFault = e in cc)
 
--- a write fault is that of the end, or something failed behind a plain one
+-- a write fault is that of the end, or something failed after a plain one
 write-own : (late : Bool) (input : ℕ) (end : PlayEnd) → late_status late input end ≡ status.WriteFault → (end ≡ WriteFault) ⊎ (late ≡ true)
 write-own true input end e = inr refl
 write-own false input (Input (how.End left)) e = absurd (let bad : status.Done ≡ status.WriteFault = e in cc)
@@ -115,7 +115,7 @@ write-own false input (Input how.ReadFault) e = absurd (let bad : status.ReadFau
 write-own false input (Input how.TooLong) e = absurd (let bad : status.TooLong ≡ status.WriteFault = e in cc)
 write-own false input WriteFault e = inl refl
 
--- `Done` comes behind a plain end, and nothing was late
+-- `Done` comes after a plain end, and nothing was late
 done-own : (late : Bool) (input : ℕ) (end : PlayEnd) → late_status late input end ≡ status.Done → (late ≡ false) × ((left : ℕ) × (end ≡ Input (how.End left)))
 done-own true input (Input (how.End left)) e = absurd (let bad : status.WriteFault ≡ status.Done = e in cc)
 done-own true input (Input (how.Sync packet)) e = absurd (let bad : status.Sync (min input (2 ^ 32 - 1)) packet ≡ status.Done = e in cc)
@@ -152,7 +152,7 @@ gives-own bytes n (Input how.ReadFault) ends own = absurd own
 gives-own bytes n (Input how.TooLong) ends own = (how.TooLong, refl, ends)
 gives-own bytes n WriteFault ends own = absurd own
 
--- at most one source was closed behind that of the last play
+-- at most one source was closed after that of the last play
 pub one-more : (start : DeskView) (later : List PlayName) (ahead : List Asked) (more : List SourceView) → AsksNext start later ahead more → length more ≤ 1
 one-more start later ahead more (inl a) = (let l = ap (λ (x : List SourceView). length x) a.2 in omega (arith, l))
 one-more start later ahead more (inr a) = elim a.3 [
@@ -282,7 +282,7 @@ module _ (buffer : ℕ) (names : List PlayName) (output : Option (List ℕ)) (st
         not-failed true report says = absurd (quiet-absurd start.report_faults new.report_faults nothing.reports
             (subst (HasCause start.report_faults) (sym (ap (λ (d : DeskView). d.report_faults) says.2 ∙ ap raised r.counted_before)) (HasCause-raised start.report_faults)))
 
-    -- behind `Done`, `Sync` and `TooLong` the whole list is written
+    -- after `Done`, `Sync` and `TooLong` the whole list is written
     pub ran-whole : TellsWhole answer → WritesSwitched (lists_of files names) output start new answer
     ran-whole tells = elim r.reported [
       | inl s ↦ (
@@ -336,7 +336,7 @@ module _ (buffer : ℕ) (names : List PlayName) (output : Option (List ℕ)) (st
     | inr n ↦ absurd (let bad : status.NoMemory ≡ status.WriteFault = sym n.0 ∙ is in cc)
   ]
 
--- ---- memory was wanting while they were
+-- ---- memory ran out while they were
 
 module _ (names : List PlayName) (output : Option (List ℕ)) (start new : DeskView) (answer : SwitchStatus) (w : SwitchWanted names output start new answer)
     (files : List (List ℕ × List ℕ)) (told : start.files ≡ Some files) where

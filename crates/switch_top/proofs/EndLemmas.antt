@@ -1,4 +1,4 @@
--- Behind the plays.
+-- The end of a call, after its plays.
 use Rattle.std.proofs.Common.{◌≡◌, ℕ, ◌+◌, ◌<◌, arith, List, [], ◌∷◌, ◌++◌, length, take, Bool, true, false, Option, None, Some, refl, ap, sym, ◌∙◌, subst, inl, inr, append-nil, append_assoc}
 use Rattle.std.specs.Option.{option_map}
 use Rattle.std.specs.Prelude.{nat_lt, if◌then◌else◌, ◌||◌}
@@ -44,7 +44,7 @@ with-output : (o : Option (List (List ℕ × List ℕ))) (s : SinkView) (name by
 with-output None s name bytes taken named = refl
 with-output (Some l) s name bytes taken named = rw (named, taken) refl
 
--- what all plays wrote, with the part behind
+-- what all plays wrote, with the part of the next packet
 pub record Wrote (cells more : List Cell) (n : ℕ) (end : PlayEnd) (name : Option (List ℕ)) (old new : Option (List (List ℕ × List ℕ))) : Type 0 where
   pub part : List ℕ
   pub part_is : IsPart more n end part

@@ -34,7 +34,7 @@ twice-report : switched_report (of_file 1 (packet 1 ++ packet 2) ∷ of_file 2 (
 unfolding digits
 twice-report = refl
 
--- byte 188 of the first file is 0x46: what stands behind it is not played
+-- byte 188 of the first file is 0x46: what comes after it is not played
 lost-cells : switched (of_file 1 (packet 1 ++ 70 ∷ replicate 187 2) ∷ of_file 2 (packet 3) ∷ []) ≡ live_cells (packet 1 ∷ [])
 lost-cells = refl
 
@@ -43,7 +43,7 @@ lost-report : switched_report (of_file 1 (packet 1 ++ 70 ∷ replicate 187 2) �
 unfolding digits
 lost-report = refl
 
--- bytes are left behind the last packet
+-- bytes are left after the last packet
 left-report : switched_report (of_file 1 (packet 1 ++ 71 ∷ 1 ∷ 2 ∷ []) ∷ of_file 2 [] ∷ [])
     ≡ line (codes "input 1: 1 packets, 3 bytes left out") ++ (line (codes "input 2: 0 packets") ++ line (codes "end: input after 1 packets"))
 unfolding digits

@@ -20,11 +20,11 @@ use Rattle.switch_top.proofs.SwitchLemmas.{flat-append, length-append}
 abbrev pub all-cells : List PlayList → List Cell
 all-cells plays = flat_map (λ (p : PlayList). p.list.cells) plays
 
--- a play that ends plainly is played, and so are those behind it
+-- a play that ends plainly is played, and so are those after it
 plain-on : (play : PlayList) (rest : List PlayList) (left : ℕ) → play.list.ended ≡ Some (input_over (End left)) → played (play ∷ rest) ≡ play ∷ played rest
 plain-on play rest left e = subst (λ (o : Option OwnEnd). (play ∷ (if is_plain o then played rest else [])) ≡ play ∷ played rest) (sym e) refl
 
--- behind the last one nothing is played
+-- after the last one nothing is played
 pub last-on : (play : PlayList) (later : List PlayList) (how : InputEnd) → play.list.ended ≡ Some (input_over how) → ((left : ℕ) → how ≡ End left → later ≡ []) → played (play ∷ later) ≡ play ∷ []
 last-on play later how e none = subst (λ (o : Option OwnEnd). (play ∷ (if is_plain o then played later else [])) ≡ play ∷ []) (sym e) (by-how how none)
   where
@@ -44,14 +44,14 @@ module _ (start : DeskView) (files : List (List ℕ × List ℕ)) (told : start.
   both-true : (a b : Bool) → a ≡ true → b ≡ true → (a && b) ≡ true
   both-true a b first second = ap (λ x. x && b) first ∙ second
 
-  -- all plays behind end plainly
+  -- all plays that are over end plainly
   pub behind-plain : (behind : List Behind) → Each (IsBehind start) behind → list_all (λ (p : PlayList). is_plain p.list.ended) (lists_of files (names_of behind)) ≡ true
   behind-plain [] all = refl
   behind-plain (b ∷ bs) all =
       both-true (is_plain (play_of (file_of files b.play.name)).ended) (list_all (λ (p : PlayList). is_plain p.list.ended) (lists_of files (names_of bs)))
       (ap is_plain (plain-file b all.0)) (behind-plain bs all.1)
 
-  -- all plays behind are played
+  -- all plays that are over are played
   pub behind-on : (behind : List Behind) (rest : List PlayName) → Each (IsBehind start) behind → played (lists_of files (names_of behind ++ rest)) ≡ lists_of files (names_of behind) ++ played (lists_of files rest)
   behind-on [] rest all = refl
   behind-on (b ∷ bs) rest all =
@@ -91,7 +91,7 @@ end-append : (count : ℕ) (plays : List PlayList) (last : PlayList) → end_of_
 end-append count [] last = refl
 end-append count (play ∷ plays) last = ap (λ (l : PlayList). switch_end_line l.input (end_of_list l.list.ended) count) (last-append play plays last)
 
--- the report of plays of which so many are behind and one is the last
+-- the report of plays of which so many are over and one is the last
 pub report-of : (behind : List PlayList) (last : PlayList) (plays : List PlayList) → played plays ≡ behind ++ last ∷ []
     → switched_report plays ≡ flat_map line_of behind ++ (line_of last ++ switch_end_line last.input (end_of_list last.list.ended) (length (switched plays)))
 report-of behind last plays is =

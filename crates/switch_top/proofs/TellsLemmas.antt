@@ -1,4 +1,4 @@
--- From the whole call to what its status tells.
+-- From the whole call to what its status says.
 use Rattle.std.proofs.Math.Nat.{min-eq_left}
 use Rattle.std.proofs.lemmas.Bool.Decides.{nat_tests}
 use Rattle.std.proofs.Common.{◌≡◌, ℕ, zero, suc, ◌+◌, append_assoc, List, [], ◌∷◌, ◌++◌, length, take, Bool, true, false, Option, None, Some, refl, ap, sym, ◌∙◌, subst, arith, inl, inr}
@@ -176,7 +176,7 @@ module _ (files : List (List ℕ × List ℕ)) where
         subst (λ l. AllEndPlainly (lists_of files l)) (sym (e.names_are ∙ ap (λ l. e.behind ++ e.play ∷ l) (e.plain_is_last left refl)))
         (all-plain e.behind e.play e.plain (ap is_plain e.ends.ended))
 
-    -- the status of an end tells that end
+    -- the status of an end says that end
     told-input : (input : ℕ) (end : PlayEnd) (e : EndsIn files names output old new end) → e.play.input ≡ input → Each IsSmall names → min input (2 ^ 32 - 1) ≡ e.play.input
     told-input input end e is small =
         let few = subst (λ i. i ≤ 32) is (small-at e.behind e.play e.later (subst (Each IsSmall) e.names_are small)) in

@@ -1,4 +1,4 @@
--- From the whole call to the words of the switched list.
+-- From the whole call to the terms of the switched list.
 use Rattle.std.proofs.Common.{◌≡◌, ℕ, List, [], ◌∷◌, ◌++◌, Bool, true, false, Option, None, Some, refl, ap, sym, ◌∙◌, subst, inl, inr}
 use Rattle.std.specs.Prelude.{◌⊎◌, ◌&&◌, if◌then◌else◌, IsSome}
 use Rattle.std.specs.List.{list_all}

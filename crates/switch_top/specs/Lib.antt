@@ -1,3 +1,4 @@
+-- The definitions of a call of `tsswitch`.
 pub mod PlayNames
 pub mod Lines
 pub mod Switched

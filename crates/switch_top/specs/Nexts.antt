@@ -1,4 +1,4 @@
--- The play behind the present one. This project's own rule.
+-- The play after the present one. This project's own rule.
 use Rattle.std.specs.Prelude.{◌≡◌, ◌⊎◌, ℕ, List, [], ◌∷◌}
 use Rattle.chain_core.specs.declared.core_plan.CorePlan.{CorePlan}
 use Rattle.ts_outside.specs.Sink.{SinkView}
@@ -37,7 +37,7 @@ module _ {S A K : Type 0} (see : PlayKind S A K) where
     abbrev pub TakesName : ℕ → List ℕ → Type 0
     TakesName input name = plays_left names left ≡ record { input = input; name = name } ∷ plays_left names left_new
 
-    -- what is opened behind the present play
+    -- what is opened after the present play
     abbrev pub OpensNext : NextPlay A → Type 0
     OpensNext NoMore = (plays_left names left ≡ []) × (new ≡ old)
     OpensNext (Open input play) =
@@ -65,7 +65,7 @@ module _ {S A K : Type 0} (see : PlayKind S A K) where
       × ((plan : CorePlan) (source : S) → see.opens plan source play → WasAbandoned (see.source source) view)
   LeavesNext (Failed input) old new = new ≡ old
 
--- memory was wanting: nothing was asked for, or the next file was opened and closed again
+-- memory ran out: nothing was asked for, or the next file was opened and closed again
 abbrev pub WantsNext : List (List ℕ) → PlaysLeft → DeskView → DeskView → Type 0
 WantsNext names left old new = (new ≡ old)
     ⊎ ((play : PlayName) × (rest : List PlayName) × (plays_left names left ≡ play ∷ rest)

@@ -29,7 +29,7 @@ pub record Behind : Type 0 where
 abbrev pub opened_source : DeskView → List ℕ → SourceView
 opened_source start name = record { left = content start name; faults = 0; origin = own_bytes }
 
--- the bytes are the file's, where the files are told, and they end plainly; its source was closed when some of it was read
+-- the bytes are the file's, where the files are known, and they end plainly; its source was closed when some of it was read
 pub record IsBehind (start : DeskView) (b : Behind) : Type 0 where
   pub told : IfSome start.files (λ files. b.bytes ≡ file_of files b.play.name)
   pub plain : (play_of b.bytes).ended ≡ Some (input_over (End b.left))
@@ -65,7 +65,7 @@ LeavesPlay start play ahead more =
     ((ahead ≡ asked_of false play ∷ []) × (more ≡ []))
     ⊎ ((source : SourceView) × (ahead ≡ asked_of true play ∷ []) × (more ≡ source ∷ []) × WasAbandoned (opened_source start play.name) source)
 
--- behind the last play that was played the first of these was asked for, and no other, and left; or there are none
+-- after the last play that was played the first of these was asked for, and no other, and left; or there are none
 abbrev pub AsksNext : DeskView → List PlayName → List Asked → List SourceView → Type 0
 AsksNext start later ahead more =
     ((later ≡ []) × (ahead ≡ []) × (more ≡ []))
@@ -79,8 +79,8 @@ unfoldable pub with_inputs : Option (List ClosedInput) → List SourceView → O
 with_inputs closed [] = closed
 with_inputs closed (s ∷ ss) = with_inputs (with_input closed s) ss
 
--- what was read of the source of the last play before it was closed, and what was asked for and closed behind it; or the play
--- could not be opened, and nothing was read, asked for or closed behind it
+-- what was read of the source of the last play before it was closed, and what was asked for and closed after it; or the play
+-- could not be opened, and nothing was read, asked for or closed after it
 abbrev pub LastRead : ℕ → DeskView → List Behind → List ℕ → ℕ → PlayEnd → List PlayName → List Asked → Bool → List SourceView → Type 0
 LastRead buffer start behind name n end later ahead true sources =
     (made : SourceView) × (more : List SourceView) × (sources ≡ sources_of behind ++ made ∷ more) × AsksNext start later ahead more

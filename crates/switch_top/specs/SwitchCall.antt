@@ -12,7 +12,7 @@ pub data CallsSwitch (words : List (List ℕ)) (old new : DeskView) (answer : Sw
   -- the words are not of the form
   at_words : (word : ℕ) → (failed : Bool) → answer ≡ status.Words word → IsFirstFault words word
       → Says old new (codes "tsswitch: words" ++ 10 ∷ []) failed → CallsSwitch words old new answer
-  -- memory was wanting for the words
+  -- memory ran out for the words
   no_room : answer ≡ status.NoMemory → new ≡ old → CallsSwitch words old new answer
   -- the plays of the settings, over rings of some size
   at_plan : (given : Given) → read_of words ≡ Some given → (buffer : ℕ) → IsBuffer given.buffer buffer

@@ -1,4 +1,4 @@
--- How a call ends behind its plays: what is written, reported and answered. This project's own rule.
+-- How a call ends after its plays: what is written, reported and returned. This project's own rule.
 use Rattle.std.specs.Prelude.{◌≡◌, ◌⊎◌, ℕ, ◌+◌, ◌-◌, ◌^◌, min, List, [], ◌∷◌, ◌++◌, length, take, drop, codes, Bool, true, false, ◌||◌, if◌then◌else◌, Option, None, Some, IfSome}
 use Rattle.ts_packet.specs.declared.cell.Cell.{Cell}
 use Rattle.ts_outside.specs.Source.{SourceView}
@@ -22,7 +22,7 @@ use Rattle.switch_top.specs.PlayNames.{PlayName}
 use Rattle.switch_top.specs.Lines.{play_line, switch_end_line}
 use Rattle.switch_top.specs.PlaysBehind.{Behind, IsBehind, names_of, cells_of, lines_of, all_asked, asked_of, with_inputs, LastRead, AskedFirst}
 
--- the status of the last play's end; the input's number is told in 32 bits
+-- the status of the last play's end; the number of the input has 32 bits
 abbrev pub status_of : ℕ → PlayEnd → SwitchStatus
 status_of input (Input (how.End left)) = status.Done
 status_of input (Input (how.Sync packet)) = status.Sync (min input (2 ^ 32 - 1)) packet
@@ -35,7 +35,7 @@ abbrev pub when_late : SwitchStatus → SwitchStatus
 when_late status.Done = status.WriteFault
 when_late other = other
 
--- the text is reported and the status tells the end; or memory was wanted for the text, and nothing is reported
+-- the text is reported and the status gives the end; or memory ran out for the text, and nothing is reported
 abbrev pub ReportsPlays : List ℕ → ℕ → PlayEnd → Bool → DeskView → DeskView → SwitchStatus → Type 0
 ReportsPlays text input end late old new answer =
     ((failed : Bool) × Says old new text failed
@@ -48,7 +48,7 @@ pub record CountsOutput (old new : ℕ) (end : PlayEnd) (late : Bool) : Type 0 w
   pub late_cause : late ≡ true → HasCause old new
   pub still : late ≡ false → (end ≡ WriteFault → ⊥) → new ≡ old
 
--- after a failed write alone, a part of the packet behind was taken too
+-- only after a failed write a part of the next packet was taken too
 abbrev pub IsPart : List Cell → ℕ → PlayEnd → List ℕ → Type 0
 IsPart cells n (Input how) part = part ≡ []
 IsPart cells n WriteFault part = IsPartOfFirst (drop n cells) part
@@ -86,7 +86,7 @@ pub record SwitchRan (buffer : ℕ) (names : List PlayName) (output : Option (Li
   pub files : new.files ≡ start.files
   pub read_fault : end ≡ Input how.ReadFault → HasCause start.read_faults new.read_faults
 
--- memory was wanting while the plays were played: what was written begins what they write, and nothing is reported
+-- memory ran out while the plays were played: what was written begins what they write, and nothing is reported
 pub record SwitchWanted (names : List PlayName) (output : Option (List ℕ)) (start new : DeskView) (answer : SwitchStatus) : Type 0 where
   pub answer_is : answer ≡ status.NoMemory
   pub behind : List Behind
@@ -123,7 +123,7 @@ pub data SwitchesPlan (buffer : ℕ) (names : List PlayName) (output : Option (L
   -- the output was not opened
   no_output : (name : List ℕ) → (failed : Bool) → output ≡ Some name → answer ≡ status.WriteFault
       → Says (asked_in_vain old purpose.Output name) new (codes "tsswitch: cannot open output" ++ 10 ∷ []) failed → SwitchesPlan buffer names output old new answer
-  -- memory was wanting before anything was asked for
+  -- memory ran out before anything was asked for
   out_of_memory : answer ≡ status.NoMemory → new ≡ old → SwitchesPlan buffer names output old new answer
   wanted : SwitchWanted names output (opened_as old output) new answer → SwitchesPlan buffer names output old new answer
   ran : SwitchRan buffer names output (opened_as old output) new answer → SwitchesPlan buffer names output old new answer

@@ -1,4 +1,4 @@
--- What a call of `tsswitch` does, in the words of the switched list. This project's own rule.
+-- What a call of `tsswitch` does, in terms of the switched list. This project's own rule.
 use Rattle.std.specs.Prelude.{◌≡◌, ◌⊎◌, ℕ, ◌+◌, ◌<◌, ◌≤◌, List, [], ◌∷◌, ◌++◌, length, take, codes, Bool, true, false, Option, Some}
 use Rattle.std.specs.List.{flat_map, list_all}
 use Rattle.ts_packet.specs.declared.cell.Cell.{Cell}
@@ -40,25 +40,25 @@ status_of_plays (play ∷ plays) = status_of (last_of play plays).input (end_of_
 abbrev pub AllEndPlainly : List PlayList → Type 0
 AllEndPlainly plays = list_all (λ (play : PlayList). is_plain play.list.ended) plays ≡ true
 
--- the call wrote, reported and answered what the switched list gives
+-- the call wrote, reported and returned what the switched list gives
 pub record IsPureSwitch (plays : List PlayList) (output : Option (List ℕ)) (old new : DeskView) (answer : SwitchStatus) : Type 0 where
   pub written_is : new.outputs ≡ outputs_with output old.outputs (written (switched plays))
   pub reported_is : new.reported ≡ grown old.reported (switched_report plays)
   pub answer_is : answer ≡ status_of_plays (played plays)
 
--- the call wrote the switched list and answered its end; its report is all that was reported, or a report failed behind a
+-- the call wrote the switched list and returned its end; its report is all that was reported, or a report failed after a
 -- first part of it
 pub record WritesSwitched (plays : List PlayList) (output : Option (List ℕ)) (old new : DeskView) (answer : SwitchStatus) : Type 0 where
   pub written_is : new.outputs ≡ outputs_with output old.outputs (written (switched plays))
   pub reported_is : ReportsText old new (switched_report plays)
   pub answer_is : answer ≡ status_of_plays (played plays)
 
--- nothing was written, for no output was opened or it is not told; or what was written begins the switched list
+-- nothing was written, since no output was opened, or it is not known; or what was written begins the switched list
 abbrev pub WritesFirst : List PlayList → Option (List ℕ) → DeskView → DeskView → Type 0
 WritesFirst plays output old new = (new.outputs ≡ old.outputs)
     ⊎ ((bytes : List ℕ) × (rest : List ℕ) × (new.outputs ≡ outputs_with output old.outputs bytes) × (written (switched plays) ≡ bytes ++ rest))
 
--- a status behind which the whole list is written
+-- a status after which the whole list is written
 abbrev pub TellsWhole : SwitchStatus → Type 0
 TellsWhole status.Done = Unit {0}
 TellsWhole (status.Sync input packet) = Unit {0}
@@ -70,7 +70,7 @@ pub record NothingLate (old new : DeskView) : Type 0 where
   pub writes : new.write_faults ≡ old.write_faults
   pub reports : new.report_faults ≡ old.report_faults
 
--- a play was asked for in vain, or a source was closed with a fault, behind which one more was closed at most
+-- a play was asked for in vain, or a source was closed with a fault, after which one more was closed at most
 abbrev pub ReadFailed : DeskView → DeskView → Type 0
 ReadFailed start new =
     ((before : List Asked) × (play : PlayName) × (ahead : List Asked) × (length ahead ≤ 1)
@@ -78,13 +78,13 @@ ReadFailed start new =
     ⊎ ((before : List SourceView) × (made : SourceView) × (more : List SourceView) × (length more ≤ 1) × (0 < made.faults)
     × (new.closed_in ≡ with_inputs start.closed_in (before ++ made ∷ more)))
 
--- ---- what a status tells
+-- ---- what a status says
 
 -- the packets of plays, joined
 abbrev pub packets_of : List PlayList → List Cell
 packets_of plays = flat_map (λ (play : PlayList). play.list.cells) plays
 
--- the report where these plays gave their whole lists, and the play behind them, of this input, gave so many packets and ended so
+-- the report where these plays gave their whole lists, and the play after them, of this input, gave so many packets and ended so
 abbrev pub report_to : List PlayList → ℕ → ℕ → PlayEnd → List ℕ
 report_to behind input n end =
     flat_map line_of behind ++ (play_line input n end ++ switch_end_line input end (length (packets_of behind) + n))
@@ -98,8 +98,8 @@ GivesRead output file old new n =
     × (file ≡ read ++ left) × (n ≡ length (list_at_fault no_stuffing read).cells) × (made.left ≡ Some left) × (0 < made.faults)
     × (length more ≤ 1) × (new.closed_in ≡ with_inputs (opened_as old output).closed_in (before ++ made ∷ more)))
 
--- these plays end plainly, and the one behind them is the last that was played: it gave so many packets, and ended so. These
--- packets are written, behind a failed write also a part of the next one; and that is reported, or a report failed behind a
+-- these plays end plainly, and the one after them is the last that was played: it gave so many packets, and ended so. These
+-- packets are written, after a failed write also a part of the next one; and that is reported, or a report failed after a
 -- first part of it
 pub record EndsIn (files : List (List ℕ × List ℕ)) (names : List PlayName) (output : Option (List ℕ)) (old new : DeskView)
     (end : PlayEnd) : Type 0 where
@@ -123,7 +123,7 @@ abbrev pub MissesOutput : Option (List ℕ) → DeskView → DeskView → Type 0
 MissesOutput output old new = (name : List ℕ) × (failed : Bool) × (output ≡ Some name)
     × Says (asked_in_vain old purpose.Output name) new (codes "tsswitch: cannot open output" ++ 10 ∷ []) failed
 
--- how plays end behind which a write fault is told: by a failed write, or plainly, and then a report or the closing failed
+-- how plays end after which a write fault is returned: by a failed write, or plainly, and then a report or the closing failed
 abbrev pub MayFailLate : PlayEnd → Type 0
 MayFailLate (Input (how.End left)) = Unit {0}
 MayFailLate WriteFault = Unit {0}
@@ -142,7 +142,7 @@ StatusTells files names output old new (status.Sync input packet) =
     (ends : EndsIn files names output old new (Input (how.Sync packet))) × (input ≡ ends.play.input)
 StatusTells files names output old new status.TooLong = EndsIn files names output old new (Input how.TooLong)
 
--- the first faulty word is told, and that is all: nothing was opened
+-- the status gives the first faulty word and the line is reported; nothing was opened
 abbrev pub RefusesWords : ℕ → DeskView → DeskView → SwitchStatus → Type 0
 RefusesWords word old new answer =
     (answer ≡ status.Words word) × ((failed : Bool) × Says old new (codes "tsswitch: words" ++ 10 ∷ []) failed)

@@ -1,4 +1,4 @@
-//! The top call: the words are read, and the plan that they make is played.
+//! The top call: the words are read, and the plan that they give is played.
 ghost use Rattle.std.specs.Prelude.{map};
 ghost use Rattle.std.specs.String.{string_bytes};
 ghost use Rattle.switch_top.specs.SwitchCall.{CallsSwitch};
@@ -15,21 +15,21 @@ use ts_outside::{Desk, Gate, say};
 
 /// Plays inputs one after another, as the words of a command line ask for, given without the program's name.
 ///
-/// The words are those of `switch_args::read_words`. The output is opened first, then the first input; behind that each
+/// The words are those of `switch_args::read_words`. The output is opened first, then the first input; after that each
 /// further play is opened when the play before it begins, and read into a ring of its own while that one is written. The
 /// whole row of inputs is played as often as the words say, up to the first play that does not end plainly. Then the
 /// output is closed, and one line for each play that was played and the end line are reported. Of the statuses
 ///
-/// - `Words` comes exactly where the words are not of the form: `tsswitch: words` is reported, and nothing is opened;
-/// - `NoMemory` where memory was wanting: for the words, a name, a ring, a line or the report, and nothing is reported;
+/// - `Words` is returned exactly where the words are not of the form: `tsswitch: words` is reported, and nothing is opened;
+/// - `NoMemory` where memory ran out: for the words, a name, a ring, a line or the report, and nothing is reported;
 /// - `WriteFault` where the output was not opened (`tsswitch: cannot open output` is reported), where a write ended the
-///   plays, or where the closing of the output or a report failed behind plays that would be `Done`;
+///   plays, or where the closing of the output or a report failed after plays that would be `Done`;
 /// - `ReadFault` where the last play that was played could not be opened, or a read of it failed;
 /// - `Sync` and `TooLong` where the last play that was played ended so;
 /// - `Done` in all other cases.
 ///
-/// What becomes of a play behind the last one that was played is never told. The call may wait, and owes no return; what
-/// no thread can be started for is run by the caller.
+/// What becomes of a play after the last one that was played is never reported. The call may wait; no clause says that it
+/// returns. Work for which no thread can be started is done by the caller's thread.
 pub fn switch_call<R: Threads + Wait + Sync, D: Desk, G: Gate>(
     rt: &R,
     alloc: Global,

@@ -1,4 +1,4 @@
-//! Behind the plays: the output is closed, and the plays are reported.
+//! The end of a call: after the plays the output is closed, and the plays are reported.
 ghost use Rattle.std.specs.Prelude.{◌≡◌, ◌⊎◌, ◌||◌, ◌++◌, ℕ, List, Option, is_err, IfOk};
 ghost use Rattle.std.specs.String.{string_bytes};
 ghost use Rattle.chain_core.specs.declared.core_plan.CorePlan.{CorePlan};
@@ -45,7 +45,7 @@ fn whole_text(
     Ok(text)
 }
 
-/// Reports the plays, and tells the status of the call.
+/// Reports the plays, and returns the status of the call.
 fn report_plays<D: Desk>(
     alloc: Global,
     desk: &mut D,
@@ -67,7 +67,7 @@ fn report_plays<D: Desk>(
     }
 }
 
-/// Behind the plays the output is closed, and they are reported.
+/// Closes the output after the plays, and reports them.
 fn finish_over<D: Desk, A: OpenPlay<D::In>>(
     alloc: Global,
     desk: &mut D,
@@ -89,7 +89,7 @@ fn finish_over<D: Desk, A: OpenPlay<D::In>>(
     report_plays(alloc, desk, text, count, input, end, failed)
 }
 
-/// Where memory was wanting the output is closed.
+/// Closes the output where memory ran out.
 fn finish_wanting<D: Desk, A: OpenPlay<D::In>>(
     desk: &mut D,
     output: OutputPart<D::Out>,
@@ -103,7 +103,7 @@ fn finish_wanting<D: Desk, A: OpenPlay<D::In>>(
     SwitchStatus::NoMemory
 }
 
-/// What the plays came to is closed and reported.
+/// Closes the output and reports the plays, or closes it alone where memory ran out.
 pub(crate) fn finish_plays<D: Desk, A: OpenPlay<D::In>>(
     alloc: Global,
     desk: &mut D,

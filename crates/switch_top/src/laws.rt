@@ -1,4 +1,4 @@
-//! What follows from the contract of `switch_call`, in the words of the switched list, as laws: facts and no code.
+//! What follows from the contract of `switch_call`, in terms of the switched list. Laws; they run nothing.
 ghost use Rattle.std.specs.Prelude.{◌≡◌, ◌⊎◌, ℕ, List, Some};
 ghost use Rattle.ts_outside.specs.Count.{HasCause};
 ghost use Rattle.ts_outside.specs.Desk.{DeskView};
@@ -13,9 +13,9 @@ ghost use Rattle.switch_top.specs.SwitchTheorem.{lists_given, IsPureSwitch, Writ
 
 use switch_args::{first_fault_law, words_read_back};
 
-/// Whatever the files, the settings and the buffer, a call that meets no fault outside and no want of memory writes the
-/// packets of the plays up to the first that does not end plainly, reports one line for each of them and the end line, and
-/// answers how the last of them ended.
+/// Whatever the files, the settings and the buffer, a call that meets no fault outside and does not run out of memory
+/// writes the packets of the plays up to the first that does not end plainly, reports one line for each of them and the
+/// end line, and returns how the last of them ended.
 pub fn switched_whole()
     ensures { (words : List (List ℕ)) (given : Given) (files : List (List ℕ × List ℕ)) (old new : DeskView) (answer : SwitchStatus)
         → read_of words ≡ Some given → old.files ≡ Some files → CallsSwitch words old new answer → NothingFails old new
@@ -33,8 +33,8 @@ pub fn switched_first()
     first_fault_law();
 }
 
-/// Behind `Done`, `Sync` and `TooLong` the whole list is written, also where a play behind the last one failed; these statuses
-/// are that of the list. Its report is what was reported, or begins it where a report failed. Behind `Done` no write and no
+/// After `Done`, `Sync` and `TooLong` the whole list is written, also where a play after the last one failed; these statuses
+/// are that of the list. Its report is what was reported, or begins it where a report failed. After `Done` no write and no
 /// report failed.
 pub fn switched_status()
     ensures whole { (words : List (List ℕ)) (given : Given) (files : List (List ℕ × List ℕ)) (old new : DeskView) (answer : SwitchStatus)
@@ -45,9 +45,9 @@ pub fn switched_status()
     first_fault_law();
 }
 
-/// Each fault that is told has its cause: `Words` comes exactly where the words are not of the form, and nothing is opened
-/// then, `ReadFault` where a read
-/// failed and the failed opening or the closed source shows it, `WriteFault` where a write, a closing or a report failed.
+/// Each fault that is returned has its cause: `Words` is returned exactly where the words are not of the form, and nothing is
+/// opened then, `ReadFault` where a read failed and the failed opening or the closed source shows it, `WriteFault` where a
+/// write, a closing or a report failed.
 pub fn switched_faults()
     ensures words { (words : List (List ℕ)) (old new : DeskView) (word : ℕ) → CallsSwitch words old new (Words word) → IsFirstFault words word }
     ensures refused { (words : List (List ℕ)) (old new : DeskView) (answer : SwitchStatus) (word : ℕ) → IsFirstFault words word
@@ -61,7 +61,7 @@ pub fn switched_faults()
     first_fault_law();
 }
 
-/// Lawful words whose plays all end plainly, and no rise of a count, give `Done`, or memory was wanting.
+/// Valid words whose plays all end plainly, and no rise of a count, give `Done`, or memory ran out.
 pub fn switched_complete()
     ensures { (words : List (List ℕ)) (given : Given) (files : List (List ℕ × List ℕ)) (old new : DeskView) (answer : SwitchStatus)
         → read_of words ≡ Some given → old.files ≡ Some files → CallsSwitch words old new answer → NothingFails old new
@@ -70,12 +70,12 @@ pub fn switched_complete()
     first_fault_law();
 }
 
-/// Each status tells how the last play that was played ended, and is told of no other end. `Done` comes only where every play
-/// ends plainly, and `Sync` and `TooLong` only where the last one ended so.
+/// Each status says how the last play that was played ended, and is returned for no other end. `Done` is returned only where
+/// every play ends plainly, and `Sync` and `TooLong` only where the last one ended so.
 ///
-/// Whatever failed, exactly the packets of the plays before it and those that it gave itself are written, behind a failed write
+/// Whatever failed, exactly the packets of the plays before it and those that it gave itself are written, after a failed write
 /// also a part of the next packet, and exactly their lines and the end line are reported, or begin the report where that
-/// failed. Behind a failed read the packets that it gave are those of what was read of it.
+/// failed. After a failed read the packets that it gave are those of what was read of it.
 pub fn switched_ends()
     ensures { (words : List (List ℕ)) (given : Given) (files : List (List ℕ × List ℕ)) (old new : DeskView) (answer : SwitchStatus)
         → read_of words ≡ Some given → old.files ≡ Some files → CallsSwitch words old new answer

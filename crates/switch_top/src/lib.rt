@@ -1,5 +1,5 @@
 //! The top call of `tsswitch`: words and a desk come in; the inputs are played one after another, the next one read ahead,
-//! plays are reported, a status comes back. The program uses the clauses of `switch_call` and nothing else.
+//! plays are reported, a status is returned. The program uses the clauses of `switch_call` and nothing else.
 #![tactic(auto)]
 
 mod call;

@@ -4,8 +4,8 @@ ghost use Rattle.std.specs.Prelude.{◌≡◌, ◌≤◌, IfSome, unwrap_or};
 use switch_args::{SwitchOutput, SwitchSettings};
 use ts_outside::NameText;
 
-/// How many packets a stage takes at a time. A batch that is handed on wakes the other stage; greater ones leave the
-/// processors' caches on their way.
+/// How many packets a stage takes at a time. A batch that is handed on wakes the other stage; larger ones do not
+/// stay in the processors' caches.
 pub(crate) const BATCH: usize = 1024;
 
 /// How many packets a ring has where the words do not say it: four batches, so that both stages have some to work on at
@@ -25,7 +25,7 @@ pub struct SwitchPlan {
     pub output: SwitchOutput,
 }
 
-/// A number that is given, or else another one.
+/// A number if it is given, else another one.
 fn given_or(given: Option<u64>, other: u64, most: u64) -> u64
     requires given { IfSome given (λ n. (1 ≤ n) × (n ≤ most)) }
     requires other { (1 ≤ other) × (other ≤ most) }
@@ -45,7 +45,7 @@ impl SwitchPlan {
     ghost use Rattle.switch_args.specs.LawfulSettings.{IsLawful};
     ghost use Rattle.switch_top.specs.SwitchPlans.{IsPlanOf};
 
-    /// The plan of settings: what they do not give is once, and the program's buffer.
+    /// The plan of settings: where they do not say it, the row is played once, over rings of the program's own size.
     pub(crate) fn of(settings: SwitchSettings) -> SwitchPlan
         requires { IsLawful (given_of_settings settings) }
         ensures plan { IsPlanOf (given_of_settings settings) result }

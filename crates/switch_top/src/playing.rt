@@ -28,7 +28,7 @@ use std::thread::Threads;
 use switch_args::SwitchOutput;
 use ts_outside::{Desk, Gate, OpenFault, say};
 
-/// Opens the first input and plays it, and those behind it.
+/// Opens the first input and plays it, and those after it.
 fn play_from_first<R: Threads + Wait + Sync, D: Desk, G: Gate>(
     rt: &R,
     alloc: Global,

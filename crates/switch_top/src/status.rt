@@ -11,7 +11,7 @@ use play_run::PlayEnd;
 pub enum SwitchStatus {
     /// Every play ended plainly, and everything was written and reported.
     Done,
-    /// Memory was wanting.
+    /// Out of memory.
     NoMemory,
     /// The words are not of the form, and this is the first faulty one, or their number; nothing was opened.
     Words { word: usize },
@@ -59,7 +59,7 @@ pub(crate) fn status_of(input: usize, end: PlayEnd) -> SwitchStatus
     }
 }
 
-/// The status where a report or the closing of the output failed, or did not.
+/// The status, by whether a report or the closing of the output failed.
 pub(crate) fn status_if_late(status: SwitchStatus, late: bool) -> SwitchStatus
     ensures { result ≡ (if late then when_late status else status) }
 {

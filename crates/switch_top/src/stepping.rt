@@ -25,7 +25,7 @@ use std::sync::Wait;
 use std::thread::Threads;
 use ts_outside::{Desk, Gate, NameText, Sink, Source};
 
-/// Some plays are behind, and this one is open.
+/// Some plays are over, and this one is open.
 pub(crate) struct Switching<A, K> {
     pub(crate) left: PlaysLeft,
     pub(crate) input: usize,
@@ -35,7 +35,7 @@ pub(crate) struct Switching<A, K> {
     pub(crate) text: String,
 }
 
-/// The same when it was played: its source is still open.
+/// The state after the play at hand was played: its source is still open.
 pub(crate) struct Played<S, A, K> {
     pub(crate) left: PlaysLeft,
     pub(crate) input: usize,
@@ -45,7 +45,7 @@ pub(crate) struct Played<S, A, K> {
     pub(crate) text: String,
 }
 
-/// The same when its source was closed.
+/// The state after its source was closed.
 pub(crate) struct Present<A, K> {
     pub(crate) left: PlaysLeft,
     pub(crate) input: usize,
@@ -65,21 +65,21 @@ pub(crate) struct Switched<K> {
     pub(crate) end: PlayEnd,
 }
 
-/// What one play came to.
+/// The result of one step.
 pub(crate) enum Flow<A, K> {
     Goes(Switching<A, K>),
     Over(Switched<K>),
-    /// Memory was wanting.
+    /// Out of memory.
     Wants(OutputPart<K>),
 }
 
-/// The play that could not be opened has given nothing.
+/// The result where the play could not be opened: it has given nothing.
 const NOTHING: PlayCut = PlayCut {
     count: 0,
     end: PlayEnd::Input(InputEnd::ReadFault),
 };
 
-/// Behind a play that ended plainly comes the next one, if there is one.
+/// Goes on after a play that ended plainly: with the next one, if there is one.
 fn begin_next<S: Source, A: OpenPlay<S>, K: Sink>(
     alloc: Global,
     present: Present<A, K>,
@@ -131,7 +131,7 @@ fn begin_next<S: Source, A: OpenPlay<S>, K: Sink>(
     }
 }
 
-/// Behind a play that did not end plainly nothing more is played.
+/// Ends the plays after one that did not end plainly.
 fn end_here<R: Wait, D: Desk, A: OpenPlay<D::In>>(
     rt: &R,
     desk: &mut D,
@@ -162,7 +162,7 @@ fn end_here<R: Wait, D: Desk, A: OpenPlay<D::In>>(
     })
 }
 
-/// The play's packets are counted and its line is said: the next one begins, or the plays are over.
+/// Counts the packets of the play and adds its line; then the next one begins, or the plays are over.
 fn go_on<R: Wait, D: Desk, A: OpenPlay<D::In>>(
     rt: &R,
     alloc: Global,
@@ -184,7 +184,7 @@ fn go_on<R: Wait, D: Desk, A: OpenPlay<D::In>>(
     }
 }
 
-/// Counts the packets of the play at hand and says its line.
+/// Counts the packets of the play at hand and adds its line to the report.
 fn say_play<R: Wait, D: Desk, A: OpenPlay<D::In>>(
     rt: &R,
     alloc: Global,
@@ -368,14 +368,14 @@ pub(crate) fn step<R: Threads + Wait + Sync, D: Desk, G: Gate>(
     }
 }
 
-/// What all plays came to.
+/// The result of all plays.
 pub(crate) enum AllPlayed<K> {
     Over(Switched<K>),
-    /// Memory was wanting.
+    /// Out of memory.
     Wants(OutputPart<K>),
 }
 
-/// Plays the play at hand and those behind it.
+/// Plays the play at hand and those after it.
 pub(crate) fn play_all<R: Threads + Wait + Sync, D: Desk, G: Gate>(
     rt: &R,
     alloc: Global,

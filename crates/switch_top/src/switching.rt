@@ -1,4 +1,4 @@
-//! The play behind the present one.
+//! The play after the present one.
 ghost use Rattle.std.specs.Prelude.{◌≡◌, ◌+◌, ◌<◌, ◌≤◌, ◌^◌, ℕ, suc, length, List, IfOk, OnErr, [], IsOk};
 ghost use Rattle.chain_core.specs.declared.core_plan.CorePlan.{CorePlan};
 ghost use Rattle.chain_core.specs.CoreNumbers.{IsLawfulPlan};
@@ -20,7 +20,7 @@ use std::sync::Wait;
 use std::thread::Threads;
 use ts_outside::{Desk, Gate, NameText, OpenFault, Sink, Source};
 
-/// The play behind the present one.
+/// The play after the present one.
 pub(crate) enum NextPlay<A> {
     /// There is none.
     NoMore,
@@ -30,7 +30,7 @@ pub(crate) enum NextPlay<A> {
     Failed { input: usize },
 }
 
-/// The ring of a source that was opened; where there is no memory for it, the source is closed.
+/// The play of a source that was opened; where there is no memory for it, the source is closed.
 fn seat_source<D: Desk, A: OpenPlay<D::In>>(
     alloc: Global,
     desk: &mut D,
@@ -107,7 +107,7 @@ pub(crate) fn play_ahead<R: Threads + Wait + Sync, S: Source + Send, K: Sink + S
     }
 }
 
-/// The next play is not played: it is ended and closed, if it was opened.
+/// Leaves the next play unplayed: it is ended and closed, if it was opened.
 pub(crate) fn abandon_next<R: Wait, D: Desk, A: OpenPlay<D::In>>(
     rt: &R,
     desk: &mut D,

@@ -50,7 +50,7 @@ pub(crate) enum Carried {
 }
 
 impl Carried {
-    /// The PID on which it comes.
+    /// The PID of the packets that carry it.
     pub(crate) fn pid(self) -> u16 {
         match self {
             Carried::Pat | Carried::NextPat => 0,

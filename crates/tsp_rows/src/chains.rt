@@ -1,4 +1,5 @@
-//! Chains with sizes of many kinds: each run has to come to what the run with the sizes by default comes to in one thread.
+//! Chains with many sizes of the buffer and the batches: each run has to give the result of the run in one thread with the
+//! default sizes.
 use crate::chain_table::{CHAINS, Chain};
 use crate::desk_plan::ORDINARY;
 use crate::inputs::Input;
@@ -11,7 +12,7 @@ use std::sync::Wait;
 use std::thread::Threads;
 use ts_outside::OpenGate;
 
-/// Sizes of the buffer; the empty text leaves the one by default.
+/// Sizes of the buffer; the empty text stands for the default.
 static BUFFERS: [&str; 5] = [
     "--buffer-packets 1",
     "--buffer-packets 2",
@@ -20,10 +21,10 @@ static BUFFERS: [&str; 5] = [
     "",
 ];
 
-/// How many cells a stage takes in one batch, at most.
+/// The most cells that a stage takes in one batch.
 static BATCHES: [&str; 3] = ["--max-flushed-packets 1", "--max-flushed-packets 3", ""];
 
-/// Runs each chain, and prints what it came to.
+/// Runs each chain, and prints its result.
 pub(crate) fn print_chains<R: Threads + Wait + Sync + Print + AllocGlobal>(rt: &R) -> Result<()> {
     for chain in &CHAINS {
         print_chain(rt, chain)?;
@@ -39,7 +40,7 @@ fn print_chain<R: Threads + Wait + Sync + Print + AllocGlobal>(
     print_runs(rt, chain, &first)
 }
 
-/// Prints how many of the other runs agree, and what the first one came to.
+/// Prints how many of the other runs agree, and the result of the first one.
 fn print_runs<R: Threads + Wait + Sync + Print + AllocGlobal>(
     rt: &R,
     chain: &Chain,
@@ -53,13 +54,13 @@ fn print_runs<R: Threads + Wait + Sync + Print + AllocGlobal>(
     print_outcome(rt, first)
 }
 
-/// The run with the sizes by default in one thread.
+/// The run in one thread with the default sizes.
 fn first_run(alloc: Global, chain: &Chain) -> Result<Trial, AllocError> {
     let words = sized_words(alloc, chain, "", "")?;
     by_serial_call(alloc, case_of(words.as_slice()), &OpenGate)
 }
 
-/// How many runs, one for each buffer and each batch, come to what the first one came to.
+/// How many runs, one for each buffer and each batch, have the result of the first one.
 fn tally_of<R: Threads + Wait + Sync + AllocGlobal>(
     rt: &R,
     chain: &Chain,
@@ -75,7 +76,7 @@ fn tally_of<R: Threads + Wait + Sync + AllocGlobal>(
     Ok(tally)
 }
 
-/// Whether the run of these words comes to what the first one came to.
+/// Whether the run of these words has the result of the first one.
 fn is_like<R: Threads + Wait + Sync + AllocGlobal>(
     rt: &R,
     words: &[String],
@@ -85,7 +86,7 @@ fn is_like<R: Threads + Wait + Sync + AllocGlobal>(
     first.is_like(rt.alloc(), &other)
 }
 
-/// The mixed stream with these words.
+/// A trial of the mixed stream with these words.
 fn case_of(words: &[String]) -> Case<'_> {
     Case {
         words,

@@ -48,7 +48,7 @@ static CLOCK_ROWS: [Row; 6] = [
     },
 ];
 
-/// Words of `pcrverify` that are no command line, and the greatest numbers that are some.
+/// Words of `pcrverify` that are no command line, and the greatest numbers that are accepted.
 pub(crate) fn of_words() -> &'static [Row] {
     &CLOCK_WORD_ROWS
 }

@@ -1,4 +1,4 @@
-//! Rows on cycles: packets of a PID that an editor makes anew, whose tables change in the middle of a cycle.
+//! Rows on cycles: the packets of a PID that an editor rewrites, whose tables change in the middle of a cycle.
 use crate::desk_plan::ORDINARY;
 use crate::inputs::Input;
 use crate::long_pat::{FIRST_OF_0, FIRST_OF_1, SECOND_OF_0, SECOND_OF_1};

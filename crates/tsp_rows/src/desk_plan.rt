@@ -1,11 +1,11 @@
-//! What a row says of the calls of its desk.
+//! Which calls of the desk of a row fail, and how much each moves.
 ghost use Rattle.std.specs.Prelude.{◌<◌, IfOk};
 
 use std::alloc::{AllocError, Global};
 use ts_outside::{FailPlan, NumberList};
 
-/// Which calls of a desk fail, each kind counted from 1 on, and how much one call moves: a `FailPlan` that stands in a
-/// table of rows.
+/// Which calls of a desk fail, each kind counted from 1 on, and how much one call moves: a `FailPlan` as a table
+/// of rows has it.
 #[derive(Clone, Copy)]
 pub(crate) struct DeskPlan {
     /// Files of tables and openings, counted together.
@@ -35,7 +35,7 @@ pub(crate) const ORDINARY: DeskPlan = DeskPlan {
 };
 
 impl DeskPlan {
-    /// The plan as a desk takes it. A desk knows no pieces of 0 bytes: they have one byte.
+    /// The plan as a desk takes it. A desk has no pieces of 0 bytes: they have one byte.
     pub(crate) fn fail_plan(self, alloc: Global) -> Result<FailPlan, AllocError>
         ensures { IfOk result (λ p. (0 < p.read_piece) × (0 < p.write_piece)) }
     {

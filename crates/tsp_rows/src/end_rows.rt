@@ -1,4 +1,4 @@
-//! Rows on what comes in, what goes out, and the input's own ends.
+//! Rows on inputs, outputs and the ends of the input.
 use crate::desk_plan::ORDINARY;
 use crate::inputs::Input;
 use crate::row::Row;
@@ -6,7 +6,7 @@ use crate::row::Row;
 /// Three packets on two PIDs.
 const THREE: [u16; 3] = [256, 257, 256];
 
-/// No plugin, or one: the frame of a run.
+/// Runs with no plugin, or one.
 pub(crate) fn rows() -> &'static [Row] {
     &END_ROWS
 }

@@ -1,4 +1,4 @@
-//! Rows on what fails behind the run: the closing of the output, and the report.
+//! Rows on faults after the run: the closing of the output, and the report.
 use crate::desk_plan::{DeskPlan, ORDINARY};
 use crate::inputs::Input;
 use crate::row::Row;
@@ -6,7 +6,7 @@ use crate::row::Row;
 /// Three packets on two PIDs.
 const THREE: [u16; 3] = [256, 257, 256];
 
-/// A run that is done fails by them, and one that ended otherwise keeps its own end.
+/// They make a run fail that is done; one that ended otherwise keeps its own end.
 pub(crate) fn rows() -> &'static [Row] {
     &END_ROWS
 }

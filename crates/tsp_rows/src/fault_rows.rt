@@ -97,7 +97,7 @@ static RUN_ROWS: [Row; 6] = [
     },
 ];
 
-/// What fails behind the run.
+/// Faults after the run.
 pub(crate) fn behind_runs() -> &'static [Row] {
     &LATE_ROWS
 }

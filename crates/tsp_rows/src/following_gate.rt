@@ -1,15 +1,15 @@
-//! A gate that looks at each window of two stages over one buffer.
+//! A gate that checks each window of two stages over one buffer.
 use std::sync::atomic::{AtomicU64, Ordering};
 use ts_outside::Gate;
 
-/// What a stage told.
+/// The windows that a stage entered and left.
 #[derive(Drop)]
 pub(crate) struct Walker {
     /// Where the last window that it entered ends.
     entered: AtomicU64,
     /// Where the last window that it left ends.
     left: AtomicU64,
-    /// The windows that stand where they should not.
+    /// How many windows break a rule.
     wrong: AtomicU64,
 }
 
@@ -42,15 +42,15 @@ impl Walker {
         self.left.load(Ordering::SeqCst)
     }
 
-    /// How many windows do not begin where the one before ended, go over the buffer's end, or go too far ahead.
+    /// How many windows do not begin where the one before ended, cross the end of the buffer, or go too far ahead.
     pub(crate) fn wrong(&self) -> u64 {
         self.wrong.load(Ordering::SeqCst)
     }
 }
 
 /// A gate for two stages over a buffer of so many cells. A window begins where the one before it ended, from 0 on, and
-/// does not go over the buffer's end; one of stage 2 ends no later than the last one that stage 1 has left, and one of
-/// stage 1 at most a buffer behind the last one that stage 2 has left.
+/// does not cross the end of the buffer; one of stage 2 ends no later than the last one that stage 1 has left, and one of
+/// stage 1 at most a buffer after the last one that stage 2 has left.
 #[derive(Drop)]
 pub(crate) struct FollowingGate {
     buffer: u64,

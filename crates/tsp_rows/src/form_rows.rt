@@ -1,9 +1,9 @@
-//! Rows on files that keep bytes before or behind each packet.
+//! Rows on files that keep bytes before or after each packet.
 use crate::desk_plan::{DeskPlan, ORDINARY};
 use crate::inputs::{Input, Units};
 use crate::row::Row;
 
-/// Packets before sixteen bytes each, of which the last are wanting.
+/// Packets before sixteen bytes each, of which the last are missing.
 const TRAILS: Units = Units {
     pids: &[256, 257],
     before: 0,
@@ -11,7 +11,7 @@ const TRAILS: Units = Units {
     len: 392,
 };
 
-/// Three packets behind four bytes each, cut off within the third.
+/// Three packets after four bytes each, cut off within the third.
 const LEADS: Units = Units {
     pids: &[256, 257, 256],
     before: 4,

@@ -3,7 +3,7 @@ use crate::desk_plan::ORDINARY;
 use crate::inputs::Input;
 use crate::row::Row;
 
-/// Tables that are told, edited and left out.
+/// Its tables, reported, edited and left out.
 pub(crate) fn rows() -> &'static [Row] {
     &GENERATED_ROWS
 }

@@ -1,10 +1,10 @@
-//! Rows on what is in a stream. The generated stream has a PCR at every fiftieth packet from the one at 4 on.
+//! Rows on `info`. The generated stream has a PCR at every fiftieth packet from the one at 4 on.
 use crate::carried::Carried;
 use crate::desk_plan::ORDINARY;
 use crate::inputs::Input;
 use crate::row::Row;
 
-/// What `info` says of streams, with tables and without.
+/// What `info` reports of streams, with tables and without.
 pub(crate) fn rows() -> &'static [Row] {
     &INFO_ROWS
 }

@@ -1,4 +1,4 @@
-//! The file that comes in: packets with payload, made from their PIDs and counters.
+//! The input file of a row: packets with payload, made from their PIDs and continuity counters.
 use crate::carried::Carried;
 use crate::long_pat::PatPart;
 use crate::mixed_stream::push_mixed;
@@ -9,10 +9,10 @@ const OTHER_BYTE: u8 = 0x46;
 /// The two flags of `Input::Headed`.
 const FLAGS_BYTE: u8 = 0x90;
 
-/// The byte that stands before and behind the packets of units.
+/// The byte that stands before and after the packets of units.
 const BESIDE_BYTE: u8 = 0x99;
 
-/// So many bytes of packets on these PIDs, each with some bytes before and behind it.
+/// So many bytes of packets on these PIDs, each with further bytes before and after it.
 #[derive(Clone, Copy)]
 pub(crate) struct Units {
     pub(crate) pids: &'static [u16],
@@ -24,7 +24,7 @@ pub(crate) struct Units {
 /// What is in the file that a row reads.
 #[derive(Clone, Copy)]
 pub(crate) enum Input {
-    /// Packets on these PIDs, with right counters.
+    /// Packets on these PIDs, with right continuity counters.
     Pids(&'static [u16]),
     /// Packets on PID 256 with these counters.
     Counters(&'static [u8]),
@@ -45,7 +45,7 @@ pub(crate) enum Input {
     Headed(&'static [[u8; 5]]),
     /// These packets of PATs, with counters from 0 on.
     LongPats(&'static [PatPart]),
-    /// Packets with bytes before or behind each.
+    /// Packets with bytes before or after each.
     Units(Units),
 }
 
@@ -92,7 +92,7 @@ fn push_packets(bytes: &mut Vec<u8>, pids: &[u16]) -> Result<(), AllocError> {
     Ok(())
 }
 
-/// The first bytes of packets on these PIDs, each with what stands before and behind it.
+/// The first bytes of packets on these PIDs, each with what stands before and after it.
 fn push_units(bytes: &mut Vec<u8>, units: Units) -> Result<(), AllocError> {
     for (i, pid) in units.pids.iter().enumerate() {
         for _ in 0..units.before {
@@ -116,7 +116,7 @@ fn push_counters(bytes: &mut Vec<u8>, counters: &[u8]) -> Result<(), AllocError>
     Ok(())
 }
 
-/// A packet with payload from byte 4 on and without its unit start; its payload counts up from the counter.
+/// A packet with payload from byte 4 on and without its unit start; the bytes of its payload count up from the counter.
 fn push_packet(bytes: &mut Vec<u8>, pid: u16, counter: u8) -> Result<(), AllocError> {
     let [high, low] = pid.to_be_bytes();
     bytes.extend_from_slice(&[0x47, high, low, 0x10 | counter % 16])?;
@@ -138,7 +138,7 @@ fn push_scrambled(bytes: &mut Vec<u8>, pids: &[u16]) -> Result<(), AllocError> {
     Ok(())
 }
 
-/// A packet for each section, with unit start, pointer 0 and 0xFF behind the section.
+/// A packet for each section, with unit start, pointer 0 and 0xFF after the section.
 fn push_tables(bytes: &mut Vec<u8>, carried: &[Carried]) -> Result<(), AllocError> {
     for (i, table) in carried.iter().enumerate() {
         let [high, low] = table.pid().to_be_bytes();

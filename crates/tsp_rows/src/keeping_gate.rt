@@ -1,4 +1,4 @@
-//! A gate that keeps what it is told.
+//! A gate that records the windows of plugins.
 use std::alloc::{AllocError, Global};
 use std::ops::Range;
 use std::sync::atomic::{AtomicU64, Ordering};
@@ -14,7 +14,7 @@ pub(crate) struct Window {
     len: AtomicU64,
 }
 
-/// What a plugin's stage told, in order.
+/// The windows that a plugin's stage entered and left, in order.
 #[derive(Drop)]
 pub(crate) struct Windows {
     entered: AtomicU64,
@@ -70,7 +70,7 @@ impl Windows {
     }
 }
 
-/// A gate that keeps what the stages of so many plugins tell it.
+/// A gate that records the windows of so many plugins.
 #[derive(Drop)]
 pub(crate) struct KeepingGate {
     plugins: Vec<Windows>,
@@ -90,7 +90,7 @@ impl KeepingGate {
         self.plugins.as_slice()
     }
 
-    /// What the stage of that number told; the plugins are the stages from 1 on.
+    /// The windows of the stage of this number; the plugins are the stages from 1 on.
     fn of_stage(&self, stage: usize) -> Option<&Windows> {
         self.plugins.get(stage.checked_sub(1)?)
     }

@@ -1,4 +1,4 @@
-//! Rows on packets whose adaptation field keeps no rule.
+//! Rows on packets with an invalid adaptation field.
 use crate::desk_plan::ORDINARY;
 use crate::inputs::{Input, input_bytes};
 use crate::row::Row;
@@ -18,7 +18,7 @@ const LAWLESS: [[u8; 5]; 3] = [
 
 const WORDS: &str = "-I file in -P continuity -P tables -P analyze -P pattern AA -O file out";
 
-/// The plugins that look into a packet.
+/// The plugins that read fields of a packet.
 pub(crate) fn rows() -> &'static [Row] {
     &LAWLESS_ROWS
 }

@@ -1,4 +1,4 @@
-//! Calls that stand in a list, one a line: what each came to by `tsp_call`, and whether it came to the same by `serial_call`.
+//! Calls of a list, one a line: the result of each by `tsp_call`, and whether `serial_call` gives the same.
 use crate::listed_desk::{desk_of, words_of};
 use crate::trial::Trial;
 use anyhow::Result;
@@ -21,7 +21,7 @@ pub(crate) fn print_listed<R: Threads + Wait + Sync + Print + AllocGlobal + File
     Ok(())
 }
 
-/// Prints what a line's call came to.
+/// Prints the result of a line's call.
 fn print_call<R: Threads + Wait + Sync + Print + AllocGlobal + Files>(
     rt: &R,
     line: &str,
@@ -42,7 +42,7 @@ fn by_tsp_call<R: Threads + Wait + Sync + AllocGlobal + Files>(
     Ok(Trial { desk, status })
 }
 
-/// Whether a line's call by `serial_call` comes to this, too.
+/// Whether a line's call by `serial_call` gives this result, too.
 fn is_serial_alike(rt: &(impl AllocGlobal + Files), line: &str, trial: &Trial) -> Result<bool> {
     let serial = by_serial_call(rt, line)?;
     Ok(trial.is_like(rt.alloc(), &serial)?)
@@ -56,7 +56,7 @@ fn by_serial_call(rt: &(impl AllocGlobal + Files), line: &str) -> Result<Trial> 
     Ok(Trial { desk, status })
 }
 
-/// Prints, parted by blanks: whether both calls came to the same, the exit number, how many names were asked for, how many outputs
+/// Prints, separated by blanks: whether both calls gave the same, the exit number, how many names were asked for, how many outputs
 /// there are, and the report and the first output as hexadecimal digits between bars.
 fn print_found(rt: &(impl Print + AllocGlobal), is_alike: bool, trial: &Trial) -> Result<()> {
     let exit = trial.status.exit_code();

@@ -1,8 +1,8 @@
-//! The words and the desk of a call that stands as a line in a list.
+//! The words and the desk of a call that is a line of a list.
 //!
-//! Blanks part the fields of a line. The first five are the numbers of the calls that fail, joined by commas: of the openings,
+//! Blanks separate the fields of a line. The first five are the numbers of the calls that fail, separated by commas: of the openings,
 //! reads, writes, reports and closings. Then come the most bytes that a read and a write move, the room of an output, and the
-//! files. All behind these are words.
+//! files. All after these are words.
 ghost use Rattle.std.specs.Prelude.{◌<◌, IfOk};
 
 use anyhow::Result;
@@ -42,7 +42,7 @@ fn field(line: &str, number: usize) -> &str {
     line.split(' ').nth(number).unwrap_or("")
 }
 
-/// The plan of a line. A desk knows no pieces of 0 bytes: they have one byte.
+/// The plan of a line. A desk has no pieces of 0 bytes: they have one byte.
 fn plan_of(alloc: Global, line: &str) -> Result<FailPlan, AllocError>
     ensures { IfOk result (λ p. (0 < p.read_piece) × (0 < p.write_piece)) }
 {
@@ -63,7 +63,7 @@ fn plan_of(alloc: Global, line: &str) -> Result<FailPlan, AllocError>
     })
 }
 
-/// The numbers that commas join; what is none is left out.
+/// The numbers that commas separate; a part that is no number is left out.
 fn numbers_of(alloc: Global, field: &str) -> Result<NumberList, AllocError> {
     let mut numbers = Vec::new(alloc);
     for text in field.split(',') {
@@ -74,12 +74,12 @@ fn numbers_of(alloc: Global, field: &str) -> Result<NumberList, AllocError> {
     Ok(NumberList::of(numbers))
 }
 
-/// A number of bytes, 0 for what is none.
+/// A number of bytes, 0 for a text that is no number.
 fn size_of(field: &str) -> usize {
     field.parse::<usize>().unwrap_or(0)
 }
 
-/// The files that commas join, each by its name on the desk, a colon and the path of its bytes.
+/// The files that commas separate, each by its name on the desk, a colon and the path of its bytes.
 fn files_of(rt: &(impl AllocGlobal + Files), field: &str) -> Result<FileList> {
     let mut files = Vec::new(rt.alloc());
     for text in field.split(',') {

@@ -37,14 +37,14 @@ pub(crate) const SECOND_OF_1: PatPart = PatPart {
     crc: CRC_OF_1,
 };
 
-/// How many of the section's bytes the first packet has, behind the pointer.
+/// How many of the section's bytes the first packet has, after the pointer.
 const IN_FIRST: usize = 183;
 
 /// Where the services end, and the CRC begins.
 const SERVICES_END: usize = 248;
 
 impl PatPart {
-    /// Puts its packet on PID 0 behind others, with this counter.
+    /// Appends its packet on PID 0 to others, with this counter.
     pub(crate) fn push(self, bytes: &mut Vec<u8>, counter: u8) -> Result<(), AllocError> {
         if self.second {
             bytes.extend_from_slice(&[0x47, 0, 0, 0x10 | counter % 16])?;
@@ -54,7 +54,7 @@ impl PatPart {
         self.push_section(bytes, 0, IN_FIRST)
     }
 
-    /// Puts so many of the section's bytes behind others, from one on; behind the section stands 0xFF.
+    /// Appends so many of the section's bytes to others, from one on; after the section it appends 0xFF.
     fn push_section(
         self,
         bytes: &mut Vec<u8>,

@@ -1,8 +1,8 @@
-//! Runs worked examples of the whole tool over a desk in memory, by `tsp_call` and by `serial_call`, and prints what each
-//! came to. Then it runs chains by `threaded_call` whose gates look at how the stages work beside one another, and chains
-//! with sizes of many kinds, which have to agree in bytes, report and status.
+//! Runs worked examples of the whole tool over a desk in memory, by `tsp_call` and by `serial_call`, and prints the result
+//! of each. Then it runs chains by `threaded_call` whose gates check how the stages work at once, and chains with many
+//! sizes of the buffer and the batches, which have to agree in bytes, report and status.
 //!
-//! Where a word is given, it names a list of calls, and these alone are made (`tests/calls`).
+//! Where an argument is given, it names a list of calls, and only these are made (`tests/calls`).
 #![tactic(auto)]
 
 mod carried;
@@ -72,7 +72,7 @@ fn print_worked<R: Threads + Wait + Sync + Print + AllocGlobal>(rt: &R) -> Resul
     chains::print_chains(rt)
 }
 
-/// Prints the rows of all tables, and how many of them come to the same by both calls.
+/// Prints the rows of all tables, and how many of them have the same result by both calls.
 fn print_tables<R: Threads + Wait + Sync + Print + AllocGlobal>(rt: &R) -> Result<()> {
     let tables: [&[Row]; 32] = [
         end_rows::rows(),

@@ -46,7 +46,7 @@ impl Guest {
         }
     }
 
-    /// Waits until this one is there. Whether it came before the turns ran out.
+    /// Waits until this stage is there. Returns whether it came before the turns ran out.
     fn comes(&self) -> bool {
         for turn in 0..TURNS {
             if self.is_there.load(Ordering::SeqCst) {
@@ -60,7 +60,7 @@ impl Guest {
     }
 }
 
-/// A gate that holds a stage inside its second window until one behind it is inside its first, and that one inside its
+/// A gate that holds a stage inside its second window until one after it is inside its first, and that one inside its
 /// first until the other is inside its second. In one thread neither can be inside while the other one enters.
 #[derive(Drop)]
 pub(crate) struct MeetingGate {
@@ -69,7 +69,7 @@ pub(crate) struct MeetingGate {
 }
 
 impl MeetingGate {
-    /// For a stage, and one that stands somewhere behind it.
+    /// For a stage, and one that stands somewhere after it.
     pub(crate) fn between(stage: usize, behind: usize) -> MeetingGate {
         MeetingGate {
             first: Guest::new(stage, 2),

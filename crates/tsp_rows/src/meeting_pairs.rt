@@ -29,7 +29,7 @@ pub(crate) fn print_meeting_pairs<R: Threads + Wait + Sync + Print + AllocGlobal
     Ok(())
 }
 
-/// The tally with a run for each plugin behind this one, which the two have to meet in.
+/// The tally with a run for each plugin after this one, in which the two have to meet.
 fn met_by_those_behind<R: Threads + Wait + Sync + AllocGlobal>(
     rt: &R,
     stage: usize,

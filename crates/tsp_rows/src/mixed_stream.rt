@@ -16,14 +16,14 @@ struct Field {
     flags: u8,
 }
 
-/// What is in the fourth byte of a header besides its counter, and the adaptation field.
+/// The fourth byte of a header without its counter, and the adaptation field.
 #[derive(Clone, Copy)]
 struct Kind {
     control: u8,
     field: Option<Field>,
 }
 
-/// Puts all packets of the stream behind the bytes.
+/// Appends all packets of the stream to the bytes.
 pub(crate) fn push_mixed(bytes: &mut Vec<u8>) -> Result<(), AllocError> {
     let mut counters = [0u8; 4];
     for n in 0..60usize {
@@ -38,7 +38,7 @@ pub(crate) fn push_mixed(bytes: &mut Vec<u8>) -> Result<(), AllocError> {
 }
 
 /// Whether a packet has an adaptation field alone, one before a payload, or a payload alone. The flag
-/// 0x80 tells a discontinuity.
+/// 0x80 is the discontinuity indicator.
 fn kind_of(n: usize) -> Kind {
     match n % 12 {
         3 => Kind {
@@ -66,7 +66,7 @@ fn with_field(length: u8, flags: u8) -> Kind {
     }
 }
 
-/// The counter behind another one on its PID: it jumps at each ninth packet, and stays at each fourteenth and where
+/// The counter after another one on its PID: it jumps at each ninth packet, and stays at each fourteenth and where
 /// there is no payload.
 fn next_counter(before: u8, n: usize, kind: Kind) -> u8 {
     let stays = kind.control == HAS_FIELD || n % 14 == 6;
@@ -87,7 +87,7 @@ fn push_header(bytes: &mut Vec<u8>, n: usize, pid: u16, last: u8) -> Result<(), 
     bytes.extend_from_slice(&[0x47, unit_start | high, low, last])
 }
 
-/// The 184 bytes behind the header: the adaptation field's length and flags, where there is one, and bytes that
+/// The 184 bytes after the header: the adaptation field's length and flags, where there is one, and bytes that
 /// count up from the least one.
 fn push_body(bytes: &mut Vec<u8>, least: u8, field: Option<Field>) -> Result<(), AllocError> {
     for k in 0..184u8 {

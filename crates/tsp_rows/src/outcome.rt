@@ -1,4 +1,4 @@
-//! What a call came to, as text.
+//! The result of a call, as text.
 use crate::trial::Trial;
 use anyhow::Result;
 use ts_outside::MemoryDesk;
@@ -29,7 +29,7 @@ fn print_outputs(rt: &impl Print, desk: &MemoryDesk) -> Result<()> {
     Ok(())
 }
 
-/// Prints the report, each line behind a bar.
+/// Prints the report, each line after a bar.
 fn print_report(rt: &impl Print, bytes: &[u8]) -> Result<()> {
     if let Ok(text) = str::from_utf8(bytes) {
         for line in text.lines() {
@@ -62,7 +62,7 @@ fn print_end(rt: &impl Print, bytes: &[u8]) -> Result<()> {
     Ok(())
 }
 
-/// Prints whole packets behind a comma.
+/// Prints whole packets after a comma.
 fn print_packets(rt: &impl Print, bytes: &[u8]) -> Result<()> {
     print!(rt; ",")?;
     let mut left = bytes;
@@ -84,7 +84,7 @@ fn print_packet(rt: &impl Print, row: &[u8; 188]) -> Result<()> {
     Ok(())
 }
 
-/// Prints the section that begins right behind the pointer, of each packet that has one.
+/// Prints the section that begins right after the pointer field, of each packet that has one.
 fn print_sections(rt: &impl Print, bytes: &[u8]) -> Result<()> {
     let mut left = bytes;
     while let Some((row, rest)) = left.split_first_chunk::<188>() {
@@ -96,7 +96,7 @@ fn print_sections(rt: &impl Print, bytes: &[u8]) -> Result<()> {
     Ok(())
 }
 
-/// Prints the bytes of the first section; where the packet has not the whole of it, its head alone.
+/// Prints the bytes of the first section; where the packet does not have the whole of it, its header alone.
 fn print_section(rt: &impl Print, bytes: &[u8]) -> Result<()> {
     if let [_, high, low, ..] = bytes {
         let length = u16::from_be_bytes([*high & 0x0F, *low]);
@@ -108,7 +108,7 @@ fn print_section(rt: &impl Print, bytes: &[u8]) -> Result<()> {
     Ok(())
 }
 
-/// Prints bytes as a line, behind what they are.
+/// Prints a line with a title and bytes.
 fn print_bytes(rt: &impl Print, called: &str, bytes: &[u8]) -> Result<()> {
     print!(rt; "  {called}")?;
     for byte in bytes {

@@ -59,7 +59,7 @@ static PLUGIN_ROWS: [Row; 6] = [
     },
 ];
 
-/// Plugins that report, with sizes that may not change what they say.
+/// Plugins that report, with sizes that may not change what they report.
 pub(crate) fn of_watchers() -> &'static [Row] {
     &WATCH_ROWS
 }
@@ -103,7 +103,7 @@ static WATCH_ROWS: [Row; 6] = [
     },
 ];
 
-/// Plugins that agree to a common end, or would.
+/// Plugins with joint termination.
 pub(crate) fn of_joint_ends() -> &'static [Row] {
     &JOINT_ROWS
 }
@@ -153,7 +153,7 @@ static JOINT_ROWS: [Row; 7] = [
     },
 ];
 
-/// Plugins that see marked packets alone.
+/// Plugins that see only packets with a label.
 pub(crate) fn of_labels() -> &'static [Row] {
     &LABEL_ROWS
 }

@@ -1,4 +1,4 @@
-//! A worked example: its words, what comes in, and what it says of the calls of its desk.
+//! A worked example: its words, its input, and which calls of its desk fail.
 use crate::desk_plan::DeskPlan;
 use crate::inputs::Input;
 use crate::outcome::print_outcome;
@@ -19,7 +19,7 @@ pub(crate) struct Row {
     pub(crate) plan: DeskPlan,
 }
 
-/// Runs rows by both calls, and prints what they came to. The tally has them too, then.
+/// Runs rows by both calls, prints their results, and adds them to the tally.
 pub(crate) fn print_rows<R: Threads + Wait + Sync + Print + AllocGlobal>(
     rt: &R,
     rows: &[Row],
@@ -35,7 +35,7 @@ pub(crate) fn print_rows<R: Threads + Wait + Sync + Print + AllocGlobal>(
     Ok(())
 }
 
-/// Runs a row, and prints what it came to by `tsp_call`; whether it came to the same by `serial_call`.
+/// Runs a row, and prints its result by `tsp_call`. Returns whether `serial_call` gives the same.
 fn print_row<R: Threads + Wait + Sync + Print + AllocGlobal>(rt: &R, row: &Row) -> Result<bool> {
     println!(rt; "{}", row.name)?;
     let mut words = Vec::new(rt.alloc());
@@ -53,7 +53,7 @@ fn print_case<R: Threads + Wait + Sync + Print + AllocGlobal>(rt: &R, case: Case
     print_trial(rt, case, &outcome)
 }
 
-/// Prints what a call came to; whether `serial_call` comes to the same.
+/// Prints the result of a call. Returns whether `serial_call` gives the same.
 fn print_trial(rt: &(impl Print + AllocGlobal), case: Case, outcome: &Trial) -> Result<bool> {
     print_outcome(rt, outcome)?;
     Ok(is_serial_like(rt.alloc(), case, outcome)?)

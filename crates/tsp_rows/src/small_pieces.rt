@@ -10,7 +10,7 @@ const BYTE_BY_BYTE: DeskPlan = DeskPlan {
     ..ORDINARY
 };
 
-/// They come to what they come to with pieces of any size.
+/// Their results are those with pieces of any size.
 pub(crate) fn rows() -> &'static [Row] {
     &PIECE_ROWS
 }

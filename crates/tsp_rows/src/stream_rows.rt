@@ -1,4 +1,4 @@
-//! Rows on what a stream has: its PIDs, its services and its tables.
+//! Rows on the contents of a stream: its PIDs, its services and its tables.
 use crate::desk_plan::ORDINARY;
 use crate::inputs::Input;
 use crate::row::Row;

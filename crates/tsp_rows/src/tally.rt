@@ -1,6 +1,6 @@
-//! How many runs came to what another run came to.
+//! How many runs have the result of another run.
 
-/// A count of runs, and of those that came to what another one came to.
+/// A count of runs, and of those with the same result as another run.
 #[derive(Clone, Copy)]
 pub(crate) struct Tally {
     pub(crate) runs: u32,

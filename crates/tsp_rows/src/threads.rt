@@ -1,4 +1,4 @@
-//! Chains by `threaded_call` whose gate looks at how its stages work beside one another.
+//! Chains by `threaded_call` whose gate checks how its stages work at once.
 use crate::desk_plan::ORDINARY;
 use crate::following_gate::FollowingGate;
 use crate::inputs::Input;
@@ -23,7 +23,7 @@ pub(crate) fn print_threads<R: Threads + Wait + Sync + Print + AllocGlobal>(rt: 
     print_following(rt)
 }
 
-/// Two stages that are held until they meet: in one thread they never do.
+/// Two stages that are held until they meet, which they never do in one thread.
 fn print_meeting<R: Threads + Wait + Sync + Print + AllocGlobal>(rt: &R) -> Result<()> {
     println!(rt; "two stages meet")?;
     let gate = MeetingGate::between(1, 2);

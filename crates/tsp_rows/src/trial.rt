@@ -8,7 +8,7 @@ use std::thread::Threads;
 use ts_outside::{Gate, MemoryDesk, OpenGate};
 use tsp_top::{Status, serial_call, threaded_call, tsp_call};
 
-/// What is called: the words, what comes in, and which calls of the desk fail.
+/// A call to be made: the words, the input, and which calls of the desk fail.
 #[derive(Clone, Copy)]
 pub(crate) struct Case<'a> {
     pub(crate) words: &'a [String],
@@ -16,7 +16,7 @@ pub(crate) struct Case<'a> {
     pub(crate) plan: DeskPlan,
 }
 
-/// What a call came to: its desk and its status. The desk is large, and so in a box.
+/// The result of a call: its desk and its status. The desk is large, so it is boxed.
 #[derive(Drop)]
 pub(crate) struct Trial {
     pub(crate) desk: Box<MemoryDesk>,
@@ -24,7 +24,7 @@ pub(crate) struct Trial {
 }
 
 impl Trial {
-    /// Whether two calls came to the same status, the same report, the same names asked for and the same first output under its name.
+    /// Whether two calls gave the same status, the same report, the same names asked for and the same first output under its name.
     /// No row has a second output.
     pub(crate) fn is_like(&self, alloc: Global, other: &Trial) -> Result<bool, AllocError> {
         let same_status = self.status_text(alloc)? == other.status_text(alloc)?;
@@ -38,7 +38,7 @@ impl Trial {
         )
     }
 
-    /// The status with all that it tells.
+    /// The status with its fields.
     fn status_text(&self, alloc: Global) -> Result<String, AllocError> {
         let status = &self.status;
         format!(in alloc; "{status:?}")
@@ -94,7 +94,7 @@ pub(crate) fn by_serial_call<G: Gate>(
     Ok(Trial { desk, status })
 }
 
-/// Puts the words of a text, which blanks part, behind others.
+/// Appends the words of a text, which blanks separate, to others.
 pub(crate) fn push_words(
     alloc: Global,
     words: &mut Vec<String>,

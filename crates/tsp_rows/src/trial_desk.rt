@@ -22,7 +22,7 @@ pub(crate) fn filled_desk(
     Ok(Box::new(alloc, MemoryDesk::new(alloc, files, plan)?)?)
 }
 
-/// The texts beside the input: one of tables, one that is no JSON, and none, which is no section.
+/// The text files beside the input: one of tables, one that is no JSON, and an empty one, which has no section.
 static TEXTS: [(&str, &str); 3] = [("t.json", TABLES), ("bad.json", "{"), ("e.bin", "")];
 
 /// The input under its name and under the empty one, and the texts.
@@ -36,7 +36,7 @@ fn files(alloc: Global, input: Input) -> Result<FileList, AllocError> {
     Ok(FileList::of(files))
 }
 
-/// Puts the input behind other files, under this name.
+/// Appends the input to other files, under this name.
 fn push_input(
     alloc: Global,
     files: &mut Vec<(NameText, FileBytes)>,
@@ -47,7 +47,7 @@ fn push_input(
     push_file(alloc, files, name, bytes.as_slice())
 }
 
-/// Puts a file with these bytes behind others.
+/// Appends a file with these bytes to others.
 fn push_file(
     alloc: Global,
     files: &mut Vec<(NameText, FileBytes)>,

@@ -1,4 +1,4 @@
-//! Rows on the plugins that see further packets.
+//! Rows on the plugins that see packets ahead in a window.
 use crate::carried::Carried;
 use crate::desk_plan::ORDINARY;
 use crate::inputs::Input;

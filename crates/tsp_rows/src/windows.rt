@@ -1,4 +1,4 @@
-//! A chain whose gate keeps what it is told: the windows that each plugin works on.
+//! A chain whose gate records the windows that each plugin works on.
 use crate::desk_plan::ORDINARY;
 use crate::inputs::Input;
 use crate::keeping_gate::{KeepingGate, ROOM, Windows};
@@ -62,7 +62,7 @@ fn print_plugin(rt: &impl Print, windows: &Windows) -> Result<()> {
     Ok(())
 }
 
-/// By `tsp_call`, whose windows may be others, but follow one another too.
+/// By `tsp_call`: its windows may be others, but each begins where the one before it ends, too.
 fn print_by_tsp_call<R: Threads + Wait + Sync + Print + AllocGlobal>(
     rt: &R,
     case: Case,
@@ -73,7 +73,7 @@ fn print_by_tsp_call<R: Threads + Wait + Sync + Print + AllocGlobal>(
     print_rows(rt, &gate)
 }
 
-/// Whether the windows of each plugin are one row.
+/// Prints whether each window of each plugin begins where the one before it ends, and whether each was left.
 fn print_rows(rt: &impl Print, gate: &KeepingGate) -> Result<()> {
     for windows in gate.plugins() {
         let is_row = windows.is_one_row();

@@ -40,14 +40,14 @@ module _ {S K P : Type 0} (see : Seeing S K P) (inner : S → SourceView) (plan 
     (closed : Result Closed AllocError)
     (opens : OpensPlan see inner plan core old made from stuffing plugins to)
     (ends : EndsRun see stuffing core from made_from plugins back to made_to closed) where
-  -- the plugins that the run gives back can be asked for their reports
+  -- the plugins that the run returns can be asked for their reports
   pub called-reach : IfOk closed (λ c. ReachesCut see.stands back c.cut 0)
   called-reach = ends-reach see stuffing core from made_from plugins back to made_to closed ends
 
   pub called-few : length back ≤ 62
   called-few = ends-few see stuffing core from made_from plugins back to made_to closed plan opens.0 ends opens.2.ready
 
-  -- and what is reported of the run is what the call owes
+  -- and what is reported of the run is what the call has to report
   pub called : (words : List (List ℕ)) (new : DeskView) (status : Status) → plan_of words ≡ Some plan
       → ((tables : List (List (List ℕ))) (s : Stuffing) (numbers : CorePlan) (f : InputPart S) (ps : List P) (t : OutputPart K)
       → map see.rule back ≡ rules_of (named_rules plan.plugins tables)

@@ -32,7 +32,7 @@ joint-cause cut joint endings is =
     let at : C (Some cut) = subst P (sym (eq-eqb cut cut refl)) refl in
     subst C (sym is) at
 
--- behind a failed write there is a packet left before the list's end
+-- after a failed write there is a packet left before the list's end
 part-below : (m : ℕ) (cells : List Cell) (part : List ℕ) → IsPartOfFirst (drop m cells) part → m < length cells
 part-below zero [] part is = absurd is
 part-below zero (x ∷ cells) part is = omega arith
@@ -88,7 +88,7 @@ part-begins-too cells cut all part less is =
           ∙ sym (append_assoc (written (take cut cells)) part begins.0),
     )
 
--- a part behind the cut is none, or the run ended by a failed write
+-- a part after the cut is none, or the run ended by a failed write
 by-part : (cells : List Cell) (cut : ℕ) (why : Cause) (part : List ℕ) (G : Type 0) → IsCutPart cells cut why part
     → (part ≡ [] → G) → (why ≡ WriteFault → IsPartOfFirst (drop cut cells) part → G) → G
 by-part cells cut WriteFault part G is none some = some refl is
@@ -99,7 +99,7 @@ by-part cells cut (Stop j) part G is none some = none is
 by-part cells cut (Refuse j reason) part G is none some = none is
 by-part cells cut (NoMemory k) part G is none some = none is
 
--- a chain that is cut right is not cut behind the run without faults
+-- a chain with a right cut is not cut after that of the run without faults
 cut-within : (rules : List PluginRule) (list : StageList) (users : List ℕ) (cut : ℕ) (why : Cause)
     → IsPureClose rules list users cut why ⊎ IsLawfulFault rules list users cut why → cut ≤ cut_of rules list users
 cut-within rules list users cut why (inl pure) = omega (arith, pure.0)
@@ -117,7 +117,7 @@ write-not-joint rules list users cut why (inl pure) is = λ joint.
     differ : WriteFault ≡ Joint → ⊥
     differ e = cc
 
--- what is written up to the cut, with the part behind it, begins what the run without faults writes
+-- what is written up to the cut, with the part after it, begins what the run without faults writes
 pub written-begins : (rules : List PluginRule) (list : StageList) (users : List ℕ) (cut : ℕ) (why : Cause) (part : List ℕ)
     → IsPureClose rules list users cut why ⊎ IsLawfulFault rules list users cut why → IsCutPart (end_list rules list).cells cut why part
     → IsPrefix (written (take cut (end_list rules list).cells) ++ part) (written (take (cut_of rules list users) (end_list rules list).cells))

@@ -38,7 +38,7 @@ use Rattle.tsp_top.specs.declared.status.Status.{Status}
 use Rattle.tsp_top.specs.declared.status.Status.TheVariants as status
 use Rattle.tsp_top.proofs.TableFacts.{tables-same, no-end, ends-not-wanting}
 
--- where no fault happened there is none to tell
+-- where no fault happened there is none to report
 quiet-no_cause : (old new : ℕ) → IsQuiet old new → HasCause old new → ⊥
 quiet-no_cause old new quiet cause = let rose = cause.rose quiet.below in let same = quiet.same in absurd (omega arith)
 
@@ -58,7 +58,7 @@ whole-bytes chain cut (Refuse j reason) bytes no_ is = is.1 ∙ (ap (λ l. writt
 whole-bytes chain cut WriteFault bytes no_ is = absurd (no_ refl)
 whole-bytes chain cut (NoMemory k) bytes no_ is = is.1 ∙ (ap (λ l. written_to chain cut ++ l) is.2 ∙ append-nil (written_to chain cut))
 
--- a fault that no count tells is want of memory
+-- a fault that is in no count is that memory ran out
 only-memory : (why : Cause) → IsTrue (is_fault why) → (why ≡ WriteFault → ⊥) → (why ≡ Input ReadFault → ⊥) → status_of why ≡ status.NoMemory
 only-memory (Input (End left)) fault no_write no_read = cc
 only-memory (Input (Sync packet)) fault no_write no_read = cc
@@ -106,7 +106,7 @@ no-fault words plan word rule is fault =
     let none : plan_of words ≡ None = cond-true _ _ _ (ap is_some fault) in
     let e : None ≡ Some plan = sym none ∙ is in absurd cc
 
--- a call whose words have a plan is one of it, or memory was wanting before anything was opened
+-- a call whose words have a plan is one of it, or memory ran out before anything was opened
 pub planned-call : (words : List (List ℕ)) (plan : Plan) (old new : DeskView) (answer : Status) → plan_of words ≡ Some plan → CallsTsp words old new answer
     → CallsPlan plan old new answer ⊎ ((answer ≡ status.NoMemory) × (new ≡ old))
 planned-call words plan old new answer is calls =
@@ -145,7 +145,7 @@ of-some words plan old new answer is calls fine =
       | inr wanting ↦ inl wanting.0
     ]
 
--- a plan's chain over two lists of files, where the input is told, is one
+-- a plan's chain over two lists of files, where the input's bytes are known, is one
 same-input : (conf : InputConf) (desk : DeskView) (files other : List (List ℕ × List ℕ)) → TellsInput conf desk files → IfSome desk.files (λ told. other ≡ told)
     → input_of conf other ≡ input_of conf files
 same-input (input.File name form) desk files other tells is =
@@ -224,7 +224,7 @@ no-want plan why steady can zero is = subst (λ (w : Cause). CanEndBy plan w) is
 no-want plan why steady can (suc j) is =
     none-later plan.plugins j (all_by_recursion IsSteady plan.plugins steady) (subst (λ (w : Cause). CanEndBy plan w) is can)
 
--- memory first: what is left where memory was wanting
+-- what is left where memory ran out, of plugins that take their room first
 module _ (plan : Plan) (tables : List (List (List ℕ))) (files : List (List ℕ × List ℕ)) (old new : DeskView) (tables_are : AreTables old plan.plugins tables) (files_are : IfSome old.files (λ told. files ≡ told))
     (steady : AreSteady plan.plugins) where
   abbrev behind : DeskView

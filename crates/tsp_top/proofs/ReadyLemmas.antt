@@ -31,7 +31,7 @@ one_more {P} rule stands steady plugins more r room (Ok plugin) before is has_ru
 }
 one_more rule stands steady plugins more r room (Err e) before is has_rule fresh has_room = absurd is
 
--- the rules and the rooms of the plugins behind it come behind its own
+-- the rules and the rooms of the plugins after it come after its own
 pub rules_behind : {P : Type 0} (rule : P → PluginRule) (plugins more all : List P) (items rest : List PluginItem) (item : PluginItem)
     (tables later : List (List (List ℕ))) (table : List (List ℕ))
     → items ≡ item ∷ rest → table ≡ first_table tables → later ≡ later_tables tables

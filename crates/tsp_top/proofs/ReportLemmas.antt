@@ -15,7 +15,7 @@ use Rattle.tsp_top.specs.PlannedChain.{first_table, later_tables, named_rules}
 use Rattle.plug_set.specs.Plugins.{name_of}
 use Rattle.tsp_top.specs.Reported.{ReachesCut}
 
--- the first of plugins that reach the cut may be told it, and those behind it reach it
+-- the first of plugins that reach the cut may be given it, and those after it reach it
 pub ReachesCut-split : {P : Type 0} (stands : P → List Cell → ℕ → Type 0) (plugins rest : List P) (plugin : P) (cut j : ℕ)
     → plugins ≡ plugin ∷ rest → ReachesCut stands plugins cut j → AllowsMark (stands plugin) cut × ReachesCut stands rest cut (j + 1)
 ReachesCut-split {P} stands plugins rest plugin cut j e reaches =
@@ -82,7 +82,7 @@ report-split {P} rule stands rules input plugins rest plugin items later item ta
     (first-same (rule plugin) (rule_of_item item (first_table tables)) (map rule rest) (rules_of (named_rules later (later_tables tables)))
     (rules-of-cons rule plugins rest plugin items later item tables e f same)) says)
 
--- the plugins behind the first have the rules of the settings behind the first
+-- the plugins after the first have the rules of the settings after the first
 pub rest-rules : {P : Type 0} (rule : P → PluginRule) (plugins rest : List P) (plugin : P) (items later : List PluginItem) (item : PluginItem) (tables : List (List (List ℕ)))
     → plugins ≡ plugin ∷ rest → items ≡ item ∷ later → map rule plugins ≡ rules_of (named_rules items tables) → map rule rest ≡ rules_of (named_rules later (later_tables tables))
 rest-rules rule plugins rest plugin items later item tables e f same =

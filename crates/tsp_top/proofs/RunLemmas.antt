@@ -62,7 +62,7 @@ run-reaches see from made_from stuffing plugins made to made_to core closed run 
   met = run-met see from made_from stuffing plugins made to made_to core closed run;
 }
 
--- the plugins that a run gives back have the rules of the settings still
+-- the plugins that a run returns have the rules of the settings still
 pub ends-rules : {S K P : Type 0} (see : Seeing S K P) (stuffing : Stuffing) (core : CorePlan) (from made_from : InputPart S) (plugins made : List P)
     (to made_to : OutputPart K) (closed : Result Closed AllocError) (rules : List PluginRule)
     → EndsRun see stuffing core from made_from plugins made to made_to closed → map see.rule plugins ≡ rules → map see.rule made ≡ rules

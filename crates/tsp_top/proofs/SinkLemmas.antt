@@ -37,7 +37,7 @@ closed-took d before name bytes first now started taken named same =
     (taken ∙ ap (λ (s : SinkView). grown s.taken bytes) started)
     (named ∙ ap (λ (s : SinkView). s.name) started)
 
--- the bytes that an output took up to a cut, with the part behind it
+-- the bytes that an output took up to a cut, with the part after it
 pub record TookBytes (cells : List Cell) (cut : ℕ) (why : Cause) (old new : Option (List (List ℕ × List ℕ))) (name : Option (List ℕ)) : Type 0 where
   pub part : List ℕ
   pub outputs : new ≡ outputs_with name old (written (take cut cells) ++ part)

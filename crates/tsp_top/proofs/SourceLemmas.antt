@@ -69,12 +69,12 @@ read_fault-counted seen inner d made (input.TestGen seed count) (Generated old p
 read_fault-counted seen inner d made (input.TestGen seed count) (Generated old packets) (Nulls now) stuffing buffer cut why opens through left is = absurd left
 read_fault-counted seen inner d made (input.TestGen seed count) (Generated old packets) (Generated new same) stuffing buffer cut why opens through left is = absurd (left is)
 
--- a source tells these bytes as still to come, where the files are told
+-- these bytes are left to a source, where the files are known
 abbrev LeftTold : Option (List (List ℕ × List ℕ)) → SourceView → List ℕ → Type 0
 LeftTold None s left = s.left ≡ None
 LeftTold (Some files) s left = s.left ≡ Some left
 
--- a source that was opened for a file tells its bytes where the files are told
+-- the bytes left to a source that was opened for a file are the file's, where the files are known
 opened-left : (told : Option (List (List ℕ × List ℕ))) (files : List (List ℕ × List ℕ)) (name : List ℕ) (s : SourceView)
     → IfSome told (λ t. files ≡ t) → s.left ≡ option_map (λ fs. file_of fs name) told → LeftTold told s (file_of files name)
 opened-left None files name s same e = e
@@ -88,7 +88,7 @@ opens-left s d files name same opens = opened-left d.files files name s same (ap
 file-of-first : (name bytes : List ℕ) → file_of ((name, bytes) ∷ []) name ≡ bytes
 file-of-first name bytes = ap (λ (b : Bool). if b then bytes else []) ((bytes_eq-Decides name name).1 refl)
 
--- the files of a run: those that are told, and where none are, some that have the bytes of its input
+-- the files of a run: those that are known, and where none are, some that have the bytes of its input
 pub record FilesOf (d : DeskView) (conf : InputConf) (s : model.Stuffing) (list : StageList) : Type 0 where
   pub files : List (List ℕ × List ℕ)
   pub files_are : IfSome d.files (λ told. files ≡ told)
@@ -107,7 +107,7 @@ files-of-nulls : (told : Option (List (List ℕ × List ℕ))) → (files : List
 files-of-nulls None = ([], tt)
 files-of-nulls (Some t) = (t, refl)
 
--- the files that a desk tells, or none
+-- the files of a desk that are known, or none
 pub some-files : (d : DeskView) → (files : List (List ℕ × List ℕ)) × IfSome d.files (λ t. files ≡ t)
 some-files d = files-of-nulls d.files
 
@@ -174,7 +174,7 @@ reads-nothing seen inner d made new files (input.TestGen seed count) (Stream sou
 reads-nothing seen inner d made new files (input.TestGen seed count) (Nulls packets) told opens same is = absurd opens
 reads-nothing seen inner d made new files (input.TestGen seed count) (Generated generator packets) told opens same is = is ∙ same
 
--- what was read of a file whose packets gave these bytes: the file's own, as far as it is told
+-- what was read of a file whose packets gave these bytes: the file's own, as far as it is known
 record OwnRead (told : Option (List (List ℕ × List ℕ))) (form : Form) (file given : List ℕ) (last : SourceView) : Type 0 where
   read : List ℕ
   rest : List ℕ
@@ -182,7 +182,7 @@ record OwnRead (told : Option (List (List ℕ × List ℕ))) (form : Form) (file
   left : LeftTold told last rest
   given_is : stripped form read ≡ given
 
--- of a source that tells nothing nothing is told behind a read
+-- where the bytes left to a source are not known, they are not known after a read
 untold-left : (form : Form) (at : ℕ) (given : List ℕ) (new last : Option (List ℕ)) → None ≡ before given new → new ≡ option_map (stripped_from form at) last → last ≡ None
 untold-left form at given new None none is = refl
 untold-left form at given new (Some rest) none is =
@@ -214,7 +214,7 @@ own-read (Some files) form file given first old new last left takes moved throug
       given_is = of_file.given_is;
     }
 
--- behind a failed read
+-- after a failed read
 read-fault : (general : GeneralConf) (old new : SourceView) (read : List ℕ) (stuffing : model.Stuffing) (cut : ℕ) → stuffing ≡ stuffing_of general → old.faults ≡ 0
     → CutsAtFault stuffing old new read cut → CutsAtRead (stuffing_of general) read (nat_lt 0 new.faults) cut
 read-fault general old new read stuffing cut stuffing_is none cuts =
@@ -235,7 +235,7 @@ pub size-within : (given : Option ℕ) (default size : ℕ) → IsSize given def
 size-within None default size is = is.1
 size-within (Some n) default size is = omega arith
 
--- a file that a run read: `first` and `last` are its own source before and behind the run, `old` and `new` that of its packets
+-- a file that a run read: `first` and `last` are its own source before and after the run, `old` and `new` that of its packets
 reads-file : (general : GeneralConf) (form : Form) (file : List ℕ) (d made next : DeskView) (first old new last : SourceView) (stuffing : model.Stuffing) (buffer cut : ℕ) (why : Cause)
     → stuffing ≡ stuffing_of general → buffer ≤ most_buffer general → LeftTold d.files first file → first.faults ≡ 0 → old ≡ form_view form 0 first first
     → ReadsThrough new last → made.closed_in ≡ d.closed_in → next.closed_in ≡ with_input made.closed_in last
@@ -279,7 +279,7 @@ reads-to seen inner d made next files general (input.TestGen seed count) (Genera
 reads-to seen inner d made next files general (input.TestGen seed count) (Generated old packets) (Nulls now) stuffing buffer cut why stuffing_is buffer_within told opens through same is left = absurd left
 reads-to seen inner d made next files general (input.TestGen seed count) (Generated old packets) (Generated new as_many) stuffing buffer cut why stuffing_is buffer_within told opens through same is left = is ∙ same
 
--- a failed read wants an input that was opened by a name
+-- a read fails only of an input that was opened by a name
 pub read-named : {S : Type 0} (seen inner : S → SourceView) (d : DeskView) (conf : InputConf) (old new : InputPart S) (stuffing : model.Stuffing) (buffer cut : ℕ) (why : Cause)
     → OpensInput seen inner d conf old → LeftInput seen stuffing buffer old new cut why → why ≡ Input ReadFault → IsSome (input_name conf)
 read-named seen inner d (input.File name form) old new stuffing buffer cut why opens left is = refl

@@ -1,4 +1,4 @@
--- What follows of tables over a desk that tells its files: they are one, and no file ends the call.
+-- What follows of tables over a desk whose files are known: they are one, and no file ends the call.
 use Rattle.std.proofs.Common.{◌≡◌, ℕ, List, [], ◌∷◌, ◌++◌, ◌+◌, length, Bool, Option, None, Some, IfSome, Result, Ok, Err, refl, ap, sym, ◌∙◌, subst}
 use Rattle.plug_set.specs.declared.plugin_item.PluginItem.{PluginItem}
 use Rattle.plug_set.specs.Plugins.{table_file_of}
@@ -17,13 +17,13 @@ use Rattle.tsp_top.specs.declared.status.Status.{Status}
 use Rattle.tsp_top.specs.declared.status.Status.TheVariants.{NoMemory}
 use Rattle.tsp_top.proofs.DeskLemmas.{leaves-says}
 
--- a file or a plugin that ended the call was no want of memory
+-- a file or a plugin that ended the call did not run out of memory
 pub ends-not-wanting : (plugin : ℕ) (end : TableEnd) → NoMemory ≡ status_of_table plugin end → ⊥
 ends-not-wanting plugin unread is = cc
 ends-not-wanting plugin (refused fault) is = cc
 
 module _ (desk : DeskView) (files : List (List ℕ × List ℕ)) where
-  -- bytes that a desk tells are those of its files
+  -- bytes that are known of a desk are those of its files
   told-bytes : (name bytes : List ℕ) → desk.files ≡ Some files → IfSome (content desk name) (λ file. bytes ≡ file) → bytes ≡ file_of files name
   told-bytes name bytes tells told =
       subst (λ (o : Option (List (List ℕ × List ℕ))). IfSome (option_map (λ fs. file_of fs name) o) (λ file. bytes ≡ file)) tells told
@@ -48,7 +48,7 @@ module _ (desk : DeskView) (files : List (List ℕ × List ℕ)) where
       ap (λ (x : List (List ℕ)). x ∷ one) (table-same (table_file_of item.conf) t u tells.0 are.0 also.0)
       ∙ ap (λ (l : List (List (List ℕ))). u ∷ l) (tables-same items one other tells.1 are.1 also.1)
 
-  -- the table of one of plugins, and that its file is told
+  -- the table of one of plugins, and that its file is known
   table-at : (before : List PluginItem) (item : PluginItem) (behind : List PluginItem) (tables : List (List (List ℕ)))
       → AreTables desk (before ++ item ∷ behind) tables → (table : List (List ℕ)) × IsTable desk (table_file_of item.conf) table
   table-at [] item behind [] are = absurd are
@@ -60,7 +60,7 @@ module _ (desk : DeskView) (files : List (List ℕ × List ℕ)) where
   told-at [] item behind tells = tells.0
   told-at (b ∷ before) item behind tells = told-at before item behind tells.1
 
-  -- a file that is told and has sections does not end the call, unless a read failed
+  -- a file that is known and has sections does not end the call, unless a read failed
   no-end-at : (plugin : ℕ) (name : List ℕ) (names : List (List ℕ)) (table : List (List ℕ)) (new : DeskView) (end : TableEnd) (failed : Bool)
       → desk.files ≡ Some files → HasSections desk name (Ok table) → (HasCause desk.read_faults new.read_faults → ⊥)
       → CanEndByTable (files_asked desk names) name end → Says (desk_after_table (files_asked desk names) name end) new (table_line plugin end) failed → ⊥

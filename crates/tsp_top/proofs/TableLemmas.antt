@@ -42,7 +42,7 @@ pub table_files-push : (xs : List PluginItem) (x : PluginItem) → table_files (
 table_files-push xs x =
     table_files-append xs (x ∷ []) ∙ ap (λ (l : List (List ℕ)). table_files xs ++ l) (append-nil (name_if_any (table_file_of x.conf)))
 
--- its table behind those of the others
+-- its table after those of the others
 AreTables-push : (d : DeskView) (xs : List PluginItem) (x : PluginItem) (tables : List (List (List ℕ))) (table : List (List ℕ))
     → AreTables d xs tables → IsTable d (table_file_of x.conf) table → AreTables d (xs ++ x ∷ []) (tables ++ table ∷ [])
 AreTables-push d [] x [] table are is = (is, tt)
@@ -50,12 +50,12 @@ AreTables-push d [] x (t ∷ tables) table are is = absurd are
 AreTables-push d (y ∷ xs) x [] table are is = absurd are
 AreTables-push d (y ∷ xs) x (t ∷ tables) table are is = (are.0, AreTables-push d xs x tables table are.1 is)
 
--- files are told the same when others were asked for
+-- the known files are the same when others were asked for
 IsTable-asked : (d : DeskView) (names : List (List ℕ)) (file : Option (List ℕ)) (table : List (List ℕ)) → IsTable (files_asked d names) file table → IsTable d file table
 IsTable-asked d names None table is = is
 IsTable-asked d names (Some name) table is = record { bytes = is.bytes; told = is.told; are = is.are }
 
--- memory was wanted before any file was asked for, and behind all of them
+-- memory ran out before any file was asked for, and after all of them
 pub wants-same : (names : List (List ℕ)) (old new : DeskView) → new ≡ old → WantsAtTables names old new NoMemory
 wants-same names old new same = record { status_is = refl; count = 0; desk_is = same ∙ sym (files_asked-nil old) }
 
@@ -182,7 +182,7 @@ pub unnamed-table : (old : DeskView) (file : Option (List ℕ)) → None ≡ fil
 unnamed-table old file is =
     subst (λ (f : Option (List ℕ)). IsTable old f [] × (old ≡ files_asked old (name_if_any f))) is (refl, sym (files_asked-nil old))
 
--- the rest of the plugins were read, or one of them ended the call, behind one more
+-- the rest of the plugins were read, or one of them ended the call, after one more
 pub rest-read : {X : Type 0} (r : Result X Status) (before : List PluginItem) (item : PluginItem) (rest items : List PluginItem) (tables : List (List (List ℕ))) (old new : DeskView)
     → items ≡ item ∷ rest
     → MatchResult r (λ _. ReadsTables ((before ++ item ∷ []) ++ rest) tables old new) (λ status. IsOverAtTables ((before ++ item ∷ []) ++ rest) old new status)
@@ -199,7 +199,7 @@ none-left before items tables old new is read =
     let B : List PluginItem → Type 0 = λ l. R (before ++ l) in
     subst B (sym is) (subst R (sym (append-nil before)) read)
 
--- the next plugin ended the call, or memory was wanted behind it
+-- the next plugin ended the call, or memory ran out after it
 pub ends-at-next : (before : List PluginItem) (tables : List (List (List ℕ))) (old desk new : DeskView) (item : PluginItem) (rest items : List PluginItem) (plugin : ℕ) (status : Status)
     → ReadsTables before tables old desk → plugin ≡ length before + 1 → items ≡ item ∷ rest → IsOverAtPlugin plugin item desk new status → IsOverAtTables (before ++ items) old new status
 ends-at-next before tables old desk new item rest items plugin status so_far number is over =

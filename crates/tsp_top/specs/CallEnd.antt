@@ -1,4 +1,4 @@
--- How a call of `tsp` ends, and the status that tells it. This project's own rule.
+-- How a call of `tsp` ends, and its status. This project's own rule.
 use Rattle.std.specs.Prelude.{◌≡◌, ◌⊎◌, ℕ, List, Bool, true, false, if◌then◌else◌, Option, IsSome, ◌-◌, ◌^◌, min}
 use Rattle.chain_model.specs.declared.input_end.InputEnd.{InputEnd}
 use Rattle.chain_model.specs.declared.input_end.InputEnd.TheVariants as input
@@ -19,7 +19,7 @@ pub data CallEnd : Type 0 where
   ran : (cut : ℕ) → (cause : Cause) → (late : Bool) → CallEnd
   -- the chain ran and was cut so, but there was no memory for its report
   unreported : (cut : ℕ) → (cause : Cause) → CallEnd
-  -- memory was wanted before the chain ran
+  -- memory ran out before the chain ran
   out_of_memory : CallEnd
 
 -- the status of an input's end
@@ -29,7 +29,7 @@ status_of_input (input.Sync packet) = Sync packet
 status_of_input input.ReadFault = ReadFault
 status_of_input input.TooLong = TooLong
 
--- the status of a cause; a plugin's number is told in 32 bits, and no chain has so many plugins
+-- the status of a cause; a plugin's number has 32 bits there, and no chain has so many plugins
 abbrev pub status_of : Cause → Status
 status_of (cause.Input how) = status_of_input how
 status_of cause.Joint = Done
@@ -58,7 +58,7 @@ LateRose output old new why true =
 LateRose output old new why false =
     (status_of why ≡ Done → new.write_faults ≡ old.write_faults) × (new.report_faults ≡ old.report_faults)
 
--- the status tells how the call ended, and a fault is told only where its count rose; the output is given by its name
+-- the status says how the call ended, and it is that of a fault only where the count of the fault rose; the output is given by its name
 abbrev pub StatusTellsCause : Option (List ℕ) → DeskView → DeskView → Status → CallEnd → Type 0
 StatusTellsCause output old new status no_input =
     (status ≡ ReadFault) × HasCause old.read_faults new.read_faults

@@ -8,8 +8,8 @@ use Rattle.tsp_top.specs.CallEnd.{CallEnd, no_input, no_output, ran, unreported,
 use Rattle.tsp_top.specs.MemoryFirst.{TakesLater}
 use Rattle.tsp_top.specs.PlannedChain.{input_name, output_name}
 
--- a failed read wants an input with a name, a failed write an output with one, and want of memory in the run a plugin
--- that does not take its room before: that of stage `k` stands behind `k - 1` others
+-- a read fails only of an input with a name, a write only of an output with one, and only a plugin that does not take its
+-- room before the run runs out of memory in it: that of stage `k` comes after `k - 1` others
 abbrev pub CanEndBy : Plan → Cause → Type 0
 CanEndBy plan (Input ReadFault) = IsSome (input_name plan.input)
 CanEndBy plan WriteFault = IsSome (output_name plan.output)

@@ -1,4 +1,4 @@
--- The headline: a call that meets no fault and no want of memory. This project's own rule.
+-- The headline: a call that meets no fault and does not run out of memory. This project's own rule.
 use Rattle.std.specs.Prelude.{◌≡◌, ◌⊎◌, ℕ, List, [], ◌∷◌, Option, None, Some, IfSome}
 use Rattle.chain_model.specs.declared.input_end.InputEnd.TheVariants.{End}
 use Rattle.chain_model.specs.declared.cause.Cause.{Cause}
@@ -19,13 +19,13 @@ use Rattle.tsp_top.specs.TableEnds.{EndsAtTables}
 use Rattle.tsp_top.specs.declared.status.Status.{Status}
 use Rattle.tsp_top.specs.declared.status.Status.TheVariants.{NoMemory}
 
--- the desk tells these files, where the input is one
+-- the files of the desk are known to be these, where the input is one
 abbrev pub TellsInput : InputConf → DeskView → List (List ℕ × List ℕ) → Type 0
 TellsInput (input.File name form) desk files = desk.files ≡ Some files
 TellsInput (input.Null count) desk files = Unit {0}
 TellsInput (input.TestGen seed count) desk files = Unit {0}
 
--- and where a plugin's settings name one
+-- the same where a plugin's settings name a file
 abbrev pub TellsTable : Option (List ℕ) → DeskView → List (List ℕ × List ℕ) → Type 0
 TellsTable None desk files = Unit {0}
 TellsTable (Some name) desk files = desk.files ≡ Some files
@@ -34,7 +34,7 @@ abbrev pub TellsTables : List PluginItem → DeskView → List (List ℕ × List
 TellsTables [] desk files = Unit {0}
 TellsTables (item ∷ items) desk files = TellsTable (table_file_of item.conf) desk files × TellsTables items desk files
 
--- the call wrote, reported and answered what applying the plugins one after another to the whole list of packets gives
+-- the call wrote, reported and returned what applying the plugins one after another to the whole list of packets gives
 pub record IsPureCall (plan : Plan) (tables : List (List (List ℕ))) (files : List (List ℕ × List ℕ))
     (old new : DeskView) (status : Status) : Type 0 where
   pub written : new.outputs
@@ -42,13 +42,13 @@ pub record IsPureCall (plan : Plan) (tables : List (List (List ℕ))) (files : L
   pub reported : new.reported ≡ grown old.reported (pure_run (chain_of plan tables files)).reported
   pub answered : status ≡ status_of (pure_run (chain_of plan tables files)).cause
 
--- the call did so, or memory was wanting
+-- the call did so, or memory ran out
 abbrev pub IsPureOrWants : Plan → List (List (List ℕ)) → List (List ℕ × List ℕ)
     → DeskView → DeskView → Status → Type 0
 IsPureOrWants plan tables files old new status =
     (status ≡ NoMemory) ⊎ IsPureCall plan tables files old new status
 
--- over any desk: the call did so for the tables and the files that the desk tells, and where it tells none, for some
+-- over any desk: the call did so for the tables and the files of the desk where they are known, and for some where they are not
 pub record IsPureOfSome (plan : Plan) (old new : DeskView) (status : Status) : Type 0 where
   pub tables : List (List (List ℕ))
   pub tables_are : AreTables old plan.plugins tables
@@ -56,7 +56,7 @@ pub record IsPureOfSome (plan : Plan) (old new : DeskView) (status : Status) : T
   pub files_are : IfSome old.files (λ told. files ≡ told)
   pub pure : IsPureCall plan tables files old new status
 
--- the call did so, or memory was wanting, or a file that was read has no sections
+-- the call did so, or memory ran out, or a file that was read has no sections
 abbrev pub IsPureOrEnds : Plan → DeskView → DeskView → Status → Type 0
 IsPureOrEnds plan old new status =
     (status ≡ NoMemory) ⊎ (IsPureOfSome plan old new status ⊎ EndsAtTables plan.plugins old new status)

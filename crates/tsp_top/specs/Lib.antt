@@ -1,3 +1,4 @@
+-- The definitions of a call of `tsp`.
 pub mod CallEnd
 pub mod CanEnd
 pub mod ExitNumber

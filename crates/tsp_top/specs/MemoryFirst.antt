@@ -1,4 +1,4 @@
--- Memory first: chains whose plugins take all their room before the run. This project's own rule.
+-- Chains whose plugins take all their room before the run. This project's own rule.
 use Rattle.std.specs.Prelude.{◌≡◌, ◌≢◌, ℕ, zero, suc, List, [], ◌∷◌, Some}
 use Rattle.std.specs.List.{All}
 use Rattle.plug_set.specs.declared.plugin_item.PluginItem.{PluginItem}
@@ -13,11 +13,11 @@ IsSteady item = (buffer : ℕ) → steady_of item.conf buffer ≡ Some buffer
 abbrev pub AreSteady : List PluginItem → Type 0
 AreSteady items = All IsSteady items
 
--- no stage wanted memory
+-- no stage ran out of memory
 abbrev pub NoStageWants : Cause → Type 0
 NoStageWants why = (k : ℕ) → why ≢ NoMemory k
 
--- the plugin behind `j` others does not take its room before the run
+-- the plugin after `j` others does not take its room before the run
 abbrev pub TakesLater : List PluginItem → ℕ → Type 0
 TakesLater [] j = ⊥
 TakesLater (item ∷ items) zero = IsSteady item → ⊥

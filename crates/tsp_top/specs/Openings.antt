@@ -52,7 +52,7 @@ IsGenerated seed count (Generated generator packets) =
 IsGenerated seed count _ = ⊥
 
 -- the part of an input that was opened: the null packets, the generated stream, or a source of the packets of a file.
--- `inner` is what is seen of the file's own source behind that one: it has all the file's bytes to come
+-- `inner` is what is seen of the file's own source after that one: all bytes of the file are left to it
 abbrev pub OpensInput : {S : Type 0} → (S → SourceView) → (S → SourceView) → DeskView → InputConf → InputPart S → Type 0
 OpensInput seen inner desk (input.File name form) (Stream source) =
     (inner source ≡ record { left = content desk name; faults = 0; origin = own_bytes })
@@ -78,7 +78,7 @@ OpensOutput seen desk (output.File name) (out.Stream sink) =
 OpensOutput seen desk output.Drop out.Discard = Unit {0}
 OpensOutput seen desk _ _ = ⊥
 
--- the desk after the input was closed: what it tells is the file's own source
+-- the desk after the input was closed: what is seen of it is the file's own source
 abbrev pub input_closed_as : {S : Type 0} → (S → SourceView) → DeskView → InputPart S → DeskView
 input_closed_as inner desk (Stream source) = input_closed desk (inner source)
 input_closed_as inner desk (Nulls packets) = desk

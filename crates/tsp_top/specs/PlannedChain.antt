@@ -26,7 +26,7 @@ stuffing_of general = record {
   every = general.add_input_stuffing.1;
 }
 
--- the input's packets: those of the bytes of its file without what stands before and behind each, null packets, or those
+-- the input's packets: those of the bytes of its file without the bytes before and after each, null packets, or those
 -- of a generated stream
 abbrev pub input_of : InputConf → List (List ℕ × List ℕ) → InputList
 input_of (input.File name form) files = input_of_bytes (stripped form (file_of files name))
@@ -50,7 +50,7 @@ users_of plan = if plan.general.ignore_joint_termination then [] else users_from
 abbrev pub named_rule_of : PluginItem → List (List ℕ) → NamedRule
 named_rule_of item table = record { rule = rule_of_item item table; name = name_of item.conf }
 
--- the first of tables, which is of no section where there is none, and those behind it
+-- the first of tables, which is of no section where there is none, and those after it
 abbrev pub first_table : List (List (List ℕ)) → List (List ℕ)
 first_table [] = []
 first_table (table ∷ tables) = table

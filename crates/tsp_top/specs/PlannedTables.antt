@@ -10,7 +10,7 @@ use Rattle.ts_outside.specs.Told.{grown}
 use Rattle.ts_outside.specs.Desk.{DeskView, content}
 use Rattle.chain_args.specs.declared.plan_type.Plan.{Plan}
 
--- a file was read, and these are its sections, or why it has none: those of its bytes where the desk tells them, and
+-- a file was read, and these are its sections, or why it has none: those of its bytes where they are known, and
 -- where it does not, of some
 pub record HasSections (desk : DeskView) (name : List ℕ)
     (sections : Result (List (List ℕ)) TableFileFault) : Type 0 where

@@ -28,7 +28,7 @@ use Rattle.tsp_top.specs.Reported.{ReportsRun}
 use Rattle.tsp_top.specs.declared.status.Status.{Status}
 use Rattle.tsp_top.specs.declared.status.Status.TheVariants.{NoMemory}
 
--- the desk after both ends were closed; `inner` is what is seen of the file's own source behind that of an input's packets,
+-- the desk after both ends were closed; `inner` is what is seen of the file's own source after that of an input's packets,
 -- here and below
 abbrev pub closed_desk : {S K : Type 0} → (S → SourceView) → (K → SinkView)
     → DeskView → InputPart S → OutputPart K → Bool → DeskView
@@ -65,7 +65,7 @@ OpensPlan see inner plan numbers old made from stuffing plugins to =
     (tables : List (List (List ℕ))) × AreTables old plan.plugins tables
     × IsOpened see inner plan tables numbers (tables_asked old plan) made from stuffing plugins to
 
--- what every run owes, whoever serves the stages: it was closed, or there was no memory for it
+-- what every run ensures, whoever serves the stages: it was closed, or there was no memory for it
 pub record EndsRun {S K P : Type 0} (see : Seeing S K P) (stuffing : Stuffing) (numbers : CorePlan)
     (from made_from : InputPart S) (plugins made : List P) (to made_to : OutputPart K)
     (closed : Result Closed AllocError) : Type 0 where

@@ -15,7 +15,7 @@ use Rattle.chain_model.specs.InputRead.{IsInSyncSoFar, list_at_fault, MayRead}
 use Rattle.tsp_top.specs.PlannedChain.{stuffing_of}
 use Rattle.tsp_top.specs.Sizes.{most_buffer}
 
--- nothing was read of the input: its file was closed with all its bytes still to come, and no read of it failed
+-- nothing was read of the input: its file was closed with all its bytes unread, and no read of it failed
 abbrev pub ReadsNothing : InputConf → List (List ℕ × List ℕ) → DeskView → DeskView → Type 0
 ReadsNothing (input.File name form) files old new =
     new.closed_in
@@ -23,7 +23,7 @@ ReadsNothing (input.File name form) files old new =
 ReadsNothing (input.Null count) files old new = new.closed_in ≡ old.closed_in
 ReadsNothing (input.TestGen seed count) files old new = new.closed_in ≡ old.closed_in
 
--- behind a failed read: these bytes of packets, which were read, show no lost sync, and the cut is where the stuffed list
+-- after a failed read: these bytes of packets, which were read, show no lost sync, and the cut is where the stuffed list
 -- of the whole packets among them ends
 pub record CutsAtRead (stuffing : Stuffing) (read : List ℕ) (failed : Bool) (cut : ℕ) : Type 0 where
   pub did_fail : failed ≡ true
@@ -35,9 +35,9 @@ pub record ReadsFile (general : GeneralConf) (form : Form) (file : List ℕ)
     (old new : DeskView) (cut : ℕ) (why : Cause) : Type 0 where
   pub read : List ℕ
   pub rest : List ℕ
-  -- whether a read failed, of what counts or behind it
+  -- whether a read failed, of what counts or after it
   pub failed : Bool
-  -- where the files are told: these bytes of the file were read, and so many were left
+  -- where the files are known: these bytes of the file were read, and so many were left
   pub bytes : IfSome old.files (λ told. file ≡ read ++ rest)
   pub closed : new.closed_in
       ≡ closed_with old.files old.closed_in (record { left = length rest; failed = failed })

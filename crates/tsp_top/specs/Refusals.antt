@@ -13,8 +13,8 @@ use Rattle.tsp_top.specs.declared.status.Status.TheVariants.{Words, NoMemory}
 abbrev pub words_line : ℕ → WordsRule → List ℕ
 words_line word rule = codes "tsp: " ++ (rule_text rule ++ (codes " at word " ++ (decimal word ++ 10 ∷ [])))
 
--- nothing is opened: the rule's line is reported, whole or a first part of it where a report failed; or memory was
--- wanted, and nothing happened
+-- nothing is opened: the rule's line is reported, whole or a first part of it where a report failed; or memory
+-- ran out, and nothing happened
 abbrev pub RefusesWords : DeskView → DeskView → ℕ → WordsRule → Status → Type 0
 RefusesWords old new word rule status =
     ((failed : Bool) × (status ≡ Words (At word rule)) × Says old new (words_line word rule) failed)

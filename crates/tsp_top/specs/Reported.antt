@@ -11,15 +11,15 @@ use Rattle.chain_model.specs.PluginRule.{PluginRule}
 use Rattle.chain_model.specs.Apply.{StageList}
 use Rattle.chain_run.specs.Met.{AllMetTo}
 
--- the plugins met the cells before the cut of the lists of some chain; the first of them stands behind stage `j`
+-- the plugins met the cells before the cut of the lists of some chain; the first of them comes after stage `j`
 pub record ReachesCut {P : Type 0} (stands : P → List Cell → ℕ → Type 0)
     (plugins : List P) (cut j : ℕ) : Type 0 where
   pub rules : List PluginRule
   pub input : StageList
   pub met : AllMetTo stands rules input cut j plugins
 
--- a run is reported: its text is, whole or a first part of it where a report failed, and the status tells it;
--- or memory was wanted for the text, and nothing is reported
+-- a run is reported: its text is, whole or a first part of it where a report failed, and the status is its own;
+-- or memory ran out for the text, and nothing is reported
 abbrev pub ReportsRun : List ℕ → Cause → Bool → DeskView → DeskView → Status → Type 0
 ReportsRun text why closing_failed old new status =
     ((failed : Bool) × Says old new text failed

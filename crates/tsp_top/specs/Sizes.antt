@@ -1,4 +1,4 @@
--- The sizes of a run. This project's own rule: a size that the words give holds as it stands; one that they do not give is
+-- The sizes of a run. This project's own rule: a size that the words give is used as given; one that they do not give is
 -- the program's own choice, at most the option's default. No byte and no line depends on them.
 use Rattle.std.specs.Prelude.{◌≡◌, ◌≤◌, ℕ, min, Option, None, Some, unwrap_or}
 use Rattle.chain_args.specs.declared.general_conf.GeneralConf.{GeneralConf}
@@ -10,7 +10,7 @@ default_buffer = 89240
 abbrev pub default_batch : ℕ
 default_batch = 10000
 
--- a size that is given holds; one that is not given is some number, at most the default
+-- a size that is given is used; one that is not given is some number, at most the default
 abbrev pub IsSize : Option ℕ → ℕ → ℕ → Type 0
 IsSize (Some given) default size = size ≡ given
 IsSize None default size = (1 ≤ size) × (size ≤ default)

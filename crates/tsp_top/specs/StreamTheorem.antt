@@ -1,4 +1,4 @@
--- The stream theorem: what a call of `tsp` reads, writes, reports, opens and answers. This project's own rule.
+-- The stream theorem: what a call of `tsp` reads, writes, reports, opens and returns. This project's own rule.
 use Rattle.std.specs.Prelude.{◌≡◌, ◌⊎◌, ℕ, List, [], ◌∷◌, ◌++◌, take, drop, codes, true, false, IfSome}
 use Rattle.chain_model.specs.Prefix.{IsPrefix}
 use Rattle.chain_model.specs.StageLists.{end_list}
@@ -31,12 +31,12 @@ EndsRight chain (ran cut why late) = IsPureOrFault chain cut why
 EndsRight chain (unreported cut why) = IsPureOrFault chain cut why
 EndsRight chain _ = Unit {0}
 
--- after a failing write alone, a part of the packet behind the cut was taken too
+-- only after a failed write, a part of the packet after the cut was taken too
 abbrev pub IsCutPart : List Cell → ℕ → Cause → List ℕ → Type 0
 IsCutPart cells cut WriteFault part = IsPartOfFirst (drop cut cells) part
 IsCutPart cells cut _ part = part ≡ []
 
--- the bytes of the cells before the cut, and after a failing write alone a part of the next packet
+-- the bytes of the cells before the cut, and only after a failed write a part of the next packet
 abbrev pub IsWrittenTo : Chain → ℕ → Cause → List ℕ → Type 0
 IsWrittenTo chain cut why bytes =
     (part : List ℕ) × (bytes ≡ written_to chain cut ++ part)
@@ -94,14 +94,14 @@ Opens plan old new out_of_memory =
 -- a call of `tsp` whose words have this plan and whose plugins have these tables, from when their files were read
 pub record StreamTheorem (plan : Plan) (tables : List (List (List ℕ))) (old new : DeskView) (status : Status) : Type 0 where
   pub end : CallEnd
-  -- the files by name: those that the desk tells, and where it tells none, some
+  -- the files by name: those of the desk where they are known, else some
   pub files : List (List ℕ × List ℕ)
   pub files_are : IfSome old.files (λ told. files ≡ told)
-  -- the status tells the cause
+  -- the status is that of the cause
   pub status_tells_cause : StatusTellsCause (output_name plan.output) old new status end
   -- it is an end that this plan can come to
   pub can_end : CanEnd plan end
-  -- a cause without fault is the cause of the run without faults, at its cut
+  -- a cause that is no fault is the cause of the run without faults, at its cut
   pub pure_or_fault : EndsRight (chain_of plan tables files) end
   -- what is read
   pub reads : Reads plan files old new end

@@ -18,7 +18,7 @@ pub data TableEnd : Type 0 where
   -- it was read, or begun to be, and has no sections, for this reason
   refused : (fault : TableFileFault) → TableEnd
 
--- the status that tells it, of the plugin of this number
+-- its status, where it is the file of the plugin of this number
 abbrev pub status_of_table : ℕ → TableEnd → Status
 status_of_table plugin unread = ReadFault
 status_of_table plugin (refused fault) = TableFile plugin fault
@@ -47,14 +47,14 @@ pub record EndsAtTable (plugin : ℕ) (name : List ℕ) (old new : DeskView) (st
   pub failed : Bool
   pub desk_is : Says (desk_after_table old name end) new (table_line plugin end) failed
 
--- memory was wanted while files of these names were read, or behind that: the first of them were asked for, and nothing
+-- memory ran out while files of these names were read, or after that: the first of them were asked for, and nothing
 -- else was done
 pub record WantsAtTables (names : List (List ℕ)) (old new : DeskView) (status : Status) : Type 0 where
   pub status_is : status ≡ NoMemory
   pub count : ℕ
   pub desk_is : new ≡ files_asked old (take count names)
 
--- the file ended the call, or memory was wanted
+-- the file ended the call, or memory ran out
 abbrev pub IsOverAtTable : ℕ → List ℕ → DeskView → DeskView → Status → Type 0
 IsOverAtTable plugin name old new status =
     EndsAtTable plugin name old new status ⊎ WantsAtTables (name ∷ []) old new status
@@ -70,7 +70,7 @@ IsOverAtPlugin plugin item old new status =
     EndsAtPlugin plugin item old new status
     ⊎ WantsAtTables (name_if_any (table_file_of item.conf)) old new status
 
--- a file that was asked for is refused: its line was reported; or memory was wanted for the line, and nothing happened
+-- a file that was asked for is refused: its line was reported; or memory ran out for the line, and nothing happened
 abbrev pub RefusesTable : ℕ → TableFileFault → DeskView → DeskView → Status → Type 0
 RefusesTable plugin fault old new status =
     ((failed : Bool) × (status ≡ TableFile plugin fault) × Says old new (table_line plugin (refused fault)) failed)
@@ -86,7 +86,7 @@ pub record EndsAtTables (items : List PluginItem) (old new : DeskView) (status :
   pub tables_are : AreTables old before tables
   pub ends : EndsAtPlugin (length before + 1) item (files_asked old (table_files before)) new status
 
--- or memory was wanted
+-- or memory ran out
 abbrev pub IsOverAtTables : List PluginItem → DeskView → DeskView → Status → Type 0
 IsOverAtTables items old new status =
     EndsAtTables items old new status ⊎ WantsAtTables (table_files items) old new status

@@ -13,7 +13,7 @@ use Rattle.tsp_top.specs.TableEnds.{IsOverAtTables}
 use Rattle.tsp_top.specs.declared.status.Status.{Status}
 use Rattle.tsp_top.specs.declared.status.Status.TheVariants.{NoMemory}
 
--- a call whose chain is ready is over before its run: the stream theorem holds of it, or memory was wanting before
+-- a call whose chain is ready is over before its run: the stream theorem holds of it, or memory ran out before
 -- anything more was opened or reported
 abbrev pub IsOverBefore : Plan → List (List (List ℕ)) → DeskView → DeskView → Status → Type 0
 IsOverBefore plan tables old new status = StreamTheorem plan tables old new status ⊎ ((status ≡ NoMemory) × (new ≡ old))
@@ -25,12 +25,12 @@ pub record RunsPlan (plan : Plan) (old new : DeskView) (status : Status) : Type 
   pub theorem : StreamTheorem plan tables (tables_asked old plan) new status
 
 -- a call whose words have this plan: the files of its tables are read first; then the stream theorem holds, unless one
--- of them ended the call, or memory was wanted before the input was opened
+-- of them ended the call, or memory ran out before the input was opened
 abbrev pub CallsPlan : Plan → DeskView → DeskView → Status → Type 0
 CallsPlan plan old new status = RunsPlan plan old new status ⊎ IsOverAtTables plan.plugins old new status
 
 -- the words have a plan, and the call is one of it; or they have none, and the first broken rule is reported; or memory
--- was wanted before anything was opened or reported
+-- ran out before anything was opened or reported
 abbrev pub CallsTsp : List (List ℕ) → DeskView → DeskView → Status → Type 0
 CallsTsp words old new status =
     ((plan : Plan) × (plan_of words ≡ Some plan) × CallsPlan plan old new status)

@@ -1,4 +1,4 @@
--- What is left where memory was wanting, of chains whose plugins take their room before the run. This project's own rule.
+-- What is left where memory ran out, of chains whose plugins take their room before the run. This project's own rule.
 use Rattle.std.specs.Prelude.{◌≡◌, ◌⊎◌, ℕ, List, [], IfSome}
 use Rattle.chain_model.specs.declared.cause.Cause.{Cause}
 use Rattle.chain_args.specs.declared.plan_type.Plan.{Plan}
@@ -10,7 +10,7 @@ use Rattle.tsp_top.specs.PlannedChain.{chain_of, output_name}
 use Rattle.tsp_top.specs.PlannedTables.{AreTables}
 use Rattle.tsp_top.specs.StreamTheorem.{IsPureOrFault, WritesTo}
 
--- the run wrote all that its cut and cause say, and no stage wanted memory: only the report did
+-- the run wrote all that its cut and cause say, and no stage ran out of memory: only the report did
 pub record WroteUnreported (plan : Plan) (old new : DeskView) : Type 0 where
   pub tables : List (List (List ℕ))
   pub tables_are : AreTables old plan.plugins tables

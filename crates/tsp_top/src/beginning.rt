@@ -27,8 +27,8 @@ use std::alloc::{AllocError, Global};
 use ts_outside::{Desk, OpenFault, Source, say};
 use ts_section::Section;
 
-/// Reads the words, reads and opens what they name. The answer is the call that is open, ready for this driver, or the
-/// status of one that is over.
+/// Reads the words, and reads and opens what they name. Returns the open call, ready for this driver, or the status of a
+/// call that is over.
 pub(crate) fn begin<D: Desk>(
     alloc: Global,
     words: &[String],
@@ -129,7 +129,7 @@ fn open_ends<P: Plugin + Drop, D: Desk>(
     }
 }
 
-/// Opens the output behind an input that is open; where that fails, the input is closed.
+/// Opens the output after an input that is open; where that fails, the input is closed.
 fn open_behind<P: Plugin + Drop, D: Desk>(
     desk: &mut D,
     plan: Plan,

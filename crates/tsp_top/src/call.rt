@@ -21,19 +21,19 @@ use ts_outside::{Desk, Gate};
 /// then input and output are opened, in this order. The packets go from one through the plugins to the other, both are
 /// closed, and then the end line and the plugins' lines are reported. Of the statuses
 ///
-/// - `Words` comes where the words break a rule: its line is reported, and nothing is opened;
-/// - `NoMemory` where memory was wanting: before anything was opened, at the reading of a file of tables or the opening,
+/// - `Words` is returned where the words break a rule: its line is reported, and nothing is opened;
+/// - `NoMemory` where memory ran out: before anything was opened, at the reading of a file of tables or the opening,
 ///   in the run or for the report;
 /// - `TableFile` where a file of tables was read and has more than 16,777,216 bytes or no sections; its line is reported,
 ///   and nothing more is read or opened;
 /// - `ReadFault` where a file of tables was not read, the input was not opened, or a read failed that ended the run;
 /// - `WriteFault` where the output was not opened, where a write ended the run, or where the closing of the output or
-///   a report failed behind a run that would be `Done`;
+///   a report failed after a run that would be `Done`;
 /// - `Sync`, `Refused` and `TooLong` where that ended the run;
 /// - `Done` in all other cases.
 ///
-/// Each stage of the chain has a thread of its own where the program may use two processors; the runtime is there to wait
-/// and to start them with. It is `threaded_call` then, and else `serial_call`.
+/// Each stage of the chain has a thread of its own where the program may use two processors, and it is `threaded_call`
+/// then; else it is `serial_call`. The runtime starts the threads and waits for them.
 pub fn tsp_call<R: Threads + Wait + Sync, D: Desk, G: Gate>(
     rt: &R,
     alloc: Global,
@@ -68,7 +68,7 @@ pub fn threaded_call<R: Threads + Wait + Sync, D: Desk, G: Gate>(
     }
 }
 
-/// Does what `tsp_call` does, in one thread. It needs no handle, so it returns if the desk and the gate do.
+/// Does what `tsp_call` does, in one thread. It needs no handle, so it returns where the calls of the desk and the gate do.
 pub fn serial_call<D: Desk, G: Gate>(
     alloc: Global,
     words: &[String],

@@ -14,19 +14,19 @@ pub(crate) enum Driver {
     InOneThread,
 }
 
-/// On fewer processors every chain runs in one thread: there the stages do nothing at once.
+/// On fewer processors every chain runs in one thread, since no two stages would run at once.
 const LEAST_PROCESSORS: usize = 2;
 
 /// How many packets a stage with a thread of its own takes at a time. A batch that is handed on wakes a thread, which
-/// costs as much as some thousand steps of a small plugin; greater ones leave the processors' caches on their way.
+/// costs as much as some thousand steps of a small plugin; larger ones do not stay in the processors' caches.
 const BATCH_IN_THREADS: u64 = 2048;
 
 /// How many batches the buffer has where each stage has a thread, so that they have some to work on at once.
 const BATCHES_IN_THREADS: u64 = 4;
 
 impl Driver {
-    /// The driver for the processors on which the program may run. Where the system does not say how many they are, there
-    /// are enough for threads.
+    /// The driver for the processors on which the program may run. Where the system does not say how many there are,
+    /// it is that with threads.
     pub(crate) fn of_machine<R: Threads>(rt: &R) -> Driver {
         match available_parallelism(rt) {
             Ok(processors) => {
@@ -51,8 +51,8 @@ impl Driver {
         }
     }
 
-    /// How many packets the buffer has where the words do not say. One thread needs no more than a batch: the whole of it is
-    /// through the chain before the next is read.
+    /// How many packets the buffer has where the words do not say. One thread needs no more than a batch, which goes
+    /// through the whole chain before the next one is read.
     pub(crate) fn buffer(&self) -> u64
         ensures some { 1 ≤ result }
         ensures bound { result ≤ default_buffer }

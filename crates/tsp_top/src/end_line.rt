@@ -1,3 +1,5 @@
+//! The last line of the report of a run.
+
 ghost use Rattle.std.specs.Prelude.{◌≡◌, IfOk};
 ghost use Rattle.std.specs.String.{string_bytes};
 ghost use Rattle.chain_model.specs.Reports.{end_line};

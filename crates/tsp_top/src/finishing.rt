@@ -1,4 +1,4 @@
-//! A call behind its run: both ends are closed, and the run is reported.
+//! The end of a call: after its run both ends are closed, and the run is reported.
 ghost use Rattle.std.specs.Prelude.{◌≡◌, ◌≤◌, ℕ, List, length, map, IfOk};
 ghost use Rattle.chain_model.specs.Reports.{rules_of};
 ghost use Rattle.chain_core.specs.declared.core_plan.CorePlan.{CorePlan};

@@ -16,10 +16,10 @@ use std::thread::Threads;
 use thread_run::run_threads;
 use ts_outside::{Gate, Sink, Source};
 
-/// Runs a chain with a thread for each stage, and gives its parts back.
+/// Runs a chain with a thread for each stage, and returns its parts.
 ///
-/// `closed` is `AllocError` where memory was wanting for the run; then nothing was done. It may wait, and owes no
-/// return.
+/// `closed` is `AllocError` where memory ran out for the run; then nothing was done. It may wait; no clause
+/// says that it returns.
 pub(crate) fn run_in_threads<R, S, K, P, G>(
     rt: &R,
     alloc: Global,

@@ -1,4 +1,4 @@
-//! The top call of `tsp`: words and a desk come in; packets go out, reports are printed, a status comes back.
+//! The top call of `tsp`: words and a desk come in; packets go out, reports are printed, a status is returned.
 //! The program uses the clauses of `tsp_call`, the stream theorem, and nothing else.
 #![tactic(auto)]
 

@@ -13,12 +13,12 @@ use std::alloc::Global;
 use ts_outside::{Gate, Sink, Source};
 
 /// A stage takes no more packets at a time than this, however many the options allow: so many stay in the processor's
-/// cache from the input to the output, and each call of the outside still moves 188 KiB.
+/// cache from the input to the output, and each read or write still moves up to 188 KiB.
 pub(crate) const MOST_AT_A_TIME: usize = 1024;
 
-/// Runs a chain, its stages in turn in the caller's thread, and gives its parts back.
+/// Runs a chain, its stages in turn in the caller's thread, and returns its parts.
 ///
-/// `closed` is `AllocError` where memory was wanting for the run; then nothing was done.
+/// `closed` is `AllocError` where memory ran out for the run; then nothing was done.
 pub(crate) fn run_in_one_thread<S: Source, K: Sink, P: Plugin, G: Gate>(
     alloc: Global,
     stages: Stages<S, K, P>,

@@ -1,3 +1,5 @@
+//! A call whose two ends are open.
+
 use chain_args::Plan;
 use chain_core::CorePlan;
 use chain_run::Stages;

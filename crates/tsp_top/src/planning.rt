@@ -1,4 +1,4 @@
-//! What a run is given of its plan: the null packets that are put in, and the numbers of its core.
+//! The stuffing and the numbers of the core that a plan gives a run.
 ghost use Rattle.std.specs.Prelude.{◌≡◌, ◌≤◌, ◌<◌, ◌+◌, ◌++◌, suc, length, All};
 ghost use Rattle.chain_args.specs.LawfulPlan.{IsLawfulGeneral};
 ghost use Rattle.chain_args.specs.LawfulPlan as args;
@@ -29,7 +29,7 @@ pub(crate) fn planned_stuffing(general: &GeneralConf) -> Stuffing
     }
 }
 
-/// How many packets a stage takes at a time by an option that is not given, where the other one is.
+/// How many packets a stage takes at a time by an option that is not given where the other one is.
 const DEFAULT_BATCH: u64 = 10_000;
 
 /// How many packets the buffer has.

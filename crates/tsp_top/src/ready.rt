@@ -19,7 +19,7 @@ use stage_run::Stuffing;
 use std::alloc::{AllocError, Global};
 use ts_section::Section;
 
-/// What a plan gives a run, but for its two ends.
+/// All that a plan gives a run but its two ends.
 #[derive(Drop)]
 pub(crate) struct ReadyChain<P> {
     pub(crate) stuffing: Stuffing,
@@ -27,7 +27,7 @@ pub(crate) struct ReadyChain<P> {
     pub(crate) plugins: Vec<P>,
 }
 
-/// Takes the first of tables out; where there is none it is of no section.
+/// Takes out the first of the tables; where there is none, a table without sections.
 fn take_table(alloc: Global, tables: &mut Vec<Vec<Section>>) -> Vec<Section>
     ensures first { result.items ≡ first_table (map (λ table. table.items) tables.old.items) }
     ensures later { map (λ table. table.items) tables.new.items
@@ -40,7 +40,7 @@ fn take_table(alloc: Global, tables: &mut Vec<Vec<Section>>) -> Vec<Section>
     }
 }
 
-/// Puts what was made behind others.
+/// Appends a plugin that was made to others.
 fn push_made<P: Drop>(plugins: &mut Vec<P>, made: Result<P, AllocError>) -> Result<(), AllocError>
     ensures { OnOk result (IsOkAnd made (λ plugin. plugins.new.items ≡ plugins.old.items ++ plugin ∷ [])) }
 {
@@ -48,7 +48,7 @@ fn push_made<P: Drop>(plugins: &mut Vec<P>, made: Result<P, AllocError>) -> Resu
     Ok(())
 }
 
-/// Puts the plugins of these settings and tables, which met no cell yet, behind others.
+/// Appends the plugins of these settings and tables, which met no cell yet, to others.
 fn add_plugins(
     alloc: Global,
     plugins: &mut Vec<AnyPlugin>,

@@ -1,4 +1,4 @@
-//! The report of a run that was closed, and the status that tells it.
+//! The report of a run that was closed, and its status.
 ghost use Rattle.std.specs.Prelude.{◌≡◌, ◌<◌, ◌^◌, ◌||◌, ℕ, List, length, map, IfOk};
 ghost use Rattle.std.specs.String.{string_bytes};
 ghost use Rattle.chain_model.specs.Apply.{StageList};
@@ -16,7 +16,7 @@ use plugin_trait::Plugin;
 use std::alloc::{AllocError, Global};
 use ts_outside::{Desk, say};
 
-/// All that is reported of a run: what the plugins say of the cells before the cut, then the end line.
+/// All that is reported of a run: what the plugins report of the cells before the cut, then the end line.
 fn report_text<P: Plugin>(
     alloc: Global,
     plugins: &mut [P],
@@ -45,7 +45,7 @@ fn one_failed(closing_failed: bool, report_failed: bool) -> bool
     closing_failed || report_failed
 }
 
-/// Reports a run, and answers its status.
+/// Reports a run, and returns its status.
 pub(crate) fn report_run<P: Plugin, D: Desk>(
     alloc: Global,
     desk: &mut D,

@@ -1,4 +1,4 @@
-//! The report of a run: what each plugin has to say of the cells that count.
+//! The report of a run: what each plugin reports of the cells that count.
 ghost use Rattle.std.specs.Prelude.{◌≡◌, ℕ, ◌<◌, ◌+◌, ◌^◌, ◌≤◌, ◌++◌, length, map, OnOk, List};
 ghost use Rattle.std.specs.List.{flat_map};
 ghost use Rattle.std.specs.String.{string_bytes};
@@ -13,14 +13,14 @@ use plug_set::PluginItem;
 use plugin_trait::{Line, Plugin, report};
 use std::alloc::AllocError;
 
-/// Puts one line of plugin `j` behind the text.
+/// Appends one line of plugin `j` to the text.
 fn push_line(text: &mut String, j: usize, name: &str, said: &str) -> Result<(), AllocError>
     ensures { OnOk result (string_bytes text.new ≡ string_bytes text.old ++ plugin_line j name.now said.now) }
 {
     write!(text, "[{j}] {name}: {said}\n")
 }
 
-/// Puts the lines of plugin `j` behind the text.
+/// Appends the lines of plugin `j` to the text.
 fn push_lines(text: &mut String, j: usize, name: &str, lines: &[Line]) -> Result<(), AllocError>
     ensures { OnOk result (string_bytes text.new
         ≡ string_bytes text.old ++ flat_map (plugin_line j name.now) (map (λ line. line.text) lines.now)) }
@@ -31,7 +31,7 @@ fn push_lines(text: &mut String, j: usize, name: &str, lines: &[Line]) -> Result
     Ok(())
 }
 
-/// Puts what the plugins say of the first `cut` cells behind the text. The first of them stands behind stage `j`.
+/// Appends to the text what the plugins report of the first `cut` cells. The first of them comes after stage `j`.
 pub(crate) fn push_reports<P: Plugin>(
     text: &mut String,
     plugins: &mut [P],

@@ -1,3 +1,5 @@
+//! The statuses of a call, and their exit numbers.
+
 ghost use Rattle.std.specs.Prelude.{◌≡◌, ◌-◌, ◌^◌, min, if◌then◌else◌};
 ghost use Rattle.tsp_top.specs.CallEnd.{status_of, status_of_input, status_when_late};
 ghost use Rattle.tsp_top.specs.ExitNumber.{exit_number};
@@ -11,7 +13,7 @@ use table_file::TableFileFault;
 pub enum Status {
     /// Everything was written and reported.
     Done,
-    /// Memory was wanting.
+    /// Out of memory.
     NoMemory,
     /// The words are no command line; nothing was opened.
     Words(WordsFault),
@@ -64,7 +66,7 @@ pub(crate) fn status_of_cause(cause: Cause) -> Status
     }
 }
 
-/// A plugin's number as it is told.
+/// A plugin's number as a status has it: in 32 bits, where it saturates.
 fn told_plugin(plugin: usize) -> u32
     ensures { result ≡ min plugin (2 ^ 32 - 1) }
 {
@@ -83,7 +85,7 @@ fn status_of_input_end(how: InputEnd) -> Status
     }
 }
 
-/// The status where a report or the closing of the output failed, or did not.
+/// The status, by whether a report or the closing of the output failed.
 pub(crate) fn status_if_late(status: Status, late: bool) -> Status
     ensures { result ≡ (if late then status_when_late status else status) }
 {

@@ -1,3 +1,5 @@
+//! A call at a desk that never fails.
+
 ghost use Rattle.std.specs.Prelude.{◌≡◌, ◌⊎◌, ℕ, List, map, Some};
 ghost use Rattle.std.specs.String.{string_bytes};
 ghost use Rattle.chain_model.specs.PureRun.{pure_run};
@@ -17,8 +19,8 @@ use ts_outside::{OpenGate, SteadyDesk};
 
 /// Does what the words ask for at a desk that never fails, in one thread.
 ///
-/// There nothing is left open: where the words have a plan, and the files of its tables have these, the status is that of
-/// the run without faults over the files of the desk, unless memory was wanting.
+/// There the status is determined: where the words have a plan, and the files of its tables have these, the status is that of
+/// the run without faults over the files of the desk, unless memory ran out.
 pub fn steady_call(alloc: Global, words: &[String], desk: &mut SteadyDesk) -> Status
     ensures { (plan : Plan) (tables : List (List (List ℕ))) → plan_of (map string_bytes words.now) ≡ Some plan
         → AreTables (steady_desk desk.old) plan.plugins tables

@@ -1,4 +1,4 @@
-//! What follows from the stream theorem, as laws: facts and no code.
+//! What follows from the stream theorem. Laws; they run nothing.
 ghost use Rattle.std.specs.Prelude.{◌≡◌, ◌⊎◌, ℕ, List, Some};
 ghost use Rattle.chain_model.specs.PureRun.{pure_run};
 ghost use Rattle.chain_args.specs.PlanOf.{plan_of};
@@ -14,12 +14,12 @@ ghost use Rattle.tsp_top.specs.WantsMemory.{WantsMemoryFirst};
 ghost use Rattle.tsp_top.specs.declared.status.Status.{Status};
 ghost use Rattle.tsp_top.specs.declared.status.Status.TheVariants.{Done, NoMemory};
 
-/// Whatever the words that have a plan, the files and the sizes, a call that meets no fault outside and no want of memory
-/// writes exactly the packets, prints exactly the reports, and answers exactly the status, that applying the plugins one
-/// after another to the whole list of packets gives; each file of tables has sections, and its plugin those.
+/// Whatever the words that have a plan, the files and the sizes, a call that meets no fault outside and does not run out of
+/// memory writes exactly the packets, prints exactly the reports, and returns exactly the status, that applying the plugins
+/// one after another to the whole list of packets gives; each file of tables has sections, and its plugin those.
 ///
-/// Over a desk that does not tell its files, as the real one, it does so for some bytes of its input and some tables,
-/// unless a file of tables has none; null packets are known whatever the desk tells.
+/// Over a desk whose files are not known, as the real one, it does so for some bytes of its input and some tables, unless a
+/// file of tables has none; null packets are known in any case.
 pub fn headline()
     ensures told { (words : List (List ℕ)) (plan : Plan) (tables : List (List (List ℕ)))
         (files : List (List ℕ × List ℕ)) (old new : DeskView) (status : Status)
@@ -33,7 +33,7 @@ pub fn headline()
 {}
 
 /// Where the run without faults ends by the input's plain end, by joint termination, by `until` or by a stop, a call that
-/// meets no fault outside answers `Done`, or that memory was wanting.
+/// meets no fault outside returns `Done` or `NoMemory`.
 pub fn completeness()
     ensures { (words : List (List ℕ)) (plan : Plan) (tables : List (List (List ℕ)))
         (files : List (List ℕ × List ℕ)) (old new : DeskView) (status : Status)
@@ -50,7 +50,7 @@ pub fn sizes_change_nothing()
         → pure_run (chain_of other tables files) ≡ pure_run (chain_of one tables files) }
 {}
 
-/// Where all plugins take their room before the run, want of memory comes before it, or behind all that was written.
+/// Where all plugins take their room before the run, running out of memory comes before it, or after all that was written.
 pub fn memory_first()
     ensures { (words : List (List ℕ)) (plan : Plan) (old new : DeskView) (status : Status)
         → plan_of words ≡ Some plan → AreSteady plan.plugins

@@ -24,7 +24,7 @@ fn table_line_text(alloc: Global, said: &str, plugin: u32) -> Result<String, All
     format!(in alloc; "{said}{plugin}\n")
 }
 
-/// Reports that the file of a plugin has no tables, and answers its status.
+/// Reports that the file of a plugin has no tables, and returns its status.
 fn refuse_table<D: Desk>(alloc: Global, desk: &mut D, plugin: u32, fault: TableFileFault) -> Status
     ensures { RefusesTable plugin fault (D.seen desk.old) (D.seen desk.new) result }
 {
@@ -61,7 +61,7 @@ fn convert_table<D: Desk>(
 
 /// The sections of the file of this name, or the status where it was not read or has none.
 ///
-/// The line of a failed reading is made first, so that it is told whatever memory there is.
+/// The line of a failed reading is made first, so that it can be reported whatever memory is left then.
 fn read_table<D: Desk>(
     alloc: Global,
     desk: &mut D,
@@ -107,7 +107,7 @@ fn read_if_named<D: Desk>(
     }
 }
 
-/// Puts the tables of these plugins, the first of which has this number, behind those of the plugins before them.
+/// Appends the tables of these plugins, the first of which has this number, to those of the plugins before them.
 fn read_behind<D: Desk>(
     alloc: Global,
     desk: &mut D,
@@ -132,7 +132,7 @@ fn read_behind<D: Desk>(
     read_behind(alloc, desk, tables, rest, plugin + 1)
 }
 
-/// Reads the files of all plugins of a plan, and gives the tables of each.
+/// Reads the files of all plugins of a plan, and returns the tables of each.
 pub(crate) fn read_tables<D: Desk>(
     alloc: Global,
     desk: &mut D,

@@ -1,4 +1,4 @@
-//! What is answered where the words have no plan.
+//! The report and the status of words that have no plan.
 ghost use Rattle.std.specs.Prelude.{◌≡◌, IfOk};
 ghost use Rattle.std.specs.String.{string_bytes};
 ghost use Rattle.tsp_top.specs.Refusals.{words_line, RefusesWords};
@@ -16,7 +16,7 @@ fn words_line_text(alloc: Global, word: usize, rule: WordsRule) -> Result<String
     format!(in alloc; "tsp: {said} at word {word}\n")
 }
 
-/// Reports the broken rule, and answers its status.
+/// Reports the broken rule, and returns its status.
 pub(crate) fn refuse_words<D: Desk>(
     alloc: Global,
     desk: &mut D,

@@ -8,7 +8,7 @@ use Rattle.tsp_top.proofs.ReadyLemmas.{OneMore, one_more, rooms_behind, rules_be
 use Rattle.tsp_top.proofs.ready.+add_plugins.Goals as goal
 use Rattle.tsp_top.proofs.ready.+add_plugins.Goals.{In_ok-push_made}
 
--- the plugin that was made stands behind the others
+-- the plugin that was made comes after the others
 more : (t : ℕ) (c : In_ok-push_made t)
     → OneMore any.rule any.stands_for any.steady c.args.plugins.now.items c.push_made.new.plugins.items
     (rule_of_item c.in-Some.item.now c.take_table-table.result.items) (steady_of c.in-Some.item.now.conf c.args.buffer)
