@@ -1,4 +1,4 @@
--- The chain theorem: what every run of the machine comes to, whatever the order of the visits.
+-- The chain theorem: the result of every run of the machine, whatever the order of the visits.
 -- This project's own rule.
 use Rattle.std.specs.Prelude.{◌≡◌, ◌⊎◌, ℕ, suc, ◌+◌, ◌≤◌, List, length, take, Some}
 use Rattle.chain_model.specs.Prefix.{IsPrefix}

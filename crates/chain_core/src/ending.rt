@@ -9,7 +9,7 @@ use crate::Progress;
 use crate::limit::lesser;
 use chain_model::Cause;
 
-/// The least of the limit and of what the stages that ended by themselves have given.
+/// The least of the limit and of the numbers of cells that the stages gave that ended by themselves.
 pub(crate) fn least_end(progress: &[Progress], limit: Option<u64>) -> Option<u64>
     ensures { result ≡ least_among limit (endings_before (progress_in progress.now) (length progress.now)) }
 {

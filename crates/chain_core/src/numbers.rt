@@ -60,8 +60,8 @@ impl Core {
     }
 
     /// One visit of a stage, which gives `done` of the cells in its hands and reports the word. It is
-    /// the machine's visit, whatever the cells are, and its answer the machine's news. It takes no
-    /// memory.
+    /// the machine's visit, whatever the cells are, and it returns the machine's news. It
+    /// allocates nothing.
     pub fn visit(&mut self, stage: usize, done: usize, word: StageWord) -> News
         requires { MayVisit self.old.plan (progress_of_core self.old) self.old.told stage done word }
         ensures plan { self.new.plan ≡ self.old.plan }

@@ -76,7 +76,7 @@ impl Progress {
         }
     }
 
-    /// That cause, where the stage has given just as many cells as the cut.
+    /// That cause, where the stage has given exactly as many cells as the cut.
     pub(crate) fn cause_at(self, stage: usize, cut: u64) -> Option<Cause>
         ensures { option_to_list result ≡ causes_at cut (ending_of_progress stage self) }
     {

@@ -2,7 +2,7 @@
 
 use crate::StageEnd;
 
-/// What a stage reports with a visit, beside the cells that it gives.
+/// What a stage reports with a visit, besides the cells that it gives.
 #[derive(Clone, Copy, PartialEq, Eq)]
 pub struct StageWord {
     /// The number of cells at which the plugin agrees to end, reported with the visit that gives the

@@ -41,7 +41,7 @@ abbrev pub is_until : Cause → Bool
 is_until (Until k) = true
 is_until _ = false
 
--- the causes of the endings that stand at the cut, in the order of the stages
+-- the causes of the endings that are at the cut, in the order of the stages
 abbrev pub causes_at : ℕ → List Ending → List Cause
 causes_at cut endings = map (λ e. e.cause) (filter (λ e. e.at == cut) endings)
 
@@ -49,7 +49,7 @@ causes_at cut endings = map (λ e. e.cause) (filter (λ e. e.at == cut) endings)
 abbrev pub first_cause : List Cause → Option Cause
 first_cause causes = option_or (find is_until causes) (last_or None causes)
 
--- joint termination comes first; where no ending stands at the cut, it is the joint position
+-- joint termination comes first; where no ending is at the cut, it is the joint position
 abbrev pub cause_among : ℕ → Option ℕ → List Ending → Cause
 cause_among cut joint endings =
     if is_at joint cut then Joint else unwrap_or (first_cause (causes_at cut endings)) Joint
@@ -84,7 +84,7 @@ is_fault WriteFault = true
 is_fault (NoMemory k) = true
 is_fault _ = false
 
--- a fault may end the chain at `m`: not after the cut, and not where another cause stands before it
+-- a fault may end the chain at `m`: not after the cut, and not where another cause comes before it
 pub record IsLawfulFault (rules : List PluginRule) (input : StageList) (users : List ℕ) (m : ℕ) (cause : Cause) : Type 0 where
   pub fault : IsTrue (is_fault cause)
   pub within : m ≤ cut_of rules input users

@@ -11,7 +11,7 @@ pub record InputList : Type 0 where
   pub packets : List (List ℕ)
   pub ended : InputEnd
 
--- a whole packet stands at the front of the bytes
+-- the bytes begin with a whole packet
 abbrev pub is_packet_in_front : List ℕ → Bool
 is_packet_in_front bytes = nat_le PACKET_SIZE (length bytes) && slice_index bytes 0 == SYNC_BYTE
 

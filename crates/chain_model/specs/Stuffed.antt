@@ -11,7 +11,7 @@ use Rattle.chain_model.specs.declared.input_end.InputEnd.TheVariants.{End, TooLo
 use Rattle.chain_model.specs.Apply.{StageList, input_over}
 use Rattle.chain_model.specs.InputList.{InputList}
 
--- how many null packets stand before the input's, after its end, and after each `every`-th of its packets
+-- how many null packets come before the input's, after its end, and after each `every`-th of its packets
 pub record Stuffing : Type 0 where
   pub start : ℕ
   pub stop : ℕ

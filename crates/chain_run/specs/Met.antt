@@ -22,7 +22,7 @@ AllMetTo stands rules input cut j [] = Unit {0}
 AllMetTo stands rules input cut j (plugin ∷ plugins) =
     MetTo stands plugin (stage_list rules input j).cells cut × AllMetTo stands rules input cut (suc j) plugins
 
--- a plugin met just the first `count` cells of a list, those before the cut among them, and was given no mark above the cut
+-- a plugin met exactly the first `count` cells of a list, those before the cut among them, and was given no mark above the cut
 pub record MetFirst {P : Type 0} (stands : P → List Cell → ℕ → Type 0) (plugin : P) (list : List Cell)
     (count cut : ℕ) : Type 0 where
   pub mark : ℕ

@@ -1,4 +1,4 @@
--- What one stage of a run stands for, in words of that stage alone. This project's own rule.
+-- What one stage of a run stands for, in terms of that stage alone. This project's own rule.
 use Rattle.std.specs.Prelude.{◌≡◌, ℕ, suc, ◌<◌, ◌≤◌, List, ◌++◌, length, take, drop, slice_index_or, Option, None, Some}
 use Rattle.ts_packet.specs.declared.cell.Cell.{Cell}
 use Rattle.chain_model.specs.PluginRule.{PluginRule}

@@ -1,4 +1,4 @@
--- A run in one thread, between the turns of its stages: what it has beside what every run has. This project's own rule.
+-- A run in one thread, between the turns of its stages: what it has besides what every run has. This project's own rule.
 use Rattle.std.specs.Prelude.{◌≡◌, ℕ, zero, suc, ◌+◌, ◌-◌, ◌<◌, ◌≤◌, List, [], length, if◌then◌else◌, None, is_some}
 use Rattle.ts_packet.specs.declared.cell.Cell.{Cell}
 use Rattle.chain_model.specs.declared.positions.TheConstants.{POSITION_LIMIT}
@@ -37,7 +37,7 @@ module _ {S K P : Type 0} (see : Seeing S K P) (begun : RunStart S K) where
         → (k : ℕ) → ((state_after begun.plan visits).stages k).ended ≡ None
         → StageKeeps begun.rules input begun.plan.plugins k (took (state_after begun.plan visits) k)
         ((state_after begun.plan visits).stages k).given [] nothing_told
-    -- what a stage gave and the next one has not stands in the buffer
+    -- what a stage gave and the next one has not is in the buffer
     pub buffer : (k : ℕ) → k ≤ begun.plan.plugins
         → HoldsFrom (slot cells) (length ((state_after begun.plan visits).stages (suc k)).given)
         (between (state_after begun.plan visits) k)

@@ -91,7 +91,7 @@ pub record StageLaws {S K P : Type 0} (see : Seeing S K P) : Type 0 where
   pub may_work : (begun : RunStart S K) (visits : List Visit) (k : ℕ) (part : StagePart S K P) (lists : PartLists)
       (known : Premise S K P) (news : News) → HasNews see begun visits k part lists known news
       → MayWork (PartStands see part) (length ((state_after begun.plan visits).stages k).given) news.written lists
-  -- and this is what the work comes to
+  -- the result of the work
   pub works : (begun : RunStart S K) (visits : List Visit) (k : ℕ) (old new : StagePart S K P) (lists : PartLists)
       (known : Premise S K P) (news : News) (window window_new : List Cell) (work : Work)
       → HasNews see begun visits k old lists known news → WorksOn see begun visits k old new news window window_new work

@@ -23,7 +23,7 @@ module _ {S K P : Type 0} (see : Seeing S K P) where
   abbrev pub IsRunningSomehow : CoreNumbers → List (StagePart S K P) → List Cell → Type 0
   IsRunningSomehow core parts cells = (begun : RunStart S K) × IsRunning begun core parts cells
 
-  -- the stage of this number worked on cells that stand in one row of the buffer
+  -- the stage of this number worked on cells that are in one row of the buffer
   pub record StageWorks (parts parts_new : List (StagePart S K P)) (cells cells_new : List Cell)
       (stage at : ℕ) (news : News) (work : Work) : Type 0 where
     pub old : StagePart S K P

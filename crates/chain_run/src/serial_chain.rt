@@ -46,7 +46,7 @@ pub(crate) struct SerialChain<S, K, P> {
     pub(crate) core: Core,
     /// The input, the plugins and the output, in this order.
     pub(crate) parts: Vec<StagePart<S, K, P>>,
-    /// The buffer: the cell at a position stands in the slot of that number modulo the number of slots.
+    /// The buffer: the cell at a position is in the slot of that number modulo the number of slots.
     pub(crate) cells: Vec<Cell>,
 }
 

@@ -20,8 +20,8 @@ use ts_outside::{Gate, Sink, Source};
 
 /// Plays an open play to its end, and returns source and output.
 ///
-/// Input and output run each in a thread of its own where these can be started, else both in the caller's. It may wait, and
-/// owes no return.
+/// Input and output run each in a thread of its own where these can be started, else both in the caller's. It may wait; no
+/// clause says that it returns.
 pub fn play_alone<R: Threads + Wait + Sync, S: Source + Send, K: Sink + Send, G: Gate>(
     rt: &R,
     alloc: Global,

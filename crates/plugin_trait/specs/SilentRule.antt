@@ -14,6 +14,6 @@ silent_rule_with outcome labels = record {
   agrees = λ _. false;
 }
 
--- the one that looks at no labels and leaves them as they are
+-- the silent rule that ignores labels and leaves them as they are
 abbrev pub silent_rule : (List Cell → List ℕ → RuleOutcome) → PluginRule
 silent_rule outcome = silent_rule_with (λ history packet _. outcome history packet) (λ _ _ labels. labels)

@@ -13,7 +13,7 @@ pub record MeetsSome (stands : List Cell → ℕ → Type 0) : Type 0 where
   pub mark : ℕ
   pub holds : stands history mark
 
--- a plugin that stands for some list of just so many cells
+-- a plugin that stands for some list of exactly so many cells
 pub record MeetsCells (stands : List Cell → ℕ → Type 0) (at : ℕ) : Type 0 where
   pub history : List Cell
   pub mark : ℕ

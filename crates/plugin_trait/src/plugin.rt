@@ -127,7 +127,7 @@ pub trait Plugin {
             → result ≡ (rule self.now).agrees history };
 
     /// Returns the lines on the first `cut` cells that were met, and the summary over them, whose lines
-    /// stand at `cut`. It is called once, with a cut that is no less than the greatest mark.
+    /// have the position `cut`. It is called once, with a cut that is no less than the greatest mark.
     fn finish(&mut self, cut: u64) -> Result<Vec<Line>, AllocError>
         requires { AllowsMark (stands_for self.old) cut }
         ensures { (history : List Cell) (mark : ℕ) → stands_for self.old history mark → mark ≤ cut

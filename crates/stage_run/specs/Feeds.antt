@@ -43,7 +43,7 @@ pub record StreamStands {S : Type 0} (seen : S → SourceView) (stream : PacketS
   pub read_is : read ≡ concat rows ++ hand_of stream
   pub source : StandsAtSource first (seen stream.source) read (hand_of stream) (length rows) ended
 
--- the bytes in hand stand within the room
+-- the bytes in hand lie within the buffer
 abbrev pub HasRoom : {S : Type 0} → PacketStream S → Type 0
 HasRoom stream = stream.from + stream.have ≤ vec_len stream.room.bytes
 

@@ -20,7 +20,7 @@ pub record PartLists : Type 0 where
   -- the greatest mark that a plugin was given
   pub mark : ℕ
 
--- the lists of a part that was just made
+-- the lists of a new part
 abbrev pub fresh_lists : SourceView → SinkView → ℕ → PartLists
 fresh_lists source sink mark = record {
   met = [];

@@ -1,4 +1,4 @@
--- The one relation of a part to the lists that it stands for. This project's own rule.
+-- The relation of a part to the lists that it stands for. This project's own rule.
 use Rattle.std.specs.Prelude.{◌≡◌, ℕ, ◌≤◌, length, Option, None, Some}
 use Rattle.chain_model.specs.PluginRule.{PluginRule, passing_rule}
 use Rattle.chain_model.specs.Apply.{StageList}

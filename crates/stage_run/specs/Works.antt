@@ -147,7 +147,7 @@ WorksByKind see (part.Output old) (part.Output new) before news cells cells_new 
     OutputWorks see.sink old new before news cells cells_new work after
 WorksByKind see _ _ before news cells cells_new work after = ⊥
 
--- a stage that stood for the lists `before` stands for the lists `after` now, and did what is to be done
+-- a stage that stood for the lists `before` stands for the lists `after` now, and did its work
 pub record Works (Stands : PartLists → Option StageEnd → Type 0) (Does : PartLists → Type 0)
     (before : PartLists) (written : ℕ) (cells cells_new : List Cell) (work : Work) : Type 0 where
   pub after : PartLists
@@ -179,7 +179,7 @@ pub record StageWork (Old New : PartLists → Option StageEnd → Type 0) (Wants
   -- an agreement is with one of the cells that were done
   pub agreed : (agreed : ℕ) → work.word.agreed ≡ Some agreed → (at < agreed) × (agreed ≤ at + work.done)
   pub memory : work.word.ended ≡ Some NoMemory → Wants (news.taken - news.written)
-  -- whatever lists it stood for, it stands for longer ones, and did what is to be done
+  -- whatever lists it stood for, it stands for longer ones, and did its work
   pub works : (before : PartLists) → MayWork Old at news.written before
       → Works New (Does before) before news.written cells cells_new work
 
@@ -205,7 +205,7 @@ OutputWork seen old new at news cells cells_new work =
     StageWork (OutputStands seen old) (OutputStands seen new) (λ _. ⊥) DoesAll
     (λ before. OutputWorks seen old new before news cells cells_new work) at news cells cells_new work
 
--- a part worked on cells that come after its first `at`; it stays what it is
+-- a part worked on cells that come after its first `at`; its kind does not change
 pub record PartWork {S K P : Type 0} (see : Seeing S K P) (old new : StagePart S K P)
     (at : ℕ) (news : News) (cells cells_new : List Cell) (work : Work) : Type 0 where
   pub same_kind : kind_of new ≡ kind_of old

@@ -61,7 +61,7 @@ impl<S: Source> PacketStream<S> {
         self.from = 0;
     }
 
-    /// Reads once, at most as much as `wanted` packets need beside the bytes in hand, if there is room for it.
+    /// Reads once, at most as much as `wanted` packets need besides the bytes in hand, if there is room for it.
     fn read_more(&mut self, wanted: usize) -> Result<usize, Failed>
         requires some { 1 ≤ wanted }
         requires few { self.old.have < PACKET_SIZE }
@@ -80,7 +80,7 @@ impl<S: Source> PacketStream<S> {
         Ok(count)
     }
 
-    /// Reads until a whole packet stands in front of the bytes in hand, or returns how the packets ended.
+    /// Reads until the bytes in hand begin with a whole packet, or returns how the packets ended.
     ///
     /// The first byte of a packet that was read is checked before any further read. No more is read than `wanted` packets
     /// need after those that were put.
@@ -143,7 +143,7 @@ impl<S: Source> PacketStream<S> {
         self.packets += 1;
     }
 
-    /// Whether a whole packet stands in front of the bytes in hand.
+    /// Whether the bytes in hand begin with a whole packet.
     fn has_packet(&self) -> bool
         requires { HasRoom self.now }
         ensures { result ≡ true → BeginsPacket (hand_of self.now) }

@@ -76,7 +76,8 @@ impl<S: Source, K: Sink, P: Plugin> StagePart<S, K, P> {
         StagePart::Output(OutputStage::of(part, room))
     }
 
-    /// Returns the input. Whatever it stands for, some list may be that of the input, and each such list ends by an end of the input.
+    /// Returns the input. Whatever it stands for, some list may be that of the input, and each such list ends by an end of
+    /// the input.
     pub fn into_input(self) -> InputPart<S>
         requires { kind_of self ≡ an_input }
         ensures stream { source_kind result ≡ stream_kind self }

@@ -3,7 +3,7 @@
 /// The null packets that the input puts in.
 #[derive(Clone, Copy, PartialEq, Eq)]
 pub struct Stuffing {
-    /// How many stand before the input's packets.
+    /// How many come before the input's packets.
     pub start: u64,
     /// How many come after the input's end, where it is a plain end.
     pub stop: u64,

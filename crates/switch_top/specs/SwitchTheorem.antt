@@ -70,7 +70,7 @@ pub record NothingLate (old new : DeskView) : Type 0 where
   pub writes : new.write_faults ≡ old.write_faults
   pub reports : new.report_faults ≡ old.report_faults
 
--- a play was asked for in vain, or a source was closed with a fault, after which one more was closed at most
+-- a play could not be opened, or a source was closed with a fault, after which one more was closed at most
 abbrev pub ReadFailed : DeskView → DeskView → Type 0
 ReadFailed start new =
     ((before : List Asked) × (play : PlayName) × (ahead : List Asked) × (length ahead ≤ 1)

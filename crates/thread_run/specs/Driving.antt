@@ -19,7 +19,7 @@ AreBeside F [] [] = Unit {0}
 AreBeside F (x ∷ xs) (y ∷ ys) = F x y × AreBeside F xs ys
 AreBeside F _ _ = ⊥
 
--- the answer of a stage that has ended
+-- the result for a stage that has ended
 abbrev pub is_ended : Turn → Bool
 is_ended Ended = true
 is_ended _ = false

@@ -42,7 +42,7 @@ pub record FoundBusy {S K P : Type 0} (old new : Stage S K P) : Type 0 where
   pub done : new.done ≡ old.done
   pub word : new.word ≡ old.word
 
--- the answer of a turn whose stage goes on: it waits for news where it has no cell in hand and no end to report
+-- the result of a turn whose stage goes on: it waits for news where it has no cell in hand and no end to report
 abbrev pub answer_of : Bool → Bool → Turn
 answer_of empty ends = if empty && not ends then Idle else Worked
 
@@ -70,7 +70,7 @@ module _ {S K P : Type 0} (see : Seeing S K P) where
     abbrev pub Ends : Stage S K P → Type 0
     Ends s = IsOver see begun base table s.seat s.part
 
-    -- what a turn leaves, by its answer
+    -- what a turn leaves, by its result
     abbrev pub Behind : Turn → Stage S K P → Stage S K P → Type 0
     Behind Busy old new = Stands new × FoundBusy old new
     Behind Ended old new = Ends new × MadeVisit old new

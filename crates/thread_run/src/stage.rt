@@ -31,7 +31,7 @@ struct HandWork {
     empty: bool,
 }
 
-/// A part works on the cells in the seat's hands, where they stand, up to the block's end.
+/// A part works in place on the cells in the seat's hands, up to the end of the block.
 fn work_in_hand<S: Source, K: Sink, P: Plugin, G: Gate>(
     seat: &mut StageSeat,
     part: &mut StagePart<S, K, P>,

@@ -84,8 +84,8 @@ fn try_threads<
 /// Drives the stages, each in a thread of its own, until they have ended. Where so many threads cannot be started, they stay
 /// as they are.
 ///
-/// Threads that come late are waited for, longer and longer. Only where the wait was too short is it asked whether so many
-/// can be started at all.
+/// Threads that come late are waited for, twice as long each time. Only after a wait that was too short it tries whether so
+/// many can be started at all.
 #[tactic(auto, using(crate::proofs::Carries::same, crate::proofs::Carries::then_, crate::proofs::Carries::still_ready))]
 fn drive_apart<
     R: Threads + Wait + Sync,

@@ -4,7 +4,7 @@ use crate::desk_plan::ORDINARY;
 use crate::inputs::Input;
 use crate::row::Row;
 
-/// The generated stream, at its bit rate and at a lesser one, with a jitter that is just no fault and with one less.
+/// The generated stream, at its bit rate and at a lower one, with the least allowed jitter that gives no fault and with one less.
 pub(crate) fn rows() -> &'static [Row] {
     &CLOCK_ROWS
 }

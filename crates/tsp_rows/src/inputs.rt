@@ -9,7 +9,7 @@ const OTHER_BYTE: u8 = 0x46;
 /// The two flags of `Input::Headed`.
 const FLAGS_BYTE: u8 = 0x90;
 
-/// The byte that stands before and after the packets of units.
+/// The byte of which the bytes before and after the packets of units consist.
 const BESIDE_BYTE: u8 = 0x99;
 
 /// So many bytes of packets on these PIDs, each with further bytes before and after it.

@@ -11,7 +11,7 @@ use std::fs;
 use std::fs::Files;
 use ts_outside::{FailPlan, FileBytes, FileList, MemoryDesk, NameText, NumberList};
 
-/// How many fields stand before the words.
+/// How many fields come before the words.
 const FIELDS: usize = 9;
 
 /// The words of a line's call.

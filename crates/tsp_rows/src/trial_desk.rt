@@ -4,7 +4,7 @@ use crate::inputs::{Input, input_bytes};
 use std::alloc::{AllocError, Global};
 use ts_outside::{FileBytes, FileList, MemoryDesk, NameText};
 
-/// The name of the file; it stands under the empty name, too, as the standard input.
+/// The name of the file; it has the empty name, too, as the standard input.
 const FILE_NAME: &str = "in";
 
 /// A text of one table: a PAT with the service 1 on PID 4096.

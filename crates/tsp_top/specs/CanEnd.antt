@@ -1,4 +1,4 @@
--- The ends that a plan can come to: none of a stage or a stream that it does not have. This project's own rule.
+-- The ends that a plan can have: none of a stage or a stream that it does not have. This project's own rule.
 use Rattle.std.specs.Prelude.{zero, suc, IsSome}
 use Rattle.chain_model.specs.declared.input_end.InputEnd.TheVariants.{ReadFault}
 use Rattle.chain_model.specs.declared.cause.Cause.{Cause}

@@ -38,7 +38,7 @@ abbrev pub table_files : List PluginItem → List (List ℕ)
 table_files [] = []
 table_files (item ∷ items) = name_if_any (table_file_of item.conf) ++ table_files items
 
--- the desk after files of these names were asked for, one after another, and nothing went wrong
+-- the desk after files of these names were asked for, one after another, without a fault
 abbrev pub file_asked : List ℕ → Asked
 file_asked name = record { purpose = File; name = name; ok = true }
 

@@ -99,7 +99,7 @@ pub record StreamTheorem (plan : Plan) (tables : List (List (List ℕ))) (old ne
   pub files_are : IfSome old.files (λ told. files ≡ told)
   -- the status is that of the cause
   pub status_tells_cause : StatusTellsCause (output_name plan.output) old new status end
-  -- it is an end that this plan can come to
+  -- it is an end that this plan can have
   pub can_end : CanEnd plan end
   -- a cause that is no fault is the cause of the run without faults, at its cut
   pub pure_or_fault : EndsRight (chain_of plan tables files) end

@@ -33,7 +33,7 @@ abbrev pub desk_after_table : DeskView → List ℕ → TableEnd → DeskView
 desk_after_table desk name unread = asked_in_vain desk File name
 desk_after_table desk name (refused fault) = asked_well desk File name
 
--- a file is refused only for what it is
+-- a file is refused only for its bytes
 abbrev pub CanEndByTable : DeskView → List ℕ → TableEnd → Type 0
 CanEndByTable desk name unread = Unit {0}
 CanEndByTable desk name (refused fault) = HasSections desk name (Err fault)

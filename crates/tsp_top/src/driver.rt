@@ -1,11 +1,11 @@
-//! Who serves the stages of a chain.
+//! The drivers of a chain's stages, and the sizes that go with them.
 ghost use Rattle.std.specs.Prelude.{◌≤◌};
 ghost use Rattle.tsp_top.specs.Sizes.{default_buffer, default_batch};
 
 use crate::one_thread::MOST_AT_A_TIME;
 use std::thread::{Threads, available_parallelism};
 
-/// Who serves the stages of a chain.
+/// The threads that serve the stages of a chain.
 #[derive(Clone, Copy)]
 pub(crate) enum Driver {
     /// A thread for each stage.

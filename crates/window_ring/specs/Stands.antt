@@ -27,7 +27,7 @@ link value k = on_link value.links.items k
 abbrev pub last_cells : Row → ℕ → List Cell
 last_cells row done = drop (length row.cells - done) row.cells
 
--- the last visit: the cells that it gave stand last on the link after its stage
+-- the last visit: the cells that it gave are the last ones on the link after its stage
 abbrev pub visit_in : CorePlan → State → Visit
 visit_in plan value =
     visit_of value.last.stage

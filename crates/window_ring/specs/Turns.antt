@@ -22,7 +22,7 @@ pub record Knows (key : Key) (history : List Visit) (owner : ℕ → ℕ) (root 
       v.held
   pub is_root : v.is_root ≡ true → (id ≡ root) × (v.made ≡ made)
 
--- nobody has the turn, and the value is at home
+-- no seat has the turn, and the value is in its slot
 pub record IsFree (key : Key) (s : table.State State View) (history : List Visit) : Type 0 where
   pub word : s.words ≡ 0 ∷ []
   pub value : State

@@ -1,4 +1,4 @@
-//! The ring: visits of stages come in from any thread, and cells are handed on where they stand in one block.
+//! The ring: visits of stages come in from any thread, and cells of one block are handed on in place.
 //! The layer above uses `Ring::visit` (held by another, or one visit of the machine), `Ring::close` and `one_run`.
 #![tactic(auto)]
 

@@ -56,7 +56,7 @@ impl Ring {
     /// no list.
     ///
     /// Nothing is missed where the rings were counted before the stage made its visit. What may be news for a stage, as
-    /// cells, free slots, an end beside it or the limit, another stage's visit makes within its turn, and it rings
+    /// cells, free slots, an end of a neighbour or the limit, the visit of another stage makes within its turn, and it rings
     /// after that turn. So either the stage's own visit came later and found the news, or the ring comes after the
     /// count, and this returns.
     pub fn wait_news<R: Wait>(&self, rt: &R, stage: usize, heard: u64) {

@@ -46,7 +46,7 @@ impl StageSeat {
         self.hand.lift_front()
     }
 
-    /// Puts back what was lifted, changed or not. Other cells stand nowhere in these hands.
+    /// Puts back what was lifted, changed or not. No other cells may be put back.
     pub fn put_front(&mut self, window: Window<Cell>)
         requires { (at : ℕ) × IsFront at self.old.hand window }
         ensures hand { (at : ℕ) → IsFront at self.old.hand window

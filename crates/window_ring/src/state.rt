@@ -25,7 +25,7 @@ pub struct State {
     pub core: Core,
     /// Before each stage the cells that wait for it; those that wait for the input are the free ones.
     pub links: Vec<Hand>,
-    /// The last visit: the cells that it gave stand last on the link after its stage.
+    /// The last visit: the cells that it gave are the last ones on the link after its stage.
     pub last: Last,
 }
 
