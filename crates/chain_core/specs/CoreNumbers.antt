@@ -52,7 +52,12 @@ noted_progress is_user progress done word = record {
 
 -- the progress of a stage that has taken so many cells more
 abbrev pub taking_progress : Progress → ℕ → Progress
-taking_progress progress n = record { given = progress.given; taken = progress.taken + n; agreed = progress.agreed; ended = progress.ended }
+taking_progress progress n = record {
+  given = progress.given;
+  taken = progress.taken + n;
+  agreed = progress.agreed;
+  ended = progress.ended;
+}
 
 -- the numbers when the cells and the word of a stage are noted
 abbrev pub noted_numbers : CoreNumbers → ℕ → ℕ → StageWord → CoreNumbers
@@ -66,7 +71,8 @@ noted_numbers core stage done word = record {
 abbrev pub served_numbers : CoreNumbers → ℕ → CoreNumbers
 served_numbers core stage = record {
   plan = core.plan;
-  progress = slice_set core.progress stage (taking_progress (progress_of_core core stage) (takes_of core.plan (progress_of_core core) stage));
+  progress = slice_set core.progress stage (taking_progress (progress_of_core core stage)
+      (takes_of core.plan (progress_of_core core) stage));
   told = if stage == suc core.plan.plugins then limit_of core.plan (progress_of_core core) else core.told;
 }
 

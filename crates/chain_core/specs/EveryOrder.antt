@@ -37,16 +37,21 @@ pub record SoFar (plan : CorePlan) (rules : List PluginRule) (input : StageList)
   pub lists : (k : ℕ) → k ≤ plan.plugins → IsPrefix (state.stages k).given (stage_list rules input k).cells
   pub output : IsPrefix (state.stages (suc plan.plugins)).given (end_list rules input).cells
   -- the limit, once known, is the joint position, and the output gave no more
-  pub limit_is_joint : (limit : ℕ) → limit_of plan (progress_of_stages state) ≡ Some limit → joint_position rules input (stages_of plan.users) ≡ Some limit
-  pub written_within : (limit : ℕ) → limit_of plan (progress_of_stages state) ≡ Some limit → length (state.stages (suc plan.plugins)).given ≤ limit
+  pub limit_is_joint : (limit : ℕ) → limit_of plan (progress_of_stages state) ≡ Some limit
+      → joint_position rules input (stages_of plan.users) ≡ Some limit
+  pub written_within : (limit : ℕ) → limit_of plan (progress_of_stages state) ≡ Some limit
+      → length (state.stages (suc plan.plugins)).given ≤ limit
   -- and it is known as soon as the input and every plugin gave so many cells
-  pub limit_when_due : (joint : ℕ) → joint_position rules input (stages_of plan.users) ≡ Some joint → ((k : ℕ) → k ≤ plan.plugins → joint ≤ length (state.stages k).given) → limit_of plan (progress_of_stages state) ≡ Some joint
+  pub limit_when_due : (joint : ℕ) → joint_position rules input (stages_of plan.users) ≡ Some joint
+      → ((k : ℕ) → k ≤ plan.plugins → joint ≤ length (state.stages k).given) → limit_of plan (progress_of_stages state) ≡ Some joint
   -- the input is ahead of the output by the buffer at most
   pub made : length (state.stages 0).given ≤ length (state.stages (suc plan.plugins)).given + plan.buffer
   -- a stage that ended did so as its list says
-  pub ends : (k : ℕ) (end : StageEnd) → (state.stages k).ended ≡ Some end → EndsAs plan.plugins k (stage_list rules input k) (state.stages k).given end
+  pub ends : (k : ℕ) (end : StageEnd) → (state.stages k).ended ≡ Some end
+      → EndsAs plan.plugins k (stage_list rules input k) (state.stages k).given end
   -- a stage that followed gave at least all that will count
-  pub followers : (k : ℕ) → (state.stages k).ended ≡ Some Followed → IsCutWithin plan (progress_of_stages state) (length (state.stages k).given)
+  pub followers : (k : ℕ) → (state.stages k).ended ≡ Some Followed
+      → IsCutWithin plan (progress_of_stages state) (length (state.stages k).given)
 
 -- the cause is joint termination at the limit, or a stage reported it and gave as much as counts
 abbrev pub IsToldCause : CorePlan → StagesProgress → ℕ → Cause → Type 0
@@ -55,7 +60,8 @@ IsToldCause plan progress cut cause =
     ⊎ ((k : ℕ) × EndsBy progress k cause × (k ≤ suc plan.plugins) × ((progress k).given ≡ cut))
 
 -- what holds at the end of a run, with its cut and its cause
-pub record AtClose (plan : CorePlan) (rules : List PluginRule) (input : StageList) (state : ChainState) (cut : ℕ) (cause : Cause) : Type 0 where
+pub record AtClose (plan : CorePlan) (rules : List PluginRule) (input : StageList) (state : ChainState) (cut : ℕ)
+    (cause : Cause) : Type 0 where
   -- what the output gave is the first `cut` cells of the last plugin's list
   pub written : (state.stages (suc plan.plugins)).given ≡ take cut (end_list rules input).cells
   -- each stage gave as much, one that followed too, and of its list

@@ -60,7 +60,8 @@ Agrees rules zero took before now told = Unit {0}
 Agrees rules (suc j) took before now told = KeepsAgreement (rule_behind rules j) (take now took) before told
 
 -- stage `k`, which took and gave these cells before, gives `cells` and reports the word as its list says
-pub record StageKeeps (rules : List PluginRule) (input : StageList) (plugins k : ℕ) (took given cells : List Cell) (word : StageWord) : Type 0 where
+pub record StageKeeps (rules : List PluginRule) (input : StageList) (plugins k : ℕ) (took given cells : List Cell)
+    (word : StageWord) : Type 0 where
   pub list : KeepsList plugins k (list_made rules input k took) (given ++ cells) word.ended
   pub agreement : Agrees rules k took (length given) (length given + length cells) word.agreed
 

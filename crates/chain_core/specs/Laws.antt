@@ -25,7 +25,8 @@ pub record ChangesOneStage (plan : CorePlan) (old new : ChainState) (visit : Vis
 pub record LeavesOthers (plan : CorePlan) (old new : ChainState) (visit : Visit) : Type 0 where
   pub allowed : (other : Visit) → other.stage ≢ visit.stage → Allowed plan old other → Allowed plan new other
   pub took_same : (j : ℕ) → j ≢ visit.stage → took new j ≡ took old j
-  pub keeps : (rules : List PluginRule) (input : StageList) (other : Visit) → other.stage ≢ visit.stage → Keeps plan rules input old other → Keeps plan rules input new other
+  pub keeps : (rules : List PluginRule) (input : StageList) (other : Visit) → other.stage ≢ visit.stage → Keeps plan rules input old other
+      → Keeps plan rules input new other
 
 -- what the news promise that stage `k` may receive in this state
 pub record NewsHold (plan : CorePlan) (state : ChainState) (k : ℕ) : Type 0 where
@@ -43,7 +44,9 @@ pub record NewsGrow (plan : CorePlan) (old new : ChainState) : Type 0 where
 -- nothing moves: a stage that goes on has taken all that waits and has given on all that it took, nothing
 -- lets it follow, and an input goes on only below the greatest position
 pub record IsQuiet (plan : CorePlan) (state : ChainState) : Type 0 where
-  pub took_all : (k : ℕ) → k ≤ suc plan.plugins → (state.stages k).ended ≡ None → reach_of plan (progress_of_stages state) k ≤ (state.stages k).taken
+  pub took_all : (k : ℕ) → k ≤ suc plan.plugins → (state.stages k).ended ≡ None
+      → reach_of plan (progress_of_stages state) k ≤ (state.stages k).taken
   pub gave_all : (k : ℕ) → k ≤ suc plan.plugins → (state.stages k).ended ≡ None → (state.stages k).taken ≤ length (state.stages k).given
-  pub not_following : (k : ℕ) → k ≤ suc plan.plugins → (state.stages k).ended ≡ None → MayFollow plan (progress_of_stages state) k (length (state.stages k).given) → ⊥
+  pub not_following : (k : ℕ) → k ≤ suc plan.plugins → (state.stages k).ended ≡ None
+      → MayFollow plan (progress_of_stages state) k (length (state.stages k).given) → ⊥
   pub input_below : (state.stages 0).ended ≡ None → length (state.stages 0).given < POSITION_LIMIT

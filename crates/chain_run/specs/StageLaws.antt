@@ -52,7 +52,8 @@ module _ {S K P : Type 0} (see : Seeing S K P) (begun : RunStart S K) where
     pub same_length : length window_new ≡ length window
     pub worked : PartWork see old new (length ((state_after begun.plan visits).stages k).given) news window window_new work
     pub window_is : (j : ℕ) → suc j ≡ k
-        → window ≡ take (length window) (drop (length ((state_after begun.plan visits).stages k).given) ((state_after begun.plan visits).stages j).given)
+        → window ≡ take (length window) (drop (length ((state_after begun.plan visits).stages k).given)
+        ((state_after begun.plan visits).stages j).given)
 
   -- what it stands for then, and that it may give what it worked on with its next visit, as its list says
   pub record HasWorked (visits : List Visit) (k : ℕ) (old new : StagePart S K P) (lists : PartLists)

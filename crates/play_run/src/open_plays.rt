@@ -40,7 +40,8 @@ pub trait OpenPlay<S: Source> {
 
 /// With a ring of its own: it may be read ahead.
 impl<S: Source, K: Sink> OpenPlay<S> for AheadPlay<S, K, NoPlugin> {
-    ghost is_open = { IsAhead (seeing S.seen K.seen ⟦<NoPlugin as Plugin>⟧.rule ⟦<NoPlugin as Plugin>⟧.stands_for ⟦<NoPlugin as Plugin>⟧.steady) };
+    ghost is_open = { IsAhead (seeing S.seen K.seen ⟦<NoPlugin as Plugin>⟧.rule ⟦<NoPlugin as Plugin>⟧.stands_for
+        ⟦<NoPlugin as Plugin>⟧.steady) };
 
     fn open(alloc: Global, plan: &CorePlan, source: S) -> Result<Self, S> {
         open_play(alloc, plan, source)

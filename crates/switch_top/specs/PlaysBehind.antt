@@ -57,13 +57,15 @@ all_asked behind = map (λ (b : Behind). asked_of true b.play) behind
 abbrev pub AskedFirst : List PlayName → List Asked → Type 0
 AskedFirst names asked = (before : List PlayName) × (rest : List PlayName) × (names ≡ before ++ rest)
     × ((asked ≡ map (asked_of true) before)
-    ⊎ ((play : PlayName) × (later : List PlayName) × (rest ≡ play ∷ later) × (asked ≡ map (asked_of true) before ++ asked_of false play ∷ [])))
+    ⊎ ((play : PlayName) × (later : List PlayName) × (rest ≡ play ∷ later)
+    × (asked ≡ map (asked_of true) before ++ asked_of false play ∷ [])))
 
 -- a play that is not played: it could not be opened; or it was, and closed when some of it may have been read
 abbrev pub LeavesPlay : DeskView → PlayName → List Asked → List SourceView → Type 0
 LeavesPlay start play ahead more =
     ((ahead ≡ asked_of false play ∷ []) × (more ≡ []))
-    ⊎ ((source : SourceView) × (ahead ≡ asked_of true play ∷ []) × (more ≡ source ∷ []) × WasAbandoned (opened_source start play.name) source)
+    ⊎ ((source : SourceView) × (ahead ≡ asked_of true play ∷ []) × (more ≡ source ∷ [])
+    × WasAbandoned (opened_source start play.name) source)
 
 -- after the last play that was played the first of these was asked for, and no other, and left; or there are none
 abbrev pub AsksNext : DeskView → List PlayName → List Asked → List SourceView → Type 0

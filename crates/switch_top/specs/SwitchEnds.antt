@@ -54,7 +54,8 @@ IsPart cells n (Input how) part = part ≡ []
 IsPart cells n WriteFault part = IsPartOfFirst (drop n cells) part
 
 -- a call whose plays were played: `start` is the desk when the output was open
-pub record SwitchRan (buffer : ℕ) (names : List PlayName) (output : Option (List ℕ)) (start new : DeskView) (answer : SwitchStatus) : Type 0 where
+pub record SwitchRan (buffer : ℕ) (names : List PlayName) (output : Option (List ℕ)) (start new : DeskView)
+    (answer : SwitchStatus) : Type 0 where
   pub behind : List Behind
   pub all : Each (IsBehind start) behind
   pub input : ℕ
@@ -69,14 +70,16 @@ pub record SwitchRan (buffer : ℕ) (names : List PlayName) (output : Option (Li
   pub plain_is_last : (left : ℕ) → end ≡ Input (how.End left) → later ≡ []
   pub part : List ℕ
   pub part_is : IsPart (play_of bytes).cells n end part
-  pub written_is : new.outputs ≡ outputs_with output start.outputs (written (cells_of behind) ++ (written (take n (play_of bytes).cells) ++ part))
+  pub written_is : new.outputs ≡ outputs_with output start.outputs
+      (written (cells_of behind) ++ (written (take n (play_of bytes).cells) ++ part))
   pub late : Bool
   pub closed : DeskView
   pub reported_before : closed.reported ≡ start.reported
   pub counted_before : closed.report_faults ≡ start.report_faults
   pub counts : CountsOutput start.write_faults closed.write_faults end late
   pub writes : new.write_faults ≡ closed.write_faults
-  pub reported : ReportsPlays (lines_of behind ++ (play_line input n end ++ switch_end_line input end (length (cells_of behind) + n))) input end late closed new answer
+  pub reported : ReportsPlays (lines_of behind ++ (play_line input n end ++ switch_end_line input end (length (cells_of behind) + n)))
+      input end late closed new answer
   pub ok : Bool
   pub ahead : List Asked
   pub asked : new.asked ≡ grown start.asked (all_asked behind ++ asked_of ok (record { input = input; name = name }) ∷ ahead)
@@ -119,10 +122,12 @@ opened_as desk None = desk
 opened_as desk (Some name) = asked_well desk purpose.Output name
 
 -- a call from its plan on
-pub data SwitchesPlan (buffer : ℕ) (names : List PlayName) (output : Option (List ℕ)) (old new : DeskView) (answer : SwitchStatus) : Type 0 where
+pub data SwitchesPlan (buffer : ℕ) (names : List PlayName) (output : Option (List ℕ)) (old new : DeskView)
+    (answer : SwitchStatus) : Type 0 where
   -- the output was not opened
   no_output : (name : List ℕ) → (failed : Bool) → output ≡ Some name → answer ≡ status.WriteFault
-      → Says (asked_in_vain old purpose.Output name) new (codes "tsswitch: cannot open output" ++ 10 ∷ []) failed → SwitchesPlan buffer names output old new answer
+      → Says (asked_in_vain old purpose.Output name) new (codes "tsswitch: cannot open output" ++ 10 ∷ []) failed
+      → SwitchesPlan buffer names output old new answer
   -- memory ran out before anything was asked for
   out_of_memory : answer ≡ status.NoMemory → new ≡ old → SwitchesPlan buffer names output old new answer
   wanted : SwitchWanted names output (opened_as old output) new answer → SwitchesPlan buffer names output old new answer

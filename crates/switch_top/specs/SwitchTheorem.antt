@@ -56,7 +56,8 @@ pub record WritesSwitched (plays : List PlayList) (output : Option (List ℕ)) (
 -- nothing was written, since no output was opened, or it is not known; or what was written begins the switched list
 abbrev pub WritesFirst : List PlayList → Option (List ℕ) → DeskView → DeskView → Type 0
 WritesFirst plays output old new = (new.outputs ≡ old.outputs)
-    ⊎ ((bytes : List ℕ) × (rest : List ℕ) × (new.outputs ≡ outputs_with output old.outputs bytes) × (written (switched plays) ≡ bytes ++ rest))
+    ⊎ ((bytes : List ℕ) × (rest : List ℕ) × (new.outputs ≡ outputs_with output old.outputs bytes)
+    × (written (switched plays) ≡ bytes ++ rest))
 
 -- a status after which the whole list is written
 abbrev pub TellsWhole : SwitchStatus → Type 0

@@ -75,7 +75,8 @@ fn finish_over<D: Desk, A: OpenPlay<D::In>>(
 ) -> SwitchStatus
     ensures { (core : CorePlan) (inputs : List (List ℕ)) (names : List PlayName) (start : DeskView)
         (first : OutputPart D.Out) (name : Option (List ℕ)) (buffer : ℕ)
-        → RanTo (kind_of D.In.seen D.Out.seen A.is_open) core inputs names start first over (D.seen desk.old) → IsOutputOf D.Out.seen start name first
+        → RanTo (kind_of D.In.seen D.Out.seen A.is_open) core inputs names start first over (D.seen desk.old)
+        → IsOutputOf D.Out.seen start name first
         → core.buffer ≡ buffer → SwitchRan buffer names name start (D.seen desk.new) result }
 {
     let Switched {
@@ -96,7 +97,8 @@ fn finish_wanting<D: Desk, A: OpenPlay<D::In>>(
 ) -> SwitchStatus
     ensures { (core : CorePlan) (inputs : List (List ℕ)) (names : List PlayName) (start : DeskView)
         (first : OutputPart D.Out) (name : Option (List ℕ))
-        → Wanted (kind_of D.In.seen D.Out.seen A.is_open) core inputs names start first output (D.seen desk.old) → IsOutputOf D.Out.seen start name first
+        → Wanted (kind_of D.In.seen D.Out.seen A.is_open) core inputs names start first output (D.seen desk.old)
+        → IsOutputOf D.Out.seen start name first
         → SwitchWanted names name start (D.seen desk.new) result }
 {
     let _ = close_output(desk, output).is_err();
@@ -111,8 +113,10 @@ pub(crate) fn finish_plays<D: Desk, A: OpenPlay<D::In>>(
 ) -> SwitchStatus
     ensures { (core : CorePlan) (inputs : List (List ℕ)) (names : List PlayName) (start : DeskView)
         (first : OutputPart D.Out) (name : Option (List ℕ)) (buffer : ℕ)
-        → AreAllPlayed (kind_of D.In.seen D.Out.seen A.is_open) core inputs names start first played (D.seen desk.old) → IsOutputOf D.Out.seen start name first
-        → core.buffer ≡ buffer → SwitchWanted names name start (D.seen desk.new) result ⊎ SwitchRan buffer names name start (D.seen desk.new) result }
+        → AreAllPlayed (kind_of D.In.seen D.Out.seen A.is_open) core inputs names start first played (D.seen desk.old)
+        → IsOutputOf D.Out.seen start name first
+        → core.buffer ≡ buffer → SwitchWanted names name start (D.seen desk.new) result
+        ⊎ SwitchRan buffer names name start (D.seen desk.new) result }
 {
     match played {
         AllPlayed::Over(over) => finish_over::<D, A>(alloc, desk, over),

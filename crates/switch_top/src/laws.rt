@@ -49,7 +49,8 @@ pub fn switched_status()
 /// opened then, `ReadFault` where a read failed and the failed opening or the closed source shows it, `WriteFault` where a
 /// write, a closing or a report failed.
 pub fn switched_faults()
-    ensures words { (words : List (List ℕ)) (old new : DeskView) (word : ℕ) → CallsSwitch words old new (Words word) → IsFirstFault words word }
+    ensures words { (words : List (List ℕ)) (old new : DeskView) (word : ℕ) → CallsSwitch words old new (Words word)
+        → IsFirstFault words word }
     ensures refused { (words : List (List ℕ)) (old new : DeskView) (answer : SwitchStatus) (word : ℕ) → IsFirstFault words word
         → CallsSwitch words old new answer → ((answer ≡ NoMemory) × (new ≡ old)) ⊎ RefusesWords word old new answer }
     ensures read { (words : List (List ℕ)) (given : Given) (old new : DeskView) → read_of words ≡ Some given

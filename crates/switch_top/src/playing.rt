@@ -41,7 +41,9 @@ fn play_from_first<R: Threads + Wait + Sync, D: Desk, G: Gate>(
     requires few { length plan.now.inputs.items ≤ 32 }
     requires cycle { plan.now.cycle ≤ 1000 }
     requires buffer { (1 ≤ plan.now.buffer) × (plan.now.buffer ≤ 1000000) }
-    ensures { (core : CorePlan) × (core.buffer ≡ plan.now.buffer) × AreAllPlayed (kind_of D.In.seen D.Out.seen ⟦<AheadPlay<D::In, D::Out, NoPlugin> as OpenPlay<D::In>>⟧.is_open) core plan.now.inputs.items (rows_of plan.now.cycle plan.now.inputs.items)
+    ensures { (core : CorePlan) × (core.buffer ≡ plan.now.buffer)
+        × AreAllPlayed (kind_of D.In.seen D.Out.seen ⟦<AheadPlay<D::In, D::Out, NoPlugin> as OpenPlay<D::In>>⟧.is_open) core
+        plan.now.inputs.items (rows_of plan.now.cycle plan.now.inputs.items)
         (D.seen desk.old) output result (D.seen desk.new) }
 {
     let core = CorePlan {
@@ -100,7 +102,8 @@ fn open_output<D: Desk>(desk: &mut D, to: &SwitchOutput) -> Result<OutputPart<D:
         (λ _. D.seen desk.new ≡ opened_as (D.seen desk.old) (output_name (output_of to.now)))
         ((name : List ℕ) × (output_name (output_of to.now) ≡ Some name) × (D.seen desk.new ≡ asked_in_vain (D.seen desk.old) Output name))
         (D.seen desk.new ≡ D.seen desk.old) }
-    ensures part { IfOk result (λ part. IsOutputOf D.Out.seen (opened_as (D.seen desk.old) (output_name (output_of to.now))) (output_name (output_of to.now)) part) }
+    ensures part { IfOk result (λ part. IsOutputOf D.Out.seen (opened_as (D.seen desk.old) (output_name (output_of to.now)))
+        (output_name (output_of to.now)) part) }
 {
     match to {
         SwitchOutput::Drop => Ok(OutputPart::Discard),

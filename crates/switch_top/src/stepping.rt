@@ -84,9 +84,12 @@ fn begin_next<S: Source, A: OpenPlay<S>, K: Sink>(
     alloc: Global,
     present: Present<A, K>,
 ) -> Flow<A, K>
-    requires counted { (core : CorePlan) × (inputs : List (List ℕ)) × (names : List PlayName) × (start : DeskView) × (first : OutputPart K) × (desk : DeskView) × IsCounted (kind_of S.seen K.seen A.is_open) core inputs names start first present desk }
+    requires counted { (core : CorePlan) × (inputs : List (List ℕ)) × (names : List PlayName) × (start : DeskView)
+        × (first : OutputPart K) × (desk : DeskView)
+        × IsCounted (kind_of S.seen K.seen A.is_open) core inputs names start first present desk }
     requires plain { (left : ℕ) × (present.cut.end ≡ Input (End left)) }
-    ensures { (core : CorePlan) (inputs : List (List ℕ)) (names : List PlayName) (start : DeskView) (first : OutputPart K) (desk : DeskView)
+    ensures { (core : CorePlan) (inputs : List (List ℕ)) (names : List PlayName) (start : DeskView) (first : OutputPart K)
+        (desk : DeskView)
         → (left_before : PlaysLeft) → IsCounted (kind_of S.seen K.seen A.is_open) core inputs names start first present desk
         → TakesNext inputs left_before present.left present.next
         → Steps (kind_of S.seen K.seen A.is_open) core inputs names start first left_before result desk }
@@ -137,7 +140,9 @@ fn end_here<R: Wait, D: Desk, A: OpenPlay<D::In>>(
     desk: &mut D,
     present: Present<A, D::Out>,
 ) -> Flow<A, D::Out>
-    requires counted { (core : CorePlan) × (inputs : List (List ℕ)) × (names : List PlayName) × (start : DeskView) × (first : OutputPart D.Out) × IsCounted (kind_of D.In.seen D.Out.seen A.is_open) core inputs names start first present (D.seen desk.old) }
+    requires counted { (core : CorePlan) × (inputs : List (List ℕ)) × (names : List PlayName) × (start : DeskView)
+        × (first : OutputPart D.Out) × IsCounted (kind_of D.In.seen D.Out.seen A.is_open) core inputs names start first present
+        (D.seen desk.old) }
     requires other { (left : ℕ) → present.cut.end ≡ Input (End left) → ⊥ }
     ensures { (core : CorePlan) (inputs : List (List ℕ)) (names : List PlayName) (start : DeskView) (first : OutputPart D.Out)
         → IsCounted (kind_of D.In.seen D.Out.seen A.is_open) core inputs names start first present (D.seen desk.old)
@@ -169,8 +174,10 @@ fn go_on<R: Wait, D: Desk, A: OpenPlay<D::In>>(
     desk: &mut D,
     present: Present<A, D::Out>,
 ) -> Flow<A, D::Out>
-    requires { (core : CorePlan) × (inputs : List (List ℕ)) × (names : List PlayName) × (start : DeskView) × (first : OutputPart D.Out) × IsCounted (kind_of D.In.seen D.Out.seen A.is_open) core inputs names start first present (D.seen desk.old) }
-    ensures { (core : CorePlan) (inputs : List (List ℕ)) (names : List PlayName) (start : DeskView) (first : OutputPart D.Out) (left_before : PlaysLeft)
+    requires { (core : CorePlan) × (inputs : List (List ℕ)) × (names : List PlayName) × (start : DeskView) × (first : OutputPart D.Out)
+        × IsCounted (kind_of D.In.seen D.Out.seen A.is_open) core inputs names start first present (D.seen desk.old) }
+    ensures { (core : CorePlan) (inputs : List (List ℕ)) (names : List PlayName) (start : DeskView) (first : OutputPart D.Out)
+        (left_before : PlaysLeft)
         → IsCounted (kind_of D.In.seen D.Out.seen A.is_open) core inputs names start first present (D.seen desk.old)
         → TakesNext inputs left_before present.left present.next
         → Steps (kind_of D.In.seen D.Out.seen A.is_open) core inputs names start first left_before result (D.seen desk.new) }
@@ -191,9 +198,13 @@ fn say_play<R: Wait, D: Desk, A: OpenPlay<D::In>>(
     desk: &mut D,
     present: Present<A, D::Out>,
 ) -> Flow<A, D::Out>
-    requires { (core : CorePlan) × (inputs : List (List ℕ)) × (names : List PlayName) × (start : DeskView) × (first : OutputPart D.Out) × IsPresent (kind_of D.In.seen D.Out.seen A.is_open) core inputs names start first present present.count (string_bytes present.text) (D.seen desk.old) }
-    ensures { (core : CorePlan) (inputs : List (List ℕ)) (names : List PlayName) (start : DeskView) (first : OutputPart D.Out) (left_before : PlaysLeft)
-        → IsPresent (kind_of D.In.seen D.Out.seen A.is_open) core inputs names start first present present.count (string_bytes present.text) (D.seen desk.old)
+    requires { (core : CorePlan) × (inputs : List (List ℕ)) × (names : List PlayName) × (start : DeskView) × (first : OutputPart D.Out)
+        × IsPresent (kind_of D.In.seen D.Out.seen A.is_open) core inputs names start first present present.count
+        (string_bytes present.text) (D.seen desk.old) }
+    ensures { (core : CorePlan) (inputs : List (List ℕ)) (names : List PlayName) (start : DeskView) (first : OutputPart D.Out)
+        (left_before : PlaysLeft)
+        → IsPresent (kind_of D.In.seen D.Out.seen A.is_open) core inputs names start first present present.count
+        (string_bytes present.text) (D.seen desk.old)
         → TakesNext inputs left_before present.left present.next
         → Steps (kind_of D.In.seen D.Out.seen A.is_open) core inputs names start first left_before result (D.seen desk.new) }
 {
@@ -238,8 +249,10 @@ fn close_played<R: Wait, D: Desk, A: OpenPlay<D::In>>(
     desk: &mut D,
     played: Played<D::In, A, D::Out>,
 ) -> Flow<A, D::Out>
-    requires { (core : CorePlan) × (inputs : List (List ℕ)) × (names : List PlayName) × (start : DeskView) × (first : OutputPart D.Out) × WasPlayed (kind_of D.In.seen D.Out.seen A.is_open) core inputs names start first played (D.seen desk.old) }
-    ensures { (core : CorePlan) (inputs : List (List ℕ)) (names : List PlayName) (start : DeskView) (first : OutputPart D.Out) (left_before : PlaysLeft)
+    requires { (core : CorePlan) × (inputs : List (List ℕ)) × (names : List PlayName) × (start : DeskView) × (first : OutputPart D.Out)
+        × WasPlayed (kind_of D.In.seen D.Out.seen A.is_open) core inputs names start first played (D.seen desk.old) }
+    ensures { (core : CorePlan) (inputs : List (List ℕ)) (names : List PlayName) (start : DeskView) (first : OutputPart D.Out)
+        (left_before : PlaysLeft)
         → WasPlayed (kind_of D.In.seen D.Out.seen A.is_open) core inputs names start first played (D.seen desk.old)
         → TakesNext inputs left_before played.left played.next
         → Steps (kind_of D.In.seen D.Out.seen A.is_open) core inputs names start first left_before result (D.seen desk.new) }
@@ -289,11 +302,16 @@ fn play_on<R: Threads + Wait + Sync, D: Desk, G: Gate>(
     state: Switching<AheadPlay<D::In, D::Out, NoPlugin>, D::Out>,
     mut next: NextPlay<AheadPlay<D::In, D::Out, NoPlugin>>,
 ) -> Flow<AheadPlay<D::In, D::Out, NoPlugin>, D::Out>
-    requires { (core : CorePlan) × (inputs : List (List ℕ)) × (names : List PlayName) × (start : DeskView) × (first : OutputPart D.Out) × IsReady (kind_of D.In.seen D.Out.seen ⟦<AheadPlay<D::In, D::Out, NoPlugin> as OpenPlay<D::In>>⟧.is_open) core inputs names start first state next (D.seen desk.old) }
-    ensures { (core : CorePlan) (inputs : List (List ℕ)) (names : List PlayName) (start : DeskView) (first : OutputPart D.Out) (left_before : PlaysLeft)
-        → IsReady (kind_of D.In.seen D.Out.seen ⟦<AheadPlay<D::In, D::Out, NoPlugin> as OpenPlay<D::In>>⟧.is_open) core inputs names start first state next (D.seen desk.old)
+    requires { (core : CorePlan) × (inputs : List (List ℕ)) × (names : List PlayName) × (start : DeskView) × (first : OutputPart D.Out)
+        × IsReady (kind_of D.In.seen D.Out.seen ⟦<AheadPlay<D::In, D::Out, NoPlugin> as OpenPlay<D::In>>⟧.is_open) core inputs names start
+        first state next (D.seen desk.old) }
+    ensures { (core : CorePlan) (inputs : List (List ℕ)) (names : List PlayName) (start : DeskView) (first : OutputPart D.Out)
+        (left_before : PlaysLeft)
+        → IsReady (kind_of D.In.seen D.Out.seen ⟦<AheadPlay<D::In, D::Out, NoPlugin> as OpenPlay<D::In>>⟧.is_open) core inputs names start
+        first state next (D.seen desk.old)
         → TakesNext inputs left_before state.left next
-        → Steps (kind_of D.In.seen D.Out.seen ⟦<AheadPlay<D::In, D::Out, NoPlugin> as OpenPlay<D::In>>⟧.is_open) core inputs names start first left_before result (D.seen desk.new) }
+        → Steps (kind_of D.In.seen D.Out.seen ⟦<AheadPlay<D::In, D::Out, NoPlugin> as OpenPlay<D::In>>⟧.is_open) core inputs names start
+        first left_before result (D.seen desk.new) }
 {
     let Switching {
         left,
@@ -333,9 +351,14 @@ pub(crate) fn step<R: Threads + Wait + Sync, D: Desk, G: Gate>(
     requires plugins { core.now.plugins ≡ 0 }
     requires some { 0 < length inputs.now }
     requires few { length inputs.now < 2 ^ 62 }
-    requires so_far { (names : List PlayName) × (start : DeskView) × (first : OutputPart D.Out) × SoFar (kind_of D.In.seen D.Out.seen ⟦<AheadPlay<D::In, D::Out, NoPlugin> as OpenPlay<D::In>>⟧.is_open) core.now inputs.now names start first state (D.seen desk.old) }
-    ensures { (names : List PlayName) (start : DeskView) (first : OutputPart D.Out) → SoFar (kind_of D.In.seen D.Out.seen ⟦<AheadPlay<D::In, D::Out, NoPlugin> as OpenPlay<D::In>>⟧.is_open) core.now inputs.now names start first state (D.seen desk.old)
-        → Steps (kind_of D.In.seen D.Out.seen ⟦<AheadPlay<D::In, D::Out, NoPlugin> as OpenPlay<D::In>>⟧.is_open) core.now inputs.now names start first state.left result (D.seen desk.new) }
+    requires so_far { (names : List PlayName) × (start : DeskView) × (first : OutputPart D.Out)
+        × SoFar (kind_of D.In.seen D.Out.seen ⟦<AheadPlay<D::In, D::Out, NoPlugin> as OpenPlay<D::In>>⟧.is_open) core.now inputs.now names
+        start first state (D.seen desk.old) }
+    ensures { (names : List PlayName) (start : DeskView) (first : OutputPart D.Out)
+        → SoFar (kind_of D.In.seen D.Out.seen ⟦<AheadPlay<D::In, D::Out, NoPlugin> as OpenPlay<D::In>>⟧.is_open) core.now inputs.now names
+        start first state (D.seen desk.old)
+        → Steps (kind_of D.In.seen D.Out.seen ⟦<AheadPlay<D::In, D::Out, NoPlugin> as OpenPlay<D::In>>⟧.is_open) core.now inputs.now names
+        start first state.left result (D.seen desk.new) }
 {
     let Switching {
         mut left,
@@ -390,10 +413,13 @@ pub(crate) fn play_all<R: Threads + Wait + Sync, D: Desk, G: Gate>(
     requires some { 0 < length inputs.now }
     requires few { length inputs.now < 2 ^ 62 }
     requires so_far { (names : List PlayName) × (start : DeskView) × (first : OutputPart D.Out)
-        × SoFar (kind_of D.In.seen D.Out.seen ⟦<AheadPlay<D::In, D::Out, NoPlugin> as OpenPlay<D::In>>⟧.is_open) core.now inputs.now names start first state (D.seen desk.old) }
+        × SoFar (kind_of D.In.seen D.Out.seen ⟦<AheadPlay<D::In, D::Out, NoPlugin> as OpenPlay<D::In>>⟧.is_open) core.now inputs.now names
+        start first state (D.seen desk.old) }
     ensures { (names : List PlayName) (start : DeskView) (first : OutputPart D.Out)
-        → SoFar (kind_of D.In.seen D.Out.seen ⟦<AheadPlay<D::In, D::Out, NoPlugin> as OpenPlay<D::In>>⟧.is_open) core.now inputs.now names start first state (D.seen desk.old)
-        → AreAllPlayed (kind_of D.In.seen D.Out.seen ⟦<AheadPlay<D::In, D::Out, NoPlugin> as OpenPlay<D::In>>⟧.is_open) core.now inputs.now names start first result (D.seen desk.new) }
+        → SoFar (kind_of D.In.seen D.Out.seen ⟦<AheadPlay<D::In, D::Out, NoPlugin> as OpenPlay<D::In>>⟧.is_open) core.now inputs.now names
+        start first state (D.seen desk.old)
+        → AreAllPlayed (kind_of D.In.seen D.Out.seen ⟦<AheadPlay<D::In, D::Out, NoPlugin> as OpenPlay<D::In>>⟧.is_open) core.now
+        inputs.now names start first result (D.seen desk.new) }
 {
     loop {
         match step(rt, alloc, gate, desk, core, inputs, state) {

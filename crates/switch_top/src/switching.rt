@@ -40,7 +40,8 @@ fn seat_source<D: Desk, A: OpenPlay<D::In>>(
 ) -> Result<NextPlay<A>, AllocError>
     requires lawful { IsLawfulPlan core.now }
     requires plugins { core.now.plugins ≡ 0 }
-    ensures opened { (old : DeskView) (name : List ℕ) → D.In.seen source ≡ record { left = content old name; faults = 0; origin = own_bytes }
+    ensures opened { (old : DeskView) (name : List ℕ)
+        → D.In.seen source ≡ record { left = content old name; faults = 0; origin = own_bytes }
         → IfOk result (IsOpenPlay (kind_of D.In.seen D.Out.seen A.is_open) core.now old name input) }
     ensures stays { IfOk result (λ next. D.seen desk.new ≡ D.seen desk.old) }
     ensures closed { OnErr result (D.seen desk.new ≡ input_closed (D.seen desk.old) (D.In.seen source)) }

@@ -92,7 +92,8 @@ pub record NotRun {S K P : Type 0} (see : Seeing S K P) (inner : S → SourceVie
   pub desk : new ≡ closed_desk inner see.sink old made_from made_to failed
 
 -- one of the two
-abbrev pub RanEnds : {S K P : Type 0} → Seeing S K P → (S → SourceView) → Plan → List (List (List ℕ)) → Stuffing → CorePlan → DeskView → DeskView
+abbrev pub RanEnds : {S K P : Type 0} → Seeing S K P → (S → SourceView) → Plan → List (List (List ℕ)) → Stuffing → CorePlan → DeskView
+    → DeskView
     → InputPart S → InputPart S → List P → OutputPart K → OutputPart K → Bool → Status → Type 0
 RanEnds see inner plan tables stuffing numbers old new from made_from plugins to made_to failed status =
     ((closed : Closed)

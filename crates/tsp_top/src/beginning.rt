@@ -136,7 +136,8 @@ fn open_behind<P: Plugin + Drop, D: Desk>(
     ready: ReadyChain<P>,
     input: InputPart<FormSource<D::In>>,
 ) -> Result<OpenedCall<FormSource<D::In>, D::Out, P>, Status>
-    requires { ((old : DeskView) × OpensInput ⟦<FormSource<D::In> as Source>⟧.seen (λ source. D.In.seen source.source) old plan.input input) }
+    requires { ((old : DeskView) × OpensInput ⟦<FormSource<D::In> as Source>⟧.seen (λ source. D.In.seen source.source) old plan.input
+        input) }
     ensures { (tables : List (List (List ℕ))) (old : DeskView)
         → IsReady P.rule P.stands_for P.steady plan tables ready.stuffing ready.core ready.plugins.items
         → D.seen desk.old ≡ asked_input old plan.input

@@ -60,7 +60,8 @@ fn add_plugins(
     requires before { AreFresh ⟦<AnyPlugin as Plugin>⟧.stands_for plugins.old.items }
     ensures rules { OnOk result
         (map ⟦<AnyPlugin as Plugin>⟧.rule plugins.new.items
-        ≡ map ⟦<AnyPlugin as Plugin>⟧.rule plugins.old.items ++ rules_of (named_rules items.now (map (λ table. table.items) tables.old.items))) }
+        ≡ map ⟦<AnyPlugin as Plugin>⟧.rule plugins.old.items ++ rules_of
+        (named_rules items.now (map (λ table. table.items) tables.old.items))) }
     ensures rooms { OnOk result
         (map ⟦<AnyPlugin as Plugin>⟧.steady plugins.new.items
         ≡ map ⟦<AnyPlugin as Plugin>⟧.steady plugins.old.items
