@@ -41,7 +41,7 @@ pub fn quiet_is_over()
         → AllEnded plan (progress_of_stages (state_after plan visits)) }
 {}
 
-/// What a stage has done by the cells that it worked on it has done by all that it took, and past
+/// What a stage has done over the cells that it worked on, it has done over all that it took; and after
 /// the last plugin every cell passes.
 pub fn more_cells()
     ensures keeps { (rule : PluginRule) (met all given : List Cell) (plugins k : ℕ) (ended : Option StageEnd)

@@ -5,7 +5,7 @@ use Rattle.ts_outside.specs.Source.{SourceView}
 use Rattle.ts_outside.specs.Sink.{SinkView}
 use Rattle.chain_model.specs.PluginRule.{PluginRule}
 
--- what is seen of a source and of a sink; of a plugin its rule, what it stands for, and for what it made room before the run
+-- what is seen of a source and of a sink; of a plugin its rule, what it stands for, and the room that it made before the run
 pub record Seeing (S K P : Type 0) : Type 1 where
   pub source : S → SourceView
   pub sink : K → SinkView

@@ -9,7 +9,7 @@ use std::sync::Wait;
 use std::thread::Threads;
 
 /// A window may have two cells, and has one, since a read gives one packet and that is handed on. The second plugin ends
-/// the run with its fifth live cell, the eighth of all. The first hears of it a turn later, and has worked on one window
+/// the run with its fifth live cell, the eighth of all. The first receives this a turn later, and has worked on one window
 /// more by then.
 const WORDS: &str =
     "--buffer-packets 4 --max-flushed-packets 2 -I file in -P skip 3 -P until --packets 5 -O file out";

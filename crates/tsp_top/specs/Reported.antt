@@ -18,8 +18,8 @@ pub record ReachesCut {P : Type 0} (stands : P → List Cell → ℕ → Type 0)
   pub input : StageList
   pub met : AllMetTo stands rules input cut j plugins
 
--- a run is reported: its text is, whole or a first part of it where a report failed, and the status is its own;
--- or memory ran out for the text, and nothing is reported
+-- a run is reported: its text, whole or a first part of it where a report failed, with the status of the cause or of the
+-- late failure; or memory ran out for the text, and nothing is reported
 abbrev pub ReportsRun : List ℕ → Cause → Bool → DeskView → DeskView → Status → Type 0
 ReportsRun text why closing_failed old new status =
     ((failed : Bool) × Says old new text failed

@@ -56,7 +56,7 @@ IsHand at base count (Some w) (Some u) =
 abbrev pub no_row : Row
 no_row = row_of 0 (land_at null_ptr 0) []
 
--- a window that stands before these cells, at this position: it ends where the block ends, or nothing stands
+-- a window before these cells, at this position: it ends where the block ends, or no cells come
 -- after it
 pub record IsFront (at : ℕ) (rest : Row) (w : Piece Cell) : Type 0 where
   pub land : w.land ≡ rest.land
