@@ -42,7 +42,7 @@ pub use follow_laws::unfollowed_packets_change_nothing;
 pub use follows::Follows;
 pub use follows_tables::FollowsTables;
 pub use given::Given;
-pub use handed_over::{both, put};
+pub use handed_over::both;
 pub use in_force::InForce;
 pub use laws::{contents_are_last_tables, last_found_is_the_last, later_packets_change_nothing};
 pub use pid_flags::{flag_of, no_flags, tell};
