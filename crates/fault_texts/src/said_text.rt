@@ -42,10 +42,7 @@ fn known_names_text(alloc: Global, table: &HelpTable, first: &str) -> Result<Vec
     let mut text = Vec::new(alloc);
     put_all(&mut text, &["unknown name after ", first, "; there are:"])?;
     put_names(&mut text, table, first)?;
-    put_all(
-        &mut text,
-        &["\na file is named after -I file or -O file\n"],
-    )?;
+    put_all(&mut text, &["\na file is named after -I file or -O file\n"])?;
     Ok(text)
 }
 
@@ -72,7 +69,13 @@ fn known_options_text(alloc: Global, row: &SegmentRow) -> Result<Vec<u8>, AllocE
     let mut text = Vec::new(alloc);
     put_all(
         &mut text,
-        &["unknown option of ", row.first, " ", row.name, "; there are:"],
+        &[
+            "unknown option of ",
+            row.first,
+            " ",
+            row.name,
+            "; there are:",
+        ],
     )?;
     put_options(&mut text, row.options)?;
     put_all(&mut text, &["\n"])?;
@@ -114,7 +117,10 @@ fn option_text(alloc: Global, said: Said, word: &str) -> Result<Vec<u8>, AllocEr
         Said::TakesNone(row) => text_of_parts(alloc, &[row.name, " takes no value\n"]),
         Said::BadValue(row) => bad_value_text(alloc, row, word),
         Said::Apart(row) => {
-            text_of_parts(alloc, &["only one of these may be given: ", row.choice, "\n"])
+            text_of_parts(
+                alloc,
+                &["only one of these may be given: ", row.choice, "\n"],
+            )
         }
         Said::Alone(row) => text_of_parts(
             alloc,
@@ -163,7 +169,10 @@ fn segment_text(
         Said::UnknownOption => unknown_option_text(alloc, table, row, word),
         Said::Extra => {
             let end = "\na file is named after -I file or -O file\n";
-            text_of_parts(alloc, &["no further word is allowed here: ", row.usage, end])
+            text_of_parts(
+                alloc,
+                &["no further word is allowed here: ", row.usage, end],
+            )
         }
         Said::Missing => missing_text(alloc, row, own),
         Said::Whole => text_of_parts(alloc, &["usage: ", row.usage, "\n", row.rule, "\n"]),

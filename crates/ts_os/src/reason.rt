@@ -31,12 +31,12 @@ impl Reason {
     /// What is said of it.
     pub fn text(self) -> &'static str {
         match self {
-            Reason::Absent => "there is no such file",
-            Reason::Forbidden => "this is not permitted",
-            Reason::Directory => "it is a directory",
-            Reason::Full => "there is no room left, or the file may not grow further",
+            Reason::Absent => "no such file or directory",
+            Reason::Forbidden => "permission denied",
+            Reason::Directory => "is a directory",
+            Reason::Full => "no space left on the device, or the file may not grow further",
             Reason::ClosedPipe => "the reader closed the pipe",
-            Reason::InUse => "it is read and written in one call",
+            Reason::InUse => "it is both read and written in this run",
             Reason::Other => "the system refused it",
         }
     }
