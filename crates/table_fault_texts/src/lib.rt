@@ -1,0 +1,12 @@
+//! What is said of a text of tables that was not compiled, and of bytes that were not decompiled: a fault comes in, a line that
+//! names the place and what is wrong there goes out. The programs above use `compile_text` and `decompile_text`.
+#![tactic(auto)]
+
+mod compile_fault;
+mod decompile_fault;
+mod json_fault;
+mod pointer;
+mod section_fault;
+
+pub use compile_fault::compile_text;
+pub use decompile_fault::decompile_text;
