@@ -1,7 +1,11 @@
 //! The program `tsswitch`: the words of a command line come in, and an exit status goes out. All but the words, the
-//! real desk and the status is `switch_call`, whose contract says what is played.
+//! real desk, the status and what explains it is `switch_call`, whose contract says what is played.
 #![tactic(auto)]
 
+mod end_texts;
+mod explained;
+
+use explained::explain;
 use std::io::ErrorKind;
 use std::process::ExitCode;
 use std::{env, io};
@@ -37,5 +41,6 @@ fn main(rt: HostRuntime) -> ExitCode {
         return ExitCode::from(NO_MEMORY);
     }
     let status = switch_call(&rt, rt.alloc(), words.as_slice(), &mut desk, &OpenGate);
+    explain(&rt, words.as_slice(), status, desk.trouble());
     ExitCode::from(status.exit_code())
 }

@@ -1,7 +1,12 @@
 //! The program `tstabcomp`: the words of a command line come in, and an exit number goes out. All of it but
-//! the words, the real desk and the number is `tabcomp_call`, whose clause says all that a call does.
+//! the words, the real desk, the number and what explains how a call ended is `tabcomp_call`, whose clause says all that a call
+//! does.
 #![tactic(auto)]
 
+mod end_texts;
+mod explained;
+
+use explained::explain;
 use std::io::ErrorKind;
 use std::process::ExitCode;
 use std::{env, io};
@@ -32,5 +37,6 @@ fn main(rt: HostRuntime) -> ExitCode {
         Err(_) => return ExitCode::from(NO_MEMORY),
     };
     let status = tabcomp_call(rt.alloc(), words.as_slice(), &mut desk);
+    explain(&rt, words.as_slice(), &status, desk.trouble());
     ExitCode::from(status.exit_code())
 }

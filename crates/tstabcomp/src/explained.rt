@@ -1,0 +1,21 @@
+//! What is shown beside the line of a status, on standard error alone.
+use crate::end_texts::end_text;
+use explain_edge::{is_wanted, write_explained};
+use tabcomp_top::TabStatus;
+use ts_os::Trouble;
+
+/// Explains how a call ended where that is wanted. Running out of memory and a fault of standard error leave it out, and change
+/// nothing else.
+pub(crate) fn explain(
+    rt: &HostRuntime,
+    words: &[String],
+    status: &TabStatus,
+    trouble: Option<Trouble>,
+) {
+    if !is_wanted(rt) {
+        return;
+    }
+    if let Ok(Some(text)) = end_text(rt.alloc(), words, status, trouble) {
+        write_explained(rt, text.as_slice());
+    }
+}
