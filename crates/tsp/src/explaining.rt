@@ -1,21 +1,11 @@
 //! What is shown beside a refusal or a fault, on standard error alone.
 use crate::run_texts::run_text;
 use chain_args::{WordsFault, WordsRule};
+use explain_edge::{is_wanted, write_explained};
 use fault_texts::{HelpTable, fault_text, general_options, tsp_segments};
 use std::alloc::AllocError;
-use std::env;
-use std::io::{IsTerminal, Write};
 use ts_os::Trouble;
 use tsp_top::Status;
-
-/// Whether a refusal is to be explained: as `TSP_EXPLAIN` says by 1 or 0, and else where standard error is a terminal.
-fn is_wanted(rt: &HostRuntime) -> bool {
-    match env::var(rt, "TSP_EXPLAIN") {
-        Ok(said) if said.as_str() == "1" => true,
-        Ok(said) if said.as_str() == "0" => false,
-        _ => rt.stderr().is_terminal(),
-    }
-}
 
 /// What is said of words that have no plan.
 fn words_text(
@@ -35,14 +25,14 @@ fn words_text(
 /// Writes what is said of words that have no plan.
 fn explain_words(rt: &HostRuntime, words: &[String], word: usize, rule: WordsRule) {
     if let Ok(text) = words_text(rt, words, word, rule) {
-        let _ = rt.stderr().write_all(text.as_slice());
+        write_explained(rt, text.as_slice());
     }
 }
 
 /// Writes what is said of a run that ended by a fault.
 fn explain_run(rt: &HostRuntime, words: &[String], status: &Status, trouble: Option<Trouble>) {
     if let Ok(Some(text)) = run_text(rt.alloc(), words, status, trouble) {
-        let _ = rt.stderr().write_all(text.as_bytes());
+        write_explained(rt, text.as_slice());
     }
 }
 

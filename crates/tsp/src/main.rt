@@ -4,6 +4,7 @@
 #![tactic(auto)]
 
 mod explaining;
+mod operands;
 mod run_texts;
 
 use explaining::explain;

@@ -1,18 +1,13 @@
-//! One line on a run that ended by a fault: the file and the system's reason, the plugin by its name, the place of lost sync.
+//! What is said of a run that ended by a fault: the file and the system's reason, the plugin by its name with its file and the fault
+//! in it, the place of lost sync.
+use crate::operands::operand_of;
+use explain_edge::{after_name, named_behind, trouble_text};
 use std::alloc::{AllocError, Global};
+use table_fault_texts::{compile_text, decompile_text};
+use table_file::TableFileFault;
 use ts_os::Trouble;
 use ts_outside::Purpose;
 use tsp_top::Status;
-
-/// The file's name after `-I file` or `-O file`, where it stands there.
-fn named_behind<'a>(words: &'a [String], first: &str) -> Option<&'a str> {
-    for (word, name) in words.iter().zip(words.iter().skip(2)) {
-        if word.as_str() == first && !name.starts_with('-') {
-            return Some(name.as_str());
-        }
-    }
-    None
-}
 
 /// The name of the plugin of a number, counted from 1.
 fn plugin_name(words: &[String], number: u32) -> Option<&str> {
@@ -55,14 +50,37 @@ fn plugin_text(alloc: Global, words: &[String], number: u32) -> Result<String, A
     format!(in alloc; "plugin {number} is -P {name}\n")
 }
 
-fn trouble_text(alloc: Global, words: &[String], trouble: Trouble) -> Result<String, AllocError> {
-    let told = match trouble.purpose {
-        Purpose::Input => named_behind(words, "-I").unwrap_or("the input"),
-        Purpose::Output => named_behind(words, "-O").unwrap_or("the output"),
+// What is wrong with the bytes of a file of tables.
+fn tables_text(alloc: Global, fault: &TableFileFault) -> Result<Vec<u8>, AllocError> {
+    match fault {
+        TableFileFault::TooMany => Vec::from_slice(alloc, b"longer than 16,777,216 bytes\n"),
+        TableFileFault::Compile(fault) => compile_text(alloc, fault),
+        TableFileFault::Sections(fault) => Ok(decompile_text(alloc, *fault)?.into_bytes()),
+    }
+}
+
+// The plugin, and below it its file and what is wrong there.
+fn table_file_text(
+    alloc: Global,
+    words: &[String],
+    number: u32,
+    fault: &TableFileFault,
+) -> Result<Vec<u8>, AllocError> {
+    let said = tables_text(alloc, fault)?;
+    let name = operand_of(alloc, words, number)?.unwrap_or("the file");
+    let line = after_name(alloc, name, said.as_slice())?;
+    let mut text = plugin_text(alloc, words, number)?.into_bytes();
+    text.extend_from_slice(line.as_slice())?;
+    Ok(text)
+}
+
+fn refused_text(alloc: Global, words: &[String], trouble: Trouble) -> Result<String, AllocError> {
+    let name = match trouble.purpose {
+        Purpose::Input => named_behind(words, "-I", 1).unwrap_or("the input"),
+        Purpose::Output => named_behind(words, "-O", 1).unwrap_or("the output"),
         Purpose::File => "a file of tables",
     };
-    let said = trouble.reason.text();
-    format!(in alloc; "{told}: {said}\n")
+    trouble_text(alloc, name, trouble)
 }
 
 /// Whether the trouble is of the kind that such an end has.
@@ -74,20 +92,21 @@ fn is_of(status: &Status, trouble: Trouble) -> bool {
     }
 }
 
-/// The line; `None` where there is nothing to say.
+/// The text; `None` where there is nothing to say.
 pub(crate) fn run_text(
     alloc: Global,
     words: &[String],
     status: &Status,
     trouble: Option<Trouble>,
-) -> Result<Option<String>, AllocError> {
-    match (status, trouble) {
-        (Status::Sync { packet }, _) => Ok(Some(sync_text(alloc, words, *packet)?)),
-        (Status::Refused { plugin, .. }, _) => Ok(Some(plugin_text(alloc, words, *plugin)?)),
-        (Status::TableFile { plugin, .. }, _) => Ok(Some(plugin_text(alloc, words, *plugin)?)),
-        (_, Some(trouble)) if is_of(status, trouble) => {
-            Ok(Some(trouble_text(alloc, words, trouble)?))
+) -> Result<Option<Vec<u8>>, AllocError> {
+    let text = match (status, trouble) {
+        (Status::Sync { packet }, _) => sync_text(alloc, words, *packet)?,
+        (Status::Refused { plugin, .. }, _) => plugin_text(alloc, words, *plugin)?,
+        (Status::TableFile { plugin, fault }, _) => {
+            return Ok(Some(table_file_text(alloc, words, *plugin, fault)?));
         }
-        _ => Ok(None),
-    }
+        (_, Some(trouble)) if is_of(status, trouble) => refused_text(alloc, words, trouble)?,
+        _ => return Ok(None),
+    };
+    Ok(Some(text.into_bytes()))
 }
