@@ -40,8 +40,13 @@ fn form_of(words: &[String]) -> (u64, u64) {
 fn sync_text(alloc: Global, words: &[String], packet: u64) -> Result<String, AllocError> {
     let (size, begin) = form_of(words);
     let at = packet.saturating_mul(size).saturating_add(begin);
+    if packet == 0 {
+        return format!(in alloc;
+            "byte {at} of the input is not 0x47; --format m2ts reads 192 bytes a packet, --format rs204 204 bytes\n"
+        );
+    }
     format!(in alloc;
-        "byte {at} of the input is not 0x47; --format m2ts reads 192 bytes a packet, --format rs204 204 bytes\n"
+        "byte {at} of the input is not 0x47: other bytes stand between its packets, or it is damaged; docs/recipes.md has a way to mend it\n"
     )
 }
 
