@@ -1,5 +1,5 @@
 -- Tables in force, one packet more.
-use Rattle.std.proofs.Common.{◌≡◌, ℕ, Bool, true, false, List, [], ◌∷◌, ◌++◌, Option, Some, None, refl, sym, ◌∙◌, ap, subst}
+use Rattle.std.proofs.Common.{◌≡◌, ℕ, ◌==◌, ◌||◌, Bool, true, false, List, [], ◌∷◌, ◌++◌, Option, Some, None, refl, sym, ◌∙◌, ap, subst}
 use Rattle.std.specs.Prelude.{nat_eq, option_map}
 use Rattle.std.proofs.lemmas.Bool.{eqb-true}
 use Rattle.ts_packet.specs.Header.{pid_of}
@@ -12,28 +12,48 @@ use Rattle.ts_table_rows.specs.TableValues.{TableHolding}
 use Rattle.plug_psi.specs.LastFound.{last_found}
 use Rattle.plug_psi.specs.InForce.{current_pat, current_pmt, follows, is_named, pat_of, pmt_on, pmt_of, pmt_at, pid_for}
 use Rattle.plug_psi.specs.ForceState.{HasPat}
-use Rattle.plug_psi.specs.KeptTables.{TellsFound, is_kept}
-use Rattle.plug_psi.specs.ReadingState.{TellsOn}
+use Rattle.plug_psi.specs.KeptTables.{KeepsPat, TellsFound}
 use Rattle.plug_psi.specs.SameForce.{SameInForce}
 use Rattle.plug_psi.specs.declared.kept.Kept.{Kept}
 use Rattle.plug_psi.specs.declared.reading.Reading.{Reading}
-use Rattle.plug_psi.proofs.FoundLemmas.{found-none, found-on, found-same}
+use Rattle.plug_psi.proofs.Choice.{neither}
+use Rattle.plug_psi.proofs.FoundLemmas.{found-none, found-on, found-other, found-same, reads-other}
 
 -- the PAT that is kept is the one in force
 pub pat-kept : (zero : Reading (Option Pat)) (fed : List (List ℕ)) → HasPat zero fed → option_map pat_held zero.follower ≡ pat_of fed
 unfolding pat_of
 pat-kept zero fed h = h.1 ∙ found-on current_pat 0 fed
 
--- where none was kept with a packet the same one is in force
-pub pat-same : (fed : List (List ℕ)) (p : List ℕ) (told : Option Kept) → TellsOn 0 p (TellsFound current_pat 0 (packets_on 0 fed) p) told → is_kept told ≡ false → pat_of (fed ++ p ∷ []) ≡ pat_of fed
+-- where none was kept with a packet on PID 0 the same one is in force
+pub pat-same : (fed : List (List ℕ)) (p : List ℕ) (kept : Kept) → pid_of p ≡ 0 → TellsFound current_pat 0 (packets_on 0 fed) p kept → kept.came ≡ false → pat_of (fed ++ p ∷ []) ≡ pat_of fed
 unfolding pat_of
-pat-same fed p told tells none = found-same current_pat 0 fed p told tells none
+pat-same fed p kept at tells none = found-same current_pat 0 fed p kept at tells none
+
+-- so it is with a packet on another PID
+pub pat-other : (fed : List (List ℕ)) (p : List ℕ) → (pid_of p == 0) ≡ false → pat_of (fed ++ p ∷ []) ≡ pat_of fed
+unfolding pat_of
+pat-other fed p other = found-other current_pat 0 fed p other
 
 -- whether the packet's PID is followed, by the PAT that is kept
 pub flag-is : (zero : Reading (Option Pat)) (fed : List (List ℕ)) (p : List ℕ) (pid : ℕ) (b : Bool) →
     HasPat zero (fed ++ p ∷ []) → pid ≡ pid_of p → is_named (option_map pat_held zero.follower) pid ≡ b → follows (pid_of p) (fed ++ p ∷ []) ≡ b
 flag-is zero fed p pid b h at flag =
     ap (is_named (pat_of (fed ++ p ∷ []))) (sym at) ∙ ap (λ pat. is_named pat pid) (sym (pat-kept zero (fed ++ p ∷ []) h)) ∙ flag
+
+-- a packet on a PID on which no table counts: it is not 0, and it is not followed
+pub record Unread (zero : Reading (Option Pat)) (fed : List (List ℕ)) (p : List ℕ) : Type 0 where
+  pub other : (pid_of p == 0) ≡ false
+  pub pat_fed : HasPat zero (fed ++ p ∷ [])
+  pub same : pat_of (fed ++ p ∷ []) ≡ pat_of fed
+  pub flag : follows (pid_of p) (fed ++ p ∷ []) ≡ false
+
+pub unread : (zero : Reading (Option Pat)) (fed : List (List ℕ)) (p : List ℕ) (pid : ℕ) → HasPat zero fed → pid ≡ pid_of p →
+    ((pid == 0) || is_named (option_map pat_held zero.follower) pid) ≡ false → Unread zero fed p
+unread zero fed p pid h at none =
+    let both = neither (pid == 0) (is_named (option_map pat_held zero.follower) pid) none in
+    let other : (pid_of p == 0) ≡ false = ap (λ n. n == 0) (sym at) ∙ both.0 in
+    let fed_more = reads-other KeepsPat zero 0 fed p other h in
+    record { other = other; pat_fed = fed_more; same = pat-other fed p other; flag = flag-is zero fed p pid false fed_more at both.1 }
 
 -- nothing was taken: there is no PMT
 pub pmt-none : (service pid : ℕ) (fed : List (List ℕ)) → taken_on follows pid fed ≡ [] → None ≡ pmt_on pid service fed

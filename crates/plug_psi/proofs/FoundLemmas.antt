@@ -1,7 +1,7 @@
 -- What is found in the last of some tables, one packet after another.
-use Rattle.std.proofs.Common.{◌≡◌, ℕ, ◌==◌, true, false, List, [], ◌∷◌, ◌++◌, fold, Option, Some, None, refl, sym, ◌∙◌, ap}
+use Rattle.std.proofs.Common.{◌≡◌, ℕ, ◌==◌, true, false, List, [], ◌∷◌, ◌++◌, fold, Option, Some, None, refl, sym, ◌∙◌, ap, subst}
 use Rattle.std.specs.List.{filter_map, cons_option}
-use Rattle.std.proofs.lemmas.Bool.{eqb-false}
+use Rattle.std.proofs.lemmas.Bool.{ne_eqb}
 use Rattle.std.proofs.lemmas.List.Sums.{fold-append}
 use Rattle.ts_packet.specs.Header.{pid_of}
 use Rattle.ts_demux.specs.TablesOn.{Completes, packets_on, tables_on}
@@ -9,9 +9,10 @@ use Rattle.ts_demux.proofs.TablesBehind.{no_tables}
 use Rattle.ts_demux.proofs.TakenLemmas.{on-other, on-own}
 use Rattle.ts_demux.proofs.UncountedPackets.{same-tables}
 use Rattle.plug_psi.specs.LastFound.{found_behind, newer, last_found, last_one}
-use Rattle.plug_psi.specs.KeptTables.{TellsFound, is_kept, tables_in}
-use Rattle.plug_psi.specs.ReadingState.{TellsOn}
+use Rattle.plug_psi.specs.KeptTables.{TellsFound}
+use Rattle.plug_psi.specs.ReadingState.{Reads}
 use Rattle.plug_psi.specs.declared.kept.Kept.{Kept}
+use Rattle.plug_psi.specs.declared.reading.Reading.{Reading}
 
 pub found-none : {X : Type 0} (found : List (List ℕ) → Option X) (pid : ℕ) → last_found found (tables_on pid []) ≡ None
 unfolding last_found
@@ -38,22 +39,29 @@ found-as : {X : Type 0} (found : List (List ℕ) → Option X) (pid : ℕ) (met 
 found-as found pid met p ps more same =
     sym (found-on found pid (met ++ p ∷ [])) ∙ ap (λ qs. last_found found (tables_on pid qs)) more ∙ same ∙ found-on found pid met
 
--- where nothing was kept of what came with a packet of any PID, the same is found as before
-pub found-same : {X : Type 0} (found : List (List ℕ) → Option X) (pid : ℕ) (met : List (List ℕ)) (p : List ℕ) (told : Option Kept) →
-    TellsOn pid p (TellsFound found pid (packets_on pid met) p) told → is_kept told ≡ false → last_found found (tables_on pid (met ++ p ∷ [])) ≡ last_found found (tables_on pid met)
-found-same found pid met p None other none = found-as found pid met p (packets_on pid met) (on-other pid met p other) refl
-found-same found pid met p (Some kept) (at, tells) none = found-as found pid met p (packets_on pid met ++ p ∷ []) (on-own pid met p at) (tells.same none)
+-- where nothing was kept of a packet on the PID, the same is found as before
+pub found-same : {X : Type 0} (found : List (List ℕ) → Option X) (pid : ℕ) (met : List (List ℕ)) (p : List ℕ) (kept : Kept) → pid_of p ≡ pid →
+    TellsFound found pid (packets_on pid met) p kept → kept.came ≡ false → last_found found (tables_on pid (met ++ p ∷ [])) ≡ last_found found (tables_on pid met)
+found-same found pid met p kept at tells none = found-as found pid met p (packets_on pid met ++ p ∷ []) (on-own pid met p at) (tells.same none)
 
--- where nothing is told of a packet, it is not on the PID
-pub not-told : {X : Type 0} (pid : ℕ) (p : List ℕ) (tells : X → Type 0) (told : Option X) → told ≡ None → TellsOn pid p tells told → pid_of p ≡ pid → ⊥
-not-told pid p tells None none other at = eqb-false (pid_of p) pid other at
-not-told pid p tells (Some x) none t at = cc
+-- so it is with a packet on another PID
+pub found-other : {X : Type 0} (found : List (List ℕ) → Option X) (pid : ℕ) (met : List (List ℕ)) (p : List ℕ) → (pid_of p == pid) ≡ false →
+    last_found found (tables_on pid (met ++ p ∷ [])) ≡ last_found found (tables_on pid met)
+found-other found pid met p other = found-as found pid met p (packets_on pid met) (on-other pid met p other) refl
 
--- of a packet on the PID the tables are handed on
-pub found-completes : {X : Type 0} (found : List (List ℕ) → Option X) (pid : ℕ) (met : List (List ℕ)) (p : List ℕ) (told : Option Kept) →
-    TellsOn pid p (TellsFound found pid (packets_on pid met) p) told → pid_of p ≡ pid → Completes pid (packets_on pid met) p (tables_in told)
-found-completes found pid met p None other at = absurd (eqb-false (pid_of p) pid other at)
-found-completes found pid met p (Some kept) (here, tells) at = tells.completes
+-- what took a packet on the PID stands for the packets of any PID with it
+pub reads-own : {T : Type 0} (stands : T → ℕ → List (List ℕ) → Type 0) (it : Reading T) (pid : ℕ) (met : List (List ℕ)) (p : List ℕ) → pid_of p ≡ pid →
+    Reads stands it pid (packets_on pid met ++ p ∷ []) → Reads stands it pid (packets_on pid (met ++ p ∷ []))
+reads-own stands it pid met p at h = subst (Reads stands it pid) (sym (on-own pid met p at)) h
+
+-- and what took none does so with a packet on another PID
+pub reads-other : {T : Type 0} (stands : T → ℕ → List (List ℕ) → Type 0) (it : Reading T) (pid : ℕ) (met : List (List ℕ)) (p : List ℕ) → (pid_of p == pid) ≡ false →
+    Reads stands it pid (packets_on pid met) → Reads stands it pid (packets_on pid (met ++ p ∷ []))
+reads-other stands it pid met p other h = subst (Reads stands it pid) (sym (on-other pid met p other)) h
+
+-- a number of which this test fails is another one
+pub other-pid : (pid n : ℕ) (p : List ℕ) → n ≡ pid_of p → (n ≡ pid → ⊥) → (pid_of p == pid) ≡ false
+other-pid pid n p at ne = ap (λ m. m == pid) (sym at) ∙ ne_eqb n pid ne
 
 -- The reading without steps.
 

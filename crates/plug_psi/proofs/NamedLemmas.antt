@@ -1,12 +1,12 @@
 -- PIDs that the tables in force name.
-use Rattle.std.proofs.Common.{◌≡◌, ℕ, ◌&&◌, not, false, List, [], ◌∷◌, ◌++◌, Option, None, ◌∙◌, ap, ap₂}
+use Rattle.std.proofs.Common.{◌≡◌, ℕ, ◌==◌, ◌&&◌, not, false, List, [], ◌∷◌, ◌++◌, Option, None, ◌∙◌, ap, ap₂}
 use Rattle.std.specs.Prelude.{option_map}
+use Rattle.ts_packet.specs.Header.{pid_of}
 use Rattle.ts_demux.specs.TablesOn.{packets_on}
 use Rattle.ts_psi.specs.CatTables.{cat_held}
 use Rattle.plug_psi.specs.InForce.{current_pat, pat_of, pmt_of}
 use Rattle.plug_psi.specs.CatInForce.{cat_of, current_cat}
-use Rattle.plug_psi.specs.KeptTables.{TellsFound, is_kept}
-use Rattle.plug_psi.specs.ReadingState.{TellsOn}
+use Rattle.plug_psi.specs.KeptTables.{TellsFound}
 use Rattle.plug_psi.specs.Referred.{named_in, named_pids}
 use Rattle.plug_psi.specs.ReferredState.{HasCat}
 use Rattle.plug_psi.specs.SameForce.{SameInForce}
@@ -15,7 +15,7 @@ use Rattle.plug_psi.specs.declared.kept.Kept.{Kept}
 use Rattle.plug_psi.specs.declared.kept_cat.KeptCat.{KeptCat}
 use Rattle.plug_psi.specs.declared.reading.Reading.{Reading}
 use Rattle.plug_psi.proofs.FlagLemmas.{and_true}
-use Rattle.plug_psi.proofs.FoundLemmas.{found-none, found-on, found-same}
+use Rattle.plug_psi.proofs.FoundLemmas.{found-none, found-on, found-other, found-same}
 
 pat-none : pat_of [] ≡ None
 unfolding pat_of
@@ -30,10 +30,15 @@ pub cat-kept : (one : Reading KeptCat) (fed : List (List ℕ)) → HasCat one fe
 unfolding cat_of
 cat-kept one fed h = h.1 ∙ found-on current_cat 1 fed
 
--- where none was kept with a packet the same one is in force
-pub cat-same : (fed : List (List ℕ)) (p : List ℕ) (told : Option Kept) → TellsOn 1 p (TellsFound current_cat 1 (packets_on 1 fed) p) told → is_kept told ≡ false → cat_of (fed ++ p ∷ []) ≡ cat_of fed
+-- where none was kept with a packet on PID 1 the same one is in force
+pub cat-same : (fed : List (List ℕ)) (p : List ℕ) (kept : Kept) → pid_of p ≡ 1 → TellsFound current_cat 1 (packets_on 1 fed) p kept → kept.came ≡ false → cat_of (fed ++ p ∷ []) ≡ cat_of fed
 unfolding cat_of
-cat-same fed p told tells none = found-same current_cat 1 fed p told tells none
+cat-same fed p kept at tells none = found-same current_cat 1 fed p kept at tells none
+
+-- so it is with a packet on another PID
+pub cat-other : (fed : List (List ℕ)) (p : List ℕ) → (pid_of p == 1) ≡ false → cat_of (fed ++ p ∷ []) ≡ cat_of fed
+unfolding cat_of
+cat-other fed p other = found-other current_cat 1 fed p other
 
 -- before a packet was fed nothing is named
 pub named-none : (pid : ℕ) → named_in [] pid ≡ false

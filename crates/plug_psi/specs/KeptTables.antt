@@ -1,6 +1,6 @@
 -- What is kept of the tables of a PID, and what is told of those that a packet completes.
 -- This project's own rule.
-use Rattle.std.specs.Prelude.{◌≡◌, ℕ, Bool, false, List, [], ◌∷◌, ◌++◌, Option, Some, None, nat_eq, option_map}
+use Rattle.std.specs.Prelude.{◌≡◌, ℕ, false, List, [], ◌∷◌, ◌++◌, Option, nat_eq, option_map}
 use Rattle.indexmap.specs.IndexMap.{get}
 use Rattle.ts_demux.specs.TablesOn.{Completes, tables_on}
 use Rattle.ts_psi.specs.CatTables.{cat_held}
@@ -34,13 +34,3 @@ pub record TellsFound {X : Type 0} (found : List (List ℕ) → Option X) (pid :
 -- of the PMT of each service
 abbrev pub TellsPmts : ℕ → List (List ℕ) → List ℕ → Kept → Type 0
 TellsPmts pid taken packet told = (service : ℕ) → TellsFound (current_pmt service) pid taken packet told
-
--- whether a table was kept of what came, if something did
-abbrev pub is_kept : Option Kept → Bool
-is_kept None = false
-is_kept (Some kept) = kept.came
-
--- the tables of what came, if something did
-abbrev pub tables_in : Option Kept → List (List (List ℕ))
-tables_in None = []
-tables_in (Some kept) = kept.tables.items

@@ -1,8 +1,6 @@
--- When what follows a PID and what reads its tables stand for the packets that were taken, and what is told of a packet of
--- any PID.
+-- When what follows a PID and what reads its tables stand for the packets that were taken.
 -- This project's own rule.
-use Rattle.std.specs.Prelude.{◌≡◌, ◌==◌, false, ℕ, List, Option, Some, None}
-use Rattle.ts_packet.specs.Header.{pid_of}
+use Rattle.std.specs.Prelude.{ℕ, List}
 use Rattle.ts_demux.specs.PidTables.{StandsFor}
 use Rattle.plug_psi.specs.declared.given.Given.{Given}
 use Rattle.plug_psi.specs.declared.reading.Reading.{Reading}
@@ -14,8 +12,3 @@ Reads stands it pid taken = StandsFor it.tables pid taken × stands it.follower 
 -- what follows the PID by tables that others read stands for these packets
 abbrev pub GivenStands : {T : Type 0} → (T → ℕ → List (List ℕ) → Type 0) → Given T → ℕ → List (List ℕ) → Type 0
 GivenStands stands it pid taken = stands it.follower pid taken
-
--- something is told of a packet where it is on the PID, and nothing where it is not
-abbrev pub TellsOn : {X : Type 0} → ℕ → List ℕ → (X → Type 0) → Option X → Type 0
-TellsOn pid packet tells None = (pid_of packet == pid) ≡ false
-TellsOn pid packet tells (Some told) = (pid_of packet ≡ pid) × tells told

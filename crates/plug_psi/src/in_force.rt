@@ -1,6 +1,6 @@
 //! The tables in force.
 
-ghost use Rattle.std.specs.Prelude.{◌≡◌, ℕ, ◌<◌, ◌==◌, ◌++◌, ◌∷◌, ◌&&◌, [], List, None, true, false, not, IfOk, OnOk, OnErr, IsErr, option_map};
+ghost use Rattle.std.specs.Prelude.{◌≡◌, ℕ, ◌<◌, ◌==◌, ◌++◌, ◌∷◌, ◌&&◌, ◌||◌, [], List, None, true, false, not, IfOk, OnOk, OnErr, IsErr, option_map};
 ghost use Rattle.std.specs.Option.{option_copied};
 ghost use Rattle.ts_psi.specs.PatTables.{pat_held};
 ghost use Rattle.ts_psi.specs.PsiTables.{pmt_held};
@@ -93,10 +93,16 @@ impl InForce {
         ensures spent { OnErr result (has_failed self.new ≡ true) }
         ensures stays_spent { has_failed self.old ≡ true → IsErr result }
     {
+        unfollowed_packets_change_nothing::<Reading<KeptPmts>>();
         if self.failed {
             return Err(AllocError);
         }
-        match self.take(packet) {
+        // Nearly all packets end here.
+        let pid = packet.pid();
+        if !may_have_tables(&self.zero, pid) {
+            return Ok(false);
+        }
+        match self.read(packet) {
             Ok(came) => Ok(came),
             Err(error) => {
                 self.failed = true;
@@ -153,9 +159,9 @@ impl InForce {
         }
     }
 
-    /// Takes the next packet as long as memory was there.
-    #[inline]
-    fn take(&mut self, packet: &Packet) -> Result<bool, AllocError>
+    /// Takes the next packet, whose PID may have tables, as long as memory was there.
+    #[inline(never)]
+    fn read(&mut self, packet: &Packet) -> Result<bool, AllocError>
         ensures stands { OnOk result ((fed : List (List ℕ)) → StandsFor self.old fed → StandsFor self.new (fed ++ packet.now ∷ [])) }
         ensures same { IfOk result (λ came. came ≡ false → (fed : List (List ℕ)) → StandsFor self.old fed → SameInForce fed packet.now) }
         ensures pats { OnOk result ((fed : List (List ℕ)) → StandsFor self.old fed → pid_of packet.now ≡ 0
@@ -176,9 +182,16 @@ impl InForce {
     }
 }
 
+/// Whether tables may come with packets on a PID: it is that of the PAT, or its packets are taken.
+#[inline]
+fn may_have_tables(zero: &Reading<CurrentPat>, pid: u16) -> bool
+    ensures { result ≡ ((pid == 0) || is_named (option_map pat_held zero.now.follower) pid) }
+{
+    pid == PAT_PID || is_followed(zero, pid)
+}
+
 /// Has PID 0 take a packet, if it is on it, with the tables that it completes in the place of those before, and answers
 /// whether a PAT was kept.
-#[inline]
 fn take_first(
     alloc: Global,
     zero: &mut Reading<CurrentPat>,
@@ -190,10 +203,10 @@ fn take_first(
         → Completes 0 (packets_on 0 fed) packet.now pats.new.items) }
     ensures same { IfOk result (λ came. came ≡ false → (fed : List (List ℕ)) → HasPat zero.old fed → pat_of (fed ++ packet.now ∷ []) ≡ pat_of fed) }
 {
-    let kept = zero.meet(alloc, PAT_PID, packet)?;
-    let Some(kept) = kept else {
+    if packet.pid() != PAT_PID {
         return Ok(false);
-    };
+    }
+    let kept = zero.take(alloc, (), packet)?;
     *pats = kept.tables;
     Ok(kept.came)
 }

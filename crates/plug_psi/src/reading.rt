@@ -1,6 +1,6 @@
 //! What follows a PID by its tables, with what reads them.
 
-ghost use Rattle.std.specs.Prelude.{◌≡◌, ◌<◌, ◌∷◌, ◌++◌, ◌==◌, ℕ, [], List, IfOk, OnOk};
+ghost use Rattle.std.specs.Prelude.{◌≡◌, ℕ, List};
 
 use crate::follows::Follows;
 use crate::follows_tables::FollowsTables;
@@ -13,33 +13,6 @@ use ts_packet::Packet;
 pub struct Reading<T: Drop> {
     pub(crate) tables: PidTables,
     pub(crate) follower: T,
-}
-
-impl<T: FollowsTables> Reading<T> {
-    ghost use Rattle.ts_demux.specs.TablesOn.{packets_on};
-    ghost use Rattle.plug_psi.specs.ReadingState.{Reads, TellsOn};
-
-    /// Takes the next packet, of any PID, where it is on this one, and tells of it then. After `AllocError` no more is to be
-    /// asked.
-    #[inline]
-    pub(crate) fn meet(
-        &mut self,
-        alloc: Global,
-        pid: u16,
-        packet: &Packet,
-    ) -> Result<Option<T::Told>, AllocError>
-        ensures stands { OnOk result ((seed : T.Seed) (met : List (List ℕ)) → Reads (T.stands seed) self.old pid (packets_on pid met)
-            → Reads (T.stands seed) self.new pid (packets_on pid (met ++ packet.now ∷ []))) }
-        ensures tells { IfOk result (λ told. (seed : T.Seed) (met : List (List ℕ)) → Reads (T.stands seed) self.old pid (packets_on pid met)
-            → TellsOn pid packet.now (T.tells seed pid (packets_on pid met) packet.now) told) }
-    {
-        // Nearly all packets are of other PIDs.
-        if packet.pid() != pid {
-            return Ok(None);
-        }
-        let told = self.take(alloc, (), packet)?;
-        Ok(Some(told))
-    }
 }
 
 impl<T: FollowsTables> Follows for Reading<T> {

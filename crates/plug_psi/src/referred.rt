@@ -4,6 +4,7 @@ ghost use Rattle.std.specs.Prelude.{◌≡◌, ℕ, ◌<◌, ◌++◌, ◌∷◌
 ghost use Rattle.std.specs.Option.{option_copied};
 ghost use Rattle.ts_psi.specs.CatTables.{cat_held};
 ghost use Rattle.plug_psi.specs.CatInForce.{cat_of};
+ghost use Rattle.ts_packet.specs.Header.{pid_of};
 ghost use Rattle.plug_psi.specs.ForceStands.{StandsFor as Forced};
 ghost use Rattle.plug_psi.specs.PidFlags.{AreFlags};
 ghost use Rattle.plug_psi.specs.Referred.{is_fixed, named_in, refers};
@@ -13,7 +14,6 @@ use crate::cycle_editor::either;
 use crate::follows::Follows;
 use crate::handed_over::both;
 use crate::in_force::InForce;
-use crate::kept::Kept;
 use crate::kept_cat::KeptCat;
 use crate::pid_flags::{flag_of, no_flags, tell};
 use crate::pids_in_force::named_pids;
@@ -114,11 +114,35 @@ impl Referred {
         ensures same_failed { has_failed self.new ≡ has_failed self.old }
     {
         let psi_came = self.force.update(packet)?;
-        let cats = self.one.meet(self.alloc, CAT_PID, packet)?;
-        let came = either(psi_came, Kept::is_some(&cats));
+        let cat_came = take_cats(self.alloc, &mut self.one, packet)?;
+        let came = either(psi_came, cat_came);
         renew_where(self.alloc, &self.force, &self.one, &mut self.flags, came)?;
         Ok(())
     }
+}
+
+/// Has PID 1 take a packet, if it is on it, and answers whether a CAT was kept.
+#[inline]
+fn take_cats(alloc: Global, one: &mut Reading<KeptCat>, packet: &Packet) -> Result<bool, AllocError>
+    ensures stands { OnOk result ((fed : List (List ℕ)) → HasCat one.old fed → HasCat one.new (fed ++ packet.now ∷ [])) }
+    ensures same { IfOk result (λ came. came ≡ false → (fed : List (List ℕ)) → HasCat one.old fed → cat_of (fed ++ packet.now ∷ []) ≡ cat_of fed) }
+{
+    if packet.pid() != CAT_PID {
+        return Ok(false);
+    }
+    let came = read_cats(alloc, one, packet)?;
+    Ok(came)
+}
+
+/// The same of a packet on PID 1.
+#[inline(never)]
+fn read_cats(alloc: Global, one: &mut Reading<KeptCat>, packet: &Packet) -> Result<bool, AllocError>
+    requires { pid_of packet.now ≡ 1 }
+    ensures stands { OnOk result ((fed : List (List ℕ)) → HasCat one.old fed → HasCat one.new (fed ++ packet.now ∷ [])) }
+    ensures same { IfOk result (λ came. came ≡ false → (fed : List (List ℕ)) → HasCat one.old fed → cat_of (fed ++ packet.now ∷ []) ≡ cat_of fed) }
+{
+    let kept = one.take(alloc, (), packet)?;
+    Ok(kept.came)
 }
 
 /// Whether a PID is referred to, whatever tables are in force.

@@ -3,7 +3,7 @@ use Rattle.std.proofs.lemmas.Bool.{both_ways}
 use Rattle.plug_psi.specs.InForce.{follows}
 use Rattle.plug_psi.proofs.Choice.{neither}
 use Rattle.plug_psi.proofs.ForceLemmas.{flag-is, same-followed, same-unfollowed}
-use Rattle.plug_psi.proofs.in_force.InForce.take.Goals as goal
+use Rattle.plug_psi.proofs.in_force.InForce.read.Goals as goal
 
 pub returns-then-not-is_followed-clause-stands : goal.returns-then-not-is_followed-clause-stands
 returns-then-not-is_followed-clause-stands c = λ fed h.
