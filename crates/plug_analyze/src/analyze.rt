@@ -7,6 +7,7 @@ use crate::note::Note;
 use crate::noted::Noted;
 use crate::services::Services;
 use crate::summary::push_summary;
+use plug_psi::FailureLatch;
 use plugin_notes::LastPackets;
 use plugin_trait::{Line, Outcome, Plugin};
 use std::alloc::{AllocError, Global};
@@ -20,7 +21,7 @@ pub struct Analyze {
     last: LastPackets,
     noted: Noted,
     services: Services,
-    failed: bool,
+    failed: FailureLatch,
     alloc: Global,
 }
 
@@ -47,7 +48,7 @@ impl Analyze {
             last: LastPackets::new(alloc)?,
             noted: Noted::new(alloc, buffer)?,
             services: Services::new(alloc, buffer)?,
-            failed: false,
+            failed: FailureLatch::unset(),
             alloc,
         })
     }
@@ -62,16 +63,10 @@ impl Analyze {
         ensures spent { OnErr result (has_failed self.new ≡ true) }
         ensures stays_spent { has_failed self.old ≡ true → IsErr result }
     {
-        if self.failed {
-            return Err(AllocError);
-        }
-        match self.take(at, packet) {
-            Ok(()) => Ok(()),
-            Err(error) => {
-                self.failed = true;
-                Err(error)
-            }
-        }
+        self.failed.check()?;
+        let answer = self.take(at, packet);
+        self.failed.note(answer)?;
+        Ok(())
     }
 
     // Notes the packet at a position.
@@ -120,7 +115,7 @@ impl Plugin for Analyze {
     }
 
     fn note(&mut self, written: u64) -> Result<(), AllocError> {
-        if self.failed {
+        if self.failed.is_set() {
             return Ok(());
         }
         self.noted.fold_below(written);
@@ -133,9 +128,7 @@ impl Plugin for Analyze {
     }
 
     fn finish(&mut self, cut: u64) -> Result<Vec<Line>, AllocError> {
-        if self.failed {
-            return Err(AllocError);
-        }
+        self.failed.check()?;
         self.noted.fold_below(cut);
         self.services.fold_below(cut);
         let mut lines = Vec::new(self.alloc);

@@ -16,7 +16,9 @@ ghost use Rattle.plug_move.specs.Targets.{target_of};
 use crate::move_table::MoveTable;
 use crate::pid_edit::PidsOnTables;
 use plug_conf::PairList;
-use plug_psi::{ByPid, CycleEditor, Given, InForce, unfollowed_packets_change_nothing};
+use plug_psi::{
+    ByPid, CycleEditor, FailureLatch, Given, InForce, unfollowed_packets_change_nothing,
+};
 use std::alloc::{AllocError, Global};
 use std::sync::Arc;
 use ts_demux::PidTables;
@@ -41,7 +43,7 @@ pub(crate) struct TableMapper {
     force: InForce,
     cats: PidTables,
     editors: ByPid<PidEditor>,
-    failed: bool,
+    failed: FailureLatch,
     alloc: Global,
 }
 
@@ -62,7 +64,7 @@ impl TableMapper {
             force,
             cats,
             editors: ByPid::new(alloc),
-            failed: false,
+            failed: FailureLatch::unset(),
             alloc,
         })
     }
@@ -83,16 +85,10 @@ impl TableMapper {
         ensures spent { OnErr result (has_failed self.new ≡ true) }
         ensures stays_spent { has_failed self.old ≡ true → IsErr result }
     {
-        if self.failed {
-            return Err(AllocError);
-        }
-        match self.advance(packet, target) {
-            Ok(()) => Ok(()),
-            Err(error) => {
-                self.failed = true;
-                Err(error)
-            }
-        }
+        self.failed.check()?;
+        let answer = self.advance(packet, target);
+        self.failed.note(answer)?;
+        Ok(())
     }
 
     /// Takes the next packet as long as memory was there.

@@ -5,6 +5,7 @@ ghost use Rattle.plug_psi.specs.EditedCycles.{replaced};
 
 use crate::cycle_editor::CycleEditor;
 use crate::edit::TableEdit;
+use crate::failure_latch::FailureLatch;
 use std::alloc::{AllocError, Global};
 use ts_demux::PidTables;
 use ts_packet::{NULL_PID, Packet};
@@ -17,7 +18,7 @@ use ts_packet::{NULL_PID, Packet};
 pub struct Editor<E: TableEdit + Drop> {
     tables: PidTables,
     inner: CycleEditor<E>,
-    failed: bool,
+    failed: FailureLatch,
     alloc: Global,
 }
 
@@ -36,7 +37,7 @@ impl<E: TableEdit + Drop> Editor<E> {
         Ok(Editor {
             tables,
             inner,
-            failed: false,
+            failed: FailureLatch::unset(),
             alloc,
         })
     }
@@ -54,19 +55,11 @@ impl<E: TableEdit + Drop> Editor<E> {
         ensures as_it_was { OnErr result (packet.new ≡ packet.old) }
         ensures stays_spent { has_failed self.old ≡ true → IsErr result }
     {
-        if self.failed {
-            return Err(AllocError);
-        }
-        match self.advance(packet) {
-            Ok(new) => {
-                *packet = new;
-                Ok(())
-            }
-            Err(error) => {
-                self.failed = true;
-                Err(error)
-            }
-        }
+        self.failed.check()?;
+        let answer = self.advance(packet);
+        let new = self.failed.note(answer)?;
+        *packet = new;
+        Ok(())
     }
 
     /// Takes the next packet, and gives the one for its place.

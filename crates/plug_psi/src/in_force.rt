@@ -13,6 +13,7 @@ ghost use Rattle.plug_psi.specs.SameForce.{SameInForce};
 use crate::by_pid::ByPid;
 use crate::current_pat::CurrentPat;
 use crate::cycle_editor::either;
+use crate::failure_latch::FailureLatch;
 use crate::follow_laws::unfollowed_packets_change_nothing;
 use crate::follows::Follows;
 use crate::kept_pmts::KeptPmts;
@@ -42,7 +43,7 @@ pub struct InForce {
     /// The tables of the last packet on PID 0, and of the last one on a PID whose packets are taken.
     pats: Vec<TableRun>,
     pmts: Vec<TableRun>,
-    failed: bool,
+    failed: FailureLatch,
     alloc: Global,
 }
 
@@ -62,7 +63,7 @@ impl InForce {
             pids: ByPid::new(alloc),
             pats: Vec::new(alloc),
             pmts: Vec::new(alloc),
-            failed: false,
+            failed: FailureLatch::unset(),
             alloc,
         })
     }
@@ -94,21 +95,15 @@ impl InForce {
         ensures stays_spent { has_failed self.old ≡ true → IsErr result }
     {
         unfollowed_packets_change_nothing::<Reading<KeptPmts>>();
-        if self.failed {
-            return Err(AllocError);
-        }
+        self.failed.check()?;
         // Nearly all packets end here.
         let pid = packet.pid();
         if !may_have_tables(&self.zero, pid) {
             return Ok(false);
         }
-        match self.read(packet) {
-            Ok(came) => Ok(came),
-            Err(error) => {
-                self.failed = true;
-                Err(error)
-            }
-        }
+        let answer = self.read(packet);
+        let came = self.failed.note(answer)?;
+        Ok(came)
     }
 
     /// Hands on the tables that the last packet on PID 0 completed, once.

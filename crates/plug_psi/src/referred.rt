@@ -11,6 +11,7 @@ ghost use Rattle.plug_psi.specs.Referred.{is_fixed, named_in, refers};
 ghost use Rattle.plug_psi.specs.ReferredState.{HasCat};
 
 use crate::cycle_editor::either;
+use crate::failure_latch::FailureLatch;
 use crate::follows::Follows;
 use crate::handed_over::both;
 use crate::in_force::InForce;
@@ -41,7 +42,7 @@ pub struct Referred {
     one: Reading<KeptCat>,
     /// The PIDs that tables name. They are made anew where another table comes into force.
     flags: Vec<bool>,
-    failed: bool,
+    failed: FailureLatch,
     alloc: Global,
 }
 
@@ -60,7 +61,7 @@ impl Referred {
             force,
             one,
             flags,
-            failed: false,
+            failed: FailureLatch::unset(),
             alloc,
         })
     }
@@ -72,16 +73,10 @@ impl Referred {
         ensures spent { OnErr result (has_failed self.new ≡ true) }
         ensures stays_spent { has_failed self.old ≡ true → IsErr result }
     {
-        if self.failed {
-            return Err(AllocError);
-        }
-        match self.take(packet) {
-            Ok(()) => Ok(()),
-            Err(error) => {
-                self.failed = true;
-                Err(error)
-            }
-        }
+        self.failed.check()?;
+        let answer = self.take(packet);
+        self.failed.note(answer)?;
+        Ok(())
     }
 
     /// Whether a PID, below 8192, is referred to.

@@ -10,7 +10,7 @@ ghost use Rattle.plug_service.specs.EditorsState.{left_by};
 use crate::editors::Editors;
 use crate::watch::Watch;
 use crate::way::Way;
-use plug_psi::both;
+use plug_psi::{FailureLatch, both};
 use plugin_trait::Outcome;
 use std::alloc::{AllocError, Global};
 use ts_packet::{Cell, Packet};
@@ -25,7 +25,7 @@ pub(crate) struct OneService {
     pub(crate) stuffing: bool,
     pub(crate) watch: Watch,
     pub(crate) editors: Editors,
-    pub(crate) failed: bool,
+    pub(crate) failed: FailureLatch,
     pub(crate) alloc: Global,
 }
 
@@ -53,7 +53,7 @@ impl OneService {
             stuffing,
             watch,
             editors,
-            failed: false,
+            failed: FailureLatch::unset(),
             alloc,
         })
     }
@@ -100,16 +100,10 @@ impl OneService {
         ensures service { self.new.service ≡ self.old.service }
         ensures stuffing { self.new.stuffing ≡ self.old.stuffing }
     {
-        if self.failed {
-            return Err(AllocError);
-        }
-        match self.advance(packet) {
-            Ok(passes) => Ok(passes),
-            Err(error) => {
-                self.failed = true;
-                Err(error)
-            }
-        }
+        self.failed.check()?;
+        let answer = self.advance(packet);
+        let passes = self.failed.note(answer)?;
+        Ok(passes)
     }
 
     /// Takes the next packet as long as memory was there. After `AllocError` the packet is as it was.

@@ -7,6 +7,7 @@ use crate::tables_conf::TablesConf;
 use crate::telling::tell_tables;
 use crate::watched::Watched;
 use plug_conf::NumberSet;
+use plug_psi::FailureLatch;
 use plugin_trait::{Line, Outcome, Plugin};
 use std::alloc::{AllocError, Global};
 use std::collections::VecDeque;
@@ -21,7 +22,7 @@ pub struct Tables {
     tids: NumberSet,
     /// The lines so far, in the order of their positions.
     told: VecDeque<Line>,
-    failed: bool,
+    failed: FailureLatch,
     alloc: Global,
 }
 
@@ -48,7 +49,7 @@ impl Tables {
             watched,
             tids,
             told: VecDeque::new(alloc),
-            failed: false,
+            failed: FailureLatch::unset(),
             alloc,
         })
     }
@@ -61,16 +62,10 @@ impl Tables {
         ensures spent { OnErr result (has_failed self.new ≡ true) }
         ensures stays_spent { has_failed self.old ≡ true → IsErr result }
     {
-        if self.failed {
-            return Err(AllocError);
-        }
-        match self.take(at, packet) {
-            Ok(()) => Ok(()),
-            Err(error) => {
-                self.failed = true;
-                Err(error)
-            }
-        }
+        self.failed.check()?;
+        let answer = self.take(at, packet);
+        self.failed.note(answer)?;
+        Ok(())
     }
 
     // Tells the tables that the packet at a position completes.
@@ -138,9 +133,7 @@ impl Plugin for Tables {
     }
 
     fn finish(&mut self, cut: u64) -> Result<Vec<Line>, AllocError> {
-        if self.failed {
-            return Err(AllocError);
-        }
+        self.failed.check()?;
         let lines = lines_below(self.alloc, &mut self.told, cut)?;
         Ok(lines)
     }
