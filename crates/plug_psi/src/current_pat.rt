@@ -1,12 +1,12 @@
 //! The PAT in force.
 
-ghost use Rattle.std.specs.Prelude.{◌≡◌, ℕ, ◌<◌, ◌==◌, [], List, None, Some, false, length, map, replicate, slice_index_or, IfOk, option_map};
+ghost use Rattle.std.specs.Prelude.{◌≡◌, ℕ, ◌==◌, [], List, None, Some, false, length, map, replicate, slice_index_or, IfOk, option_map};
 ghost use Rattle.std.specs.List.{filter_map, list_any};
-ghost use Rattle.std.specs.Map.{lookup};
 ghost use Rattle.std.specs.Option.{option_copied};
 ghost use Rattle.ts_psi.specs.PatTables.{pat_held, service_item};
 ghost use Rattle.plug_psi.specs.InForce.{names, pid_for, service_in};
 
+use crate::pat_services::{number_and_pid, pid_among};
 use crate::pid_flags::{flag_of, no_flags};
 use std::alloc::{AllocError, Global};
 use std::marker::Model;
@@ -105,28 +105,7 @@ fn mark_services(marks: &mut [bool], services: &[PatService])
         ≡ list_any (λ entry. entry.1 == pid) (filter_map service_in (map service_item services.now)) }
 {
     for service in services {
-        let (_, pid) = parts(service);
+        let (_, pid) = number_and_pid(service);
         marks[usize::from(pid)] = true;
     }
-}
-
-/// The PID of the first of some services with this number.
-fn pid_among(services: &[PatService], id: u16) -> Option<u16>
-    ensures { result ≡ lookup (λ n. n == id) (filter_map service_in (map service_item services.now)) }
-{
-    for service in services {
-        let (its, pid) = parts(service);
-        if its == id {
-            return Some(pid);
-        }
-    }
-    None
-}
-
-/// The number and the PID of a service.
-pub(crate) fn parts(service: &PatService) -> (u16, u16)
-    ensures pair { service_in (service_item service.now) ≡ Some (result.0, result.1) }
-    ensures in_range { result.1 < PID_COUNT }
-{
-    (service.service_id, service.pid)
 }

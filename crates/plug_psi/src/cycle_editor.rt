@@ -68,7 +68,7 @@ impl<E: TableEdit + Drop> CycleEditor<E> {
         // Nothing else of the packet matters.
         let _ = packet;
         let came = self.contents.keep(tables)?;
-        let changed = either(self.changed, came);
+        let changed = one_holds(self.changed, came);
         let tables = self.contents.tables();
         let changed = renew_where_over(alloc, &self.edit, tables, &mut self.cycle, changed)?;
         let (packet, counter) = next_in_place(&mut self.cycle, self.counter % 16);
@@ -79,7 +79,7 @@ impl<E: TableEdit + Drop> CycleEditor<E> {
 }
 
 /// Whether one of two holds.
-pub(crate) fn either(a: bool, b: bool) -> bool
+pub(crate) fn one_holds(a: bool, b: bool) -> bool
     ensures { result ≡ (a || b) }
 {
     a || b

@@ -12,7 +12,7 @@ ghost use Rattle.plug_psi.specs.SameForce.{SameInForce};
 
 use crate::by_pid::ByPid;
 use crate::current_pat::CurrentPat;
-use crate::cycle_editor::either;
+use crate::cycle_editor::one_holds;
 use crate::failure_latch::FailureLatch;
 use crate::follow_laws::unfollowed_packets_change_nothing;
 use crate::follows::Follows;
@@ -173,7 +173,7 @@ impl InForce {
         }
         let kept = self.pids.take(self.alloc, &(), (), packet)?;
         self.pmts = kept.tables;
-        Ok(either(pat_came, kept.came))
+        Ok(one_holds(pat_came, kept.came))
     }
 }
 

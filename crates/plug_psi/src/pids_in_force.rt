@@ -9,8 +9,8 @@ ghost use Rattle.plug_psi.specs.InForce.{pat_of, pmt_of, service_in};
 ghost use Rattle.plug_psi.specs.ForceStands.{StandsFor as Forced};
 ghost use Rattle.plug_psi.specs.Referred.{cat_pids, entry_pid, entry_pids, named_pids, pids_by, service_pids};
 
-use crate::current_pat::parts;
 use crate::in_force::InForce;
+use crate::pat_services::number_and_pid;
 use crate::pids_of_pmt::{add_ca_pids, add_pids};
 use std::alloc::{AllocError, Global};
 use ts_psi::{Cat, Pat, PatService};
@@ -88,7 +88,7 @@ fn add_pids_of(
         → pids.new.items ≡ pids.old.items ++ flat_map (pids_by (λ service. pmt_of service fed)) (filter_map service_in (map service_item services.now))) }
 {
     for entry in services {
-        let (id, _) = parts(entry);
+        let (id, _) = number_and_pid(entry);
         add_pids_by(alloc, pids, force, id)?;
     }
     Ok(())

@@ -10,7 +10,7 @@ ghost use Rattle.plug_psi.specs.PidFlags.{AreFlags};
 ghost use Rattle.plug_psi.specs.Referred.{is_fixed, named_in, refers};
 ghost use Rattle.plug_psi.specs.ReferredState.{HasCat};
 
-use crate::cycle_editor::either;
+use crate::cycle_editor::one_holds;
 use crate::failure_latch::FailureLatch;
 use crate::follows::Follows;
 use crate::handed_over::both;
@@ -110,7 +110,7 @@ impl Referred {
     {
         let psi_came = self.force.update(packet)?;
         let cat_came = take_cats(self.alloc, &mut self.one, packet)?;
-        let came = either(psi_came, cat_came);
+        let came = one_holds(psi_came, cat_came);
         renew_where(self.alloc, &self.force, &self.one, &mut self.flags, came)?;
         Ok(())
     }

@@ -13,7 +13,7 @@ use Rattle.plug_service.specs.declared.way.Way.TheVariants.{Keep, Remove}
 use Rattle.plug_service.specs.declared.fate.Fate.{Fate}
 use Rattle.plug_service.specs.declared.fate.Fate.TheVariants.{EditPat, EditSdt, EditPmt, Pass, Drop}
 use Rattle.plug_service.specs.declared.pid_fates.PidFates.{PidFates}
-use Rattle.plug_service.specs.declared.watch.Watch.{Watch}
+use Rattle.plug_service.specs.declared.service_follower.ServiceFollower.{ServiceFollower}
 
 -- what the flag of a PID tells
 abbrev pub told_flag : Way → ℕ → Option TableHolding → (ℕ → Option TableHolding) → ℕ → Bool
@@ -36,11 +36,11 @@ abbrev pub FatesStand : PidFates → Option TableHolding → (ℕ → Option Tab
 FatesStand fates pat pmts = Stands fates.way fates.service fates.of_pmt fates.shared fates.flags.items pat pmts
 
 -- the fates and the tables in force stand for the packets that were met
-pub record Watches (way : Way) (service : ℕ) (watch : Watch) (met : List (List ℕ)) : Type 0 where
-  pub same_way : watch.fates.way ≡ way
-  pub same_service : watch.fates.service ≡ service
-  pub forced : forcing.StandsFor watch.force met
-  pub fated : FatesStand watch.fates (pat_of met) (λ other. pmt_of other met)
+pub record FollowsService (way : Way) (service : ℕ) (follower : ServiceFollower) (met : List (List ℕ)) : Type 0 where
+  pub same_way : follower.fates.way ≡ way
+  pub same_service : follower.fates.service ≡ service
+  pub forced : forcing.StandsFor follower.force met
+  pub fated : FatesStand follower.fates (pat_of met) (λ other. pmt_of other met)
 
 -- where the packets on a PID are edited as those of PMTs, it is not that of null packets
 abbrev pub IsEditable : Fate → ℕ → Type 0

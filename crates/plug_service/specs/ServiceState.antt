@@ -2,7 +2,7 @@
 -- This project's own rule: once memory was wanting it stands for none.
 use Rattle.std.specs.Prelude.{◌≡◌, ℕ, false, List}
 use Rattle.chain_model.specs.PluginRule.{PluginRule}
-use Rattle.plug_service.specs.FatesState.{Watches}
+use Rattle.plug_service.specs.FatesState.{FollowsService}
 use Rattle.plug_service.specs.EditorsState.{EditorsStand}
 use Rattle.plug_service.specs.ServiceRule.{service_rule}
 use Rattle.plug_service.specs.declared.way.Way.{Way}
@@ -10,7 +10,7 @@ use Rattle.plug_service.specs.declared.one_service.OneService.{OneService}
 
 -- tables in force, fates and editors are those of the packets
 pub record Served (way : Way) (service : ℕ) (plugin : OneService) (met : List (List ℕ)) : Type 0 where
-  pub watched : Watches way service plugin.watch met
+  pub followed : FollowsService way service plugin.follower met
   pub edited : EditorsStand way service plugin.editors met
 
 -- the plugin stands for the packets, unless memory was wanting

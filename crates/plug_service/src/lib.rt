@@ -12,10 +12,10 @@ mod pid_fates;
 mod pmt_alone;
 mod sdt_part;
 mod service_conf;
+mod service_follower;
 mod service_words;
 mod services;
 mod svremove;
-mod watch;
 mod way;
 mod zap;
 

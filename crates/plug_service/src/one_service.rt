@@ -8,7 +8,7 @@ ghost use Rattle.plug_service.specs.ServiceRule.{made_of};
 ghost use Rattle.plug_service.specs.EditorsState.{left_by};
 
 use crate::editors::Editors;
-use crate::watch::Watch;
+use crate::service_follower::ServiceFollower;
 use crate::way::Way;
 use plug_psi::{FailureLatch, both};
 use plugin_trait::Outcome;
@@ -23,7 +23,7 @@ pub(crate) struct OneService {
     pub(crate) way: Way,
     pub(crate) service: u16,
     pub(crate) stuffing: bool,
-    pub(crate) watch: Watch,
+    pub(crate) follower: ServiceFollower,
     pub(crate) editors: Editors,
     pub(crate) failed: FailureLatch,
     pub(crate) alloc: Global,
@@ -44,14 +44,14 @@ impl OneService {
         ensures service { IfOk result (λ plugin. plugin.service ≡ service) }
         ensures stuffing { IfOk result (λ plugin. plugin.stuffing ≡ stuffing) }
     {
-        let watch = Watch::new(alloc, way, service)?;
+        let follower = ServiceFollower::new(alloc, way, service)?;
         let editors = Editors::new(alloc, way, service);
-        let (watch, editors) = both(watch, editors)?;
+        let (follower, editors) = both(follower, editors)?;
         Ok(OneService {
             way,
             service,
             stuffing,
-            watch,
+            follower,
             editors,
             failed: FailureLatch::unset(),
             alloc,
@@ -119,8 +119,8 @@ impl OneService {
         ensures stuffing { self.new.stuffing ≡ self.old.stuffing }
         ensures failed { self.new.failed ≡ self.old.failed }
     {
-        let fate = self.watch.meet(self.alloc, packet)?;
-        let force = &mut self.watch.force;
+        let fate = self.follower.meet(self.alloc, packet)?;
+        let force = &mut self.follower.force;
         let passes = self.editors.edit(self.alloc, fate, force, packet)?;
         Ok(passes)
     }

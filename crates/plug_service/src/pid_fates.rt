@@ -13,9 +13,9 @@ ghost use Rattle.plug_psi.specs.ServicePids.{pids_of};
 
 use crate::fate::Fate;
 use crate::limits::{LAST_FIXED_PID, PAT_PID, SDT_PID};
-use crate::services::{is_at, is_shared, parts, pid_of_service};
+use crate::services::{is_at, is_shared};
 use crate::way::Way;
-use plug_psi::{InForce, add_pids, flag_of, no_flags, tell};
+use plug_psi::{InForce, add_pids, flag_of, no_flags, number_and_pid, pid_of_service, tell};
 use std::alloc::{AllocError, Global};
 use ts_packet::{NULL_PID, PID_COUNT};
 use ts_psi::PatService;
@@ -185,7 +185,7 @@ fn pids_of_others(
 {
     let mut pids = Vec::new(alloc);
     for entry in services {
-        let (id, _) = parts(entry);
+        let (id, _) = number_and_pid(entry);
         add_besides(alloc, &mut pids, force, service, id)?;
     }
     Ok(pids)

@@ -1,47 +1,17 @@
 //! The services of a PAT (ISO/IEC 13818-1, 2.4.4.3).
 
-ghost use Rattle.std.specs.Prelude.{◌≡◌, ◌==◌, Some, count_by, map, nat_lt, option_map};
+ghost use Rattle.std.specs.Prelude.{◌≡◌, ◌==◌, count_by, map, nat_lt, option_map};
 ghost use Rattle.std.specs.List.{filter_map};
-ghost use Rattle.std.specs.Map.{lookup};
 ghost use Rattle.std.specs.Option.{option_copied};
 ghost use Rattle.ts_psi.specs.PatTables.{pat_held, service_item};
-ghost use Rattle.plug_psi.specs.InForce.{pid_for, service_in};
+ghost use Rattle.plug_psi.specs.InForce.{service_in};
 ghost use Rattle.plug_service.specs.Fates;
 ghost use Rattle.plug_service.specs.Fates.{is_shared_at};
 ghost use Rattle.plug_service.specs.ServiceEdits;
 
 use crate::way::Way;
+use plug_psi::number_and_pid;
 use ts_psi::{Pat, PatService};
-
-/// The number and the PID of a service.
-pub(crate) fn parts(service: &PatService) -> (u16, u16)
-    ensures { service_in (service_item service.now) ≡ Some (result.0, result.1) }
-{
-    (service.service_id, service.pid)
-}
-
-/// The PID of the first entry of a service in a PAT, if there is one.
-pub(crate) fn pid_of_service(pat: Option<&Pat>, service: u16) -> Option<u16>
-    ensures { result ≡ pid_for (option_map pat_held (option_copied pat.entry)) service }
-{
-    match pat {
-        Some(pat) => pid_among(pat.services.as_slice(), service),
-        None => None,
-    }
-}
-
-/// The PID of the first of some services with this number.
-fn pid_among(services: &[PatService], id: u16) -> Option<u16>
-    ensures { result ≡ lookup (λ n. n == id) (filter_map service_in (map service_item services.now)) }
-{
-    for service in services {
-        let (its, pid) = parts(service);
-        if its == id {
-            return Some(pid);
-        }
-    }
-    None
-}
 
 /// Whether more than one entry of a PAT has the PID that is told.
 pub(crate) fn is_shared(pat: Option<&Pat>, told: Option<u16>) -> bool
@@ -62,7 +32,7 @@ fn entries_on(services: &[PatService], at: u16) -> usize
 {
     let mut count = 0;
     for service in services {
-        let (_, pid) = parts(service);
+        let (_, pid) = number_and_pid(service);
         count += usize::from(pid == at);
     }
     count

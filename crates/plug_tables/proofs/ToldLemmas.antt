@@ -17,8 +17,8 @@ use Rattle.plugin_trait.specs.PlacedLines.{placed_after, placed_at, placed_of}
 use Rattle.plug_tables.specs.TablesRule.{is_told, rule_with, table_text, table_texts}
 use Rattle.plug_tables.specs.TablesState.{StartsFrom, TellsTables}
 use Rattle.plug_tables.specs.WatchedPackets.{Choice, tables_with}
-use Rattle.plug_tables.specs.WatchedState.{HasMet, choice_in}
-use Rattle.plug_tables.specs.declared.watched.Watched.{Watched}
+use Rattle.plug_tables.specs.TableReaderState.{HasMet, choice_in}
+use Rattle.plug_tables.specs.declared.table_reader.TableReader.{TableReader}
 
 not_below : (m n : ℕ) → n ≤ m → nat_lt m n ≡ false
 not_below m n h = grind (arith, nat_tests)
@@ -77,24 +77,24 @@ live-dropped : (history : List Cell) → live_packets (history ++ Dropped ∷ []
 live-dropped history = flat_map-append packet_in history (Dropped ∷ []) ∙ append-nil (live_packets history)
 
 -- a dropped cell
-pub tells_dropped : (watched : Watched) (tids : List (ℕ × ℕ)) (told : List Line) (history : List Cell) (mark : ℕ) → TellsTables watched tids told history mark
-    → TellsTables watched tids told (history ++ Dropped ∷ []) mark
-tells_dropped watched tids told history mark w = record {
-  met = subst (HasMet watched) (sym (live-dropped history)) w.met;
-  lines = w.lines ∙ sym (placed_after-append (rule_with (choice_in watched) tids) [] history (Dropped ∷ []) ∙ append-nil (placed_after (rule_with (choice_in watched) tids) [] history));
+pub tells_dropped : (reader : TableReader) (tids : List (ℕ × ℕ)) (told : List Line) (history : List Cell) (mark : ℕ) → TellsTables reader tids told history mark
+    → TellsTables reader tids told (history ++ Dropped ∷ []) mark
+tells_dropped reader tids told history mark w = record {
+  met = subst (HasMet reader) (sym (live-dropped history)) w.met;
+  lines = w.lines ∙ sym (placed_after-append (rule_with (choice_in reader) tids) [] history (Dropped ∷ []) ∙ append-nil (placed_after (rule_with (choice_in reader) tids) [] history));
   marked = omega (arith, w.marked, length-append history (Dropped ∷ []));
 }
 
 -- a packet
-pub tells_live : (watched watched_new : Watched) (tids : List (ℕ × ℕ)) (told told_new : List Line) (history : List Cell) (mark : ℕ) (packet : List ℕ) (labels at pid : ℕ) (tables : List (List (List ℕ)))
-    → TellsTables watched tids told history mark → HasMet watched_new (live_packets history ++ packet ∷ []) → choice_in watched_new ≡ choice_in watched
-    → at ≡ length history → pid ≡ pid_of packet → tables ≡ tables_with (choice_in watched) (live_packets history) packet
+pub tells_live : (reader reader_new : TableReader) (tids : List (ℕ × ℕ)) (told told_new : List Line) (history : List Cell) (mark : ℕ) (packet : List ℕ) (labels at pid : ℕ) (tables : List (List (List ℕ)))
+    → TellsTables reader tids told history mark → HasMet reader_new (live_packets history ++ packet ∷ []) → choice_in reader_new ≡ choice_in reader
+    → at ≡ length history → pid ≡ pid_of packet → tables ≡ tables_with (choice_in reader) (live_packets history) packet
     → told_new ≡ told ++ placed_at at (table_texts tids at pid tables)
-    → TellsTables watched_new tids told_new (history ++ Live packet labels ∷ []) mark
-tells_live watched watched_new tids told told_new history mark packet labels at pid tables w met same at_is pid_is tables_are pushed =
-    let rule : PluginRule = rule_with (choice_in watched) tids in
+    → TellsTables reader_new tids told_new (history ++ Live packet labels ∷ []) mark
+tells_live reader reader_new tids told told_new history mark packet labels at pid tables w met same at_is pid_is tables_are pushed =
+    let rule : PluginRule = rule_with (choice_in reader) tids in
     record {
-      met = subst (HasMet watched_new) (sym (live-live history packet labels)) met;
+      met = subst (HasMet reader_new) (sym (live-live history packet labels)) met;
       lines =
           pushed
           ∙ (ap (λ (ls : List Line). ls ++ placed_at at (table_texts tids at pid tables)) w.lines
@@ -167,10 +167,10 @@ below_placed rule cut history (Dropped ∷ cells) =
     ]
 
 -- the report over the cells before a position
-pub report_is : (watched : Watched) (tids : List (ℕ × ℕ)) (told lines : List Line) (history : List Cell) (mark cut : ℕ) → TellsTables watched tids told history mark
-    → lines ≡ take_while (λ (l : Line). nat_lt l.at cut) told → lines ≡ placed_of (rule_with (choice_in watched) tids) (take cut history)
-report_is watched tids told lines history mark cut w is =
-    let rule : PluginRule = rule_with (choice_in watched) tids in
+pub report_is : (reader : TableReader) (tids : List (ℕ × ℕ)) (told lines : List Line) (history : List Cell) (mark cut : ℕ) → TellsTables reader tids told history mark
+    → lines ≡ take_while (λ (l : Line). nat_lt l.at cut) told → lines ≡ placed_of (rule_with (choice_in reader) tids) (take cut history)
+report_is reader tids told lines history mark cut w is =
+    let rule : PluginRule = rule_with (choice_in reader) tids in
     is
     ∙ (ap (take_while (λ (l : Line). nat_lt l.at cut)) w.lines
     ∙ (below_placed rule cut [] history

@@ -1,7 +1,7 @@
+pub mod TableReaderState
 pub mod TablesRule
 pub mod TablesSettings
 pub mod TablesStands
 pub mod TablesState
 pub mod TablesWords
 pub mod WatchedPackets
-pub mod WatchedState

@@ -4,7 +4,7 @@ use Rattle.ts_packet.specs.declared.cell.Cell.{Cell}
 use Rattle.chain_model.specs.PluginRule.{PluginRule}
 use Rattle.plug_tables.specs.TablesRule.{rule_with}
 use Rattle.plug_tables.specs.TablesState.{TellsTables}
-use Rattle.plug_tables.specs.WatchedState.{choice_in}
+use Rattle.plug_tables.specs.TableReaderState.{choice_in}
 use Rattle.plug_tables.specs.declared.tables.Tables.{Tables}
 
 -- whether memory was wanting
@@ -13,8 +13,8 @@ has_failed s = s.failed
 
 -- the rule that it means
 abbrev pub rule_in : Tables → PluginRule
-rule_in s = rule_with (choice_in s.watched) s.tids
+rule_in s = rule_with (choice_in s.reader) s.tids
 
 -- its parts stand for the cells and the greatest mark
 abbrev pub StandsFor : Tables → List Cell → ℕ → Type 0
-StandsFor s history mark = TellsTables s.watched s.tids s.told.items history mark
+StandsFor s history mark = TellsTables s.reader s.tids s.told.items history mark

@@ -5,8 +5,8 @@ use Rattle.ts_packet.specs.Cells.{live_packets}
 use Rattle.plugin_trait.specs.declared.line.Line.{Line}
 use Rattle.plugin_trait.specs.PlacedLines.{placed_after}
 use Rattle.plug_tables.specs.TablesRule.{rule_with}
-use Rattle.plug_tables.specs.WatchedState.{HasMet, choice_in}
-use Rattle.plug_tables.specs.declared.watched.Watched.{Watched}
+use Rattle.plug_tables.specs.TableReaderState.{HasMet, choice_in}
+use Rattle.plug_tables.specs.declared.table_reader.TableReader.{TableReader}
 
 -- the first line, where there is one, is not below the position
 abbrev pub StartsFrom : ℕ → List Line → Type 0
@@ -14,7 +14,7 @@ StartsFrom cut [] = Unit {0}
 StartsFrom cut (line ∷ lines) = cut ≤ line.at
 
 -- the packets of the cells were met, and their lines are told
-pub record TellsTables (watched : Watched) (tids : List (ℕ × ℕ)) (told : List Line) (history : List Cell) (mark : ℕ) : Type 0 where
-  pub met : HasMet watched (live_packets history)
-  pub lines : told ≡ placed_after (rule_with (choice_in watched) tids) [] history
+pub record TellsTables (reader : TableReader) (tids : List (ℕ × ℕ)) (told : List Line) (history : List Cell) (mark : ℕ) : Type 0 where
+  pub met : HasMet reader (live_packets history)
+  pub lines : told ≡ placed_after (rule_with (choice_in reader) tids) [] history
   pub marked : mark ≤ length history

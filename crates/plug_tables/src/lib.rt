@@ -4,11 +4,11 @@
 #![tactic(auto)]
 
 mod limits;
+mod table_reader;
 mod tables;
 mod tables_conf;
 mod tables_words;
 mod telling;
-mod watched;
 
 pub use limits::LAST_TABLE_ID;
 pub use tables::Tables;

@@ -3,9 +3,9 @@ ghost use Rattle.std.specs.List.{take_while};
 ghost use Rattle.plug_tables.specs.TablesRule.{tables_rule};
 ghost use Rattle.plug_tables.specs.TablesState.{StartsFrom};
 
+use crate::table_reader::TableReader;
 use crate::tables_conf::TablesConf;
 use crate::telling::tell_tables;
-use crate::watched::Watched;
 use plug_conf::NumberSet;
 use plug_psi::FailureLatch;
 use plugin_trait::{Line, Outcome, Plugin};
@@ -18,7 +18,7 @@ use ts_packet::{Cell, Packet};
 /// A step may want memory, and then every later step does, and nothing is told.
 #[derive(Drop)]
 pub struct Tables {
-    watched: Watched,
+    reader: TableReader,
     tids: NumberSet,
     /// The lines so far, in the order of their positions.
     told: VecDeque<Line>,
@@ -44,9 +44,9 @@ impl Tables {
         let _ = buffer;
         let tids = NumberSet::of(Vec::from_slice(alloc, conf.tid.as_slice())?);
         // The largest value comes last: nothing can fail while it is held.
-        let watched = Watched::new(alloc, &conf.pid)?;
+        let reader = TableReader::new(alloc, &conf.pid)?;
         Ok(Tables {
-            watched,
+            reader,
             tids,
             told: VecDeque::new(alloc),
             failed: FailureLatch::unset(),
@@ -74,7 +74,7 @@ impl Tables {
             → StandsFor self.new (history ++ Live packet.now labels ∷ []) mark) }
         ensures same_rule { rule_in self.new ≡ rule_in self.old }
     {
-        let tables = self.watched.meet(packet)?;
+        let tables = self.reader.meet(packet)?;
         let pid = packet.pid();
         tell_tables(self.alloc, &mut self.told, &self.tids, at, pid, &tables)?;
         Ok(())

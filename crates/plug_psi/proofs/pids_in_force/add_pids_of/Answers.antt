@@ -8,7 +8,7 @@ use Rattle.plug_psi.proofs.pids_in_force.add_pids_of.Goals as goal
 pub loop-entry-preserved : goal.loop-entry-preserved
 loop-entry-preserved c = λ fed f.
     added-next (pids_by (λ service. pmt_of service fed)) c.loop-entry.pids.items c.add_pids_by.new.pids.items _ c.args.services.now c.loop-entry.entry-index c.entry-item.result
-    (c.parts-id.result.0, c.parts-id.result.1) c.loop-entry-test.true (ap (λ s. service_in (service_item s)) (sym c.entry-item.is) ∙ c.parts-id.ensures.pair) (c.in_ok-add_pids_by.ensures fed c.parts-id.result.1 f) (c.loop-entry.invariant fed f)
+    (c.number_and_pid-id.result.0, c.number_and_pid-id.result.1) c.loop-entry-test.true (ap (λ s. service_in (service_item s)) (sym c.entry-item.is) ∙ c.number_and_pid-id.ensures.pair) (c.in_ok-add_pids_by.ensures fed c.number_and_pid-id.result.1 f) (c.loop-entry.invariant fed f)
 
 pub returns : goal.returns
 returns c = λ fed f.

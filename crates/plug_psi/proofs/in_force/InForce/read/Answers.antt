@@ -43,7 +43,7 @@ returns-clause-stands c = λ fed h.
 pub returns-clause-same : goal.returns-clause-same
 returns-clause-same c = λ none fed h.
     let pat = c.in_ok-pat_came.ensures.stands fed h.pat_fed in
-    let came = neither _ _ (sym c.either.ensures ∙ none) in
+    let came = neither _ _ (sym c.one_holds.ensures ∙ none) in
     same-followed fed c.args.packet.now (c.in_ok-pat_came.ensures.same came.0 fed h.pat_fed)
     (flag-is c.take_first.new.zero fed c.args.packet.now c.pid-pid.result true pat c.pid-pid.ensures.field (sym c.is_followed.ensures ∙ c.if-not-is_followed.false))
     (λ service. (c.in_ok-kept.ensures.tells follows fed h.entries tt service).same came.1)

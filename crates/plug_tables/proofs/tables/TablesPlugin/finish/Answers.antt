@@ -3,4 +3,4 @@ use Rattle.plug_tables.proofs.tables.TablesPlugin.finish.Goals as goal
 
 pub returns : goal.returns
 returns c = λ history mark s later within.
-    report_is c.args.self.now.watched c.args.self.now.tids c.args.self.now.told.items c.in_ok-lines.lines.items history mark c.args.cut (s.0 c.in_ok-check.ensures.unset) c.in_ok-lines.ensures
+    report_is c.args.self.now.reader c.args.self.now.tids c.args.self.now.told.items c.in_ok-lines.lines.items history mark c.args.cut (s.0 c.in_ok-check.ensures.unset) c.in_ok-lines.ensures

@@ -1,4 +1,4 @@
-//! The tables in force and the fates by them.
+//! What follows one service: the tables in force, and the fates by them.
 
 ghost use Rattle.std.specs.Prelude.{◌≡◌, ℕ, ◌++◌, ◌∷◌, [], List, false, IfOk, OnOk};
 ghost use Rattle.ts_packet.specs.Header.{pid_of};
@@ -16,35 +16,35 @@ use plug_psi::{InForce, both};
 use std::alloc::{AllocError, Global};
 use ts_packet::Packet;
 
-/// The tables in force, and what becomes of the packets on each PID by them.
+/// Follows one service: the tables in force, and what becomes of the packets on each PID by them.
 #[derive(Drop)]
-pub(crate) struct Watch {
+pub(crate) struct ServiceFollower {
     pub(crate) force: InForce,
     pub(crate) fates: PidFates,
 }
 
-impl Watch {
-    ghost use Rattle.plug_service.specs.FatesState.{Watches};
+impl ServiceFollower {
+    ghost use Rattle.plug_service.specs.FatesState.{FollowsService};
 
     /// No packet was met.
-    pub(crate) fn new(alloc: Global, way: Way, service: u16) -> Result<Watch, AllocError>
-        ensures { IfOk result (λ watch. Watches way service watch []) }
+    pub(crate) fn new(alloc: Global, way: Way, service: u16) -> Result<ServiceFollower, AllocError>
+        ensures { IfOk result (λ follower. FollowsService way service follower []) }
     {
         let mut fates = PidFates::new(alloc, way, service)?;
         let force = InForce::new(alloc)?;
         let renewed = fates.renew(alloc, &force);
         let (force, _) = both(force, renewed)?;
-        Ok(Watch { force, fates })
+        Ok(ServiceFollower { force, fates })
     }
 
     /// Meets the next packet, of any PID, and answers its fate.
     #[inline]
     pub(crate) fn meet(&mut self, alloc: Global, packet: &Packet) -> Result<Fate, AllocError>
-        ensures stands { OnOk result ((way : Way) (service : ℕ) (met : List (List ℕ)) → Watches way service self.old met
-            → Watches way service self.new (met ++ packet.now ∷ [])) }
-        ensures tells { IfOk result (λ fate. (way : Way) (service : ℕ) (met : List (List ℕ)) → Watches way service self.old met
+        ensures stands { OnOk result ((way : Way) (service : ℕ) (met : List (List ℕ)) → FollowsService way service self.old met
+            → FollowsService way service self.new (met ++ packet.now ∷ [])) }
+        ensures tells { IfOk result (λ fate. (way : Way) (service : ℕ) (met : List (List ℕ)) → FollowsService way service self.old met
             → fate ≡ fate_after way service (met ++ packet.now ∷ []) (pid_of packet.now)) }
-        ensures pats { OnOk result ((way : Way) (service : ℕ) (met : List (List ℕ)) → Watches way service self.old met
+        ensures pats { OnOk result ((way : Way) (service : ℕ) (met : List (List ℕ)) → FollowsService way service self.old met
             → pid_of packet.now ≡ 0 → Completes 0 (packets_on 0 met) packet.now (pats_in self.new.force)) }
         ensures editable { IfOk result (λ fate. IsEditable fate (pid_of packet.now)) }
     {

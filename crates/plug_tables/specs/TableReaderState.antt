@@ -7,17 +7,17 @@ use Rattle.plug_psi.specs.ForceStands as forcing
 use Rattle.plug_psi.specs.declared.by_pid.ByPid.{ByPid}
 use Rattle.plug_psi.specs.declared.in_force.InForce.{InForce}
 use Rattle.plug_tables.specs.WatchedPackets.{Choice, is_watched}
-use Rattle.plug_tables.specs.declared.watched.Watched.{Watched}
+use Rattle.plug_tables.specs.declared.table_reader.TableReader.{TableReader}
 
 -- the parts stand for the packets that were met
-pub record Watches (force : InForce) (readers : ByPid PidTables) (choice : Choice) (met : List (List ℕ)) : Type 0 where
+pub record ReadsWatched (force : InForce) (readers : ByPid PidTables) (choice : Choice) (met : List (List ℕ)) : Type 0 where
   pub fed : forcing.StandsFor force met
   pub entries : AllStand reading.StandsFor readers (is_watched choice) met
 
 -- the choice of PIDs
-abbrev pub choice_in : Watched → Choice
+abbrev pub choice_in : TableReader → Choice
 choice_in s = record { listed = s.pids; follows = s.follows }
 
 -- the whole stands for the packets that were met
-abbrev pub HasMet : Watched → List (List ℕ) → Type 0
-HasMet s met = Watches s.force s.readers (choice_in s) met
+abbrev pub HasMet : TableReader → List (List ℕ) → Type 0
+HasMet s met = ReadsWatched s.force s.readers (choice_in s) met

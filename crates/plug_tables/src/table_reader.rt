@@ -1,4 +1,4 @@
-//! The tables of all PIDs that are watched.
+//! What reads the tables of all PIDs that are watched.
 ghost use Rattle.std.specs.Prelude.{◌≡◌, ◌<◌, ◌==◌, ◌∷◌, ◌++◌, ℕ, [], List, IfOk, OnOk, length, true, false, if◌then◌else◌};
 ghost use Rattle.plug_tables.specs.TablesRule.{choice_of};
 
@@ -12,9 +12,9 @@ use ts_section::TableRun;
 /// The PIDs that are watched without a list, besides those of the PMTs: PAT and CAT, and NIT, SDT and EIT.
 const USUAL_PIDS: [(u64, u64); 2] = [(0, 1), (16, 18)];
 
-/// The PIDs that are watched, and their sections on their way to tables.
+/// Reads the tables of all PIDs that are watched.
 #[derive(Drop)]
-pub struct Watched {
+pub struct TableReader {
     pids: PidSet,
     /// Whether the PIDs of the PMTs that the PAT in force names are watched too.
     follows: bool,
@@ -23,20 +23,20 @@ pub struct Watched {
     alloc: Global,
 }
 
-impl Watched {
+impl TableReader {
     ghost use Rattle.std.specs.Prelude.{◌≡◌, ◌<◌, ◌∷◌, ◌++◌, ℕ, [], List, true, IfOk, OnOk};
     ghost use Rattle.ts_packet.specs.Header.{pid_of};
     ghost use Rattle.plug_psi.specs.ForceStands.{StandsFor as IsFed};
     ghost use Rattle.plug_tables.specs.TablesRule.{choice_of};
     ghost use Rattle.plug_tables.specs.WatchedPackets.{is_watched, tables_with};
-    ghost use Rattle.plug_tables.specs.WatchedState.{HasMet, choice_in};
+    ghost use Rattle.plug_tables.specs.TableReaderState.{HasMet, choice_in};
 
     /// No packet was met. The PIDs that are watched are those of a list, or the usual ones where it is empty.
-    pub fn new(alloc: Global, list: &NumberSet) -> Result<Watched, AllocError>
-        ensures choice { IfOk result (λ watched. choice_in watched ≡ choice_of list.now) }
-        ensures fresh { IfOk result (λ watched. HasMet watched []) }
+    pub fn new(alloc: Global, list: &NumberSet) -> Result<TableReader, AllocError>
+        ensures choice { IfOk result (λ reader. choice_in reader ≡ choice_of list.now) }
+        ensures fresh { IfOk result (λ reader. HasMet reader []) }
     {
-        Ok(Watched {
+        Ok(TableReader {
             pids: pids_of(alloc, list)?,
             follows: list.is_empty(),
             force: InForce::new(alloc)?,

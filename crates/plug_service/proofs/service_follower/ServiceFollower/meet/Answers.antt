@@ -3,7 +3,7 @@ use Rattle.ts_packet.specs.Header.{pid_of}
 use Rattle.plug_psi.specs.InForce.{pat_of, pmt_of}
 use Rattle.plug_service.specs.Fates.{fate_of}
 use Rattle.plug_service.proofs.FateLemmas.{fate-after}
-use Rattle.plug_service.proofs.watch.Watch.meet.Goals as goal
+use Rattle.plug_service.proofs.service_follower.ServiceFollower.meet.Goals as goal
 
 pub returns-clause-tells : goal.returns-clause-tells
 returns-clause-tells c = λ way service met h.

@@ -1,8 +1,8 @@
 use Rattle.std.proofs.Common.{[], ◌∷◌, ◌++◌, true, sym, ◌∙◌, ap}
 use Rattle.plug_tables.specs.WatchedPackets.{is_watched}
-use Rattle.plug_tables.specs.WatchedState.{choice_in}
+use Rattle.plug_tables.specs.TableReaderState.{choice_in}
 use Rattle.plug_tables.proofs.WatchedLemmas.{no_tables, some_tables}
-use Rattle.plug_tables.proofs.watched.Watched.meet.Goals as goal
+use Rattle.plug_tables.proofs.table_reader.TableReader.meet.Goals as goal
 
 pub returns-then-not-is_watched-clause-stands : goal.returns-then-not-is_watched-clause-stands
 returns-then-not-is_watched-clause-stands c = λ met h.

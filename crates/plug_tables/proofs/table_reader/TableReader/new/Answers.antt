@@ -1,6 +1,6 @@
 use Rattle.plug_tables.specs.WatchedPackets.{is_watched}
 use Rattle.plug_tables.proofs.WatchedLemmas.{choice_is}
-use Rattle.plug_tables.proofs.watched.Watched.new.Goals as goal
+use Rattle.plug_tables.proofs.table_reader.TableReader.new.Goals as goal
 
 pub returns-clause-choice : goal.returns-clause-choice
 returns-clause-choice c = choice_is c.args.list.now _ _ c.in_ok-pids_of.ensures c.is_empty.ensures

@@ -4,7 +4,7 @@ use Rattle.ts_packet.specs.declared.numbers.TheConstants.{PID_COUNT}
 use Rattle.plug_psi.specs.ForceStands.{StandsFor}
 use Rattle.plug_psi.specs.InForce.{pat_of, pmt_of}
 use Rattle.plug_service.specs.FatesState.{FatesStand}
-use Rattle.plug_service.proofs.watch.Watch.new.Goals as goal
+use Rattle.plug_service.proofs.service_follower.ServiceFollower.new.Goals as goal
 
 pub returns : goal.returns
 returns c = record {
