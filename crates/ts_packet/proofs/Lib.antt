@@ -4,4 +4,5 @@ pub mod Clocks
 pub mod HeaderLaws
 pub mod LabelLemmas
 pub mod RowLemmas
+pub mod PidRows
 mod Rows

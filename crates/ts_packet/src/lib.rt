@@ -10,6 +10,7 @@ mod live_packet;
 mod no_sync;
 mod numbers;
 mod packet;
+mod pid_row;
 mod row_laws;
 
 pub use cell::Cell;
@@ -20,4 +21,5 @@ pub use live_packet::LivePacket;
 pub use no_sync::NoSync;
 pub use numbers::{NULL_PID, PACKET_SIZE, PAYLOAD_SIZE, PID_COUNT, SYNC_BYTE};
 pub use packet::Packet;
+pub use pid_row::PidRow;
 pub use row_laws::{met_rows_are_live_rows, rows_are_live_packets};
