@@ -1,19 +1,18 @@
 //! A set of PIDs.
 ghost use Rattle.std.specs.Prelude.{◌≡◌, ◌==◌, ◌<◌, IfOk, length};
-ghost use Rattle.plug_conf.specs.PidTable.{IsTableOf};
 ghost use Rattle.plug_conf.specs.Selection.{is_selected};
 ghost use Rattle.plug_conf.specs.NumberSet.{has_number};
 
 use crate::number_set::NumberSet;
 use std::alloc::{AllocError, Global};
 use std::marker::Model;
-use ts_packet::PID_COUNT;
+use ts_packet::{PID_COUNT, PidRow};
 
 /// A set of PIDs; contracts see its ranges. A table says whether a PID is in it, so that no search is needed.
 #[derive(Drop)]
 pub struct PidSet {
     ranges: NumberSet,
-    table: Vec<bool>,
+    table: PidRow<bool>,
 }
 
 impl Model for PidSet {
@@ -24,7 +23,7 @@ impl Model for PidSet {
 
     ghost view = { λ s. s.ranges };
 
-    ghost invariant = { λ s. IsTableOf s.ranges s.table.items };
+    ghost invariant = { λ s. IsTableOf s.ranges s.table };
 }
 
 impl PidSet {
@@ -32,7 +31,7 @@ impl PidSet {
     pub fn of(alloc: Global, ranges: &NumberSet) -> Result<PidSet, AllocError>
         ensures { IfOk result (λ set. set ≡ ranges.now) }
     {
-        let table = table_of(alloc, ranges)?;
+        let table = PidRow::of(alloc, |pid: u16| ranges.has(u64::from(pid)))?;
         let ranges = NumberSet::of(Vec::from_slice(alloc, ranges.as_slice())?);
         Ok(PidSet { ranges, table })
     }
@@ -43,7 +42,7 @@ impl PidSet {
         requires { pid < PID_COUNT }
         ensures { result ≡ has_number self.now pid }
     {
-        self.table[usize::from(pid)]
+        self.table.get(pid)
     }
 
     /// Whether the PID is selected: any where the set is empty, else one that is in the set, or with
@@ -62,15 +61,4 @@ impl PidSet {
     {
         self.ranges.is_empty()
     }
-}
-
-// For each PID, whether it is in one of the ranges.
-fn table_of(alloc: Global, ranges: &NumberSet) -> Result<Vec<bool>, AllocError>
-    ensures { IfOk result (λ table. IsTableOf ranges.now table.items) }
-{
-    let mut table = Vec::with_capacity(alloc, usize::from(PID_COUNT))?;
-    for pid in 0..PID_COUNT {
-        table.push(ranges.has(u64::from(pid)))?;
-    }
-    Ok(table)
 }
