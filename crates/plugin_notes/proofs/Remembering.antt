@@ -1,5 +1,5 @@
 -- Lemmas on what is kept of the packets on a PID, packet by packet.
-use Rattle.std.proofs.Common.{◌≡◌, ℕ, ◌+◌, ◌%◌, ◌<◌, List, [], ◌∷◌, ◌++◌, length, filter, get_or, set, ap, sym, subst, ◌∙◌, inl, inr, refl, Bool, true, false, not, ◌&&◌, if◌then◌else◌, ◌==◌, append-nil, Option, None, Some, add_assoc, arith, length-set, get_or-set_same, get_or-set_other, eq-eqb}
+use Rattle.std.proofs.Common.{◌≡◌, ℕ, ◌+◌, ◌%◌, ◌<◌, List, [], ◌∷◌, ◌++◌, length, filter, get_or, set, ap, sym, subst, ◌∙◌, inl, inr, refl, Bool, true, false, not, ◌&&◌, if◌then◌else◌, ◌==◌, append-nil, Option, None, Some, add_assoc, arith, get_or-set_same, get_or-set_other, eq-eqb}
 use Rattle.std.proofs.lemmas.Grind.{flat_map-append}
 use Rattle.std.proofs.lemmas.List.Elements.{filter-append}
 use Rattle.std.proofs.lemmas.Bool.{cases_eq, ne_eqb, false≢true}
@@ -110,7 +110,7 @@ module _ (conf : ContinuityConf) (last : LastPackets) (history : List Cell) (r :
   }
 
   module _ (packet : List ℕ) (before : Option LastPacket) (below : pid_of packet < PID_COUNT) (watched : is_watched conf (pid_of packet) ≡ true)
-      (is : before ≡ get_or last.seen.items (pid_of packet) None) where
+      (is : before ≡ get_or last.seen (pid_of packet) None) where
     -- what was kept is that of the packets on the PID
     before_is : before ≡ seen_in (packets_of (pid_of packet) history)
     before_is = is ∙ r.each (pid_of packet) below watched
@@ -135,31 +135,30 @@ module _ (conf : ContinuityConf) (last : LastPackets) (history : List Cell) (r :
         ∙ ap (λ (b : Bool). packets_of (pid_of packet) history ++ (if b then packet ∷ [] else [])) (eq-eqb (pid_of packet) (pid_of packet) refl)
 
     module _ (labels : ℕ) (last_new : LastPackets) (few : counter_of packet < 16) (right_few : right_after before packet < 16)
-        (set_is : last_new.seen.items ≡ set last.seen.items (pid_of packet) (Some (seen_with before packet))) where
+        (set_is : last_new.seen ≡ set last.seen (pid_of packet) (Some (seen_with before packet))) (whole : length last.seen ≡ PID_COUNT) where
       -- at the packet's PID
-      at_place : get_or last_new.seen.items (pid_of packet) None ≡ Some (seen_with before packet)
+      at_place : get_or last_new.seen (pid_of packet) None ≡ Some (seen_with before packet)
       at_place =
           ap (λ (ss : List (Option LastPacket)). get_or ss (pid_of packet) None) set_is
-          ∙ get_or-set_same last.seen.items (pid_of packet) (Some (seen_with before packet)) None (omega (arith, r.table.whole))
+          ∙ get_or-set_same last.seen (pid_of packet) (Some (seen_with before packet)) None (omega (arith, whole))
 
       -- at others
-      at_other : (pid : ℕ) → (pid ≡ pid_of packet → ⊥) → get_or last_new.seen.items pid None ≡ get_or last.seen.items pid None
+      at_other : (pid : ℕ) → (pid ≡ pid_of packet → ⊥) → get_or last_new.seen pid None ≡ get_or last.seen pid None
       at_other pid other =
           ap (λ (ss : List (Option LastPacket)). get_or ss pid None) set_is
-          ∙ get_or-set_other last.seen.items (pid_of packet) pid (Some (seen_with before packet)) None other
+          ∙ get_or-set_other last.seen (pid_of packet) pid (Some (seen_with before packet)) None other
 
       -- a checked packet is kept
       pub remembers_live : Remembers conf last_new (history ++ Live packet labels ∷ [])
       remembers_live = record {
         table = record {
-          whole = ap length set_is ∙ (length-set last.seen.items (pid_of packet) (Some (seen_with before packet)) ∙ r.table.whole);
           small = λ pid. elim (cases_eq pid (pid_of packet)) [
-            | inl same ↦ subst HasCounters (sym (ap (λ (q : ℕ). get_or last_new.seen.items q None) same ∙ at_place)) (few, right_few)
+            | inl same ↦ subst HasCounters (sym (ap (λ (q : ℕ). get_or last_new.seen q None) same ∙ at_place)) (few, right_few)
             | inr other ↦ subst HasCounters (sym (at_other pid other)) (r.table.small pid)
           ];
         };
         each = λ pid pid_below pid_watched. elim (cases_eq pid (pid_of packet)) [
-          | inl same ↦ subst (λ (q : ℕ). get_or last_new.seen.items q None ≡ seen_in (packets_of q (history ++ Live packet labels ∷ []))) (sym same)
+          | inl same ↦ subst (λ (q : ℕ). get_or last_new.seen q None ≡ seen_in (packets_of q (history ++ Live packet labels ∷ []))) (sym same)
               (at_place
               ∙ (ap (λ (s : Option LastPacket). let t : Option LastPacket = Some (seen_with s packet) in t) before_is
               ∙ (sym (seen_in-append (packets_of (pid_of packet) history) packet few)

@@ -1,5 +1,5 @@
 -- What is kept of each PID to check and correct its continuity counters. This project's own rule.
-use Rattle.std.specs.Prelude.{◌≡◌, ◌<◌, ℕ, ◌+◌, ◌%◌, List, [], ◌∷◌, length, Bool, true, not, ◌==◌, ◌&&◌, Option, None, Some, if◌then◌else◌}
+use Rattle.std.specs.Prelude.{◌≡◌, ◌<◌, ℕ, ◌+◌, ◌%◌, List, [], ◌∷◌, Bool, true, not, ◌==◌, ◌&&◌, Option, None, Some, if◌then◌else◌}
 use Rattle.std.specs.List.{slice_index_or}
 use Rattle.ts_packet.specs.declared.cell.Cell.{Cell}
 use Rattle.ts_packet.specs.Header.{pid_of, counter_of, has_payload_of}
@@ -61,13 +61,12 @@ abbrev pub HasCounters : Option LastPacket → Type 0
 HasCounters None = Unit {0}
 HasCounters (Some seen) = (seen.counter < 16) × (seen.right < 16)
 
--- there is an entry for each PID, and counters are below 16
+-- the counters are below 16
 pub record IsTable (last : LastPackets) : Type 0 where
-  pub whole : length last.seen.items ≡ PID_COUNT
-  pub small : (pid : ℕ) → HasCounters (slice_index_or last.seen.items pid None)
+  pub small : (pid : ℕ) → HasCounters (slice_index_or last.seen pid None)
 
 -- what is kept of each checked PID is that of the packets on it
 pub record Remembers (conf : ContinuityConf) (last : LastPackets) (history : List Cell) : Type 0 where
   pub table : IsTable last
   pub each : (pid : ℕ) → pid < PID_COUNT → is_watched conf pid ≡ true
-      → slice_index_or last.seen.items pid None ≡ seen_in (packets_of pid history)
+      → slice_index_or last.seen pid None ≡ seen_in (packets_of pid history)

@@ -1,16 +1,14 @@
 //! What is kept of each PID for its continuity counter.
-ghost use Rattle.std.specs.Prelude.{◌≡◌, ℕ, IfOk, None, length};
-ghost use Rattle.std.specs.List.{slice_index_or};
 
 use crate::continuity_error::ContinuityError;
 use crate::last_packet::{LastPacket, fault_behind, seen_with};
 use std::alloc::{AllocError, Global};
-use ts_packet::{PID_COUNT, Packet};
+use ts_packet::{PID_COUNT, Packet, PidRow};
 
 /// The last packet on each PID.
 #[derive(Drop)]
 pub struct LastPackets {
-    seen: Vec<Option<LastPacket>>,
+    seen: PidRow<Option<LastPacket>>,
 }
 
 impl LastPackets {
@@ -29,7 +27,7 @@ impl LastPackets {
         ensures { IfOk result (λ last. (conf : GivenConf) → Remembers conf last []) }
     {
         Ok(LastPackets {
-            seen: no_packets(alloc)?,
+            seen: PidRow::filled(alloc, None)?,
         })
     }
 
@@ -58,7 +56,7 @@ impl LastPackets {
     {
         let pid = packet.pid();
         let next = seen_with(self.on(pid), packet);
-        self.seen[usize::from(pid)] = Some(next);
+        self.seen.set(pid, Some(next));
         next.right
     }
 
@@ -67,20 +65,9 @@ impl LastPackets {
     fn on(&self, pid: u16) -> Option<LastPacket>
         requires on_pid { pid < PID_COUNT }
         requires table { IsTable self.now }
-        ensures is { result ≡ slice_index_or self.now.seen.items pid None }
+        ensures is { result ≡ slice_index_or self.now.seen pid None }
         ensures counters { HasCounters result }
     {
-        self.seen[usize::from(pid)]
+        self.seen.get(pid)
     }
-}
-
-// A table without packets.
-fn no_packets(alloc: Global) -> Result<Vec<Option<LastPacket>>, AllocError>
-    ensures { IfOk result (λ seen. (length seen.items ≡ PID_COUNT) × ((pid : ℕ) → slice_index_or seen.items pid None ≡ None)) }
-{
-    let mut seen = Vec::with_capacity(alloc, usize::from(PID_COUNT))?;
-    for _ in 0..PID_COUNT {
-        seen.push(None)?;
-    }
-    Ok(seen)
 }

@@ -8,12 +8,13 @@ pub returns-clause-right : goal.returns-clause-right
 returns-clause-right c = λ conf history r watched.
     ap (λ (s : LastPacket). s.right) c.seen_with-next.ensures.with
     ∙ right_is conf _ history r c.args.packet.now c.on.result (omega (arith, c.pid-pid.ensures.range, c.pid-pid.ensures.field)) watched
-    (c.on.ensures.is ∙ ap (λ (q : ℕ). get_or c.args.self.now.seen.items q None) c.pid-pid.ensures.field) c.seen_with-next.ensures.counter
+    (c.on.ensures.is ∙ ap (λ (q : ℕ). get_or c.args.self.now.seen q None) c.pid-pid.ensures.field) c.seen_with-next.ensures.counter
 
 pub returns-clause-kept : goal.returns-clause-kept
 returns-clause-kept c = λ conf history r watched labels.
     remembers_live conf _ history r c.args.packet.now c.on.result (omega (arith, c.pid-pid.ensures.range, c.pid-pid.ensures.field)) watched
-    (c.on.ensures.is ∙ ap (λ (q : ℕ). get_or c.args.self.now.seen.items q None) c.pid-pid.ensures.field) labels _
+    (c.on.ensures.is ∙ ap (λ (q : ℕ). get_or c.args.self.now.seen q None) c.pid-pid.ensures.field) labels _
     c.seen_with-next.ensures.counter (subst (λ (s : LastPacket). s.right < 16) c.seen_with-next.ensures.with c.seen_with-next.ensures.range)
-    (ap (λ (q : ℕ). set c.args.self.now.seen.items q (Some c.seen_with-next.result)) (c.from.ensures ∙ c.pid-pid.ensures.field)
-    ∙ ap (λ (s : LastPacket). let t : Option LastPacket = Some s in set c.args.self.now.seen.items (pid_of c.args.packet.now) t) c.seen_with-next.ensures.with)
+    (c.set.ensures.values ∙ (ap (λ (q : ℕ). set c.args.self.now.seen q (Some c.seen_with-next.result)) c.pid-pid.ensures.field
+    ∙ ap (λ (s : LastPacket). let t : Option LastPacket = Some s in set c.args.self.now.seen (pid_of c.args.packet.now) t) c.seen_with-next.ensures.with))
+    c.set.ensures.whole
