@@ -7,7 +7,6 @@ pub mod FlagLemmas
 pub mod ForceLemmas
 pub mod FoundLemmas
 pub mod LastTableLemmas
-pub mod MarkLemmas
 pub mod NamedLemmas
 pub mod OrdinalLemmas
 pub mod PatLemmas

@@ -6,7 +6,7 @@ use Rattle.plug_psi.specs.declared.referred.Referred.{Referred}
 
 -- the tables in force and the flags are those of all packets that were fed
 abbrev pub StandsFor : Referred → List (List ℕ) → Type 0
-StandsFor referred fed = Standing referred.force referred.one referred.flags.items referred.failed fed
+StandsFor referred fed = Standing referred.force referred.one referred.flags referred.failed fed
 
 -- whether memory was wanting
 abbrev pub has_failed : Referred → Bool

@@ -1,23 +1,22 @@
 //! The PAT in force.
 
-ghost use Rattle.std.specs.Prelude.{◌≡◌, ℕ, ◌==◌, [], List, None, Some, false, length, map, replicate, slice_index_or, IfOk, option_map};
+ghost use Rattle.std.specs.Prelude.{◌≡◌, ℕ, ◌==◌, [], List, None, Some, false, map, slice_index_or, IfOk, option_map};
 ghost use Rattle.std.specs.List.{filter_map, list_any};
 ghost use Rattle.std.specs.Option.{option_copied};
 ghost use Rattle.ts_psi.specs.PatTables.{pat_held, service_item};
 ghost use Rattle.plug_psi.specs.InForce.{names, pid_for, service_in};
 
 use crate::pat_services::{number_and_pid, pid_among};
-use crate::pid_flags::{flag_of, no_flags};
 use std::alloc::{AllocError, Global};
 use std::marker::Model;
-use ts_packet::PID_COUNT;
+use ts_packet::PidRow;
 use ts_psi::{Pat, PatService};
 
 /// The PAT in force, if there is one. Of each PID it tells by one look whether one of its services has it.
 #[derive(Drop)]
 pub(crate) struct CurrentPat {
     pat: Option<Pat>,
-    marks: Vec<bool>,
+    marks: PidRow<bool>,
 }
 
 // Clauses see the PAT.
@@ -31,7 +30,7 @@ impl Model for CurrentPat {
 
     ghost view = { λ c. c.pat };
 
-    ghost invariant = { λ c. IsMarked c.marks.items (option_map pat_held c.pat) };
+    ghost invariant = { λ c. IsMarked c.marks (option_map pat_held c.pat) };
 }
 
 impl CurrentPat {
@@ -41,7 +40,7 @@ impl CurrentPat {
     {
         Ok(CurrentPat {
             pat: None,
-            marks: no_flags(alloc)?,
+            marks: PidRow::filled(alloc, false)?,
         })
     }
 
@@ -57,7 +56,7 @@ impl CurrentPat {
     pub(crate) fn names(&self, pid: u16) -> bool
         ensures { result ≡ names (option_map pat_held self.now) pid }
     {
-        flag_of(&self.marks, pid)
+        self.marks.get_or(pid, false)
     }
 
     /// The PID of the first entry of a service.
@@ -80,32 +79,22 @@ impl CurrentPat {
 }
 
 /// Sets the flags of the PIDs of services, and no others.
-fn mark(marks: &mut [bool], services: &[PatService])
-    requires { length marks.old ≡ PID_COUNT }
-    ensures whole { length marks.new ≡ PID_COUNT }
-    ensures tells { (pid : ℕ) → slice_index_or marks.new pid false
+fn mark(marks: &mut PidRow<bool>, services: &[PatService])
+    ensures { (pid : ℕ) → slice_index_or marks.new pid false
         ≡ list_any (λ entry. entry.1 == pid) (filter_map service_in (map service_item services.now)) }
 {
-    clear(marks);
+    marks.fill(false);
     mark_services(marks, services);
 }
 
-/// Takes all flags back.
-fn clear(marks: &mut [bool])
-    ensures { marks.new ≡ replicate (length marks.old) false }
-{
-    marks.fill(false);
-}
-
 /// Sets the flags of the PIDs of services, where none is set.
-fn mark_services(marks: &mut [bool], services: &[PatService])
-    requires none { marks.old ≡ replicate PID_COUNT false }
-    ensures whole { length marks.new ≡ PID_COUNT }
-    ensures tells { (pid : ℕ) → slice_index_or marks.new pid false
+fn mark_services(marks: &mut PidRow<bool>, services: &[PatService])
+    requires { (pid : ℕ) → slice_index_or marks.old pid false ≡ false }
+    ensures { (pid : ℕ) → slice_index_or marks.new pid false
         ≡ list_any (λ entry. entry.1 == pid) (filter_map service_in (map service_item services.now)) }
 {
     for service in services {
         let (_, pid) = number_and_pid(service);
-        marks[usize::from(pid)] = true;
+        marks.set(pid, true);
     }
 }

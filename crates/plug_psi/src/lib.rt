@@ -49,7 +49,7 @@ pub use handed_over::both;
 pub use in_force::InForce;
 pub use laws::{contents_are_last_tables, last_found_is_the_last, later_packets_change_nothing};
 pub use pat_services::{number_and_pid, pid_of_service};
-pub use pid_flags::{flag_of, no_flags, tell};
+pub use pid_flags::tell;
 pub use pids_of_pmt::add_pids;
 pub use read_or_same::{sections_or_same, table_or_none};
 pub use reading::Reading;

@@ -1,6 +1,6 @@
 //! The PIDs that are referred to.
 
-ghost use Rattle.std.specs.Prelude.{◌≡◌, ℕ, ◌<◌, ◌++◌, ◌∷◌, [], List, length, true, false, IfOk, OnOk, OnErr, IsErr, option_map};
+ghost use Rattle.std.specs.Prelude.{◌≡◌, ℕ, ◌<◌, ◌++◌, ◌∷◌, [], List, true, false, IfOk, OnOk, OnErr, IsErr, option_map};
 ghost use Rattle.std.specs.Option.{option_copied};
 ghost use Rattle.ts_psi.specs.CatTables.{cat_held};
 ghost use Rattle.plug_psi.specs.CatInForce.{cat_of};
@@ -16,11 +16,11 @@ use crate::follows::Follows;
 use crate::handed_over::both;
 use crate::in_force::InForce;
 use crate::kept_cat::KeptCat;
-use crate::pid_flags::{flag_of, no_flags, tell};
+use crate::pid_flags::tell;
 use crate::pids_in_force::named_pids;
 use crate::reading::Reading;
 use std::alloc::{AllocError, Global};
-use ts_packet::{NULL_PID, PID_COUNT, Packet};
+use ts_packet::{NULL_PID, PID_COUNT, Packet, PidRow};
 use ts_psi::Cat;
 
 /// The PID of the CAT (ISO/IEC 13818-1, 2.4.4.6).
@@ -41,7 +41,7 @@ pub struct Referred {
     force: InForce,
     one: Reading<KeptCat>,
     /// The PIDs that tables name. They are made anew where another table comes into force.
-    flags: Vec<bool>,
+    flags: PidRow<bool>,
     failed: FailureLatch,
     alloc: Global,
 }
@@ -53,7 +53,7 @@ impl Referred {
     pub fn new(alloc: Global) -> Result<Referred, AllocError>
         ensures { IfOk result (λ referred. StandsFor referred []) }
     {
-        let flags = no_flags(alloc)?;
+        let flags = PidRow::filled(alloc, false)?;
         let one = Reading::fresh(alloc, &(), CAT_PID)?;
         let force = InForce::new(alloc);
         let (one, force) = both(one, force)?;
@@ -85,7 +85,7 @@ impl Referred {
         requires { pid < PID_COUNT }
         ensures { (fed : List (List ℕ)) → StandsFor self.now fed → result ≡ refers fed pid }
     {
-        is_fixed(pid) || flag_of(&self.flags, pid)
+        is_fixed(pid) || self.flags.get(pid)
     }
 
     /// The PAT and the PMTs in force.
@@ -154,12 +154,12 @@ fn renew_where(
     alloc: Global,
     force: &InForce,
     one: &Reading<KeptCat>,
-    flags: &mut Vec<bool>,
+    flags: &mut PidRow<bool>,
     came: bool,
 ) -> Result<(), AllocError>
     ensures { OnOk result ((fed : List (List ℕ)) (packet : List ℕ) → Forced force.now (fed ++ packet ∷ []) → HasCat one.now (fed ++ packet ∷ [])
         → (came ≡ false → named_in (fed ++ packet ∷ []) ≡ named_in fed)
-        → AreFlags flags.old.items (named_in fed) → AreFlags flags.new.items (named_in (fed ++ packet ∷ []))) }
+        → AreFlags flags.old (named_in fed) → AreFlags flags.new (named_in (fed ++ packet ∷ []))) }
 {
     if !came {
         return Ok(());
@@ -173,10 +173,10 @@ fn renew(
     alloc: Global,
     force: &InForce,
     one: &Reading<KeptCat>,
-    flags: &mut Vec<bool>,
+    flags: &mut PidRow<bool>,
 ) -> Result<(), AllocError>
-    ensures { OnOk result (length flags.old.items ≡ PID_COUNT → (fed : List (List ℕ)) → Forced force.now fed → HasCat one.now fed
-        → AreFlags flags.new.items (named_in fed)) }
+    ensures { OnOk result ((fed : List (List ℕ)) → Forced force.now fed → HasCat one.now fed
+        → AreFlags flags.new (named_in fed)) }
 {
     let pids = named_pids(alloc, force, one.follower.cat.as_ref())?;
     tell(flags, &pids, &[]);

@@ -33,7 +33,7 @@ pub record Stands (way : Way) (service : ℕ) (of_pmt : Option ℕ) (shared : Bo
 
 -- the fates stand for this PAT and these PMTs
 abbrev pub FatesStand : PidFates → Option TableHolding → (ℕ → Option TableHolding) → Type 0
-FatesStand fates pat pmts = Stands fates.way fates.service fates.of_pmt fates.shared fates.flags.items pat pmts
+FatesStand fates pat pmts = Stands fates.way fates.service fates.of_pmt fates.shared fates.flags pat pmts
 
 -- the fates and the tables in force stand for the packets that were met
 pub record FollowsService (way : Way) (service : ℕ) (follower : ServiceFollower) (met : List (List ℕ)) : Type 0 where

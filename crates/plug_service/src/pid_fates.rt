@@ -1,6 +1,6 @@
 //! What becomes of the packets on each PID.
 
-ghost use Rattle.std.specs.Prelude.{◌≡◌, ℕ, ◌<◌, ◌++◌, List, Option, IfOk, OnOk, length, map};
+ghost use Rattle.std.specs.Prelude.{◌≡◌, ℕ, ◌<◌, ◌++◌, List, Option, IfOk, OnOk, map};
 ghost use Rattle.std.specs.List.{filter_map, flat_map};
 ghost use Rattle.ts_psi.specs.PatTables.{service_item};
 ghost use Rattle.ts_table_rows.specs.TableValues.{TableHolding};
@@ -15,9 +15,9 @@ use crate::fate::Fate;
 use crate::limits::{LAST_FIXED_PID, PAT_PID, SDT_PID};
 use crate::services::{is_at, is_shared};
 use crate::way::Way;
-use plug_psi::{InForce, add_pids, flag_of, no_flags, number_and_pid, pid_of_service, tell};
+use plug_psi::{InForce, add_pids, number_and_pid, pid_of_service, tell};
 use std::alloc::{AllocError, Global};
-use ts_packet::{NULL_PID, PID_COUNT};
+use ts_packet::{NULL_PID, PID_COUNT, PidRow};
 use ts_psi::PatService;
 
 /// What becomes of the packets on each PID, where a service is kept or removed, told by a look-up. It is made anew
@@ -31,7 +31,7 @@ pub(crate) struct PidFates {
     /// Whether another entry of the PAT has that PID.
     pub(crate) shared: bool,
     /// The PIDs of the service's PMT; where it is removed, but for those that PMTs of other services have.
-    pub(crate) flags: Vec<bool>,
+    pub(crate) flags: PidRow<bool>,
 }
 
 impl PidFates {
@@ -39,7 +39,6 @@ impl PidFates {
 
     /// The fates of no tables, which are made anew before they are asked. It takes 8 KiB.
     pub(crate) fn new(alloc: Global, way: Way, service: u16) -> Result<PidFates, AllocError>
-        ensures whole { IfOk result (λ fates. length fates.flags.items ≡ PID_COUNT) }
         ensures way { IfOk result (λ fates. fates.way ≡ way) }
         ensures service { IfOk result (λ fates. fates.service ≡ service) }
     {
@@ -48,7 +47,7 @@ impl PidFates {
             service,
             of_pmt: None,
             shared: false,
-            flags: no_flags(alloc)?,
+            flags: PidRow::filled(alloc, false)?,
         })
     }
 
@@ -61,7 +60,7 @@ impl PidFates {
         ensures editable { IsEditable result pid }
     {
         let at = is_at(self.of_pmt, pid);
-        let flag = flag_of(&self.flags, pid);
+        let flag = self.flags.get(pid);
         match self.way {
             Way::Keep => edited_first(pid, kept_fate(at, flag, pid)),
             Way::Remove => edited_first(pid, removed_fate(at, self.shared, flag, pid)),
@@ -71,7 +70,7 @@ impl PidFates {
     /// Other tables are in force. It takes memory as it goes, and keeps none.
     #[inline(never)]
     pub(crate) fn renew(&mut self, alloc: Global, force: &InForce) -> Result<(), AllocError>
-        ensures stands { OnOk result (length self.old.flags.items ≡ PID_COUNT → (fed : List (List ℕ)) → Forced force.now fed
+        ensures stands { OnOk result ((fed : List (List ℕ)) → Forced force.now fed
             → FatesStand self.new (pat_of fed) (λ other. pmt_of other fed)) }
         ensures way { self.new.way ≡ self.old.way }
         ensures service { self.new.service ≡ self.old.service }

@@ -1,8 +1,6 @@
-use Rattle.std.proofs.Common.{[], IfOk, false, sym, subst}
+use Rattle.std.proofs.Common.{[], IfOk, sym, subst, ◌∙◌}
 use Rattle.plug_psi.specs.ForceStands.{StandsFor}
-use Rattle.plug_psi.specs.Referred.{named_in}
 use Rattle.plug_psi.specs.ReferredState.{HasCat}
-use Rattle.plug_psi.proofs.FlagLemmas.{flags-as}
 use Rattle.plug_psi.proofs.NamedLemmas.{named-none}
 use Rattle.plug_psi.proofs.referred.Referred.new.Goals as goal
 
@@ -11,5 +9,5 @@ returns c = record {
   working = c.unset.ensures;
   forced = subst (λ r. IfOk r (λ f. StandsFor f [])) c.in_ok-one-2.ensures.second c.new-force.ensures;
   cat_fed = subst (λ o. HasCat o []) (sym c.in_ok-one-2.ensures.first) c.in_ok-one.ensures;
-  flagged = flags-as c.in_ok-flags.flags.items (λ pid. false) (named_in []) (λ pid. sym (named-none pid)) c.in_ok-flags.ensures.told;
+  flagged = λ pid below. c.in_ok-flags.ensures.each pid ∙ sym (named-none pid);
 }

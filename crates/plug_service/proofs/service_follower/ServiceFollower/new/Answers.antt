@@ -1,6 +1,5 @@
-use Rattle.std.proofs.Common.{◌≡◌, ℕ, [], List, length, sym, subst, ◌∙◌}
+use Rattle.std.proofs.Common.{◌≡◌, ℕ, [], List, sym, subst, ◌∙◌}
 use Rattle.std.specs.Prelude.{OnOk}
-use Rattle.ts_packet.specs.declared.numbers.TheConstants.{PID_COUNT}
 use Rattle.plug_psi.specs.ForceStands.{StandsFor}
 use Rattle.plug_psi.specs.InForce.{pat_of, pmt_of}
 use Rattle.plug_service.specs.FatesState.{FatesStand}
@@ -11,7 +10,7 @@ returns c = record {
   same_way = c.renew-renewed.ensures.way ∙ c.in_ok-fates.ensures.way;
   same_service = c.renew-renewed.ensures.service ∙ c.in_ok-fates.ensures.service;
   forced = subst (λ f. StandsFor f []) (sym c.in_ok-force-2.ensures.first) c.in_ok-force.ensures;
-  fated = subst (λ r. OnOk r (length c.in_ok-fates.fates.flags.items ≡ PID_COUNT → (fed : List (List ℕ)) → StandsFor c.in_ok-force.force fed
+  fated = subst (λ r. OnOk r ((fed : List (List ℕ)) → StandsFor c.in_ok-force.force fed
       → FatesStand c.renew-renewed.new.self (pat_of fed) (λ other. pmt_of other fed))) c.in_ok-force-2.ensures.second
-      c.renew-renewed.ensures.stands c.in_ok-fates.ensures.whole [] c.in_ok-force.ensures;
+      c.renew-renewed.ensures.stands [] c.in_ok-force.ensures;
 }
