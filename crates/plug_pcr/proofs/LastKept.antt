@@ -1,5 +1,5 @@
 -- Lemmas on what is kept of the last PCR on each PID, cell by cell.
-use Rattle.std.proofs.Common.{◌≡◌, ℕ, ◌-◌, ◌<◌, ◌≤◌, List, [], ◌∷◌, ◌++◌, length, filter, get_or, set, ap, ap₂, sym, subst, ◌∙◌, inl, inr, refl, Bool, true, false, ◌&&◌, if◌then◌else◌, ◌==◌, append-nil, Option, None, Some, option_map, slice_get, arith, length-append, length-set, get_or-set_same, get_or-set_other, eq-eqb}
+use Rattle.std.proofs.Common.{◌≡◌, ℕ, ◌-◌, ◌<◌, ◌≤◌, List, [], ◌∷◌, ◌++◌, length, filter, get_or, set, ap, ap₂, sym, subst, ◌∙◌, inl, inr, refl, Bool, true, false, ◌&&◌, if◌then◌else◌, ◌==◌, append-nil, Option, None, Some, option_map, slice_get, arith, length-append, get_or-set_same, get_or-set_other, eq-eqb}
 use Rattle.std.proofs.lemmas.List.Elements.{filter-append}
 use Rattle.std.proofs.lemmas.Bool.{cases_eq, ne_eqb}
 use Rattle.std.proofs.lemmas.Option.{slice_get-get_or}
@@ -99,10 +99,10 @@ set_at_packet clocks clocks_new packet history pid at clock is pid_is count cloc
     ∙ ap (λ (k : ℕ). set clocks (pid_of packet) (let s : Option LastClock = Some (record { at = length history; clock = k }) in s)) clock_is))
 
 -- if nothing was kept
-pub remembers_none : (conf : PcrverifyConf) (last : LastClocks) → length last.clocks.items ≡ PID_COUNT → ((pid : ℕ) → get_or last.clocks.items pid None ≡ None)
+pub remembers_none : (conf : PcrverifyConf) (last : LastClocks) → ((pid : ℕ) → get_or last.clocks pid None ≡ None)
     → Remembers conf last []
-remembers_none conf last whole none = record {
-  table = record { whole = whole; earlier = λ pid. subst (IsEarlier 0) (sym (none pid)) tt };
+remembers_none conf last none = record {
+  table = record { earlier = λ pid. subst (IsEarlier 0) (sym (none pid)) tt };
   each = λ pid below selected. none pid;
 }
 
@@ -116,8 +116,7 @@ module _ (conf : PcrverifyConf) (last : LastClocks) (history : List Cell) (r : R
       → Remembers conf last (history ++ cell ∷ [])
   remembers_cell cell same = record {
     table = record {
-      whole = r.table.whole;
-      earlier = λ pid. later (length history) (length (history ++ cell ∷ [])) (one_more cell) (get_or last.clocks.items pid None) (r.table.earlier pid);
+      earlier = λ pid. later (length history) (length (history ++ cell ∷ [])) (one_more cell) (get_or last.clocks pid None) (r.table.earlier pid);
     };
     each = λ pid below selected. r.each pid below selected ∙ sym (same pid selected);
   }
@@ -132,19 +131,20 @@ module _ (conf : PcrverifyConf) (last : LastClocks) (history : List Cell) (r : R
       remembers_cell (Live packet labels) (λ pid selected. kept_other pid history packet labels (not_on conf packet pid selected none))
 
   module _ (packet : List ℕ) (labels : ℕ) (last_new : LastClocks) (has : has_pcr_of packet ≡ true) (below : pid_of packet < PID_COUNT)
-      (set_is : last_new.clocks.items
-      ≡ set last.clocks.items (pid_of packet) (let s : Option LastClock = Some (record { at = length history; clock = clock_of packet }) in s)) where
+      (set_is : last_new.clocks
+      ≡ set last.clocks (pid_of packet) (let s : Option LastClock = Some (record { at = length history; clock = clock_of packet }) in s))
+      (whole : length last.clocks ≡ PID_COUNT) where
     -- at the packet's PID
-    at_place : get_or last_new.clocks.items (pid_of packet) None ≡ (let s : Option LastClock = Some (record { at = length history; clock = clock_of packet }) in s)
+    at_place : get_or last_new.clocks (pid_of packet) None ≡ (let s : Option LastClock = Some (record { at = length history; clock = clock_of packet }) in s)
     at_place =
         ap (λ (ks : List (Option LastClock)). get_or ks (pid_of packet) None) set_is
-        ∙ get_or-set_same last.clocks.items (pid_of packet) _ None (omega (arith, r.table.whole, below))
+        ∙ get_or-set_same last.clocks (pid_of packet) _ None (omega (arith, whole, below))
 
     -- at others
-    at_other : (pid : ℕ) → (pid ≡ pid_of packet → ⊥) → get_or last_new.clocks.items pid None ≡ get_or last.clocks.items pid None
+    at_other : (pid : ℕ) → (pid ≡ pid_of packet → ⊥) → get_or last_new.clocks pid None ≡ get_or last.clocks pid None
     at_other pid other =
         ap (λ (ks : List (Option LastClock)). get_or ks pid None) set_is
-        ∙ get_or-set_other last.clocks.items (pid_of packet) pid _ None other
+        ∙ get_or-set_other last.clocks (pid_of packet) pid _ None other
 
     -- a packet with a PCR is kept
     pub remembers_live : Remembers conf last_new (history ++ Live packet labels ∷ [])
@@ -152,15 +152,14 @@ module _ (conf : PcrverifyConf) (last : LastClocks) (history : List Cell) (r : R
         let next = history ++ Live packet labels ∷ [] in
         record {
           table = record {
-            whole = ap length set_is ∙ (length-set last.clocks.items (pid_of packet) _ ∙ r.table.whole);
             earlier = λ pid. elim (cases_eq pid (pid_of packet)) [
-              | inl same ↦ subst (IsEarlier (length next)) (sym (ap (λ (q : ℕ). get_or last_new.clocks.items q None) same ∙ at_place)) (one_more (Live packet labels))
+              | inl same ↦ subst (IsEarlier (length next)) (sym (ap (λ (q : ℕ). get_or last_new.clocks q None) same ∙ at_place)) (one_more (Live packet labels))
               | inr other ↦ subst (IsEarlier (length next)) (sym (at_other pid other))
-                  (later (length history) (length next) (one_more (Live packet labels)) (get_or last.clocks.items pid None) (r.table.earlier pid))
+                  (later (length history) (length next) (one_more (Live packet labels)) (get_or last.clocks pid None) (r.table.earlier pid))
             ];
           };
           each = λ pid pid_below selected. elim (cases_eq pid (pid_of packet)) [
-            | inl same ↦ subst (λ (q : ℕ). get_or last_new.clocks.items q None ≡ kept_on q next) (sym same)
+            | inl same ↦ subst (λ (q : ℕ). get_or last_new.clocks q None ≡ kept_on q next) (sym same)
                 (at_place ∙ sym (kept_with history packet labels has))
             | inr other ↦
                 at_other pid other

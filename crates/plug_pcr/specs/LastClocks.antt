@@ -34,13 +34,12 @@ fault_after bitrate jitter_max at (Some last) packet clock =
 abbrev pub IsEarlier : ℕ → Option LastClock → Type 0
 IsEarlier count kept = IfSome kept (λ last. last.at ≤ count)
 
--- there is an entry for each PID, and the positions of the kept PCRs are at most this number
+-- the positions of the kept PCRs are at most this number
 pub record IsTable (last : LastClocks) (count : ℕ) : Type 0 where
-  pub whole : length last.clocks.items ≡ PID_COUNT
-  pub earlier : (pid : ℕ) → IsEarlier count (slice_index_or last.clocks.items pid None)
+  pub earlier : (pid : ℕ) → IsEarlier count (slice_index_or last.clocks pid None)
 
 -- what is kept of each checked PID is that of the last packet with a PCR on it
 pub record Remembers (conf : PcrverifyConf) (last : LastClocks) (history : List Cell) : Type 0 where
   pub table : IsTable last (length history)
   pub each : (pid : ℕ) → pid < PID_COUNT → is_selected conf.pid false pid ≡ true
-      → slice_index_or last.clocks.items pid None ≡ kept_on pid history
+      → slice_index_or last.clocks pid None ≡ kept_on pid history

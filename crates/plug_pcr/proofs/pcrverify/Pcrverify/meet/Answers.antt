@@ -18,12 +18,12 @@ returns-clause-met c = λ history mark w count labels.
     let below : pid_of packet < PID_COUNT = omega (arith, c.pid-pid.ensures.range, c.pid-pid.ensures.field) in
     let kept_is : c.on-last.result ≡ kept_on (pid_of packet) history =
     c.on-last.ensures
-    ∙ (ap (λ (q : ℕ). get_or c.args.self.now.last.clocks.items q None) c.pid-pid.ensures.field
+    ∙ (ap (λ (q : ℕ). get_or c.args.self.now.last.clocks q None) c.pid-pid.ensures.field
     ∙ w.remembers.each (pid_of packet) below c.requires.selected) in
-    let set_is = set_at_packet c.args.self.now.last.clocks.items c.keep.new.self.clocks.items packet history c.pid-pid.result c.args.at c.args.clock
-    c.keep.ensures c.pid-pid.ensures.field count reads.1 in
+    let set_is = set_at_packet c.args.self.now.last.clocks c.keep.new.self.clocks packet history c.pid-pid.result c.args.at c.args.clock
+    c.keep.ensures.kept c.pid-pid.ensures.field count reads.1 in
     verifies_live conf _ _ _ _ _ history mark w packet labels (omega (arith, count, c.requires.in_range)) c.keep.new.self _ _
     (option_to_list c.fault_behind-fault.result) c.args.at is_one
-    (remembers_live conf c.args.self.now.last history w.remembers packet labels c.keep.new.self reads.0 below set_is)
+    (remembers_live conf c.args.self.now.last history w.remembers packet labels c.keep.new.self reads.0 below set_is c.keep.ensures.whole)
     count c.in_ok-push.ensures.met c.in_ok-push.ensures.faults
     (c.fault_behind-fault.ensures ∙ fault_is conf history packet c.on-last.result c.args.clock c.args.at is_one kept_is reads.1 count)
