@@ -1,3 +1,4 @@
+pub mod ChangedLemmas
 pub mod Choice
 pub mod ContentsLemmas
 pub mod EditedLemmas

@@ -4,7 +4,7 @@ use Rattle.std.specs.Prelude.{ℕ, List, Option}
 use Rattle.ts_demux.specs.TablesOn.{tables_on}
 use Rattle.ts_table_rows.specs.TableValues.{TableHolding}
 use Rattle.ts_psi.specs.CatTables.{read_cat}
-use Rattle.plug_psi.specs.InForce.{current_in}
+use Rattle.plug_psi.specs.CurrentTables.{current_in}
 use Rattle.plug_psi.specs.LastFound.{last_found}
 
 -- the CAT that a table is, where it reads as one and is current

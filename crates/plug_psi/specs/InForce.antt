@@ -1,23 +1,19 @@
 -- The PAT in force, and the PMT in force of a service.
 -- ISO/IEC 13818-1, 2.4.4.3 and 2.4.4.8: the PAT on PID 0 names the PID of the PMT of each service. Which packets are
 -- taken, and which table counts, is this project's own rule.
-use Rattle.std.specs.Prelude.{ℕ, ◌==◌, Bool, not, ◌&&◌, List, [], drop, Option, Some, None, Result, Ok, Err, if◌then◌else◌}
+use Rattle.std.specs.Prelude.{ℕ, ◌==◌, Bool, not, ◌&&◌, List, [], drop, Option, Some, None, if◌then◌else◌}
 use Rattle.std.specs.List.{filter_map, list_any}
 use Rattle.std.specs.Map.{lookup}
 use Rattle.ts_packet.specs.declared.numbers.TheConstants.{NULL_PID}
 use Rattle.ts_demux.specs.TablesOn.{tables_on}
 use Rattle.ts_demux.specs.TakenWhere.{taken_on}
 use Rattle.ts_table_rows.specs.BodyReading.{first_number}
-use Rattle.ts_table_rows.specs.RunReading.{FirstBroken, read_run}
+use Rattle.ts_table_rows.specs.RunReading.{read_run}
 use Rattle.ts_table_rows.specs.TableValues.{ItemHolding, TableHolding}
 use Rattle.ts_psi.specs.PatTables.{read_pat}
 use Rattle.ts_psi.specs.PsiPages.{pmt_page}
+pub use Rattle.plug_psi.specs.CurrentTables.{current_in}
 use Rattle.plug_psi.specs.LastFound.{last_found}
-
--- what was read of a table, where it reads and is current
-abbrev pub current_in : Result TableHolding FirstBroken → Option TableHolding
-current_in (Ok table) = if table.head.current then Some table else None
-current_in (Err fault) = None
 
 -- the PAT that a table is, where it reads as one and is current
 abbrev pub current_pat : List (List ℕ) → Option TableHolding

@@ -2,6 +2,7 @@ pub mod ByPid
 pub mod CatInForce
 pub mod Contents
 pub mod ContentsState
+pub mod CurrentTables
 pub mod CycleStands
 pub mod EditedCycles
 pub mod EditedView

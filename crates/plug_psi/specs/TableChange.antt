@@ -19,6 +19,15 @@ abbrev pub written_anew : TablePage → Option TableHolding → Change
 written_anew page None = same
 written_anew page (Some table) = in_place (sections_of page table)
 
+-- what becomes of a run that holds a current table, or none, by an edit of such tables
+abbrev pub changed_current : TablePage → (TableHolding → Option TableHolding) → Option TableHolding → Change
+changed_current page edit None = same
+changed_current page edit (Some table) = written_anew page (edit table)
+
+-- an edit of those tables alone that have a table_id
+abbrev pub of_id : ℕ → (TableHolding → Option TableHolding) → TableHolding → Option TableHolding
+of_id table_id edit table = if nat_eq table.head.table_id table_id then edit table else None
+
 -- a table is current, and of this table_id
 abbrev pub is_edited : ℕ → TableHolding → Bool
 is_edited table_id table = table.head.current && nat_eq table.head.table_id table_id

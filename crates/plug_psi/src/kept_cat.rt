@@ -5,13 +5,13 @@ ghost use Rattle.ts_psi.specs.CatTables.{cat_held};
 ghost use Rattle.plug_psi.specs.LastFound.{found_behind, newer};
 ghost use Rattle.plug_psi.specs.CatInForce.{current_cat};
 
+use crate::current_table::read_current;
 use crate::follows_tables::FollowsTables;
 use crate::kept::Kept;
 use std::alloc::{AllocError, Global};
 use ts_packet::Packet;
 use ts_psi::Cat;
 use ts_section::TableRun;
-use ts_table_rows::TableFault;
 
 /// The last CAT that reads and is current, if there is one.
 #[derive(Drop)]
@@ -68,20 +68,9 @@ fn keep_cat(
     ensures kept { OnOk result (option_map cat_held cat.new ≡ newer (option_map cat_held cat.old) (current_cat table.now)) }
     ensures same { IfOk result (λ now. now ≡ false → (came ≡ false) × (cat.new ≡ cat.old)) }
 {
-    let Some(read) = read_current(alloc, table)? else {
+    let Some(read) = read_current::<Cat>(alloc, table)? else {
         return Ok(came);
     };
     *cat = Some(read);
     Ok(true)
-}
-
-/// The CAT that a table is, where it reads as one and is current.
-fn read_current(alloc: Global, table: &TableRun) -> Result<Option<Cat>, AllocError>
-    ensures { IfOk result (λ cat. option_map cat_held cat ≡ current_cat table.now) }
-{
-    match Cat::read(alloc, table) {
-        Ok(cat) => { if cat.current { Ok(Some(cat)) } else { Ok(None) } }
-        Err(TableFault::Broken { .. }) => Ok(None),
-        Err(TableFault::NoMemory) => Err(AllocError),
-    }
 }

@@ -6,13 +6,13 @@ ghost use Rattle.plug_psi.specs.LastFound.{found_behind, newer};
 ghost use Rattle.plug_psi.specs.InForce.{current_pat};
 
 use crate::current_pat::CurrentPat;
+use crate::current_table::read_current;
 use crate::follows_tables::FollowsTables;
 use crate::kept::Kept;
 use std::alloc::{AllocError, Global};
 use ts_packet::Packet;
 use ts_psi::Pat;
 use ts_section::TableRun;
-use ts_table_rows::TableFault;
 
 impl FollowsTables for CurrentPat {
     ghost use Rattle.plug_psi.specs.InForce.{current_pat};
@@ -64,20 +64,9 @@ fn keep_pat(
     ensures kept { OnOk result (option_map pat_held pat.new ≡ newer (option_map pat_held pat.old) (current_pat table.now)) }
     ensures same { IfOk result (λ now. now ≡ false → (came ≡ false) × (pat.new ≡ pat.old)) }
 {
-    let Some(read) = read_current(alloc, table)? else {
+    let Some(read) = read_current::<Pat>(alloc, table)? else {
         return Ok(came);
     };
     pat.set(read);
     Ok(true)
-}
-
-/// The PAT that a table is, where it reads as one and is current.
-fn read_current(alloc: Global, table: &TableRun) -> Result<Option<Pat>, AllocError>
-    ensures { IfOk result (λ pat. option_map pat_held pat ≡ current_pat table.now) }
-{
-    match Pat::read(alloc, table) {
-        Ok(pat) => { if pat.current { Ok(Some(pat)) } else { Ok(None) } }
-        Err(TableFault::Broken { .. }) => Ok(None),
-        Err(TableFault::NoMemory) => Err(AllocError),
-    }
 }

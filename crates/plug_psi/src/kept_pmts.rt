@@ -2,12 +2,11 @@
 
 ghost use Rattle.std.specs.Prelude.{◌≡◌, ℕ, List, false, IfOk, OnOk, nat_eq, option_map};
 ghost use Rattle.indexmap.specs.IndexMap.{get};
-ghost use Rattle.ts_table_rows.specs.RunReading.{read_run};
-ghost use Rattle.ts_psi.specs.PsiPages.{pmt_page};
 ghost use Rattle.ts_psi.specs.PsiTables.{pmt_held};
 ghost use Rattle.plug_psi.specs.LastFound.{found_behind, newer};
-ghost use Rattle.plug_psi.specs.InForce.{current_in, current_pmt};
+ghost use Rattle.plug_psi.specs.InForce.{current_pmt};
 
+use crate::current_table::read_current;
 use crate::follows_tables::FollowsTables;
 use crate::kept::Kept;
 use indexmap::IndexMap;
@@ -15,7 +14,6 @@ use std::alloc::{AllocError, Global};
 use ts_packet::Packet;
 use ts_psi::Pmt;
 use ts_section::TableRun;
-use ts_table_rows::TableFault;
 
 /// The last PMT of each service.
 pub(crate) type Pmts = IndexMap<u16, Pmt>;
@@ -79,20 +77,9 @@ fn keep_pmt(
         ≡ newer (option_map pmt_held (get nat_eq pmts.old service)) (current_pmt service table.now)) }
     ensures same { IfOk result (λ now. now ≡ false → (came ≡ false) × (pmts.new.entries ≡ pmts.old.entries)) }
 {
-    let Some(pmt) = read_current(alloc, table)? else {
+    let Some(pmt) = read_current::<Pmt>(alloc, table)? else {
         return Ok(came);
     };
     pmts.insert(pmt.service_id, pmt)?;
     Ok(true)
-}
-
-/// The PMT that a table is, where it reads as one and is current.
-fn read_current(alloc: Global, table: &TableRun) -> Result<Option<Pmt>, AllocError>
-    ensures { IfOk result (λ pmt. option_map pmt_held pmt ≡ current_in (read_run pmt_page table.now)) }
-{
-    match Pmt::read(alloc, table) {
-        Ok(pmt) => { if pmt.current { Ok(Some(pmt)) } else { Ok(None) } }
-        Err(TableFault::Broken { .. }) => Ok(None),
-        Err(TableFault::NoMemory) => Err(AllocError),
-    }
 }

@@ -6,12 +6,15 @@
 #![tactic(auto)]
 
 mod by_pid;
+mod cat_as_table;
 mod contents;
 mod current_pat;
+mod current_table;
 mod cycle_editor;
 mod edit;
 mod edited;
 mod editor;
+mod edits_table;
 mod failure_latch;
 mod follow_editors;
 mod follow_laws;
@@ -26,19 +29,26 @@ mod kept_cat;
 mod kept_pat;
 mod kept_pmts;
 mod laws;
+mod nit_as_table;
+mod pat_as_table;
 mod pat_services;
 mod pid_flags;
 mod pids_in_force;
 mod pids_of_pmt;
+mod pmt_as_table;
+mod psi_table;
 mod read_or_same;
 mod reading;
 mod referred;
+mod sdt_as_table;
 mod written;
 
 pub use by_pid::ByPid;
+pub use current_table::read_current;
 pub use cycle_editor::CycleEditor;
 pub use edit::{Edited, TableEdit};
 pub use editor::Editor;
+pub use edits_table::{Current, EditsTable};
 pub use failure_latch::FailureLatch;
 pub use follow_editors::SeededEdit;
 pub use follow_laws::unfollowed_packets_change_nothing;
@@ -51,6 +61,7 @@ pub use laws::{contents_are_last_tables, last_found_is_the_last, later_packets_c
 pub use pat_services::{number_and_pid, pid_of_service};
 pub use pid_flags::tell;
 pub use pids_of_pmt::add_pids;
+pub use psi_table::PsiTable;
 pub use read_or_same::{sections_or_same, table_or_none};
 pub use reading::Reading;
 pub use referred::Referred;

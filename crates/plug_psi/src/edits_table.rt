@@ -1,0 +1,49 @@
+//! Edits of the current tables of one kind.
+
+ghost use Rattle.std.specs.Prelude.{◌≡◌, Option, IfOk, option_map};
+ghost use Rattle.ts_table_rows.specs.TableValues.{TableHolding};
+
+use crate::current_table::read_current;
+use crate::edit::{Edited, TableEdit};
+use crate::psi_table::PsiTable;
+use crate::read_or_same::sections_or_same;
+use std::alloc::{AllocError, Global};
+use ts_section::TableRun;
+
+/// What is made of each current table of one kind.
+pub trait EditsTable {
+    /// The kind.
+    type Table: PsiTable;
+
+    /// What is made of a table; none leaves it as it is.
+    ghost edited: { Self → TableHolding → Option TableHolding };
+
+    /// Edits a table.
+    fn edited(&self, alloc: Global, table: Self::Table) -> Result<Option<Self::Table>, AllocError>
+        ensures { IfOk result (λ new. option_map Self.Table.held new ≡ edited self.now (Self.Table.held table)) };
+}
+
+/// An edit of the tables of its kind that read and are current. The table that it gives is written anew, and all other
+/// tables are carried as they are.
+#[derive(Drop)]
+pub struct Current<E: Drop> {
+    pub edit: E,
+}
+
+impl<E: EditsTable + Drop> TableEdit for Current<E> {
+    ghost use Rattle.plug_psi.specs.CurrentTables.{current_in};
+    ghost use Rattle.plug_psi.specs.TableChange.{changed_current};
+
+    ghost change = { λ s run. changed_current E.Table.page (E.edited s.edit) (current_in (E.Table.reads run)) };
+
+    fn edit(&self, alloc: Global, run: &TableRun) -> Result<Edited, AllocError> {
+        let Some(table) = read_current::<E::Table>(alloc, run)? else {
+            return Ok(Edited::same());
+        };
+        let Some(edited) = self.edit.edited(alloc, table)? else {
+            return Ok(Edited::same());
+        };
+        let edited = sections_or_same(edited.sections(alloc))?;
+        Ok(edited)
+    }
+}
