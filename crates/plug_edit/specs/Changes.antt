@@ -1,15 +1,15 @@
 -- What each editor makes of a run of sections.
--- ISO/IEC 13818-1, 2.4.4.3 to 2.4.4.9, and ETSI EN 300 468, 5.2.1 and 5.2.3: a PAT has table_id
--- 0x00, a CAT 0x01, a PMT 0x02, the NIT of the actual network 0x40 and the SDT of the actual transport stream 0x42.
+-- ISO/IEC 13818-1, 2.4.4.3 to 2.4.4.9, and ETSI EN 300 468, 5.2.1 and 5.2.3: the NIT of the actual network has
+-- table_id 0x40, and the SDT of the actual transport stream 0x42.
 use Rattle.std.specs.Prelude.{ℕ, List, Some}
-use Rattle.std.specs.Result.{result_ok}
 use Rattle.ts_table_rows.specs.RunReading.{read_run}
 use Rattle.ts_psi.specs.PsiPages.{cat_page, pat_page, pmt_page}
 use Rattle.ts_psi.specs.CatTables.{read_cat}
 use Rattle.ts_psi.specs.PatTables.{read_pat}
 use Rattle.ts_si.specs.SiPages.{nit_page, sdt_page}
+use Rattle.plug_psi.specs.CurrentTables.{current_in}
 use Rattle.plug_psi.specs.Edits.{Change}
-use Rattle.plug_psi.specs.TableChange.{changed_by}
+use Rattle.plug_psi.specs.TableChange.{changed_current, of_id}
 use Rattle.plug_edit.specs.PatEdit.{edited_pat}
 use Rattle.plug_edit.specs.CatEdit.{edited_cat}
 use Rattle.plug_edit.specs.PmtEdit.{edited_pmt}
@@ -23,20 +23,20 @@ use Rattle.plug_edit.specs.declared.pmt_conf.EditPmtConf.{EditPmtConf}
 
 -- of a PAT
 abbrev pub change_pat : EditPatConf → List (List ℕ) → Change
-change_pat conf run = changed_by pat_page 0x00 (λ table. Some (edited_pat conf table)) (result_ok (read_pat run))
+change_pat conf run = changed_current pat_page (λ table. Some (edited_pat conf table)) (current_in (read_pat run))
 
 -- of a CAT
 abbrev pub change_cat : EditCatConf → List (List ℕ) → Change
-change_cat conf run = changed_by cat_page 0x01 (edited_cat conf) (result_ok (read_cat run))
+change_cat conf run = changed_current cat_page (edited_cat conf) (current_in (read_cat run))
 
 -- of a PMT
 abbrev pub change_pmt : EditPmtConf → List (List ℕ) → Change
-change_pmt conf run = changed_by pmt_page 0x02 (λ table. Some (edited_pmt conf table)) (result_ok (read_run pmt_page run))
+change_pmt conf run = changed_current pmt_page (λ table. Some (edited_pmt conf table)) (current_in (read_run pmt_page run))
 
 -- of a NIT of the actual network
 abbrev pub change_nit : EditNitConf → List (List ℕ) → Change
-change_nit conf run = changed_by nit_page 0x40 (edited_nit conf) (result_ok (read_run nit_page run))
+change_nit conf run = changed_current nit_page (of_id 0x40 (edited_nit conf)) (current_in (read_run nit_page run))
 
 -- of an SDT of the actual transport stream
 abbrev pub change_sdt : EditSdtConf → List (List ℕ) → Change
-change_sdt conf run = changed_by sdt_page 0x42 (edited_sdt conf) (result_ok (read_run sdt_page run))
+change_sdt conf run = changed_current sdt_page (of_id 0x42 (edited_sdt conf)) (current_in (read_run sdt_page run))

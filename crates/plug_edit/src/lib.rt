@@ -45,7 +45,7 @@ pub use pat_conf::EditPatConf;
 pub use pat_edit::edit_pat;
 pub use pat_plugin::{EditPat, PatEdit};
 pub use pat_words::{pat_command, pat_settings};
-pub use plug_psi::{in_room, sections_or_same, table_or_none};
+pub use plug_psi::Current;
 pub use pmt_conf::EditPmtConf;
 pub use pmt_edit::edit_pmt;
 pub use pmt_plugin::{EditPmt, PmtEdit};

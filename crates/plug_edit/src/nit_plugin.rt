@@ -5,10 +5,9 @@ ghost use Rattle.plug_edit.specs.NitSettings.{IsLawfulNit};
 use crate::edit_pid::EditPid;
 use crate::nit_conf::EditNitConf;
 use crate::nit_edit::edit_nit;
-use plug_psi::{Edited, TableEdit, sections_or_same, table_or_none};
+use plug_psi::{Current, EditsTable};
 use plugin_trait::Plugin;
 use std::alloc::{AllocError, Global};
-use ts_section::TableRun;
 use ts_si::Nit;
 
 /// The edit of `nit`, of each current NIT of the actual network that reads.
@@ -18,29 +17,27 @@ pub struct NitEdit {
     ghost lawful: { IsLawfulNit conf },
 }
 
-impl TableEdit for NitEdit {
-    ghost use Rattle.plug_edit.specs.Changes.{change_nit};
+impl EditsTable for NitEdit {
+    ghost use Rattle.plug_psi.specs.TableChange.{of_id};
+    ghost use Rattle.plug_edit.specs.NitEdit.{edited_nit};
 
-    ghost change = { λ s run. change_nit s.conf run };
+    type Table = Nit;
 
-    fn edit(&self, alloc: Global, run: &TableRun) -> Result<Edited, AllocError> {
-        let Some(nit) = table_or_none(Nit::read(alloc, run))? else {
-            return Ok(Edited::same());
-        };
-        if !nit.current || !nit.actual {
-            return Ok(Edited::same());
+    ghost edited = { λ s table. of_id 0x40 (edited_nit s.conf) table };
+
+    fn edited(&self, alloc: Global, table: Nit) -> Result<Option<Nit>, AllocError> {
+        if !table.actual {
+            return Ok(None);
         }
-        let Some(edited) = edit_nit(alloc, &self.conf, nit)? else {
-            return Ok(Edited::same());
-        };
-        sections_or_same(edited.sections(alloc))
+        let edited = edit_nit(alloc, &self.conf, table)?;
+        Ok(edited)
     }
 }
 
 /// The plugin `nit`, which edits the NIT of the actual network on PID 16.
-pub type EditNit = EditPid<NitEdit>;
+pub type EditNit = EditPid<Current<NitEdit>>;
 
-impl EditPid<NitEdit> {
+impl EditPid<Current<NitEdit>> {
     ghost use Rattle.std.specs.Prelude.{◌≡◌, [], None, IfOk};
     ghost use Rattle.plug_edit.specs.Changes.{change_nit};
     ghost use Rattle.plug_edit.specs.EditRule.{edit_rule};
@@ -50,14 +47,16 @@ impl EditPid<NitEdit> {
         alloc: Global,
         conf: &EditNitConf,
         _buffer: usize,
-    ) -> Result<EditPid<NitEdit>, AllocError>
+    ) -> Result<EditPid<Current<NitEdit>>, AllocError>
         requires { IsLawfulNit conf.now }
-        ensures rule { IfOk result (λ plugin. ⟦<EditPid<NitEdit> as Plugin>⟧.rule plugin ≡ edit_rule 16 (change_nit conf.now)) }
-        ensures fresh { IfOk result (λ plugin. ⟦<EditPid<NitEdit> as Plugin>⟧.stands_for plugin [] 0) }
-        ensures steady { IfOk result (λ plugin. ⟦<EditPid<NitEdit> as Plugin>⟧.steady plugin ≡ None) }
+        ensures rule { IfOk result (λ plugin. ⟦<EditPid<Current<NitEdit>> as Plugin>⟧.rule plugin ≡ edit_rule 16 (change_nit conf.now)) }
+        ensures fresh { IfOk result (λ plugin. ⟦<EditPid<Current<NitEdit>> as Plugin>⟧.stands_for plugin [] 0) }
+        ensures steady { IfOk result (λ plugin. ⟦<EditPid<Current<NitEdit>> as Plugin>⟧.steady plugin ≡ None) }
     {
-        let edit = NitEdit {
-            conf: conf.copy(alloc)?,
+        let edit = Current {
+            edit: NitEdit {
+                conf: conf.copy(alloc)?,
+            },
         };
         let plugin = EditPid::over(alloc, 16, edit)?;
         Ok(plugin)

@@ -5,10 +5,9 @@ ghost use Rattle.plug_edit.specs.SdtSettings.{IsLawfulSdt};
 use crate::edit_pid::EditPid;
 use crate::sdt_conf::EditSdtConf;
 use crate::sdt_edit::edit_sdt;
-use plug_psi::{Edited, TableEdit, sections_or_same, table_or_none};
+use plug_psi::{Current, EditsTable};
 use plugin_trait::Plugin;
 use std::alloc::{AllocError, Global};
-use ts_section::TableRun;
 use ts_si::Sdt;
 
 /// The edit of `sdt`, of each current SDT of the actual transport stream that reads.
@@ -18,29 +17,27 @@ pub struct SdtEdit {
     ghost lawful: { IsLawfulSdt conf },
 }
 
-impl TableEdit for SdtEdit {
-    ghost use Rattle.plug_edit.specs.Changes.{change_sdt};
+impl EditsTable for SdtEdit {
+    ghost use Rattle.plug_psi.specs.TableChange.{of_id};
+    ghost use Rattle.plug_edit.specs.SdtEdit.{edited_sdt};
 
-    ghost change = { λ s run. change_sdt s.conf run };
+    type Table = Sdt;
 
-    fn edit(&self, alloc: Global, run: &TableRun) -> Result<Edited, AllocError> {
-        let Some(sdt) = table_or_none(Sdt::read(alloc, run))? else {
-            return Ok(Edited::same());
-        };
-        if !sdt.current || !sdt.actual {
-            return Ok(Edited::same());
+    ghost edited = { λ s table. of_id 0x42 (edited_sdt s.conf) table };
+
+    fn edited(&self, alloc: Global, table: Sdt) -> Result<Option<Sdt>, AllocError> {
+        if !table.actual {
+            return Ok(None);
         }
-        let Some(edited) = edit_sdt(alloc, &self.conf, sdt)? else {
-            return Ok(Edited::same());
-        };
-        sections_or_same(edited.sections(alloc))
+        let edited = edit_sdt(alloc, &self.conf, table)?;
+        Ok(edited)
     }
 }
 
 /// The plugin `sdt`, which edits the SDT of the actual transport stream on PID 17.
-pub type EditSdt = EditPid<SdtEdit>;
+pub type EditSdt = EditPid<Current<SdtEdit>>;
 
-impl EditPid<SdtEdit> {
+impl EditPid<Current<SdtEdit>> {
     ghost use Rattle.std.specs.Prelude.{◌≡◌, [], None, IfOk};
     ghost use Rattle.plug_edit.specs.Changes.{change_sdt};
     ghost use Rattle.plug_edit.specs.EditRule.{edit_rule};
@@ -50,14 +47,16 @@ impl EditPid<SdtEdit> {
         alloc: Global,
         conf: &EditSdtConf,
         _buffer: usize,
-    ) -> Result<EditPid<SdtEdit>, AllocError>
+    ) -> Result<EditPid<Current<SdtEdit>>, AllocError>
         requires { IsLawfulSdt conf.now }
-        ensures rule { IfOk result (λ plugin. ⟦<EditPid<SdtEdit> as Plugin>⟧.rule plugin ≡ edit_rule 17 (change_sdt conf.now)) }
-        ensures fresh { IfOk result (λ plugin. ⟦<EditPid<SdtEdit> as Plugin>⟧.stands_for plugin [] 0) }
-        ensures steady { IfOk result (λ plugin. ⟦<EditPid<SdtEdit> as Plugin>⟧.steady plugin ≡ None) }
+        ensures rule { IfOk result (λ plugin. ⟦<EditPid<Current<SdtEdit>> as Plugin>⟧.rule plugin ≡ edit_rule 17 (change_sdt conf.now)) }
+        ensures fresh { IfOk result (λ plugin. ⟦<EditPid<Current<SdtEdit>> as Plugin>⟧.stands_for plugin [] 0) }
+        ensures steady { IfOk result (λ plugin. ⟦<EditPid<Current<SdtEdit>> as Plugin>⟧.steady plugin ≡ None) }
     {
-        let edit = SdtEdit {
-            conf: conf.copy(alloc)?,
+        let edit = Current {
+            edit: SdtEdit {
+                conf: conf.copy(alloc)?,
+            },
         };
         let plugin = EditPid::over(alloc, 17, edit)?;
         Ok(plugin)

@@ -6,8 +6,8 @@ ghost use Rattle.plug_set.specs.Plugins.{rule_of, steady_of};
 use crate::plugin_conf::PluginConf;
 use plug_analyze::Analyze;
 use plug_edit::{
-    CatEdit, EditCat, EditNit, EditPat, EditPid, EditPmt, EditSdt, NitEdit, PatEdit, PmtEdit,
-    SdtEdit,
+    CatEdit, Current, EditCat, EditNit, EditPat, EditPid, EditPmt, EditSdt, NitEdit, PatEdit,
+    PmtEdit, SdtEdit,
 };
 use plug_end::Until;
 use plug_info::Info;
@@ -151,11 +151,11 @@ impl Plugin for SomePlugin {
       | MadeContinuity p ↦ ⟦<Continuity as Plugin>⟧.rule p
       | MadeRemap p ↦ ⟦<Remap as Plugin>⟧.rule p
       | MadeInject p ↦ ⟦<Inject as Plugin>⟧.rule p
-      | MadePat p ↦ ⟦<EditPid<PatEdit> as Plugin>⟧.rule p
-      | MadeCat p ↦ ⟦<EditPid<CatEdit> as Plugin>⟧.rule p
-      | MadePmt p ↦ ⟦<EditPid<PmtEdit> as Plugin>⟧.rule p
-      | MadeSdt p ↦ ⟦<EditPid<SdtEdit> as Plugin>⟧.rule p
-      | MadeNit p ↦ ⟦<EditPid<NitEdit> as Plugin>⟧.rule p
+      | MadePat p ↦ ⟦<EditPid<Current<PatEdit>> as Plugin>⟧.rule p
+      | MadeCat p ↦ ⟦<EditPid<Current<CatEdit>> as Plugin>⟧.rule p
+      | MadePmt p ↦ ⟦<EditPid<Current<PmtEdit>> as Plugin>⟧.rule p
+      | MadeSdt p ↦ ⟦<EditPid<Current<SdtEdit>> as Plugin>⟧.rule p
+      | MadeNit p ↦ ⟦<EditPid<Current<NitEdit>> as Plugin>⟧.rule p
       | MadeZap p ↦ ⟦<Zap as Plugin>⟧.rule p
       | MadeSvremove p ↦ ⟦<Svremove as Plugin>⟧.rule p
       | MadeAnalyze p ↦ ⟦<Analyze as Plugin>⟧.rule p
@@ -176,11 +176,11 @@ impl Plugin for SomePlugin {
       | MadeContinuity p ↦ ⟦<Continuity as Plugin>⟧.stands_for p
       | MadeRemap p ↦ ⟦<Remap as Plugin>⟧.stands_for p
       | MadeInject p ↦ ⟦<Inject as Plugin>⟧.stands_for p
-      | MadePat p ↦ ⟦<EditPid<PatEdit> as Plugin>⟧.stands_for p
-      | MadeCat p ↦ ⟦<EditPid<CatEdit> as Plugin>⟧.stands_for p
-      | MadePmt p ↦ ⟦<EditPid<PmtEdit> as Plugin>⟧.stands_for p
-      | MadeSdt p ↦ ⟦<EditPid<SdtEdit> as Plugin>⟧.stands_for p
-      | MadeNit p ↦ ⟦<EditPid<NitEdit> as Plugin>⟧.stands_for p
+      | MadePat p ↦ ⟦<EditPid<Current<PatEdit>> as Plugin>⟧.stands_for p
+      | MadeCat p ↦ ⟦<EditPid<Current<CatEdit>> as Plugin>⟧.stands_for p
+      | MadePmt p ↦ ⟦<EditPid<Current<PmtEdit>> as Plugin>⟧.stands_for p
+      | MadeSdt p ↦ ⟦<EditPid<Current<SdtEdit>> as Plugin>⟧.stands_for p
+      | MadeNit p ↦ ⟦<EditPid<Current<NitEdit>> as Plugin>⟧.stands_for p
       | MadeZap p ↦ ⟦<Zap as Plugin>⟧.stands_for p
       | MadeSvremove p ↦ ⟦<Svremove as Plugin>⟧.stands_for p
       | MadeAnalyze p ↦ ⟦<Analyze as Plugin>⟧.stands_for p
@@ -201,11 +201,11 @@ impl Plugin for SomePlugin {
       | MadeContinuity p ↦ ⟦<Continuity as Plugin>⟧.steady p
       | MadeRemap p ↦ ⟦<Remap as Plugin>⟧.steady p
       | MadeInject p ↦ ⟦<Inject as Plugin>⟧.steady p
-      | MadePat p ↦ ⟦<EditPid<PatEdit> as Plugin>⟧.steady p
-      | MadeCat p ↦ ⟦<EditPid<CatEdit> as Plugin>⟧.steady p
-      | MadePmt p ↦ ⟦<EditPid<PmtEdit> as Plugin>⟧.steady p
-      | MadeSdt p ↦ ⟦<EditPid<SdtEdit> as Plugin>⟧.steady p
-      | MadeNit p ↦ ⟦<EditPid<NitEdit> as Plugin>⟧.steady p
+      | MadePat p ↦ ⟦<EditPid<Current<PatEdit>> as Plugin>⟧.steady p
+      | MadeCat p ↦ ⟦<EditPid<Current<CatEdit>> as Plugin>⟧.steady p
+      | MadePmt p ↦ ⟦<EditPid<Current<PmtEdit>> as Plugin>⟧.steady p
+      | MadeSdt p ↦ ⟦<EditPid<Current<SdtEdit>> as Plugin>⟧.steady p
+      | MadeNit p ↦ ⟦<EditPid<Current<NitEdit>> as Plugin>⟧.steady p
       | MadeZap p ↦ ⟦<Zap as Plugin>⟧.steady p
       | MadeSvremove p ↦ ⟦<Svremove as Plugin>⟧.steady p
       | MadeAnalyze p ↦ ⟦<Analyze as Plugin>⟧.steady p
