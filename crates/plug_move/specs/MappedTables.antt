@@ -4,7 +4,6 @@
 -- edited is this project's own rule: the current PATs on PID 0, the current CATs on PID 1 and the current PMTs on any
 -- other PID, where they read. All other tables, and those whose edit has no sections, are carried as they are.
 use Rattle.std.specs.Prelude.{ℕ, List, [], ◌∷◌, map, nat_eq, Option, Some, None, unwrap_or, if◌then◌else◌}
-use Rattle.std.specs.Result.{result_ok}
 use Rattle.ts_bits.specs.TaggedBody.{TaggedBody}
 use Rattle.ts_fields.specs.Bodies.{Holding}
 use Rattle.ts_fields.specs.Layout.{number, bytes}
@@ -16,9 +15,10 @@ use Rattle.ts_table_rows.specs.TableValues.{ItemHolding, TableHolding}
 use Rattle.ts_psi.specs.PsiPages.{cat_page, pat_page, pmt_page}
 use Rattle.ts_psi.specs.CatTables.{read_cat}
 use Rattle.ts_psi.specs.PatTables.{read_pat}
+use Rattle.plug_psi.specs.CurrentTables.{current_in}
 use Rattle.plug_psi.specs.Edits.{Change}
 use Rattle.plug_psi.specs.NumbersHeld.{bytes_at, number_at}
-use Rattle.plug_psi.specs.TableChange.{changed_by}
+use Rattle.plug_psi.specs.TableChange.{changed_current}
 use Rattle.plug_psi.specs.WrittenDescriptor.{written}
 use Rattle.plug_move.specs.Targets.{mapped}
 
@@ -77,13 +77,13 @@ mapped_pmt pairs table = record table {
 
 -- what becomes of a run on PID 0, on PID 1, and on the PID of a PMT
 abbrev pub change_pat : List (ℕ × ℕ) → List (List ℕ) → Change
-change_pat pairs run = changed_by pat_page 0x00 (λ table. Some (mapped_pat pairs table)) (result_ok (read_pat run))
+change_pat pairs run = changed_current pat_page (λ table. Some (mapped_pat pairs table)) (current_in (read_pat run))
 
 abbrev pub change_cat : List (ℕ × ℕ) → List (List ℕ) → Change
-change_cat pairs run = changed_by cat_page 0x01 (λ table. Some (mapped_cat pairs table)) (result_ok (read_cat run))
+change_cat pairs run = changed_current cat_page (λ table. Some (mapped_cat pairs table)) (current_in (read_cat run))
 
 abbrev pub change_pmt : List (ℕ × ℕ) → List (List ℕ) → Change
-change_pmt pairs run = changed_by pmt_page 0x02 (λ table. Some (mapped_pmt pairs table)) (result_ok (read_run pmt_page run))
+change_pmt pairs run = changed_current pmt_page (λ table. Some (mapped_pmt pairs table)) (current_in (read_run pmt_page run))
 
 -- what becomes of a run on a PID
 abbrev pub change_on : List (ℕ × ℕ) → ℕ → List (List ℕ) → Change

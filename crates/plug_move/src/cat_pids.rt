@@ -6,7 +6,7 @@ ghost use Rattle.plug_move.specs.MappedTables.{change_cat, mapped_cat};
 
 use crate::descriptor_pids::map_descriptors;
 use crate::move_table::MoveTable;
-use plug_psi::{Edited, sections_or_same, table_or_none};
+use plug_psi::{Edited, read_current, sections_or_same};
 use std::alloc::{AllocError, Global};
 use ts_psi::Cat;
 use ts_section::TableRun;
@@ -19,12 +19,9 @@ pub(crate) fn edit_cat(
 ) -> Result<Edited, AllocError>
     ensures { IfOk result (λ edited. edited ≡ change_cat table.now.0 run.now) }
 {
-    let Some(cat) = table_or_none(Cat::read(alloc, run))? else {
+    let Some(cat) = read_current::<Cat>(alloc, run)? else {
         return Ok(Edited::same());
     };
-    if !cat.current {
-        return Ok(Edited::same());
-    }
     let mapped = map_cat(alloc, table, cat)?;
     sections_or_same(mapped.sections(alloc))
 }

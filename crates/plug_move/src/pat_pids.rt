@@ -7,7 +7,7 @@ ghost use Rattle.ts_psi.specs.PatTables.{network_items, pat_held, service_item};
 ghost use Rattle.plug_move.specs.MappedTables.{change_pat, mapped_item, mapped_items, mapped_pat};
 
 use crate::move_table::MoveTable;
-use plug_psi::{Edited, sections_or_same, table_or_none};
+use plug_psi::{Edited, read_current, sections_or_same};
 use std::alloc::{AllocError, Global};
 use ts_psi::{Pat, PatService, PatServiceList};
 use ts_section::TableRun;
@@ -20,12 +20,9 @@ pub(crate) fn edit_pat(
 ) -> Result<Edited, AllocError>
     ensures { IfOk result (λ edited. edited ≡ change_pat table.now.0 run.now) }
 {
-    let Some(pat) = table_or_none(Pat::read(alloc, run))? else {
+    let Some(pat) = read_current::<Pat>(alloc, run)? else {
         return Ok(Edited::same());
     };
-    if !pat.current {
-        return Ok(Edited::same());
-    }
     let mapped = map_pat(alloc, table, pat)?;
     sections_or_same(mapped.sections(alloc))
 }

@@ -6,7 +6,7 @@ ghost use Rattle.plug_move.specs.MappedTables.{change_pmt, mapped_item, mapped_i
 
 use crate::descriptor_pids::map_descriptors;
 use crate::move_table::MoveTable;
-use plug_psi::{Edited, sections_or_same, table_or_none};
+use plug_psi::{Edited, read_current, sections_or_same};
 use std::alloc::{AllocError, Global};
 use ts_psi::{Component, ComponentList, Pmt};
 use ts_section::TableRun;
@@ -19,12 +19,9 @@ pub(crate) fn edit_pmt(
 ) -> Result<Edited, AllocError>
     ensures { IfOk result (λ edited. edited ≡ change_pmt table.now.0 run.now) }
 {
-    let Some(pmt) = table_or_none(Pmt::read(alloc, run))? else {
+    let Some(pmt) = read_current::<Pmt>(alloc, run)? else {
         return Ok(Edited::same());
     };
-    if !pmt.current {
-        return Ok(Edited::same());
-    }
     let mapped = map_pmt(alloc, table, pmt)?;
     sections_or_same(mapped.sections(alloc))
 }
