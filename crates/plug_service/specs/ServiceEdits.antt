@@ -2,7 +2,6 @@
 -- ISO/IEC 13818-1, 2.4.4.3 and 2.4.4.8, and ETSI EN 300 468, 5.2.3. The edits are this project's own rule: the entries of
 -- other services, or those of the service, are left out, and all else of the table stays.
 use Rattle.std.specs.Prelude.{ℕ, ◌&&◌, ◌||◌, Bool, false, List, [], ◌∷◌, filter, nat_eq, not, Option, Some, None, if◌then◌else◌}
-use Rattle.std.specs.Result.{result_ok}
 use Rattle.ts_section.specs.SectionFields.{head_of}
 use Rattle.ts_section.specs.declared.long_head.LongHead.{LongHead}
 use Rattle.ts_table_rows.specs.RunReading.{read_run}
@@ -10,10 +9,11 @@ use Rattle.ts_table_rows.specs.TableValues.{ItemHolding, TableHolding}
 use Rattle.ts_psi.specs.PsiPages.{pat_page}
 use Rattle.ts_psi.specs.PatTables.{is_network, read_pat}
 use Rattle.ts_si.specs.SiPages.{sdt_page}
+use Rattle.plug_psi.specs.CurrentTables.{current_in}
 use Rattle.plug_psi.specs.Edits.{Change, same, away}
 use Rattle.plug_psi.specs.InForce.{current_pmt}
 use Rattle.plug_psi.specs.NumbersHeld.{number_at}
-use Rattle.plug_psi.specs.TableChange.{changed_by}
+use Rattle.plug_psi.specs.TableChange.{changed_current, of_id}
 use Rattle.plug_service.specs.declared.way.Way.{Way}
 use Rattle.plug_service.specs.declared.way.Way.TheVariants.{Keep, Remove}
 
@@ -37,7 +37,7 @@ with_items test table = record table { body = record table.body { items = filter
 -- of a PAT
 abbrev pub pat_change : Way → ℕ → List (List ℕ) → Change
 pat_change way service run =
-    changed_by pat_page 0x00 (λ table. Some (with_items (entry_stays way service) table)) (result_ok (read_pat run))
+    changed_current pat_page (λ table. Some (with_items (entry_stays way service) table)) (current_in (read_pat run))
 
 -- whether a section has the head of a current SDT of the actual transport stream
 abbrev pub is_head_of_sdt : Option LongHead → Bool
@@ -52,7 +52,7 @@ is_current_sdt (section ∷ sections) = is_head_of_sdt (head_of section)
 -- of an SDT of the actual transport stream
 abbrev pub edited_sdt : Way → ℕ → List (List ℕ) → Change
 edited_sdt way service run =
-    changed_by sdt_page 0x42 (λ table. Some (with_items (service_stays way service) table)) (result_ok (read_run sdt_page run))
+    changed_current sdt_page (of_id 0x42 (λ table. Some (with_items (service_stays way service) table))) (current_in (read_run sdt_page run))
 
 -- of a table on PID 17: where a service is kept, no table but the current SDTs of the actual transport stream is carried
 abbrev pub sdt_change : Way → ℕ → List (List ℕ) → Change

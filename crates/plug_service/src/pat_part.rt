@@ -6,7 +6,7 @@ ghost use Rattle.plug_service.specs.ServiceEdits.{entry_stays, with_items};
 
 use crate::services::stays;
 use crate::way::Way;
-use plug_psi::{Edited, SeededEdit, TableEdit, sections_or_same, table_or_none};
+use plug_psi::{Edited, SeededEdit, TableEdit, read_current, sections_or_same};
 use std::alloc::{AllocError, Global};
 use ts_psi::{Pat, PatService, PatServiceList};
 use ts_section::TableRun;
@@ -24,12 +24,9 @@ impl TableEdit for PatPart {
     ghost change = { λ s run. pat_change s.way s.service run };
 
     fn edit(&self, alloc: Global, run: &TableRun) -> Result<Edited, AllocError> {
-        let Some(pat) = table_or_none(Pat::read(alloc, run))? else {
+        let Some(pat) = read_current::<Pat>(alloc, run)? else {
             return Ok(Edited::same());
         };
-        if !pat.current {
-            return Ok(Edited::same());
-        }
         let edited = part_of_pat(self.way, self.service, pat);
         sections_or_same(edited.sections(alloc))
     }

@@ -1,6 +1,6 @@
 //! The edit of the PID of a PMT where its service is kept (ISO/IEC 13818-1, 2.4.4.8).
 
-use plug_psi::{Edited, SeededEdit, TableEdit, table_or_none};
+use plug_psi::{Edited, SeededEdit, TableEdit, read_current};
 use std::alloc::{AllocError, Global};
 use ts_psi::Pmt;
 use ts_section::TableRun;
@@ -17,12 +17,9 @@ impl TableEdit for PmtAlone {
     ghost change = { λ s run. pmt_change s.service run };
 
     fn edit(&self, alloc: Global, run: &TableRun) -> Result<Edited, AllocError> {
-        let Some(pmt) = table_or_none(Pmt::read(alloc, run))? else {
+        let Some(pmt) = read_current::<Pmt>(alloc, run)? else {
             return Ok(Edited::away());
         };
-        if !pmt.current {
-            return Ok(Edited::away());
-        }
         if pmt.service_id != self.service {
             return Ok(Edited::away());
         }

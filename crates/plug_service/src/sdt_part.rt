@@ -7,7 +7,7 @@ ghost use Rattle.plug_service.specs.ServiceEdits.{edited_sdt, service_stays, wit
 
 use crate::services::stays;
 use crate::way::Way;
-use plug_psi::{Edited, SeededEdit, TableEdit, sections_or_same, table_or_none};
+use plug_psi::{Edited, SeededEdit, TableEdit, read_current, sections_or_same};
 use std::alloc::{AllocError, Global};
 use ts_section::TableRun;
 use ts_si::{Sdt, SdtService, SdtServiceList};
@@ -52,10 +52,10 @@ impl SeededEdit for SdtPart {
 fn edit_sdt(alloc: Global, way: Way, service: u16, run: &TableRun) -> Result<Edited, AllocError>
     ensures { IfOk result (λ edited. edited ≡ edited_sdt way service run.now) }
 {
-    let Some(sdt) = table_or_none(Sdt::read(alloc, run))? else {
+    let Some(sdt) = read_current::<Sdt>(alloc, run)? else {
         return Ok(Edited::same());
     };
-    if !sdt.current || !sdt.actual {
+    if !sdt.actual {
         return Ok(Edited::same());
     }
     let edited = part_of_sdt(way, service, sdt);
