@@ -1,4 +1,3 @@
-pub mod ChangedLemmas
 pub mod Choice
 pub mod ContentsLemmas
 pub mod EditedLemmas

@@ -2,7 +2,7 @@
 -- ISO/IEC 13818-1, 2.4.4, and ETSI EN 300 468, 5.2: a table that is current holds now. Which tables are edited is this
 -- project's own rule: the current ones of the edited kind that read. A table whose edit has no sections stays as it is,
 -- and one that an edit leaves as it was is written anew all the same.
-use Rattle.std.specs.Prelude.{ℕ, ◌&&◌, Bool, List, nat_eq, Option, Some, None, Result, Ok, Err, if◌then◌else◌}
+use Rattle.std.specs.Prelude.{ℕ, List, nat_eq, Option, Some, None, Result, Ok, Err, if◌then◌else◌}
 use Rattle.ts_table_rows.specs.declared.fault.TableRefusal.{TableRefusal}
 use Rattle.ts_table_rows.specs.TablePages.{TablePage}
 use Rattle.ts_table_rows.specs.TableSections.{sections_of}
@@ -27,13 +27,3 @@ changed_current page edit (Some table) = written_anew page (edit table)
 -- an edit of those tables alone that have a table_id
 abbrev pub of_id : ℕ → (TableHolding → Option TableHolding) → TableHolding → Option TableHolding
 of_id table_id edit table = if nat_eq table.head.table_id table_id then edit table else None
-
--- a table is current, and of this table_id
-abbrev pub is_edited : ℕ → TableHolding → Bool
-is_edited table_id table = table.head.current && nat_eq table.head.table_id table_id
-
--- what becomes of a run that holds a table, or none, by the edit of the tables of a table_id
-abbrev pub changed_by : TablePage → ℕ → (TableHolding → Option TableHolding) → Option TableHolding → Change
-changed_by page table_id edit None = same
-changed_by page table_id edit (Some table) =
-    if is_edited table_id table then written_anew page (edit table) else same

@@ -6,7 +6,7 @@ ghost use Rattle.ts_table_rows.specs.TableValues.{TableHolding};
 use crate::current_table::read_current;
 use crate::edit::{Edited, TableEdit};
 use crate::psi_table::PsiTable;
-use crate::read_or_same::sections_or_same;
+use crate::written_table::sections_or_same;
 use std::alloc::{AllocError, Global};
 use ts_section::TableRun;
 
