@@ -106,7 +106,7 @@ class Reader:
         return fields["name"], *fields["kind"]
 
     def applied(self, word, alone=False):
-        """What a word means, with as many values behind it as it takes."""
+        """What a word means, with as many values after it as it takes."""
         if word in self.bound:
             return self.bound[word]
         if word == "codes":

@@ -1,11 +1,11 @@
-"""Files that keep bytes before or behind each packet, for the scripts of this folder: wraps packets, and reads them back.
+"""Files that keep bytes before or after each packet, for the scripts of this folder: wraps packets, and reads them back.
 
 It knows nothing of the programs. What `wrapped` puts between the packets holds 0x47 at many places, so that a reader that
 takes a unit for a packet is found out; `coded` puts there what a modulator does.
 """
 SIZE = 188
 
-# The bytes before and behind each packet, by the word of the option --format.
+# The bytes before and after each packet, by the word of the option --format.
 FORMS = {"ts": (0, 0), "m2ts": (4, 0), "rs204": (0, 16)}
 
 
@@ -39,7 +39,7 @@ CODE_STEPS = code_steps()
 
 
 def check_bytes(packet):
-    """The sixteen bytes of the Reed-Solomon code behind a packet."""
+    """The sixteen bytes of the Reed-Solomon code after a packet."""
     left = 0
     for byte in packet:
         left = (left << 8 & (1 << 128) - 1) ^ CODE_STEPS[byte ^ left >> 120]
@@ -47,13 +47,13 @@ def check_bytes(packet):
 
 
 def coded(data):
-    """The whole packets of some bytes, each with its check bytes behind it."""
+    """The whole packets of some bytes, each with its check bytes after it."""
     packets = (data[at:at + SIZE] for at in range(0, len(data) - SIZE + 1, SIZE))
     return b"".join(packet + check_bytes(packet) for packet in packets)
 
 
 def wrapped(form, data):
-    """The packets of some bytes, each with what stands before and behind it; of a last one that is not whole what there is."""
+    """The packets of some bytes, each with what stands before and after it; of a last one that is not whole what there is."""
     before, behind = FORMS[form]
     units = []
     for number in range(-(-len(data) // SIZE)):

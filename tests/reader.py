@@ -63,7 +63,7 @@ def sections_of(packets):
 
 
 def whole(data, number):
-    """The whole sections at the beginning of the bytes, and what is left; none is left behind stuffing."""
+    """The whole sections at the beginning of the bytes, and what is left; none is left after stuffing."""
     found = []
     while len(data) >= 3 and data[0] != 0xFF:
         size = 3 + ((data[1] & 15) << 8 | data[2])
@@ -165,7 +165,7 @@ def on_pids(packets):
     return by_pid
 
 
-# ---- comparing tables before and behind
+# ---- comparing tables before and after
 
 def distinct(runs):
     """For each key its tables in their order, one that only repeats the one before left out."""

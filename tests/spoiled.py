@@ -95,7 +95,7 @@ def section_of(draw, section):
 
 
 def sections_of(draw, sections):
-    """Some of these sections one behind another, some of them spoilt, and sometimes the row itself."""
+    """Some of these sections one after another, some of them spoilt, and sometimes the row itself."""
     rows = [draw.choice(sections) for _ in range(draw.choice([1, 1, 2, 8]))]
     data = b"".join(section_of(draw, row) if draw.random() < 0.7 else row for row in rows)
     return draw.choice([turned, cut_off, taken_out, put_in, repeated])(draw, data) if draw.random() < 0.3 else data
@@ -188,7 +188,7 @@ def stream_of(draw, streams, sections):
 
 
 def noise_of(draw):
-    """Any bytes, or packets of any bytes behind the byte of sync."""
+    """Any bytes, or packets of any bytes after the byte of sync."""
     if draw.random() < 0.3:
         return any_bytes(draw, draw.choice([0, 1, 187, 188, 189, 5000]))
     pids = [draw.choice([*TABLE_PIDS, draw.randrange(8192)]) for _ in range(4)]

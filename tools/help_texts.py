@@ -13,7 +13,7 @@ A text of a plugin is made of these parts, and tsp.help has rows in the same for
     Example, what it shows:
         tsp ..
 
-A row begins behind four spaces, and goes on where a line has more of them. Two spaces or a line's end part what is
+A row begins after four spaces, and goes on where a line has more of them. Two spaces or a line's end part what is
 written from what it means. Where numbers have ranges, these come first, up to a colon.
 """
 import pathlib
@@ -87,7 +87,7 @@ def rows_of(lines):
 
 
 def parts_of(path):
-    """The parts of a text: each line that begins at the margin, with the lines behind it."""
+    """The parts of a text: each line that begins at the margin, with the lines after it."""
     parts = []
     for line in path.read_text(encoding="utf-8").splitlines():
         if line and not line.startswith(" "):

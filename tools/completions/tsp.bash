@@ -1,6 +1,6 @@
 # Completes the words of tsp in bash. Made by tools/texts of the texts of help, which are the place to change.
 
-# The options of a plugin or the general ones; one that takes a value has a sign behind it.
+# The options of a plugin or the general ones; one that takes a value has a sign after it.
 _tsp_options() {
     case $1 in
 @options@
