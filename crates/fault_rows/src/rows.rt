@@ -7,7 +7,7 @@ pub(crate) struct Row {
     pub(crate) rule: WordsRule,
 }
 
-static ROWS: [Row; 30] = [
+static ROWS: [Row; 49] = [
     Row {
         words: "-P filter --pid 9000 -O drop",
         at: 0,
@@ -155,6 +155,101 @@ static ROWS: [Row; 30] = [
     },
     Row {
         words: "-P skip  --only-label 0-2",
+        at: 0,
+        rule: WordsRule::Value,
+    },
+    Row {
+        words: "-P filter --set-label 3",
+        at: 0,
+        rule: WordsRule::Missing,
+    },
+    Row {
+        words: "-P slice --only-label 1",
+        at: 0,
+        rule: WordsRule::Missing,
+    },
+    Row {
+        words: "-P inject x --pid 17",
+        at: 0,
+        rule: WordsRule::Missing,
+    },
+    Row {
+        words: "-P inject -- x",
+        at: 0,
+        rule: WordsRule::Missing,
+    },
+    Row {
+        words: "-I testgen 1",
+        at: 0,
+        rule: WordsRule::Missing,
+    },
+    Row {
+        words: "-P zap --service 769",
+        at: 0,
+        rule: WordsRule::Shape,
+    },
+    Row {
+        words: "-P zap 769 770",
+        at: 0,
+        rule: WordsRule::Shape,
+    },
+    Row {
+        words: "-O file x --format",
+        at: 0,
+        rule: WordsRule::Shape,
+    },
+    Row {
+        words: "-P remap 1=2 3=2",
+        at: 0,
+        rule: WordsRule::Conflict,
+    },
+    Row {
+        words: "-P remap --unchecked 1=2 3=2 0x1=3",
+        at: 0,
+        rule: WordsRule::Conflict,
+    },
+    Row {
+        words: "-P remap 8191=2",
+        at: 0,
+        rule: WordsRule::Conflict,
+    },
+    Row {
+        words: "-I file a -I file b",
+        at: 3,
+        rule: WordsRule::Twice,
+    },
+    Row {
+        words: "-i file x",
+        at: 0,
+        rule: WordsRule::Shape,
+    },
+    Row {
+        words: "-I file x -o file y",
+        at: 0,
+        rule: WordsRule::Shape,
+    },
+    Row {
+        words: "-p count",
+        at: 0,
+        rule: WordsRule::Shape,
+    },
+    Row {
+        words: "-P remap 1=99999",
+        at: 0,
+        rule: WordsRule::Value,
+    },
+    Row {
+        words: "--add-start-stuffing=1000001 -O drop",
+        at: 0,
+        rule: WordsRule::Value,
+    },
+    Row {
+        words: "-P pat --add-service 1/2,3/99999",
+        at: 0,
+        rule: WordsRule::Value,
+    },
+    Row {
+        words: "--add-input-stuffing=1=9 -O drop",
         at: 0,
         rule: WordsRule::Value,
     },

@@ -1,8 +1,9 @@
 -- Which word of a segment is wrong, and what is wrong with it.
 -- This project's own rule.
-use Rattle.std.specs.Prelude.{ℕ, ◌+◌, ◌==◌, ◌&&◌, Bool, List, [], ◌∷◌, None, Option, Some, if◌then◌else◌, length, nat_lt, not}
+use Rattle.std.specs.Prelude.{ℕ, ◌+◌, ◌==◌, ◌&&◌, Bool, List, [], ◌∷◌, None, Option, Some, codes, if◌then◌else◌, length, nat_lt, not}
 use Rattle.std.specs.List.{after_first, list_any, position_or_len}
 use Rattle.std.specs.Str.{bytes_eq}
+use Rattle.fault_texts.specs.Clash.{clashes}
 use Rattle.option_words.specs.declared.words_rule.WordsRule.{WordsRule}
 use Rattle.option_words.specs.declared.words_rule.WordsRule.TheVariants as rule
 use Rattle.fault_texts.specs.declared.option_row.OptionRow.{OptionRow}
@@ -10,7 +11,7 @@ use Rattle.fault_texts.specs.declared.role.Role.{Role}
 use Rattle.fault_texts.specs.declared.role.Role.TheVariants as role
 use Rattle.fault_texts.specs.declared.said.Fault.{Fault}
 use Rattle.fault_texts.specs.declared.said.Said.{Said}
-use Rattle.fault_texts.specs.declared.said.Said.TheVariants.{Again, Alone, Apart, BadValue, Extra, NoValue, TakesNone, UnknownOption}
+use Rattle.fault_texts.specs.declared.said.Said.TheVariants.{Again, Alone, Apart, BadValue, Clash, Extra, NoValue, TakesNone, UnknownOption}
 use Rattle.fault_texts.specs.Fits.{fits}
 use Rattle.fault_texts.specs.Roles.{counted, is_dashed, is_flag, name_part, role_of}
 
@@ -82,16 +83,24 @@ module _ {W : Type 0} (text_of : W → List ℕ) where
       else if not (length row.choice.now == 0) && other_stands options row rest then Some (Apart row)
       else None
 
-  -- what is wrong with options beside one another
-  abbrev pub conflict_said : List OptionRow → List W → Role → List W → Option Said
-  conflict_said options all (role.Named row) rest = named_conflict options all row rest
-  conflict_said options all _ rest = None
+  -- a pair that has its source in common with a later one, or its target where targets are checked
+  abbrev pub operand_conflict : List W → OptionRow → List ℕ → List W → Option Said
+  operand_conflict all row word rest =
+      if list_any (λ other. clashes (not (stands (codes "--unchecked") all)) row.takes word (text_of other)) rest
+      then Some (Clash row)
+      else None
+
+  -- what is wrong with options and operands beside one another
+  abbrev pub conflict_said : List OptionRow → List W → Role → List ℕ → List W → Option Said
+  conflict_said options all (role.Named row) word rest = named_conflict options all row rest
+  conflict_said options all (role.Operand row) word rest = operand_conflict all row word rest
+  conflict_said options all _ word rest = None
 
   -- what is wrong with a word by the rule that is broken
   abbrev pub said_of_word : List OptionRow → WordsRule → List W → Role → List ℕ → List W → Option Said
   said_of_word options rule.Shape all r word rest = shape_said r word rest
   said_of_word options rule.Value all r word rest = value_said r word
-  said_of_word options rule.Conflict all r word rest = conflict_said options all r rest
+  said_of_word options rule.Conflict all r word rest = conflict_said options all r word rest
   said_of_word options _ all r word rest = None
 
   -- the fault of a word of this number, else one of a later word

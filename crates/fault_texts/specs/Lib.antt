@@ -1,3 +1,4 @@
+pub mod Clash
 pub mod FaultOf
 pub mod FaultText
 pub mod FirstFault

@@ -1,20 +1,22 @@
 -- What is said of a fault, in whole lines.
 -- This project's own rule.
-use Rattle.std.specs.Prelude.{ℕ, ◌++◌, List, [], ◌∷◌, Option, None, Some, codes}
+use Rattle.std.specs.Prelude.{ℕ, ◌++◌, ◌==◌, List, [], ◌∷◌, Option, None, Some, codes, drop, if◌then◌else◌, is_some, length}
 use Rattle.std.specs.Borrow.{Bor}
 use Rattle.std.specs.List.{flat_map}
+use Rattle.std.specs.Str.{bytes_eq}
+use Rattle.option_words.specs.Number.{number_within}
 use Rattle.fault_texts.specs.declared.help_table.HelpTable.{HelpTable}
 use Rattle.fault_texts.specs.declared.option_row.OptionRow.{OptionRow}
 use Rattle.fault_texts.specs.declared.segment_row.SegmentRow.{SegmentRow}
 use Rattle.fault_texts.specs.declared.said.Fault.{Fault}
 use Rattle.fault_texts.specs.declared.said.Said.{Said}
-use Rattle.fault_texts.specs.declared.said.Said.TheVariants.{Again, Alone, Apart, BadValue, Extra, Missing, NoName, NoValue, Second, TakesNone, TooMany, UnknownName, UnknownOption, Whole}
+use Rattle.fault_texts.specs.declared.said.Said.TheVariants.{Again, Alone, Apart, BadValue, Clash, Extra, Missing, NoName, NoValue, Second, TakesNone, TooMany, UnknownName, UnknownOption, Whole}
 use Rattle.fault_texts.specs.Homes.{homes_text}
 use Rattle.fault_texts.specs.Lists.{names_behind, option_names, texts}
 use Rattle.fault_texts.specs.Nearest.{near_text, nearest_name, nearest_option}
 use Rattle.fault_texts.specs.Roles.{name_part}
-use Rattle.fault_texts.specs.Segment.{row_of, word_or_none}
-use Rattle.fault_texts.specs.TakesText.{sign_hint, takes_text}
+use Rattle.fault_texts.specs.Segment.{head_of, row_of, word_or_none}
+use Rattle.fault_texts.specs.TakesText.{most_number, takes_text, value_part, value_text}
 use Rattle.fault_texts.specs.Wanted.{wanted}
 
 -- texts that are lent, one after another
@@ -32,15 +34,28 @@ known_names_text table first =
     (texts (codes "unknown name after " ∷ first ∷ codes "; there are:" ∷ []) ++ names_behind table first)
     ++ texts (codes "\na file is named after -I file or -O file\n" ∷ [])
 
--- the options that the segment has
+-- these options; some words where there are none
+abbrev pub listed : List ℕ → List ℕ
+listed names = if length names == 0 then codes " none" else names
+
+-- the options that the segment has, and how its words may stand
 abbrev pub known_options_text : SegmentRow → List ℕ
 known_options_text row =
-    (texts (codes "unknown option of " ∷ row.first.now ∷ codes " " ∷ row.name.now ∷ codes "; there are:" ∷ []) ++ option_names row.options.now)
-    ++ texts (codes "\n" ∷ [])
+    (texts (codes "unknown option of " ∷ row.first.now ∷ codes " " ∷ row.name.now ∷ codes "; there are:" ∷ []) ++ listed (option_names row.options.now))
+    ++ texts (codes "\nusage: " ∷ row.usage.now ∷ codes "\n" ∷ [])
+
+-- a segment's first word that is written with a small letter
+abbrev pub capital_hint : List ℕ → List ℕ
+capital_hint word =
+    if bytes_eq word (codes "-i") then codes "-I is written with a capital letter\n"
+    else if bytes_eq word (codes "-o") then codes "-O is written with a capital letter\n"
+    else if bytes_eq word (codes "-p") then codes "-P is written with a capital letter\n"
+    else []
 
 -- the nearest of them, and where else the option is known
 abbrev pub unknown_option_text : HelpTable → SegmentRow → List ℕ → List ℕ
-unknown_option_text table row word = (known_options_text row ++ near_text (nearest_option row.options.now (name_part word))) ++ homes_text table word
+unknown_option_text table row word =
+    ((known_options_text row ++ near_text (nearest_option row.options.now (name_part word))) ++ homes_text table word) ++ capital_hint word
 
 -- the option is shown, and how its value is written
 abbrev pub no_value_text : OptionRow → List ℕ
@@ -48,8 +63,13 @@ no_value_text row = texts (row.name.now ∷ codes " needs a value\n" ∷ row.for
     ∷ codes "\n" ∷ takes_text row.takes ∷ [])
 
 abbrev pub bad_value_text : OptionRow → List ℕ → List ℕ
-bad_value_text row word = texts (row.form.now ∷ codes ": " ∷ row.meaning.now ∷ codes "\n"
-    ∷ takes_text row.takes ∷ sign_hint row.takes word ∷ [])
+bad_value_text row word =
+    texts (row.form.now ∷ codes ": " ∷ row.meaning.now ∷ codes "\n" ∷ []) ++ value_text row.takes (value_part word)
+
+-- two pairs that may not stand beside one another
+abbrev pub clash_text : OptionRow → List ℕ
+clash_text row = texts (codes "a later pair has the same first or the same second number\n"
+    ∷ row.form.now ∷ codes ": " ∷ row.meaning.now ∷ codes "\n" ∷ [])
 
 -- what is said of one option
 abbrev pub option_text : Said → List ℕ → List ℕ
@@ -58,6 +78,7 @@ option_text (Again row) word = texts (row.name.now ∷ codes " is given twice\n"
 option_text (TakesNone row) word = texts (row.name.now ∷ codes " takes no value\n" ∷ [])
 option_text (BadValue row) word = bad_value_text row word
 option_text (Apart row) word = texts (codes "only one of these may be given: " ∷ row.choice.now ∷ codes "\n" ∷ [])
+option_text (Clash row) word = clash_text row
 option_text (Alone row) word = texts (row.name.now ∷ codes " is only allowed with " ∷ row.with.now ∷ codes "\n" ∷ [])
 option_text _ word = []
 
@@ -65,9 +86,20 @@ option_text _ word = []
 abbrev pub whole_text : SegmentRow → List ℕ
 whole_text row = texts (codes "usage: " ∷ row.usage.now ∷ codes "\n" ∷ row.rule.now ∷ codes "\n" ∷ [])
 
-abbrev pub extra_text : SegmentRow → List ℕ
-extra_text row =
-    texts (codes "no further word is allowed here: " ∷ row.usage.now ∷ codes "\na file is named after -I file or -O file\n" ∷ [])
+-- a word that is no number may be the name of a file
+abbrev pub file_hint : List ℕ → List ℕ
+file_hint word = if is_some (number_within 0 most_number word) then [] else codes "a file is named after -I file or -O file\n"
+
+abbrev pub extra_text : SegmentRow → List ℕ → List ℕ
+extra_text row word =
+    texts (codes "no further word is allowed here: " ∷ row.usage.now ∷ codes "\n" ∷ file_hint word ∷ [])
+
+-- another program has several inputs
+abbrev pub second_hint : List ℕ → List ℕ
+second_hint first = if bytes_eq first (codes "-I") then codes "tsswitch plays several inputs, one after another\n" else []
+
+abbrev pub second_text : List ℕ → List ℕ
+second_text first = texts (codes "only one " ∷ first ∷ codes " is allowed\n" ∷ []) ++ second_hint first
 
 -- words in any form, each with its text
 module _ {W : Type 0} (text_of : W → List ℕ) where
@@ -79,14 +111,14 @@ module _ {W : Type 0} (text_of : W → List ℕ) where
       ++ homes_text table (word_or_none text_of own 1)
 
   -- what has to stand and does not, and how the segment may stand
-  abbrev pub missing_text : SegmentRow → List W → List ℕ
-  missing_text row own = wanted text_of row.options.now own ++ whole_text row
+  abbrev pub missing_text : HelpTable → SegmentRow → List W → List ℕ
+  missing_text table row own = wanted text_of row.options.now own (drop (head_of text_of table own) own) ++ whole_text row
 
   -- what is said of the options and operands of a segment
   abbrev pub text_of_said : HelpTable → SegmentRow → List W → Said → List ℕ → List ℕ
   text_of_said table row own UnknownOption word = unknown_option_text table row word
-  text_of_said table row own Extra word = extra_text row
-  text_of_said table row own Missing word = missing_text row own
+  text_of_said table row own Extra word = extra_text row word
+  text_of_said table row own Missing word = missing_text table row own
   text_of_said table row own Whole word = whole_text row
   text_of_said table row own said word = option_text said word
 
@@ -102,7 +134,7 @@ module _ {W : Type 0} (text_of : W → List ℕ) where
 
   -- what is said of names, by the first word of the segment and the one after it, and else of options
   abbrev pub text_by_said : HelpTable → List W → Fault → Said → List ℕ
-  text_by_said table own fault Second = texts (codes "only one " ∷ word_or_none text_of own 0 ∷ codes " is allowed\n" ∷ [])
+  text_by_said table own fault Second = second_text (word_or_none text_of own 0)
   text_by_said table own fault NoName = no_name_text table (word_or_none text_of own 0)
   text_by_said table own fault UnknownName = unknown_name_text table own
   text_by_said table own fault TooMany = texts (codes "a chain has at most 62 plugins\n" ∷ [])

@@ -1,12 +1,16 @@
 //! Which word of a segment is wrong, and what is wrong with it.
 ghost use Rattle.std.specs.Prelude.{◌≡◌, ◌+◌, ◌<◌, ◌^◌, IfOk, length};
+ghost use Rattle.std.specs.List.{list_any};
 ghost use Rattle.std.specs.String.{string_bytes};
+ghost use Rattle.fault_texts.specs.Clash.{clashes};
 ghost use Rattle.fault_texts.specs.FirstFault;
 
+use crate::clash::clashes;
 use crate::fits::fits;
 use crate::option_row::OptionRow;
 use crate::role::{Role, counted, is_dashed, is_flag, name_part, role_of};
 use crate::said::{Fault, Said};
+use crate::takes::Takes;
 use option_words::{WordsRule, split_at_sign};
 use std::alloc::{AllocError, Global};
 
@@ -127,11 +131,30 @@ fn named_conflict(held: Held<'_>, row: OptionRow, rest: &[String]) -> Option<Sai
     None
 }
 
-fn conflict_said(held: Held<'_>, role: Role, rest: &[String]) -> Option<Said>
-    ensures { result ≡ FirstFault.conflict_said string_bytes held.entry.options.now held.entry.all.now role rest.now }
+// Whether a later word is a pair that may not stand beside this one.
+fn later_clashes(checked: bool, takes: Takes, word: &str, rest: &[String]) -> bool
+    ensures { result ≡ list_any (λ other. clashes checked takes word.now (string_bytes other)) rest.now }
+{
+    rest.iter()
+        .any(|other| clashes(checked, takes, word, other.as_str()))
+}
+
+fn operand_conflict(all: &[String], row: OptionRow, word: &str, rest: &[String]) -> Option<Said>
+    ensures { result ≡ FirstFault.operand_conflict string_bytes all.now row word.now rest.now }
+{
+    let checked = !stands("--unchecked", all);
+    if later_clashes(checked, row.takes, word, rest) {
+        return Some(Said::Clash(row));
+    }
+    None
+}
+
+fn conflict_said(held: Held<'_>, role: Role, word: &str, rest: &[String]) -> Option<Said>
+    ensures { result ≡ FirstFault.conflict_said string_bytes held.entry.options.now held.entry.all.now role word.now rest.now }
 {
     match role {
         Role::Named(row) => named_conflict(held, row, rest),
+        Role::Operand(row) => operand_conflict(held.all, row, word, rest),
         _ => None,
     }
 }
@@ -148,7 +171,7 @@ fn said_of_word(
     match held.rule {
         WordsRule::Shape => Ok(shape_said(role, word, rest)),
         WordsRule::Value => value_said(alloc, role, word),
-        WordsRule::Conflict => Ok(conflict_said(held, role, rest)),
+        WordsRule::Conflict => Ok(conflict_said(held, role, word, rest)),
         _ => Ok(None),
     }
 }

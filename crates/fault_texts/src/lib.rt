@@ -2,6 +2,7 @@
 //! that marks the faulty word and says what may stand there goes out. The programs above use `fault_text`.
 #![tactic(auto)]
 
+mod clash;
 mod explained;
 mod fault_of;
 mod first_fault;

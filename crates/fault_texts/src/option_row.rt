@@ -17,6 +17,8 @@ pub struct OptionRow {
     pub many: bool,
     /// The segment does not go without it, or without another one of its choice.
     pub wanted: bool,
+    /// One of the options of which at least one has to be given.
+    pub in_group: bool,
     /// Options of which one alone may be given, all in one text; nothing where any may stand beside it.
     pub choice: &'static str,
     /// The option without which it does not go; nothing where it goes alone.

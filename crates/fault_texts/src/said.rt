@@ -11,7 +11,7 @@ pub(crate) enum Said {
     UnknownName,
     /// No plugin more may stand.
     TooMany,
-    /// The word is unknown option of the segment.
+    /// The word is an unknown option of the segment.
     UnknownOption,
     /// The word is an operand more than the segment takes.
     Extra,
@@ -25,6 +25,8 @@ pub(crate) enum Said {
     BadValue(OptionRow),
     /// Another option stands of those of which one alone may be given.
     Apart(OptionRow),
+    /// A pair that a later one has a number in common with.
+    Clash(OptionRow),
     /// The option stands without the one that it needs.
     Alone(OptionRow),
     /// Something is wanting.

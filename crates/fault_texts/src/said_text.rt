@@ -1,6 +1,7 @@
 //! What is said of a fault, in whole lines.
 ghost use Rattle.std.specs.Prelude.{◌≡◌, IfOk};
 ghost use Rattle.std.specs.String.{string_bytes};
+ghost use Rattle.fault_texts.specs.Lists.{option_names};
 ghost use Rattle.fault_texts.specs.SaidText;
 
 use crate::help_table::HelpTable;
@@ -11,10 +12,11 @@ use crate::option_row::OptionRow;
 use crate::put::put_all;
 use crate::role::name_part;
 use crate::said::{Fault, Said};
-use crate::segment::{row_of, word_or_none};
+use crate::segment::{head_of, row_of, word_or_none, words_from};
 use crate::segment_row::SegmentRow;
-use crate::takes_text::{sign_hint, takes_text};
+use crate::takes_text::{takes_text, value_part, value_text};
 use crate::wanted::put_wanted;
+use option_words::read_number_within;
 use std::alloc::{AllocError, Global};
 
 // A text of these parts.
@@ -77,9 +79,38 @@ fn known_options_text(alloc: Global, row: &SegmentRow) -> Result<Vec<u8>, AllocE
             "; there are:",
         ],
     )?;
-    put_options(&mut text, row.options)?;
-    put_all(&mut text, &["\n"])?;
+    let names = option_list(alloc, row.options)?;
+    text.extend_from_slice(names.as_slice())?;
+    put_all(&mut text, &["\nusage: ", row.usage, "\n"])?;
     Ok(text)
+}
+
+// The names of options; some words where there are none.
+fn option_list(alloc: Global, options: &[OptionRow]) -> Result<Vec<u8>, AllocError>
+    ensures { IfOk result (λ text. text.items ≡ SaidText.listed (option_names options.now)) }
+{
+    let mut text = Vec::new(alloc);
+    put_options(&mut text, options)?;
+    if text.is_empty() {
+        return text_of_parts(alloc, &[" none"]);
+    }
+    Ok(text)
+}
+
+// What is said of a segment's first word that is written with a small letter.
+fn capital_hint(word: &str) -> &'static str
+    ensures { result.now ≡ SaidText.capital_hint word.now }
+{
+    if word == "-i" {
+        return "-I is written with a capital letter\n";
+    }
+    if word == "-o" {
+        return "-O is written with a capital letter\n";
+    }
+    if word == "-p" {
+        return "-P is written with a capital letter\n";
+    }
+    ""
 }
 
 fn unknown_option_text(
@@ -95,14 +126,22 @@ fn unknown_option_text(
     let mut text = known_options_text(alloc, row)?;
     text.extend_from_slice(near.as_slice())?;
     text.extend_from_slice(homes.as_slice())?;
+    let hint = capital_hint(word);
+    put_all(&mut text, &[hint])?;
     Ok(text)
 }
 
-fn missing_text(alloc: Global, row: &SegmentRow, own: &[String]) -> Result<Vec<u8>, AllocError>
-    ensures { IfOk result (λ text. text.items ≡ SaidText.missing_text string_bytes row.now own.now) }
+fn missing_text(
+    alloc: Global,
+    table: &HelpTable,
+    row: &SegmentRow,
+    own: &[String],
+) -> Result<Vec<u8>, AllocError>
+    ensures { IfOk result (λ text. text.items ≡ SaidText.missing_text string_bytes table.now row.now own.now) }
 {
+    let words = words_from(own, head_of(table, own));
     let mut text = Vec::new(alloc);
-    put_wanted(&mut text, row.options, own)?;
+    put_wanted(&mut text, row.options, own, words)?;
     put_all(&mut text, &["usage: ", row.usage, "\n", row.rule, "\n"])?;
     Ok(text)
 }
@@ -122,6 +161,7 @@ fn option_text(alloc: Global, said: Said, word: &str) -> Result<Vec<u8>, AllocEr
                 &["only one of these may be given: ", row.choice, "\n"],
             )
         }
+        Said::Clash(row) => clash_text(alloc, row),
         Said::Alone(row) => text_of_parts(
             alloc,
             &[row.name, " is only allowed with ", row.with, "\n"],
@@ -149,9 +189,46 @@ fn no_value_text(alloc: Global, row: OptionRow) -> Result<Vec<u8>, AllocError>
 fn bad_value_text(alloc: Global, row: OptionRow, word: &str) -> Result<Vec<u8>, AllocError>
     ensures { IfOk result (λ text. text.items ≡ SaidText.bad_value_text row word.now) }
 {
-    let form = takes_text(row.takes);
-    let hint = sign_hint(row.takes, word);
-    text_of_parts(alloc, &[row.form, ": ", row.meaning, "\n", form, hint])
+    let value = value_text(alloc, row.takes, value_part(word))?;
+    let mut text = text_of_parts(alloc, &[row.form, ": ", row.meaning, "\n"])?;
+    put_all(&mut text, &[value.as_str()])?;
+    Ok(text)
+}
+
+// Two pairs that may not stand beside one another.
+fn clash_text(alloc: Global, row: OptionRow) -> Result<Vec<u8>, AllocError>
+    ensures { IfOk result (λ text. text.items ≡ SaidText.clash_text row) }
+{
+    let said = "a later pair has the same first or the same second number\n";
+    text_of_parts(alloc, &[said, row.form, ": ", row.meaning, "\n"])
+}
+
+// A word that is no number may be the name of a file.
+fn file_hint(word: &str) -> &'static str
+    ensures { result.now ≡ SaidText.file_hint word.now }
+{
+    match read_number_within(word, 0, u64::MAX) {
+        Some(_) => "",
+        None => "a file is named after -I file or -O file\n",
+    }
+}
+
+fn extra_text(alloc: Global, row: &SegmentRow, word: &str) -> Result<Vec<u8>, AllocError>
+    ensures { IfOk result (λ text. text.items ≡ SaidText.extra_text row.now word.now) }
+{
+    let said = "no further word is allowed here: ";
+    let hint = file_hint(word);
+    text_of_parts(alloc, &[said, row.usage, "\n", hint])
+}
+
+// Another program has several inputs.
+fn second_hint(first: &str) -> &'static str
+    ensures { result.now ≡ SaidText.second_hint first.now }
+{
+    if first == "-I" {
+        return "tsswitch plays several inputs, one after another\n";
+    }
+    ""
 }
 
 // What is said of a segment of the table.
@@ -167,14 +244,8 @@ fn segment_text(
     let word = word_or_none(own, fault.at);
     match fault.said {
         Said::UnknownOption => unknown_option_text(alloc, table, row, word),
-        Said::Extra => {
-            let end = "\na file is named after -I file or -O file\n";
-            text_of_parts(
-                alloc,
-                &["no further word is allowed here: ", row.usage, end],
-            )
-        }
-        Said::Missing => missing_text(alloc, row, own),
+        Said::Extra => extra_text(alloc, row, word),
+        Said::Missing => missing_text(alloc, table, row, own),
         Said::Whole => text_of_parts(alloc, &["usage: ", row.usage, "\n", row.rule, "\n"]),
         said => option_text(alloc, said, word),
     }
@@ -195,6 +266,15 @@ fn row_text(
     }
 }
 
+fn second_text(alloc: Global, first: &str) -> Result<Vec<u8>, AllocError>
+    ensures { IfOk result (λ text. text.items ≡ SaidText.second_text first.now) }
+{
+    let hint = second_hint(first);
+    let mut text = text_of_parts(alloc, &["only one ", first, " is allowed\n"])?;
+    put_all(&mut text, &[hint])?;
+    Ok(text)
+}
+
 /// What is said of a fault.
 pub(crate) fn said_text(
     alloc: Global,
@@ -206,7 +286,7 @@ pub(crate) fn said_text(
 {
     let first = word_or_none(own, 0);
     match fault.said {
-        Said::Second => text_of_parts(alloc, &["only one ", first, " is allowed\n"]),
+        Said::Second => second_text(alloc, first),
         Said::NoName => no_name_text(alloc, table, first),
         Said::UnknownName => unknown_name_text(alloc, table, own),
         Said::TooMany => text_of_parts(alloc, &["a chain has at most 62 plugins\n"]),

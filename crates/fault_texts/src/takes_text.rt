@@ -1,11 +1,14 @@
 //! What is said of the form of a value.
-ghost use Rattle.std.specs.Prelude.{◌≡◌, ◌<◌};
+ghost use Rattle.std.specs.Prelude.{◌≡◌, ◌<◌, ◌++◌, IfOk};
+ghost use Rattle.std.specs.String.{string_bytes};
 ghost use Rattle.fault_texts.specs.TakesText;
 
+use crate::fits::fits;
 use crate::role::is_dashed;
 use crate::sign::Sign;
 use crate::takes::Takes;
 use option_words::split_at_sign;
+use std::alloc::{AllocError, Global};
 
 /// How such a value is written.
 pub(crate) fn takes_text(takes: Takes) -> &'static str
@@ -41,27 +44,98 @@ fn pairs_text(sign: Sign) -> &'static str
     }
 }
 
-/// What is said where the other sign stands between two numbers.
-pub(crate) fn sign_hint(takes: Takes, word: &str) -> &'static str
-    ensures { result.now ≡ TakesText.sign_hint takes word.now }
+// What is said where the other sign stands between two numbers.
+fn sign_hint(takes: Takes, value: &str) -> &'static str
+    ensures { result.now ≡ TakesText.sign_hint takes value.now }
 {
     match takes {
-        Takes::Pair(sign, _, _) | Takes::Pairs(sign, _, _) => hint_of_sign(sign, word),
+        Takes::Pair(sign, _, _) | Takes::Pairs(sign, _, _) => hint_by_sign(sign, value),
         _ => "",
     }
 }
 
-fn hint_of_sign(sign: Sign, word: &str) -> &'static str
-    ensures { result.now ≡ TakesText.hint_of_sign sign word.now }
+fn hint_by_sign(sign: Sign, value: &str) -> &'static str
+    ensures { result.now ≡ TakesText.hint_by_sign sign value.now }
 {
-    if is_dashed(word) {
-        return "";
-    }
     match sign {
-        Sign::Slash if has_sign(word, '=') => "= is written here where / is needed\n",
-        Sign::Equals if has_sign(word, '/') => "/ is written here where = is needed\n",
+        Sign::Slash if has_sign(value, '=') => "= is written here where / is needed\n",
+        Sign::Equals if has_sign(value, '/') => "/ is written here where = is needed\n",
         _ => "",
     }
+}
+
+// The same form without a range.
+fn wide(takes: Takes) -> Takes
+    ensures { result ≡ TakesText.wide takes }
+{
+    let any = (0, u64::MAX);
+    match takes {
+        Takes::Number(_, _) => Takes::Number(0, u64::MAX),
+        Takes::Ranges(_, _) => Takes::Ranges(0, u64::MAX),
+        Takes::Pair(sign, _, _) => Takes::Pair(sign, any, any),
+        Takes::Pairs(sign, _, _) => Takes::Pairs(sign, any, any),
+        Takes::Bytes(_, _) => Takes::Bytes(0, usize::MAX),
+        other => other,
+    }
+}
+
+fn pair_ranges(alloc: Global, first: (u64, u64), second: (u64, u64)) -> Result<String, AllocError>
+    ensures { IfOk result (λ text. string_bytes text ≡ TakesText.pair_ranges first second) }
+{
+    let (least, most) = first;
+    let (low, high) = second;
+    format!(in alloc;
+        "the range of the first number is {least} to {most}, of the second {low} to {high}\n"
+    )
+}
+
+// What is said where a value has its form and not its range.
+fn range_text(alloc: Global, takes: Takes) -> Result<String, AllocError>
+    ensures { IfOk result (λ text. string_bytes text ≡ TakesText.range_text takes) }
+{
+    match takes {
+        Takes::Number(least, most) => format!(in alloc; "the range is {least} to {most}\n"),
+        Takes::Ranges(least, most) => {
+            format!(in alloc; "the range of each number is {least} to {most}\n")
+        }
+        Takes::Pair(_, first, second) | Takes::Pairs(_, first, second) => {
+            pair_ranges(alloc, first, second)
+        }
+        Takes::Bytes(least, most) => { format!(in alloc; "the range is {least} to {most} bytes\n") }
+        Takes::Nothing | Takes::Choice(_) | Takes::Text => Ok(String::new(alloc)),
+    }
+}
+
+// How the value has to be written.
+fn form_text(alloc: Global, takes: Takes, value: &str) -> Result<String, AllocError>
+    ensures { IfOk result (λ text. string_bytes text ≡ TakesText.form_text takes value.now) }
+{
+    let mut text = String::from_str(alloc, takes_text(takes))?;
+    text.push_str(sign_hint(takes, value))?;
+    Ok(text)
+}
+
+/// The value of a word, which in an option's own word stands after `=`.
+pub(crate) fn value_part(word: &str) -> &str
+    ensures { result.now ≡ TakesText.value_part word.now }
+{
+    if !is_dashed(word) {
+        return word;
+    }
+    match split_at_sign(word, '=') {
+        Some((_, value)) => value,
+        None => "",
+    }
+}
+
+/// What is said of a wrong value: its range where that alone is wrong, and else its form.
+pub(crate) fn value_text(alloc: Global, takes: Takes, value: &str) -> Result<String, AllocError>
+    ensures { IfOk result (λ text. string_bytes text ≡ TakesText.value_text takes value.now) }
+{
+    if fits(alloc, wide(takes), value)? {
+        return range_text(alloc, takes);
+    }
+    form_text(alloc, takes, value)
 }
 
 fn has_sign(word: &str, sign: char) -> bool
