@@ -54,8 +54,19 @@ pub struct OsDesk {
     report_faults: u64,
     aside: bool,
 
-    /// The last call for an input, an output or a file that failed; contracts do not see it.
+    /// How many inputs and how many files were asked for; contracts see none of what follows.
+    inputs_asked: u64,
+    files_asked: u64,
+
+    /// The last call for an input, an output or a file that failed; of inputs the first.
     trouble: Option<Trouble>,
+
+    /// The first bytes of the input that was closed last.
+    head: Vec<u8>,
+
+    /// The bytes of the file that was read last, where these are kept.
+    keeps_file: bool,
+    file: Option<Vec<u8>>,
 }
 
 impl Model for OsDesk {
@@ -86,7 +97,12 @@ impl OsDesk {
             write_faults: 0,
             report_faults: 0,
             aside: false,
+            inputs_asked: 0,
+            files_asked: 0,
             trouble: None,
+            head: Vec::new(rt.alloc()),
+            keeps_file: false,
+            file: None,
         }
     }
 
@@ -99,20 +115,59 @@ impl OsDesk {
         Ok(())
     }
 
-    /// The last call for an input, an output or a file that failed, where one did.
+    /// The last call for an input, an output or a file that failed, where one did; of several inputs the first.
     pub fn trouble(&self) -> Option<Trouble> {
         self.trouble
     }
 
-    /// Keeps why a call failed.
-    fn note(&mut self, purpose: Purpose, reason: Reason)
-        ensures { self.new ≡ self.old }
-    {
-        self.trouble = Some(Trouble { purpose, reason });
+    /// The first bytes of the input that was closed last.
+    pub fn head(&self) -> &[u8] {
+        self.head.as_slice()
     }
 
-    /// A source of a name that opened.
-    fn source(&self, named: &str) -> Result<OsSource, Reason>
+    /// From now on the bytes of the file that was read last are kept.
+    pub fn keep_file(&mut self)
+        ensures { self.new ≡ self.old }
+    {
+        self.keeps_file = true;
+    }
+
+    /// These bytes, where they are kept.
+    pub fn file(&self) -> Option<&[u8]> {
+        match &self.file {
+            Some(bytes) => Some(bytes.as_slice()),
+            None => None,
+        }
+    }
+
+    /// Keeps why a call failed. An input before another one is the one by which a run ends.
+    fn note(&mut self, purpose: Purpose, number: u64, reason: Reason)
+        ensures { self.new ≡ self.old }
+    {
+        if let (Purpose::Input, Some(first)) = (purpose, self.trouble) {
+            if is_earlier(first, number) {
+                return;
+            }
+        }
+        self.trouble = Some(Trouble {
+            purpose,
+            number,
+            reason,
+        });
+    }
+
+    /// Keeps the bytes of a file, where that is wanted. If memory runs out, none are.
+    fn note_file(&mut self, bytes: &[u8])
+        ensures { self.new ≡ self.old }
+    {
+        self.file = None;
+        if self.keeps_file {
+            self.file = Vec::from_slice(self.alloc, bytes).ok();
+        }
+    }
+
+    /// A source of a name that opened, with this number.
+    fn source(&self, named: &str, number: u64) -> Result<OsSource, Reason>
         ensures { IfOk result (λ s. s ≡ 0) }
     {
         let (from, told) = if named.is_empty() {
@@ -132,6 +187,8 @@ impl OsDesk {
             file,
             faults: 0,
             reason: None,
+            number,
+            head: Vec::new(self.alloc),
         })
     }
 
@@ -212,6 +269,14 @@ fn named_behind(
     Ok(found)
 }
 
+/// Whether this is an input before the one of this number.
+fn is_earlier(first: Trouble, number: u64) -> bool {
+    match first.purpose {
+        Purpose::Input => first.number < number,
+        Purpose::Output | Purpose::File => false,
+    }
+}
+
 /// The regular file of a name; `None` where there is none.
 fn regular(rt: &HostRuntime, named: &str) -> Option<FileId> {
     FileId::of(&metadata(rt, named).ok()?)
@@ -248,7 +313,8 @@ impl Desk for OsDesk {
         if self.inputs.reserve(1).is_err() {
             return Err(OpenFault::NoMemory);
         }
-        match self.source(name.unwrap_or("")) {
+        self.inputs_asked = one_more(self.inputs_asked);
+        match self.source(name.unwrap_or(""), self.inputs_asked) {
             Ok(source) => {
                 if let Some(id) = source.file {
                     if is_output(&mut self.outputs, id) {
@@ -257,8 +323,10 @@ impl Desk for OsDesk {
                             file: _,
                             faults: _,
                             reason: _,
+                            number,
+                            head: _,
                         } = source;
-                        self.note(Purpose::Input, Reason::InUse);
+                        self.note(Purpose::Input, number, Reason::InUse);
                         self.read_faults = one_more(self.read_faults);
                         return Err(OpenFault::Failed);
                     }
@@ -267,7 +335,7 @@ impl Desk for OsDesk {
                 Ok(source)
             }
             Err(reason) => {
-                self.note(Purpose::Input, reason);
+                self.note(Purpose::Input, self.inputs_asked, reason);
                 self.read_faults = one_more(self.read_faults);
                 Err(OpenFault::Failed)
             }
@@ -307,7 +375,7 @@ impl Desk for OsDesk {
                 Ok(sink)
             }
             Err(reason) => {
-                self.note(Purpose::Output, reason);
+                self.note(Purpose::Output, 1, reason);
                 self.write_faults = one_more(self.write_faults);
                 Err(OpenFault::Failed)
             }
@@ -323,9 +391,12 @@ impl Desk for OsDesk {
             file,
             faults,
             reason,
+            number,
+            head,
         } = input;
+        self.head = head;
         if let Some(reason) = reason {
-            self.note(Purpose::Input, reason);
+            self.note(Purpose::Input, number, reason);
         }
         if let Some(id) = file {
             self.forget(id);
@@ -347,7 +418,7 @@ impl Desk for OsDesk {
             reason,
         } = output;
         if let Some(reason) = reason {
-            self.note(Purpose::Output, reason);
+            self.note(Purpose::Output, 1, reason);
         }
         let wanted = match file {
             Some(id) => self.forget_output(id),
@@ -375,7 +446,8 @@ impl Desk for OsDesk {
             (Unit {0}) }
         ensures aside { self.new.aside ≡ self.old.aside }
     {
-        let read = match self.source(name.unwrap_or("")) {
+        self.files_asked = one_more(self.files_asked);
+        let read = match self.source(name.unwrap_or(""), self.files_asked) {
             Ok(mut source) => {
                 let read = read_to_end(self.alloc, &mut source, most);
                 let OsSource {
@@ -383,19 +455,23 @@ impl Desk for OsDesk {
                     file: _,
                     faults: _,
                     reason,
+                    number,
+                    head: _,
                 } = source;
                 if let Some(reason) = reason {
-                    self.note(Purpose::File, reason);
+                    self.note(Purpose::File, number, reason);
                 }
                 read
             }
             Err(reason) => {
-                self.note(Purpose::File, reason);
+                self.note(Purpose::File, self.files_asked, reason);
                 Err(FileFault::Failed)
             }
         };
-        if let Err(FileFault::Failed) = read {
-            self.read_faults = one_more(self.read_faults);
+        match &read {
+            Ok(bytes) => self.note_file(bytes.as_slice()),
+            Err(FileFault::Failed) => self.read_faults = one_more(self.read_faults),
+            Err(_) => {}
         }
         read
     }

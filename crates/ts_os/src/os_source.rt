@@ -10,6 +10,9 @@ use std::io::Stdin;
 use std::marker::Model;
 use ts_outside::{Failed, Source, one_more};
 
+/// How many bytes a source keeps of those that came first: five packets in each form of a file.
+const HEAD_SIZE: usize = 1024;
+
 /// What a source reads.
 #[derive(Drop)]
 pub(crate) enum Opened {
@@ -27,6 +30,12 @@ pub struct OsSource {
 
     /// Why the last read failed.
     pub(crate) reason: Option<Reason>,
+
+    /// Which source of its desk it is, from 1 on.
+    pub(crate) number: u64,
+
+    /// The bytes that came first, by which the form of a file may be seen; contracts do not see them.
+    pub(crate) head: Vec<u8>,
 }
 
 impl Model for OsSource {
@@ -35,6 +44,19 @@ impl Model for OsSource {
     ghost Value = { ℕ };
 
     ghost view = { λ s. s.faults };
+}
+
+impl OsSource {
+    /// Keeps the bytes that came first. If memory runs out, they are fewer.
+    fn keep_head(&mut self, came: &[u8])
+        ensures { self.new ≡ self.old }
+    {
+        if self.head.len() < HEAD_SIZE {
+            let room = HEAD_SIZE - self.head.len();
+            let kept = came.len().min(room);
+            let _ = self.head.extend_from_slice(&came[..kept]);
+        }
+    }
 }
 
 impl Source for OsSource {
@@ -52,7 +74,10 @@ impl Source for OsSource {
             Opened::Stream(stream) => read_some(stream, into),
         };
         match moved {
-            Ok(count) => Ok(count),
+            Ok(count) => {
+                self.keep_head(&into[..count]);
+                Ok(count)
+            }
             Err(reason) => {
                 self.reason = Some(reason);
                 self.faults = one_more(self.faults);
