@@ -23,9 +23,13 @@ module _ {W : Type 0} (text_of : W → List ℕ) where
       then ((texts (codes "   " ∷ []) ++ blanks_below text_of (take at own)) ++ below 94 (word_or_none text_of own at)) ++ texts (codes "\n" ∷ [])
       else []
 
+  -- both
+  abbrev pub marked_words : List W → ℕ → List ℕ
+  marked_words own at = words_line own ++ mark_line own at
+
   -- the lines of a segment and its fault
   abbrev pub fault_lines : HelpTable → List W → Fault → List ℕ
-  fault_lines table own fault = (words_line own ++ mark_line own fault.at) ++ said_text text_of table own fault
+  fault_lines table own fault = marked_words own fault.at ++ said_text text_of table own fault
 
   -- the segment that begins with this word and breaks this rule: its words, the mark, and what is said
   abbrev pub text_of_segment : HelpTable → List W → WordsRule → List ℕ

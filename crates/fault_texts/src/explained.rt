@@ -1,3 +1,4 @@
+//! The lines that a refused command line is shown.
 ghost use Rattle.std.specs.Prelude.{◌≡◌, IfOk};
 ghost use Rattle.std.specs.String.{string_bytes};
 ghost use Rattle.fault_texts.specs.FaultText;
@@ -36,6 +37,16 @@ fn mark_line(alloc: Global, own: &[String], at: usize) -> Result<Vec<u8>, AllocE
     Ok(text)
 }
 
+/// Words in one line, and below them a line that marks the one of this number, where there is one. An `AllocError` leaves nothing.
+pub fn marked_words(alloc: Global, own: &[String], at: usize) -> Result<Vec<u8>, AllocError>
+    ensures { IfOk result (λ text. text.items ≡ FaultText.marked_words string_bytes own.now at) }
+{
+    let mark = mark_line(alloc, own, at)?;
+    let mut text = words_line(alloc, own)?;
+    text.extend_from_slice(mark.as_slice())?;
+    Ok(text)
+}
+
 /// What a refused command line is shown: the words of the segment that breaks a rule, a mark below the one that is wrong, and
 /// what may stand there. `at` is the number of the segment's first word, from 0, and the words are given without the
 /// program's name. An `AllocError` leaves nothing.
@@ -50,10 +61,8 @@ pub fn fault_text(
 {
     let own = segment_of(table, words_from(words, at));
     let fault = fault_of(alloc, table, own, rule)?;
-    let mark = mark_line(alloc, own, fault.at)?;
     let said = said_text(alloc, table, own, fault)?;
-    let mut text = words_line(alloc, own)?;
-    text.extend_from_slice(mark.as_slice())?;
+    let mut text = marked_words(alloc, own, fault.at)?;
     text.extend_from_slice(said.as_slice())?;
     Ok(text)
 }

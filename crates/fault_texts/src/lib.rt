@@ -1,5 +1,6 @@
 //! What a refused command line is shown beyond its one line: a table of options, the words and the broken rule come in, a text
-//! that marks the faulty word and says what may stand there goes out. The programs above use `fault_text`.
+//! that marks the faulty word and says what may stand there goes out. The programs above use `fault_text`, and `marked_words` where
+//! they have no such table.
 #![tactic(auto)]
 
 mod clash;
@@ -25,7 +26,7 @@ mod takes_text;
 mod tsp_options;
 mod wanted;
 
-pub use explained::fault_text;
+pub use explained::{fault_text, marked_words};
 pub use help_table::HelpTable;
 pub use option_row::OptionRow;
 pub use segment_row::SegmentRow;
