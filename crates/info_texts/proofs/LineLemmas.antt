@@ -30,3 +30,8 @@ unfolding head_parts
 head_is packets bytes bytes_new id id_new rate rate_new a b c =
     ap (λ (n : ℕ). head_parts packets n id rate) a
     ∙ (ap (λ (x : List ℕ). head_parts packets bytes_new x rate) b ∙ ap (head_parts packets bytes_new id_new) c)
+
+-- the head of a component's line, whose name is known
+abbrev pub kind_parts : ℕ → ℕ → ℕ → List ℕ → List ℕ
+kind_parts pid service kind name = codes "component " ++ (decimal pid ++ (codes " service " ++ (decimal service ++ (codes " stream_type " ++ (decimal kind
+    ++ (codes " (" ++ (name ++ codes ")")))))))

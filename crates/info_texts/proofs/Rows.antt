@@ -5,8 +5,8 @@ use Rattle.hex.specs.Hex.{encode_with}
 use Rattle.std.specs.Str.{chars, is_utf8}
 use lib.Utf8.{encode}
 use Rattle.plugin_notes.specs.PidPackets.{numbers_below}
-use Rattle.info_texts.specs.InfoJson.{array, bytes_field, component_json, stream_json, whole_json}
-use Rattle.info_texts.specs.InfoTexts.{component_text, hundredths, percent, pid_text, portion_text, sdt_texts, service_head, service_tail, shown}
+use Rattle.info_texts.specs.InfoJson.{array, bytes_field, component_json, stream_json, type_json, whole_json}
+use Rattle.info_texts.specs.InfoTexts.{component_text, hundredths, percent, pid_text, portion_text, sdt_texts, service_head, service_tail, shown, stream_head, type_text}
 use Rattle.info_texts.specs.ServiceNames.{name_in}
 
 -- shares are rounded down, and any share of nothing is 0
@@ -42,24 +42,46 @@ quote-row = refl
 abbrev body : List ℕ
 body = 0x01 ∷ 0x03 ∷ (codes "BBC" ++ (0x01 ∷ codes "1"))
 
-head-row : service_head 7 (Some body) ≡ codes "service 7 type 1 name \"1\" provider \"BBC\""
+head-row : service_head 7 (Some body) ≡ codes "service 7 type 1 (digital television) name \"1\" provider \"BBC\""
 unfolding digits
 head-row = refl
 
 cut-row : name_in (Some (0x01 ∷ 0x01 ∷ 0x41 ∷ 0x05 ∷ 0x41 ∷ [])) ≡ None
 cut-row = refl
 
-tail-row : service_tail 4096 None (portion_text (record { whole = 4; rate = Some 1000 }) 3) ≡ codes " pmt 4096 pcr none packets 3 share 75.00% bitrate 750"
+tail-row : service_tail 4096 None (portion_text (record { whole = 4; extent = 4; rate = Some 1000 }) 3) ≡ codes " pmt 4096 pcr none packets 3 share 75.00% bitrate 750"
 unfolding digits
 tail-row = refl
 
+-- 1000 bits pass in a second and half of the positions were dropped: 4 packets among 8 positions have half of these
+dropped-row : portion_text (record { whole = 4; extent = 8; rate = Some 1000 }) 3 ≡ codes " packets 3 share 75.00% bitrate 375"
+unfolding digits
+dropped-row = refl
+
+dropped-whole : stream_head (record { packets = 4; extent = 8; stream_id = Some 1; rate = Some 1000; nulls = 0; errored = 0; scrambled = 0; faults = 0 })
+    ≡ codes "stream packets 4 bytes 752 transport_stream_id 1 bitrate 500"
+unfolding digits
+dropped-whole = refl
+
+-- service types: HEVC of ultra-high definition, one that no standard defines, and none
+type-row : type_text (Some 0x20) ≡ codes "32 (HEVC UHD digital television)"
+unfolding digits
+type-row = refl
+
+type-other : type_text (Some 0x80) ≡ codes "128 (unknown)"
+unfolding digits
+type-other = refl
+
+type-none : type_text None ≡ codes "none"
+type-none = refl
+
 -- a component that two services have, and a PID of a table, without a rate
-component-row : component_text (record { whole = 8; rate = None }) 256 1 27 (codes " codec AVC") (record { packets = 4; scrambled = 1; faults = 2 }) 2
+component-row : component_text (record { whole = 8; extent = 8; rate = None }) 256 1 27 (codes " codec AVC") (record { packets = 4; scrambled = 1; faults = 2 }) 2
     ≡ codes "component 256 service 1 stream_type 27 (AVC video) codec AVC packets 4 share 50.00% bitrate none scrambled 1 faults 2 shared 2"
 unfolding digits
 component-row = refl
 
-pid-row : pid_text 17 (codes "SDT") (portion_text (record { whole = 8; rate = None }) 1) (record { packets = 1; scrambled = 0; faults = 0 })
+pid-row : pid_text 17 (codes "SDT") (portion_text (record { whole = 8; extent = 8; rate = None }) 1) (record { packets = 1; scrambled = 0; faults = 0 })
     ≡ codes "pid 17 (SDT) packets 1 share 12.50% bitrate none scrambled 0 faults 0"
 unfolding digits
 pid-row = refl
@@ -94,14 +116,26 @@ json-quote = refl
 json-none : bytes_field (codes "name") None ≡ codes "\"name\":null"
 json-none = refl
 
+-- a service type with its name, one without a name, and none
+json-type : type_json (Some 2) ≡ codes "2,\"type_name\":\"digital radio sound\""
+unfolding digits
+json-type = refl
+
+json-type_other : type_json (Some 0x80) ≡ codes "128,\"type_name\":null"
+unfolding digits
+json-type_other = refl
+
+json-type_none : type_json None ≡ codes "null,\"type_name\":null"
+json-type_none = refl
+
 -- a component with a language and no codec, which two services have, without a rate
-json-component : component_json (record { whole = 8; rate = None }) 256 3 (record { tag = 0x0A; body = codes "eng" ++ (0 ∷ []) } ∷ []) (record { packets = 4; scrambled = 1; faults = 2 }) 2
+json-component : component_json (record { whole = 8; extent = 8; rate = None }) 256 3 (record { tag = 0x0A; body = codes "eng" ++ (0 ∷ []) } ∷ []) (record { packets = 4; scrambled = 1; faults = 2 }) 2
     ≡ codes "{\"pid\":256,\"stream_type\":3,\"stream_type_name\":\"MPEG-1 audio\",\"languages\":[\"eng\"],\"codecs\":[],\"packets\":4,\"bitrate\":null,\"scrambled\":1,\"faults\":2,\"services\":2}"
 unfolding digits numbers_below
 json-component = refl
 
 -- a stream without tables
-json-whole : whole_json (stream_json (record { packets = 2; stream_id = None; rate = None; nulls = 2; errored = 0; scrambled = 0; faults = 0 })) (codes "null") (array []) (array [])
+json-whole : whole_json (stream_json (record { packets = 2; extent = 2; stream_id = None; rate = None; nulls = 2; errored = 0; scrambled = 0; faults = 0 })) (codes "null") (array []) (array [])
     ≡ codes "{\"stream\":{\"packets\":2,\"bytes\":376,\"transport_stream_id\":null,\"bitrate\":null,\"nulls\":2,\"errored\":0,\"scrambled\":0,\"faults\":0},\"sdt_transport_stream_id\":null,\"services\":[],\"pids\":[]}"
 unfolding digits
 json-whole = refl

@@ -8,7 +8,7 @@ use Rattle.ts_bits.specs.TaggedBody.{TaggedBody}
 use Rattle.ts_fields.specs.Texts.{text_of}
 use Rattle.ts_packet.specs.declared.numbers.TheConstants.{PACKET_SIZE}
 use Rattle.plugin_notes.specs.PidPackets.{numbers_below}
-use Rattle.info_texts.specs.InfoNames.{codec_names, stream_type_names, text_for}
+use Rattle.info_texts.specs.InfoNames.{codec_names, service_type_names, stream_type_names, text_for}
 use Rattle.info_texts.specs.InfoTexts.{hex_text, is_entry, is_plain, language_step, rate_part}
 use Rattle.info_texts.specs.ServiceNames.{name_in, provider_in, type_in}
 use Rattle.info_texts.specs.declared.pid_numbers.PidNumbers.{PidNumbers}
@@ -66,7 +66,7 @@ abbrev pub text_or_hex : List ℕ → Option (List ℕ) → List ℕ
 text_or_hex bytes None = quoted_hex bytes
 text_or_hex bytes (Some text) = if list_all is_plain text then quoted text else quoted_hex bytes
 
--- the part of the stream's bit rate for some of all its packets, or `null`
+-- the bit rate of some packets among these positions, or `null`
 abbrev pub rate_json : Option ℕ → ℕ → ℕ → List ℕ
 rate_json None part whole = codes "null"
 rate_json (Some rate) part whole = decimal (rate_part rate part whole)
@@ -74,7 +74,7 @@ rate_json (Some rate) part whole = decimal (rate_part rate part whole)
 -- `"packets":<n>,"bitrate":<n>`
 abbrev pub portion_json : Scene → ℕ → List ℕ
 portion_json scene packets = codes "\"packets\":"
-    ++ (decimal packets ++ (codes ",\"bitrate\":" ++ rate_json scene.rate packets scene.whole))
+    ++ (decimal packets ++ (codes ",\"bitrate\":" ++ rate_json scene.rate packets scene.extent))
 
 -- `,"scrambled":<n>,"faults":<n>`
 abbrev pub troubles_json : PidNumbers → List ℕ
@@ -83,7 +83,7 @@ troubles_json numbers = codes ",\"scrambled\":" ++ (decimal numbers.scrambled ++
 -- the first half of the object of the stream: `{"packets":<n>,"bytes":<n>,"transport_stream_id":<id>,"bitrate":<n>`
 abbrev pub stream_head : StreamNumbers → List ℕ
 stream_head s = codes "{\"packets\":" ++ (decimal s.packets ++ (codes ",\"bytes\":" ++ (decimal (s.packets * PACKET_SIZE)
-    ++ (codes ",\"transport_stream_id\":" ++ (number_or_null s.stream_id ++ (codes ",\"bitrate\":" ++ number_or_null s.rate))))))
+    ++ (codes ",\"transport_stream_id\":" ++ (number_or_null s.stream_id ++ (codes ",\"bitrate\":" ++ rate_json s.rate s.packets s.extent))))))
 
 -- its second half: `,"nulls":<n>,"errored":<n>,"scrambled":<n>,"faults":<n>}`
 abbrev pub stream_tail : StreamNumbers → List ℕ
@@ -94,9 +94,14 @@ stream_tail s = codes ",\"nulls\":" ++ (decimal s.nulls ++ (codes ",\"errored\":
 abbrev pub stream_json : StreamNumbers → List ℕ
 stream_json s = stream_head s ++ stream_tail s
 
--- `{"id":<n>,"type":<n>,` name and provider, from the body of its service_descriptor
+-- `<n>,"type_name":<name>` of a service_type
+abbrev pub type_json : Option ℕ → List ℕ
+type_json None = codes "null,\"type_name\":null"
+type_json (Some kind) = decimal kind ++ (codes ",\"type_name\":" ++ name_or_null (text_for service_type_names kind))
+
+-- `{"id":<n>,"type":<n>,"type_name":<name>,` name and provider, from the body of its service_descriptor
 abbrev pub service_head : ℕ → Option (List ℕ) → List ℕ
-service_head id body = codes "{\"id\":" ++ (decimal id ++ (codes ",\"type\":" ++ (number_or_null (type_in body)
+service_head id body = codes "{\"id\":" ++ (decimal id ++ (codes ",\"type\":" ++ (type_json (type_in body)
     ++ (codes "," ++ (bytes_field (codes "name") (name_in body) ++ (codes "," ++ bytes_field (codes "provider") (provider_in body)))))))
 
 -- `,"pmt":<pid>,"pcr":<pid>,` its share, and `,"components":<array>}`

@@ -7,7 +7,7 @@ use Rattle.ts_bits.specs.TaggedBody.{TaggedBody}
 use Rattle.ts_fields.specs.Texts.{text_of}
 use Rattle.ts_packet.specs.declared.numbers.TheConstants.{PACKET_SIZE}
 use Rattle.plugin_notes.specs.PidPackets.{numbers_below}
-use Rattle.info_texts.specs.InfoNames.{codec_names, stream_type_names, text_for}
+use Rattle.info_texts.specs.InfoNames.{codec_names, service_type_names, stream_type_names, text_for}
 use Rattle.info_texts.specs.ServiceNames.{name_in, provider_in, type_in}
 use Rattle.info_texts.specs.declared.pid_numbers.PidNumbers.{PidNumbers}
 use Rattle.info_texts.specs.declared.scene.Scene.{Scene}
@@ -49,11 +49,12 @@ hundredths part whole = if whole == 0 then 0 else part * 10000 / whole
 abbrev pub percent : ℕ → List ℕ
 percent h = decimal (h / 100) ++ (codes "." ++ (decimal (h / 10 % 10) ++ (decimal (h % 10) ++ codes "%")))
 
--- the part of the stream's bit rate for some of all its packets, rounded down, in bits per second
+-- The bit rate of some packets among these positions: their bits over the time that the positions take, of which so
+-- many bits pass in a second. Rounded down, in bits per second.
 abbrev pub rate_part : ℕ → ℕ → ℕ → ℕ
 rate_part rate part whole = if whole == 0 then 0 else rate * part / whole
 
--- the part of the stream's bit rate, or `none`
+-- the bit rate of some packets among these positions, or `none`
 abbrev pub rate_text : Option ℕ → ℕ → ℕ → List ℕ
 rate_text None part whole = codes "none"
 rate_text (Some rate) part whole = decimal (rate_part rate part whole)
@@ -61,12 +62,12 @@ rate_text (Some rate) part whole = decimal (rate_part rate part whole)
 -- ` packets <n> share <percent> bitrate <bits per second>`
 abbrev pub portion_text : Scene → ℕ → List ℕ
 portion_text scene packets = codes " packets " ++ (decimal packets ++ (codes " share " ++ (percent (hundredths packets scene.whole)
-    ++ (codes " bitrate " ++ rate_text scene.rate packets scene.whole))))
+    ++ (codes " bitrate " ++ rate_text scene.rate packets scene.extent))))
 
 -- the first half of the line of the stream: `stream packets <n> bytes <n> transport_stream_id <id> bitrate <n>`
 abbrev pub stream_head : StreamNumbers → List ℕ
 stream_head s = codes "stream packets " ++ (decimal s.packets ++ (codes " bytes " ++ (decimal (s.packets * PACKET_SIZE)
-    ++ (codes " transport_stream_id " ++ (number_or_none s.stream_id ++ (codes " bitrate " ++ number_or_none s.rate))))))
+    ++ (codes " transport_stream_id " ++ (number_or_none s.stream_id ++ (codes " bitrate " ++ rate_text s.rate s.packets s.extent))))))
 
 -- its second half: ` nulls <n> share <percent> errored <n> scrambled <n> faults <n>`
 abbrev pub stream_tail : StreamNumbers → List ℕ
@@ -84,9 +85,19 @@ sdt_texts None sdt = []
 sdt_texts (Some pat) None = []
 sdt_texts (Some pat) (Some sdt) = if pat == sdt then [] else (codes "sdt of transport_stream_id " ++ decimal sdt) ∷ []
 
--- `service <id> type <n> name <text> provider <text>`, from the body of its service_descriptor
+-- a name, or `unknown`
+abbrev pub name_or_unknown : Option (List ℕ) → List ℕ
+name_or_unknown None = codes "unknown"
+name_or_unknown (Some name) = name
+
+-- a service_type with its name: `<n> (<name>)`, or `none`
+abbrev pub type_text : Option ℕ → List ℕ
+type_text None = codes "none"
+type_text (Some kind) = decimal kind ++ (codes " (" ++ (name_or_unknown (text_for service_type_names kind) ++ codes ")"))
+
+-- `service <id> type <n> (<name>) name <text> provider <text>`, from the body of its service_descriptor
 abbrev pub service_head : ℕ → Option (List ℕ) → List ℕ
-service_head id body = codes "service " ++ (decimal id ++ (codes " type " ++ (number_or_none (type_in body)
+service_head id body = codes "service " ++ (decimal id ++ (codes " type " ++ (type_text (type_in body)
     ++ (codes " name " ++ (shown_or_none (name_in body) ++ (codes " provider " ++ shown_or_none (provider_in body)))))))
 
 -- ` pmt <pid> pcr <pid>` and its share
@@ -128,11 +139,6 @@ mark_text d = codec_text (text_for codec_names d.tag) ++ language_texts (languag
 -- those of a list of descriptors
 abbrev pub marks_text : List TaggedBody → List ℕ
 marks_text ds = flat_map mark_text ds
-
--- a name, or `unknown`
-abbrev pub name_or_unknown : Option (List ℕ) → List ℕ
-name_or_unknown None = codes "unknown"
-name_or_unknown (Some name) = name
 
 -- ` scrambled <n> faults <n>`
 abbrev pub troubles_text : PidNumbers → List ℕ

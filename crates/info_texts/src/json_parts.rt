@@ -125,12 +125,17 @@ fn quoted_hex(alloc: Global, bytes: &[u8]) -> Result<String, AllocError>
     Ok(quoted)
 }
 
-// The part of the stream's bit rate that `packets` packets take, or `null`.
-fn rate_json(alloc: Global, scene: &Scene, packets: u64) -> Result<String, AllocError>
-    ensures { IfOk result (λ text. string_bytes text ≡ InfoJson.rate_json scene.now.rate packets scene.now.whole) }
+/// The bit rate of `part` packets among `whole` positions, or `null`.
+pub fn rate_json(
+    alloc: Global,
+    rate: Option<u64>,
+    part: u64,
+    whole: u64,
+) -> Result<String, AllocError>
+    ensures { IfOk result (λ text. string_bytes text ≡ InfoJson.rate_json rate part whole) }
 {
-    let text = match scene.rate {
-        Some(rate) => format!(in alloc; "{}", rate_part(rate, packets, scene.whole))?,
+    let text = match rate {
+        Some(rate) => format!(in alloc; "{}", rate_part(rate, part, whole))?,
         None => String::from_str(alloc, "null")?,
     };
     Ok(text)
@@ -140,7 +145,7 @@ fn rate_json(alloc: Global, scene: &Scene, packets: u64) -> Result<String, Alloc
 pub fn portion_json(alloc: Global, scene: &Scene, packets: u64) -> Result<String, AllocError>
     ensures { IfOk result (λ text. string_bytes text ≡ InfoJson.portion_json scene.now packets) }
 {
-    let rate = rate_json(alloc, scene, packets)?;
+    let rate = rate_json(alloc, scene.rate, packets, scene.extent)?;
     let text = format!(in alloc; "\"packets\":{packets},\"bitrate\":{rate}")?;
     Ok(text)
 }

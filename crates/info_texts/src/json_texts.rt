@@ -3,8 +3,10 @@ ghost use Rattle.std.specs.Prelude.{◌≡◌, IfOk, option_map};
 ghost use Rattle.std.specs.String.{string_bytes};
 ghost use Rattle.info_texts.specs.InfoJson;
 
-use crate::json_parts::{bytes_field, name_or_null, number_or_null, portion_json, troubles_json};
-use crate::name_row::stream_type_name;
+use crate::json_parts::{
+    bytes_field, name_or_null, number_or_null, portion_json, rate_json, troubles_json,
+};
+use crate::name_row::{service_type_name, stream_type_name};
 use crate::pid_numbers::PidNumbers;
 use crate::portions::bytes_of;
 use crate::scene::Scene;
@@ -29,7 +31,7 @@ fn stream_head(alloc: Global, s: &StreamNumbers) -> Result<String, AllocError>
 {
     let bytes = bytes_of(s.packets);
     let id = number_or_null(alloc, widened(s.stream_id))?;
-    let rate = number_or_null(alloc, s.rate)?;
+    let rate = rate_json(alloc, s.rate, s.packets, s.extent)?;
     let text = format!(in alloc;
         "{{\"packets\":{},\"bytes\":{},\"transport_stream_id\":{},\"bitrate\":{}",
         s.packets, bytes, id, rate
@@ -52,10 +54,23 @@ fn stream_tail(alloc: Global, s: &StreamNumbers) -> Result<String, AllocError>
 pub fn service_head(alloc: Global, id: u16, body: Option<&[u8]>) -> Result<String, AllocError>
     ensures { IfOk result (λ text. string_bytes text ≡ InfoJson.service_head id (option_map (λ b. b.now) body.entry)) }
 {
-    let kind = number_or_null(alloc, type_in(body))?;
+    let kind = type_json(alloc, type_in(body))?;
     let name = bytes_field(alloc, "name", name_in(body))?;
     let provider = bytes_field(alloc, "provider", provider_in(body))?;
     let text = format!(in alloc; "{{\"id\":{},\"type\":{},{},{}", id, kind, name, provider)?;
+    Ok(text)
+}
+
+// A service type and its name, or `null`.
+fn type_json(alloc: Global, kind: Option<u8>) -> Result<String, AllocError>
+    ensures { IfOk result (λ text. string_bytes text ≡ InfoJson.type_json kind) }
+{
+    let Some(kind) = kind else {
+        let missing = String::from_str(alloc, "null,\"type_name\":null")?;
+        return Ok(missing);
+    };
+    let name = name_or_null(alloc, service_type_name(kind))?;
+    let text = format!(in alloc; "{kind},\"type_name\":{name}")?;
     Ok(text)
 }
 

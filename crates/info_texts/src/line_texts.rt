@@ -4,9 +4,9 @@ ghost use Rattle.std.specs.String.{string_bytes};
 ghost use Rattle.info_texts.specs.InfoTexts;
 ghost use Rattle.info_texts.specs.InfoTexts.{shared_text, stream_text};
 
-use crate::name_row::stream_type_name;
+use crate::name_row::{service_type_name, stream_type_name};
 use crate::pid_numbers::PidNumbers;
-use crate::portions::{bytes_of, percent, portion_text, troubles_text};
+use crate::portions::{bytes_of, percent, portion_text, rate_text, troubles_text};
 use crate::scene::Scene;
 use crate::service_names::{name_in, provider_in, type_in};
 use crate::shown::{number_or_none, shown_or_none, widened};
@@ -30,7 +30,7 @@ fn stream_head(alloc: Global, s: &StreamNumbers) -> Result<String, AllocError>
 {
     let bytes = bytes_of(s.packets);
     let id = number_or_none(alloc, widened(s.stream_id))?;
-    let rate = number_or_none(alloc, s.rate)?;
+    let rate = rate_text(alloc, s.rate, s.packets, s.extent)?;
     let text = format!(in alloc;
         "stream packets {} bytes {} transport_stream_id {} bitrate {}",
         s.packets, bytes, id, rate
@@ -54,13 +54,26 @@ fn stream_tail(alloc: Global, s: &StreamNumbers) -> Result<String, AllocError>
 pub fn service_head(alloc: Global, id: u16, body: Option<&[u8]>) -> Result<String, AllocError>
     ensures { IfOk result (λ text. string_bytes text ≡ InfoTexts.service_head id (option_map (λ b. b.now) body.entry)) }
 {
-    let kind = number_or_none(alloc, type_in(body))?;
+    let kind = type_text(alloc, type_in(body))?;
     let name = shown_or_none(alloc, name_in(body))?;
     let provider = shown_or_none(alloc, provider_in(body))?;
     let text = format!(in alloc;
         "service {} type {} name {} provider {}",
         id, kind, name, provider
     )?;
+    Ok(text)
+}
+
+// A service type with its name, or `none`.
+fn type_text(alloc: Global, kind: Option<u8>) -> Result<String, AllocError>
+    ensures { IfOk result (λ text. string_bytes text ≡ InfoTexts.type_text kind) }
+{
+    let Some(kind) = kind else {
+        let missing = String::from_str(alloc, "none")?;
+        return Ok(missing);
+    };
+    let name = name_or_unknown(service_type_name(kind));
+    let text = format!(in alloc; "{kind} ({name})")?;
     Ok(text)
 }
 

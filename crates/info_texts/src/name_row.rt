@@ -1,6 +1,6 @@
-//! Names of stream types, codecs and PIDs.
+//! Names of stream types, service types, codecs and PIDs.
 ghost use Rattle.std.specs.Prelude.{◌≡◌, map, option_map};
-ghost use Rattle.info_texts.specs.InfoNames.{codec_names, pid_names, stream_type_names, text_for};
+ghost use Rattle.info_texts.specs.InfoNames.{codec_names, pid_names, service_type_names, stream_type_names, text_for};
 ghost use Rattle.info_texts.specs.NameRows.{named};
 
 /// A number and its name.
@@ -11,7 +11,7 @@ pub enum NameRow<'a> {
 }
 
 // Names of stream types.
-static STREAM_TYPES: [NameRow; 24] = [
+static STREAM_TYPES: [NameRow; 59] = [
     NameRow::Named(0x01, "MPEG-1 video"),
     NameRow::Named(0x02, "MPEG-2 video"),
     NameRow::Named(0x03, "MPEG-1 audio"),
@@ -20,22 +20,90 @@ static STREAM_TYPES: [NameRow; 24] = [
     NameRow::Named(0x06, "private data"),
     NameRow::Named(0x07, "MHEG"),
     NameRow::Named(0x08, "DSM-CC"),
+    NameRow::Named(0x09, "H.222.1"),
     NameRow::Named(0x0A, "DSM-CC multi-protocol"),
     NameRow::Named(0x0B, "DSM-CC U-N messages"),
     NameRow::Named(0x0C, "DSM-CC stream descriptors"),
     NameRow::Named(0x0D, "DSM-CC sections"),
+    NameRow::Named(0x0E, "auxiliary data"),
     NameRow::Named(0x0F, "AAC audio"),
     NameRow::Named(0x10, "MPEG-4 video"),
     NameRow::Named(0x11, "AAC audio in LATM"),
+    NameRow::Named(0x12, "MPEG-4 systems in PES packets"),
+    NameRow::Named(0x13, "MPEG-4 systems in sections"),
+    NameRow::Named(0x14, "DSM-CC synchronized download"),
     NameRow::Named(0x15, "metadata in PES packets"),
     NameRow::Named(0x16, "metadata in sections"),
+    NameRow::Named(0x17, "metadata in a data carousel"),
+    NameRow::Named(0x18, "metadata in an object carousel"),
+    NameRow::Named(0x19, "metadata in a synchronized download"),
+    NameRow::Named(0x1A, "MPEG-2 IPMP"),
     NameRow::Named(0x1B, "AVC video"),
     NameRow::Named(0x1C, "MPEG-4 audio"),
+    NameRow::Named(0x1D, "MPEG-4 text"),
+    NameRow::Named(0x1E, "auxiliary video"),
     NameRow::Named(0x1F, "SVC video"),
     NameRow::Named(0x20, "MVC video"),
     NameRow::Named(0x21, "JPEG 2000 video"),
+    NameRow::Named(0x22, "MPEG-2 video of another view"),
+    NameRow::Named(0x23, "AVC video of another view"),
     NameRow::Named(0x24, "HEVC video"),
+    NameRow::Named(0x25, "HEVC temporal subset"),
+    NameRow::Named(0x26, "MVCD video"),
+    NameRow::Named(0x27, "timeline and external media"),
+    NameRow::Named(0x28, "MV-HEVC enhancement"),
+    NameRow::Named(0x29, "MV-HEVC temporal enhancement"),
+    NameRow::Named(0x2A, "SHVC enhancement"),
+    NameRow::Named(0x2B, "SHVC temporal enhancement"),
+    NameRow::Named(0x2C, "green metadata in sections"),
+    NameRow::Named(0x2D, "MPEG-H audio"),
+    NameRow::Named(0x2E, "MPEG-H audio, auxiliary"),
+    NameRow::Named(0x2F, "quality metadata in sections"),
+    NameRow::Named(0x30, "media orchestration in sections"),
+    NameRow::Named(0x31, "HEVC tiles"),
+    NameRow::Named(0x32, "JPEG XS video"),
     NameRow::Named(0x33, "VVC video"),
+    NameRow::Named(0x34, "VVC temporal subset"),
+    NameRow::Named(0x35, "EVC video"),
+    NameRow::Named(0x36, "LCEVC video"),
+    NameRow::Named(0x7F, "IPMP"),
+    NameRow::Named(0x81, "ATSC AC-3 audio"),
+    NameRow::Named(0x86, "SCTE 35 splice information"),
+    NameRow::Named(0x87, "ATSC enhanced AC-3 audio"),
+    NameRow::Named(0x8A, "DTS audio"),
+];
+
+// Names of service types.
+static SERVICE_TYPES: [NameRow; 29] = [
+    NameRow::Named(0x01, "digital television"),
+    NameRow::Named(0x02, "digital radio sound"),
+    NameRow::Named(0x03, "teletext"),
+    NameRow::Named(0x04, "NVOD reference"),
+    NameRow::Named(0x05, "NVOD time-shifted"),
+    NameRow::Named(0x06, "mosaic"),
+    NameRow::Named(0x07, "FM radio"),
+    NameRow::Named(0x08, "DVB SRM"),
+    NameRow::Named(0x0A, "advanced codec digital radio sound"),
+    NameRow::Named(0x0B, "AVC mosaic"),
+    NameRow::Named(0x0C, "data broadcast"),
+    NameRow::Named(0x0D, "common interface"),
+    NameRow::Named(0x0E, "RCS map"),
+    NameRow::Named(0x0F, "RCS FLS"),
+    NameRow::Named(0x10, "DVB MHP"),
+    NameRow::Named(0x11, "MPEG-2 HD digital television"),
+    NameRow::Named(0x16, "AVC SD digital television"),
+    NameRow::Named(0x17, "AVC SD NVOD time-shifted"),
+    NameRow::Named(0x18, "AVC SD NVOD reference"),
+    NameRow::Named(0x19, "AVC HD digital television"),
+    NameRow::Named(0x1A, "AVC HD NVOD time-shifted"),
+    NameRow::Named(0x1B, "AVC HD NVOD reference"),
+    NameRow::Named(0x1C, "AVC HD stereoscopic digital television"),
+    NameRow::Named(0x1D, "AVC HD stereoscopic NVOD time-shifted"),
+    NameRow::Named(0x1E, "AVC HD stereoscopic NVOD reference"),
+    NameRow::Named(0x1F, "HEVC digital television"),
+    NameRow::Named(0x20, "HEVC UHD digital television"),
+    NameRow::Named(0x21, "VVC digital television"),
+    NameRow::Named(0x22, "AVS3 digital television"),
 ];
 
 // Names of codecs and kinds of components, by descriptor tag.
@@ -84,6 +152,13 @@ pub fn stream_type_name(kind: u8) -> Option<&'static str>
     ensures { option_map (λ name. name.now) result ≡ text_for stream_type_names kind }
 {
     name_for(&STREAM_TYPES, u16::from(kind))
+}
+
+/// The name of a service type.
+pub fn service_type_name(kind: u8) -> Option<&'static str>
+    ensures { option_map (λ name. name.now) result ≡ text_for service_type_names kind }
+{
+    name_for(&SERVICE_TYPES, u16::from(kind))
 }
 
 /// The codec or kind of component that a descriptor of this tag identifies.

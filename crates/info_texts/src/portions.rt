@@ -27,7 +27,8 @@ pub fn percent(alloc: Global, part: u64, whole: u64) -> Result<String, AllocErro
     Ok(text)
 }
 
-/// The part of a bit rate that `part` of `whole` packets take, rounded down, in bits per second.
+/// The bit rate of `part` packets among `whole` positions, of which `rate` bits pass in a second; rounded down, in bits
+/// per second.
 pub fn rate_part(rate: u64, part: u64, whole: u64) -> u128
     ensures { result ≡ InfoTexts.rate_part rate part whole }
 {
@@ -37,12 +38,17 @@ pub fn rate_part(rate: u64, part: u64, whole: u64) -> u128
     u128::from(rate) * u128::from(part) / u128::from(whole)
 }
 
-// The part of the stream's bit rate, or `none`.
-fn rate_text(alloc: Global, scene: &Scene, packets: u64) -> Result<String, AllocError>
-    ensures { IfOk result (λ text. string_bytes text ≡ InfoTexts.rate_text scene.now.rate packets scene.now.whole) }
+/// The bit rate of `part` packets among `whole` positions, or `none`.
+pub fn rate_text(
+    alloc: Global,
+    rate: Option<u64>,
+    part: u64,
+    whole: u64,
+) -> Result<String, AllocError>
+    ensures { IfOk result (λ text. string_bytes text ≡ InfoTexts.rate_text rate part whole) }
 {
-    let text = match scene.rate {
-        Some(rate) => format!(in alloc; "{}", rate_part(rate, packets, scene.whole))?,
+    let text = match rate {
+        Some(rate) => format!(in alloc; "{}", rate_part(rate, part, whole))?,
         None => String::from_str(alloc, "none")?,
     };
     Ok(text)
@@ -53,7 +59,7 @@ pub fn portion_text(alloc: Global, scene: &Scene, packets: u64) -> Result<String
     ensures { IfOk result (λ text. string_bytes text ≡ InfoTexts.portion_text scene.now packets) }
 {
     let share = percent(alloc, packets, scene.whole)?;
-    let rate = rate_text(alloc, scene, packets)?;
+    let rate = rate_text(alloc, scene.rate, packets, scene.extent)?;
     let text = format!(in alloc; " packets {packets} share {share} bitrate {rate}")?;
     Ok(text)
 }

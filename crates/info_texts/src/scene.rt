@@ -5,6 +5,8 @@
 pub struct Scene {
     /// The number of all packets of the stream.
     pub whole: u64,
-    /// Its bit rate, in bits per second, if the PCRs give one.
+    /// The positions from the first of them to the last one, those of dropped packets too.
+    pub extent: u64,
+    /// How many bits pass in a second, those of dropped packets too, if the PCRs say so.
     pub rate: Option<u64>,
 }

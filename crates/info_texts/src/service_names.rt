@@ -3,11 +3,11 @@ ghost use Rattle.std.specs.Prelude.{◌≡◌, drop, option_map};
 ghost use Rattle.info_texts.specs.ServiceNames.{behind_text, counted_text, name_in, provider_in, type_in};
 
 /// service_type.
-pub fn type_in(body: Option<&[u8]>) -> Option<u64>
+pub fn type_in(body: Option<&[u8]>) -> Option<u8>
     ensures { result ≡ type_in (option_map (λ b. b.now) body.entry) }
 {
     let (kind, _) = body?.split_first()?;
-    Some(u64::from(*kind))
+    Some(*kind)
 }
 
 /// service_provider_name.

@@ -5,9 +5,11 @@
 pub struct StreamNumbers {
     /// The number of all packets.
     pub packets: u64,
+    /// The positions from the first of them to the last one, those of dropped packets too.
+    pub extent: u64,
     /// The transport_stream_id of the PAT in force, if there is one.
     pub stream_id: Option<u16>,
-    /// The bit rate, in bits per second, if the PCRs give one.
+    /// How many bits pass in a second, those of dropped packets too, if the PCRs say so.
     pub rate: Option<u64>,
     /// How many packets are null packets.
     pub nulls: u64,

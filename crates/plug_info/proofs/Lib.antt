@@ -1,4 +1,5 @@
 pub mod CountLemmas
+pub mod ExtentLemmas
 pub mod SpanLemmas
 pub mod LineLemmas
 pub mod JsonLemmas

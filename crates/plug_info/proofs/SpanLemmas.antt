@@ -18,11 +18,13 @@ use Rattle.plugin_notes.specs.PidPackets.{numbers_below}
 use Rattle.plugin_notes.proofs.PidLemmas.{numbers_below_more}
 use Rattle.plug_pcr.specs.ClockFaults.{clocks_on, has_clock_on}
 use Rattle.plug_pcr.specs.ClockJitter.{units_behind}
-use Rattle.plug_info.specs.PcrRate.{Way, positions_in, rate_of, rate_on, units_in, way_between, ways_behind}
-use Rattle.plug_info.specs.ClockSpans.{AreSpans, last_behind, met_clock, no_span, span_of, span_with, way_parts}
+use Rattle.plug_info.specs.PacketExtent.{last_behind}
+use Rattle.plug_info.specs.PcrRate.{Way, breaks_off, positions_in, rate_of, rate_on, units_in, way_between, ways_behind}
+use Rattle.plug_info.specs.ClockSpans.{AreSpans, met_clock, no_span, span_of, span_with, way_parts}
 use Rattle.plug_info.specs.declared.clock_span.ClockSpan.{ClockSpan}
 use Rattle.plug_info.specs.declared.clock_span.MetClock.{MetClock}
 use Rattle.plug_info.specs.declared.spans.Spans.{Spans}
+use Rattle.plug_info.proofs.ExtentLemmas.{last-more}
 
 -- the intervals with one more packet
 ways-more : (first : Met) (rows : List Met) (x : Met) → ways_behind first (rows ++ x ∷ []) ≡ ways_behind first rows ++ way_between (last_behind first rows) x
@@ -30,10 +32,6 @@ ways-more first [] x = append-nil (way_between first x)
 ways-more first (row ∷ rows) x =
     ap (λ (ws : List Way). way_between first row ++ ws) (ways-more row rows x)
     ∙ sym (append_assoc (way_between first row) (ways_behind row rows) (way_between (last_behind row rows) x))
-
-last-more : (first : Met) (rows : List Met) (x : Met) → last_behind first (rows ++ x ∷ []) ≡ x
-last-more first [] x = refl
-last-more first (row ∷ rows) x = last-more row rows x
 
 -- sums over two lists of intervals
 positions-append : (xs ys : List Way) → positions_in (xs ++ ys) ≡ positions_in xs + positions_in ys
@@ -50,16 +48,16 @@ zero-add n = omega arith
 -- the parts of one interval
 way-positions : (before row : Met) → positions_in (way_between before row) ≡ (way_parts (Some (met_clock before)) (met_clock row) (discontinuity_of row.packet)).0
 way-positions before row =
-    elim (discontinuity_of row.packet) as (λ b. positions_in (if b then [] else (let w : Way = record { positions = row.at - before.at; units = units_behind (clock_of before.packet) (clock_of row.packet) } in w) ∷ [])
-    ≡ (way_parts (Some (met_clock before)) (met_clock row) b).0) [
+    elim (breaks_off (discontinuity_of row.packet) (units_behind (clock_of before.packet) (clock_of row.packet))) as (λ b. positions_in (if b then [] else (let w : Way = record { positions = row.at - before.at; units = units_behind (clock_of before.packet) (clock_of row.packet) } in w) ∷ [])
+    ≡ (let way : ℕ × ℕ = if b then (0, 0) else (row.at - before.at, units_behind (clock_of before.packet) (clock_of row.packet)) in way.0)) [
       | true ↦ refl
       | false ↦ zero-add (row.at - before.at)
     ]
 
 way-units : (before row : Met) → units_in (way_between before row) ≡ (way_parts (Some (met_clock before)) (met_clock row) (discontinuity_of row.packet)).1
 way-units before row =
-    elim (discontinuity_of row.packet) as (λ b. units_in (if b then [] else (let w : Way = record { positions = row.at - before.at; units = units_behind (clock_of before.packet) (clock_of row.packet) } in w) ∷ [])
-    ≡ (way_parts (Some (met_clock before)) (met_clock row) b).1) [
+    elim (breaks_off (discontinuity_of row.packet) (units_behind (clock_of before.packet) (clock_of row.packet))) as (λ b. units_in (if b then [] else (let w : Way = record { positions = row.at - before.at; units = units_behind (clock_of before.packet) (clock_of row.packet) } in w) ∷ [])
+    ≡ (let way : ℕ × ℕ = if b then (0, 0) else (row.at - before.at, units_behind (clock_of before.packet) (clock_of row.packet)) in way.1)) [
       | true ↦ refl
       | false ↦ zero-add (units_behind (clock_of before.packet) (clock_of row.packet))
     ]

@@ -7,15 +7,20 @@ use Rattle.ts_packet.specs.MetRows.{Met}
 use Rattle.ts_packet.specs.Pcr.{clock_of}
 use Rattle.plug_pcr.specs.ClockFaults.{clocks_on}
 use Rattle.plug_pcr.specs.ClockJitter.{units_behind}
-use Rattle.plug_info.specs.PcrRate.{positions_in, units_in, ways_of}
+use Rattle.plug_info.specs.PacketExtent.{last_row}
+use Rattle.plug_info.specs.PcrRate.{breaks_off, positions_in, units_in, ways_of}
 use Rattle.plug_info.specs.declared.clock_span.ClockSpan.{ClockSpan}
 use Rattle.plug_info.specs.declared.clock_span.MetClock.{MetClock}
 use Rattle.plug_info.specs.declared.spans.Spans.{Spans}
 
--- the positions and units from the last PCR to the next one; both 0 across a discontinuity, and before the first PCR
+-- the positions and units from the last PCR to the next one; both 0 across a discontinuity or a jump back, and before
+-- the first PCR
 abbrev pub way_parts : Option MetClock → MetClock → Bool → ℕ × ℕ
 way_parts None met breaks = (0, 0)
-way_parts (Some last) met breaks = if breaks then (0, 0) else (met.at - last.at, units_behind last.clock met.clock)
+way_parts (Some last) met breaks =
+    if breaks_off breaks (units_behind last.clock met.clock)
+    then (0, 0)
+    else (met.at - last.at, units_behind last.clock met.clock)
 
 -- what is kept after one more PCR
 abbrev pub span_with : ClockSpan → MetClock → Bool → ClockSpan
@@ -32,16 +37,6 @@ no_span = record { last = None; positions = 0; units = 0 }
 -- the position and the PCR of a packet with a PCR
 abbrev pub met_clock : Met → MetClock
 met_clock row = record { at = row.at; clock = clock_of row.packet }
-
--- the last of a packet and those after it
-abbrev pub last_behind : Met → List Met → Met
-last_behind first [] = first
-last_behind first (row ∷ rows) = last_behind row rows
-
--- the last packet, if there is one
-abbrev pub last_row : List Met → Option Met
-last_row [] = None
-last_row (first ∷ rows) = Some (last_behind first rows)
 
 -- what is kept of packets with a PCR
 abbrev pub span_of : List Met → ClockSpan

@@ -15,6 +15,7 @@ use Rattle.plug_analyze.specs.AnalyzeRule.{fault_pids, is_scrambled}
 use Rattle.info_texts.specs.InfoJson.{array, component_json, number_or_null, pid_json, portion_json, service_json, stream_json, whole_json}
 use Rattle.info_texts.specs.InfoNames.{pid_names, text_for}
 use Rattle.info_texts.specs.InfoTexts.{component_text, marks_text, pid_text, portion_text, sdt_texts, service_text, stream_text}
+use Rattle.plug_info.specs.PacketExtent.{extent_of}
 use Rattle.plug_info.specs.PcrRate.{rate_of}
 use Rattle.plug_info.specs.SdtInForce.{is_number, items_in, sdt_of, service_body}
 use Rattle.plug_info.specs.declared.info_conf.InfoConf.{InfoConf}
@@ -30,9 +31,10 @@ numbers_on pid cells = record {
   faults = count_by (λ q. q == pid) (fault_pids cells);
 }
 
--- the number of all packets, and the bit rate of the stream: shares are parts of these
+-- The number of all packets, of which shares are parts; and how far they reach and how many bits pass in a second,
+-- which give the time that they take: bit rates are bits over this time.
 abbrev pub scene_of : List Cell → Scene
-scene_of cells = record { whole = length (live_packets cells); rate = rate_of cells }
+scene_of cells = record { whole = length (live_packets cells); extent = extent_of cells; rate = rate_of cells }
 
 -- the transport_stream_id of a table
 abbrev pub stream_id_in : Option TableHolding → Option ℕ
@@ -42,6 +44,7 @@ stream_id_in table = option_map (λ t. t.head.extension) table
 abbrev pub stream_numbers : List Cell → StreamNumbers
 stream_numbers cells = record {
   packets = length (live_packets cells);
+  extent = extent_of cells;
   stream_id = stream_id_in (pat_of (live_packets cells));
   rate = rate_of cells;
   nulls = packets_on NULL_PID (live_packets cells);

@@ -1,7 +1,8 @@
 -- The bit rate of a stream by its program clock references. ISO/IEC 13818-1, 2.4.3.5: a PCR is the time of its place
 -- in the stream in units of 27 MHz, and wraps at its period; after a discontinuity_indicator (2.4.3.4) the time base
--- is another one. Which PID counts, and that places are positions, is this project's own rule.
-use Rattle.std.specs.Prelude.{ℕ, ◌-◌, ◌*◌, ◌/◌, ◌==◌, List, [], ◌∷◌, ◌++◌, map, fold, Option, None, Some, nat_le, if◌then◌else◌}
+-- is another one. Which PID counts, that places are positions, and which clock has jumped back, is this project's own
+-- rule.
+use Rattle.std.specs.Prelude.{ℕ, ◌-◌, ◌*◌, ◌/◌, ◌==◌, Bool, ◌||◌, List, [], ◌∷◌, ◌++◌, map, fold, Option, None, Some, nat_le, nat_lt, if◌then◌else◌}
 use Rattle.std.specs.List.{sum}
 use Rattle.std.specs.Option.{option_or}
 use Rattle.ts_packet.specs.declared.cell.Cell.{Cell}
@@ -12,17 +13,22 @@ use Rattle.ts_packet.specs.Pcr.{clock_of}
 use Rattle.plugin_notes.specs.PidPackets.{numbers_below}
 use Rattle.plug_pcr.specs.ClockFaults.{clocks_on}
 use Rattle.plug_pcr.specs.ClockJitter.{units_behind}
-use Rattle.plug_pcr.specs.declared.limits.TheConstants.{MOST_BITRATE, PACKET_UNITS}
+use Rattle.plug_pcr.specs.declared.limits.TheConstants.{CLOCK_PERIOD, MOST_BITRATE, PACKET_UNITS}
 
 -- the interval from one PCR to the next, in positions and in units of the clock
 pub record Way : Type 0 where
   pub positions : ℕ
   pub units : ℕ
 
--- the interval from a packet with a PCR to the next one on its PID; there is none across a discontinuity
+-- A new time base begins: at a discontinuity, or where a PCR is ahead of the last one by more than half of the period.
+-- Such a clock did not wrap but jumped back by less than half of it, as where two streams are joined.
+abbrev pub breaks_off : Bool → ℕ → Bool
+breaks_off breaks units = breaks || nat_lt (CLOCK_PERIOD / 2) units
+
+-- the interval from a packet with a PCR to the next one on its PID; there is none where a new time base begins
 abbrev pub way_between : Met → Met → List Way
 way_between before row =
-    if discontinuity_of row.packet
+    if breaks_off (discontinuity_of row.packet) (units_behind (clock_of before.packet) (clock_of row.packet))
     then []
     else record { positions = row.at - before.at; units = units_behind (clock_of before.packet) (clock_of row.packet) } ∷ []
 

@@ -2,12 +2,14 @@
 use Rattle.std.specs.Prelude.{◌≡◌, ◌<◌, ℕ, List, length}
 use Rattle.ts_packet.specs.declared.cell.Cell.{Cell}
 use Rattle.ts_packet.specs.Cells.{live_packets}
+use Rattle.ts_packet.specs.MetRows.{met_rows}
 use Rattle.ts_packet.specs.declared.numbers.TheConstants.{PID_COUNT}
 use Rattle.chain_model.specs.declared.positions.TheConstants.{POSITION_LIMIT}
 use Rattle.plugin_notes.specs.LastSeen.{Remembers}
 use Rattle.plug_psi.specs.ForceStands as forcing
 use Rattle.plug_analyze.specs.AnalyzeRule.{all_pids}
 use Rattle.plug_info.specs.ClockSpans.{AreSpans}
+use Rattle.plug_info.specs.ExtentKept.{kept_extent}
 use Rattle.plug_info.specs.SdtStands.{HasFedSdt}
 use Rattle.plug_info.specs.TotalsOf.{AreCounted, AreWhole}
 use Rattle.plug_info.specs.declared.tracker.Tracker.{Tracker}
@@ -17,6 +19,7 @@ pub record Tracks (tracker : Tracker) (cells : List Cell) : Type 0 where
   pub remembers : Remembers all_pids tracker.last cells
   pub counted : AreCounted tracker.totals cells
   pub spans_are : AreSpans tracker.spans cells
+  pub extent_is : tracker.extent ≡ kept_extent (met_rows cells)
   pub has_sdt : HasFedSdt tracker.sdt (live_packets cells)
   pub fed : forcing.StandsFor tracker.force (live_packets cells)
 

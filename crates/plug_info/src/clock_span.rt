@@ -20,9 +20,9 @@ pub struct MetClock {
 pub struct ClockSpan {
     /// The last PCR, if there was one.
     pub last: Option<MetClock>,
-    /// The sum of the positions between them, without those across a discontinuity.
+    /// The sum of the positions between them, without those where a new time base begins.
     pub positions: u64,
-    /// The sum of the units of the 27 MHz clock between them, without those across a discontinuity.
+    /// The sum of the units of the 27 MHz clock between them, without those where a new time base begins.
     pub units: u64,
 }
 
@@ -63,13 +63,11 @@ fn way_to(last: Option<MetClock>, met: MetClock, breaks: bool) -> (u64, u64)
     let Some(last) = last else {
         return (0, 0);
     };
-    if breaks {
+    let units = units_between(last.clock, met.clock);
+    if breaks || units > CLOCK_PERIOD / 2 {
         return (0, 0);
     }
-    (
-        met.at.saturating_sub(last.at),
-        units_between(last.clock, met.clock),
-    )
+    (met.at.saturating_sub(last.at), units)
 }
 
 // The units of the clock from one PCR to another, modulo its period.

@@ -55,6 +55,7 @@ fn whole_json(alloc: Global, tracker: &Tracker) -> Result<LineText, AllocError>
     let numbers = stream_numbers(tracker);
     let scene = Scene {
         whole: numbers.packets,
+        extent: numbers.extent,
         rate: numbers.rate,
     };
     let stream = stream_json(alloc, &numbers)?;

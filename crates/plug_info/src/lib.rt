@@ -6,6 +6,7 @@
 
 mod clock_span;
 mod counters;
+mod extent;
 mod info;
 mod info_conf;
 mod info_words;

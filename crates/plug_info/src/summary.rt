@@ -43,6 +43,7 @@ pub fn push_summary(lines: &mut Vec<Line>, cut: u64, tracker: &Tracker) -> Resul
     let numbers = stream_numbers(tracker);
     let scene = Scene {
         whole: numbers.packets,
+        extent: numbers.extent,
         rate: numbers.rate,
     };
     let alloc = *lines.allocator();
@@ -61,6 +62,7 @@ pub fn stream_numbers(tracker: &Tracker) -> StreamNumbers
 {
     StreamNumbers {
         packets: tracker.totals.packets(),
+        extent: tracker.extent.positions,
         stream_id: pat_stream_id(tracker),
         rate: tracker.spans.rate(),
         nulls: tracker.totals.packets_on(NULL_PID),

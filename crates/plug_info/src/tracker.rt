@@ -1,5 +1,6 @@
 //! What `info` keeps of the cells that count.
 use crate::counters::meet_counter;
+use crate::extent::Extent;
 use crate::sdt_in_force::SdtInForce;
 use crate::spans::Spans;
 use crate::totals::Totals;
@@ -16,6 +17,8 @@ pub struct Tracker {
     pub(crate) totals: Totals,
     /// What is kept of the PCRs.
     pub(crate) spans: Spans,
+    /// How far the packets reach.
+    pub(crate) extent: Extent,
     /// The SDT in force.
     pub(crate) sdt: SdtInForce,
     /// The PAT and the PMTs in force.
@@ -42,6 +45,10 @@ impl Tracker {
             last,
             totals,
             spans,
+            extent: Extent {
+                start: None,
+                positions: 0,
+            },
             sdt,
             force,
         })
@@ -74,6 +81,7 @@ impl Tracker {
             is_fault,
             packet.error_indicator(),
         );
+        self.extent = self.extent.with(at);
         self.spans.meet(at, packet)?;
         self.force.feed(packet)?;
         self.sdt.feed(packet)?;

@@ -9,8 +9,8 @@ use Rattle.plug_info.proofs.json.whole_json.Goals as goal
 pub returns : goal.returns
 returns c = λ cells w.
     let numbers = c.stream_numbers-numbers.ensures cells w in
-    let scene_is : (let s : Scene = record { whole = c.stream_numbers-numbers.result.packets; rate = c.stream_numbers-numbers.result.rate } in s) ≡ scene_of cells =
-    ap (λ (n : StreamNumbers). let s : Scene = record { whole = n.packets; rate = n.rate } in s) numbers in
+    let scene_is : (let s : Scene = record { whole = c.stream_numbers-numbers.result.packets; extent = c.stream_numbers-numbers.result.extent; rate = c.stream_numbers-numbers.result.rate } in s) ≡ scene_of cells =
+    ap (λ (n : StreamNumbers). let s : Scene = record { whole = n.packets; extent = n.extent; rate = n.rate } in s) numbers in
     c.of.ensures
     ∙ (c.in_ok-text.ensures.ok
     ∙ whole_is _ _ _ _ _ _ _ _ (c.in_ok-stream.ensures ∙ ap stream_json numbers)
