@@ -5,6 +5,7 @@ ghost use Rattle.plug_info.specs.InfoRule.{info_rule};
 use crate::info_conf::InfoConf;
 use crate::met_cells::MetCells;
 use crate::report::push_report;
+use plug_psi::FailureLatch;
 use plugin_trait::{Line, Outcome, Plugin};
 use std::alloc::{AllocError, Global};
 use ts_packet::Cell;
@@ -16,7 +17,7 @@ use ts_packet::Cell;
 pub struct Info {
     json: bool,
     met: MetCells,
-    failed: bool,
+    failed: FailureLatch,
     alloc: Global,
 }
 
@@ -41,7 +42,7 @@ impl Info {
         Ok(Info {
             json: conf.json,
             met: MetCells::new(alloc, buffer)?,
-            failed: false,
+            failed: FailureLatch::unset(),
             alloc,
         })
     }
@@ -58,16 +59,10 @@ impl Info {
         ensures full { has_failed self.old ≡ false → has_failed self.new ≡ true → IsFull self.old }
         ensures reserved { room_of self.new ≡ room_of self.old }
     {
-        if self.failed {
-            return Err(AllocError);
-        }
-        match self.met.push(cell) {
-            Ok(()) => Ok(()),
-            Err(error) => {
-                self.failed = true;
-                Err(error)
-            }
-        }
+        self.failed.check()?;
+        let answer = self.met.push(cell);
+        self.failed.note(answer)?;
+        Ok(())
     }
 }
 
@@ -126,16 +121,12 @@ impl Plugin for Info {
         ensures spent { IsOk result → has_failed self.new ≡ has_failed self.old }
         ensures reserved { room_of self.new ≡ room_of self.old }
     {
-        if self.failed {
+        if self.failed.is_set() {
             return Ok(());
         }
-        match self.met.take_below(written) {
-            Ok(()) => Ok(()),
-            Err(error) => {
-                self.failed = true;
-                Err(error)
-            }
-        }
+        let answer = self.met.take_below(written);
+        self.failed.note(answer)?;
+        Ok(())
     }
 
     fn agreed(&self) -> bool {
@@ -143,9 +134,7 @@ impl Plugin for Info {
     }
 
     fn finish(&mut self, cut: u64) -> Result<Vec<Line>, AllocError> {
-        if self.failed {
-            return Err(AllocError);
-        }
+        self.failed.check()?;
         self.met.take_below(cut)?;
         let mut lines = Vec::new(self.alloc);
         push_report(&mut lines, cut, &self.met.tracker, self.json)?;

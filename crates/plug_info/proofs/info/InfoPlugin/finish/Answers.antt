@@ -10,14 +10,14 @@ pub take_below-requires : goal.take_below-requires
 take_below-requires c = record {
   history = c.requires.history;
   mark = c.requires.mark;
-  holds = c.requires.holds.0 c.if-self.false;
+  holds = c.requires.holds.0 c.in_ok-check.ensures.unset;
   not_below = c.requires.not_below;
   met = c.requires.met;
 }
 
 pub returns : goal.returns
 returns c = λ history mark s later within.
-    let met = c.in_ok-take_below.ensures.met history mark (s.0 c.if-self.false) later within in
+    let met = c.in_ok-take_below.ensures.met history mark (s.0 c.in_ok-check.ensures.unset) later within in
     report_is (conf_of c.args.self.now) history c.args.cut c.push_report.new.lines.items within
     (c.in_ok-push_report.ensures (take c.args.cut history) met.tracks
     ∙ ap (λ (ls : List Line). ls ++ placed_at c.args.cut (report_in c.args.self.now.json (take c.args.cut history))) c.new-lines.ensures.items)
