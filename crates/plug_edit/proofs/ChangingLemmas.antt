@@ -1,9 +1,10 @@
 -- One thing of a list changed, over lists and what is seen of them.
 use Rattle.std.proofs.Common.{◌≡◌, ◌≢◌, ℕ, zero, suc, ◌+◌, ◌<◌, ◌≤◌, Bool, true, false, List, [], ◌∷◌, ◌++◌, length, get_or, map, slice_index_or, slice_set, refl, sym, ap, ◌∙◌, subst, arith}
-use Rattle.std.specs.Prelude.{filter, find, option_map, slice_get, not, nat_lt, cond, if◌then◌else◌, Option, Some, None, MatchOption}
+use Rattle.std.specs.Prelude.{find, option_map, slice_get, not, nat_lt, cond, if◌then◌else◌, Option, Some, None, MatchOption}
 use Rattle.std.specs.List.{position, position_or_len}
 use Rattle.std.proofs.lemmas.List.Folds.{find_at}
 use Rattle.std.proofs.lemmas.List.Sums.{fails_before_first, position_or_len_is, prefix_len_stops}
+use Rattle.plug_psi.proofs.KeptView.{chosen}
 use Rattle.plug_edit.specs.Changing.{changed_first}
 
 found-step :
@@ -40,12 +41,6 @@ unfolding changed_first
 changed_none test change t [] none = refl
 changed_none test change t (x ∷ xs) none = none-step test change t x xs (test x) (changed_none test change t xs) none
 
-chosen : {A B : Type 0} (view : A → B) (b c : Bool) (x y : List A) (v w : List B) → b ≡ c → map view x ≡ v → map view y ≡ w → map view (if b then x else y) ≡ (if c then v else w)
-chosen view true true x y v w same first second = first
-chosen view true false x y v w same first second = cc
-chosen view false true x y v w same first second = cc
-chosen view false false x y v w same first second = second
-
 -- what is seen of a list so changed is what is seen of it, so changed
 pub changed_view :
     {A B : Type 0} (view : A → B) (test : A → Bool) (test' : B → Bool) (change : A → A) (change' : B → B) (t : A) →
@@ -58,16 +53,6 @@ changed_view view test test' change change' t same changes (x ∷ xs) =
     (change' (view x) ∷ map view xs) (view x ∷ changed_first test' change' (view t) (map view xs))
     (same x) (ap (λ y. y ∷ map view xs) (changes x))
     (ap (λ l. view x ∷ l) (changed_view view test test' change change' t same changes xs))
-
--- what is seen of the things that pass
-pub kept_view :
-    {A B : Type 0} (view : A → B) (test : A → Bool) (test' : B → Bool) → ((x : A) → test x ≡ test' (view x)) → (xs : List A) →
-    map view (filter test xs) ≡ filter test' (map view xs)
-kept_view view test test' same [] = refl
-kept_view view test test' same (x ∷ xs) =
-    chosen view (test x) (test' (view x)) (x ∷ filter test xs) (filter test xs)
-    (view x ∷ filter test' (map view xs)) (filter test' (map view xs))
-    (same x) (ap (λ l. view x ∷ l) (kept_view view test test' same xs)) (kept_view view test test' same xs)
 
 position-cases :
     {A : Type 0} (test : A → Bool) (xs : List A) (inside : Bool) → nat_lt (position_or_len test xs) (length xs) ≡ inside →

@@ -6,6 +6,7 @@ pub mod EntryLemmas
 pub mod FlagLemmas
 pub mod ForceLemmas
 pub mod FoundLemmas
+pub mod KeptView
 pub mod LastTableLemmas
 pub mod NamedLemmas
 pub mod OrdinalLemmas

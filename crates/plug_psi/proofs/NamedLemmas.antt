@@ -1,5 +1,5 @@
 -- PIDs that the tables in force name.
-use Rattle.std.proofs.Common.{◌≡◌, ℕ, ◌==◌, ◌&&◌, not, false, List, [], ◌∷◌, ◌++◌, Option, None, ◌∙◌, ap, ap₂}
+use Rattle.std.proofs.Common.{◌≡◌, ℕ, ◌==◌, ◌&&◌, not, false, List, [], ◌∷◌, ◌++◌, None, ◌∙◌, ap, ap₂}
 use Rattle.std.specs.Prelude.{option_map}
 use Rattle.ts_packet.specs.Header.{pid_of}
 use Rattle.ts_demux.specs.TablesOn.{packets_on}

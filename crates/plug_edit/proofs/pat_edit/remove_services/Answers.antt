@@ -4,7 +4,7 @@ use Rattle.std.proofs.lemmas.Fn.{filter_same}
 use Rattle.ts_psi.specs.PatTables.{service_item}
 use Rattle.plug_conf.specs.NumberSet.{has_number}
 use Rattle.plug_edit.specs.PatEdit.{service_of}
-use Rattle.plug_edit.proofs.ChangingLemmas.{kept_view}
+use Rattle.plug_psi.proofs.KeptView.{kept_view}
 use Rattle.plug_edit.proofs.pat_edit.remove_services.Goals as goal
 
 pub returns : goal.returns

@@ -4,7 +4,7 @@ use Rattle.std.proofs.lemmas.Fn.{filter_same}
 use Rattle.ts_si.specs.SiTables.{service_item}
 use Rattle.plug_conf.specs.NumberSet.{has_number}
 use Rattle.plug_psi.specs.NumbersHeld.{number_at}
-use Rattle.plug_edit.proofs.ChangingLemmas.{kept_view}
+use Rattle.plug_psi.proofs.KeptView.{kept_view}
 use Rattle.plug_edit.proofs.sdt_edit.remove_services.Goals as goal
 
 pub returns : goal.returns

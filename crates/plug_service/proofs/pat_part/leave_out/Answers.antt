@@ -2,7 +2,8 @@ use Rattle.std.proofs.Common.{rules, map, ap, ◌∙◌}
 use Rattle.std.proofs.lemmas.Fn.{filter_same}
 use Rattle.ts_psi.specs.PatTables.{service_item}
 use Rattle.plug_service.specs.ServiceEdits.{entry_stays, stays}
-use Rattle.plug_service.proofs.PartLemmas.{kept_view, service-stays}
+use Rattle.plug_psi.proofs.KeptView.{kept_view}
+use Rattle.plug_service.proofs.PartLemmas.{service-stays}
 use Rattle.plug_service.proofs.pat_part.leave_out.Goals as goal
 
 pub returns : goal.returns

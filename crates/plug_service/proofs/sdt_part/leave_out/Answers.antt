@@ -2,7 +2,7 @@ use Rattle.std.proofs.Common.{rules, map, ap, refl, ◌∙◌}
 use Rattle.std.proofs.lemmas.Fn.{filter_same}
 use Rattle.ts_si.specs.SiTables.{service_item}
 use Rattle.plug_service.specs.ServiceEdits.{service_stays, stays}
-use Rattle.plug_service.proofs.PartLemmas.{kept_view}
+use Rattle.plug_psi.proofs.KeptView.{kept_view}
 use Rattle.plug_service.proofs.sdt_part.leave_out.Goals as goal
 
 pub returns : goal.returns
