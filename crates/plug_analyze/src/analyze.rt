@@ -1,3 +1,5 @@
+//! The plugin `analyze`.
+
 ghost use Rattle.std.specs.Prelude.{◌≡◌, IfOk, [], None};
 ghost use Rattle.plug_analyze.specs.AnalyzeRule.{analyze_rule};
 
@@ -13,9 +15,9 @@ use plugin_trait::{Line, Outcome, Plugin};
 use std::alloc::{AllocError, Global};
 use ts_packet::{Cell, Packet};
 
-/// Tells what the packets were, by PID, and which services were in force.
+/// Reports what the packets were, by PID, and which services were in force.
 ///
-/// A step may want memory, and then every later step does, and nothing is told.
+/// If a step runs out of memory, every later step does too, and nothing is reported.
 #[derive(Drop)]
 pub struct Analyze {
     last: LastPackets,
@@ -34,8 +36,8 @@ impl Analyze {
     ghost use Rattle.plug_analyze.specs.AnalyzeSettings.{IsLawfulAnalyze};
     ghost use Rattle.plug_analyze.specs.AnalyzeStands.{StandsFor, StandsForSome, has_failed};
 
-    /// A plugin that met no cell yet. It takes room for its tables, and for notes on as many packets as the buffer
-    /// holds; the tables in force grow with the stream.
+    /// A new plugin, which has processed no cell. It allocates its tables, and room for notes on as many packets as
+    /// the buffer holds; the tables in force grow with the stream.
     pub fn new(alloc: Global, _conf: &AnalyzeConf, buffer: usize) -> Result<Analyze, AllocError>
         requires { IsLawfulAnalyze _conf.now }
         ensures rule { IfOk result (λ plugin. ⟦<Analyze as Plugin>⟧.rule plugin ≡ analyze_rule) }
@@ -53,7 +55,7 @@ impl Analyze {
         })
     }
 
-    // Meets the packet at a position, as long as memory was there.
+    // Processes the packet at a position, unless memory ran out before.
     #[inline]
     fn meet(&mut self, at: u64, packet: &Packet) -> Result<(), AllocError>
         requires met { has_failed self.old ≡ false → StandsForSome self.old at }

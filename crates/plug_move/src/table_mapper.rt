@@ -50,7 +50,7 @@ pub(crate) struct TableMapper {
 impl TableMapper {
     ghost use Rattle.plug_move.specs.MapperState.{StandsFor, has_failed};
 
-    /// No packet was met. It takes a table of PIDs of its own.
+    /// A new mapper, which has processed no packet. It allocates a table of PIDs of its own.
     pub(crate) fn new(alloc: Global, pairs: &PairList) -> Result<TableMapper, AllocError>
         requires { All IsPidPair pairs.now }
         ensures { IfOk result (λ mapper. StandsFor pairs.now mapper []) }
@@ -91,7 +91,7 @@ impl TableMapper {
         Ok(())
     }
 
-    /// Takes the next packet as long as memory was there.
+    /// Takes the next packet, unless memory ran out before.
     fn advance(&mut self, packet: &mut Packet, target: Option<u16>) -> Result<(), AllocError>
         requires { ForSome target (λ pid. pid < PID_COUNT) }
         ensures mapped { OnOk result ((pairs : List (ℕ × ℕ)) (met : List (List ℕ)) → StandsFor pairs self.old met

@@ -59,7 +59,7 @@ pub reads-other : {T : Type 0} (stands : T → ℕ → List (List ℕ) → Type 
     Reads stands it pid (packets_on pid met) → Reads stands it pid (packets_on pid (met ++ p ∷ []))
 reads-other stands it pid met p other h = subst (Reads stands it pid) (sym (on-other pid met p other)) h
 
--- a number of which this test fails is another one
+-- a packet is on another PID where its PID, read as a number, is another one
 pub other-pid : (pid n : ℕ) (p : List ℕ) → n ≡ pid_of p → (n ≡ pid → ⊥) → (pid_of p == pid) ≡ false
 other-pid pid n p at ne = ap (λ m. m == pid) (sym at) ∙ ne_eqb n pid ne
 

@@ -1,4 +1,4 @@
--- What is kept of the tables of a PID, and what is told of those that a packet completes.
+-- What is kept of the tables of a PID, and what is reported of those that a packet completes.
 -- This project's own rule.
 use Rattle.std.specs.Prelude.{◌≡◌, ℕ, false, List, [], ◌∷◌, ◌++◌, Option, nat_eq, option_map}
 use Rattle.indexmap.specs.IndexMap.{get}

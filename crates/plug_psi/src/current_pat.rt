@@ -12,7 +12,7 @@ use std::marker::Model;
 use ts_packet::PidRow;
 use ts_psi::{Pat, PatService};
 
-/// The PAT in force, if there is one. Of each PID it tells by one look whether one of its services has it.
+/// The PAT in force, if there is one. One look-up says of a PID whether one of its services has it.
 #[derive(Drop)]
 pub(crate) struct CurrentPat {
     pat: Option<Pat>,

@@ -59,10 +59,12 @@ impl<E: TableEdit + Drop> CycleEditor<E> {
         tables: Vec<TableRun>,
         packet: &Packet,
     ) -> Result<Packet, AllocError>
-        ensures replaced { IfOk result (λ new. (pid : ℕ) (taken : List (List ℕ)) → InCycles (E.change (edit_of self.old)) self.old pid taken
+        ensures replaced { IfOk result (λ new. (pid : ℕ) (taken : List (List ℕ))
+            → InCycles (E.change (edit_of self.old)) self.old pid taken
             → Completes pid taken packet.now tables.items → new ≡ replaced pid (E.change (edit_of self.old)) taken packet.now) }
         ensures stands { OnOk result ((pid : ℕ) (taken : List (List ℕ)) → InCycles (E.change (edit_of self.old)) self.old pid taken
-            → Completes pid taken packet.now tables.items → InCycles (E.change (edit_of self.old)) self.new pid (taken ++ packet.now ∷ [])) }
+            → Completes pid taken packet.now tables.items
+            → InCycles (E.change (edit_of self.old)) self.new pid (taken ++ packet.now ∷ [])) }
         ensures same_edit { edit_of self.new ≡ edit_of self.old }
     {
         // Nothing else of the packet matters.
@@ -108,7 +110,7 @@ fn renew_where_over<E: TableEdit>(
     Ok(false)
 }
 
-/// The next packet of a cycle, or a null packet where it has none, and the counter behind it.
+/// The next packet of a cycle, or a null packet where it has none, and the counter after it.
 fn next_in_place(cycle: &mut Cycle, counter: u8) -> (Packet, u8)
     requires { counter < 16 }
     ensures { NextInPlace cycle.old cycle.new counter result.0 result.1 }

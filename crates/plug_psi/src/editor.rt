@@ -64,7 +64,8 @@ impl<E: TableEdit + Drop> Editor<E> {
 
     /// Takes the next packet, and gives the one for its place.
     fn advance(&mut self, packet: &Packet) -> Result<Packet, AllocError>
-        ensures replaced { IfOk result (λ new. (pid : ℕ) (taken : List (List ℕ)) → StandsFor (E.change (edit_of self.old)) self.old pid taken
+        ensures replaced { IfOk result (λ new. (pid : ℕ) (taken : List (List ℕ))
+            → StandsFor (E.change (edit_of self.old)) self.old pid taken
             → new ≡ replaced pid (E.change (edit_of self.old)) taken packet.now) }
         ensures stands { OnOk result ((pid : ℕ) (taken : List (List ℕ)) → StandsFor (E.change (edit_of self.old)) self.old pid taken
             → StandsFor (E.change (edit_of self.old)) self.new pid (taken ++ packet.now ∷ [])) }

@@ -79,7 +79,7 @@ impl InForce {
     }
 
     /// Takes the next packet as `feed` does. Where the answer is `false`, the same PAT and PMTs are in force as before;
-    /// `true` tells that a PAT or a PMT may have come into force with it, so what was made of them is to be made anew.
+    /// `true` says that a PAT or a PMT may have come into force with it, so what was made of them is to be made anew.
     ///
     /// The tables that it completes on PID 0, or on a PID whose packets are taken, can be had by `take_pats` and
     /// `take_pmts`: who wants these tables too need not read them again.
@@ -89,7 +89,8 @@ impl InForce {
         ensures same { IfOk result (λ came. came ≡ false → (fed : List (List ℕ)) → StandsFor self.old fed → SameInForce fed packet.now) }
         ensures pats { OnOk result ((fed : List (List ℕ)) → StandsFor self.old fed → pid_of packet.now ≡ 0
             → Completes 0 (packets_on 0 fed) packet.now (pats_in self.new)) }
-        ensures pmts { OnOk result ((fed : List (List ℕ)) → StandsFor self.old fed → follows (pid_of packet.now) (fed ++ packet.now ∷ []) ≡ true
+        ensures pmts { OnOk result ((fed : List (List ℕ)) → StandsFor self.old fed
+            → follows (pid_of packet.now) (fed ++ packet.now ∷ []) ≡ true
             → Completes (pid_of packet.now) (taken_on follows (pid_of packet.now) fed) packet.now (pmts_in self.new)) }
         ensures spent { OnErr result (has_failed self.new ≡ true) }
         ensures stays_spent { has_failed self.old ≡ true → IsErr result }
@@ -154,14 +155,15 @@ impl InForce {
         }
     }
 
-    /// Takes the next packet, whose PID may have tables, as long as memory was there.
+    /// Takes the next packet, whose PID may have tables, unless memory ran out before.
     #[inline(never)]
     fn read(&mut self, packet: &Packet) -> Result<bool, AllocError>
         ensures stands { OnOk result ((fed : List (List ℕ)) → StandsFor self.old fed → StandsFor self.new (fed ++ packet.now ∷ [])) }
         ensures same { IfOk result (λ came. came ≡ false → (fed : List (List ℕ)) → StandsFor self.old fed → SameInForce fed packet.now) }
         ensures pats { OnOk result ((fed : List (List ℕ)) → StandsFor self.old fed → pid_of packet.now ≡ 0
             → Completes 0 (packets_on 0 fed) packet.now (pats_in self.new)) }
-        ensures pmts { OnOk result ((fed : List (List ℕ)) → StandsFor self.old fed → follows (pid_of packet.now) (fed ++ packet.now ∷ []) ≡ true
+        ensures pmts { OnOk result ((fed : List (List ℕ)) → StandsFor self.old fed
+            → follows (pid_of packet.now) (fed ++ packet.now ∷ []) ≡ true
             → Completes (pid_of packet.now) (taken_on follows (pid_of packet.now) fed) packet.now (pmts_in self.new)) }
         ensures same_failed { has_failed self.new ≡ has_failed self.old }
     {
@@ -196,7 +198,8 @@ fn take_first(
     ensures stands { OnOk result ((fed : List (List ℕ)) → HasPat zero.old fed → HasPat zero.new (fed ++ packet.now ∷ [])) }
     ensures pats { OnOk result ((fed : List (List ℕ)) → HasPat zero.old fed → pid_of packet.now ≡ 0
         → Completes 0 (packets_on 0 fed) packet.now pats.new.items) }
-    ensures same { IfOk result (λ came. came ≡ false → (fed : List (List ℕ)) → HasPat zero.old fed → pat_of (fed ++ packet.now ∷ []) ≡ pat_of fed) }
+    ensures same { IfOk result (λ came. came ≡ false → (fed : List (List ℕ)) → HasPat zero.old fed
+        → pat_of (fed ++ packet.now ∷ []) ≡ pat_of fed) }
 {
     if packet.pid() != PAT_PID {
         return Ok(false);

@@ -1,6 +1,6 @@
 //! The taken packets of a PID come in; its tables, edited and in cycles, go out in their place. Of packets of any PID,
 //! the PAT, the PMTs and the CAT in force, and the PIDs that they refer to. What edits share stands here too: tables read
-//! and sections written, descriptors with room, and values that are handed over where memory may be wanting.
+//! and sections written, descriptors with room, and values that are handed over where memory may run out.
 //! The layer above rests on `Editor::step`, by which each packet becomes the one of the definition, on `InForce`, and on
 //! `Referred`.
 #![tactic(auto)]

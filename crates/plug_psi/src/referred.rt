@@ -102,7 +102,7 @@ impl Referred {
         self.one.follower.cat.as_ref()
     }
 
-    /// Takes the next packet as long as memory was there.
+    /// Takes the next packet, unless memory ran out before.
     #[inline]
     fn take(&mut self, packet: &Packet) -> Result<(), AllocError>
         ensures stands { OnOk result ((fed : List (List ℕ)) → StandsFor self.old fed → StandsFor self.new (fed ++ packet.now ∷ [])) }
@@ -120,7 +120,8 @@ impl Referred {
 #[inline]
 fn take_cats(alloc: Global, one: &mut Reading<KeptCat>, packet: &Packet) -> Result<bool, AllocError>
     ensures stands { OnOk result ((fed : List (List ℕ)) → HasCat one.old fed → HasCat one.new (fed ++ packet.now ∷ [])) }
-    ensures same { IfOk result (λ came. came ≡ false → (fed : List (List ℕ)) → HasCat one.old fed → cat_of (fed ++ packet.now ∷ []) ≡ cat_of fed) }
+    ensures same { IfOk result (λ came. came ≡ false → (fed : List (List ℕ)) → HasCat one.old fed
+        → cat_of (fed ++ packet.now ∷ []) ≡ cat_of fed) }
 {
     if packet.pid() != CAT_PID {
         return Ok(false);
@@ -134,7 +135,8 @@ fn take_cats(alloc: Global, one: &mut Reading<KeptCat>, packet: &Packet) -> Resu
 fn read_cats(alloc: Global, one: &mut Reading<KeptCat>, packet: &Packet) -> Result<bool, AllocError>
     requires { pid_of packet.now ≡ 1 }
     ensures stands { OnOk result ((fed : List (List ℕ)) → HasCat one.old fed → HasCat one.new (fed ++ packet.now ∷ [])) }
-    ensures same { IfOk result (λ came. came ≡ false → (fed : List (List ℕ)) → HasCat one.old fed → cat_of (fed ++ packet.now ∷ []) ≡ cat_of fed) }
+    ensures same { IfOk result (λ came. came ≡ false → (fed : List (List ℕ)) → HasCat one.old fed
+        → cat_of (fed ++ packet.now ∷ []) ≡ cat_of fed) }
 {
     let kept = one.take(alloc, (), packet)?;
     Ok(kept.came)
@@ -157,7 +159,8 @@ fn renew_where(
     flags: &mut PidRow<bool>,
     came: bool,
 ) -> Result<(), AllocError>
-    ensures { OnOk result ((fed : List (List ℕ)) (packet : List ℕ) → Forced force.now (fed ++ packet ∷ []) → HasCat one.now (fed ++ packet ∷ [])
+    ensures { OnOk result ((fed : List (List ℕ)) (packet : List ℕ) → Forced force.now (fed ++ packet ∷ [])
+        → HasCat one.now (fed ++ packet ∷ [])
         → (came ≡ false → named_in (fed ++ packet ∷ []) ≡ named_in fed)
         → AreFlags flags.old (named_in fed) → AreFlags flags.new (named_in (fed ++ packet ∷ []))) }
 {

@@ -35,7 +35,7 @@ pub record Stands (way : Way) (service : ℕ) (of_pmt : Option ℕ) (shared : Bo
 abbrev pub FatesStand : PidFates → Option TableHolding → (ℕ → Option TableHolding) → Type 0
 FatesStand fates pat pmts = Stands fates.way fates.service fates.of_pmt fates.shared fates.flags pat pmts
 
--- the fates and the tables in force stand for the packets that were met
+-- the fates and the tables in force stand for the packets that were processed
 pub record FollowsService (way : Way) (service : ℕ) (follower : ServiceFollower) (met : List (List ℕ)) : Type 0 where
   pub same_way : follower.fates.way ≡ way
   pub same_service : follower.fates.service ≡ service

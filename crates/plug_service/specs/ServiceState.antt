@@ -1,5 +1,5 @@
--- When a plugin stands for the packets that it met.
--- This project's own rule: once memory was wanting it stands for none.
+-- When a plugin stands for the packets that it processed.
+-- This project's own rule: once memory ran out it stands for none.
 use Rattle.std.specs.Prelude.{◌≡◌, ℕ, false, List}
 use Rattle.chain_model.specs.PluginRule.{PluginRule}
 use Rattle.plug_service.specs.FatesState.{FollowsService}
@@ -13,7 +13,7 @@ pub record Served (way : Way) (service : ℕ) (plugin : OneService) (met : List 
   pub followed : FollowsService way service plugin.follower met
   pub edited : EditorsStand way service plugin.editors met
 
--- the plugin stands for the packets, unless memory was wanting
+-- the plugin stands for the packets, unless memory ran out
 abbrev pub StandsFor : OneService → List (List ℕ) → Type 0
 StandsFor plugin met = plugin.failed ≡ false → Served plugin.way plugin.service plugin met
 

@@ -17,7 +17,7 @@ use ts_packet::{Cell, Packet};
 
 /// Keeps one service of a transport stream alone, or removes it.
 ///
-/// A step may want memory, and then every later step on a live cell does.
+/// If a step runs out of memory, every later step on a live cell does too.
 #[derive(Drop)]
 pub(crate) struct OneService {
     pub(crate) way: Way,
@@ -32,7 +32,7 @@ pub(crate) struct OneService {
 impl OneService {
     ghost use Rattle.plug_service.specs.ServiceState.{Served, StandsFor, rule_of};
 
-    /// A plugin that met no cell yet.
+    /// A new plugin, which has processed no cell.
     pub(crate) fn new(
         alloc: Global,
         way: Way,
@@ -106,7 +106,7 @@ impl OneService {
         Ok(passes)
     }
 
-    /// Takes the next packet as long as memory was there. After `AllocError` the packet is as it was.
+    /// Takes the next packet, unless memory ran out before. After `AllocError` the packet is as it was.
     #[inline]
     fn advance(&mut self, packet: &mut Packet) -> Result<bool, AllocError>
         ensures made { IfOk result (λ passes. (way : Way) (service : ℕ) (met : List (List ℕ)) → Served way service self.old met

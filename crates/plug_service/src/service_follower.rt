@@ -26,7 +26,7 @@ pub(crate) struct ServiceFollower {
 impl ServiceFollower {
     ghost use Rattle.plug_service.specs.FatesState.{FollowsService};
 
-    /// No packet was met.
+    /// A new follower, which has processed no packet.
     pub(crate) fn new(alloc: Global, way: Way, service: u16) -> Result<ServiceFollower, AllocError>
         ensures { IfOk result (λ follower. FollowsService way service follower []) }
     {
@@ -37,7 +37,7 @@ impl ServiceFollower {
         Ok(ServiceFollower { force, fates })
     }
 
-    /// Meets the next packet, of any PID, and answers its fate.
+    /// Processes the next packet, of any PID, and answers its fate.
     #[inline]
     pub(crate) fn meet(&mut self, alloc: Global, packet: &Packet) -> Result<Fate, AllocError>
         ensures stands { OnOk result ((way : Way) (service : ℕ) (met : List (List ℕ)) → FollowsService way service self.old met

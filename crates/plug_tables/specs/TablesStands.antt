@@ -1,4 +1,4 @@
--- When a value of `tables` stands for the cells that it met. This project's own rule.
+-- When a value of `tables` stands for the cells that it processed. This project's own rule.
 use Rattle.std.specs.Prelude.{Bool, ℕ, List}
 use Rattle.ts_packet.specs.declared.cell.Cell.{Cell}
 use Rattle.chain_model.specs.PluginRule.{PluginRule}
@@ -7,7 +7,7 @@ use Rattle.plug_tables.specs.TablesState.{TellsTables}
 use Rattle.plug_tables.specs.TableReaderState.{choice_in}
 use Rattle.plug_tables.specs.declared.tables.Tables.{Tables}
 
--- whether memory was wanting
+-- whether memory ran out
 abbrev pub has_failed : Tables → Bool
 has_failed s = s.failed
 

@@ -13,7 +13,7 @@ abbrev pub StartsFrom : ℕ → List Line → Type 0
 StartsFrom cut [] = Unit {0}
 StartsFrom cut (line ∷ lines) = cut ≤ line.at
 
--- the packets of the cells were met, and their lines are told
+-- the packets of the cells were processed, and their lines are kept to be reported
 pub record TellsTables (reader : TableReader) (tids : List (ℕ × ℕ)) (told : List Line) (history : List Cell) (mark : ℕ) : Type 0 where
   pub met : HasMet reader (live_packets history)
   pub lines : told ≡ placed_after (rule_with (choice_in reader) tids) [] history

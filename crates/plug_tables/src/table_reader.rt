@@ -31,7 +31,8 @@ impl TableReader {
     ghost use Rattle.plug_tables.specs.WatchedPackets.{is_watched, tables_with};
     ghost use Rattle.plug_tables.specs.TableReaderState.{HasMet, choice_in};
 
-    /// No packet was met. The PIDs that are watched are those of a list, or the usual ones where it is empty.
+    /// A new reader, which has processed no packet. The PIDs that are watched are those of a list, or the usual ones
+    /// where it is empty.
     pub fn new(alloc: Global, list: &NumberSet) -> Result<TableReader, AllocError>
         ensures choice { IfOk result (λ reader. choice_in reader ≡ choice_of list.now) }
         ensures fresh { IfOk result (λ reader. HasMet reader []) }
@@ -45,8 +46,8 @@ impl TableReader {
         })
     }
 
-    /// Meets the next packet, of any PID, and gives the tables that it completes on its PID, where that is watched. After
-    /// `AllocError` no more is to be asked.
+    /// Processes the next packet, of any PID, and gives the tables that it completes on its PID, where that is watched.
+    /// After `AllocError` no more is to be asked.
     pub fn meet(&mut self, packet: &Packet) -> Result<Vec<TableRun>, AllocError>
         ensures stands { OnOk result ((met : List (List ℕ)) → HasMet self.old met → HasMet self.new (met ++ packet.now ∷ [])) }
         ensures tables { IfOk result (λ tables. (met : List (List ℕ)) → HasMet self.old met

@@ -1,3 +1,5 @@
+//! The plugin `tables`.
+
 ghost use Rattle.std.specs.Prelude.{◌≡◌, ◌<◌, ◌∷◌, IfOk, IfSome, IfNone, OnOk, [], None, nat_lt};
 ghost use Rattle.std.specs.List.{take_while};
 ghost use Rattle.plug_tables.specs.TablesRule.{tables_rule};
@@ -13,9 +15,9 @@ use std::alloc::{AllocError, Global};
 use std::collections::VecDeque;
 use ts_packet::{Cell, Packet};
 
-/// Tells the tables of a stream as JSON, each at the packet that completes it.
+/// Reports the tables of a stream as JSON, each at the packet that completes it.
 ///
-/// A step may want memory, and then every later step does, and nothing is told.
+/// If a step runs out of memory, every later step does too, and nothing is reported.
 #[derive(Drop)]
 pub struct Tables {
     reader: TableReader,
@@ -34,7 +36,7 @@ impl Tables {
     ghost use Rattle.plug_tables.specs.TablesSettings.{IsLawfulTables};
     ghost use Rattle.plug_tables.specs.TablesStands.{StandsFor, has_failed, rule_in};
 
-    /// A plugin that met no cell yet. Its lines, and what is kept of the tables, grow with the stream.
+    /// A new plugin, which has processed no cell. Its lines, and what is kept of the tables, grow with the stream.
     pub fn new(alloc: Global, conf: &TablesConf, buffer: usize) -> Result<Tables, AllocError>
         requires { IsLawfulTables conf.now }
         ensures rule { IfOk result (λ plugin. ⟦<Tables as Plugin>⟧.rule plugin ≡ tables_rule conf.now) }
@@ -54,7 +56,7 @@ impl Tables {
         })
     }
 
-    // Meets the packet at a position, as long as memory was there.
+    // Processes the packet at a position, unless memory ran out before.
     fn meet(&mut self, at: u64, packet: &Packet) -> Result<(), AllocError>
         ensures met { OnOk result ((history : List GivenCell) (mark : ℕ) → StandsFor self.old history mark → length history ≡ at → (labels : ℕ)
             → StandsFor self.new (history ++ Live packet.now labels ∷ []) mark) }
@@ -68,7 +70,7 @@ impl Tables {
         Ok(())
     }
 
-    // Tells the tables that the packet at a position completes.
+    // Adds the lines of the tables that the packet at a position completes.
     fn take(&mut self, at: u64, packet: &Packet) -> Result<(), AllocError>
         ensures met { OnOk result ((history : List GivenCell) (mark : ℕ) → StandsFor self.old history mark → length history ≡ at → (labels : ℕ)
             → StandsFor self.new (history ++ Live packet.now labels ∷ []) mark) }
