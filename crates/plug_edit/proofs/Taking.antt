@@ -1,16 +1,17 @@
 -- One cell more.
-use Rattle.std.proofs.Common.{◌≡◌, ◌≢◌, ℕ, ◌<◌, ◌≤◌, Bool, true, false, List, [], ◌∷◌, ◌++◌, length, filter, refl, sym, ◌∙◌, ap, arith, append-nil, length-append, subst}
-use Rattle.std.specs.Prelude.{◌&&◌, if◌then◌else◌, nat_eq, nat_lt}
+use Rattle.std.proofs.Common.{◌≡◌, ◌≢◌, ℕ, ◌<◌, ◌≤◌, Bool, true, false, List, [], ◌∷◌, ◌++◌, length, filter, refl, sym, ◌∙◌, ap, arith, length-append, subst}
+use Rattle.std.specs.Prelude.{◌==◌, ◌&&◌, if◌then◌else◌, nat_eq, nat_lt}
 use Rattle.std.proofs.lemmas.Grind.{flat_map-append}
-use Rattle.std.proofs.lemmas.List.Elements.{filter-append}
 use Rattle.ts_packet.specs.declared.cell.Cell.{Cell}
 use Rattle.ts_packet.specs.Cells.{Live, live_packets, packet_in}
 use Rattle.ts_packet.specs.declared.numbers.TheConstants.{NULL_PID}
 use Rattle.ts_packet.specs.Header.{pid_of}
+use Rattle.ts_demux.specs.TakenWhere.{taken_on}
+use Rattle.ts_demux.proofs.TakenLemmas.{taken-filter, taken-more, with_if}
 use Rattle.plug_psi.specs.Edits.{Change}
 use Rattle.plug_psi.specs.EditorStands.{StandsFor, has_failed}
 use Rattle.plug_psi.specs.declared.editor.Editor.{Editor}
-use Rattle.plug_edit.specs.EditRule.{is_taken, taken_of}
+use Rattle.plug_edit.specs.EditRule.{is_taken, taken_of, takes}
 
 if_true : {X : Type 0} (b : Bool) (x y : X) → b ≡ true → (if b then x else y) ≡ x
 if_true true x y e = refl
@@ -55,18 +56,20 @@ passed_other pid packet new e = sym (if_false (is_taken pid packet) new packet e
 pub passed_taken : (pid : ℕ) (packet new : List ℕ) → is_taken pid packet ≡ true → new ≡ (if is_taken pid packet then new else packet)
 passed_taken pid packet new e = sym (if_true (is_taken pid packet) new packet e)
 
-taken-live : (pid : ℕ) (history : List Cell) (packet : List ℕ) (labels : ℕ) → taken_of pid (history ++ Live packet labels ∷ []) ≡ taken_of pid history ++ filter (is_taken pid) (packet ∷ [])
-taken-live pid history packet labels =
-    ap (filter (is_taken pid)) (flat_map-append packet_in history (Live packet labels ∷ []))
-    ∙ filter-append (is_taken pid) (live_packets history) (packet ∷ [])
+-- what is taken are the packets that pass the test of each
+pub filtered : (pid : ℕ) (history : List Cell) → taken_of pid history ≡ filter (is_taken pid) (live_packets history)
+filtered pid history = taken-filter (is_taken pid) [] (live_packets history)
 
-taken-other : (pid : ℕ) (history : List Cell) (packet : List ℕ) (labels : ℕ) → is_taken pid packet ≡ false → taken_of pid (history ++ Live packet labels ∷ []) ≡ taken_of pid history
-taken-other pid history packet labels e =
-    taken-live pid history packet labels ∙ ap (λ t. taken_of pid history ++ t) (if_false (is_taken pid packet) (packet ∷ []) [] e) ∙ append-nil (taken_of pid history)
+one-more : (pid : ℕ) (history : List Cell) (packet : List ℕ) (labels : ℕ) → taken_of pid (history ++ Live packet labels ∷ []) ≡ with_if (is_taken pid packet) (taken_of pid history) packet
+one-more pid history packet labels =
+    ap (taken_on takes pid) (flat_map-append packet_in history (Live packet labels ∷ []))
+    ∙ taken-more (λ upto packet. (pid_of packet == pid) && takes pid upto) (live_packets history) packet
 
-taken-more : (pid : ℕ) (history : List Cell) (packet : List ℕ) (labels : ℕ) → is_taken pid packet ≡ true → taken_of pid (history ++ Live packet labels ∷ []) ≡ taken_of pid history ++ packet ∷ []
-taken-more pid history packet labels e =
-    taken-live pid history packet labels ∙ ap (λ t. taken_of pid history ++ t) (if_true (is_taken pid packet) (packet ∷ []) [] e)
+other-more : (pid : ℕ) (history : List Cell) (packet : List ℕ) (labels : ℕ) → is_taken pid packet ≡ false → taken_of pid (history ++ Live packet labels ∷ []) ≡ taken_of pid history
+other-more pid history packet labels e = one-more pid history packet labels ∙ ap (λ b. with_if b (taken_of pid history) packet) e
+
+own-more : (pid : ℕ) (history : List Cell) (packet : List ℕ) (labels : ℕ) → is_taken pid packet ≡ true → taken_of pid (history ++ Live packet labels ∷ []) ≡ taken_of pid history ++ packet ∷ []
+own-more pid history packet labels e = one-more pid history packet labels ∙ ap (λ b. with_if b (taken_of pid history) packet) e
 
 marked : (mark : ℕ) (history : List Cell) (cell : Cell) → mark ≤ length history → mark ≤ length (history ++ cell ∷ [])
 marked mark history cell h = omega (arith, h, length-append history (cell ∷ []))
@@ -79,7 +82,7 @@ pub meets_other :
     {E : Type 0} (change : List (List ℕ) → Change) (editor : Editor E) (pid mark : ℕ) (history : List Cell) (cell : Cell) (packet : List ℕ) (labels : ℕ) →
     cell ≡ Live packet labels → is_taken pid packet ≡ false → Stands change editor pid history mark → Stands change editor pid (history ++ cell ∷ []) mark
 meets_other change editor pid mark history cell packet labels is e s = (
-  λ works below. subst (StandsFor change editor pid) (sym (ap (λ x. taken_of pid (history ++ x ∷ [])) is ∙ taken-other pid history packet labels e)) (s.0 works below),
+  λ works below. subst (StandsFor change editor pid) (sym (ap (λ x. taken_of pid (history ++ x ∷ [])) is ∙ other-more pid history packet labels e)) (s.0 works below),
   marked mark history cell s.1,
 )
 
@@ -90,7 +93,7 @@ pub meets_taken :
     Stands change old pid history mark → Stands change' new pid (history ++ cell ∷ []) mark
 meets_taken change change' old new pid mark history cell packet labels is e below same works step s = (
   λ _ _. subst (λ c. StandsFor c new pid (taken_of pid (history ++ cell ∷ []))) same
-      (subst (StandsFor change new pid) (sym (ap (λ x. taken_of pid (history ++ x ∷ [])) is ∙ taken-more pid history packet labels e)) (step pid (taken_of pid history) (s.0 works below))),
+      (subst (StandsFor change new pid) (sym (ap (λ x. taken_of pid (history ++ x ∷ [])) is ∙ own-more pid history packet labels e)) (step pid (taken_of pid history) (s.0 works below))),
   marked mark history cell s.1,
 )
 

@@ -1,10 +1,11 @@
 -- The rule of an editor of the tables of one PID.
 -- This project's own rule, over the cycles of edited contents: null packets, on PID 8191, are never taken.
-use Rattle.std.specs.Prelude.{ℕ, ◌&&◌, Bool, List, filter, nat_eq, nat_lt, if◌then◌else◌}
+use Rattle.std.specs.Prelude.{ℕ, ◌&&◌, Bool, List, nat_eq, nat_lt, if◌then◌else◌}
 use Rattle.ts_packet.specs.declared.cell.Cell.{Cell}
 use Rattle.ts_packet.specs.declared.numbers.TheConstants.{NULL_PID}
 use Rattle.ts_packet.specs.Cells.{live_packets}
 use Rattle.ts_packet.specs.Header.{pid_of}
+use Rattle.ts_demux.specs.TakenWhere.{taken_on}
 use Rattle.chain_model.specs.PluginRule.{PluginRule, passes}
 use Rattle.plugin_trait.specs.SilentRule.{silent_rule}
 use Rattle.plug_psi.specs.Edits.{Change}
@@ -14,9 +15,13 @@ use Rattle.plug_psi.specs.EditedCycles.{replaced}
 abbrev pub is_taken : ℕ → List ℕ → Bool
 is_taken pid packet = nat_eq (pid_of packet) pid && nat_lt pid NULL_PID
 
+-- whether an editor takes the packets on a PID, which goes by the PID alone
+abbrev pub takes : ℕ → List (List ℕ) → Bool
+takes pid packets = nat_lt pid NULL_PID
+
 -- the packets that the editor took, of the cells that it met
 abbrev pub taken_of : ℕ → List Cell → List (List ℕ)
-taken_of pid history = filter (is_taken pid) (live_packets history)
+taken_of pid history = taken_on takes pid (live_packets history)
 
 -- a taken packet is replaced by that of the cycle of the edited contents, and all others pass
 abbrev pub edit_rule : ℕ → (List (List ℕ) → Change) → PluginRule

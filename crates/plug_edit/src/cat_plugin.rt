@@ -10,7 +10,7 @@ use plugin_trait::Plugin;
 use std::alloc::{AllocError, Global};
 use ts_psi::Cat;
 
-/// The edit of `cat`, of each current CAT that reads.
+/// What `cat` makes of a current CAT.
 #[derive(Drop)]
 pub struct CatEdit {
     conf: EditCatConf,

@@ -10,17 +10,18 @@ use ts_packet::{Cell, NULL_PID};
 
 /// Puts packets of cycles of the edited contents of a PID in the place of its packets.
 ///
-/// A step on the PID may want memory, and then every later step on it does.
+/// A step on the PID may run out of memory, and then every later step on it does too.
 #[derive(Drop)]
 pub struct EditPid<E: TableEdit + Drop> {
     pid: u16,
-    /// It is not asked where the PID is that of null packets.
+    /// It is not used where the PID is that of null packets.
     editor: Editor<E>,
     alloc: Global,
 }
 
 impl<E: TableEdit + Drop> EditPid<E> {
     /// A plugin that met no cell yet. On PID 8191 nothing is edited.
+    #[tactic(auto, unfolding(ts_demux::specs::TakenWhere::taken_behind))]
     pub fn over(alloc: Global, pid: u16, edit: E) -> Result<EditPid<E>, AllocError>
         requires { pid ≤ NULL_PID }
         ensures rule { IfOk result (λ plugin. ⟦<EditPid<E> as Plugin>⟧.rule plugin ≡ edit_rule pid (E.change edit)) }

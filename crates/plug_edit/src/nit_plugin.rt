@@ -10,7 +10,7 @@ use plugin_trait::Plugin;
 use std::alloc::{AllocError, Global};
 use ts_si::Nit;
 
-/// The edit of `nit`, of each current NIT of the actual network that reads.
+/// What `nit` makes of a current NIT of the actual network.
 #[derive(Drop)]
 pub struct NitEdit {
     conf: EditNitConf,

@@ -10,7 +10,7 @@ use plugin_trait::Plugin;
 use std::alloc::{AllocError, Global};
 use ts_psi::Pat;
 
-/// The edit of `pat`, of each current PAT that reads.
+/// What `pat` makes of a current PAT.
 #[derive(Drop)]
 pub struct PatEdit {
     conf: EditPatConf,

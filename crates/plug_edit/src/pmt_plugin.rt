@@ -10,7 +10,7 @@ use plugin_trait::Plugin;
 use std::alloc::{AllocError, Global};
 use ts_psi::Pmt;
 
-/// The edit of `pmt`, of each current PMT that reads.
+/// What `pmt` makes of a current PMT.
 #[derive(Drop)]
 pub struct PmtEdit {
     conf: EditPmtConf,

@@ -10,7 +10,7 @@ use plugin_trait::Plugin;
 use std::alloc::{AllocError, Global};
 use ts_si::Sdt;
 
-/// The edit of `sdt`, of each current SDT of the actual transport stream that reads.
+/// What `sdt` makes of a current SDT of the actual transport stream.
 #[derive(Drop)]
 pub struct SdtEdit {
     conf: EditSdtConf,
