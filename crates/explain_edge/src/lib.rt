@@ -5,7 +5,9 @@
 mod edge_texts;
 mod names;
 mod saying;
+mod word_row;
 
 pub use edge_texts::{after_name, trouble_text, words_text};
 pub use names::named_behind;
 pub use saying::{is_wanted, write_explained};
+pub use word_row::WordRow;

@@ -1,5 +1,5 @@
 //! What is said of a call that ended by a fault: the wrong word, the file with the system's reason, or the place of lost sync.
-use explain_edge::{named_behind, trouble_text, words_text};
+use explain_edge::{WordRow, named_behind, trouble_text, words_text};
 use std::alloc::{AllocError, Global};
 use switch_top::SwitchStatus;
 use ts_os::Trouble;
@@ -8,6 +8,34 @@ use ts_outside::Purpose;
 /// How the words may stand.
 const USAGE: &str =
     "tsswitch [--cycle N] [--buffer-packets N] -I file NAME [-I file NAME] .. [-O file NAME | -O drop]";
+
+/// What may stand after a word.
+static ROWS: [WordRow; 6] = [
+    WordRow {
+        after: "",
+        said: "the first word is --cycle, --buffer-packets or -I",
+    },
+    WordRow {
+        after: "--cycle",
+        said: "--cycle N: 1 to 1000: plays the whole row of inputs so often",
+    },
+    WordRow {
+        after: "--buffer-packets",
+        said: "--buffer-packets N: 1 to 1,000,000: how many packets each of the two buffers has",
+    },
+    WordRow {
+        after: "-I",
+        said: "-I file NAME: a file or a pipe by its name",
+    },
+    WordRow {
+        after: "-O",
+        said: "-O file NAME, or -O drop",
+    },
+    WordRow {
+        after: "file",
+        said: "a name, which is not empty and does not begin with a dash",
+    },
+];
 
 /// The size of a packet in bytes.
 const PACKET_SIZE: u64 = 188;
@@ -21,15 +49,41 @@ fn sync_text(
 ) -> Result<String, AllocError> {
     let name = named_behind(words, "-I", input).unwrap_or("the input");
     let at = packet.saturating_mul(PACKET_SIZE);
-    format!(in alloc; "{name}: byte {at} is not 0x47\n")
+    format!(in alloc; "input {input}, {name}: byte {at} is not 0x47\n")
 }
 
-// The name of the input, where there is one input alone.
-fn input_name(words: &[String]) -> &str {
-    match named_behind(words, "-I", 2) {
-        Some(_) => "an input",
-        None => named_behind(words, "-I", 1).unwrap_or("the input"),
+// How many inputs there are.
+fn input_count(words: &[String]) -> u64 {
+    let mut count = 0u64;
+    for word in words {
+        if word.as_str() == "-I" {
+            count = count.saturating_add(1);
+        }
     }
+    count
+}
+
+// Which input was opened so late, from 1 on: after the last one comes the first again.
+fn input_of(words: &[String], number: u64) -> u32 {
+    let before = number.saturating_sub(1);
+    let count = input_count(words);
+    if count == 0 {
+        return 1;
+    }
+    u32::try_from(before % count).unwrap_or(0).saturating_add(1)
+}
+
+// What is said of an input that was not opened or read.
+fn input_text(alloc: Global, words: &[String], trouble: Trouble) -> Result<String, AllocError> {
+    let input = input_of(words, trouble.number);
+    let name = named_behind(words, "-I", input).unwrap_or("the input");
+    let said = trouble.reason.text();
+    format!(in alloc; "input {input}, {name}: {said}\n")
+}
+
+fn output_text(alloc: Global, words: &[String], trouble: Trouble) -> Result<String, AllocError> {
+    let name = named_behind(words, "-O", 1).unwrap_or("standard output");
+    trouble_text(alloc, name, trouble)
 }
 
 // What is said of a file that the system refused; `None` where the trouble is not of the kind that such an end has.
@@ -39,14 +93,11 @@ fn file_text(
     status: SwitchStatus,
     trouble: Trouble,
 ) -> Result<Option<String>, AllocError> {
-    let name = match (status, trouble.purpose) {
-        (SwitchStatus::ReadFault, Purpose::Input) => input_name(words),
-        (SwitchStatus::WriteFault, Purpose::Output) => {
-            named_behind(words, "-O", 1).unwrap_or("standard output")
-        }
+    let text = match (status, trouble.purpose) {
+        (SwitchStatus::ReadFault, Purpose::Input) => input_text(alloc, words, trouble)?,
+        (SwitchStatus::WriteFault, Purpose::Output) => output_text(alloc, words, trouble)?,
         _ => return Ok(None),
     };
-    let text = trouble_text(alloc, name, trouble)?;
     Ok(Some(text))
 }
 
@@ -56,13 +107,16 @@ pub(crate) fn end_text(
     words: &[String],
     status: SwitchStatus,
     trouble: Option<Trouble>,
-) -> Result<Option<String>, AllocError> {
-    match (status, trouble) {
-        (SwitchStatus::Words { word }, _) => Ok(Some(words_text(alloc, words, word, USAGE)?)),
-        (SwitchStatus::Sync { input, packet }, _) => {
-            Ok(Some(sync_text(alloc, words, input, packet)?))
+) -> Result<Option<Vec<u8>>, AllocError> {
+    let text = match (status, trouble) {
+        (SwitchStatus::Words { word }, _) => {
+            return Ok(Some(words_text(alloc, &ROWS, words, word, USAGE)?));
         }
-        (_, Some(trouble)) => file_text(alloc, words, status, trouble),
-        _ => Ok(None),
-    }
+        (SwitchStatus::Sync { input, packet }, _) => {
+            Some(sync_text(alloc, words, input, packet)?)
+        }
+        (_, Some(trouble)) => file_text(alloc, words, status, trouble)?,
+        _ => None,
+    };
+    Ok(text.map(|text| text.into_bytes()))
 }

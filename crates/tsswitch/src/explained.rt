@@ -16,6 +16,6 @@ pub(crate) fn explain(
         return;
     }
     if let Ok(Some(text)) = end_text(rt.alloc(), words, status, trouble) {
-        write_explained(rt, text.as_bytes());
+        write_explained(rt, text.as_slice());
     }
 }

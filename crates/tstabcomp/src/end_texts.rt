@@ -1,13 +1,20 @@
 //! What is said of a call that ended by a fault: the wrong word, the file with the system's reason, or the place of the fault in it.
-use explain_edge::{after_name, trouble_text, words_text};
+use explain_edge::{WordRow, after_name, trouble_text, words_text};
 use std::alloc::{AllocError, Global};
+use tabcomp_core::CompileFault;
 use tabcomp_top::TabStatus;
-use table_fault_texts::{compile_text, decompile_text};
+use table_fault_texts::{compile_text, decompile_text, syntax_fault_text};
 use ts_os::Trouble;
 use ts_outside::Purpose;
 
 /// How the words may stand.
 const USAGE: &str = "tstabcomp --compile | --decompile | --canonical [INPUT [OUTPUT]]";
+
+/// What may stand after a word.
+static ROWS: [WordRow; 1] = [WordRow {
+    after: "",
+    said: "the first word is --compile, --decompile or --canonical",
+}];
 
 /// A name on the command line; `stream` where it is absent or empty.
 fn name_or<'a>(words: &'a [String], place: usize, stream: &'a str) -> &'a str {
@@ -31,19 +38,33 @@ fn refused_text(alloc: Global, words: &[String], trouble: Trouble) -> Result<Vec
     Ok(text.into_bytes())
 }
 
+// What is said of a text that was not compiled; its bytes are there where they were kept.
+fn text_fault(
+    alloc: Global,
+    fault: &CompileFault,
+    file: Option<&[u8]>,
+) -> Result<Vec<u8>, AllocError> {
+    match (fault, file) {
+        (CompileFault::NotJson, Some(bytes)) => {
+            Ok(syntax_fault_text(alloc, bytes)?.into_bytes())
+        }
+        _ => compile_text(alloc, fault),
+    }
+}
+
 /// The text; `None` where there is nothing to say.
 pub(crate) fn end_text(
     alloc: Global,
     words: &[String],
     status: &TabStatus,
     trouble: Option<Trouble>,
+    file: Option<&[u8]>,
 ) -> Result<Option<Vec<u8>>, AllocError> {
     let said = match status {
         TabStatus::Words { word } => {
-            let text = words_text(alloc, words, *word, USAGE)?;
-            return Ok(Some(text.into_bytes()));
+            return Ok(Some(words_text(alloc, &ROWS, words, *word, USAGE)?));
         }
-        TabStatus::Compile(fault) => compile_text(alloc, fault)?,
+        TabStatus::Compile(fault) => text_fault(alloc, fault, file)?,
         TabStatus::Decompile(fault) => decompile_text(alloc, *fault)?.into_bytes(),
         TabStatus::TooMany => Vec::from_slice(alloc, b"longer than 16,777,216 bytes\n")?,
         TabStatus::ReadFault | TabStatus::WriteFault => return file_text(alloc, words, trouble),

@@ -1,21 +1,13 @@
 //! What is shown beside the line of a status, on standard error alone.
 use crate::end_texts::end_text;
-use explain_edge::{is_wanted, write_explained};
+use explain_edge::write_explained;
 use tabcomp_top::TabStatus;
-use ts_os::Trouble;
+use ts_os::OsDesk;
 
-/// Explains how a call ended where that is wanted. Running out of memory and a fault of standard error leave it out, and change
+/// Explains how a call at this desk ended. Running out of memory and a fault of standard error leave it out, and change
 /// nothing else.
-pub(crate) fn explain(
-    rt: &HostRuntime,
-    words: &[String],
-    status: &TabStatus,
-    trouble: Option<Trouble>,
-) {
-    if !is_wanted(rt) {
-        return;
-    }
-    if let Ok(Some(text)) = end_text(rt.alloc(), words, status, trouble) {
+pub(crate) fn explain(rt: &HostRuntime, words: &[String], status: &TabStatus, desk: &OsDesk) {
+    if let Ok(Some(text)) = end_text(rt.alloc(), words, status, desk.trouble(), desk.file()) {
         write_explained(rt, text.as_slice());
     }
 }

@@ -6,6 +6,7 @@
 mod end_texts;
 mod explained;
 
+use explain_edge::is_wanted;
 use explained::explain;
 use std::io::ErrorKind;
 use std::process::ExitCode;
@@ -19,7 +20,7 @@ const NO_MEMORY: u8 = 1;
 
 const FAULTY_WORDS: u8 = 2;
 
-/// The words behind the program's name.
+/// The words after the program's name.
 fn words(rt: &(impl env::Env + AllocGlobal)) -> io::Result<Vec<String>> {
     let mut all = env::args(rt)?;
     let _name = all.next();
@@ -36,7 +37,13 @@ fn main(rt: HostRuntime) -> ExitCode {
         }
         Err(_) => return ExitCode::from(NO_MEMORY),
     };
+    let explained = is_wanted(&rt);
+    if explained {
+        desk.keep_file();
+    }
     let status = tabcomp_call(rt.alloc(), words.as_slice(), &mut desk);
-    explain(&rt, words.as_slice(), &status, desk.trouble());
+    if explained {
+        explain(&rt, words.as_slice(), &status, &desk);
+    }
     ExitCode::from(status.exit_code())
 }
