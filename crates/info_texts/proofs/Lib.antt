@@ -1,3 +1,4 @@
+-- The lemmas of `info_texts`.
 pub mod LineLemmas
 pub mod JsonLemmas
 mod Rows

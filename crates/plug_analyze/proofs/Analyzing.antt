@@ -48,7 +48,7 @@ analyzes_dropped last kept services history mark few w = record {
   short = omega (arith, few, length-append history (Dropped ∷ []));
 }
 
--- a packet, of which each part was told
+-- a packet, each part of which is known
 pub analyzes_live : (last last_new : LastPackets) (kept kept_new : Noted) (services services_new : Services) (history : List Cell) (mark : ℕ) (packet : List ℕ) (labels : ℕ) (note : Note)
     → length history < POSITION_LIMIT → Analyzes last kept services history mark
     → Remembers all_pids last_new (history ++ Live packet labels ∷ []) → Serves services_new (history ++ Live packet labels ∷ []) mark

@@ -1,3 +1,4 @@
+-- The lemmas of `plug_analyze`.
 pub mod CountersLemmas
 pub mod NotesLemmas
 pub mod NotesKeeping

@@ -32,7 +32,7 @@ live-live history packet labels = flat_map-append packet_in history (Live packet
 live-dropped : (history : List Cell) → live_packets (history ++ Dropped ∷ []) ≡ live_packets history
 live-dropped history = flat_map-append packet_in history (Dropped ∷ []) ∙ append-nil (live_packets history)
 
--- a change that is not below a position tells nothing of it
+-- a change that is not below a position has no part in it
 below_push : (k : ℕ) (services : List ServiceCount) (changes : List Change) (change : Change) → k ≤ change.at
     → services_below k services (changes ++ change ∷ []) ≡ services_below k services changes
 below_push k services [] change le = ap (λ (b : Bool). if b then change.services.items else services) (not_below change.at k le)
@@ -42,7 +42,7 @@ below_push k services (c ∷ cs) change le =
       | false ↦ refl
     ]
 
--- behind all changes the last one tells
+-- after all changes the last one decides
 below_last : (k : ℕ) (services : List ServiceCount) (changes : List Change) (change : Change) → All (λ (c : Change). c.at < k) changes → change.at < k
     → services_below k services (changes ++ change ∷ []) ≡ change.services.items
 below_last k services [] change early lt = ap (λ (b : Bool). if b then change.services.items else services) (is_below change.at k lt)
@@ -50,7 +50,7 @@ below_last k services (c ∷ cs) change early lt =
     ap (λ (b : Bool). if b then services_below k c.services.items (cs ++ change ∷ []) else services) (is_below c.at k (All-head (λ (c : Change). c.at < k) c cs early))
     ∙ below_last k c.services.items cs change (All-tail (λ (c : Change). c.at < k) c cs early) lt
 
--- behind all changes nothing changes
+-- after all changes nothing changes
 below_all : (j k : ℕ) (services : List ServiceCount) (changes : List Change) → All (λ (c : Change). c.at < j) changes → j ≤ k
     → services_below k services changes ≡ services_below j services changes
 below_all j k services [] early le = refl
@@ -60,7 +60,7 @@ below_all j k services (c ∷ cs) early le =
     ∙ (below_all j k c.services.items cs (All-tail (λ (c : Change). c.at < j) c cs early) le
     ∙ sym (ap (λ (b : Bool). if b then services_below j c.services.items cs else services) (is_below c.at j first)))
 
--- what is left of the changes tells the same of the positions behind
+-- the remaining changes have the same services at the later positions
 below_left : (m k : ℕ) (services : List ServiceCount) (changes : List Change) → m ≤ k
     → services_below k (services_below m services changes) (changes_from m changes) ≡ services_below k services changes
 below_left m k services [] le = refl
@@ -99,11 +99,11 @@ none_dropped mark services (c ∷ cs) starts = (
   ap (λ (b : Bool). if b then changes_from mark cs else c ∷ cs) (not_below c.at mark starts),
 )
 
--- the services behind a part of the history are those they were
+-- the services after a part of the history are those they were
 at-same : (k : ℕ) (history : List Cell) (cell : Cell) → k ≤ length history → services_at k (history ++ cell ∷ []) ≡ services_at k history
 at-same k history cell le = ap (λ (cells : List Cell). services_in_force (live_packets cells)) (take-append-le k history (cell ∷ []) le)
 
--- and those behind all of it
+-- and those after all of it
 at-end : (k : ℕ) (history : List Cell) → length history ≤ k → services_at k history ≡ services_in_force (live_packets history)
 at-end k history le = ap (λ (cells : List Cell). services_in_force (live_packets cells)) (take_all k history le)
 

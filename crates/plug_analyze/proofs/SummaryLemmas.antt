@@ -33,7 +33,7 @@ pids_more packets pid n pids pids_new n_is so_far pushed =
     ∙ (sym (filter-append test (numbers_below pid) (pid ∷ []))
     ∙ ap (filter test) (sym (numbers_below_more pid)))))
 
--- lines behind lines
+-- lines after lines
 pub pushed_after : (cut : ℕ) (lines first second : List Line) (xs ys : List (List ℕ)) → first ≡ lines ++ placed_at cut xs → second ≡ first ++ placed_at cut ys
     → second ≡ lines ++ placed_at cut (xs ++ ys)
 pushed_after cut lines first second xs ys a b =

@@ -8,16 +8,16 @@ use Rattle.plugin_notes.specs.Notes.{notes_after}
 use Rattle.plug_analyze.specs.AnalyzeRule.{all_pids, has_pcr, is_scrambled}
 use Rattle.plug_analyze.specs.declared.note.Note.{Note}
 
--- there is a fault
+-- the list of faults is not empty
 abbrev pub is_any : List ContinuityError → Bool
 is_any [] = false
 is_any (error ∷ errors) = true
 
--- the counter of a packet behind a history is a fault
+-- the counter of a packet after a history is a fault
 abbrev pub is_fault_at : List Cell → List ℕ → Bool
 is_fault_at history packet = is_any (error_on all_pids history packet)
 
--- the note of a packet behind a history
+-- the note on a packet after a history
 abbrev pub noted : List Cell → List ℕ → Note
 noted history packet = record {
   at = length history;
@@ -35,7 +35,7 @@ place_of note = note.at
 abbrev pub pid_in : Note → ℕ
 pid_in note = note.pid
 
--- each packet has one
+-- each packet has one note
 abbrev pub note_on : List Cell → List ℕ → List Note
 note_on history packet = noted history packet ∷ []
 

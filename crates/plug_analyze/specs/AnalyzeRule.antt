@@ -42,7 +42,7 @@ counts_on pid cells = record {
   pcr = packets_on pid (filter has_pcr (live_packets cells));
 }
 
--- the PIDs that have packets, ascending
+-- the PIDs that have packets, in ascending order
 abbrev pub pids_with : List (List ℕ) → List ℕ
 pids_with packets = filter (λ pid. not (packets_on pid packets == 0)) (numbers_below PID_COUNT)
 
@@ -87,7 +87,7 @@ abbrev pub head_lines : List (List ℕ) → List (List ℕ)
 head_lines packets = packets_text (length packets) ∷ pids_text (length (pids_with packets))
     ∷ nulls_text (packets_on NULL_PID packets) ∷ []
 
--- the lines of the PIDs that have packets, ascending
+-- the lines of the PIDs that have packets, in ascending order
 abbrev pub pid_lines : List Cell → List (List ℕ)
 pid_lines cells = map (λ pid. pid_text pid (counts_on pid cells)) (pids_with (live_packets cells))
 
@@ -95,11 +95,11 @@ pid_lines cells = map (λ pid. pid_text pid (counts_on pid cells)) (pids_with (l
 abbrev pub service_lines : List (List ℕ) → List (List ℕ)
 service_lines packets = map service_text (services_in_force packets)
 
--- what is said of a list of cells
+-- the report on a list of cells
 abbrev pub summary_on : List Cell → List (List ℕ)
 summary_on cells = head_lines (live_packets cells) ++ (pid_lines cells ++ service_lines (live_packets cells))
 
--- every packet passes, and the summary tells of them
+-- every packet passes, and the summary is the report on them
 abbrev pub analyze_rule : PluginRule
 analyze_rule = record {
   outcome_of = λ _ packet _. passes packet;

@@ -1,7 +1,6 @@
--- Lawful settings of `analyze`.
--- This project's own rule.
+-- Valid settings of `analyze`. This project's own rule.
 use Rattle.plug_analyze.specs.declared.analyze_conf.AnalyzeConf.{AnalyzeConf}
 
--- there is nothing to set
+-- it has no settings
 abbrev pub IsLawfulAnalyze : AnalyzeConf → Type 0
 IsLawfulAnalyze c = Unit {0}

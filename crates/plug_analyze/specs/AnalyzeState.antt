@@ -19,7 +19,7 @@ pub record Serves (services : Services) (history : List Cell) (mark : ℕ) : Typ
   pub fed : forcing.StandsFor services.force (live_packets history)
   pub kept : KeepsServices services.services.items services.changes.items history mark
 
--- the parts stand for the cells that were met, and for the greatest mark
+-- the parts stand for the cells that were processed, and for the greatest mark
 pub record Analyzes (last : LastPackets) (noted : Noted) (services : Services) (history : List Cell) (mark : ℕ) : Type 0 where
   pub remembers : Remembers all_pids last history
   pub keeps : KeepsNotes note_on noted.notes.items history mark
@@ -27,7 +27,7 @@ pub record Analyzes (last : LastPackets) (noted : Noted) (services : Services) (
   pub serves : Serves services history mark
   pub short : length history ≤ POSITION_LIMIT
 
--- they stand for some list of just so many cells
+-- they stand for some list of exactly so many cells
 pub record AnalyzesSome (last : LastPackets) (noted : Noted) (services : Services) (at : ℕ) : Type 0 where
   pub history : List Cell
   pub mark : ℕ

@@ -1,5 +1,4 @@
--- The words of `analyze`.
--- This project's own rule.
+-- The options of `analyze`. This project's own rule.
 use Rattle.std.specs.Prelude.{List, [], true}
 use Rattle.plug_analyze.specs.declared.analyze_conf.AnalyzeConf.{AnalyzeConf}
 use Rattle.option_words.specs.Options.{OptionRow}
@@ -9,7 +8,7 @@ use Rattle.option_words.specs.OptionTable.{OptionTable}
 abbrev pub analyze_rows : List OptionRow
 analyze_rows = []
 
--- nothing can be given, and nothing has to be
+-- no option can be given, and none has to be
 abbrev pub analyze : OptionTable AnalyzeConf
 analyze = record {
   rows = analyze_rows;

@@ -1,3 +1,4 @@
+-- The definitions of `plug_analyze`: the rule, options and state of `analyze`.
 pub mod AnalyzeRule
 pub mod AnalyzeNotes
 pub mod AnalyzeSettings

@@ -7,17 +7,17 @@ use Rattle.plug_analyze.specs.AnalyzeRule.{services_in_force}
 use Rattle.plug_analyze.specs.declared.change.Change.{Change}
 use Rattle.plug_analyze.specs.declared.service_count.ServiceCount.{ServiceCount}
 
--- the services in force behind so many cells of a history
+-- the services in force after so many cells of a history
 abbrev pub services_at : ℕ → List Cell → List ServiceCount
 services_at k history = services_in_force (live_packets (take k history))
 
--- the services of the last of the changes below a position, else those before all of them
+-- the services of the last change below a position, else those before all changes
 abbrev pub services_below : ℕ → List ServiceCount → List Change → List ServiceCount
 services_below k services [] = services
 services_below k services (change ∷ changes) =
     if nat_lt change.at k then services_below k change.services.items changes else services
 
--- the changes that are left without those below a position
+-- the changes without those below a position
 abbrev pub changes_from : ℕ → List Change → List Change
 changes_from k [] = []
 changes_from k (change ∷ changes) = if nat_lt change.at k then changes_from k changes else change ∷ changes
@@ -26,13 +26,13 @@ changes_from k (change ∷ changes) = if nat_lt change.at k then changes_from k 
 abbrev pub place_of_change : Change → ℕ
 place_of_change change = change.at
 
--- the changes tell of each position from the mark on which services are in force there
+-- the changes have the services in force at each position from the mark on
 pub record KeepsServices (services : List ServiceCount) (changes : List Change) (history : List Cell) (mark : ℕ) : Type 0 where
   pub marked : mark ≤ length history
   pub early : All (λ change. change.at < length history) changes
   pub each : (k : ℕ) → mark ≤ k → k ≤ length history → services_below k services changes ≡ services_at k history
 
--- the changes below a position were taken off the front
+-- the changes below a position were removed from the front
 pub record DropsChanges (mark : ℕ) (services services_new : List ServiceCount) (changes changes_new : List Change) : Type 0 where
   pub services_are : services_new ≡ services_below mark services changes
   pub changes_are : changes_new ≡ changes_from mark changes

@@ -1,4 +1,4 @@
--- What was counted by PID, once for each kind of packets. This project's own rule.
+-- The counts by PID, one for each kind of packets. This project's own rule.
 use Rattle.std.specs.Prelude.{ℕ, List, map, filter}
 use Rattle.ts_packet.specs.declared.cell.Cell.{Cell}
 use Rattle.ts_packet.specs.Cells.{live_packets}
@@ -20,7 +20,7 @@ pub record AreTotals (totals : Totals) (notes : List Note) : Type 0 where
   pub faults : IsCounted totals.faults (pids_of (filter (λ note. note.is_fault) notes))
   pub pcr : IsCounted totals.pcr (pids_of (filter (λ note. note.has_pcr) notes))
 
--- one more can be counted
+-- one more packet can be counted
 pub record HasRoom (totals : Totals) : Type 0 where
   pub packets : HasRoomIn totals.packets
   pub payload : HasRoomIn totals.payload
@@ -36,7 +36,7 @@ pub record AreCounted (totals : Totals) (cells : List Cell) : Type 0 where
   pub faults : IsCounted totals.faults (fault_pids cells)
   pub pcr : IsCounted totals.pcr (map pid_of (filter has_pcr (live_packets cells)))
 
--- each tally has a number for each PID
+-- each tally has a count for each PID
 pub record AreWhole (totals : Totals) : Type 0 where
   pub packets : IsWhole totals.packets
   pub payload : IsWhole totals.payload

@@ -104,7 +104,7 @@ impl Plugin for Analyze {
 
     ghost steady = { λ s. None };
 
-    // Else the loop of `steps` has a call for each cell.
+    // Inlined, since else the loop of `steps` makes a call for each cell.
     #[inline(always)]
     fn step(&mut self, at: u64, cell: &mut Cell) -> Outcome {
         let Some(live) = cell.live() else {

@@ -1,3 +1,4 @@
+//! The options of `analyze`: there are none.
 ghost use Rattle.std.specs.Prelude.{◌≡◌, IfOk};
 ghost use Rattle.clap.specs.Simple.{app_of};
 ghost use Rattle.plug_analyze.specs.AnalyzeSettings.{IsLawfulAnalyze};

@@ -1,7 +1,8 @@
+//! A change of the services in force, with the position of its packet.
 use crate::service_count::ServiceCount;
 use plugin_notes::PacketNote;
 
-/// The services in force from a packet on, with which the tables in force changed.
+/// The services in force from a packet on that changed the tables in force.
 #[derive(Drop)]
 pub struct Change {
     /// The position of the packet.

@@ -9,8 +9,8 @@ ghost use Rattle.plug_analyze.specs.AnalyzeRule.{all_pids};
 use plugin_notes::LastPackets;
 use ts_packet::{NULL_PID, Packet};
 
-/// Meets the packet at a position, of any PID, and answers whether its counter is a fault. Those of null packets never
-/// are.
+/// Processes the packet at a position, of any PID, and returns whether its counter is a fault. The counter of a null
+/// packet never is one.
 #[inline]
 pub fn meet_counter(last: &mut LastPackets, at: u64, packet: &Packet) -> bool
     requires { IsTable last.old }

@@ -1,6 +1,6 @@
-//! The plugin `analyze`: packets come in and pass; what they were, by PID, and the services in force come out as its
-//! summary. The layer above reads settings of words, makes the plugin, and uses it by the clauses of `Plugin`, which hold
-//! the summary to the cells that count.
+//! The plugin `analyze`. Packets come in and pass; the numbers of packets by PID, and the services in force, go out as
+//! the summary. The layer above reads its settings from words, makes the plugin, and uses it by the clauses of `Plugin`,
+//! which relate the summary to the cells that count.
 #![tactic(auto)]
 
 mod analyze;

@@ -1,6 +1,7 @@
+//! What is kept of one packet until it is known to count.
 use plugin_notes::PacketNote;
 
-/// What is kept of a packet for as long as it may still stand behind the cut.
+/// What is kept of a packet as long as the cut may still be before it.
 #[derive(Clone, Copy, PartialEq, Eq)]
 pub struct Note {
     /// The position of the packet.

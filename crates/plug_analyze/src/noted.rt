@@ -1,11 +1,11 @@
-//! Notes of packets, and what they came to.
+//! Notes on packets that may not count yet, and the counts of those that do.
 use crate::note::Note;
 use crate::totals::Totals;
 use circular_buffer::HeapCircularBuffer;
 use plugin_notes::{pop_below, push_note};
 use std::alloc::{AllocError, Global};
 
-/// Notes of the packets behind the greatest mark, and the numbers of those below it.
+/// Notes on the packets from the greatest mark on, and the counts of those below it.
 #[derive(Drop)]
 pub struct Noted {
     totals: Totals,
@@ -18,7 +18,7 @@ impl Noted {
     ghost use Rattle.plug_analyze.specs.AnalyzeNotes.{pid_in, place_of};
     ghost use Rattle.plug_analyze.specs.TotalsOf.{AreTotals};
 
-    /// Nothing was noted. It takes 320 KiB, and room for notes on as many packets as the buffer holds.
+    /// Nothing was noted. Allocates 320 KiB, and room for notes on as many packets as the buffer holds.
     pub fn new(alloc: Global, buffer: usize) -> Result<Noted, AllocError>
         ensures totals { IfOk result (λ noted. AreTotals noted.totals []) }
         ensures notes { IfOk result (λ noted. noted.notes.items ≡ []) }
@@ -30,7 +30,7 @@ impl Noted {
         })
     }
 
-    /// Notes a packet behind the others. Where the buffer is full it answers `AllocError`, and no note is lost.
+    /// Appends the note on a packet. If the buffer is full it returns `AllocError`, and no note is lost.
     #[inline]
     pub fn push(&mut self, note: Note) -> Result<(), AllocError>
         ensures notes { OnOk result (self.new.notes.items ≡ self.old.notes.items ++ note ∷ []) }
@@ -41,7 +41,7 @@ impl Noted {
         push_note(&mut self.notes, note)
     }
 
-    /// Counts the notes below a position, and takes them off.
+    /// Counts the notes below a position, and removes them.
     pub fn fold_below(&mut self, mark: u64)
         requires { CanFold pid_in AreTotals self.old.notes.items self.old.totals }
         ensures { Folds place_of AreTotals mark self.old.notes.items self.new.notes.items self.old.totals self.new.totals }

@@ -1,3 +1,4 @@
+//! The numbers of the packets on a PID, by kind, and their line.
 ghost use Rattle.std.specs.Prelude.{◌≡◌, IfOk};
 ghost use Rattle.plug_analyze.specs.AnalyzeRule.{pid_text};
 

@@ -1,3 +1,4 @@
+//! A service and the number of its components, and their line.
 ghost use Rattle.std.specs.Prelude.{◌≡◌, IfOk};
 ghost use Rattle.plug_analyze.specs.AnalyzeRule.{service_text};
 

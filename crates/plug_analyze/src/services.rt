@@ -20,7 +20,7 @@ pub struct Services {
     force: InForce,
     /// The services in force at the greatest mark.
     services: Vec<ServiceCount>,
-    /// Those that came into force behind it.
+    /// Those that came into force from it on.
     changes: HeapCircularBuffer<Change>,
     alloc: Global,
 }
@@ -32,7 +32,7 @@ impl Services {
     ghost use Rattle.plug_analyze.specs.AnalyzeState.{Serves};
     ghost use Rattle.plug_analyze.specs.ServicesKept.{DropsChanges};
 
-    /// Nothing is in force before a packet was met. It takes room for changes at as many packets as the buffer holds.
+    /// Nothing is in force before the first packet. Allocates room for changes at as many packets as the buffer holds.
     pub fn new(alloc: Global, buffer: usize) -> Result<Services, AllocError>
         ensures serves { IfOk result (λ services. Serves services [] 0) }
         ensures reserved { IfOk result (λ services. services.changes.capacity ≡ buffer) }
@@ -49,8 +49,8 @@ impl Services {
         })
     }
 
-    /// Meets the packet at a position, and notes the services in force with it, where they may have changed. After
-    /// `AllocError` no more is to be asked.
+    /// Processes the packet at a position, and notes the services in force with it, if they may have changed. After
+    /// `AllocError` it is not to be used any more.
     #[inline]
     pub fn meet(&mut self, at: u64, packet: &Packet) -> Result<(), AllocError>
         ensures { OnOk result ((history : List GivenCell) (mark : ℕ) → Serves self.old history mark → length history ≡ at → (labels : ℕ)
@@ -64,7 +64,7 @@ impl Services {
         Ok(())
     }
 
-    /// Takes the changes below a position off.
+    /// Removes the changes below a position.
     pub fn fold_below(&mut self, mark: u64)
         ensures folds { DropsChanges mark self.old.services.items self.new.services.items self.old.changes.items self.new.changes.items }
         ensures force { self.new.force ≡ self.old.force }

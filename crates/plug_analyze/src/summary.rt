@@ -1,4 +1,4 @@
-//! The summary of what was met.
+//! The summary of `analyze` as lines.
 ghost use Rattle.std.specs.Prelude.{◌≡◌, ◌<◌, ◌++◌, ◌∷◌, [], ℕ, List, IfOk, OnOk, length, map, if◌then◌else◌};
 ghost use Rattle.std.specs.Fmt.{decimal};
 ghost use Rattle.std.specs.List.{All};
@@ -17,7 +17,7 @@ use plugin_trait::{Line, LineText};
 use std::alloc::{AllocError, Global};
 use ts_packet::{NULL_PID, PID_COUNT};
 
-/// Puts the summary behind other lines: the numbers of all packets, the PIDs, and the services in force.
+/// Appends the summary: the numbers of all packets, the PIDs, and the services in force.
 pub fn push_summary(
     lines: &mut Vec<Line>,
     cut: u64,
@@ -34,7 +34,7 @@ pub fn push_summary(
     push_services(lines, cut, services)
 }
 
-// The PIDs that have packets, ascending.
+// The PIDs that have packets, in ascending order.
 fn pids_with_packets(alloc: Global, totals: &Totals) -> Result<Vec<u16>, AllocError>
     requires { IsWhole totals.now.packets }
     ensures pids { IfOk result (λ pids. (packets : List (List ℕ)) → IsCounted totals.now.packets (map pid_of packets)
@@ -48,7 +48,7 @@ fn pids_with_packets(alloc: Global, totals: &Totals) -> Result<Vec<u16>, AllocEr
     Ok(pids)
 }
 
-// Puts a PID behind others, if it is one of those that are wanted.
+// Appends a PID, if it has packets.
 fn push_if(pids: &mut Vec<u16>, is_one: bool, pid: u16) -> Result<(), AllocError>
     ensures { OnOk result (pids.new.items ≡ pids.old.items ++ (if is_one then pid ∷ [] else [])) }
 {
@@ -58,7 +58,7 @@ fn push_if(pids: &mut Vec<u16>, is_one: bool, pid: u16) -> Result<(), AllocError
     Ok(())
 }
 
-// Puts the numbers of all packets behind other lines.
+// Appends the lines with the numbers of all packets.
 fn push_head(
     lines: &mut Vec<Line>,
     cut: u64,
@@ -74,7 +74,7 @@ fn push_head(
     push_number(lines, cut, "nulls ", totals.packets_on(NULL_PID))
 }
 
-// Puts a number behind other lines, with these words before it.
+// Appends a line with these words and a number.
 fn push_number(lines: &mut Vec<Line>, cut: u64, words: &str, number: u64) -> Result<(), AllocError>
     ensures { OnOk result (lines.new.items ≡ lines.old.items ++ placed_at cut ((words.now ++ decimal number) ∷ [])) }
 {
@@ -83,7 +83,7 @@ fn push_number(lines: &mut Vec<Line>, cut: u64, words: &str, number: u64) -> Res
     push_line(lines, cut, LineText::of(text))
 }
 
-// Puts the lines of PIDs behind other lines.
+// Appends the lines of PIDs.
 fn push_pids(
     lines: &mut Vec<Line>,
     cut: u64,
@@ -103,7 +103,7 @@ fn push_pids(
     Ok(())
 }
 
-// Puts the lines of services behind other lines.
+// Appends the lines of services.
 fn push_services(
     lines: &mut Vec<Line>,
     cut: u64,

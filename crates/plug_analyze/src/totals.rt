@@ -1,3 +1,4 @@
+//! The counts of all packets, by PID and kind.
 ghost use Rattle.std.specs.Prelude.{◌≡◌, ◌<◌, ◌++◌, ◌∷◌, [], List, IfOk};
 ghost use Rattle.plug_analyze.specs.declared.note.Note.{Note as GivenNote};
 ghost use Rattle.ts_packet.specs.declared.numbers.TheConstants.{PID_COUNT};
@@ -7,7 +8,7 @@ use crate::pid_counts::PidCounts;
 use plugin_notes::Tally;
 use std::alloc::{AllocError, Global};
 
-/// The packets that were counted, by their PIDs, once for each kind.
+/// The packets that were counted, by PID, once for each kind.
 #[derive(Drop)]
 pub struct Totals {
     packets: Tally,
@@ -23,7 +24,7 @@ impl Totals {
     ghost use Rattle.plug_analyze.specs.AnalyzeRule.{counts_on};
     ghost use Rattle.plug_analyze.specs.TotalsOf.{AreTotals, HasRoom, AreWhole};
 
-    /// Nothing counted yet. It takes 320 KiB.
+    /// Nothing counted yet. Allocates 320 KiB.
     pub fn new(alloc: Global) -> Result<Totals, AllocError>
         ensures { IfOk result (λ totals. AreTotals totals []) }
     {
@@ -36,7 +37,7 @@ impl Totals {
         })
     }
 
-    /// Counts one packet more.
+    /// Counts one more packet.
     #[inline]
     pub fn add(&mut self, note: Note)
         requires on_pid { note.pid < PID_COUNT }
@@ -61,7 +62,7 @@ impl Totals {
     ghost use Rattle.plugin_notes.specs.Tallies.{IsCounted, IsWhole};
     ghost use Rattle.plug_analyze.specs.TotalsOf.{AreCounted, AreWhole};
 
-    /// How many packets were counted in all.
+    /// How many packets were counted in total.
     pub fn packets(&self) -> u64
         ensures { result ≡ self.now.packets.total }
     {

@@ -1,3 +1,4 @@
+-- The lemmas of `plug_info`.
 pub mod CountLemmas
 pub mod ExtentLemmas
 pub mod SpanLemmas

@@ -1,3 +1,4 @@
+-- The lemmas of `ts_demux`.
 pub mod Rows
 pub mod Choice
 pub mod Stretching

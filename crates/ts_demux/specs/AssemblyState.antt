@@ -10,7 +10,7 @@ use Rattle.ts_demux.specs.Keys.{key_of, key_eq}
 use Rattle.ts_demux.specs.declared.era.Era.{Era}
 use Rattle.ts_demux.specs.declared.table_key.TableKey.{TableKey}
 
--- the last era of each key, in the order in which the keys were first seen, and whether memory was wanting
+-- the last era of each key, in the order in which the keys were first seen, and whether a call ran out of memory
 pub record AssemblyState : Type 0 where
   pub eras : List (TableKey × Era)
   pub failed : Bool
@@ -19,8 +19,8 @@ pub record AssemblyState : Type 0 where
 abbrev pub era_at : AssemblyState → TableKey → Option Era
 era_at assembly key = lookup (key_eq key) assembly.eras
 
--- An assembly stands for the sections that it was given: memory was there, and for each section that may
--- come next the entry of its key stands for the era that this section would go on with.
+-- An assembly stands for the sections that it was given: no call ran out of memory, and for each section that may come
+-- next the entry of its key stands for the era that this section would go on with.
 pub record StandsFor (assembly : AssemblyState) (sections : List (List ℕ)) : Type 0 where
   pub working : assembly.failed ≡ false
   pub entries : (s : List ℕ) → stands_alone s ≡ false →

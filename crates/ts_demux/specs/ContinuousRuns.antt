@@ -3,7 +3,7 @@
 use Rattle.std.specs.Prelude.{ℕ, ◌+◌, ◌%◌, ◌==◌, Bool, false, not, ◌&&◌, List, [], ◌∷◌, if◌then◌else◌}
 use Rattle.ts_demux.specs.Part.{Part, is_lawless}
 
--- the first part of a list is lawful and has the counter that follows
+-- the first part of a list is valid and has the counter that follows
 abbrev pub goes_on : ℕ → List Part → Bool
 goes_on counter [] = false
 goes_on counter (p ∷ ps) = not (is_lawless p) && (p.counter == (counter + 1) % 16)
@@ -13,7 +13,7 @@ abbrev pub with_first : Part → List (List Part) → List (List Part)
 with_first p [] = (p ∷ []) ∷ []
 with_first p (run ∷ runs) = (p ∷ run) ∷ runs
 
--- A new run begins where the counter does not go on, and behind a lawless part, which belongs to none.
+-- A new run begins where the counter does not go on, and after an invalid part, which belongs to none.
 abbrev pub continuous_runs : List Part → List (List Part)
 continuous_runs [] = []
 continuous_runs (p ∷ ps) =

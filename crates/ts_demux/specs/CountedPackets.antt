@@ -11,7 +11,7 @@ abbrev pub counts : ℕ → List ℕ → Bool
 counts pid row =
     (pid_of row == pid) && ((scrambling_of row == 0) && (not (error_indicator_of row) && is_some (payload_start_of row)))
 
--- what of a packet matters
+-- the part of a packet that matters
 abbrev pub part_of_packet : List ℕ → Part
 part_of_packet row = record { counter = counter_of row; unit_start = unit_start_of row; payload = payload_of row }
 

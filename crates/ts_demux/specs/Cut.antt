@@ -7,7 +7,7 @@ use Rattle.ts_section.specs.SectionFields.{table_id_of, section_length_of}
 abbrev pub size_in_front : List ℕ → ℕ
 size_in_front b = 3 + section_length_of b
 
--- whether a whole piece stands in front: its first three bytes are there, it is no stuffing,
+-- whether a whole piece stands at the front: its first three bytes are there, it is no stuffing,
 -- its section_length is at most 4093, and as many bytes are there
 unfoldable pub is_whole_in_front : List ℕ → Bool
 is_whole_in_front b =

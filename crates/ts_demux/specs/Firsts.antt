@@ -2,7 +2,7 @@
 -- This project's own rule: where a number comes again in an era, its first section counts.
 use Rattle.std.specs.Prelude.{ℕ, zero, suc, List, [], ◌∷◌, Option, Some, None}
 
--- a value, or another where it is wanting
+-- a value, or another one if it is missing
 abbrev pub or_this : {X : Type 0} → Option X → X → Option X
 or_this None x = Some x
 or_this (Some first) x = Some first

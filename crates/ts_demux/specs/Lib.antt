@@ -1,3 +1,4 @@
+-- The definitions of `ts_demux`: the sections of a PID, and the tables that they complete.
 pub mod Part
 pub mod CountedPackets
 pub mod ContinuousRuns

@@ -13,8 +13,8 @@ abbrev pub part_of : Bool → List ℕ → ℕ → Part
 part_of is_open bytes counter =
     record { counter = counter; unit_start = is_open; payload = if is_open then 0 ∷ bytes else [] }
 
--- The one part that a reader remembers in place of all that it was given: behind it a stream has the
--- same sections to come.
+-- The one part that a reader remembers in place of all that it was given: after it the same sections of a stream are to
+-- come.
 abbrev pub remembered_by : StretchReader → Option Part
 remembered_by r = option_map (part_of r.is_open r.unfinished.items) r.last
 
@@ -22,7 +22,7 @@ remembered_by r = option_map (part_of r.is_open r.unfinished.items) r.last
 abbrev pub sections_behind : Bool → List ℕ → List ℕ → List (List ℕ)
 sections_behind is_open bytes more = if is_open then sections_in (bytes ++ more) else []
 
--- the same of a reader's stretch
+-- the same for a reader's stretch
 abbrev pub sections_with : StretchReader → List ℕ → List (List ℕ)
 sections_with r more = sections_behind r.is_open r.unfinished.items more
 
@@ -54,7 +54,7 @@ pub record Takes (old new : StretchReader) (part : Part) (before after : List (L
       ≡ after ++ sections_of_parts (option_to_list (remembered_by new) ++ rest)
   pub grows : length before ≤ length after
 
--- a demultiplexer's parts: its reader at rest, and nothing waits once memory was wanting
+-- a demultiplexer's parts: its reader at rest, and nothing waits after a call ran out of memory
 pub record IsSound (reader : StretchReader) (waiting : List (List ℕ)) (failed : Bool) : Type 0 where
   pub rest : IsAtRest reader
   pub spent : failed ≡ true → waiting ≡ []

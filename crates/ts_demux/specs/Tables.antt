@@ -43,17 +43,17 @@ is_complete last era = list_all is_some (firsts last era)
 abbrev pub table_of : ℕ → List (List ℕ) → List (List ℕ)
 table_of last era = filter_map (λ first. first) (firsts last era)
 
--- the table that `s` completes behind an era: each number was seen with it and not before it
+-- the table that `s` completes after an era: each number was seen with it and not before it
 abbrev pub completed : List (List ℕ) → List ℕ → Option (List (List ℕ))
 completed era s =
     let last = last_number_of s in
     if is_complete last (era ++ s ∷ []) && not (is_complete last era) then Some (table_of last (era ++ s ∷ [])) else None
 
--- the table that a section completes behind the sections before it
+-- the table that a section completes after the sections before it
 unfoldable pub table_at : List (List ℕ) → List ℕ → Option (List (List ℕ))
 table_at before s = if stands_alone s then Some (s ∷ []) else completed (era_of before s) s
 
--- the tables that sections complete behind others
+-- the tables that sections complete after others
 unfoldable pub tables_behind : List (List ℕ) → List (List ℕ) → List (List (List ℕ))
 tables_behind before [] = []
 tables_behind before (s ∷ ss) = option_to_list (table_at before s) ++ tables_behind (before ++ s ∷ []) ss

@@ -13,6 +13,6 @@ packets_on pid packets = filter (λ packet. pid_of packet == pid) packets
 abbrev pub tables_on : ℕ → List (List ℕ) → List (List (List ℕ))
 tables_on pid packets = tables_of (sections_of_pid pid packets)
 
--- the tables that a packet completes on a PID, behind the packets that were taken before
+-- the tables that a packet completes on a PID, after the packets that were taken before
 abbrev pub Completes : ℕ → List (List ℕ) → List ℕ → List (List (List ℕ)) → Type 0
 Completes pid taken packet tables = tables_on pid (taken ++ packet ∷ []) ≡ tables_on pid taken ++ tables

@@ -1,9 +1,8 @@
--- The packets of a list that are taken, where each is told by the packets up to it.
--- This project's own rule.
+-- The packets of a list that are taken, where the packets up to each one decide. This project's own rule.
 use Rattle.std.specs.Prelude.{ℕ, ◌==◌, ◌&&◌, Bool, List, [], ◌∷◌, ◌++◌, if◌then◌else◌}
 use Rattle.ts_packet.specs.Header.{pid_of}
 
--- What a test takes of a list that stands behind others. It is asked of each with all up to it, itself the last of them.
+-- What a test takes of a list after another one. It is asked of each member with all up to it, itself the last of them.
 unfoldable pub taken_behind : {X : Type 0} → (List X → X → Bool) → List X → List X → List X
 taken_behind test before [] = []
 taken_behind test before (x ∷ xs) =

@@ -1,4 +1,4 @@
-//! Sections in, tables out.
+//! Sections come in, and tables go out.
 
 ghost use Rattle.std.specs.Prelude.{◌≡◌, ℕ, ◌++◌, ◌∷◌, [], List, Some, true, false, IfOk, OnOk, OnErr, IsErr};
 ghost use Rattle.indexmap.specs.IndexMap.{get};
@@ -20,12 +20,12 @@ use ts_section::{LongHead, Section, TableRun};
 /// The eras of the keys, in the order in which the keys were first seen.
 type Eras = IndexMap<TableKey, Era>;
 
-/// Puts sections together to tables. A short section and an EIT section are each a table at once; the other
+/// Assembles tables from sections. A short section and an EIT section are each a table at once; the other
 /// sections of a table_id, an extension and a current flag fall into eras, and a new era begins where the version
 /// or the last number changes. An era's table is given once, at the first section after which each number from
 /// 0 to the last was seen, and has the first section of each number.
 ///
-/// Clauses see the last era of each key, and whether memory was wanting.
+/// Clauses see the last era of each key, and whether a call ran out of memory.
 #[derive(Drop)]
 pub struct Assembly {
     eras: Eras,
@@ -54,8 +54,8 @@ impl Assembly {
         })
     }
 
-    /// Takes the next section, and gives the table that it completes, if it completes one.
-    /// After `AllocError` every later call answers `AllocError`.
+    /// Processes the next section, and returns the table that it completes, if it completes one. After `AllocError`
+    /// every later call returns `AllocError`.
     pub fn add(&mut self, section: Section) -> Result<Option<TableRun>, AllocError>
         ensures completes { IfOk result (λ table. (before : List (List ℕ)) → StandsFor self.old before → table ≡ table_at before section) }
         ensures tables { IfOk result (λ table. (before : List (List ℕ)) → StandsFor self.old before →
@@ -76,7 +76,7 @@ impl Assembly {
         }
     }
 
-    /// Takes the next section as long as memory was there.
+    /// Processes the next section, unless an earlier call ran out of memory.
     fn take(&mut self, section: Section) -> Result<Option<TableRun>, AllocError>
         ensures completes { IfOk result (λ table. (before : List (List ℕ)) → StandsFor self.old before → table ≡ table_at before section) }
         ensures stands { OnOk result ((before : List (List ℕ)) → StandsFor self.old before → StandsFor self.new (before ++ section ∷ [])) }
@@ -94,7 +94,7 @@ impl Assembly {
     }
 }
 
-/// Sees that the entry of the key is the era that a section with this head goes on with.
+/// Makes the entry of the key the era that a section with this head goes on with.
 fn begin_era(eras: &mut Eras, key: TableKey, head: &LongHead) -> Result<(), AllocError>
     ensures has_era { OnOk result (HasEra (get key_eq eras.new key) head.now.version head.now.last) }
     ensures stands { OnOk result ((sections : List (List ℕ)) →
@@ -108,7 +108,7 @@ fn begin_era(eras: &mut Eras, key: TableKey, head: &LongHead) -> Result<(), Allo
     Ok(())
 }
 
-/// Takes the next section of the era of a key.
+/// Processes the next section of the era of a key.
 fn add_to_era(
     eras: &mut Eras,
     key: TableKey,

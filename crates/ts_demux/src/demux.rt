@@ -14,8 +14,8 @@ use ts_section::Section;
 
 /// Collects the sections of one PID (ISO/IEC 13818-1, 2.4.3.3 and 2.4.4), fed packet by packet.
 ///
-/// Clauses see its PID, the sections that wait, whether memory was wanting, and one part that stands in
-/// for all packets fed. It holds no more than one unfinished section and what waits.
+/// Clauses see its PID, the sections that wait, whether a call ran out of memory, and one part that stands for all
+/// packets fed. It keeps no more than one unfinished section and the sections that wait.
 #[derive(Drop)]
 pub struct Demux {
     pid: u16,
@@ -49,8 +49,8 @@ impl Demux {
         })
     }
 
-    /// Takes the next packet, of any PID, and answers how many sections it completed; they wait in order.
-    /// After `AllocError` nothing waits, and every later call answers `AllocError`.
+    /// Processes the next packet, of any PID, and returns how many sections it completed; they wait in order. After
+    /// `AllocError` nothing waits, and every later call returns `AllocError`.
     pub fn feed(&mut self, packet: &Packet) -> Result<usize, AllocError>
         ensures taken { IfOk result (λ completed. TakesIn self.old self.new packet.now completed) }
         ensures bounded { IfSome self.new.remembered (λ part. length part.payload ≤ 4096) }
@@ -81,7 +81,7 @@ impl Demux {
         }
     }
 
-    /// The first section that waits; none exactly where nothing waits.
+    /// The first section that waits; `None` exactly if nothing waits.
     pub fn next_section(&mut self) -> Option<Section>
         ensures first { IfSome result (λ section. GivesFirst self.old self.new section) }
         ensures none { IfNone result ((self.old.waiting ≡ []) × (self.new ≡ self.old)) }

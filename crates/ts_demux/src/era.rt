@@ -9,7 +9,7 @@ use std::alloc::{AllocError, Global};
 use std::mem;
 use ts_section::{LongHead, Section, TableRun};
 
-/// The first section of each number of an era, until its table is given.
+/// The first section of each number of an era, until its table is complete.
 #[derive(Drop)]
 pub(crate) struct Era {
     version: u8,
@@ -22,7 +22,7 @@ impl Era {
     ghost use Rattle.ts_demux.specs.Era.{IsEra, AllBelong};
     ghost use Rattle.ts_demux.specs.Tables.{completed};
 
-    /// An era that has no section yet.
+    /// An era without a section.
     pub(crate) fn new(alloc: Global, version: u8, last: u8) -> Result<Era, AllocError>
         ensures version { IfOk result (λ era. era.version ≡ version) }
         ensures last { IfOk result (λ era. era.last ≡ last) }
@@ -44,7 +44,7 @@ impl Era {
         self.version == head.version && self.last == head.last
     }
 
-    /// Takes the next section of the era, and gives the era's table where this section completes it.
+    /// Processes the next section of the era, and returns the era's table if this section completes it.
     pub(crate) fn add(
         &mut self,
         alloc: Global,
@@ -74,7 +74,7 @@ impl Era {
     }
 }
 
-/// Places without section.
+/// Places without sections.
 fn none_of(alloc: Global, count: usize) -> Result<Vec<Option<Section>>, AllocError>
     ensures { IfOk result (λ firsts. firsts.items ≡ replicate count None) }
 {
@@ -94,7 +94,7 @@ fn keep_first(firsts: &mut Vec<Option<Section>>, place: usize, section: Section)
     }
 }
 
-/// Whether each place has its section.
+/// Whether each place has a section.
 fn are_all_there(firsts: &[Option<Section>]) -> bool
     ensures { result ≡ list_all is_some firsts.now }
 {

@@ -1,6 +1,6 @@
-//! Transport packets come in one by one; the sections of one PID go out, and the tables that sections make whole.
-//! The layer above rests on `Demux::feed`: handed out and waiting is the definition's list of all packets fed;
-//! or on `PidTables::take`, which gives the tables that a packet completes.
+//! Transport packets come in one by one; the sections of one PID go out, and the tables that sections complete. The
+//! layer above uses `Demux::feed`, by which the sections that were returned and those that wait are the definition's
+//! list for all packets fed, or `PidTables::take`, which returns the tables that a packet completes.
 #![tactic(auto)]
 
 mod assembly;

@@ -12,9 +12,9 @@ use std::alloc::{AllocError, Global};
 use ts_packet::{PID_COUNT, Packet};
 use ts_section::TableRun;
 
-/// Gives the tables of one PID, each with the packet that completes it.
+/// Returns the tables of one PID, each with the packet that completes it.
 ///
-/// It holds one unfinished section at most, and of each key the sections of a table that is not complete.
+/// It keeps at most one unfinished section, and for each key the sections of a table that is not complete.
 #[derive(Drop)]
 pub struct PidTables {
     demux: Demux,
@@ -28,7 +28,7 @@ impl PidTables {
     ghost use Rattle.ts_demux.specs.TablesOn.{Completes};
     ghost use Rattle.ts_demux.specs.PidTables.{StandsFor, has_failed};
 
-    /// No packet was taken.
+    /// No packet was processed.
     pub fn new(alloc: Global, pid: u16) -> Result<PidTables, AllocError>
         requires { pid < PID_COUNT }
         ensures { IfOk result (λ tables. StandsFor tables pid []) }
@@ -44,8 +44,8 @@ impl PidTables {
         })
     }
 
-    /// Takes the next packet, of any PID, and gives the tables that it completes, in their order. After `AllocError`
-    /// every later call answers `AllocError`.
+    /// Processes the next packet, of any PID, and returns the tables that it completes, in their order. After
+    /// `AllocError` every later call returns `AllocError`.
     pub fn take(&mut self, packet: &Packet) -> Result<Vec<TableRun>, AllocError>
         ensures stands { OnOk result ((pid : ℕ) (taken : List (List ℕ)) → StandsFor self.old pid taken
             → StandsFor self.new pid (taken ++ packet.now ∷ [])) }
@@ -66,7 +66,7 @@ impl PidTables {
         }
     }
 
-    /// Takes the next packet as long as memory was there.
+    /// Processes the next packet, unless an earlier call ran out of memory.
     fn advance(&mut self, packet: &Packet) -> Result<Vec<TableRun>, AllocError>
         ensures stands { OnOk result ((pid : ℕ) (taken : List (List ℕ)) → StandsFor self.old pid taken
             → StandsFor self.new pid (taken ++ packet.now ∷ [])) }
@@ -80,7 +80,7 @@ impl PidTables {
     }
 }
 
-/// Takes the sections that wait, and gives the tables that they complete.
+/// Processes the sections that wait, and returns the tables that they complete.
 fn take_waiting(
     alloc: Global,
     demux: &mut Demux,
@@ -99,7 +99,7 @@ fn take_waiting(
     Ok(tables)
 }
 
-/// Puts a table behind others, where there is one.
+/// Appends a table, if there is one.
 fn push_table(tables: &mut Vec<TableRun>, table: Option<TableRun>) -> Result<(), AllocError>
     ensures { OnOk result (tables.new.items ≡ tables.old.items ++ option_to_list table) }
 {

@@ -18,11 +18,11 @@ const HEAD: usize = 3;
 /// The most that section_length may be.
 const MOST_LENGTH: usize = 4093;
 
-/// The byte that stands in the place of a table_id where stuffing begins.
+/// The byte in the place of a table_id where stuffing begins.
 const STUFFING: u8 = 0xFF;
 
-/// Cuts the whole pieces off the front of unfinished bytes and lets the lawful sections among them wait.
-/// Answers whether nothing more comes of what is left, whatever follows it; the bytes are done with then.
+/// Cuts the whole pieces off the front of unfinished bytes, and lets the valid sections among them wait. Returns
+/// whether nothing more comes of the rest, whatever follows it; the bytes are not needed then.
 pub(crate) fn cut_off(
     unfinished: &mut Vec<u8>,
     waiting: &mut VecDeque<Section>,
@@ -38,7 +38,7 @@ pub(crate) fn cut_off(
 {
     let alloc = *unfinished.allocator();
     let at = cut_pieces(alloc, unfinished.as_slice(), waiting)?;
-    // Stuffing follows most sections: what is over is not moved to the front.
+    // Stuffing follows most sections, and is not moved to the front.
     if is_over(&unfinished[at..]) {
         return Ok(true);
     }
@@ -51,7 +51,7 @@ fn drop_front(bytes: &mut Vec<u8>, count: usize)
     requires { count ≤ length bytes.old.items }
     ensures { bytes.new.items ≡ drop count bytes.old.items }
 {
-    // Where all of it goes, as where a section fills its packet, there is nothing for `drain` to move.
+    // If all of it goes, as where a section fills its packet, there is nothing for `drain` to move.
     if count == bytes.len() {
         bytes.clear();
     } else {
@@ -59,8 +59,8 @@ fn drop_front(bytes: &mut Vec<u8>, count: usize)
     }
 }
 
-/// Cuts off the whole pieces in front and lets the lawful sections among them wait.
-/// Answers how many bytes they had.
+/// Cuts off the whole pieces at the front, and lets the valid sections among them wait. Returns how many bytes they
+/// had.
 fn cut_pieces(
     alloc: Global,
     bytes: &[u8],
@@ -93,7 +93,7 @@ fn is_over(bytes: &[u8]) -> bool
     HEAD <= bytes.len() && MOST_LENGTH < section_length(bytes)
 }
 
-/// The size of the piece in front, where it is there whole.
+/// The size of the piece at the front, if it is complete.
 fn whole_in_front(bytes: &[u8]) -> Option<usize>
     ensures whole { IsSome result ↔ (is_whole_in_front bytes.now ≡ true) }
     ensures size { IfSome result (λ size. size ≡ cutting.size_in_front bytes.now) }
@@ -110,7 +110,7 @@ fn whole_in_front(bytes: &[u8]) -> Option<usize>
     }
 }
 
-/// Lets a piece wait if it is a lawful section.
+/// Lets a piece wait if it is a valid section.
 fn take_piece(
     alloc: Global,
     piece: &[u8],

@@ -1,4 +1,4 @@
-//! Parts of one PID in, the sections of their stretches out.
+//! Parts of one PID come in, and the sections of their stretches go out.
 
 ghost use Rattle.std.specs.Prelude.{◌≡◌, ℕ, ◌<◌, ◌≤◌, ◌++◌, ◌∷◌, List, [], true, false, length, take, drop, Option, Some, None, OnOk, IfSome, IfNone, slice_index};
 ghost use Rattle.std.specs.Option.{ForSome};
@@ -24,7 +24,7 @@ impl StretchReader {
     ghost use Rattle.ts_demux.specs.SectionsOfParts.{sections_in};
     ghost use Rattle.ts_demux.specs.Reader.{HoldsLittle, IsAtRest, EndsAtJump, Takes, sections_with, remembered_by};
 
-    /// A reader that has met nothing.
+    /// A reader that was given no part.
     pub(crate) fn new(alloc: Global) -> StretchReader
         ensures rest { IsAtRest result }
         ensures fresh { remembered_by result ≡ None }
@@ -36,7 +36,7 @@ impl StretchReader {
         }
     }
 
-    /// Forgets all.
+    /// Forgets everything.
     pub(crate) fn reset(&mut self)
         ensures rest { IsAtRest self.new }
     {
@@ -44,7 +44,7 @@ impl StretchReader {
         self.close();
     }
 
-    /// Takes the next part; the sections that it completes wait then.
+    /// Processes the next part; the sections that it completes wait then.
     pub(crate) fn take_part(
         &mut self,
         counter: u8,
@@ -130,7 +130,7 @@ impl StretchReader {
     }
 }
 
-/// Whether the counter is that of the part before, if there is one before.
+/// Whether the counter is that of the part before, if there is one.
 fn repeats(last: Option<u8>, counter: u8) -> bool
     ensures { result ≡ parts.repeats last counter }
 {
@@ -140,7 +140,7 @@ fn repeats(last: Option<u8>, counter: u8) -> bool
     }
 }
 
-/// Whether the counter is the one after the last, if there is a last.
+/// Whether the counter is the one after the last, if there is a last one.
 fn goes_on_behind(last: Option<u8>, counter: u8) -> bool
     requires { ForSome last (λ last. last < 16) }
     ensures { result ≡ counters.goes_on_behind last counter }
@@ -151,7 +151,7 @@ fn goes_on_behind(last: Option<u8>, counter: u8) -> bool
     }
 }
 
-/// The bytes of a payload with unit start before and behind its pointed place; none for a lawless pointer.
+/// The bytes of a payload with unit start before and after the place that its pointer names; none for an invalid pointer.
 fn split_at_pointer_field(payload: &[u8]) -> Option<(&[u8], &[u8])>
     ensures lawless { IfNone result (length payload.now ≤ slice_index payload.now 0) }
     ensures lawful { IfSome result (λ _. slice_index payload.now 0 < length payload.now) }

@@ -1,1 +1,2 @@
+-- The definitions of `ts_os`: what contracts see of the system.
 pub mod Untold

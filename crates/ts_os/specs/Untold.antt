@@ -1,5 +1,5 @@
--- This project's own rule: what real files and standard streams tell. No clause can say which bytes the system holds,
--- gives or takes, so everything but the counts of faults is left untold.
+-- What contracts see of real files and standard streams. This project's own rule: no clause can say which bytes the
+-- system holds, gives or takes, so everything but the counts of faults is left open.
 use Rattle.std.specs.Prelude.{ℕ, Bool, None}
 use Rattle.ts_outside.specs.Source.{SourceView, own_bytes}
 use Rattle.ts_outside.specs.Sink.{SinkView}
@@ -12,15 +12,15 @@ pub record OsDeskView : Type 0 where
   pub report_faults : ℕ
   pub aside : Bool
 
--- a real source tells the count of its faults alone
+-- of a real source contracts see the count of its faults alone
 abbrev pub untold_source : ℕ → SourceView
 untold_source faults = record { left = None; faults = faults; origin = own_bytes }
 
--- a real sink tells the count of its faults alone
+-- of a real sink contracts see the count of its faults alone
 abbrev pub untold_sink : ℕ → SinkView
 untold_sink faults = record { taken = None; name = None; faults = faults }
 
--- a real desk tells its three counts of faults alone
+-- of a real desk contracts see its three counts of faults alone
 abbrev pub untold_desk : OsDeskView → DeskView
 untold_desk d =
     record {

@@ -1,9 +1,10 @@
+//! Single calls of the system that read and write.
 ghost use Rattle.std.specs.Prelude.{◌<◌, ◌≤◌, length, IfOk};
 
 use crate::reason::Reason;
 use std::io::{ErrorKind, Read, Write};
 
-/// Asks the system once for bytes; a call that a signal interrupted is made again. The reason where it failed.
+/// Asks the system once for bytes; a call that a signal interrupted is made again. Returns the reason if it failed.
 pub(crate) fn read_some<R: Read>(from: &mut R, into: &mut [u8]) -> Result<usize, Reason>
     ensures { IfOk result (λ n. n ≤ length into.new) }
 {
@@ -17,8 +18,8 @@ pub(crate) fn read_some<R: Read>(from: &mut R, into: &mut [u8]) -> Result<usize,
     Err(Reason::Other)
 }
 
-/// Gives the system bytes once; a call that a signal interrupted is made again. The reason where it failed, or
-/// took nothing.
+/// Gives the system bytes once; a call that a signal interrupted is made again. Returns the reason if it failed, or took
+/// nothing.
 pub(crate) fn write_some<W: Write>(to: &mut W, piece: &[u8]) -> Result<usize, Reason>
     ensures some { IfOk result (λ n. 0 < n) }
     ensures within { IfOk result (λ n. n ≤ length piece.now) }

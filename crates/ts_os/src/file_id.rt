@@ -1,4 +1,4 @@
-//! Which regular file stands after a name, whatever the name: two names of one file have one device and one number.
+//! Which regular file a name stands for, whatever the name: two names of one file have one device and one number.
 
 use std::fs::Metadata;
 use std::os::unix::fs::MetadataExt;
@@ -11,7 +11,7 @@ pub(crate) struct FileId {
 }
 
 impl FileId {
-    /// The regular file of which this was told; `None` for devices, pipes and directories.
+    /// The regular file that these facts describe; `None` for devices, pipes and directories.
     pub(crate) fn of(told: &Metadata) -> Option<FileId> {
         told.is_file().then_some(FileId {
             device: told.dev(),

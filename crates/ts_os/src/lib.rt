@@ -1,4 +1,4 @@
-//! Real files and standard streams as a desk: names come in; bytes are read, written and reported at the system.
+//! Real files and standard streams as a desk. Names come in; bytes are read from the system and written to it.
 //! The programs use the clauses of `Desk`, `Source` and `Sink`; which bytes the system moves is trusted.
 #![tactic(auto)]
 

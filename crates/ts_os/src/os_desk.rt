@@ -1,3 +1,4 @@
+//! The files and standard streams of the system, as a desk.
 ghost use Rattle.std.specs.Prelude.{◌≡◌, ◌<◌, ◌≤◌, ◌||◌, [], false, length, take, is_err, IfOk, IsOk, OnErr, IfSome};
 ghost use Rattle.std.specs.Option.{option_copied, option_map};
 ghost use Rattle.std.specs.Str.{bytes_eq};
@@ -24,18 +25,18 @@ use ts_outside::{Desk, Failed, FileBytes, FileFault, OpenFault, Purpose, one_mor
 struct OpenOutput {
     file: FileId,
 
-    /// An input was wanted of it, in vain.
+    /// It was asked for as an input, and refused.
     wanted: bool,
 }
 
-/// The files and standard streams of the system. It tells no content, and contracts see it as its counts of faults and
-/// as where reports go.
+/// The files and standard streams of the system. Contracts see no content of it, only its counts of faults and where
+/// reports go.
 ///
 /// Reports go to standard error once `open_out` was asked for the standard stream, and to standard output otherwise.
-/// An output file is made where it is absent. Where it is there it is emptied before the first byte is written, or at its
-/// closing. A regular file that is open as an input at that moment or is spared, under whatever name, is not opened as an
-/// output and stays as it is: emptied, it would take with it what was still to be read. Nor is a file that is open as an output opened
-/// as an input; if nothing was written to it when it was wanted so, its closing leaves it as it is.
+/// An output file is made if it is absent. If it is there it is emptied before the first byte is written, or when it is
+/// closed. A regular file that is open as an input at that moment, or is spared, under whatever name, is not opened as an
+/// output and stays as it is: to empty it would lose what was still to be read. Nor is a file that is open as an output
+/// opened as an input; if nothing was written to it when it was asked for, closing it leaves it as it is.
 #[derive(Drop)]
 pub struct OsDesk {
     rt: HostRuntime,
@@ -107,7 +108,7 @@ impl OsDesk {
     }
 
     /// Spares the files of a command line that are inputs: a regular file whose name is the second word after `option` is
-    /// not opened as an output from now on. `Err` is want of memory, and changes nothing.
+    /// not opened as an output from now on. `Err` means out of memory, and changes nothing.
     pub fn spare(&mut self, words: &[String], option: &str) -> Result<(), AllocError>
         ensures { self.new ≡ self.old }
     {
@@ -215,7 +216,7 @@ impl OsDesk {
         })
     }
 
-    /// Once less among the open inputs: a file may be open as two of them.
+    /// Removes a file from the open inputs once, since it may be open as two of them.
     fn forget(&mut self, closed: FileId)
         ensures { self.new ≡ self.old }
     {
@@ -224,7 +225,7 @@ impl OsDesk {
         }
     }
 
-    /// The file of a name, made where it is absent, and which regular file it is. It is compared with the open inputs.
+    /// The file of a name, made if it is absent, and which regular file it is. It is compared with the open inputs.
     fn made(&self, named: &str) -> Result<(File, Option<FileId>), Reason> {
         let file = OpenOptions::new()
             .write(true)
@@ -241,7 +242,7 @@ impl OsDesk {
         Ok((file, id))
     }
 
-    /// Takes a closed file out of the open outputs. Whether it was wanted as an input.
+    /// Removes a closed file from the open outputs. Returns whether it was asked for as an input.
     fn forget_output(&mut self, closed: FileId) -> bool
         ensures { self.new ≡ self.old }
     {
@@ -252,7 +253,7 @@ impl OsDesk {
     }
 }
 
-/// The regular files that are there, whose names are the second words after an option.
+/// The regular files that exist and whose names are the second words after an option.
 fn named_behind(
     rt: HostRuntime,
     words: &[String],
@@ -282,7 +283,7 @@ fn regular(rt: &HostRuntime, named: &str) -> Option<FileId> {
     FileId::of(&metadata(rt, named).ok()?)
 }
 
-/// Whether this file is open as an output. Then it is shown there that it was wanted as an input.
+/// Whether this file is open as an output. If so, it is noted there that it was asked for as an input.
 fn is_output(outputs: &mut Vec<OpenOutput>, wanted: FileId) -> bool {
     match outputs.iter_mut().find(|it| it.file == wanted) {
         Some(output) => {

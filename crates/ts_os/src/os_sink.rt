@@ -1,3 +1,4 @@
+//! A file or the standard output, as a sink.
 ghost use Rattle.std.specs.Prelude.{◌≡◌, ◌<◌, ◌≤◌, length, take, IfOk, OnErr};
 ghost use Rattle.ts_outside.specs.Sink.{took, write_failed};
 ghost use Rattle.ts_os.specs.Untold.{untold_sink};
@@ -18,7 +19,7 @@ pub(crate) enum Made {
 }
 
 impl Made {
-    /// Takes away what a file has. Whether that went well.
+    /// Empties a file. Returns whether that went well.
     pub(crate) fn empty(&self) -> bool {
         match self {
             Made::File(file) => file.set_len(0).is_ok(),
@@ -27,10 +28,10 @@ impl Made {
     }
 }
 
-/// A file or the standard output. It tells no content, and contracts see it as the count of its faults.
+/// A file or the standard output. Contracts see no content of it, only the count of its faults.
 ///
 /// Each call gives the system one piece. A call that takes nothing of a piece is a fault. A regular file keeps what it had
-/// up to the first write, or up to the closing.
+/// until the first write, or until it is closed.
 pub struct OsSink {
     pub(crate) to: Made,
 
@@ -54,7 +55,7 @@ impl Model for OsSink {
 }
 
 impl OsSink {
-    /// Takes away what the file had, unless that was done. Whether that went well.
+    /// Empties the file, unless that was done. Returns whether that went well.
     fn empty(&mut self) -> bool
         ensures { self.new ≡ self.old }
     {
@@ -64,8 +65,7 @@ impl OsSink {
         !self.full
     }
 
-    /// Gives the system one piece. The reason where it took nothing, or what the file had could not be taken
-    /// away.
+    /// Gives the system one piece. Returns the reason if it took nothing, or if the file could not be emptied.
     fn give(&mut self, piece: &[u8]) -> Result<usize, Reason>
         ensures some { IfOk result (λ n. 0 < n) }
         ensures within { IfOk result (λ n. n ≤ length piece.now) }

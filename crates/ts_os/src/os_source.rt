@@ -1,3 +1,4 @@
+//! A file or the standard input, as a source.
 ghost use Rattle.std.specs.Prelude.{◌≡◌, ◌<◌, ◌≤◌, [], length, take, IfOk, OnErr, IfSome};
 ghost use Rattle.ts_outside.specs.Source.{read_failed, unread};
 ghost use Rattle.ts_os.specs.Untold.{untold_source};
@@ -20,9 +21,9 @@ pub(crate) enum Opened {
     Stream(Stdin),
 }
 
-/// A file or the standard input. It tells no content, and contracts see it as the count of its faults.
+/// A file or the standard input. Contracts see no content of it, only the count of its faults.
 ///
-/// Each call asks the system once, for as many bytes as have a place. A directory opens and fails at its first read.
+/// Each call asks the system once, for as many bytes as there is room for. A directory opens, and fails at its first read.
 pub struct OsSource {
     pub(crate) from: Opened,
     pub(crate) file: Option<FileId>,

@@ -1,3 +1,4 @@
+//! Why the system refused a call.
 use std::io::ErrorKind;
 
 /// Why the system refused a call, as far as a user can do something about it.
@@ -28,7 +29,7 @@ impl Reason {
         }
     }
 
-    /// What is said of it.
+    /// Its words in a report.
     pub fn text(self) -> &'static str {
         match self {
             Reason::Absent => "no such file or directory",
