@@ -46,7 +46,8 @@ impl EditPid<Current<PmtEdit>> {
         _buffer: usize,
     ) -> Result<EditPid<Current<PmtEdit>>, AllocError>
         requires { IsLawfulPmt conf.now }
-        ensures rule { IfOk result (λ plugin. ⟦<EditPid<Current<PmtEdit>> as Plugin>⟧.rule plugin ≡ edit_rule conf.now.pmt_pid (change_pmt conf.now)) }
+        ensures rule { IfOk result (λ plugin. ⟦<EditPid<Current<PmtEdit>> as Plugin>⟧.rule plugin
+            ≡ edit_rule conf.now.pmt_pid (change_pmt conf.now)) }
         ensures fresh { IfOk result (λ plugin. ⟦<EditPid<Current<PmtEdit>> as Plugin>⟧.stands_for plugin [] 0) }
         ensures steady { IfOk result (λ plugin. ⟦<EditPid<Current<PmtEdit>> as Plugin>⟧.steady plugin ≡ None) }
     {

@@ -52,7 +52,8 @@ is_current_sdt (section ∷ sections) = is_head_of_sdt (head_of section)
 -- of an SDT of the actual transport stream
 abbrev pub edited_sdt : Way → ℕ → List (List ℕ) → Change
 edited_sdt way service run =
-    changed_current sdt_page (of_id 0x42 (λ table. Some (with_items (service_stays way service) table))) (current_in (read_run sdt_page run))
+    changed_current sdt_page (of_id 0x42 (λ table. Some (with_items (service_stays way service) table)))
+    (current_in (read_run sdt_page run))
 
 -- of a table on PID 17: where a service is kept, no table but the current SDTs of the actual transport stream is carried
 abbrev pub sdt_change : Way → ℕ → List (List ℕ) → Change
