@@ -38,7 +38,7 @@ impl<E: TableEdit + Drop> EditPid<E> {
 }
 
 impl<E: TableEdit + Drop> Plugin for EditPid<E> {
-    ghost use Rattle.std.specs.Prelude.{◌≡◌, ◌<◌, ◌≤◌, length, None, false, refl};
+    ghost use Rattle.std.specs.Prelude.{◌≡◌, ◌<◌, ◌≤◌, length, None, false, refl, true};
     ghost use Rattle.ts_packet.specs.declared.numbers.TheConstants.{NULL_PID};
     ghost use Rattle.plug_psi.specs.EditorStands.{StandsFor, edit_of, has_failed};
     ghost use Rattle.plug_edit.specs.EditRule.{edit_rule, taken_of};
@@ -49,6 +49,8 @@ impl<E: TableEdit + Drop> Plugin for EditPid<E> {
         → StandsFor (E.change (edit_of s.editor)) s.editor s.pid (taken_of s.pid history)) × (mark ≤ length history) };
 
     ghost steady = { λ s. None };
+
+    ghost silent = { λ _. true };
 
     fn step(&mut self, _at: u64, cell: &mut Cell) -> Outcome {
         let Some(live) = cell.live_mut() else {

@@ -73,7 +73,7 @@ fn reaches(count: u128, least: Option<u64>) -> bool
 }
 
 impl Plugin for Until {
-    ghost use Rattle.std.specs.Prelude.{Some};
+    ghost use Rattle.std.specs.Prelude.{Some, true};
     ghost use Rattle.plug_end.specs.UntilRule.{until_rule};
     ghost use Rattle.plug_end.specs.UntilState.{conf_of, Counts};
 
@@ -82,6 +82,8 @@ impl Plugin for Until {
     ghost stands_for = { λ s history mark. Counts (conf_of s) s.met s.starts history mark };
 
     ghost steady = { λ s. Some s.buffer };
+
+    ghost silent = { λ _. true };
 
     #[inline]
     fn step(&mut self, _at: u64, cell: &mut Cell) -> Outcome {

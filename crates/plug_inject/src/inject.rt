@@ -97,7 +97,7 @@ impl Inject {
 }
 
 impl Plugin for Inject {
-    ghost use Rattle.std.specs.Prelude.{◌≡◌, ◌≢◌, ◌<◌, None, refl};
+    ghost use Rattle.std.specs.Prelude.{◌≡◌, ◌≢◌, ◌<◌, None, refl, true};
     ghost use Rattle.ts_packet.specs.Cells.{Dropped};
     ghost use Rattle.chain_model.specs.declared.positions.TheConstants.{POSITION_LIMIT};
     ghost use Rattle.plugin_trait.specs.Steps.{MeetsCells, Tells, Meets};
@@ -109,6 +109,8 @@ impl Plugin for Inject {
     ghost stands_for = { λ s history mark. Meant s history mark };
 
     ghost steady = { λ s. None };
+
+    ghost silent = { λ _. true };
 
     /// The clauses of `Plugin`, whose ghost members have no names here, and one more: no step returns `NoMemory`.
     #[inline]

@@ -44,7 +44,7 @@ impl Remap {
 }
 
 impl Plugin for Remap {
-    ghost use Rattle.std.specs.Prelude.{◌≤◌, length, refl};
+    ghost use Rattle.std.specs.Prelude.{◌≤◌, length, refl, true};
     ghost use Rattle.plug_move.specs.RemapRule.{remap_rule};
     ghost use Rattle.plug_move.specs.RemapState.{TablesStand, conf_of, room_of};
 
@@ -53,6 +53,8 @@ impl Plugin for Remap {
     ghost stands_for = { λ s history mark. TablesStand s.table.0 s.tables history × (mark ≤ length history) };
 
     ghost steady = { λ s. room_of s.tables s.buffer };
+
+    ghost silent = { λ _. true };
 
     #[inline]
     fn step(&mut self, _at: u64, cell: &mut Cell) -> Outcome {

@@ -74,7 +74,7 @@ impl Filter {
 }
 
 impl Plugin for Filter {
-    ghost use Rattle.std.specs.Prelude.{◌≤◌, length, Some, refl};
+    ghost use Rattle.std.specs.Prelude.{◌≤◌, length, Some, refl, true};
     ghost use Rattle.plug_pass.specs.FilterRule.{filter_rule};
     ghost use Rattle.plug_pass.specs.FilterState.{conf_of};
 
@@ -83,6 +83,8 @@ impl Plugin for Filter {
     ghost stands_for = { λ s history mark. mark ≤ length history };
 
     ghost steady = { λ s. Some s.buffer };
+
+    ghost silent = { λ _. true };
 
     // Inlined: otherwise the loop of `steps` has a call for each cell.
     #[inline(always)]

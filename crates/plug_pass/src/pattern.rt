@@ -95,7 +95,7 @@ fn filled_with(pattern: &[u8]) -> [u8; PAYLOAD_SIZE]
 }
 
 impl Plugin for Pattern {
-    ghost use Rattle.std.specs.Prelude.{◌≡◌, ◌≤◌, length, Some, refl};
+    ghost use Rattle.std.specs.Prelude.{◌≡◌, ◌≤◌, length, Some, refl, true};
     ghost use Rattle.plug_pass.specs.PatternRule.{pattern_rule, repeated};
     ghost use Rattle.plug_pass.specs.PatternState.{conf_of, IsMade};
 
@@ -104,6 +104,8 @@ impl Plugin for Pattern {
     ghost stands_for = { λ s history mark. IsMade s.filled s.pattern s.offset_pusi s.offset_non_pusi × (mark ≤ length history) };
 
     ghost steady = { λ s. Some s.buffer };
+
+    ghost silent = { λ _. true };
 
     #[inline]
     fn step(&mut self, _at: u64, cell: &mut Cell) -> Outcome {

@@ -40,7 +40,7 @@ impl Skip {
 }
 
 impl Plugin for Skip {
-    ghost use Rattle.std.specs.Prelude.{◌≡◌, ◌≤◌, ◌-◌, length, Some, refl};
+    ghost use Rattle.std.specs.Prelude.{◌≡◌, ◌≤◌, ◌-◌, length, Some, refl, true};
     ghost use Rattle.plug_pass.specs.SkipRule.{skip_rule};
     ghost use Rattle.plugin_trait.specs.LiveCount.{live_count};
 
@@ -49,6 +49,8 @@ impl Plugin for Skip {
     ghost stands_for = { λ s history mark. (s.left ≡ s.count - live_count history) × (mark ≤ length history) };
 
     ghost steady = { λ s. Some s.buffer };
+
+    ghost silent = { λ _. true };
 
     #[inline]
     fn step(&mut self, _at: u64, cell: &mut Cell) -> Outcome {

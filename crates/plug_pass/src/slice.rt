@@ -78,7 +78,7 @@ fn is_between(from: u64, index: u64, other: Option<u64>) -> bool
 }
 
 impl Plugin for Slice {
-    ghost use Rattle.std.specs.Prelude.{◌≡◌, ◌≤◌, length, Some, refl};
+    ghost use Rattle.std.specs.Prelude.{◌≡◌, ◌≤◌, length, Some, refl, true};
     ghost use Rattle.plugin_trait.specs.LiveCount.{live_count};
     ghost use Rattle.plug_pass.specs.SliceRule.{slice_rule};
     ghost use Rattle.plug_pass.specs.SliceState.{conf_of};
@@ -88,6 +88,8 @@ impl Plugin for Slice {
     ghost stands_for = { λ s history mark. (s.met ≡ live_count history) × (s.met ≤ length history) × (mark ≤ length history) };
 
     ghost steady = { λ s. Some s.buffer };
+
+    ghost silent = { λ _. true };
 
     // Inlined: otherwise the loop of `steps` has a call for each cell.
     #[inline(always)]

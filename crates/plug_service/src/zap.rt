@@ -39,7 +39,7 @@ impl Zap {
 }
 
 impl Plugin for Zap {
-    ghost use Rattle.std.specs.Prelude.{◌≤◌, length, None, refl};
+    ghost use Rattle.std.specs.Prelude.{◌≤◌, length, None, refl, true};
     ghost use Rattle.ts_packet.specs.Cells.{live_packets};
     ghost use Rattle.plug_service.specs.ServiceState.{StandsFor, rule_of};
 
@@ -48,6 +48,8 @@ impl Plugin for Zap {
     ghost stands_for = { λ s history mark. StandsFor s.inner (live_packets history) × (mark ≤ length history) };
 
     ghost steady = { λ s. None };
+
+    ghost silent = { λ _. true };
 
     fn step(&mut self, _at: u64, cell: &mut Cell) -> Outcome {
         self.inner.step(cell)

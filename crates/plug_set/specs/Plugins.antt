@@ -1,6 +1,6 @@
 -- The set of all plugins: their names, their options, which settings are valid, and their rules.
 -- This project's own rule.
-use Rattle.std.specs.Prelude.{ℕ, List, [], ◌∷◌, Bool, false, Option, None, Some, codes, find, if◌then◌else◌}
+use Rattle.std.specs.Prelude.{ℕ, List, [], ◌∷◌, Bool, true, false, Option, None, Some, codes, find, if◌then◌else◌}
 use Rattle.std.specs.Str.{bytes_eq}
 use Rattle.chain_model.specs.PluginRule.{PluginRule}
 use Rattle.option_words.specs.OptionTable.{OptionTable, made_into}
@@ -237,3 +237,13 @@ steady_of _ buffer = Some buffer
 abbrev pub uses_joint : PluginConf → Bool
 uses_joint (Until conf) = conf.joint_termination
 uses_joint _ = false
+
+-- the plugin has nothing to report: neither lines nor a summary
+abbrev pub is_silent : PluginConf → Bool
+is_silent (Count conf) = false
+is_silent (Continuity conf) = false
+is_silent (Analyze conf) = false
+is_silent (Info conf) = false
+is_silent (Tables conf) = false
+is_silent (Pcrverify conf) = false
+is_silent _ = true

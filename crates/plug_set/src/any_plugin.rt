@@ -2,7 +2,7 @@
 
 ghost use Rattle.std.specs.Prelude.{◌≡◌, IfOk, []};
 ghost use Rattle.plug_set.specs.Items.{rule_of_item};
-ghost use Rattle.plug_set.specs.Plugins.{steady_of};
+ghost use Rattle.plug_set.specs.Plugins.{is_silent, steady_of};
 
 use crate::masked_plugin::MaskedPlugin;
 use crate::plugin_item::PluginItem;
@@ -35,6 +35,7 @@ impl AnyPlugin {
         ensures rule { IfOk result (λ plugin. ⟦<AnyPlugin as Plugin>⟧.rule plugin ≡ rule_of_item item.now sections.items) }
         ensures fresh { IfOk result (λ plugin. ⟦<AnyPlugin as Plugin>⟧.stands_for plugin [] 0) }
         ensures steady { IfOk result (λ plugin. ⟦<AnyPlugin as Plugin>⟧.steady plugin ≡ steady_of item.now.conf buffer) }
+        ensures silent { IfOk result (λ plugin. ⟦<AnyPlugin as Plugin>⟧.silent plugin ≡ is_silent item.now.conf) }
     {
         Ok(AnyPlugin {
             masked: MaskedPlugin {
@@ -54,6 +55,8 @@ impl Plugin for AnyPlugin {
     ghost stands_for = { λ s. ⟦<MaskedPlugin<SomePlugin> as Plugin>⟧.stands_for s.masked };
 
     ghost steady = { λ s. ⟦<MaskedPlugin<SomePlugin> as Plugin>⟧.steady s.masked };
+
+    ghost silent = { λ s. ⟦<MaskedPlugin<SomePlugin> as Plugin>⟧.silent s.masked };
 
     fn step(&mut self, at: u64, cell: &mut Cell) -> Outcome {
         self.masked.step(at, cell)

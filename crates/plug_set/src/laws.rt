@@ -1,8 +1,11 @@
-//! Laws of the plugins that the lists `uses_joint` and `table_file_of` do not name.
-ghost use Rattle.std.specs.Prelude.{◌≡◌, ℕ, List, None, false};
+//! Laws of the plugins that the lists `uses_joint`, `table_file_of` and `is_silent` do not name.
+ghost use Rattle.std.specs.Prelude.{◌≡◌, ℕ, List, None, false, true};
 ghost use Rattle.ts_packet.specs.declared.cell.Cell.{Cell};
 ghost use Rattle.plug_set.specs.declared.plugin_conf.PluginConf.{PluginConf};
-ghost use Rattle.plug_set.specs.Plugins.{rule_of, table_file_of, uses_joint};
+ghost use Rattle.plugin_trait.specs.PlacedLines.{IsSilent};
+ghost use Rattle.plug_set.specs.Items.{rule_of_item};
+ghost use Rattle.plug_set.specs.Plugins.{is_silent, rule_of, table_file_of, uses_joint};
+ghost use Rattle.plug_set.specs.declared.plugin_item.PluginItem.{PluginItem};
 
 /// A plugin that does not use joint termination never agrees to a common end. A law; it runs nothing.
 pub fn only_joint_agrees()
@@ -14,4 +17,11 @@ pub fn only_joint_agrees()
 pub fn only_named_sections_count()
     ensures { (conf : PluginConf) (one other : List (List ℕ))
         → table_file_of conf ≡ None → rule_of conf one ≡ rule_of conf other }
+{}
+
+/// A silent plugin (`is_silent`) has a rule with neither lines nor a summary, whether it goes by labels or not. Its
+/// `finish` is `Ok`, since `AnyPlugin::of` makes it silent. A law; it runs nothing.
+pub fn silent_plugins_report_nothing()
+    ensures { (item : PluginItem) (sections : List (List ℕ))
+        → is_silent item.conf ≡ true → IsSilent (rule_of_item item sections) }
 {}

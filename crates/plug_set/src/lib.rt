@@ -10,6 +10,6 @@ mod plugin_item;
 mod some_plugin;
 
 pub use any_plugin::AnyPlugin;
-pub use laws::{only_joint_agrees, only_named_sections_count};
+pub use laws::{only_joint_agrees, only_named_sections_count, silent_plugins_report_nothing};
 pub use plugin_conf::{PluginConf, PluginKind};
 pub use plugin_item::PluginItem;

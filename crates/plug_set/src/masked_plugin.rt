@@ -41,6 +41,8 @@ impl<P: Plugin + Drop> Plugin for MaskedPlugin<P> {
 
     ghost steady = { λ s. P.steady s.plugin };
 
+    ghost silent = { λ s. P.silent s.plugin };
+
     #[inline]
     fn step(&mut self, at: u64, cell: &mut Cell) -> Outcome {
         if self.shows(cell) {

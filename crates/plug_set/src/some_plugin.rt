@@ -1,7 +1,7 @@
 //! The plugins of all kinds as one type.
 
 ghost use Rattle.std.specs.Prelude.{◌≡◌, IfOk, []};
-ghost use Rattle.plug_set.specs.Plugins.{rule_of, steady_of};
+ghost use Rattle.plug_set.specs.Plugins.{is_silent, rule_of, steady_of};
 
 use crate::plugin_conf::PluginConf;
 use plug_analyze::Analyze;
@@ -97,6 +97,7 @@ impl SomePlugin {
         ensures rule { IfOk result (λ plugin. ⟦<SomePlugin as Plugin>⟧.rule plugin ≡ rule_of conf.now sections.items) }
         ensures fresh { IfOk result (λ plugin. ⟦<SomePlugin as Plugin>⟧.stands_for plugin [] 0) }
         ensures steady { IfOk result (λ plugin. ⟦<SomePlugin as Plugin>⟧.steady plugin ≡ steady_of conf.now buffer) }
+        ensures silent { IfOk result (λ plugin. ⟦<SomePlugin as Plugin>⟧.silent plugin ≡ is_silent conf.now) }
     {
         match conf {
             PluginConf::Filter(conf) => Ok(SomePlugin::Filter(Filter::new(alloc, conf, buffer)?)),
@@ -214,6 +215,31 @@ impl Plugin for SomePlugin {
       | MadeCompact p ↦ ⟦<Compact as Plugin>⟧.steady p
       | MadeRmorphan p ↦ ⟦<Rmorphan as Plugin>⟧.steady p
       | MadePcrverify p ↦ ⟦<Pcrverify as Plugin>⟧.steady p
+    ] };
+
+    ghost silent = { elim [
+      | MadeFilter p ↦ ⟦<Filter as Plugin>⟧.silent p
+      | MadeSkip p ↦ ⟦<Skip as Plugin>⟧.silent p
+      | MadeSlice p ↦ ⟦<Slice as Plugin>⟧.silent p
+      | MadePattern p ↦ ⟦<Pattern as Plugin>⟧.silent p
+      | MadeUntil p ↦ ⟦<Until as Plugin>⟧.silent p
+      | MadeCount p ↦ ⟦<Count as Plugin>⟧.silent p
+      | MadeContinuity p ↦ ⟦<Continuity as Plugin>⟧.silent p
+      | MadeRemap p ↦ ⟦<Remap as Plugin>⟧.silent p
+      | MadeInject p ↦ ⟦<Inject as Plugin>⟧.silent p
+      | MadePat p ↦ ⟦<EditPid<PatEdit> as Plugin>⟧.silent p
+      | MadeCat p ↦ ⟦<EditPid<CatEdit> as Plugin>⟧.silent p
+      | MadePmt p ↦ ⟦<EditPid<PmtEdit> as Plugin>⟧.silent p
+      | MadeSdt p ↦ ⟦<EditPid<SdtEdit> as Plugin>⟧.silent p
+      | MadeNit p ↦ ⟦<EditPid<NitEdit> as Plugin>⟧.silent p
+      | MadeZap p ↦ ⟦<Zap as Plugin>⟧.silent p
+      | MadeSvremove p ↦ ⟦<Svremove as Plugin>⟧.silent p
+      | MadeAnalyze p ↦ ⟦<Analyze as Plugin>⟧.silent p
+      | MadeInfo p ↦ ⟦<Info as Plugin>⟧.silent p
+      | MadeTables p ↦ ⟦<Tables as Plugin>⟧.silent p
+      | MadeCompact p ↦ ⟦<Compact as Plugin>⟧.silent p
+      | MadeRmorphan p ↦ ⟦<Rmorphan as Plugin>⟧.silent p
+      | MadePcrverify p ↦ ⟦<Pcrverify as Plugin>⟧.silent p
     ] };
 
     fn step(&mut self, at: u64, cell: &mut Cell) -> Outcome {

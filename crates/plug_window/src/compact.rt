@@ -41,7 +41,7 @@ impl Compact {
 }
 
 impl Plugin for Compact {
-    ghost use Rattle.std.specs.Prelude.{◌≡◌, ◌≢◌, ◌<◌, Some, refl};
+    ghost use Rattle.std.specs.Prelude.{◌≡◌, ◌≢◌, ◌<◌, Some, refl, true};
     ghost use Rattle.ts_packet.specs.Cells.{Dropped};
     ghost use Rattle.chain_model.specs.declared.positions.TheConstants.{POSITION_LIMIT};
     ghost use Rattle.plugin_trait.specs.Steps.{MeetsCells, Tells, Meets};
@@ -53,6 +53,8 @@ impl Plugin for Compact {
     ghost stands_for = { λ s history mark. MeetsHistory s history mark };
 
     ghost steady = { λ s. Some s.buffer };
+
+    ghost silent = { λ _. true };
 
     /// The clauses are those of `Plugin`, whose ghost members have no names here, and one more: no step returns
     /// `NoMemory`.

@@ -39,7 +39,7 @@ impl Rmorphan {
 }
 
 impl Plugin for Rmorphan {
-    ghost use Rattle.std.specs.Prelude.{None, refl};
+    ghost use Rattle.std.specs.Prelude.{None, refl, true};
     ghost use Rattle.plug_window.specs.RmorphanRule.{rmorphan_rule};
     ghost use Rattle.plug_window.specs.RmorphanState.{conf_of, MeetsHistory};
 
@@ -48,6 +48,8 @@ impl Plugin for Rmorphan {
     ghost stands_for = { λ s history mark. MeetsHistory s history mark };
 
     ghost steady = { λ s. None };
+
+    ghost silent = { λ _. true };
 
     #[inline]
     fn step(&mut self, _at: u64, cell: &mut Cell) -> Outcome {

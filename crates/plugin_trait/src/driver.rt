@@ -31,6 +31,7 @@ pub fn apply_plugin<P: Plugin>(plugin: &mut P, cells: &mut Vec<Cell>) -> ListEnd
     ensures fewer { vec_len cells.new ≤ vec_len cells.old }
     ensures same_rule { P.rule plugin.new ≡ P.rule plugin.old }
     ensures same_steady { P.steady plugin.new ≡ P.steady plugin.old }
+    ensures same_silent { P.silent plugin.new ≡ P.silent plugin.old }
     ensures room { IsSteadyFor (P.steady plugin.old) (vec_len cells.old) → result ≢ ListEnd.NoMemory }
 {
     let mut noted = true;

@@ -33,6 +33,9 @@ pub trait Plugin {
     /// the greatest mark. No call changes it.
     ghost steady: { Self → Option ℕ };
 
+    /// It has nothing to report, and `finish` needs no memory. No call changes it.
+    ghost silent: { Self → Bool } = { λ _. false };
+
     /// Takes the cell at a position, and leaves in it what the plugin makes of it.
     ///
     /// The outcome is the rule's, or `NoMemory` on a live cell. After `Stop`, `Refuse` and `NoMemory`
@@ -45,6 +48,7 @@ pub trait Plugin {
         ensures meets { Meets (stands_for self.old) (stands_for self.new) at cell.old result }
         ensures same_rule { rule self.new ≡ rule self.old }
         ensures same_steady { steady self.new ≡ steady self.old }
+        ensures same_silent { silent self.new ≡ silent self.old }
         ensures room { HasRoom (steady self.old) (stands_for self.old) at → result ≢ Outcome.NoMemory };
 
     /// Takes the cells from a position on, in place, until the plugin ends its list.
@@ -74,6 +78,7 @@ pub trait Plugin {
             at result.agreed noted.new }
         ensures same_rule { rule self.new ≡ rule self.old }
         ensures same_steady { steady self.new ≡ steady self.old }
+        ensures same_silent { silent self.new ≡ silent self.old }
         ensures room { HasRoomFor (steady self.old) (stands_for self.old) at (length cells.old)
             → result.end ≢ ListEnd.NoMemory }
     {
@@ -118,6 +123,7 @@ pub trait Plugin {
         ensures notes { Notes (stands_for self.old) (stands_for self.new) written result }
         ensures same_rule { rule self.new ≡ rule self.old }
         ensures same_steady { steady self.new ≡ steady self.old }
+        ensures same_silent { silent self.new ≡ silent self.old }
         ensures room { IsSome (steady self.old) → IsOk result };
 
     /// Whether the plugin uses joint termination and agrees to end after the cells that it met.
@@ -130,9 +136,10 @@ pub trait Plugin {
     /// have the position `cut`. It is called once, with a cut that is no less than the greatest mark.
     fn finish(&mut self, cut: u64) -> Result<Vec<Line>, AllocError>
         requires { AllowsMark (stands_for self.old) cut }
-        ensures { (history : List Cell) (mark : ℕ) → stands_for self.old history mark → mark ≤ cut
+        ensures said { (history : List Cell) (mark : ℕ) → stands_for self.old history mark → mark ≤ cut
             → cut ≤ length history
-            → IfOk result (λ lines. lines.items ≡ placed_of (rule self.old) (take cut history)) };
+            → IfOk result (λ lines. lines.items ≡ placed_of (rule self.old) (take cut history)) }
+        ensures silent { silent self.old ≡ true → IsOk result };
 
     /// No plugin agrees before it met a cell.
     ghost starts_open: { (plugin : Self) (history : List Cell) (mark : ℕ) → stands_for plugin history mark

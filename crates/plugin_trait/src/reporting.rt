@@ -1,5 +1,5 @@
 //! What a plugin reports once the chain has ended.
-ghost use Rattle.std.specs.Prelude.{◌≡◌, ◌≤◌, ℕ, List, map, take, length, IfOk};
+ghost use Rattle.std.specs.Prelude.{◌≡◌, ◌≤◌, ℕ, List, map, take, length, true, IfOk, IsOk};
 ghost use Rattle.ts_packet.specs.declared.cell.Cell.{Cell};
 ghost use Rattle.chain_model.specs.PluginRule.{PluginRule};
 ghost use Rattle.chain_model.specs.Reports.{said_of};
@@ -13,10 +13,11 @@ use std::alloc::{AllocError, Global};
 /// It is called once, with a cut that is no less than the greatest mark.
 pub fn report<P: Plugin>(plugin: &mut P, cut: u64) -> Result<Vec<Line>, AllocError>
     requires { AllowsMark (P.stands_for plugin.old) cut }
-    ensures { (history : List Cell) (mark : ℕ) → P.stands_for plugin.old history mark → mark ≤ cut
+    ensures said { (history : List Cell) (mark : ℕ) → P.stands_for plugin.old history mark → mark ≤ cut
         → cut ≤ length history
         → IfOk result (λ lines. map (λ line. line.text) lines.items
         ≡ said_of (P.rule plugin.old) (take cut history)) }
+    ensures silent { P.silent plugin.old ≡ true → IsOk result }
 {
     plugin.finish(cut)
 }

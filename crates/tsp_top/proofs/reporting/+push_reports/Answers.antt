@@ -31,7 +31,7 @@ returns g t c = λ tables rules input same met.
     let texts : List (List ℕ) = map (λ (line : Line). line.text) c.in_ok-lines.lines.items in
     let split = report-split g.P.Plugin.rule g.P.Plugin.stands_for rules input c.args.plugins.now c.in-Some.rest.now c.in-Some.first.now
     c.args.items.now c.in-Some-split_first.later.now c.in-Some-split_first.item.now tables
-    c.args.j c.args.cut texts c.in-Some.ensures.cases.0 c.in-Some-split_first.ensures.cases.0 same met c.in_ok-lines.ensures in
+    c.args.j c.args.cut texts c.in-Some.ensures.cases.0 c.in-Some-split_first.ensures.cases.0 same met c.in_ok-lines.ensures.said in
     let name : List ℕ = name_of c.in-Some-split_first.item.now.conf in
     let first : List ℕ = string_bytes c.args.text.now in
     let later : List ℕ = reports_from rules input c.args.cut (c.args.j + 1) (named_rules c.in-Some-split_first.later.now (later_tables tables)) in

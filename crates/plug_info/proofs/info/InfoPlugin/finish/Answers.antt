@@ -15,8 +15,8 @@ take_below-requires c = record {
   met = c.requires.met;
 }
 
-pub returns : goal.returns
-returns c = λ history mark s later within.
+pub returns-clause-said : goal.returns-clause-said
+returns-clause-said c = λ history mark s later within.
     let met = c.in_ok-take_below.ensures.met history mark (s.0 c.in_ok-check.ensures.unset) later within in
     report_is (conf_of c.args.self.now) history c.args.cut c.push_report.new.lines.items within
     (c.in_ok-push_report.ensures (take c.args.cut history) met.tracks

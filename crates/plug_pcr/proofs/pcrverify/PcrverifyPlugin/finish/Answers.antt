@@ -8,8 +8,8 @@ use Rattle.plug_pcr.specs.declared.pcrverify_conf.PcrverifyConf.{PcrverifyConf}
 use Rattle.plug_pcr.proofs.Verifying.{report_is}
 use Rattle.plug_pcr.proofs.pcrverify.PcrverifyPlugin.finish.Goals as goal
 
-pub returns : goal.returns
-returns c = λ history mark w le within.
+pub returns-clause-said : goal.returns-clause-said
+returns-clause-said c = λ history mark w le within.
     let folded = c.fold.new.self in
     let lines = c.replace-lines.result in
     let number : c.len.result ≡ length lines.items = c.len.ensures ∙ lines.ok.0 in

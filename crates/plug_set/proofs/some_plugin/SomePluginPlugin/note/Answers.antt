@@ -1,5 +1,6 @@
 -- Written by tools/answers.
 -- Each plugin's own clauses, at the plugin that stands there.
+use Rattle.std.proofs.Common.{refl}
 use Rattle.plug_set.proofs.some_plugin.SomePluginPlugin.note.Goals as goal
 
 pub note-requires : goal.note-requires
@@ -113,6 +114,7 @@ returns-in-Info c = rw c.in-Info.is (record {
   same_rule = c.note-in-Info.ensures.same_rule;
   same_steady = c.note-in-Info.ensures.same_steady;
   room = c.note-in-Info.ensures.room;
+  same_silent = refl;
 })
 
 pub note-requires-in-Tables : goal.note-requires-in-Tables

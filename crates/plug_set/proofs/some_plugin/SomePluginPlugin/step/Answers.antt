@@ -61,6 +61,7 @@ returns-in-Inject c = rw c.in-Inject.is (record {
   meets = c.step-in-Inject.ensures.meets;
   same_rule = c.step-in-Inject.ensures.same_rule;
   same_steady = refl;
+  same_silent = refl;
   room = λ enough. c.step-in-Inject.ensures.no_memory;
 })
 
@@ -123,6 +124,7 @@ returns-in-Info c = rw c.in-Info.is (record {
   same_rule = c.step-in-Info.ensures.same_rule;
   same_steady = c.step-in-Info.ensures.same_steady;
   room = c.step-in-Info.ensures.room;
+  same_silent = refl;
 })
 
 pub step-requires-in-Tables : goal.step-requires-in-Tables
@@ -141,6 +143,7 @@ returns-in-Compact c = rw c.in-Compact.is (record {
   meets = c.step-in-Compact.ensures.meets;
   same_rule = c.step-in-Compact.ensures.same_rule;
   same_steady = c.step-in-Compact.ensures.same_steady;
+  same_silent = refl;
   room = λ enough. c.step-in-Compact.ensures.no_memory;
 })
 

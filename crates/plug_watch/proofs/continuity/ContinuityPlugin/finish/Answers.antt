@@ -8,8 +8,8 @@ use Rattle.plug_watch.specs.ContinuityConfOf.{conf_of}
 use Rattle.plug_watch.proofs.Watching.{report_is}
 use Rattle.plug_watch.proofs.continuity.ContinuityPlugin.finish.Goals as goal
 
-pub returns : goal.returns
-returns c = λ history mark w le within.
+pub returns-clause-said : goal.returns-clause-said
+returns-clause-said c = λ history mark w le within.
     let lines = c.replace-lines.result in
     let count : c.len.result ≡ length lines.items = c.len.ensures ∙ lines.ok.0 in
     let same : lines.items ≡ c.fold.new.self.lines.items = ap (λ v. v.items) c.replace-lines.ensures.value in

@@ -11,8 +11,8 @@ use Rattle.plug_watch.proofs.count.CountPlugin.finish.Goals as goal
 pub fold-requires : goal.fold-requires
 fold-requires c = record { history = c.requires.history; mark = c.requires.mark; holds = c.requires.holds }
 
-pub returns : goal.returns
-returns c = λ history mark w le within.
+pub returns-clause-said : goal.returns-clause-said
+returns-clause-said c = λ history mark w le within.
     let same : c.replace-lines.result.items ≡ c.fold.new.self.lines.items = ap (λ v. v.items) c.replace-lines.ensures.value in
     let stands = subst (λ (ls : List Line). Counts (conf_of c.fold.new.self) c.fold.new.self.notes.items c.fold.new.self.tally ls history c.args.cut) (sym same)
     (c.in_ok-fold.ensures.notes history mark w le within) in

@@ -19,6 +19,7 @@ invariant-loop-i g l = record {
   rest : drop l.i l.cells ≡ drop l.i l.fn.cells;
   same_rule : g.Self.Plugin.rule l.self ≡ g.Self.Plugin.rule l.fn.self;
   same_steady : g.Self.Plugin.steady l.self ≡ g.Self.Plugin.steady l.fn.self;
+  same_silent : g.Self.Plugin.silent l.self ≡ g.Self.Plugin.silent l.fn.self;
   agreed : (history : List Cell) (mark : ℕ) → g.Self.Plugin.stands_for l.fn.self history mark → length history ≡ l.at
       → l.fn.noted ≡ is_some (agreement_of (g.Self.Plugin.rule l.fn.self) history)
       → TellsAgreement (g.Self.Plugin.rule l.fn.self) (history ++ take l.i l.fn.cells) l.at l.agreed l.noted;
