@@ -34,7 +34,7 @@ impl Analyze {
     ghost use Rattle.chain_model.specs.declared.positions.TheConstants.{POSITION_LIMIT};
     ghost use Rattle.plug_analyze.specs.AnalyzeRule.{analyze_rule};
     ghost use Rattle.plug_analyze.specs.AnalyzeSettings.{IsLawfulAnalyze};
-    ghost use Rattle.plug_analyze.specs.AnalyzeStands.{StandsFor, StandsForSome, has_failed};
+    ghost use Rattle.plug_analyze.specs.AnalyzeStands.{StandsFor, StandsForSome, has_failed, room_for_changes, room_for_notes};
 
     /// A new plugin, which has processed no cell. It allocates its tables, and room for notes on as many packets as
     /// the buffer holds; the tables in force grow with the stream.
@@ -43,8 +43,9 @@ impl Analyze {
         ensures rule { IfOk result (λ plugin. ⟦<Analyze as Plugin>⟧.rule plugin ≡ analyze_rule) }
         ensures fresh { IfOk result (λ plugin. ⟦<Analyze as Plugin>⟧.stands_for plugin [] 0) }
         ensures steady { IfOk result (λ plugin. ⟦<Analyze as Plugin>⟧.steady plugin ≡ None) }
-        ensures reserved_notes { IfOk result (λ plugin. plugin.noted.notes.capacity ≡ buffer) }
-        ensures reserved_changes { IfOk result (λ plugin. plugin.services.changes.capacity ≡ buffer) }
+        ensures whole { IfOk result (λ plugin. has_failed plugin ≡ false) }
+        ensures reserved_notes { IfOk result (λ plugin. room_for_notes plugin ≡ buffer) }
+        ensures reserved_changes { IfOk result (λ plugin. room_for_changes plugin ≡ buffer) }
     {
         Ok(Analyze {
             last: LastPackets::new(alloc)?,
@@ -64,6 +65,8 @@ impl Analyze {
             → StandsFor self.new (history ++ Live packet.now labels ∷ []) mark) }
         ensures spent { OnErr result (has_failed self.new ≡ true) }
         ensures stays_spent { has_failed self.old ≡ true → IsErr result }
+        ensures reserved_notes { room_for_notes self.new ≡ room_for_notes self.old }
+        ensures reserved_changes { room_for_changes self.new ≡ room_for_changes self.old }
     {
         self.failed.check()?;
         let answer = self.take(at, packet);
@@ -76,8 +79,10 @@ impl Analyze {
     fn take(&mut self, at: u64, packet: &Packet) -> Result<(), AllocError>
         requires met { StandsForSome self.old at }
         requires in_range { at < POSITION_LIMIT }
-        ensures { OnOk result ((history : List GivenCell) (mark : ℕ) → StandsFor self.old history mark → length history ≡ at → (labels : ℕ)
+        ensures met { OnOk result ((history : List GivenCell) (mark : ℕ) → StandsFor self.old history mark → length history ≡ at → (labels : ℕ)
             → StandsFor self.new (history ++ Live packet.now labels ∷ []) mark) }
+        ensures reserved_notes { room_for_notes self.new ≡ room_for_notes self.old }
+        ensures reserved_changes { room_for_changes self.new ≡ room_for_changes self.old }
     {
         self.services.meet(at, packet)?;
         let note = Note {
@@ -94,19 +99,36 @@ impl Analyze {
 }
 
 impl Plugin for Analyze {
-    ghost use Rattle.std.specs.Prelude.{◌≡◌, ◌≤◌, length, false, None, refl};
+    ghost use Rattle.std.specs.Prelude.{◌≡◌, ◌≢◌, ◌<◌, IsOk, IsSome, refl, true};
+    ghost use Rattle.ts_packet.specs.Cells.{Dropped};
+    ghost use Rattle.chain_model.specs.declared.positions.TheConstants.{POSITION_LIMIT};
+    ghost use Rattle.plugin_trait.specs.Marks.{AllowsMark, Notes};
+    ghost use Rattle.plugin_trait.specs.Steps.{HasRoom, Meets, MeetsCells, Tells};
     ghost use Rattle.plug_analyze.specs.AnalyzeRule.{analyze_rule};
-    ghost use Rattle.plug_analyze.specs.AnalyzeStands.{StandsFor, has_failed};
+    ghost use Rattle.plug_analyze.specs.AnalyzeStands.{MeetsHistory, has_failed, room_for_changes, room_for_notes, steady_of};
 
     ghost rule = { λ s. analyze_rule };
 
-    ghost stands_for = { λ s history mark. (has_failed s ≡ false → StandsFor s history mark) × (mark ≤ length history) };
+    ghost stands_for = { λ s history mark. MeetsHistory s history mark };
 
-    ghost steady = { λ s. None };
+    ghost steady = { λ s. steady_of s };
 
+    /// The clauses are those of `Plugin`, whose ghost members have no names here, and three more: a step that runs out
+    /// of memory leaves the plugin failed, and the room for notes and for changes stays the same.
     // Inlined, since else the loop of `steps` makes a call for each cell.
     #[inline(always)]
-    fn step(&mut self, at: u64, cell: &mut Cell) -> Outcome {
+    fn step(&mut self, at: u64, cell: &mut Cell) -> Outcome
+        requires met { MeetsCells (MeetsHistory self.old) at }
+        requires in_range { at < POSITION_LIMIT }
+        ensures tells { Tells analyze_rule (MeetsHistory self.old) at cell.old result cell.new }
+        ensures dropped { cell.old ≡ Dropped → result ≡ Outcome.Pass }
+        ensures meets { Meets (MeetsHistory self.old) (MeetsHistory self.new) at cell.old result }
+        ensures same_steady { steady_of self.new ≡ steady_of self.old }
+        ensures room { HasRoom (steady_of self.old) (MeetsHistory self.old) at → result ≢ Outcome.NoMemory }
+        ensures spent { result ≡ Outcome.NoMemory → has_failed self.new ≡ true }
+        ensures reserved_notes { room_for_notes self.new ≡ room_for_notes self.old }
+        ensures reserved_changes { room_for_changes self.new ≡ room_for_changes self.old }
+    {
         let Some(live) = cell.live() else {
             return Outcome::Pass;
         };
@@ -116,7 +138,17 @@ impl Plugin for Analyze {
         }
     }
 
-    fn note(&mut self, written: u64) -> Result<(), AllocError> {
+    /// The clauses are those of `Plugin`, and three more: it makes no plugin fail, and the room for notes and for
+    /// changes stays the same.
+    fn note(&mut self, written: u64) -> Result<(), AllocError>
+        requires { AllowsMark (MeetsHistory self.old) written }
+        ensures notes { Notes (MeetsHistory self.old) (MeetsHistory self.new) written result }
+        ensures same_steady { steady_of self.new ≡ steady_of self.old }
+        ensures room { IsSome (steady_of self.old) → IsOk result }
+        ensures whole { has_failed self.new ≡ has_failed self.old }
+        ensures reserved_notes { room_for_notes self.new ≡ room_for_notes self.old }
+        ensures reserved_changes { room_for_changes self.new ≡ room_for_changes self.old }
+    {
         if self.failed.is_set() {
             return Ok(());
         }

@@ -44,7 +44,8 @@ impl Noted {
     /// Counts the notes below a position, and removes them.
     pub fn fold_below(&mut self, mark: u64)
         requires { CanFold pid_in AreTotals self.old.notes.items self.old.totals }
-        ensures { Folds place_of AreTotals mark self.old.notes.items self.new.notes.items self.old.totals self.new.totals }
+        ensures folds { Folds place_of AreTotals mark self.old.notes.items self.new.notes.items self.old.totals self.new.totals }
+        ensures reserved { self.new.notes.capacity ≡ self.old.notes.capacity }
     {
         while let Some(note) = pop_below(&mut self.notes, mark) {
             self.totals.add(note);

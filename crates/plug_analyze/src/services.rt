@@ -53,8 +53,9 @@ impl Services {
     /// `AllocError` it is not to be used any more.
     #[inline]
     pub fn meet(&mut self, at: u64, packet: &Packet) -> Result<(), AllocError>
-        ensures { OnOk result ((history : List GivenCell) (mark : ℕ) → Serves self.old history mark → length history ≡ at → (labels : ℕ)
+        ensures serves { OnOk result ((history : List GivenCell) (mark : ℕ) → Serves self.old history mark → length history ≡ at → (labels : ℕ)
             → Serves self.new (history ++ Live packet.now labels ∷ []) mark) }
+        ensures reserved { self.new.changes.capacity ≡ self.old.changes.capacity }
     {
         if !self.force.update(packet)? {
             return Ok(());
@@ -68,6 +69,7 @@ impl Services {
     pub fn fold_below(&mut self, mark: u64)
         ensures folds { DropsChanges mark self.old.services.items self.new.services.items self.old.changes.items self.new.changes.items }
         ensures force { self.new.force ≡ self.old.force }
+        ensures reserved { self.new.changes.capacity ≡ self.old.changes.capacity }
     {
         while let Some(change) = pop_below(&mut self.changes, mark) {
             self.services = change.services;

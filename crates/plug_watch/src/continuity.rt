@@ -27,7 +27,7 @@ pub struct Continuity {
 }
 
 impl Continuity {
-    ghost use Rattle.std.specs.Prelude.{◌≡◌, ◌<◌, true, ◌≤◌, IfOk, IsErr, OnOk, OnErr, [], ◌++◌, ◌∷◌, None, length, ℕ, List, if◌then◌else◌};
+    ghost use Rattle.std.specs.Prelude.{◌≡◌, ◌<◌, true, IfOk, IsErr, OnOk, OnErr, [], ◌++◌, ◌∷◌, None, length, ℕ, List, if◌then◌else◌};
     ghost use Rattle.ts_packet.specs.declared.cell.Cell.{Cell as GivenCell};
     ghost use Rattle.ts_packet.specs.Cells.{Live};
     ghost use Rattle.ts_packet.specs.Header.{pid_of};
@@ -36,7 +36,7 @@ impl Continuity {
     ghost use Rattle.plug_watch.specs.ContinuitySettings.{IsLawfulContinuity};
     ghost use Rattle.plug_watch.specs.ContinuityRule.{continuity_rule, fixed};
     ghost use Rattle.plugin_notes.specs.Counters.{is_watched};
-    ghost use Rattle.plug_watch.specs.ContinuityConfOf.{StandsFor, conf_of};
+    ghost use Rattle.plug_watch.specs.ContinuityConfOf.{IsFull, StandsFor, conf_of, room_of};
 
     /// A new plugin, which has processed no cell. It allocates its tables, and room for notes on as many packets as
     /// the buffer holds; the lines of the errors grow with the stream.
@@ -49,7 +49,7 @@ impl Continuity {
         ensures rule { IfOk result (λ plugin. ⟦<Continuity as Plugin>⟧.rule plugin ≡ continuity_rule conf.now) }
         ensures fresh { IfOk result (λ plugin. ⟦<Continuity as Plugin>⟧.stands_for plugin [] 0) }
         ensures steady { IfOk result (λ plugin. ⟦<Continuity as Plugin>⟧.steady plugin ≡ None) }
-        ensures reserved { IfOk result (λ plugin. plugin.notes.capacity ≡ buffer) }
+        ensures reserved { IfOk result (λ plugin. room_of plugin ≡ buffer) }
     {
         Ok(Continuity {
             pids: PidSet::of(alloc, &conf.pid)?,
@@ -78,8 +78,8 @@ impl Continuity {
         ensures met { OnOk result ((history : List GivenCell) (mark : ℕ) → StandsFor self.old history mark
             → length history ≡ at → (labels : ℕ) → StandsFor self.new (history ++ Live packet.old labels ∷ []) mark) }
         ensures same { conf_of self.new ≡ conf_of self.old }
-        ensures full { IsErr result → self.old.notes.capacity ≤ length self.old.notes.items }
-        ensures reserved { self.new.notes.capacity ≡ self.old.notes.capacity }
+        ensures full { IsErr result → IsFull self.old }
+        ensures reserved { room_of self.new ≡ room_of self.old }
         ensures err { OnErr result ((self.new.last ≡ self.old.last) × (self.new.notes.items ≡ self.old.notes.items)
             × (self.new.lines.items ≡ self.old.lines.items) × (packet.new ≡ packet.old)) }
     {
@@ -96,7 +96,7 @@ impl Continuity {
         requires { AllowsMark (StandsFor self.old) mark }
         ensures notes { Notes (StandsFor self.old) (StandsFor self.new) mark result }
         ensures same { conf_of self.new ≡ conf_of self.old }
-        ensures reserved { self.new.notes.capacity ≡ self.old.notes.capacity }
+        ensures reserved { room_of self.new ≡ room_of self.old }
     {
         push_lines_below(&mut self.lines, &self.notes, mark)?;
         drop_below(&mut self.notes, mark);
@@ -105,19 +105,36 @@ impl Continuity {
 }
 
 impl Plugin for Continuity {
-    ghost use Rattle.std.specs.Prelude.{None, refl};
+    ghost use Rattle.std.specs.Prelude.{◌≡◌, ◌≢◌, ◌<◌, IsOk, IsSome, refl};
+    ghost use Rattle.ts_packet.specs.Cells.{Dropped};
+    ghost use Rattle.chain_model.specs.declared.positions.TheConstants.{POSITION_LIMIT};
+    ghost use Rattle.plugin_trait.specs.Marks.{AllowsMark, Notes};
+    ghost use Rattle.plugin_trait.specs.Steps.{HasRoom, Meets, MeetsCells, Tells};
     ghost use Rattle.plug_watch.specs.ContinuityRule.{continuity_rule};
-    ghost use Rattle.plug_watch.specs.ContinuityConfOf.{StandsFor, conf_of};
+    ghost use Rattle.plug_watch.specs.ContinuityConfOf.{IsFull, StandsFor, conf_of, room_of, steady_of};
 
     ghost rule = { λ s. continuity_rule (conf_of s) };
 
     ghost stands_for = { λ s history mark. StandsFor s history mark };
 
-    ghost steady = { λ s. None };
+    ghost steady = { λ s. steady_of s };
 
+    /// The clauses are those of `Plugin`, whose ghost members have no names here, and two more: a step runs out of
+    /// memory only where there is no room for one more note, and the room for notes stays the same.
     // Inlined always: otherwise the loop of `steps` has a call for each cell.
     #[inline(always)]
-    fn step(&mut self, at: u64, cell: &mut Cell) -> Outcome {
+    fn step(&mut self, at: u64, cell: &mut Cell) -> Outcome
+        requires met { MeetsCells (StandsFor self.old) at }
+        requires in_range { at < POSITION_LIMIT }
+        ensures tells { Tells (continuity_rule (conf_of self.old)) (StandsFor self.old) at cell.old result cell.new }
+        ensures dropped { cell.old ≡ Dropped → result ≡ Outcome.Pass }
+        ensures meets { Meets (StandsFor self.old) (StandsFor self.new) at cell.old result }
+        ensures same_rule { continuity_rule (conf_of self.new) ≡ continuity_rule (conf_of self.old) }
+        ensures same_steady { steady_of self.new ≡ steady_of self.old }
+        ensures room { HasRoom (steady_of self.old) (StandsFor self.old) at → result ≢ Outcome.NoMemory }
+        ensures full { result ≡ Outcome.NoMemory → IsFull self.old }
+        ensures reserved { room_of self.new ≡ room_of self.old }
+    {
         let Some(live) = cell.live_mut() else {
             return Outcome::Pass;
         };
@@ -130,7 +147,15 @@ impl Plugin for Continuity {
         }
     }
 
-    fn note(&mut self, written: u64) -> Result<(), AllocError> {
+    /// The clauses are those of `Plugin`, and one more: the room for notes stays the same.
+    fn note(&mut self, written: u64) -> Result<(), AllocError>
+        requires { AllowsMark (StandsFor self.old) written }
+        ensures notes { Notes (StandsFor self.old) (StandsFor self.new) written result }
+        ensures same_rule { continuity_rule (conf_of self.new) ≡ continuity_rule (conf_of self.old) }
+        ensures same_steady { steady_of self.new ≡ steady_of self.old }
+        ensures room { IsSome (steady_of self.old) → IsOk result }
+        ensures reserved { room_of self.new ≡ room_of self.old }
+    {
         self.fold(written)
     }
 

@@ -7,6 +7,7 @@ invariant-loop-change l = record {
   services : services_below l.mark l.self.services.items l.self.changes.items ≡ services_below l.mark l.fn.self.services.items l.fn.self.changes.items;
   changes : changes_from l.mark l.self.changes.items ≡ changes_from l.mark l.fn.self.changes.items;
   force : l.self.force ≡ l.fn.self.force;
+  reserved : l.self.changes.capacity ≡ l.fn.self.changes.capacity;
 }
 
 abbrev pub decreases-loop-change : goal.decreases-loop-change

@@ -4,13 +4,13 @@ use Rattle.plug_analyze.specs.declared.change.Change.{Change}
 use Rattle.plug_analyze.proofs.ServicesKeeping.{serves_change, serves_same}
 use Rattle.plug_analyze.proofs.services.Services.meet.Goals as goal
 
-pub returns-then-not-branch : goal.returns-then-not-branch
-returns-then-not-branch c = λ history mark w count labels.
+pub returns-then-not-branch-clause-serves : goal.returns-then-not-branch-clause-serves
+returns-then-not-branch-clause-serves c = λ history mark w count labels.
     serves_same c.args.self.now _ history mark w c.args.packet.now labels (c.in_ok-update.ensures.stands (live_packets history) w.fed) refl
     (c.in_ok-update.ensures.same c.if-not-branch.true (live_packets history) w.fed) refl
 
-pub returns : goal.returns
-returns c = λ history mark w count labels.
+pub returns-clause-serves : goal.returns-clause-serves
+returns-clause-serves c = λ history mark w count labels.
     let change : Change = record { at = c.args.at; services = c.in_ok-services.services } in
     let fed = c.in_ok-update.ensures.stands (live_packets history) w.fed in
     serves_change c.args.self.now _ history mark w c.args.packet.now labels fed refl change (sym count)

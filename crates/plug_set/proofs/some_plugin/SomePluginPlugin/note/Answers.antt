@@ -43,7 +43,13 @@ pub note-requires-in-Continuity : goal.note-requires-in-Continuity
 note-requires-in-Continuity c = rw c.in-Continuity.is at c.requires
 
 pub returns-in-Continuity : goal.returns-in-Continuity
-returns-in-Continuity c = rw c.in-Continuity.is c.note-in-Continuity.ensures
+returns-in-Continuity c = rw c.in-Continuity.is (record {
+  notes = c.note-in-Continuity.ensures.notes;
+  same_rule = c.note-in-Continuity.ensures.same_rule;
+  same_steady = c.note-in-Continuity.ensures.same_steady;
+  room = c.note-in-Continuity.ensures.room;
+  same_silent = refl;
+})
 
 pub note-requires-in-Remap : goal.note-requires-in-Remap
 note-requires-in-Remap c = rw c.in-Remap.is at c.requires
@@ -103,7 +109,13 @@ pub note-requires-in-Analyze : goal.note-requires-in-Analyze
 note-requires-in-Analyze c = rw c.in-Analyze.is at c.requires
 
 pub returns-in-Analyze : goal.returns-in-Analyze
-returns-in-Analyze c = rw c.in-Analyze.is c.note-in-Analyze.ensures
+returns-in-Analyze c = rw c.in-Analyze.is (record {
+  notes = c.note-in-Analyze.ensures.notes;
+  same_steady = c.note-in-Analyze.ensures.same_steady;
+  room = c.note-in-Analyze.ensures.room;
+  same_rule = refl;
+  same_silent = refl;
+})
 
 pub note-requires-in-Info : goal.note-requires-in-Info
 note-requires-in-Info c = rw c.in-Info.is at c.requires

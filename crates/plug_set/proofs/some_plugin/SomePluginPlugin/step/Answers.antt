@@ -43,7 +43,15 @@ pub step-requires-in-Continuity : goal.step-requires-in-Continuity
 step-requires-in-Continuity c = rw c.in-Continuity.is at c.requires
 
 pub returns-in-Continuity : goal.returns-in-Continuity
-returns-in-Continuity c = rw c.in-Continuity.is c.step-in-Continuity.ensures
+returns-in-Continuity c = rw c.in-Continuity.is (record {
+  tells = c.step-in-Continuity.ensures.tells;
+  dropped = c.step-in-Continuity.ensures.dropped;
+  meets = c.step-in-Continuity.ensures.meets;
+  same_rule = c.step-in-Continuity.ensures.same_rule;
+  same_steady = c.step-in-Continuity.ensures.same_steady;
+  room = c.step-in-Continuity.ensures.room;
+  same_silent = refl;
+})
 
 pub step-requires-in-Remap : goal.step-requires-in-Remap
 step-requires-in-Remap c = rw c.in-Remap.is at c.requires
@@ -111,7 +119,15 @@ pub step-requires-in-Analyze : goal.step-requires-in-Analyze
 step-requires-in-Analyze c = rw c.in-Analyze.is at c.requires
 
 pub returns-in-Analyze : goal.returns-in-Analyze
-returns-in-Analyze c = rw c.in-Analyze.is c.step-in-Analyze.ensures
+returns-in-Analyze c = rw c.in-Analyze.is (record {
+  tells = c.step-in-Analyze.ensures.tells;
+  dropped = c.step-in-Analyze.ensures.dropped;
+  meets = c.step-in-Analyze.ensures.meets;
+  same_steady = c.step-in-Analyze.ensures.same_steady;
+  room = c.step-in-Analyze.ensures.room;
+  same_rule = refl;
+  same_silent = refl;
+})
 
 pub step-requires-in-Info : goal.step-requires-in-Info
 step-requires-in-Info c = rw c.in-Info.is at c.requires
