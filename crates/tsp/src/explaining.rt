@@ -1,13 +1,13 @@
-//! What is shown beside a refusal or a fault, on standard error alone.
-use crate::run_texts::run_text;
+//! Explains a refused command line or a run that failed, on standard error alone.
+use crate::run_texts::{Kept, run_text};
 use chain_args::{WordsFault, WordsRule};
-use explain_edge::{is_wanted, write_explained};
+use explain_edge::write_explained;
 use fault_texts::{HelpTable, fault_text, general_options, tsp_segments};
 use std::alloc::AllocError;
-use ts_os::Trouble;
+use ts_os::OsDesk;
 use tsp_top::Status;
 
-/// What is said of words that have no plan.
+/// The text about a refused command line: its segment, the wrong word, and what may stand there.
 fn words_text(
     rt: &HostRuntime,
     words: &[String],
@@ -22,33 +22,30 @@ fn words_text(
     fault_text(rt.alloc(), &table, words, word, rule)
 }
 
-/// Writes what is said of words that have no plan.
+/// Explains a refused command line.
 fn explain_words(rt: &HostRuntime, words: &[String], word: usize, rule: WordsRule) {
     if let Ok(text) = words_text(rt, words, word, rule) {
         write_explained(rt, text.as_slice());
     }
 }
 
-/// Writes what is said of a run that ended by a fault.
-fn explain_run(rt: &HostRuntime, words: &[String], status: &Status, trouble: Option<Trouble>) {
-    if let Ok(Some(text)) = run_text(rt.alloc(), words, status, trouble) {
+/// Explains a run that failed.
+fn explain_run(rt: &HostRuntime, words: &[String], status: &Status, desk: &OsDesk) {
+    let kept = Kept {
+        trouble: desk.trouble(),
+        head: desk.head(),
+        file: desk.file(),
+    };
+    if let Ok(Some(text)) = run_text(rt.alloc(), words, status, kept) {
         write_explained(rt, text.as_slice());
     }
 }
 
-/// Explains how a call ended where that is needed. Running out of memory and a fault of standard error leave it out, and change
-/// nothing else.
-pub(crate) fn explain(
-    rt: &HostRuntime,
-    words: &[String],
-    status: &Status,
-    trouble: Option<Trouble>,
-) {
-    if !is_wanted(rt) {
-        return;
-    }
+/// Explains how a call at this desk ended. Running out of memory and a fault of standard error leave it out, and change nothing
+/// else.
+pub(crate) fn explain(rt: &HostRuntime, words: &[String], status: &Status, desk: &OsDesk) {
     match status {
         Status::Words(WordsFault::At { word, rule }) => explain_words(rt, words, *word, *rule),
-        _ => explain_run(rt, words, status, trouble),
+        _ => explain_run(rt, words, status, desk),
     }
 }

@@ -1,12 +1,13 @@
-//! The program `tsp`: the words of a command line come in, and an exit number goes out.
-//! All of it but the words, the real desk, the number and what explains a refusal is `tsp_call`, whose contract is the stream
-//! theorem.
+//! The program `tsp`. It reads the words of the command line, runs `tsp_call` over real files, explains a failure on standard
+//! error where that is wanted, and ends with the exit number. What a run does is the contract of `tsp_call`, the stream theorem.
 #![tactic(auto)]
 
 mod explaining;
+mod form_seen;
 mod operands;
 mod run_texts;
 
+use explain_edge::is_wanted;
 use explaining::explain;
 use std::io::ErrorKind;
 use std::process::ExitCode;
@@ -15,9 +16,10 @@ use ts_os::OsDesk;
 use ts_outside::{OpenGate, report_whole};
 use tsp_top::tsp_call;
 
-/// The exit numbers of a start that never came to the call.
+/// The exit number if memory runs out before the call.
 const NO_MEMORY: u8 = 1;
 
+/// The exit number if a word is not UTF-8.
 const FAULTY_WORDS: u8 = 2;
 
 /// The words after the program's name.
@@ -37,7 +39,13 @@ fn main(rt: HostRuntime) -> ExitCode {
         }
         Err(_) => return ExitCode::from(NO_MEMORY),
     };
+    let explained = is_wanted(&rt);
+    if explained {
+        desk.keep_file();
+    }
     let status = tsp_call(&rt, rt.alloc(), words.as_slice(), &mut desk, &OpenGate);
-    explain(&rt, words.as_slice(), &status, desk.trouble());
+    if explained {
+        explain(&rt, words.as_slice(), &status, &desk);
+    }
     ExitCode::from(status.exit_code())
 }

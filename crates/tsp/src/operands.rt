@@ -1,4 +1,4 @@
-//! Which word of a plugin is its operand, by the table of options.
+//! Finds the operand of a plugin on the command line, by the table of options.
 use fault_texts::{OptionRow, SegmentRow, Takes, tsp_segments};
 use std::alloc::{AllocError, Global};
 

@@ -1,13 +1,26 @@
-//! What is said of a run that ended by a fault: the file and the system's reason, the plugin by its name with its file and the fault
-//! in it, the place of lost sync.
+//! The text about a run that failed: the file and the system's reason, the plugin by its name with its file and the fault in it,
+//! or the place at which sync was lost.
+use crate::form_seen::form_seen;
 use crate::operands::operand_of;
 use explain_edge::{after_name, named_behind, trouble_text};
 use std::alloc::{AllocError, Global};
-use table_fault_texts::{compile_text, decompile_text};
+use tabcomp_core::CompileFault;
+use table_fault_texts::{compile_text, decompile_text, syntax_fault_text};
 use table_file::TableFileFault;
 use ts_os::Trouble;
 use ts_outside::Purpose;
 use tsp_top::Status;
+
+/// What the desk kept of a run, so that it can be explained.
+#[derive(Clone, Copy)]
+pub(crate) struct Kept<'a> {
+    /// The call that the system refused.
+    pub(crate) trouble: Option<Trouble>,
+    /// The first bytes of the input.
+    pub(crate) head: &'a [u8],
+    /// The file of tables that was read last.
+    pub(crate) file: Option<&'a [u8]>,
+}
 
 /// The name of the plugin of a number, counted from 1.
 fn plugin_name(words: &[String], number: u32) -> Option<&str> {
@@ -23,23 +36,50 @@ fn plugin_name(words: &[String], number: u32) -> Option<&str> {
     None
 }
 
-/// How many bytes a packet has in the input's form, and where in them it begins.
-fn form_of(words: &[String]) -> (u64, u64) {
-    for (word, form) in words.iter().zip(words.iter().skip(1)) {
+/// The name of the input's form, where it is given.
+fn format_name(words: &[String]) -> Option<&str> {
+    for (word, name) in words.iter().zip(words.iter().skip(1)) {
         if word.as_str() == "--format" {
-            return match form.as_str() {
-                "rs204" => (204, 0),
-                "m2ts" => (192, 4),
-                _ => (188, 0),
-            };
+            return Some(name.as_str());
+        }
+        if let Some(name) = word.as_str().strip_prefix("--format=") {
+            return Some(name);
         }
     }
-    (188, 0)
+    words.last().and_then(|word| word.as_str().strip_prefix("--format="))
 }
 
-fn sync_text(alloc: Global, words: &[String], packet: u64) -> Result<String, AllocError> {
+/// How many bytes a packet has in the input's form, and where in them it begins.
+fn form_of(words: &[String]) -> (u64, u64) {
+    match format_name(words) {
+        Some("rs204") => (204, 0),
+        Some("m2ts") => (192, 4),
+        _ => (188, 0),
+    }
+}
+
+// The place, and the form that the input has by its first bytes, where that is not the one in which it was read.
+fn sync_text(
+    alloc: Global,
+    words: &[String],
+    packet: u64,
+    head: &[u8],
+) -> Result<String, AllocError> {
     let (size, begin) = form_of(words);
     let at = packet.saturating_mul(size).saturating_add(begin);
+    if let Some(form) = form_seen(head) {
+        if form.size != size {
+            let (size, name) = (form.size, form.name);
+            return format!(in alloc;
+                "byte {at} of the input is not 0x47; it begins with packets of {size} bytes: --format {name} reads them\n"
+            );
+        }
+    }
+    lost_text(alloc, at, packet)
+}
+
+// The place alone.
+fn lost_text(alloc: Global, at: u64, packet: u64) -> Result<String, AllocError> {
     if packet == 0 {
         return format!(in alloc;
             "byte {at} of the input is not 0x47; --format m2ts reads 192 bytes a packet, --format rs204 204 bytes\n"
@@ -55,8 +95,15 @@ fn plugin_text(alloc: Global, words: &[String], number: u32) -> Result<String, A
     format!(in alloc; "plugin {number} is -P {name}\n")
 }
 
-// What is wrong with the bytes of a file of tables.
-fn tables_text(alloc: Global, fault: &TableFileFault) -> Result<Vec<u8>, AllocError> {
+// What is wrong with the bytes of a file of tables, which are there where they were kept.
+fn tables_text(
+    alloc: Global,
+    fault: &TableFileFault,
+    file: Option<&[u8]>,
+) -> Result<Vec<u8>, AllocError> {
+    if let (TableFileFault::Compile(CompileFault::NotJson), Some(bytes)) = (fault, file) {
+        return Ok(syntax_fault_text(alloc, bytes)?.into_bytes());
+    }
     match fault {
         TableFileFault::TooMany => Vec::from_slice(alloc, b"longer than 16,777,216 bytes\n"),
         TableFileFault::Compile(fault) => compile_text(alloc, fault),
@@ -70,8 +117,9 @@ fn table_file_text(
     words: &[String],
     number: u32,
     fault: &TableFileFault,
+    file: Option<&[u8]>,
 ) -> Result<Vec<u8>, AllocError> {
-    let said = tables_text(alloc, fault)?;
+    let said = tables_text(alloc, fault, file)?;
     let name = operand_of(alloc, words, number)?.unwrap_or("the file");
     let line = after_name(alloc, name, said.as_slice())?;
     let mut text = plugin_text(alloc, words, number)?.into_bytes();
@@ -79,11 +127,36 @@ fn table_file_text(
     Ok(text)
 }
 
+// The number of the plugin of which the file of this number is, both counted from 1.
+fn plugin_of_file(words: &[String], number: u64) -> u32 {
+    let mut left = number;
+    let mut plugin = 0u32;
+    for (word, name) in words.iter().zip(words.iter().skip(1)) {
+        if word.as_str() == "-P" {
+            plugin = plugin.saturating_add(1);
+            if name.as_str() == "inject" {
+                if left <= 1 {
+                    return plugin;
+                }
+                left -= 1;
+            }
+        }
+    }
+    plugin
+}
+
+// What is said of a file of tables that was not read: its plugin, its name and the reason.
+fn unread_text(alloc: Global, words: &[String], trouble: Trouble) -> Result<String, AllocError> {
+    let plugin = plugin_of_file(words, trouble.number);
+    let name = operand_of(alloc, words, plugin)?.unwrap_or("a file of tables");
+    trouble_text(alloc, name, trouble)
+}
+
 fn refused_text(alloc: Global, words: &[String], trouble: Trouble) -> Result<String, AllocError> {
     let name = match trouble.purpose {
         Purpose::Input => named_behind(words, "-I", 1).unwrap_or("the input"),
         Purpose::Output => named_behind(words, "-O", 1).unwrap_or("the output"),
-        Purpose::File => "a file of tables",
+        Purpose::File => return unread_text(alloc, words, trouble),
     };
     trouble_text(alloc, name, trouble)
 }
@@ -102,13 +175,14 @@ pub(crate) fn run_text(
     alloc: Global,
     words: &[String],
     status: &Status,
-    trouble: Option<Trouble>,
+    kept: Kept<'_>,
 ) -> Result<Option<Vec<u8>>, AllocError> {
-    let text = match (status, trouble) {
-        (Status::Sync { packet }, _) => sync_text(alloc, words, *packet)?,
+    let text = match (status, kept.trouble) {
+        (Status::Sync { packet }, _) => sync_text(alloc, words, *packet, kept.head)?,
         (Status::Refused { plugin, .. }, _) => plugin_text(alloc, words, *plugin)?,
         (Status::TableFile { plugin, fault }, _) => {
-            return Ok(Some(table_file_text(alloc, words, *plugin, fault)?));
+            let text = table_file_text(alloc, words, *plugin, fault, kept.file)?;
+            return Ok(Some(text));
         }
         (_, Some(trouble)) if is_of(status, trouble) => refused_text(alloc, words, trouble)?,
         _ => return Ok(None),
