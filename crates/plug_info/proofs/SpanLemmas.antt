@@ -1,5 +1,5 @@
 -- Lemmas on the PCRs of PIDs, cell by cell.
-use Rattle.std.proofs.Common.{◌≡◌, ℕ, ◌+◌, ◌-◌, ◌<◌, List, [], ◌∷◌, ◌++◌, length, map, filter, get_or, set, ap, ap₂, sym, subst, ◌∙◌, inl, inr, refl, Bool, true, false, ◌&&◌, if◌then◌else◌, ◌==◌, append_assoc, append-nil, Option, None, Some, arith, length-set, get_or-set_same, get_or-set_other, eq-eqb}
+use Rattle.std.proofs.Common.{◌≡◌, ℕ, ◌+◌, ◌-◌, ◌<◌, List, [], ◌∷◌, ◌++◌, length, map, filter, get_or, set, ap, ap₂, sym, subst, ◌∙◌, inl, inr, refl, Bool, true, false, ◌&&◌, if◌then◌else◌, ◌==◌, append_assoc, append-nil, Option, None, Some, arith, get_or-set_same, get_or-set_other, eq-eqb}
 use Rattle.std.specs.List.{fold, sum}
 use Rattle.std.specs.Option.{option_or}
 use Rattle.std.proofs.lemmas.List.{map-append}
@@ -113,33 +113,32 @@ and-no true b e = e
 and-no false b e = refl
 
 -- no PCR yet
-pub spans_none : (spans : Spans) → length spans.spans.items ≡ PID_COUNT → ((pid : ℕ) → get_or spans.spans.items pid no_span ≡ no_span) → AreSpans spans []
-spans_none spans whole none = record { whole = whole; each = λ pid below. none pid }
+pub spans_none : (spans : Spans) → ((pid : ℕ) → get_or spans.spans pid no_span ≡ no_span) → AreSpans spans []
+spans_none spans none = record { each = λ pid below. none pid }
 
 module _ (spans : Spans) (history : List Cell) (w : AreSpans spans history) where
   -- a dropped cell
   pub spans_dropped : AreSpans spans (history ++ Dropped ∷ [])
-  spans_dropped = record { whole = w.whole; each = λ pid below. w.each pid below ∙ ap span_of (sym (clocks_on-dropped pid history)) }
+  spans_dropped = record { each = λ pid below. w.each pid below ∙ ap span_of (sym (clocks_on-dropped pid history)) }
 
   -- a packet without a PCR
   pub spans_without : (packet : List ℕ) (labels : ℕ) → has_pcr_of packet ≡ false → AreSpans spans (history ++ Live packet labels ∷ [])
   spans_without packet labels none = record {
-    whole = w.whole;
     each = λ pid below. w.each pid below ∙ ap span_of (sym (clocks_on-other pid history packet labels (and-no (pid_of packet == pid) (has_pcr_of packet) none)));
   }
 
   -- a packet with a PCR
   module _ (packet : List ℕ) (labels : ℕ) (has : has_pcr_of packet ≡ true) (below : pid_of packet < PID_COUNT) (span : ClockSpan)
-      (span_is : span ≡ span_with (get_or spans.spans.items (pid_of packet) no_span) (let m : MetClock = record { at = length history; clock = clock_of packet } in m) (discontinuity_of packet))
-      (spans_new : Spans) (set_is : spans_new.spans.items ≡ set spans.spans.items (pid_of packet) span) where
-    at_place : get_or spans_new.spans.items (pid_of packet) no_span ≡ span
+      (span_is : span ≡ span_with (get_or spans.spans (pid_of packet) no_span) (let m : MetClock = record { at = length history; clock = clock_of packet } in m) (discontinuity_of packet))
+      (spans_new : Spans) (set_is : spans_new.spans ≡ set spans.spans (pid_of packet) span) (whole : length spans.spans ≡ PID_COUNT) where
+    at_place : get_or spans_new.spans (pid_of packet) no_span ≡ span
     at_place =
         ap (λ (ss : List ClockSpan). get_or ss (pid_of packet) no_span) set_is
-        ∙ get_or-set_same spans.spans.items (pid_of packet) span no_span (omega (arith, w.whole, below))
+        ∙ get_or-set_same spans.spans (pid_of packet) span no_span (omega (arith, whole, below))
 
-    at_other : (pid : ℕ) → (pid ≡ pid_of packet → ⊥) → get_or spans_new.spans.items pid no_span ≡ get_or spans.spans.items pid no_span
+    at_other : (pid : ℕ) → (pid ≡ pid_of packet → ⊥) → get_or spans_new.spans pid no_span ≡ get_or spans.spans pid no_span
     at_other pid other =
-        ap (λ (ss : List ClockSpan). get_or ss pid no_span) set_is ∙ get_or-set_other spans.spans.items (pid_of packet) pid span no_span other
+        ap (λ (ss : List ClockSpan). get_or ss pid no_span) set_is ∙ get_or-set_other spans.spans (pid_of packet) pid span no_span other
 
     its_span : span ≡ span_of (clocks_on (pid_of packet) (history ++ Live packet labels ∷ []))
     unfolding row_at
@@ -156,9 +155,8 @@ module _ (spans : Spans) (history : List Cell) (w : AreSpans spans history) wher
     spans_live =
         let next = history ++ Live packet labels ∷ [] in
         record {
-          whole = ap length set_is ∙ (length-set spans.spans.items (pid_of packet) span ∙ w.whole);
           each = λ pid pid_below. elim (cases_eq pid (pid_of packet)) [
-            | inl same ↦ subst (λ (q : ℕ). get_or spans_new.spans.items q no_span ≡ span_of (clocks_on q next)) (sym same) (at_place ∙ its_span)
+            | inl same ↦ subst (λ (q : ℕ). get_or spans_new.spans q no_span ≡ span_of (clocks_on q next)) (sym same) (at_place ∙ its_span)
             | inr other ↦
                 at_other pid other
                 ∙ (w.each pid pid_below
@@ -168,14 +166,14 @@ module _ (spans : Spans) (history : List Cell) (w : AreSpans spans history) wher
 
 -- what is kept with the PCR of a packet at a position
 pub span_is_of : (spans : Spans) (packet : List ℕ) (cells : List Cell) (kept span : ClockSpan) (met : MetClock) (pid : ℕ) (breaks : Bool) → span ≡ span_with kept met breaks
-    → kept ≡ get_or spans.spans.items pid no_span → pid ≡ pid_of packet → length cells ≡ met.at → met.clock ≡ clock_of packet → breaks ≡ discontinuity_of packet
-    → span ≡ span_with (get_or spans.spans.items (pid_of packet) no_span) (let m : MetClock = record { at = length cells; clock = clock_of packet } in m) (discontinuity_of packet)
+    → kept ≡ get_or spans.spans pid no_span → pid ≡ pid_of packet → length cells ≡ met.at → met.clock ≡ clock_of packet → breaks ≡ discontinuity_of packet
+    → span ≡ span_with (get_or spans.spans (pid_of packet) no_span) (let m : MetClock = record { at = length cells; clock = clock_of packet } in m) (discontinuity_of packet)
 span_is_of spans packet cells kept span met pid breaks is kept_is pid_is count clock breaks_is =
     is
-    ∙ (ap (λ (s : ClockSpan). span_with s met breaks) (kept_is ∙ ap (λ (q : ℕ). get_or spans.spans.items q no_span) pid_is)
-    ∙ (ap (λ (m : MetClock). span_with (get_or spans.spans.items (pid_of packet) no_span) m breaks)
+    ∙ (ap (λ (s : ClockSpan). span_with s met breaks) (kept_is ∙ ap (λ (q : ℕ). get_or spans.spans q no_span) pid_is)
+    ∙ (ap (λ (m : MetClock). span_with (get_or spans.spans (pid_of packet) no_span) m breaks)
     (ap (λ (n : ℕ). let m : MetClock = record { at = n; clock = met.clock } in m) (sym count) ∙ ap (λ (k : ℕ). let m : MetClock = record { at = length cells; clock = k } in m) clock)
-    ∙ ap (λ (b : Bool). span_with (get_or spans.spans.items (pid_of packet) no_span) (let m : MetClock = record { at = length cells; clock = clock_of packet } in m) b) breaks_is))
+    ∙ ap (λ (b : Bool). span_with (get_or spans.spans (pid_of packet) no_span) (let m : MetClock = record { at = length cells; clock = clock_of packet } in m) b) breaks_is))
 
 -- the rate with one more PID
 pub rate_more : (cells : List Cell) (pid : ℕ) (rate rate_new on : Option ℕ)
@@ -189,9 +187,9 @@ rate_more cells pid rate rate_new on so_far on_is is =
     ∙ ap (fold step None) (sym (numbers_below_more pid))))
 
 -- what was set for the packet's PID
-pub set_at : (spans spans_new : Spans) (packet : List ℕ) (pid : ℕ) (span : ClockSpan) → pid ≡ pid_of packet → spans_new.spans.items ≡ set spans.spans.items pid span
-    → spans_new.spans.items ≡ set spans.spans.items (pid_of packet) span
-set_at spans spans_new packet pid span pid_is is = is ∙ ap (λ (q : ℕ). set spans.spans.items q span) pid_is
+pub set_at : (spans spans_new : Spans) (packet : List ℕ) (pid : ℕ) (span : ClockSpan) → pid ≡ pid_of packet → spans_new.spans ≡ set spans.spans pid span
+    → spans_new.spans ≡ set spans.spans (pid_of packet) span
+set_at spans spans_new packet pid span pid_is is = is ∙ ap (λ (q : ℕ). set spans.spans q span) pid_is
 
 -- the rate of all PIDs
 pub rate_there : (cells : List Cell) (pid : ℕ) (rate : Option ℕ) → rate ≡ fold (λ (r : Option ℕ) (q : ℕ). option_or r (rate_on q cells)) None (numbers_below pid)

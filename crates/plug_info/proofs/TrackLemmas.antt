@@ -19,7 +19,7 @@ use Rattle.plug_info.proofs.SpanLemmas.{spans_dropped}
 
 -- each table has its entries
 pub is_ready : (t : Tracker) (cells : List Cell) → Tracks t cells → IsReady t
-is_ready t cells w = record { totals = are_whole t.totals cells w.counted; spans = w.spans_are.whole }
+is_ready t cells w = record { totals = are_whole t.totals cells w.counted }
 
 -- a dropped cell
 pub tracks_dropped : (t : Tracker) (cells : List Cell) → Tracks t cells → Tracks t (cells ++ Dropped ∷ [])

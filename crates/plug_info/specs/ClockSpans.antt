@@ -1,5 +1,5 @@
 -- What is kept of the PCRs of each PID. This project's own rule.
-use Rattle.std.specs.Prelude.{◌≡◌, ◌<◌, ℕ, ◌+◌, ◌-◌, List, [], ◌∷◌, length, Bool, Option, None, Some, option_map, if◌then◌else◌}
+use Rattle.std.specs.Prelude.{◌≡◌, ◌<◌, ℕ, ◌+◌, ◌-◌, List, [], ◌∷◌, Bool, Option, None, Some, option_map, if◌then◌else◌}
 use Rattle.std.specs.List.{slice_index_or}
 use Rattle.ts_packet.specs.declared.cell.Cell.{Cell}
 use Rattle.ts_packet.specs.declared.numbers.TheConstants.{PID_COUNT}
@@ -48,5 +48,4 @@ span_of rows = record {
 
 -- what is kept of each PID is that of its packets with a PCR
 pub record AreSpans (spans : Spans) (cells : List Cell) : Type 0 where
-  pub whole : length spans.spans.items ≡ PID_COUNT
-  pub each : (pid : ℕ) → pid < PID_COUNT → slice_index_or spans.spans.items pid no_span ≡ span_of (clocks_on pid cells)
+  pub each : (pid : ℕ) → pid < PID_COUNT → slice_index_or spans.spans pid no_span ≡ span_of (clocks_on pid cells)

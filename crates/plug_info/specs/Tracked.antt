@@ -3,7 +3,6 @@ use Rattle.std.specs.Prelude.{◌≡◌, ◌<◌, ℕ, List, length}
 use Rattle.ts_packet.specs.declared.cell.Cell.{Cell}
 use Rattle.ts_packet.specs.Cells.{live_packets}
 use Rattle.ts_packet.specs.MetRows.{met_rows}
-use Rattle.ts_packet.specs.declared.numbers.TheConstants.{PID_COUNT}
 use Rattle.chain_model.specs.declared.positions.TheConstants.{POSITION_LIMIT}
 use Rattle.plugin_notes.specs.LastSeen.{Remembers}
 use Rattle.plug_psi.specs.ForceStands as forcing
@@ -33,4 +32,3 @@ pub record TracksSome (tracker : Tracker) (at : ℕ) : Type 0 where
 -- each table has an entry for each PID
 pub record IsReady (tracker : Tracker) : Type 0 where
   pub totals : AreWhole tracker.totals
-  pub spans : length tracker.spans.spans.items ≡ PID_COUNT
