@@ -46,7 +46,9 @@ fn format_name(words: &[String]) -> Option<&str> {
             return Some(name);
         }
     }
-    words.last().and_then(|word| word.as_str().strip_prefix("--format="))
+    words
+        .last()
+        .and_then(|word| word.as_str().strip_prefix("--format="))
 }
 
 /// How many bytes a packet has in the input's form, and where in them it begins.
