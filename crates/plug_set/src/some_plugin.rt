@@ -227,11 +227,11 @@ impl Plugin for SomePlugin {
       | MadeContinuity p ↦ ⟦<Continuity as Plugin>⟧.silent p
       | MadeRemap p ↦ ⟦<Remap as Plugin>⟧.silent p
       | MadeInject p ↦ ⟦<Inject as Plugin>⟧.silent p
-      | MadePat p ↦ ⟦<EditPid<PatEdit> as Plugin>⟧.silent p
-      | MadeCat p ↦ ⟦<EditPid<CatEdit> as Plugin>⟧.silent p
-      | MadePmt p ↦ ⟦<EditPid<PmtEdit> as Plugin>⟧.silent p
-      | MadeSdt p ↦ ⟦<EditPid<SdtEdit> as Plugin>⟧.silent p
-      | MadeNit p ↦ ⟦<EditPid<NitEdit> as Plugin>⟧.silent p
+      | MadePat p ↦ ⟦<EditPid<Current<PatEdit>> as Plugin>⟧.silent p
+      | MadeCat p ↦ ⟦<EditPid<Current<CatEdit>> as Plugin>⟧.silent p
+      | MadePmt p ↦ ⟦<EditPid<Current<PmtEdit>> as Plugin>⟧.silent p
+      | MadeSdt p ↦ ⟦<EditPid<Current<SdtEdit>> as Plugin>⟧.silent p
+      | MadeNit p ↦ ⟦<EditPid<Current<NitEdit>> as Plugin>⟧.silent p
       | MadeZap p ↦ ⟦<Zap as Plugin>⟧.silent p
       | MadeSvremove p ↦ ⟦<Svremove as Plugin>⟧.silent p
       | MadeAnalyze p ↦ ⟦<Analyze as Plugin>⟧.silent p
