@@ -11,7 +11,7 @@ pub(crate) struct StopsAt {
 }
 
 impl Plugin for StopsAt {
-    ghost use Rattle.std.specs.Prelude.{◌≡◌, ◌≤◌, [], None, false, length, nat_le, if◌then◌else◌, refl};
+    ghost use Rattle.std.specs.Prelude.{◌≡◌, ◌≤◌, [], None, false, length, nat_le, if◌then◌else◌, refl, true};
     ghost use Rattle.chain_model.specs.PluginRule.{passes, stops};
     ghost use Rattle.plugin_trait.specs.SilentRule.{silent_rule};
 
@@ -21,6 +21,8 @@ impl Plugin for StopsAt {
     ghost stands_for = { λ s history mark. mark ≤ length history };
 
     ghost steady = { λ s. None };
+
+    ghost silent = { λ _. true };
 
     fn step(&mut self, at: u64, cell: &mut Cell) -> Outcome {
         if let Some(_) = cell.live() {

@@ -10,7 +10,7 @@ pub struct NoPlugin {
 }
 
 impl Plugin for NoPlugin {
-    ghost use Rattle.std.specs.Prelude.{◌≡◌, ◌≤◌, None, length, refl};
+    ghost use Rattle.std.specs.Prelude.{◌≡◌, ◌≤◌, None, length, refl, true};
     ghost use Rattle.chain_model.specs.PluginRule.{passes};
     ghost use Rattle.plugin_trait.specs.SilentRule.{silent_rule};
 
@@ -19,6 +19,8 @@ impl Plugin for NoPlugin {
     ghost stands_for = { λ s history mark. mark ≤ length history };
 
     ghost steady = { λ s. None };
+
+    ghost silent = { λ _. true };
 
     fn step(&mut self, _at: u64, _cell: &mut Cell) -> Outcome {
         Outcome::Pass
