@@ -3,7 +3,7 @@
 ghost use Rattle.std.specs.Prelude.{◌≡◌, ◌≤◌, [], None, IfOk};
 ghost use Rattle.plug_edit.specs.EditRule.{edit_rule};
 
-use plug_psi::{Editor, TableEdit};
+use plug_psi::{Editor, TableEdit, Unedited};
 use plugin_trait::{Line, Outcome, Plugin, silent_report};
 use std::alloc::{AllocError, Global};
 use ts_packet::{Cell, NULL_PID};
@@ -34,6 +34,11 @@ impl<E: TableEdit + Drop> EditPid<E> {
             editor: Editor::new(alloc, edited, edit)?,
             alloc,
         })
+    }
+
+    /// Why nothing was edited; `None` where the edit makes other sections of the last tables of the PID.
+    pub fn unedited(&self) -> Result<Option<Unedited>, AllocError> {
+        self.editor.unedited(self.pid)
     }
 }
 

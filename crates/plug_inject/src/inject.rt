@@ -55,6 +55,21 @@ impl Inject {
         })
     }
 
+    /// The PID of the packets that may be replaced.
+    pub fn target(&self) -> u16 {
+        self.target
+    }
+
+    /// Whether there are packets to insert.
+    pub fn has_contents(&self) -> bool {
+        !self.contents.as_slice().is_empty()
+    }
+
+    /// Whether a packet was inserted.
+    pub fn has_inserted(&self) -> bool {
+        self.put_in > 0
+    }
+
     /// The packet that is inserted next, if the cycle has packets.
     fn next_packet(&self) -> Option<Packet>
         ensures next { result ≡ packet_behind self.now.contents self.now.put_in }

@@ -20,6 +20,8 @@ use ts_packet::{Cell, PID_COUNT, Packet};
 pub struct Remap {
     table: MoveTable,
     tables: Option<TableMapper>,
+    /// Whether a packet was moved.
+    moved: bool,
     buffer: usize,
     alloc: Global,
 }
@@ -37,9 +39,15 @@ impl Remap {
         Ok(Remap {
             table: MoveTable::of(alloc, &conf.operand, conf.unchecked)?,
             tables: tables_of(alloc, conf)?,
+            moved: false,
             buffer,
             alloc,
         })
+    }
+
+    /// Whether a packet came on one of the PIDs that are moved.
+    pub fn has_moved(&self) -> bool {
+        self.moved
     }
 }
 
@@ -65,7 +73,10 @@ impl Plugin for Remap {
         let pid = packet.pid();
         match self.table.look_up(pid) {
             Move::Keep => go_on(&mut self.tables, packet, None),
-            Move::To(target) => go_on(&mut self.tables, packet, Some(target)),
+            Move::To(target) => {
+                self.moved = true;
+                go_on(&mut self.tables, packet, Some(target))
+            }
             Move::Refuse => Outcome::Refuse(Reason::Pid(pid)),
         }
     }

@@ -9,7 +9,8 @@ ghost use Rattle.plug_psi.specs.EditorState.{NextInPlace, Renewed};
 
 use crate::contents::{Contents, Tables};
 use crate::edit::TableEdit;
-use crate::edited::edited;
+use crate::edited::{are_sections_of, edited};
+use crate::unedited::Unedited;
 use std::alloc::{AllocError, Global};
 use ts_packet::{NULL_PID, Packet};
 use ts_packetize::Cycle;
@@ -77,6 +78,19 @@ impl<E: TableEdit + Drop> CycleEditor<E> {
         self.changed = changed;
         self.counter = counter;
         Ok(packet)
+    }
+
+    /// Why nothing was edited on this PID; `None` where the edit makes other sections of the last tables.
+    pub fn unedited(&self, alloc: Global, pid: u16) -> Result<Option<Unedited>, AllocError> {
+        let tables = self.contents.tables();
+        if tables.len() == 0 {
+            return Ok(Some(Unedited::NoTable(pid)));
+        }
+        let sections = edited(alloc, &self.edit, tables)?;
+        if are_sections_of(tables, sections.as_slice()) {
+            return Ok(Some(Unedited::SameTables(pid)));
+        }
+        Ok(None)
     }
 }
 

@@ -6,6 +6,7 @@ ghost use Rattle.plug_psi.specs.EditedCycles.{replaced};
 use crate::cycle_editor::CycleEditor;
 use crate::edit::TableEdit;
 use crate::failure_latch::FailureLatch;
+use crate::unedited::Unedited;
 use std::alloc::{AllocError, Global};
 use ts_demux::PidTables;
 use ts_packet::{NULL_PID, Packet};
@@ -60,6 +61,11 @@ impl<E: TableEdit + Drop> Editor<E> {
         let new = self.failed.note(answer)?;
         *packet = new;
         Ok(())
+    }
+
+    /// Why nothing was edited on this PID; `None` where the edit makes other sections of the last tables.
+    pub fn unedited(&self, pid: u16) -> Result<Option<Unedited>, AllocError> {
+        self.inner.unedited(self.alloc, pid)
     }
 
     /// Takes the next packet, and gives the one for its place.

@@ -40,6 +40,7 @@ mod psi_table;
 mod reading;
 mod referred;
 mod sdt_as_table;
+mod unedited;
 mod written;
 mod written_table;
 
@@ -64,5 +65,6 @@ pub use pids_of_pmt::add_pids;
 pub use psi_table::PsiTable;
 pub use reading::Reading;
 pub use referred::Referred;
+pub use unedited::Unedited;
 pub use written::in_room;
 pub use written_table::sections_or_same;

@@ -10,7 +10,7 @@ ghost use Rattle.plug_service.specs.EditorsState.{left_by};
 use crate::editors::Editors;
 use crate::service_follower::ServiceFollower;
 use crate::way::Way;
-use plug_psi::{FailureLatch, both};
+use plug_psi::{FailureLatch, Unedited, both, pid_of_service};
 use plugin_trait::Outcome;
 use std::alloc::{AllocError, Global};
 use ts_packet::{Cell, Packet};
@@ -84,6 +84,21 @@ impl OneService {
                 Outcome::Drop
             }
             Err(_) => Outcome::NoMemory,
+        }
+    }
+
+    /// Why nothing was edited: by the tables in force the service is not there.
+    pub(crate) fn unedited(&self) -> Option<Unedited> {
+        let force = &self.follower.force;
+        if force.pat().is_none() {
+            return Some(Unedited::NoPat);
+        }
+        if pid_of_service(force.pat(), self.service).is_none() {
+            return Some(Unedited::NoService(self.service));
+        }
+        match self.way {
+            Way::Keep if force.pmt(self.service).is_none() => Some(Unedited::NoPmt(self.service)),
+            Way::Keep | Way::Remove => None,
         }
     }
 

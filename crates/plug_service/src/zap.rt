@@ -6,6 +6,7 @@ ghost use Rattle.plug_service.specs.ServiceRule.{zap_rule};
 use crate::one_service::OneService;
 use crate::service_conf::ServiceConf;
 use crate::way::Way;
+use plug_psi::Unedited;
 use plugin_trait::{Line, Outcome, Plugin, silent_report};
 use std::alloc::{AllocError, Global};
 use ts_packet::Cell;
@@ -35,6 +36,11 @@ impl Zap {
         Ok(Zap {
             inner: OneService::new(alloc, Way::Keep, conf.service as u16, conf.stuffing)?,
         })
+    }
+
+    /// Why nothing was edited: by the tables in force the service is not there.
+    pub fn unedited(&self) -> Option<Unedited> {
+        self.inner.unedited()
     }
 }
 

@@ -3,6 +3,7 @@
 #![tactic(auto)]
 
 mod any_plugin;
+mod idle;
 mod laws;
 mod masked_plugin;
 mod plugin_conf;
@@ -10,6 +11,7 @@ mod plugin_item;
 mod some_plugin;
 
 pub use any_plugin::AnyPlugin;
+pub use idle::Idle;
 pub use laws::{only_joint_agrees, only_named_sections_count, silent_plugins_report_nothing};
 pub use plugin_conf::{PluginConf, PluginKind};
 pub use plugin_item::PluginItem;

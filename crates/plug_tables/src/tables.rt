@@ -56,6 +56,11 @@ impl Tables {
         })
     }
 
+    /// Whether a table was read, and its line waits for `finish`.
+    pub fn has_read(&self) -> bool {
+        self.told.front().is_some()
+    }
+
     // Processes the packet at a position, unless memory ran out before.
     fn meet(&mut self, at: u64, packet: &Packet) -> Result<(), AllocError>
         ensures met { OnOk result ((history : List GivenCell) (mark : ℕ) → StandsFor self.old history mark → length history ≡ at → (labels : ℕ)

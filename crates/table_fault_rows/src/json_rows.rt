@@ -11,7 +11,7 @@ pub(crate) struct JsonRow {
 
 /// The rows.
 pub(crate) fn json_rows() -> &'static [JsonRow] {
-    static ROWS: [JsonRow; 10] = [
+    static ROWS: [JsonRow; 11] = [
         JsonRow {
             about: "a key of the child 0 of the child 2",
             path: &[2, 0],
@@ -51,6 +51,12 @@ pub(crate) fn json_rows() -> &'static [JsonRow] {
         JsonRow {
             about: "a name that may not stand there",
             path: &[0, 1],
+            key: "#name",
+            kind: JsonKind::UnknownKey,
+        },
+        JsonRow {
+            about: "another name of the root",
+            path: &[],
             key: "#name",
             kind: JsonKind::UnknownKey,
         },

@@ -30,11 +30,33 @@ fn key_kind_text(kind: JsonKind) -> &'static str
     }
 }
 
-fn kind_text(key: &str, kind: JsonKind) -> &'static str
-    ensures { result.now ≡ JsonText.kind_text key.now kind }
+// What is wrong with the outermost element.
+fn root_kind_text(kind: JsonKind) -> &'static str
+    ensures { result.now ≡ JsonText.root_kind_text kind }
+{
+    match kind {
+        JsonKind::UnknownKey => "unknown element: the #name of the outermost one is tsduck\n",
+        JsonKind::Missing | JsonKind::WrongKind | JsonKind::OutOfRange => element_kind_text(kind),
+    }
+}
+
+// What is wrong with the element to which this path leads.
+fn element_text(path: &[usize], kind: JsonKind) -> &'static str
+    ensures { result.now ≡ JsonText.element_text path.now kind }
+{
+    if path.is_empty() {
+        root_kind_text(kind)
+    } else {
+        element_kind_text(kind)
+    }
+}
+
+// What is wrong with a key of the element to which this path leads.
+fn kind_text(path: &[usize], key: &str, kind: JsonKind) -> &'static str
+    ensures { result.now ≡ JsonText.kind_text path.now key.now kind }
 {
     if key == "#name" {
-        element_kind_text(kind)
+        element_text(path, kind)
     } else {
         key_kind_text(kind)
     }
@@ -47,6 +69,6 @@ pub(crate) fn json_text(alloc: Global, fault: &JsonFault) -> Result<Vec<u8>, All
     let key = fault.key.as_str();
     let mut text = key_pointer(alloc, fault.path.as_slice(), key)?;
     text.extend_from_slice(b": ")?;
-    text.extend_from_slice(kind_text(key, fault.kind).as_bytes())?;
+    text.extend_from_slice(kind_text(fault.path.as_slice(), key, fault.kind).as_bytes())?;
     Ok(text)
 }

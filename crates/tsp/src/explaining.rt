@@ -1,11 +1,12 @@
-//! Explains a refused command line or a run that failed, on standard error alone.
+//! Explains a refused command line, and a run that failed or found nothing to edit, on standard error alone.
+use crate::idle_texts::idle_text;
 use crate::run_texts::{Kept, run_text};
 use chain_args::{WordsFault, WordsRule};
 use explain_edge::write_explained;
 use fault_texts::{HelpTable, fault_text, general_options, tsp_segments};
 use std::alloc::AllocError;
 use ts_os::OsDesk;
-use tsp_top::Status;
+use tsp_top::{IdlePlugins, Status};
 
 /// The text about a refused command line: its segment, the wrong word, and what may stand there.
 fn words_text(
@@ -41,11 +42,27 @@ fn explain_run(rt: &HostRuntime, words: &[String], status: &Status, desk: &OsDes
     }
 }
 
+/// Explains a run that was `Done`, and in which plugins were idle.
+fn explain_idle(rt: &HostRuntime, words: &[String], idle: &IdlePlugins) {
+    if let Ok(text) = idle_text(rt.alloc(), words, idle.rows()) {
+        if !text.is_empty() {
+            write_explained(rt, text.as_bytes());
+        }
+    }
+}
+
 /// Explains how a call at this desk ended. Running out of memory and a fault of standard error leave it out, and change nothing
 /// else.
-pub(crate) fn explain(rt: &HostRuntime, words: &[String], status: &Status, desk: &OsDesk) {
+pub(crate) fn explain(
+    rt: &HostRuntime,
+    words: &[String],
+    status: &Status,
+    desk: &OsDesk,
+    idle: &IdlePlugins,
+) {
     match status {
         Status::Words(WordsFault::At { word, rule }) => explain_words(rt, words, *word, *rule),
+        Status::Done => explain_idle(rt, words, idle),
         _ => explain_run(rt, words, status, desk),
     }
 }

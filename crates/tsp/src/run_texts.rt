@@ -2,6 +2,7 @@
 //! or the place at which sync was lost.
 use crate::form_seen::form_seen;
 use crate::operands::operand_of;
+use chain_model::Reason;
 use explain_edge::{after_name, named_behind, trouble_text};
 use std::alloc::{AllocError, Global};
 use tabcomp_core::CompileFault;
@@ -23,7 +24,7 @@ pub(crate) struct Kept<'a> {
 }
 
 /// The name of the plugin of a number, counted from 1.
-fn plugin_name(words: &[String], number: u32) -> Option<&str> {
+pub(crate) fn plugin_name(words: &[String], number: u32) -> Option<&str> {
     let mut left = number;
     for (word, name) in words.iter().zip(words.iter().skip(1)) {
         if word.as_str() == "-P" {
@@ -97,6 +98,22 @@ fn plugin_text(alloc: Global, words: &[String], number: u32) -> Result<String, A
     format!(in alloc; "plugin {number} is -P {name}\n")
 }
 
+// The plugin that refused a packet, and what can be done about it.
+fn refusal_text(
+    alloc: Global,
+    words: &[String],
+    number: u32,
+    reason: Reason,
+) -> Result<String, AllocError> {
+    let mut text = plugin_text(alloc, words, number)?;
+    let pid = reason.pid();
+    write!(
+        text,
+        "PID {pid} has packets of its own: move to a PID that has none, or mix the packets of both by --unchecked\n"
+    )?;
+    Ok(text)
+}
+
 // What is wrong with the bytes of a file of tables, which are there where they were kept.
 fn tables_text(
     alloc: Global,
@@ -109,7 +126,21 @@ fn tables_text(
     match fault {
         TableFileFault::TooMany => Vec::from_slice(alloc, b"longer than 16,777,216 bytes\n"),
         TableFileFault::Compile(fault) => compile_text(alloc, fault),
-        TableFileFault::Sections(fault) => Ok(decompile_text(alloc, *fault)?.into_bytes()),
+        TableFileFault::Sections(fault) => {
+            let mut text = decompile_text(alloc, *fault)?;
+            if is_text(file) {
+                text.push_str("it begins as a JSON text does; the name of one ends in .json\n")?;
+            }
+            Ok(text.into_bytes())
+        }
+    }
+}
+
+// Whether the bytes of a file begin as a JSON object does.
+fn is_text(file: Option<&[u8]>) -> bool {
+    match file {
+        Some([first, ..]) => *first == b'{',
+        _ => false,
     }
 }
 
@@ -181,7 +212,7 @@ pub(crate) fn run_text(
 ) -> Result<Option<Vec<u8>>, AllocError> {
     let text = match (status, kept.trouble) {
         (Status::Sync { packet }, _) => sync_text(alloc, words, *packet, kept.head)?,
-        (Status::Refused { plugin, .. }, _) => plugin_text(alloc, words, *plugin)?,
+        (Status::Refused { plugin, reason }, _) => refusal_text(alloc, words, *plugin, *reason)?,
         (Status::TableFile { plugin, fault }, _) => {
             let text = table_file_text(alloc, words, *plugin, fault, kept.file)?;
             return Ok(Some(text));

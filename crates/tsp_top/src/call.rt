@@ -6,6 +6,7 @@ ghost use Rattle.tsp_top.specs.TspCall.{CallsTsp};
 use crate::beginning::begin;
 use crate::driver::Driver;
 use crate::finishing::finish;
+use crate::idle_plugins::IdlePlugins;
 use crate::in_threads::run_in_threads;
 use crate::one_thread::run_in_one_thread;
 use crate::opened_call::OpenedCall;
@@ -43,9 +44,24 @@ pub fn tsp_call<R: Threads + Wait + Sync, D: Desk, G: Gate>(
 ) -> Status
     ensures { CallsTsp (map string_bytes words.now) (D.seen desk.old) (D.seen desk.new) result }
 {
+    let mut unasked = IdlePlugins::new(alloc, false);
+    explained_call(rt, alloc, words, desk, gate, &mut unasked)
+}
+
+/// Does what `tsp_call` does. Where it is asked, the plugins that were idle in the run are noted before they report.
+pub fn explained_call<R: Threads + Wait + Sync, D: Desk, G: Gate>(
+    rt: &R,
+    alloc: Global,
+    words: &[String],
+    desk: &mut D,
+    gate: &G,
+    idle: &mut IdlePlugins,
+) -> Status
+    ensures { CallsTsp (map string_bytes words.now) (D.seen desk.old) (D.seen desk.new) result }
+{
     match Driver::of_machine(rt) {
-        Driver::InThreads => threaded_call(rt, alloc, words, desk, gate),
-        Driver::InOneThread => serial_call(alloc, words, desk, gate),
+        Driver::InThreads => call_in_threads(rt, alloc, words, desk, gate, idle),
+        Driver::InOneThread => call_in_one_thread(alloc, words, desk, gate, idle),
     }
 }
 
@@ -59,13 +75,8 @@ pub fn threaded_call<R: Threads + Wait + Sync, D: Desk, G: Gate>(
 ) -> Status
     ensures { CallsTsp (map string_bytes words.now) (D.seen desk.old) (D.seen desk.new) result }
 {
-    match begin(alloc, words, desk, Driver::InThreads) {
-        Ok(OpenedCall { plan, core, stages }) => {
-            let end = run_in_threads(rt, alloc, stages, &core, gate);
-            finish(alloc, desk, &plan, end)
-        }
-        Err(status) => status,
-    }
+    let mut unasked = IdlePlugins::new(alloc, false);
+    call_in_threads(rt, alloc, words, desk, gate, &mut unasked)
 }
 
 /// Does what `tsp_call` does, in one thread. It needs no handle, so it returns where the calls of the desk and the gate do.
@@ -77,9 +88,45 @@ pub fn serial_call<D: Desk, G: Gate>(
 ) -> Status
     ensures { CallsTsp (map string_bytes words.now) (D.seen desk.old) (D.seen desk.new) result }
 {
+    let mut unasked = IdlePlugins::new(alloc, false);
+    call_in_one_thread(alloc, words, desk, gate, &mut unasked)
+}
+
+/// The call with a thread for each stage, and the plugins that were idle in it.
+fn call_in_threads<R: Threads + Wait + Sync, D: Desk, G: Gate>(
+    rt: &R,
+    alloc: Global,
+    words: &[String],
+    desk: &mut D,
+    gate: &G,
+    idle: &mut IdlePlugins,
+) -> Status
+    ensures { CallsTsp (map string_bytes words.now) (D.seen desk.old) (D.seen desk.new) result }
+{
+    match begin(alloc, words, desk, Driver::InThreads) {
+        Ok(OpenedCall { plan, core, stages }) => {
+            let end = run_in_threads(rt, alloc, stages, &core, gate);
+            idle.note(end.plugins.as_slice());
+            finish(alloc, desk, &plan, end)
+        }
+        Err(status) => status,
+    }
+}
+
+/// The call in one thread, and the plugins that were idle in it.
+fn call_in_one_thread<D: Desk, G: Gate>(
+    alloc: Global,
+    words: &[String],
+    desk: &mut D,
+    gate: &G,
+    idle: &mut IdlePlugins,
+) -> Status
+    ensures { CallsTsp (map string_bytes words.now) (D.seen desk.old) (D.seen desk.new) result }
+{
     match begin(alloc, words, desk, Driver::InOneThread) {
         Ok(OpenedCall { plan, core, stages }) => {
             let end = run_in_one_thread(alloc, stages, &core, gate);
+            idle.note(end.plugins.as_slice());
             finish(alloc, desk, &plan, end)
         }
         Err(status) => status,

@@ -1,5 +1,5 @@
 //! The top call of `tsp`: words and a desk come in; packets go out, reports are printed, a status is returned.
-//! The program uses the clauses of `tsp_call`, the stream theorem, and nothing else.
+//! The program uses the clause of `explained_call`, which is that of `tsp_call`, the stream theorem, and nothing else.
 #![tactic(auto)]
 
 mod beginning;
@@ -7,6 +7,7 @@ mod call;
 mod driver;
 mod end_line;
 mod finishing;
+mod idle_plugins;
 mod in_threads;
 mod one_thread;
 mod opened_call;
@@ -21,8 +22,10 @@ mod stream_law;
 mod tables;
 mod words;
 
-pub use call::{serial_call, threaded_call, tsp_call};
+pub use call::{explained_call, serial_call, threaded_call, tsp_call};
 pub use chain_args::{WordsFault, WordsRule};
+pub use idle_plugins::{IdlePlugin, IdlePlugins};
+pub use plug_set::Idle;
 pub use status::Status;
 pub use steady::steady_call;
 pub use stream_law::{completeness, headline, memory_first, sizes_change_nothing};

@@ -1,6 +1,6 @@
 use Rattle.std.proofs.Common.{arith}
 use Rattle.tsp_top.proofs.CalledLemmas.{called, called-few, called-reach, ready-plugins}
-use Rattle.tsp_top.proofs.call.threaded_call.Goals as goal
+use Rattle.tsp_top.proofs.call.call_in_threads.Goals as goal
 
 pub run_in_threads-end-requires-clause-every : goal.run_in_threads-end-requires-clause-every
 run_in_threads-end-requires-clause-every g c κs within = c.in-Ok.ensures.1.2.ready.every

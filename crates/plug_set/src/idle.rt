@@ -1,0 +1,65 @@
+//! Why a plugin was idle: it edited, inserted or read nothing.
+
+use crate::some_plugin::SomePlugin;
+use plug_inject::Inject;
+use plug_move::Remap;
+use plug_psi::Unedited;
+use plug_tables::Tables;
+use std::alloc::AllocError;
+
+/// Why a plugin edited, inserted or read nothing. It explains a run, and no rule rests on it.
+#[derive(Clone, Copy, PartialEq, Eq)]
+pub enum Idle {
+    /// The plugin edits tables, and edited none.
+    Unedited(Unedited),
+    /// No packet came on the PIDs that are moved.
+    NoneMoved,
+    /// No packet came on the PID whose packets are replaced.
+    NoPlace(u16),
+    /// There are no packets to insert.
+    NothingToInsert,
+    /// No table was read.
+    NoTables,
+}
+
+/// Why a plugin was idle; `None` where it was not, or where it edits nothing in any case.
+pub(crate) fn idle(plugin: &SomePlugin) -> Result<Option<Idle>, AllocError> {
+    let unedited = match plugin {
+        SomePlugin::Pat(plugin) => plugin.unedited()?,
+        SomePlugin::Cat(plugin) => plugin.unedited()?,
+        SomePlugin::Pmt(plugin) => plugin.unedited()?,
+        SomePlugin::Sdt(plugin) => plugin.unedited()?,
+        SomePlugin::Nit(plugin) => plugin.unedited()?,
+        SomePlugin::Zap(plugin) => plugin.unedited(),
+        SomePlugin::Svremove(plugin) => plugin.unedited(),
+        SomePlugin::Remap(plugin) => return Ok(idle_remap(plugin)),
+        SomePlugin::Inject(plugin) => return Ok(idle_inject(plugin)),
+        SomePlugin::Tables(plugin) => return Ok(idle_tables(plugin)),
+        _ => None,
+    };
+    Ok(unedited.map(Idle::Unedited))
+}
+
+fn idle_remap(plugin: &Remap) -> Option<Idle> {
+    if plugin.has_moved() {
+        return None;
+    }
+    Some(Idle::NoneMoved)
+}
+
+fn idle_inject(plugin: &Inject) -> Option<Idle> {
+    if plugin.has_inserted() {
+        return None;
+    }
+    if plugin.has_contents() {
+        return Some(Idle::NoPlace(plugin.target()));
+    }
+    Some(Idle::NothingToInsert)
+}
+
+fn idle_tables(plugin: &Tables) -> Option<Idle> {
+    if plugin.has_read() {
+        return None;
+    }
+    Some(Idle::NoTables)
+}
