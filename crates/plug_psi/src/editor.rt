@@ -5,10 +5,9 @@ ghost use Rattle.plug_psi.specs.EditedCycles.{replaced};
 
 use crate::cycle_editor::CycleEditor;
 use crate::edit::TableEdit;
-use crate::failure_latch::FailureLatch;
 use crate::unedited::Unedited;
 use std::alloc::{AllocError, Global};
-use ts_demux::PidTables;
+use ts_demux::{FailureLatch, PidTables};
 use ts_packet::{NULL_PID, Packet};
 
 /// Puts packets of cycles of the edited contents of a PID in the place of its taken packets.

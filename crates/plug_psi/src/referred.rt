@@ -11,7 +11,6 @@ ghost use Rattle.plug_psi.specs.Referred.{is_fixed, named_in, refers};
 ghost use Rattle.plug_psi.specs.ReferredState.{HasCat};
 
 use crate::cycle_editor::one_holds;
-use crate::failure_latch::FailureLatch;
 use crate::follows::Follows;
 use crate::handed_over::both;
 use crate::in_force::InForce;
@@ -20,6 +19,7 @@ use crate::pid_flags::tell;
 use crate::pids_in_force::named_pids;
 use crate::reading::Reading;
 use std::alloc::{AllocError, Global};
+use ts_demux::FailureLatch;
 use ts_packet::{NULL_PID, PID_COUNT, Packet, PidRow};
 use ts_psi::Cat;
 

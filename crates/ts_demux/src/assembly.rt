@@ -11,6 +11,7 @@ ghost use Rattle.std.specs.Option.{option_copied, option_to_list};
 ghost use Rattle.ts_demux.specs.Tables.{completed};
 
 use crate::era::Era;
+use crate::failure_latch::FailureLatch;
 use crate::table_key::{TableKey, head_of_many};
 use indexmap::IndexMap;
 use std::alloc::{AllocError, Global};
@@ -29,7 +30,7 @@ type Eras = IndexMap<TableKey, Era>;
 #[derive(Drop)]
 pub struct Assembly {
     eras: Eras,
-    failed: bool,
+    failed: FailureLatch,
 }
 
 impl Model for Assembly {
@@ -50,7 +51,7 @@ impl Assembly {
     {
         Ok(Assembly {
             eras: IndexMap::new(alloc),
-            failed: false,
+            failed: FailureLatch::unset(),
         })
     }
 
@@ -64,16 +65,10 @@ impl Assembly {
         ensures spent { OnErr result (self.new.failed ≡ true) }
         ensures stays_spent { self.old.failed ≡ true → IsErr result }
     {
-        if self.failed {
-            return Err(AllocError);
-        }
-        match self.take(section) {
-            Ok(table) => Ok(table),
-            Err(error) => {
-                self.failed = true;
-                Err(error)
-            }
-        }
+        self.failed.check()?;
+        let answer = self.take(section);
+        let table = self.failed.note(answer)?;
+        Ok(table)
     }
 
     /// Processes the next section, unless an earlier call ran out of memory.

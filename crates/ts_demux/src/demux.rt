@@ -5,6 +5,7 @@ ghost use Rattle.ts_section.specs.LawfulSection.{IsSection};
 ghost use Rattle.ts_demux.specs.CountedPackets as counted;
 ghost use Rattle.ts_demux.specs.DemuxState.{StandsFor, TakesIn, GivesFirst};
 
+use crate::failure_latch::FailureLatch;
 use crate::reader::StretchReader;
 use std::alloc::{AllocError, Global};
 use std::collections::VecDeque;
@@ -21,7 +22,7 @@ pub struct Demux {
     pid: u16,
     reader: StretchReader,
     waiting: VecDeque<Section>,
-    failed: bool,
+    failed: FailureLatch,
 }
 
 impl Model for Demux {
@@ -45,7 +46,7 @@ impl Demux {
             pid,
             reader: StretchReader::new(alloc),
             waiting: VecDeque::new(alloc),
-            failed: false,
+            failed: FailureLatch::unset(),
         })
     }
 
@@ -57,9 +58,20 @@ impl Demux {
         ensures spent { OnErr result ((self.new.failed ≡ true) × (self.new.waiting ≡ [])) }
         ensures stays_spent { self.old.failed ≡ true → IsErr result }
     {
-        if self.failed {
-            return Err(AllocError);
-        }
+        self.failed.check()?;
+        let answer = self.advance(packet);
+        let completed = self.failed.note(answer)?;
+        Ok(completed)
+    }
+
+    /// Processes the next packet, unless an earlier call ran out of memory. After `AllocError` nothing waits.
+    fn advance(&mut self, packet: &Packet) -> Result<usize, AllocError>
+        requires { self.old.failed ≡ false }
+        ensures taken { IfOk result (λ completed. TakesIn self.old self.new packet.now completed) }
+        ensures bounded { IfSome self.new.remembered (λ part. length part.payload ≤ 4096) }
+        ensures none_waits { OnErr result (self.new.waiting ≡ []) }
+        ensures same_failed { self.new.failed ≡ self.old.failed }
+    {
         if !counts(self.pid, packet) {
             return Ok(0);
         }
@@ -75,7 +87,6 @@ impl Demux {
             Err(error) => {
                 self.reader.reset();
                 self.waiting.clear();
-                self.failed = true;
                 Err(error)
             }
         }

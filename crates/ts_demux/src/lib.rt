@@ -6,6 +6,7 @@
 mod assembly;
 mod demux;
 mod era;
+mod failure_latch;
 mod laws;
 mod pid_tables;
 mod pieces;
@@ -15,6 +16,7 @@ mod table_laws;
 
 pub use assembly::Assembly;
 pub use demux::Demux;
+pub use failure_latch::FailureLatch;
 pub use laws::other_packets_change_nothing;
 pub use pid_tables::PidTables;
 pub use table_key::TableKey;

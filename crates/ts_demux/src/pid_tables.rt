@@ -8,6 +8,7 @@ ghost use Rattle.ts_demux.specs.PidTables.{Holds};
 
 use crate::assembly::Assembly;
 use crate::demux::Demux;
+use crate::failure_latch::FailureLatch;
 use std::alloc::{AllocError, Global};
 use ts_packet::{PID_COUNT, Packet};
 use ts_section::TableRun;
@@ -19,7 +20,7 @@ use ts_section::TableRun;
 pub struct PidTables {
     demux: Demux,
     assembly: Assembly,
-    failed: bool,
+    failed: FailureLatch,
     alloc: Global,
 }
 
@@ -39,7 +40,7 @@ impl PidTables {
         Ok(PidTables {
             demux,
             assembly,
-            failed: false,
+            failed: FailureLatch::unset(),
             alloc,
         })
     }
@@ -54,16 +55,10 @@ impl PidTables {
         ensures spent { OnErr result (has_failed self.new ≡ true) }
         ensures stays_spent { has_failed self.old ≡ true → IsErr result }
     {
-        if self.failed {
-            return Err(AllocError);
-        }
-        match self.advance(packet) {
-            Ok(tables) => Ok(tables),
-            Err(error) => {
-                self.failed = true;
-                Err(error)
-            }
-        }
+        self.failed.check()?;
+        let answer = self.advance(packet);
+        let tables = self.failed.note(answer)?;
+        Ok(tables)
     }
 
     /// Processes the next packet, unless an earlier call ran out of memory.

@@ -4,6 +4,6 @@ use Rattle.ts_demux.specs.Tables.{tables_of}
 use Rattle.ts_demux.proofs.Assembling.{tables_of-push}
 use Rattle.ts_demux.proofs.assembly.Assembly.add.Goals as goal
 
-pub returns-in-Ok-clause-tables : goal.returns-in-Ok-clause-tables
-returns-in-Ok-clause-tables c =
+pub returns-clause-tables : goal.returns-in-Ok-clause-tables
+returns-clause-tables c =
     λ before stands. tables_of-push before c.args.section ∙ ap (λ t. tables_of before ++ option_to_list t) (sym (c.in-Ok.ensures.completes before stands))
