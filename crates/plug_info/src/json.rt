@@ -21,7 +21,7 @@ use crate::summary::{
     numbers_shown, pcr_pid_in, sdt_stream_id, service_packets, stream_numbers, use_of,
 };
 use crate::tracker::Tracker;
-use crate::users::{components_of, parts, services_of, users_of};
+use crate::users::{components_of, services_of, users_of};
 use info_texts::json_texts::{
     component_head, component_tail, service_head, service_tail, stream_json,
 };
@@ -29,6 +29,7 @@ use info_texts::{
     PidNumbers, Scene, array, marks_json, number_or_null, portion_json, push_item, troubles_json,
     widened,
 };
+use plug_psi::number_and_pid;
 use plugin_notes::push_line;
 use plugin_trait::{Line, LineText};
 use std::alloc::{AllocError, Global};
@@ -94,7 +95,7 @@ fn push_services(
 {
     let entries = services_of(&tracker.force);
     for service in entries {
-        let (id, pid) = parts(service);
+        let (id, pid) = number_and_pid(service);
         let text = service_json(alloc, tracker, scene, id, pid)?;
         push_item(items, &text)?;
     }

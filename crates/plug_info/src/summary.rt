@@ -21,13 +21,14 @@ ghost use Rattle.plugin_notes.specs.PidPackets.{packets_on};
 
 use crate::service_texts::service_body;
 use crate::tracker::Tracker;
-use crate::users::{components_of, has_component, parts, services_of, users_of};
+use crate::users::{components_of, has_component, services_of, users_of};
 use info_texts::line_texts::{
     component_head, component_tail, service_head, service_tail, stream_text,
 };
 use info_texts::{
     PidNumbers, Scene, StreamNumbers, marks_text, pid_name, portion_text, troubles_text,
 };
+use plug_psi::number_and_pid;
 use plugin_notes::push_line;
 use plugin_trait::{Line, LineText};
 use std::alloc::{AllocError, Global};
@@ -138,7 +139,7 @@ fn push_services(
 {
     let entries = services_of(&tracker.force);
     for service in entries {
-        let (id, pid) = parts(service);
+        let (id, pid) = number_and_pid(service);
         push_service(lines, cut, tracker, scene, id, pid)?;
     }
     Ok(())

@@ -2,7 +2,7 @@
 ghost use Rattle.std.specs.Prelude.{◌≡◌, ◌<◌, ℕ, List, map, count_by, option_map};
 ghost use Rattle.std.specs.List.{filter_map, list_any};
 ghost use Rattle.std.specs.Option.{option_copied};
-ghost use Rattle.std.specs.Prelude.{Some, ◌≤◌, cond};
+ghost use Rattle.std.specs.Prelude.{◌≤◌, cond};
 ghost use Rattle.ts_psi.specs.PatTables.{service_item};
 ghost use Rattle.plug_psi.specs.InForce.{pat_of, service_in, services_in};
 ghost use Rattle.plug_psi.specs.ForceStands.{StandsFor as IsFed};
@@ -11,7 +11,7 @@ ghost use Rattle.plug_info.specs.InfoRule.{has_component, users_of};
 ghost use Rattle.plug_info.specs.Components.{has_item};
 ghost use Rattle.plug_info.specs.SdtInForce.{items_in};
 
-use plug_psi::InForce;
+use plug_psi::{InForce, number_and_pid};
 use ts_psi::{Component, PatService, Pmt};
 
 /// Whether one of the components has the PID.
@@ -58,13 +58,6 @@ pub fn services_of(force: &InForce) -> &[PatService]
     }
 }
 
-/// The service_id and the PMT PID of an entry of the PAT.
-pub fn parts(service: &PatService) -> (u16, u16)
-    ensures { service_in (service_item service.now) ≡ Some (result.0, result.1) }
-{
-    (service.service_id, service.pid)
-}
-
 /// How many services of the PAT in force have a component on the PID.
 pub fn users_of(force: &InForce, pid: u16) -> u64
     ensures { (fed : List (List ℕ)) → IsFed force.now fed → result ≡ users_of fed pid }
@@ -72,7 +65,7 @@ pub fn users_of(force: &InForce, pid: u16) -> u64
     let entries = services_of(force);
     let mut users = 0;
     for service in entries {
-        let (id, _) = parts(service);
+        let (id, _) = number_and_pid(service);
         users += one_if(has_component(force.pmt(id), pid));
     }
     users

@@ -18,7 +18,7 @@ loop-service-preserved c = λ cells w s.
     let at = c.loop-service.service-index in
     item_more (λ x. behind_comma (service_object cells x)) (filter_map service_in (map service_item (take at entries)))
     (filter_map service_in (map service_item (take (at + 1) entries))) _ _ _ _ _
-    (services_more entries at c.service-item.result _ c.loop-service-test.true c.service-item.is c.parts-id.ensures)
+    (services_more entries at c.service-item.result _ c.loop-service-test.true c.service-item.is c.number_and_pid-id.ensures.pair)
     (ap behind_comma (c.deref.ensures ∙ c.in_ok-text.ensures cells w s)) (c.loop-service.invariant cells w s) c.in_ok-push_item.ensures
 
 pub returns : goal.returns

@@ -14,7 +14,7 @@ pub loop-service-preserved : goal.loop-service-preserved
 loop-service-preserved c = λ cells w s.
     services_lines_more c.args.cut (service_lines cells) c.services_of-entries.result.now c.loop-service.service-index c.service-item.result _
     c.args.lines.now.items c.loop-service.lines.items c.push_service.new.lines.items
-    c.loop-service-test.true c.service-item.is c.parts-id.ensures (c.loop-service.invariant cells w s) (c.in_ok-push_service.ensures cells w s)
+    c.loop-service-test.true c.service-item.is c.number_and_pid-id.ensures.pair (c.loop-service.invariant cells w s) (c.in_ok-push_service.ensures cells w s)
 
 pub returns : goal.returns
 returns c = λ cells w s.

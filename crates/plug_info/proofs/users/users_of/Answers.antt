@@ -12,7 +12,7 @@ pub loop-service-preserved : goal.loop-service-preserved
 loop-service-preserved c = record {
   users = λ fed h.
       users_more (λ service. has_component (pmt_of service.0 fed) c.args.pid) c.services_of-entries.result.now c.loop-service.service-index c.service-item.result _
-      c.loop-service.users c.one_if-users.result c.loop-service-test.true c.service-item.is c.parts-id.ensures (c.loop-service.invariant.users fed h)
+      c.loop-service.users c.one_if-users.result c.loop-service-test.true c.service-item.is c.number_and_pid-id.ensures.pair (c.loop-service.invariant.users fed h)
       (c.one_if-users.ensures.is ∙ ap (λ b. cond b 1 0) (c.has_component.ensures ∙ ap (λ p. has_component p c.args.pid) (c.pmt.ensures fed h)));
   few = omega (arith, c.loop-service.invariant.few, c.one_if-users.ensures.most);
 }
