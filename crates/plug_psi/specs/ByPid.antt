@@ -1,4 +1,4 @@
--- When what follows PIDs stands for the packets that were met.
+-- When what follows PIDs stands for the packets that were processed.
 -- This project's own rule.
 use Rattle.std.specs.Prelude.{ℕ, List, Bool, nat_eq}
 use Rattle.indexmap.specs.IndexMap.{get}

@@ -7,7 +7,7 @@ use Rattle.ts_psi.specs.CatTables.{read_cat}
 use Rattle.plug_psi.specs.CurrentTables.{current_in}
 use Rattle.plug_psi.specs.LastFound.{last_found}
 
--- the CAT that a table is, where it reads as one and is current
+-- the CAT that a table is, if it reads as one and is current
 abbrev pub current_cat : List (List ℕ) → Option TableHolding
 current_cat run = current_in (read_cat run)
 

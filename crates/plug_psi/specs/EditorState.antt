@@ -1,4 +1,4 @@
--- When an editor's parts stand for the packets that it took, and what its steps do to its cycle.
+-- When an editor's parts stand for the packets that it processed, and what its steps do to its cycle.
 -- This project's own rule.
 use Rattle.std.specs.Prelude.{◌≡◌, ℕ, ◌+◌, ◌%◌, Bool, false, List, [], ◌++◌, length, suc}
 use Rattle.std.specs.Option.{option_to_list}
@@ -9,35 +9,36 @@ use Rattle.plug_psi.specs.EditedCycles.{cycles_of, edited_packets}
 use Rattle.plug_psi.specs.ContentsState.{HasContents}
 use Rattle.plug_psi.specs.declared.contents.Contents.{Contents}
 
--- what is left of a cycle, and a counter, are those before an ordinal
+-- the rest of a cycle, and a counter, are those before an ordinal
 pub record StandsAt (cycle : Cycles) (n : ℕ) (left : List (List ℕ)) (counter : ℕ) : Type 0 where
   pub left_over : left ≡ left_before cycle n
   pub counts : counter ≡ written_before cycle n % 16
 
--- An editor's parts stand for the packets that it took: however these go on, its cycle and its counter are those
--- before the next of them; and unless the contents changed since, the next cycle has their packets already.
+-- An editor's parts stand for the packets that it processed: whatever packets follow, its cycle and its counter are those
+-- before the next of them. Unless the contents changed since, the next cycle has their packets already.
 pub record Edits (pid : ℕ) (edit : List (List ℕ) → Change) (contents : Contents) (cycle : CycleState) (counter : ℕ) (changed : Bool) (taken : List (List ℕ)) : Type 0 where
   pub contents_taken : HasContents contents pid taken
   pub same_pid : cycle.pid ≡ pid
   pub to_come : (more : List (List ℕ)) → StandsAt (cycles_of pid edit (taken ++ more)) (length taken) cycle.left counter
   pub unchanged : changed ≡ false → cycle.contents ≡ edited_packets pid edit taken
 
--- Where a cycle begins next, its contents are the wanted packets, if they were where nothing had changed. Whether
--- something has changed since is told anew.
+-- What a renewal does to a cycle, whose next contents were the wanted packets already if nothing had changed. The rest of
+-- the cycle that runs stays. If no change is left over, the next cycle has the wanted packets; and if no cycle runs, no
+-- change is left over.
 pub record Renewed (old new : CycleState) (changed still : Bool) (wanted : List (List ℕ)) : Type 0 where
   pub same_left : new.left ≡ old.left
   pub same_pid : new.pid ≡ old.pid
   pub begins : old.left ≡ [] → still ≡ false
   pub known : still ≡ false → (changed ≡ false → old.contents ≡ wanted) → new.contents ≡ wanted
 
--- what is put in the place of the packet with an ordinal, the counter behind it, and what is left of the cycle then
+-- what is put in the place of the packet with an ordinal, the counter after it, and the rest of the cycle then
 pub record PlacesAt (cycle : Cycles) (n counter : ℕ) (packet : List ℕ) (behind : ℕ) (left : List (List ℕ)) : Type 0 where
   pub placed : packet ≡ in_place counter (packet_at cycle n)
   pub counted : behind ≡ (counter + length (option_to_list (packet_at cycle n))) % 16
   pub left_over : left ≡ left_before cycle (suc n)
 
--- A cycle gives what is put in the next packet's place: where what is left of it is what is left before an ordinal,
--- and its contents, where a cycle starts, are those of the cycle that starts there.
+-- What a cycle puts in the next packet's place, if its rest is the rest before an ordinal, and if its contents, where a
+-- cycle starts, are those of the cycle that starts there.
 pub record NextInPlace (old new : CycleState) (counter : ℕ) (packet : List ℕ) (behind : ℕ) : Type 0 where
   pub same_pid : new.pid ≡ old.pid
   pub same_contents : new.contents ≡ old.contents

@@ -15,6 +15,6 @@ pats_in force = force.pats.items
 abbrev pub pmts_in : InForce → List (List (List ℕ))
 pmts_in force = force.pmts.items
 
--- whether memory was wanting
+-- whether memory ran out
 abbrev pub has_failed : InForce → Bool
 has_failed force = force.failed

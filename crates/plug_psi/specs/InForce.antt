@@ -15,7 +15,7 @@ use Rattle.ts_psi.specs.PsiPages.{pmt_page}
 pub use Rattle.plug_psi.specs.CurrentTables.{current_in}
 use Rattle.plug_psi.specs.LastFound.{last_found}
 
--- the PAT that a table is, where it reads as one and is current
+-- the PAT that a table is, if it reads as one and is current
 abbrev pub current_pat : List (List ℕ) → Option TableHolding
 current_pat run = current_in (read_pat run)
 
@@ -49,17 +49,17 @@ pid_for pat service = lookup (λ id. id == service) (services_in pat)
 abbrev pub is_named : Option TableHolding → ℕ → Bool
 is_named pat pid = names pat pid && not (pid == NULL_PID)
 
--- Whether a PID is followed at the last of some packets of any PID, by the PAT in force there. The packets on the PID of
--- which this is so are those that are taken on it.
+-- Whether a PID is followed at the last of some packets of any PID, by the PAT in force there. The packets on the PID for
+-- which this holds are those that are taken on it.
 abbrev pub follows : ℕ → List (List ℕ) → Bool
 follows pid packets = is_named (pat_of packets) pid
 
--- a PMT, where it is of the service
+-- a PMT, if it is of the service
 abbrev pub of_service : ℕ → Option TableHolding → Option TableHolding
 of_service service None = None
 of_service service (Some pmt) = if pmt.head.extension == service then Some pmt else None
 
--- the PMT of a service that a table is, where it reads as one and is current
+-- the PMT of a service that a table is, if it reads as one and is current
 abbrev pub current_pmt : ℕ → List (List ℕ) → Option TableHolding
 current_pmt service run = of_service service (current_in (read_run pmt_page run))
 
@@ -67,7 +67,7 @@ current_pmt service run = of_service service (current_in (read_run pmt_page run)
 unfoldable pub pmt_on : ℕ → ℕ → List (List ℕ) → Option TableHolding
 pmt_on pid service packets = last_found (current_pmt service) (tables_on pid (taken_on follows pid packets))
 
--- the same, where there is a PID
+-- the same, if there is a PID
 abbrev pub pmt_at : ℕ → List (List ℕ) → Option ℕ → Option TableHolding
 pmt_at service packets None = None
 pmt_at service packets (Some pid) = pmt_on pid service packets

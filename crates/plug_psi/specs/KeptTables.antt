@@ -18,19 +18,19 @@ use Rattle.plug_psi.specs.declared.kept_pmts.KeptPmts.{KeptPmts}
 abbrev pub KeepsPat : Option Pat → ℕ → List (List ℕ) → Type 0
 KeepsPat pat pid taken = option_map pat_held pat ≡ last_found current_pat (tables_on pid taken)
 
--- so is the CAT
+-- the CAT that is kept is the last current one of the tables of a PID
 abbrev pub KeepsCat : KeptCat → ℕ → List (List ℕ) → Type 0
 KeepsCat kept pid taken = option_map cat_held kept.cat ≡ last_found current_cat (tables_on pid taken)
 
--- and of each service the PMT
+-- the PMT that is kept of each service is its last current one of the tables of a PID
 abbrev pub KeepsPmts : KeptPmts → ℕ → List (List ℕ) → Type 0
 KeepsPmts kept pid taken = (service : ℕ) → option_map pmt_held (get nat_eq kept.pmts service) ≡ last_found (current_pmt service) (tables_on pid taken)
 
--- the tables of a packet are handed on; where none of them was kept, the same is found in the tables with it as without it
+-- the tables of a packet are handed on; if none of them was kept, the same is found in the tables with it as without it
 pub record TellsFound {X : Type 0} (found : List (List ℕ) → Option X) (pid : ℕ) (taken : List (List ℕ)) (packet : List ℕ) (told : Kept) : Type 0 where
   pub completes : Completes pid taken packet told.tables.items
   pub same : told.came ≡ false → last_found found (tables_on pid (taken ++ packet ∷ [])) ≡ last_found found (tables_on pid taken)
 
--- of the PMT of each service
+-- the same for the PMT of each service
 abbrev pub TellsPmts : ℕ → List (List ℕ) → List ℕ → Kept → Type 0
 TellsPmts pid taken packet told = (service : ℕ) → TellsFound (current_pmt service) pid taken packet told

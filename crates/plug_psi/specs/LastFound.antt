@@ -2,12 +2,12 @@
 -- This project's own rule.
 use Rattle.std.specs.Prelude.{ℕ, List, [], ◌∷◌, fold, Option, Some, None}
 
--- what is found takes the place of what was found before
+-- what is found replaces what was found before
 abbrev pub newer : {X : Type 0} → Option X → Option X → Option X
 newer old None = old
 newer old (Some x) = Some x
 
--- what was found before, and in tables behind
+-- what is found in the last of some tables in which something is found, or else what was found before
 abbrev pub found_behind : {X : Type 0} → (List (List ℕ) → Option X) → Option X → List (List (List ℕ)) → Option X
 found_behind found old tables = fold (λ o table. newer o (found table)) old tables
 

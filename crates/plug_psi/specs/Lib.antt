@@ -1,3 +1,4 @@
+-- The definitions of `plug_psi`: contents and cycles of a PID, edits of its tables, the tables in force and their PIDs.
 pub mod ByPid
 pub mod CatInForce
 pub mod Contents

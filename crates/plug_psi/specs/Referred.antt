@@ -12,7 +12,7 @@ use Rattle.plug_psi.specs.ServicePids.{ca_pids, has_pid, pids_of}
 use Rattle.plug_psi.specs.InForce.{pat_of, pmt_of, services_in}
 use Rattle.plug_psi.specs.CatInForce.{cat_of}
 
--- the PID of an entry of a PAT, which stands behind its program_number; of program_number 0 it is the network PID
+-- the PID of an entry of a PAT, which comes after its program_number; for program_number 0 it is the network PID
 abbrev pub entry_pid : ItemHolding → ℕ
 entry_pid entry = number_at entry.values 1
 
@@ -21,7 +21,7 @@ abbrev pub entry_pids : Option TableHolding → List ℕ
 entry_pids None = []
 entry_pids (Some pat) = map entry_pid pat.body.items
 
--- the PIDs of the PMT in force of a service, which is told by its number and its PID
+-- the PIDs of the PMT in force of a service, which is given by its number and its PID
 abbrev pub pids_by : (ℕ → Option TableHolding) → ℕ × ℕ → List ℕ
 pids_by pmts service = pids_of (pmts service.0)
 

@@ -8,6 +8,6 @@ use Rattle.plug_psi.specs.declared.referred.Referred.{Referred}
 abbrev pub StandsFor : Referred → List (List ℕ) → Type 0
 StandsFor referred fed = Standing referred.force referred.one referred.flags referred.failed fed
 
--- whether memory was wanting
+-- whether memory ran out
 abbrev pub has_failed : Referred → Bool
 has_failed referred = referred.failed

@@ -1,4 +1,4 @@
--- The PIDs of a service, as its PMT tells them.
+-- The PIDs of a service, as its PMT names them.
 -- ISO/IEC 13818-1, 2.4.4.8 and 2.6.16: a PMT has the PCR_PID, 8191 where there is no PCR, and the PID of each component;
 -- a CA_descriptor, tag 0x09, of the program or of a component has the CA_PID. A descriptor that is not of the standard's
 -- grammar is no CA_descriptor. That these PIDs together are those of the service is this project's own rule.
@@ -11,7 +11,7 @@ use Rattle.ts_descr_mpeg.specs.MpegDescrs.{mpeg_pages}
 use Rattle.ts_table_rows.specs.TableValues.{ItemHolding, TableHolding}
 use Rattle.plug_psi.specs.NumbersHeld.{component_pid, number_at}
 
--- the CA_PID of what a descriptor is, if it is a CA_descriptor
+-- the CA_PID in what was read of a descriptor, if it is a CA_descriptor
 abbrev pub ca_pid_in : Option Typed → List ℕ
 ca_pid_in None = []
 ca_pid_in (Some typed) = if nat_eq typed.tag 0x09 then number_at typed.holding.head 1 ∷ [] else []
@@ -43,6 +43,6 @@ abbrev pub pids_of : Option TableHolding → List ℕ
 pids_of None = []
 pids_of (Some pmt) = pids_in pmt
 
--- whether a PID is one of some
+-- whether a PID is in a list of PIDs
 abbrev pub has_pid : List ℕ → ℕ → Bool
 has_pid pids pid = list_any (λ p. p == pid) pids

@@ -6,7 +6,7 @@ use Rattle.ts_fields.specs.Bodies.{Page, Holding, spell_page}
 use Rattle.ts_table_rows.specs.BodySpelling.{bytes_of}
 use Rattle.ts_descr.specs.Descriptors.{body_size}
 
--- the descriptor of a page that holds this; none where its body would pass 255 bytes
+-- the descriptor of a page that holds this; none if its body would exceed 255 bytes
 abbrev pub written : Page → Holding → Option TaggedBody
 written p h =
     if nat_lt 255 (body_size p h) then None

@@ -1,4 +1,4 @@
-//! Of each PID what follows its packets.
+//! What follows the packets of each PID.
 
 ghost use Rattle.std.specs.Prelude.{◌≡◌, ◌<◌, ◌∷◌, ◌++◌, ℕ, [], List, Bool, true, false, None, IfOk, OnOk, nat_eq};
 ghost use Rattle.indexmap.specs.IndexMap.{get};
@@ -10,10 +10,10 @@ use indexmap::IndexMap;
 use std::alloc::{AllocError, Global};
 use ts_packet::{NULL_PID, Packet};
 
-/// Of each PID on which a packet was taken, what follows its packets. It is made where the first of them is taken.
+/// For each PID on which a packet was taken, what follows its packets. It is created with the first of them.
 ///
-/// Which packets are taken on a PID is the caller's rule: clauses speak of any test by which a PID is followed at a packet's
-/// position or not. What follows a PID stays once it is made, also where the PID is followed no longer.
+/// The caller decides which packets are taken on a PID: the clauses hold for any test of whether a PID is followed at the
+/// position of a packet. What follows a PID is kept once it exists, also when the PID is no longer followed.
 #[derive(Drop)]
 pub struct ByPid<T: Drop> {
     entries: IndexMap<u16, T>,
@@ -36,8 +36,8 @@ impl<T: Follows> ByPid<T> {
         }
     }
 
-    /// Takes the next packet, whose PID is followed at its position. The seed is that of all PIDs. After `AllocError` no
-    /// more is to be asked.
+    /// Processes the next packet, whose PID is followed at its position. The seed is the same for all PIDs. After
+    /// `AllocError` it is not to be used any more.
     pub fn take(
         &mut self,
         alloc: Global,
@@ -59,7 +59,7 @@ impl<T: Follows> ByPid<T> {
         Ok(told)
     }
 
-    /// What follows a PID; none where no packet was taken on it.
+    /// What follows a PID; `None` if no packet was taken on it.
     pub fn get(&self, pid: u16) -> Option<&T>
         ensures { (seed : T.Seed) (follows : ℕ → List (List ℕ) → Bool) (met : List (List ℕ)) → AllStand (T.stands seed) self.now follows met
             → EntryStands (T.stands seed) (option_copied result) pid (taken_on follows pid met) }
@@ -68,7 +68,7 @@ impl<T: Follows> ByPid<T> {
     }
 }
 
-/// Has what follows a PID take a packet, which is the first where nothing follows it yet.
+/// Passes a packet to what follows its PID. This is created if nothing follows the PID yet.
 fn take_on<T: Follows>(
     alloc: Global,
     entries: &mut IndexMap<u16, T>,
@@ -90,7 +90,7 @@ fn take_on<T: Follows>(
     }
 }
 
-/// Has something new follow a PID, and take its first packet.
+/// Creates what follows a PID, and passes the first packet to it.
 fn take_first<T: Follows>(
     alloc: Global,
     entries: &mut IndexMap<u16, T>,

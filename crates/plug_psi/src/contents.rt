@@ -36,7 +36,7 @@ impl Contents {
         &self.tables
     }
 
-    /// Keeps the tables that the next packet completes, and answers whether one of the contents came with it.
+    /// Keeps those of the tables that the next packet completes which have a key, and returns whether there is one.
     pub(crate) fn keep(&mut self, tables: Vec<TableRun>) -> Result<bool, AllocError>
         ensures stands { OnOk result ((pid : ℕ) (taken : List (List ℕ)) (packet : List ℕ) → HasContents self.old pid taken
             → Completes pid taken packet tables.items → HasContents self.new pid (taken ++ packet ∷ [])) }
@@ -47,7 +47,7 @@ impl Contents {
     }
 }
 
-/// Keeps tables one after another, and answers whether one of them was kept.
+/// Keeps tables one after another, and returns whether one of them was kept.
 fn keep_tables(kept: &mut Tables, tables: Vec<TableRun>) -> Result<bool, AllocError>
     ensures kept { OnOk result (kept.new.entries ≡ fold with_table kept.old.entries tables.items) }
     ensures same { IfOk result (λ came. came ≡ false → kept.new.entries ≡ kept.old.entries) }
@@ -59,8 +59,8 @@ fn keep_tables(kept: &mut Tables, tables: Vec<TableRun>) -> Result<bool, AllocEr
     Ok(came)
 }
 
-/// Keeps a table in the place of the one of its key, or behind all others, unless it has no key; `came` stays, or
-/// becomes true where the table is kept.
+/// Keeps a table in place of the one with the same key, or after all others, unless it has no key. Returns `came`, or
+/// `true` if the table is kept.
 fn keep_table(kept: &mut Tables, table: TableRun, came: bool) -> Result<bool, AllocError>
     ensures kept { OnOk result (kept.new.entries ≡ with_table kept.old.entries table) }
     ensures same { IfOk result (λ now. now ≡ false → (came ≡ false) × (kept.new.entries ≡ kept.old.entries)) }

@@ -34,7 +34,7 @@ impl Model for CurrentPat {
 }
 
 impl CurrentPat {
-    /// No PAT is in force. It takes 8 KiB.
+    /// No PAT is in force. Allocates 8 KiB.
     pub(crate) fn none(alloc: Global) -> Result<CurrentPat, AllocError>
         ensures { IfOk result (λ current. current ≡ None) }
     {
@@ -69,7 +69,7 @@ impl CurrentPat {
         }
     }
 
-    /// Another PAT is in force. Takes no memory.
+    /// Another PAT is in force. Allocates nothing.
     pub(crate) fn set(&mut self, pat: Pat)
         ensures { self.new ≡ Some pat }
     {
@@ -87,7 +87,7 @@ fn mark(marks: &mut PidRow<bool>, services: &[PatService])
     mark_services(marks, services);
 }
 
-/// Sets the flags of the PIDs of services, where none is set.
+/// Sets the flags of the PIDs of services, where none is set before.
 fn mark_services(marks: &mut PidRow<bool>, services: &[PatService])
     requires { (pid : ℕ) → slice_index_or marks.old pid false ≡ false }
     ensures { (pid : ℕ) → slice_index_or marks.new pid false

@@ -1,4 +1,4 @@
-//! Tables that are read where they are current.
+//! Tables that are read only if they are current.
 
 ghost use Rattle.std.specs.Prelude.{◌≡◌, IfOk, option_map};
 ghost use Rattle.plug_psi.specs.CurrentTables.{current_in};
@@ -8,7 +8,7 @@ use std::alloc::{AllocError, Global};
 use ts_section::TableRun;
 use ts_table_rows::TableFault;
 
-/// The table of a run, where it reads as one of this kind and is current.
+/// The table of a run, if it reads as one of this kind and is current.
 pub fn read_current<T: PsiTable>(alloc: Global, run: &TableRun) -> Result<Option<T>, AllocError>
     ensures { IfOk result (λ table. option_map T.held table ≡ current_in (T.reads run.now)) }
 {

@@ -1,4 +1,4 @@
-//! The cycle editor over tables that are read elsewhere.
+//! The cycle editor for tables that are read elsewhere.
 
 ghost use Rattle.std.specs.Prelude.{◌≡◌, ℕ, ◌<◌, ◌||◌, ◌++◌, ◌∷◌, [], List, IfOk, OnOk};
 ghost use Rattle.indexmap.specs.IndexMap.{values};
@@ -16,11 +16,11 @@ use ts_packet::{NULL_PID, Packet};
 use ts_packetize::Cycle;
 use ts_section::TableRun;
 
-/// Gives packets of cycles of the edited contents of a PID for the places of its taken packets, whose tables are read by
-/// somebody else: an `Editor`, or what follows the PID already.
+/// Returns a packet for the place of each packet that is taken on a PID, from cycles of the PID's edited contents. It does
+/// not read the tables itself: an `Editor` does, or what follows the PID already.
 ///
-/// The contents are edited and packed where a cycle begins, and only where they changed since the last one began.
-/// It holds the last tables and the packets of at most two cycles.
+/// The contents are edited and packed when a cycle begins, and only if they changed since the last one began.
+/// It keeps the last tables and the packets of at most two cycles.
 #[derive(Drop)]
 pub struct CycleEditor<E: TableEdit + Drop> {
     contents: Contents,
@@ -35,7 +35,7 @@ impl<E: TableEdit + Drop> CycleEditor<E> {
     ghost use Rattle.ts_demux.specs.TablesOn.{Completes};
     ghost use Rattle.plug_psi.specs.CycleStands.{InCycles, edit_of};
 
-    /// An editor that took no packet of its PID, below 8191.
+    /// A new editor of a PID below 8191, which has processed no packet.
     pub fn new(alloc: Global, pid: u16, edit: E) -> Result<CycleEditor<E>, AllocError>
         requires { pid < NULL_PID }
         ensures fresh { IfOk result (λ editor. InCycles (E.change edit) editor pid []) }
@@ -51,9 +51,9 @@ impl<E: TableEdit + Drop> CycleEditor<E> {
         })
     }
 
-    /// Takes the next packet, of which the tables that it completes are enough, and gives the packet for its place: the one
-    /// of the cycle that runs, with its counter, or a null packet where a cycle would begin and there is nothing to carry.
-    /// The caller gives the packets that are taken and no others. After `AllocError` no more is to be asked.
+    /// Processes the next packet, of which only the tables that it completes matter, and returns the packet for its place:
+    /// the next one of the cycle that runs, with its counter, or a null packet if a cycle would begin and there is nothing to
+    /// carry. The caller passes the packets that are taken and no others. After `AllocError` it is not to be used any more.
     pub fn advance(
         &mut self,
         alloc: Global,
@@ -68,7 +68,7 @@ impl<E: TableEdit + Drop> CycleEditor<E> {
             → InCycles (E.change (edit_of self.old)) self.new pid (taken ++ packet.now ∷ [])) }
         ensures same_edit { edit_of self.new ≡ edit_of self.old }
     {
-        // Nothing else of the packet matters.
+        // Only the tables that the packet completes matter.
         let _ = packet;
         let came = self.contents.keep(tables)?;
         let changed = one_holds(self.changed, came);
@@ -94,15 +94,15 @@ impl<E: TableEdit + Drop> CycleEditor<E> {
     }
 }
 
-/// Whether one of two holds.
+/// Whether at least one of two holds.
 pub(crate) fn one_holds(a: bool, b: bool) -> bool
     ensures { result ≡ (a || b) }
 {
     a || b
 }
 
-/// Sees that the cycle that begins next, if none runs, is that of the edited tables, which have changed or not since
-/// the last one began. Answers whether they have changed since the one that begins or runs now.
+/// If the tables changed since the last cycle began, and no cycle runs, the next cycle is made of the edited tables.
+/// Returns whether the tables have changes that are missing in the cycle that begins or runs now.
 fn renew_where_over<E: TableEdit>(
     alloc: Global,
     edit: &E,

@@ -1,4 +1,4 @@
-//! The cycle editor that reads its tables.
+//! The cycle editor that reads its tables itself.
 
 ghost use Rattle.std.specs.Prelude.{◌≡◌, ℕ, ◌<◌, ◌++◌, ◌∷◌, [], List, true, IfOk, OnOk, OnErr, IsErr};
 ghost use Rattle.plug_psi.specs.EditedCycles.{replaced};
@@ -10,10 +10,10 @@ use std::alloc::{AllocError, Global};
 use ts_demux::{FailureLatch, PidTables};
 use ts_packet::{NULL_PID, Packet};
 
-/// Puts packets of cycles of the edited contents of a PID in the place of its taken packets.
+/// Replaces the packets that are taken on a PID by packets of cycles of the PID's edited contents.
 ///
-/// The contents are edited and packed where a cycle begins, and only where they changed since the last one began.
-/// It holds the last tables, one unfinished section and the packets of at most two cycles.
+/// The contents are edited and packed when a cycle begins, and only if they changed since the last one began.
+/// It keeps the last tables, one unfinished section and the packets of at most two cycles.
 #[derive(Drop)]
 pub struct Editor<E: TableEdit + Drop> {
     tables: PidTables,
@@ -25,7 +25,7 @@ pub struct Editor<E: TableEdit + Drop> {
 impl<E: TableEdit + Drop> Editor<E> {
     ghost use Rattle.plug_psi.specs.EditorStands.{StandsFor, edit_of, has_failed};
 
-    /// An editor that took no packet of its PID, below 8191.
+    /// A new editor of a PID below 8191, which has processed no packet.
     pub fn new(alloc: Global, pid: u16, edit: E) -> Result<Editor<E>, AllocError>
         requires { pid < NULL_PID }
         ensures fresh { IfOk result (λ editor. StandsFor (E.change edit) editor pid []) }
@@ -42,9 +42,9 @@ impl<E: TableEdit + Drop> Editor<E> {
         })
     }
 
-    /// Takes the next packet, and puts in its place the packet of the cycle that runs, with its counter, or a null
-    /// packet where a cycle would begin and there is nothing to carry. The caller gives the packets that are taken
-    /// and no others. After `AllocError` the packet is as it was, and every later call answers `AllocError`.
+    /// Processes the next packet, and puts in its place the next packet of the cycle that runs, with its counter, or a
+    /// null packet if a cycle would begin and there is nothing to carry. The caller passes the packets that are taken
+    /// and no others. After `AllocError` the packet is as it was, and every later call returns `AllocError`.
     pub fn step(&mut self, packet: &mut Packet) -> Result<(), AllocError>
         ensures replaced { OnOk result ((pid : ℕ) (taken : List (List ℕ)) → StandsFor (E.change (edit_of self.old)) self.old pid taken
             → packet.new ≡ replaced pid (E.change (edit_of self.old)) taken packet.old) }
@@ -67,7 +67,7 @@ impl<E: TableEdit + Drop> Editor<E> {
         self.inner.unedited(self.alloc, pid)
     }
 
-    /// Takes the next packet, and gives the one for its place.
+    /// Processes the next packet, and returns the one for its place.
     fn advance(&mut self, packet: &Packet) -> Result<Packet, AllocError>
         ensures replaced { IfOk result (λ new. (pid : ℕ) (taken : List (List ℕ))
             → StandsFor (E.change (edit_of self.old)) self.old pid taken

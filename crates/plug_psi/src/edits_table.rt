@@ -10,12 +10,12 @@ use crate::written_table::sections_or_same;
 use std::alloc::{AllocError, Global};
 use ts_section::TableRun;
 
-/// What is made of each current table of one kind.
+/// An edit of each current table of one kind.
 pub trait EditsTable {
-    /// The kind.
+    /// The kind of table.
     type Table: PsiTable;
 
-    /// What is made of a table; none leaves it as it is.
+    /// The result for a table; with `None` the table stays as it is.
     ghost edited: { Self → TableHolding → Option TableHolding };
 
     /// Edits a table.
@@ -23,8 +23,8 @@ pub trait EditsTable {
         ensures { IfOk result (λ new. option_map Self.Table.held new ≡ edited self.now (Self.Table.held table)) };
 }
 
-/// An edit of the tables of its kind that read and are current. The table that it gives is written anew, and all other
-/// tables are carried as they are.
+/// An edit of the tables of its kind that read and are current. The resulting table is written anew, and all other
+/// tables are carried unchanged.
 #[derive(Drop)]
 pub struct Current<E: Drop> {
     pub edit: E,

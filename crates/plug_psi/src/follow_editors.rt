@@ -1,4 +1,4 @@
-//! A cycle editor follows a PID.
+//! A cycle editor as what follows a PID.
 
 ghost use Rattle.std.specs.Prelude.{◌≡◌, ℕ, ◌<◌, List, IfOk};
 
@@ -9,11 +9,11 @@ use std::alloc::{AllocError, Global};
 use ts_packet::Packet;
 use ts_section::TableRun;
 
-/// An edit that is made of a seed for each PID.
+/// An edit that is made from a seed for each PID.
 pub trait SeededEdit: TableEdit + Drop {
     ghost use Rattle.plug_psi.specs.Edits.{Change};
 
-    /// What the edits of all PIDs are made of.
+    /// What the edits of all PIDs are made from.
     type Seed;
 
     /// What the edit on a PID makes of tables.

@@ -7,8 +7,8 @@ ghost use Rattle.plug_psi.specs.declared.by_pid.ByPid.{ByPid};
 
 use crate::follows::Follows;
 
-/// A packet whose PID is not followed at its position changes nothing: what stands for the packets before it stands for it
-/// too. A law: it runs nothing.
+/// A packet whose PID is not followed at its position changes nothing: what stands for the packets before it stands for
+/// them with it too. A law; it runs nothing.
 #[inline]
 pub fn unfollowed_packets_change_nothing<T: Follows>()
     ensures { (seed : T.Seed) (by : ByPid T) (follows : ℕ → List (List ℕ) → Bool) (met : List (List ℕ)) (packet : List ℕ) → AllStand (T.stands seed) by follows met

@@ -5,30 +5,30 @@ ghost use Rattle.std.specs.Prelude.{◌≡◌, ◌<◌, ◌∷◌, ◌++◌, ℕ
 use std::alloc::{AllocError, Global};
 use ts_packet::{NULL_PID, Packet};
 
-/// What follows packets of one PID, which are given to it one after another.
+/// What follows packets of one PID, which are passed to it one after another.
 pub trait Follows: Drop {
-    /// What a new one is made of, besides its PID.
+    /// What a new one is made from, besides its PID.
     type Seed;
-    /// What comes with each packet, as the tables that it completes.
+    /// What comes with each packet, such as the tables that it completes.
     type Input: Drop;
-    /// What is told of a packet.
+    /// What is returned for a packet.
     type Told: Drop;
 
-    /// It is made of this seed, and stands for the packets that were taken on a PID.
+    /// It was made from this seed, and stands for the packets that were taken on a PID.
     ghost stands: { Self.Seed → Self → ℕ → List (List ℕ) → Type 0 };
 
-    /// This may come with a packet on a PID behind those that were taken.
+    /// This may come with a packet on a PID, after those that were taken.
     ghost given: { ℕ → List (List ℕ) → List ℕ → Self.Input → Type 0 };
 
-    /// This is told of a packet on a PID behind those that were taken, by one that was made of this seed.
+    /// This is returned for a packet on a PID, after those that were taken, by one that was made from this seed.
     ghost tells: { Self.Seed → ℕ → List (List ℕ) → List ℕ → Self.Told → Type 0 };
 
-    /// A new one, which took no packet.
+    /// A new one, which has processed no packet.
     fn fresh(alloc: Global, seed: &Self::Seed, pid: u16) -> Result<Self, AllocError>
         requires { pid < NULL_PID }
         ensures { IfOk result (λ it. stands seed.now it pid []) };
 
-    /// Takes the next packet of its PID. After `AllocError` no more is to be asked.
+    /// Processes the next packet of its PID. After `AllocError` it is not to be used any more.
     fn take(
         &mut self,
         alloc: Global,

@@ -9,23 +9,24 @@ use ts_section::TableRun;
 
 /// What follows packets of one PID by the tables that they complete, which somebody else reads.
 pub trait FollowsTables: Drop {
-    /// What a new one is made of, besides its PID.
+    /// What a new one is made from, besides its PID.
     type Seed;
-    /// What is told of a packet.
+    /// What is returned for a packet.
     type Told: Drop;
 
-    /// It is made of this seed, and stands for the packets that were taken on a PID.
+    /// It was made from this seed, and stands for the packets that were taken on a PID.
     ghost stands: { Self.Seed → Self → ℕ → List (List ℕ) → Type 0 };
 
-    /// This is told of a packet on a PID behind those that were taken, by one that was made of this seed.
+    /// This is returned for a packet on a PID, after those that were taken, by one that was made from this seed.
     ghost tells: { Self.Seed → ℕ → List (List ℕ) → List ℕ → Self.Told → Type 0 };
 
-    /// A new one, which took no packet.
+    /// A new one, which has processed no packet.
     fn fresh(alloc: Global, seed: &Self::Seed, pid: u16) -> Result<Self, AllocError>
         requires { pid < NULL_PID }
         ensures { IfOk result (λ it. stands seed.now it pid []) };
 
-    /// Takes the next packet of its PID with the tables that it completes. After `AllocError` no more is to be asked.
+    /// Processes the next packet of its PID with the tables that it completes. After `AllocError` it is not to be used any
+    /// more.
     fn take(
         &mut self,
         alloc: Global,

@@ -1,4 +1,4 @@
-//! What follows a PID by tables that are given to it.
+//! What follows a PID by tables that others read.
 
 ghost use Rattle.std.specs.Prelude.{◌≡◌, ℕ, List};
 
@@ -8,7 +8,7 @@ use std::alloc::{AllocError, Global};
 use ts_packet::Packet;
 use ts_section::TableRun;
 
-/// What follows a PID by the tables that its packets complete, which are given with them.
+/// What follows a PID by the tables that its packets complete. These tables are passed to it with the packets.
 #[derive(Drop)]
 pub struct Given<T: Drop> {
     follower: T,

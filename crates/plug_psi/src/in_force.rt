@@ -68,7 +68,7 @@ impl InForce {
         })
     }
 
-    /// Takes the next packet, of any PID. After `AllocError` every later call answers `AllocError`.
+    /// Processes the next packet, of any PID. After `AllocError` every later call returns `AllocError`.
     pub fn feed(&mut self, packet: &Packet) -> Result<(), AllocError>
         ensures stands { OnOk result ((fed : List (List ℕ)) → StandsFor self.old fed → StandsFor self.new (fed ++ packet.now ∷ [])) }
         ensures spent { OnErr result (has_failed self.new ≡ true) }
@@ -78,11 +78,11 @@ impl InForce {
         Ok(())
     }
 
-    /// Takes the next packet as `feed` does. Where the answer is `false`, the same PAT and PMTs are in force as before;
-    /// `true` says that a PAT or a PMT may have come into force with it, so what was made of them is to be made anew.
+    /// Processes the next packet as `feed` does. If the result is `false`, the same PAT and PMTs are in force as before;
+    /// `true` says that a PAT or a PMT may have come into force with it, so what was made from them has to be made again.
     ///
-    /// The tables that it completes on PID 0, or on a PID whose packets are taken, can be had by `take_pats` and
-    /// `take_pmts`: who wants these tables too need not read them again.
+    /// The tables that it completes on PID 0, or on a PID whose packets are taken, are returned by `take_pats` and
+    /// `take_pmts`. So a caller that needs these tables too does not read them again.
     #[inline]
     pub fn update(&mut self, packet: &Packet) -> Result<bool, AllocError>
         ensures stands { OnOk result ((fed : List (List ℕ)) → StandsFor self.old fed → StandsFor self.new (fed ++ packet.now ∷ [])) }
@@ -95,6 +95,7 @@ impl InForce {
         ensures spent { OnErr result (has_failed self.new ≡ true) }
         ensures stays_spent { has_failed self.old ≡ true → IsErr result }
     {
+        // A law, which runs nothing.
         unfollowed_packets_change_nothing::<Reading<KeptPmts>>();
         self.failed.check()?;
         // Nearly all packets end here.
@@ -107,7 +108,7 @@ impl InForce {
         Ok(came)
     }
 
-    /// Hands on the tables that the last packet on PID 0 completed, once.
+    /// The tables that the last packet on PID 0 completed. They are handed on once.
     pub fn take_pats(&mut self) -> Vec<TableRun>
         ensures pats { result.items ≡ pats_in self.old }
         ensures stands { (fed : List (List ℕ)) → StandsFor self.old fed → StandsFor self.new fed }
@@ -115,7 +116,7 @@ impl InForce {
         mem::replace(&mut self.pats, Vec::new(self.alloc))
     }
 
-    /// Hands on the tables that the last packet completed which was on a PID whose packets are taken, once.
+    /// The tables that the last packet on a PID whose packets are taken completed. They are handed on once.
     pub fn take_pmts(&mut self) -> Vec<TableRun>
         ensures pmts { result.items ≡ pmts_in self.old }
         ensures stands { (fed : List (List ℕ)) → StandsFor self.old fed → StandsFor self.new fed }
@@ -155,7 +156,7 @@ impl InForce {
         }
     }
 
-    /// Takes the next packet, whose PID may have tables, unless memory ran out before.
+    /// Processes the next packet, whose PID may have tables, unless memory ran out before.
     #[inline(never)]
     fn read(&mut self, packet: &Packet) -> Result<bool, AllocError>
         ensures stands { OnOk result ((fed : List (List ℕ)) → StandsFor self.old fed → StandsFor self.new (fed ++ packet.now ∷ [])) }
@@ -167,6 +168,7 @@ impl InForce {
             → Completes (pid_of packet.now) (taken_on follows (pid_of packet.now) fed) packet.now (pmts_in self.new)) }
         ensures same_failed { has_failed self.new ≡ has_failed self.old }
     {
+        // A law, which runs nothing.
         unfollowed_packets_change_nothing::<Reading<KeptPmts>>();
         let pat_came = take_first(self.alloc, &mut self.zero, &mut self.pats, packet)?;
         let pid = packet.pid();
@@ -187,8 +189,8 @@ fn may_have_tables(zero: &Reading<CurrentPat>, pid: u16) -> bool
     pid == PAT_PID || is_followed(zero, pid)
 }
 
-/// Has PID 0 take a packet, if it is on it, with the tables that it completes in the place of those before, and answers
-/// whether a PAT was kept.
+/// Passes a packet on PID 0 to the reader of that PID, and returns whether a PAT was kept. The tables that the packet
+/// completes replace those of the packet before. A packet on another PID changes nothing.
 fn take_first(
     alloc: Global,
     zero: &mut Reading<CurrentPat>,

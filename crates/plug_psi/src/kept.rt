@@ -1,4 +1,4 @@
-//! What comes with a packet.
+//! The tables that come with a packet.
 
 use ts_section::TableRun;
 

@@ -46,7 +46,7 @@ impl FollowsTables for KeptCat {
     }
 }
 
-/// Keeps the last of some tables that is a current CAT, and answers whether there is one.
+/// Keeps the last current CAT among some tables, and returns whether there is one.
 fn keep_cats(alloc: Global, cat: &mut Option<Cat>, tables: &[TableRun]) -> Result<bool, AllocError>
     ensures kept { OnOk result (option_map cat_held cat.new ≡ found_behind current_cat (option_map cat_held cat.old) tables.now) }
     ensures same { IfOk result (λ came. came ≡ false → cat.new ≡ cat.old) }
@@ -58,7 +58,7 @@ fn keep_cats(alloc: Global, cat: &mut Option<Cat>, tables: &[TableRun]) -> Resul
     Ok(came)
 }
 
-/// Keeps the CAT that a table is, if it is a current one; `came` stays, or becomes true where it is kept.
+/// Keeps the CAT that a table is, if it is a current one. Returns `came`, or `true` if it is kept.
 fn keep_cat(
     alloc: Global,
     cat: &mut Option<Cat>,

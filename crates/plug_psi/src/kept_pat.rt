@@ -42,7 +42,7 @@ impl FollowsTables for CurrentPat {
     }
 }
 
-/// Keeps the last of some tables that is a current PAT, and answers whether there is one.
+/// Keeps the last current PAT among some tables, and returns whether there is one.
 fn keep_pats(alloc: Global, pat: &mut CurrentPat, tables: &[TableRun]) -> Result<bool, AllocError>
     ensures kept { OnOk result (option_map pat_held pat.new ≡ found_behind current_pat (option_map pat_held pat.old) tables.now) }
     ensures same { IfOk result (λ came. came ≡ false → pat.new ≡ pat.old) }
@@ -54,7 +54,7 @@ fn keep_pats(alloc: Global, pat: &mut CurrentPat, tables: &[TableRun]) -> Result
     Ok(came)
 }
 
-/// Keeps the PAT that a table is, if it is a current one; `came` stays, or becomes true where it is kept.
+/// Keeps the PAT that a table is, if it is a current one. Returns `came`, or `true` if it is kept.
 fn keep_pat(
     alloc: Global,
     pat: &mut CurrentPat,

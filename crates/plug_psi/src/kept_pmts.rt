@@ -52,7 +52,7 @@ impl FollowsTables for KeptPmts {
     }
 }
 
-/// Keeps of some tables the current PMTs, each in the place of the one of its service, and answers whether there is one.
+/// Keeps the current PMTs among some tables, each in place of the one of its service, and returns whether there is one.
 fn keep_pmts(alloc: Global, pmts: &mut Pmts, tables: &[TableRun]) -> Result<bool, AllocError>
     ensures kept { OnOk result ((service : ℕ) → option_map pmt_held (get nat_eq pmts.new service)
         ≡ found_behind (current_pmt service) (option_map pmt_held (get nat_eq pmts.old service)) tables.now) }
@@ -65,8 +65,8 @@ fn keep_pmts(alloc: Global, pmts: &mut Pmts, tables: &[TableRun]) -> Result<bool
     Ok(came)
 }
 
-/// Keeps the PMT that a table is, if it is a current one, in the place of the one of its service; `came` stays, or
-/// becomes true where it is kept.
+/// Keeps the PMT that a table is, if it is a current one, in place of the one of its service. Returns `came`, or `true` if
+/// it is kept.
 fn keep_pmt(
     alloc: Global,
     pmts: &mut Pmts,

@@ -10,21 +10,21 @@ ghost use Rattle.plug_psi.specs.EditedCycles.{cycles_of, replaced};
 ghost use Rattle.plug_psi.specs.LastFound.{last_found, last_one};
 ghost use Rattle.plug_psi.specs.LastTables.{AreLast};
 
-/// What is put in a packet's place is the same by the cycles of the whole list of taken packets, those behind it
-/// too: an editor need not know what is to come. A law: it runs nothing.
+/// What is put in a packet's place is the same by the cycles of the whole list of taken packets, also of those after
+/// it. So an editor need not know what is to come. A law; it runs nothing.
 pub fn later_packets_change_nothing()
     ensures { (pid : ℕ) (edit : List (List ℕ) → Change) (taken more : List (List ℕ)) (packet : List ℕ)
         → replaced_at (cycles_of pid edit (taken ++ packet ∷ more)) (length taken) ≡ replaced pid edit taken packet }
 {}
 
 /// The contents have each key of the tables once, in the order in which the keys were first complete, with the last
-/// of its tables. A law: it runs nothing.
+/// of its tables. A law; it runs nothing.
 pub fn contents_are_last_tables()
     ensures { (tables : List (List (List ℕ))) → AreLast (entries_of tables) tables }
 {}
 
-/// What is found in the last table in which something is found is the last of all that is found: of a PAT or a PMT
-/// in force, the last one that is current and reads. A law: it runs nothing.
+/// What is found in the last table in which something is found is the last of everything that is found. For a PAT or a
+/// PMT in force, this is the last one that is current and reads. A law; it runs nothing.
 pub fn last_found_is_the_last()
     ensures { (found : List (List ℕ) → Option TableHolding) (tables : List (List (List ℕ)))
         → last_found found tables ≡ last_one (filter_map found tables) }

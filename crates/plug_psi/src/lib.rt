@@ -1,8 +1,8 @@
-//! The taken packets of a PID come in; its tables, edited and in cycles, go out in their place. Of packets of any PID,
-//! the PAT, the PMTs and the CAT in force, and the PIDs that they refer to. What edits share stands here too: tables read
-//! and sections written, descriptors with room, and values that are handed over where memory may run out.
-//! The layer above rests on `Editor::step`, by which each packet becomes the one of the definition, on `InForce`, and on
-//! `Referred`.
+//! The taken packets of a PID come in; its tables, edited and in cycles, go out in their place. From packets of any PID
+//! come the PAT, the PMTs and the CAT in force, and the PIDs that they refer to. What edits share is here too: tables are
+//! read and sections written, descriptors are kept within their room, and large values are handed over where memory may
+//! run out.
+//! The layer above uses `Editor::step`, by which each packet becomes that of the definition, `InForce`, and `Referred`.
 #![tactic(auto)]
 
 mod by_pid;

@@ -15,7 +15,7 @@ use crate::pids_of_pmt::{add_ca_pids, add_pids};
 use std::alloc::{AllocError, Global};
 use ts_psi::{Cat, Pat, PatService};
 
-/// The PIDs that the PAT, the PMTs and the CAT in force name, one as often as it is named.
+/// The PIDs that the PAT, the PMTs and the CAT in force name, each as often as it is named.
 pub(crate) fn named_pids(
     alloc: Global,
     force: &InForce,

@@ -1,4 +1,4 @@
-//! The PIDs of a service, as its PMT tells them (ISO/IEC 13818-1, 2.4.4.8 and 2.6.16).
+//! The PIDs of a service, as its PMT names them (ISO/IEC 13818-1, 2.4.4.8 and 2.6.16).
 
 ghost use Rattle.std.specs.Prelude.{◌≡◌, ◌++◌, ◌∷◌, [], IfOk, OnOk, map, option_to_list};
 ghost use Rattle.std.specs.List.{flat_map};

@@ -10,7 +10,7 @@ use std::alloc::Global;
 use ts_section::{Section, TableRun};
 use ts_table_rows::{TableFault, TableRefusal};
 
-/// A table of one kind, as a PAT or an SDT.
+/// A table of one kind, such as a PAT or an SDT.
 pub trait PsiTable: Drop {
     /// Its values as those of a table.
     ghost held: { Self → TableHolding };

@@ -1,4 +1,4 @@
-//! What follows a PID by its tables, with what reads them.
+//! What follows a PID by its tables, with the reader of these.
 
 ghost use Rattle.std.specs.Prelude.{◌≡◌, ℕ, List};
 
@@ -8,7 +8,7 @@ use std::alloc::{AllocError, Global};
 use ts_demux::PidTables;
 use ts_packet::Packet;
 
-/// What follows a PID by the tables that its packets complete, and what reads them.
+/// What follows a PID by the tables that its packets complete, and the reader of these tables.
 #[derive(Drop)]
 pub struct Reading<T: Drop> {
     pub(crate) tables: PidTables,

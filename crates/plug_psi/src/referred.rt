@@ -26,21 +26,24 @@ use ts_psi::Cat;
 /// The PID of the CAT (ISO/IEC 13818-1, 2.4.4.6).
 const CAT_PID: u16 = 1;
 
-/// The greatest of the PIDs that are referred to whatever tables are in force, PID 8191 apart
-/// (ETSI EN 300 468, 5.1.3).
+/// The greatest PID, besides 8191, that is referred to whatever tables are in force (ETSI EN 300 468, 5.1.3).
 const LAST_FIXED_PID: u16 = 31;
 
-/// Of each PID, whether it is referred to after all packets that were fed.
+/// For each PID, whether it is referred to after all packets that were fed.
 ///
-/// These PIDs are: 0 to 31, and 8191; those of the entries of the PAT in force, the network PID too; of the PMT in force
-/// of each of its services the PIDs of the components, the PCR_PID and the CA_PIDs of the CA descriptors of the program
-/// and of the components; and the CA_PIDs of the CAT in force, which is the last complete table on PID 1 that is current
-/// and reads as a CAT. `InForce` says which PAT and PMTs are in force.
+/// PIDs 0 to 31 and PID 8191 always are. The others are those that the tables in force name:
+/// - the PAT: the PIDs of its entries, the network PID too;
+/// - the PMT of each of its services: the PIDs of the components, the PCR_PID, and the CA_PIDs of the CA descriptors of the
+///   program and of the components;
+/// - the CAT: its CA_PIDs.
+///
+/// `InForce` says which PAT and PMTs are in force. The CAT in force is the last complete table on PID 1 that is current and
+/// reads as a CAT.
 #[derive(Drop)]
 pub struct Referred {
     force: InForce,
     one: Reading<KeptCat>,
-    /// The PIDs that tables name. They are made anew where another table comes into force.
+    /// The flags of the PIDs that tables name. They are set anew when another table comes into force.
     flags: PidRow<bool>,
     failed: FailureLatch,
     alloc: Global,
@@ -66,7 +69,7 @@ impl Referred {
         })
     }
 
-    /// Takes the next packet, of any PID. After `AllocError` every later call answers `AllocError`.
+    /// Processes the next packet, of any PID. After `AllocError` every later call returns `AllocError`.
     #[inline]
     pub fn feed(&mut self, packet: &Packet) -> Result<(), AllocError>
         ensures stands { OnOk result ((fed : List (List ℕ)) → StandsFor self.old fed → StandsFor self.new (fed ++ packet.now ∷ [])) }
@@ -102,7 +105,7 @@ impl Referred {
         self.one.follower.cat.as_ref()
     }
 
-    /// Takes the next packet, unless memory ran out before.
+    /// Processes the next packet, unless memory ran out before.
     #[inline]
     fn take(&mut self, packet: &Packet) -> Result<(), AllocError>
         ensures stands { OnOk result ((fed : List (List ℕ)) → StandsFor self.old fed → StandsFor self.new (fed ++ packet.now ∷ [])) }
@@ -116,7 +119,7 @@ impl Referred {
     }
 }
 
-/// Has PID 1 take a packet, if it is on it, and answers whether a CAT was kept.
+/// Passes a packet on PID 1 to the reader of that PID, and returns whether a CAT was kept.
 #[inline]
 fn take_cats(alloc: Global, one: &mut Reading<KeptCat>, packet: &Packet) -> Result<bool, AllocError>
     ensures stands { OnOk result ((fed : List (List ℕ)) → HasCat one.old fed → HasCat one.new (fed ++ packet.now ∷ [])) }
@@ -130,7 +133,7 @@ fn take_cats(alloc: Global, one: &mut Reading<KeptCat>, packet: &Packet) -> Resu
     Ok(came)
 }
 
-/// The same of a packet on PID 1.
+/// The same for a packet that is on PID 1.
 #[inline(never)]
 fn read_cats(alloc: Global, one: &mut Reading<KeptCat>, packet: &Packet) -> Result<bool, AllocError>
     requires { pid_of packet.now ≡ 1 }
@@ -150,7 +153,7 @@ fn is_fixed(pid: u16) -> bool
     pid <= LAST_FIXED_PID || pid == NULL_PID
 }
 
-/// Makes the flags anew where a table came into force.
+/// Sets the flags anew if a table came into force.
 #[inline]
 fn renew_where(
     alloc: Global,
@@ -170,7 +173,7 @@ fn renew_where(
     renew(alloc, force, one, flags)
 }
 
-/// Makes the flags anew. It takes memory as it goes, and keeps none.
+/// Sets the flags anew. It allocates memory on the way, and keeps none.
 #[inline(never)]
 fn renew(
     alloc: Global,

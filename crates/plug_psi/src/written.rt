@@ -11,10 +11,11 @@ use ts_descr::DescrRefusal;
 use ts_fields::length_of_bits;
 use ts_table_rows::written_rows_are_whole;
 
-/// The descriptor that was written; none where its body would pass 255 bytes.
+/// The descriptor that was written; `None` if its body would exceed 255 bytes.
 pub fn in_room(answer: Result<Descriptor, DescrRefusal>) -> Result<Option<Descriptor>, AllocError>
     ensures { (p : Page) (h : Holding) → Writes p h answer → IfOk result (λ descriptor. descriptor ≡ written p h) }
 {
+    // Two laws, which run nothing.
     written_rows_are_whole();
     length_of_bits();
     match answer {

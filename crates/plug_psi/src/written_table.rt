@@ -10,7 +10,7 @@ use std::alloc::AllocError;
 use ts_section::Section;
 use ts_table_rows::TableRefusal;
 
-/// The sections that were written, in place of the table; where there are none, the table stays.
+/// The sections that were written, in place of the table. If it has no sections, the table stays as it is.
 pub fn sections_or_same(answer: Result<Vec<Section>, TableRefusal>) -> Result<Edited, AllocError>
     ensures { (sections : Result (List (List ℕ)) TableRefusal) → Writes (λ v. v.items) answer sections
         → IfOk result (λ edited. edited ≡ in_place sections) }

@@ -1,11 +1,11 @@
-//! What fails for good.
+//! A latch for calls that fail for good.
 
 ghost use Rattle.std.specs.Prelude.{◌≡◌, true, false, OnOk, OnErr, IsErr};
 
 use std::alloc::AllocError;
 use std::marker::Model;
 
-/// Whether a call ran out of memory. Once it is set it stays set: every later call answers `AllocError`.
+/// Whether a call ran out of memory. Once it is set it stays set: every later call returns `AllocError`.
 #[derive(Drop)]
 pub struct FailureLatch {
     failed: bool,
@@ -39,7 +39,7 @@ impl FailureLatch {
         self.failed
     }
 
-    /// `AllocError` exactly where a call failed: the first line of each call that fails for good.
+    /// `AllocError` exactly if a call failed. It is the first line of each call that fails for good.
     #[inline]
     pub fn check(&self) -> Result<(), AllocError>
         ensures unset { OnOk result (self.now ≡ false) }
@@ -52,7 +52,7 @@ impl FailureLatch {
         Ok(())
     }
 
-    /// Hands on the answer of a call, and is set where the call failed.
+    /// Returns the result of a call unchanged, and sets the latch if the call failed.
     #[inline]
     pub fn note<T>(&mut self, answer: Result<T, AllocError>) -> Result<T, AllocError>
         ensures same { result ≡ answer }
