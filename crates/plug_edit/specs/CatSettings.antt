@@ -1,4 +1,4 @@
--- Lawful settings of `cat`.
+-- Valid settings of `cat`.
 -- ISO/IEC 13818-1, 2.6.16: a CA_system_id has 16 bits, a CA_PID has 13. This project's own rule: at most one of the two
 -- options of the version is given.
 use Rattle.std.specs.Prelude.{ℕ, ◌<◌, IsTrue}
@@ -8,7 +8,7 @@ use Rattle.plug_conf.specs.NumberSet.{AllBelow}
 use Rattle.plug_edit.specs.Versions.{IsVersion, versions_agree}
 use Rattle.plug_edit.specs.declared.cat_conf.EditCatConf.{EditCatConf}
 
--- a system and a PID
+-- a CA system and a PID
 pub record IsAddedCa (pair : ℕ × ℕ) : Type 0 where
   pub system : pair.0 < 65536
   pub pid : pair.1 < PID_COUNT

@@ -1,4 +1,4 @@
--- The words of `cat`.
+-- The options of `cat`, and its settings from their values.
 -- This project's own rule.
 use Rattle.std.specs.Prelude.{◌∷◌, List, codes, true}
 use Rattle.clap.specs.Walk.{Row}
@@ -18,7 +18,7 @@ cat_rows = pairs_row (codes "add-ca") (0, LAST_ID) (0, LAST_PID)
     ∷ record { name = codes "remove-pid"; kind = value (ranges LAST_PID) }
     ∷ version_rows
 
--- the settings of what is found
+-- the settings from the values that were found
 abbrev pub cat_settings : List Row → EditCatConf
 cat_settings found = record {
   add_ca = pairs_found (codes "add-ca") (0, LAST_ID) (0, LAST_PID) found;
@@ -28,7 +28,7 @@ cat_settings found = record {
   increment_version = has_flag (codes "increment-version") found;
 }
 
--- nothing has to be given
+-- no option has to be given
 abbrev pub cat : OptionTable EditCatConf
 cat = record {
   rows = cat_rows;

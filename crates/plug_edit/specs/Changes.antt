@@ -21,22 +21,22 @@ use Rattle.plug_edit.specs.declared.pat_conf.EditPatConf.{EditPatConf}
 use Rattle.plug_edit.specs.declared.cat_conf.EditCatConf.{EditCatConf}
 use Rattle.plug_edit.specs.declared.pmt_conf.EditPmtConf.{EditPmtConf}
 
--- of a PAT
+-- what `pat` makes of a PAT
 abbrev pub change_pat : EditPatConf → List (List ℕ) → Change
 change_pat conf run = changed_current pat_page (λ table. Some (edited_pat conf table)) (current_in (read_pat run))
 
--- of a CAT
+-- what `cat` makes of a CAT
 abbrev pub change_cat : EditCatConf → List (List ℕ) → Change
 change_cat conf run = changed_current cat_page (edited_cat conf) (current_in (read_cat run))
 
--- of a PMT
+-- what `pmt` makes of a PMT
 abbrev pub change_pmt : EditPmtConf → List (List ℕ) → Change
 change_pmt conf run = changed_current pmt_page (λ table. Some (edited_pmt conf table)) (current_in (read_run pmt_page run))
 
--- of a NIT of the actual network
+-- what `nit` makes of a NIT of the actual network
 abbrev pub change_nit : EditNitConf → List (List ℕ) → Change
 change_nit conf run = changed_current nit_page (of_id 0x40 (edited_nit conf)) (current_in (read_run nit_page run))
 
--- of an SDT of the actual transport stream
+-- what `sdt` makes of an SDT of the actual transport stream
 abbrev pub change_sdt : EditSdtConf → List (List ℕ) → Change
 change_sdt conf run = changed_current sdt_page (of_id 0x42 (edited_sdt conf)) (current_in (read_run sdt_page run))

@@ -1,7 +1,7 @@
--- One thing of a list changed, or a new one put behind the others. This project's own rule.
+-- One thing of a list changed, or a new one added after the others. This project's own rule.
 use Rattle.std.specs.Prelude.{List, [], ◌∷◌, Bool, if◌then◌else◌}
 
--- the first that passes a test is changed in its place; where none does, a new one comes last
+-- the first that passes a test is changed in its place; if none does, a new one is added last
 unfoldable pub changed_first : {A : Type 0} → (A → Bool) → (A → A) → A → List A → List A
 changed_first test change fresh [] = fresh ∷ []
 changed_first test change fresh (x ∷ xs) =

@@ -15,15 +15,15 @@ use Rattle.plug_psi.specs.EditedCycles.{replaced}
 abbrev pub is_taken : ℕ → List ℕ → Bool
 is_taken pid packet = nat_eq (pid_of packet) pid && nat_lt pid NULL_PID
 
--- whether an editor takes the packets on a PID, which goes by the PID alone
+-- whether an editor takes the packets on a PID, which depends only on the PID
 abbrev pub takes : ℕ → List (List ℕ) → Bool
 takes pid packets = nat_lt pid NULL_PID
 
--- the packets that the editor took, of the cells that it met
+-- the packets that the editor took, among the cells that it processed
 abbrev pub taken_of : ℕ → List Cell → List (List ℕ)
 taken_of pid history = taken_on takes pid (live_packets history)
 
--- a taken packet is replaced by that of the cycle of the edited contents, and all others pass
+-- a taken packet is replaced by that of the cycle of the edited contents, and all other packets pass
 abbrev pub edit_rule : ℕ → (List (List ℕ) → Change) → PluginRule
 edit_rule pid edit = silent_rule (λ history packet.
     passes (if is_taken pid packet then replaced pid edit (taken_of pid history) packet else packet))

@@ -1,4 +1,4 @@
--- Words that editors have in common.
+-- Options that editors have in common.
 -- This project's own rule.
 use Rattle.std.specs.Prelude.{ℕ, List, [], ◌∷◌, Option, codes, unwrap_or}
 use Rattle.clap.specs.Walk.{Row}
@@ -9,15 +9,15 @@ use Rattle.option_words.specs.Pairs.{pairs_of}
 use Rattle.option_words.specs.Ranges.{ranges_of}
 use Rattle.plug_edit.specs.declared.limits.TheConstants.{LAST_VERSION}
 
--- the byte `/`, which stands between two numbers
+-- the byte `/`, which separates two numbers
 abbrev pub slash : ℕ
 slash = 47
 
--- an option with a number from 0 to a most
+-- an option with a number from 0 to `most`
 abbrev pub number_row : List ℕ → ℕ → OptionRow
 number_row name most = record { name = name; kind = value (number 0 most) }
 
--- an option with pairs, of which each number has its least and its most
+-- an option with pairs of numbers, each with a least and a greatest value
 abbrev pub pairs_row : List ℕ → ℕ × ℕ → ℕ × ℕ → OptionRow
 pairs_row name first second = record { name = name; kind = value (pairs slash first second) }
 
@@ -27,14 +27,14 @@ version_rows = number_row (codes "new-version") LAST_VERSION
     ∷ record { name = codes "increment-version"; kind = flag }
     ∷ []
 
--- the number of an option, from 0 to a most
+-- the number of an option, from 0 to `most`
 abbrev pub number_found : List ℕ → ℕ → List Row → Option ℕ
 number_found name most found = read_value (number_within 0 most) name found
 
--- the pairs of an option; none where it is not given
+-- the pairs of an option; none if it is not given
 abbrev pub pairs_found : List ℕ → ℕ × ℕ → ℕ × ℕ → List Row → List (ℕ × ℕ)
 pairs_found name first second found = unwrap_or (read_value (pairs_of slash first second) name found) []
 
--- the numbers and ranges of an option, from 0 to a most; none where it is not given
+-- the numbers and ranges of an option, from 0 to `most`; none if it is not given
 abbrev pub ranges_found : List ℕ → ℕ → List Row → List (ℕ × ℕ)
 ranges_found name most found = unwrap_or (read_value (ranges_of most) name found) []

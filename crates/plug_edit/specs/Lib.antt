@@ -1,3 +1,4 @@
+-- The definitions of `pat`, `cat`, `pmt`, `sdt` and `nit`: their options, the edits of their tables, and their rule.
 pub mod Changing
 pub use Rattle.plug_psi.specs.NumbersHeld
 pub mod Versions

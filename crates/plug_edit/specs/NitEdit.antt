@@ -1,7 +1,7 @@
 -- The edit of a NIT.
 -- ETSI EN 300 468, 5.2.1 and 6.2.27: a network has descriptors, of which the network_name_descriptor has its name, and
--- transport streams. The edit is this project's own rule: streams are left out, then network_id, the name and the
--- version are set. A new network_name_descriptor stands in place of the first, or last.
+-- transport streams. The edit is this project's own rule: streams are removed, then network_id, the name and the version
+-- are set. A new network_name_descriptor replaces the first one, or is added last.
 use Rattle.std.specs.Prelude.{ℕ, Bool, false, List, [], ◌∷◌, filter, nat_eq, not, Option, Some, None, option_map, unwrap_or}
 use Rattle.ts_bits.specs.TaggedBody.{TaggedBody}
 use Rattle.ts_fields.specs.Layout.{bytes}
@@ -26,7 +26,7 @@ abbrev pub is_name : Option Typed → Bool
 is_name None = false
 is_name (Some typed) = nat_eq typed.tag network_name.tag
 
--- a descriptor is one by its bytes
+-- the bytes of a descriptor read as a network_name_descriptor
 abbrev pub is_name_descriptor : TaggedBody → Bool
 is_name_descriptor d = is_name (read_typed dvb_pages d)
 
@@ -34,11 +34,11 @@ is_name_descriptor d = is_name (read_typed dvb_pages d)
 abbrev pub name_descriptor : List ℕ → Option TaggedBody
 name_descriptor text = written network_name (fields_alone (bytes (text_bytes text) ∷ []))
 
--- a descriptor in place of the first network_name_descriptor, or last
+-- the descriptors with one that replaces the first network_name_descriptor, or comes last
 abbrev pub with_name : List TaggedBody → TaggedBody → List TaggedBody
 with_name descriptors name = changed_first is_name_descriptor (λ _. name) name descriptors
 
--- the descriptors with the name, if one is given; none where its descriptor would pass its room
+-- the descriptors with the name, if one is given; none if its descriptor would exceed 255 bytes
 abbrev pub named : Option (List ℕ) → List TaggedBody → Option (List TaggedBody)
 named None descriptors = Some descriptors
 named (Some text) descriptors = option_map (with_name descriptors) (name_descriptor text)
@@ -57,6 +57,6 @@ nit_with conf table descriptors = record {
   };
 }
 
--- a NIT after the edit; none where a descriptor would pass its room
+-- a NIT after the edit; none if a descriptor would exceed 255 bytes
 abbrev pub edited_nit : EditNitConf → TableHolding → Option TableHolding
 edited_nit conf table = option_map (nit_with conf table) (named conf.network_name table.body.descriptors)

@@ -1,4 +1,4 @@
--- Lawful settings of `nit`.
+-- Valid settings of `nit`.
 -- ETSI EN 300 468, 5.2.1: a network_id and a transport_stream_id have 16 bits. This project's own rule: at most one of
 -- the two options of the version is given.
 use Rattle.std.specs.Prelude.{◌<◌, IsTrue}

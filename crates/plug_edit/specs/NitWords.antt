@@ -1,4 +1,4 @@
--- The words of `nit`.
+-- The options of `nit`, and its settings from their values.
 -- This project's own rule.
 use Rattle.std.specs.Prelude.{◌∷◌, List, codes, true}
 use Rattle.clap.specs.Walk.{Row}
@@ -17,7 +17,7 @@ nit_rows = record { name = codes "remove-ts"; kind = value (ranges LAST_ID) }
     ∷ record { name = codes "network-name"; kind = value text }
     ∷ version_rows
 
--- the settings of what is found
+-- the settings from the values that were found
 abbrev pub nit_settings : List Row → EditNitConf
 nit_settings found = record {
   remove_ts = ranges_found (codes "remove-ts") LAST_ID found;
@@ -27,7 +27,7 @@ nit_settings found = record {
   increment_version = has_flag (codes "increment-version") found;
 }
 
--- nothing has to be given
+-- no option has to be given
 abbrev pub nit : OptionTable EditNitConf
 nit = record {
   rows = nit_rows;

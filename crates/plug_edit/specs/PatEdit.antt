@@ -1,7 +1,7 @@
 -- The edit of a PAT.
 -- ISO/IEC 13818-1, 2.4.4.3 to 2.4.4.5: program_number 0 has the network PID, each other one the PID of its PMT. The edit
--- is this project's own rule: services are left out, then others are put in, then transport_stream_id, network PID and
--- version are set. The network entry is told first.
+-- is this project's own rule: services are removed, then others are added, then transport_stream_id, network PID and
+-- version are set. The network entry comes first.
 use Rattle.std.specs.Prelude.{ℕ, ◌++◌, ◌∷◌, [], Bool, List, Option, Some, None, filter, find, fold, nat_eq, not, option_to_list, unwrap_or}
 use Rattle.ts_table_rows.specs.TableValues.{ItemHolding, TableHolding}
 use Rattle.ts_psi.specs.PatTables.{entry_item, is_network}
@@ -28,16 +28,16 @@ services_among entries = filter (λ entry. not (is_network entry)) entries
 abbrev pub without_services : List (ℕ × ℕ) → List ItemHolding → List ItemHolding
 without_services listed entries = filter (λ entry. not (has_number listed (service_of entry))) entries
 
--- a service and its PID in place of the first entry of that service, or last
+-- a service and its PID replace the first entry of that service, or come last
 abbrev pub with_service : List ItemHolding → ℕ × ℕ → List ItemHolding
 with_service entries added =
     changed_first (λ entry. nat_eq (service_of entry) added.0) (λ _. entry_item added.0 added.1) (entry_item added.0 added.1) entries
 
--- one service after another
+-- services are added one after another
 abbrev pub with_services : List ItemHolding → List (ℕ × ℕ) → List ItemHolding
 with_services entries added = fold with_service entries added
 
--- the network entry that a PID gives, or else that stands among the entries
+-- the network entry: that of a PID which is given, or else the one among the entries
 abbrev pub network_entry : Option ℕ → List ItemHolding → List ItemHolding
 network_entry None entries = option_to_list (find is_network entries)
 network_entry (Some pid) entries = entry_item 0 pid ∷ []

@@ -1,4 +1,4 @@
--- Lawful settings of `pat`.
+-- Valid settings of `pat`.
 -- ISO/IEC 13818-1, 2.4.4.5: a transport_stream_id and a program_number have 16 bits, a PID has 13. This project's own
 -- rule: a service has a number above 0, and at most one of the two options of the version is given.
 use Rattle.std.specs.Prelude.{ℕ, ◌<◌, ◌≤◌, IsTrue}

@@ -1,4 +1,4 @@
--- The words of `pat`.
+-- The options of `pat`, and its settings from their values.
 -- This project's own rule.
 use Rattle.std.specs.Prelude.{[], ◌∷◌, List, codes, true, unwrap_or}
 use Rattle.clap.specs.Walk.{Row}
@@ -20,7 +20,7 @@ pat_rows = pairs_row (codes "add-service") (1, LAST_ID) (0, LAST_PID)
     ∷ number_row (codes "nit") LAST_PID
     ∷ version_rows
 
--- the settings of what is found
+-- the settings from the values that were found
 abbrev pub pat_settings : List Row → EditPatConf
 pat_settings found = record {
   add_service = pairs_found (codes "add-service") (1, LAST_ID) (0, LAST_PID) found;
@@ -31,7 +31,7 @@ pat_settings found = record {
   increment_version = has_flag (codes "increment-version") found;
 }
 
--- nothing has to be given
+-- no option has to be given
 abbrev pub pat : OptionTable EditPatConf
 pat = record {
   rows = pat_rows;

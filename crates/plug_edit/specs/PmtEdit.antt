@@ -1,6 +1,6 @@
 -- The edit of a PMT.
 -- ISO/IEC 13818-1, 2.4.4.8: a component has a stream_type, an elementary_PID and descriptors. The edit is this project's
--- own rule: components are left out, then others are put in, then PIDs are moved, then PCR_PID and version are set.
+-- own rule: components are removed, then others are added, then PIDs are moved, then PCR_PID and version are set.
 use Rattle.std.specs.Prelude.{ℕ, Bool, List, [], ◌∷◌, filter, fold, map, nat_eq, not, unwrap_or, if◌then◌else◌}
 use Rattle.ts_fields.specs.Layout.{number}
 use Rattle.ts_table_rows.specs.TableValues.{ItemHolding, TableHolding}
@@ -12,7 +12,7 @@ use Rattle.plug_psi.specs.NumbersHeld.{number_at}
 use Rattle.plug_edit.specs.Versions.{edited_version}
 use Rattle.plug_edit.specs.declared.pmt_conf.EditPmtConf.{EditPmtConf}
 
--- a component stands on this PID
+-- a component is on this PID
 abbrev pub is_on : ℕ → Component → Bool
 is_on pid component = nat_eq component.pid pid
 
@@ -32,20 +32,20 @@ new_component type pid = record { values = number type ∷ number pid ∷ []; de
 abbrev pub without_components : List (ℕ × ℕ) → List ItemHolding → List ItemHolding
 without_components listed components = filter (λ component. not (has_number listed (component_pid component))) components
 
--- the first component of a PID gets a type; where none has the PID, a new one comes last
+-- the first component on a PID gets a type; if none is on it, a new one is added last
 abbrev pub with_component : List ItemHolding → ℕ × ℕ → List ItemHolding
 with_component components added =
     changed_first (λ component. nat_eq (component_pid component) added.0) (with_type added.1) (new_component added.1 added.0) components
 
--- one component after another
+-- components are added one after another
 abbrev pub with_components : List ItemHolding → List (ℕ × ℕ) → List ItemHolding
 with_components components added = fold with_component components added
 
--- the PID that a PID becomes where one is moved
+-- the PID that a PID becomes after one move
 abbrev pub moved : ℕ → ℕ × ℕ → ℕ
 moved pid pair = if nat_eq pid pair.0 then pair.1 else pid
 
--- the PID that it becomes where one after another is moved
+-- the PID that a PID becomes after all moves, one after another
 abbrev pub moved_by : ℕ → List (ℕ × ℕ) → ℕ
 moved_by pid pairs = fold moved pid pairs
 

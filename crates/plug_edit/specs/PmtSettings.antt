@@ -1,4 +1,4 @@
--- Lawful settings of `pmt`.
+-- Valid settings of `pmt`.
 -- ISO/IEC 13818-1, 2.4.4.9: a stream_type has eight bits, a PID has 13. This project's own rule: at most one of the two
 -- options of the version is given.
 use Rattle.std.specs.Prelude.{ℕ, ◌<◌, IsTrue}

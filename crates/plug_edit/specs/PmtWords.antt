@@ -1,4 +1,4 @@
--- The words of `pmt`.
+-- The options of `pmt`, and its settings from their values.
 -- This project's own rule.
 use Rattle.std.specs.Prelude.{◌∷◌, List, codes, unwrap_or}
 use Rattle.clap.specs.Walk.{Row}
@@ -20,7 +20,7 @@ pmt_rows = number_row (codes "pmt-pid") LAST_PID
     ∷ number_row (codes "pcr-pid") LAST_PID
     ∷ version_rows
 
--- the settings of what is found
+-- the settings from the values that were found
 abbrev pub pmt_settings : List Row → EditPmtConf
 pmt_settings found = record {
   pmt_pid = unwrap_or (number_found (codes "pmt-pid") LAST_PID found) 0;

@@ -1,6 +1,6 @@
 -- The edit of an SDT.
--- ETSI EN 300 468, 5.2.3. The edit is this project's own rule: services are left out, then one is changed, which comes
--- last as a new one where it is not there, then the version is set.
+-- ETSI EN 300 468, 5.2.3. The edit is this project's own rule: services are removed, then one is changed, or added last as
+-- a new one if it is missing, then the version is set.
 use Rattle.std.specs.Prelude.{ℕ, Bool, List, [], ◌∷◌, false, filter, find, nat_eq, not, Option, Some, None, option_map, unwrap_or}
 use Rattle.ts_fields.specs.Layout.{number}
 use Rattle.ts_table_rows.specs.RowWords.{flag}
@@ -32,11 +32,11 @@ new_service id = record {
 abbrev pub has_id : ℕ → ItemHolding → Bool
 has_id id service = nat_eq (number_at service.values 0) id
 
--- a service in place of the first of its number, or last
+-- a service replaces the first of its number, or comes last
 abbrev pub with_changed : ℕ → List ItemHolding → ItemHolding → List ItemHolding
 with_changed id services changed = changed_first (has_id id) (λ _. changed) changed services
 
--- the first service of a number changed, or a new one last; none where a descriptor would pass its room
+-- the first service of a number changed, or a new one last; none if a descriptor would exceed 255 bytes
 abbrev pub with_service : EditSdtConf → ℕ → List ItemHolding → Option (List ItemHolding)
 with_service conf id services =
     option_map (with_changed id services) (changed_service conf (unwrap_or (find (has_id id) services) (new_service id)))
@@ -53,7 +53,7 @@ sdt_with conf table services = record {
   body = record table.body { items = services };
 }
 
--- an SDT after the edit; none where a descriptor would pass its room
+-- an SDT after the edit; none if a descriptor would exceed 255 bytes
 abbrev pub edited_sdt : EditSdtConf → TableHolding → Option TableHolding
 edited_sdt conf table =
     option_map (sdt_with conf table) (with_named conf conf.service (without_services conf.remove_service table.body.items))

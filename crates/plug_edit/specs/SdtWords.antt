@@ -1,4 +1,4 @@
--- The words of `sdt`.
+-- The options of `sdt`, and its settings from their values.
 -- This project's own rule.
 use Rattle.std.specs.Prelude.{[], ◌∷◌, ◌++◌, List, codes, true}
 use Rattle.clap.specs.Walk.{Row}
@@ -10,7 +10,7 @@ use Rattle.plug_edit.specs.SdtSettings.{sdt_together}
 use Rattle.plug_edit.specs.declared.limits.TheConstants.{LAST_ID, LAST_MODE, LAST_STATUS, LAST_TYPE, LAST_VERSION}
 use Rattle.plug_edit.specs.declared.sdt_conf.EditSdtConf.{EditSdtConf}
 
--- the options on which services there are, and on a service descriptor
+-- the options that name services, and those on a service descriptor
 abbrev pub service_rows : List OptionRow
 service_rows = record { name = codes "remove-service"; kind = value (ranges LAST_ID) }
     ∷ number_row (codes "service") LAST_ID
@@ -26,7 +26,7 @@ sdt_rows = service_rows
     ∷ number_row (codes "free-ca-mode") LAST_MODE
     ∷ version_rows)
 
--- the settings of what is found
+-- the settings from the values that were found
 abbrev pub sdt_settings : List Row → EditSdtConf
 sdt_settings found = record {
   remove_service = ranges_found (codes "remove-service") LAST_ID found;
@@ -40,7 +40,7 @@ sdt_settings found = record {
   increment_version = has_flag (codes "increment-version") found;
 }
 
--- nothing has to be given; what is changed of a service needs its number
+-- no option has to be given; a change of a service needs its number
 abbrev pub sdt : OptionTable EditSdtConf
 sdt = record {
   rows = sdt_rows;

@@ -1,7 +1,7 @@
 -- What the edit of an SDT makes of one service.
 -- ETSI EN 300 468, 5.2.3 and 6.2.33: a service has flags, a running_status, free_CA_mode and descriptors, of which the
--- service_descriptor has its type, its provider and its name. Which is changed is this project's own rule: the first
--- service_descriptor that is of the standard's grammar, or else a new one, which comes last.
+-- service_descriptor has its type, its provider and its name. Which one is changed is this project's own rule: the first
+-- service_descriptor that is of the standard's grammar, or else a new one, which is added last.
 use Rattle.std.specs.Prelude.{ℕ, ◌||◌, List, [], ◌∷◌, Bool, find, is_some, nat_eq, Option, Some, None, option_map, unwrap_or, if◌then◌else◌}
 use Rattle.ts_bits.specs.TaggedBody.{TaggedBody}
 use Rattle.ts_fields.specs.Bodies.{Holding}
@@ -16,7 +16,7 @@ use Rattle.plug_psi.specs.NumbersHeld.{number_at, bytes_at}
 use Rattle.plug_psi.specs.WrittenDescriptor.{written}
 use Rattle.plug_edit.specs.declared.sdt_conf.EditSdtConf.{EditSdtConf}
 
--- the bytes of a text that is given, or else those that are held
+-- the bytes of a text that is given, or else those that the descriptor has
 abbrev pub text_or : Option (List ℕ) → List ℕ → List ℕ
 text_or None held = held
 text_or (Some text) held = text_bytes text
@@ -29,15 +29,15 @@ changed_holding conf values = fields_alone (
     ∷ bytes (text_or conf.name (bytes_at values 2))
     ∷ [])
 
--- what a new service_descriptor holds before: type 1 and empty texts
+-- what a new service_descriptor holds before the edit: type 1 and empty texts
 abbrev pub new_values : List Held
 new_values = number 1 ∷ bytes [] ∷ bytes [] ∷ []
 
--- the descriptor after the edit; none where its body would pass 255 bytes
+-- the descriptor after the edit; none if its body would exceed 255 bytes
 abbrev pub changed_descriptor : EditSdtConf → List Held → Option TaggedBody
 changed_descriptor conf values = written service (changed_holding conf values)
 
--- what a service_descriptor holds; none where a descriptor is none
+-- what a descriptor holds as a service_descriptor; none if it is not one
 abbrev pub service_values : Option Typed → Option (List Held)
 service_values None = None
 service_values (Some typed) = if nat_eq typed.tag service.tag then Some typed.holding.head else None
@@ -46,16 +46,16 @@ service_values (Some typed) = if nat_eq typed.tag service.tag then Some typed.ho
 abbrev pub is_service_descriptor : TaggedBody → Bool
 is_service_descriptor d = is_some (service_values (read_typed dvb_pages d))
 
--- what a descriptor holds as one, or a new one where there is none
+-- what a descriptor holds as a service_descriptor, or what a new one holds
 abbrev pub values_in : Option TaggedBody → List Held
 values_in None = new_values
 values_in (Some d) = unwrap_or (service_values (read_typed dvb_pages d)) new_values
 
--- a descriptor in place of the first service_descriptor, or last
+-- the descriptors with one that replaces the first service_descriptor, or comes last
 abbrev pub with_descriptor : List TaggedBody → TaggedBody → List TaggedBody
 with_descriptor descriptors changed = changed_first is_service_descriptor (λ _. changed) changed descriptors
 
--- the first service_descriptor changed, or a new one last; none where it would pass its room
+-- the first service_descriptor changed, or a new one last; none if it would exceed 255 bytes
 abbrev pub with_service_descriptor : EditSdtConf → List TaggedBody → Option (List TaggedBody)
 with_service_descriptor conf descriptors =
     option_map (with_descriptor descriptors) (changed_descriptor conf (values_in (find is_service_descriptor descriptors)))
@@ -83,6 +83,6 @@ changed_values conf values =
 abbrev pub service_with : EditSdtConf → List Held → List TaggedBody → ItemHolding
 service_with conf values descriptors = record { values = changed_values conf values; descriptors = descriptors }
 
--- a service after the edit; none where a descriptor would pass its room
+-- a service after the edit; none if a descriptor would exceed 255 bytes
 abbrev pub changed_service : EditSdtConf → ItemHolding → Option ItemHolding
 changed_service conf item = option_map (service_with conf item.values) (changed_descriptors conf item.descriptors)

@@ -4,13 +4,13 @@
 use Rattle.std.specs.Prelude.{ℕ, ◌+◌, ◌%◌, ◌<◌, Bool, true, false, Option, Some, None, not, ◌&&◌, is_some}
 use Rattle.std.specs.Option.{ForSome}
 
--- a version that is given, or one more, or the table's own
+-- the version that is given, or else the table's own, incremented if that is asked for
 abbrev pub edited_version : Option ℕ → Bool → ℕ → ℕ
 edited_version (Some given) increment version = given
 edited_version None true version = (version + 1) % 32
 edited_version None false version = version
 
--- a version is given, or it is counted on, and not both
+-- a version is given, or the version is incremented, and not both
 abbrev pub versions_agree : Option ℕ → Bool → Bool
 versions_agree given increment = not (is_some given && increment)
 

@@ -1,3 +1,5 @@
+//! The settings of `cat`.
+
 ghost use Rattle.std.specs.Prelude.{◌≡◌, IfOk};
 
 use plug_conf::{NumberSet, PairList};
@@ -6,20 +8,20 @@ use std::alloc::{AllocError, Global};
 /// Settings of `cat`, which edits the CAT on PID 1.
 #[derive(Drop)]
 pub struct EditCatConf {
-    /// CA descriptors that are put in, each a CA_system_id, 0 to 65535, and a CA_PID, without private bytes.
+    /// CA descriptors that are added, each a CA_system_id, 0 to 65535, and a CA_PID, without private bytes.
     pub add_ca: PairList,
-    /// Systems whose CA descriptors are left out.
+    /// CA systems whose CA descriptors are removed.
     pub remove_casid: NumberSet,
-    /// PIDs whose CA descriptors are left out.
+    /// CA_PIDs whose CA descriptors are removed.
     pub remove_pid: NumberSet,
-    /// The version, 0 to 31.
+    /// The new version, 0 to 31.
     pub new_version: Option<u64>,
-    /// Whether the version is one more, and 0 after 31.
+    /// Whether the version is incremented; after 31 comes 0.
     pub increment_version: bool,
 }
 
 impl EditCatConf {
-    /// Equal settings.
+    /// A copy of the settings.
     pub fn copy(&self, alloc: Global) -> Result<EditCatConf, AllocError>
         ensures { IfOk result (λ conf. conf ≡ self.now) }
     {

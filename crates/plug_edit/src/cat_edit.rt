@@ -17,8 +17,8 @@ use ts_bits::{Descriptor, DescriptorList};
 use ts_descr_mpeg::{Ca, MpegDescr};
 use ts_psi::Cat;
 
-/// A CAT after the edit of `cat`. It leaves out CA descriptors, puts others behind the rest, and sets the version. None
-/// where a descriptor would pass 255 bytes. An `AllocError` leaves nothing.
+/// A CAT after the edit of `cat`: CA descriptors are removed, others are added after the rest, and the version is set.
+/// `None` if a descriptor would exceed 255 bytes. After `AllocError` nothing of the CAT is left.
 pub fn edit_cat(alloc: Global, conf: &EditCatConf, cat: Cat) -> Result<Option<Cat>, AllocError>
     requires { IsLawfulCat conf.now }
     ensures { IfOk result (λ edited. option_map cat_held edited ≡ edited_cat conf.now (cat_held cat)) }
@@ -39,7 +39,7 @@ pub fn edit_cat(alloc: Global, conf: &EditCatConf, cat: Cat) -> Result<Option<Ca
     }))
 }
 
-/// The descriptors that stay.
+/// The descriptors that are not removed.
 fn kept_descriptors(
     alloc: Global,
     conf: &EditCatConf,
@@ -54,7 +54,7 @@ fn kept_descriptors(
     Ok(kept)
 }
 
-/// Adds a descriptor, if it stays.
+/// Appends a descriptor, unless it is removed.
 fn keep(
     alloc: Global,
     conf: &EditCatConf,
@@ -70,7 +70,7 @@ fn keep(
     Ok(())
 }
 
-/// Whether it is a CA descriptor that is left out.
+/// Whether it is a CA descriptor that is removed.
 fn is_removed(
     alloc: Global,
     conf: &EditCatConf,
@@ -87,7 +87,7 @@ fn is_removed(
     }
 }
 
-/// The descriptors with CA descriptors behind them, one after another; none where one would pass its room.
+/// The descriptors, and after them the CA descriptors that are added; `None` if one would exceed 255 bytes.
 fn with_added(
     alloc: Global,
     descriptors: Vec<Descriptor>,
@@ -106,7 +106,7 @@ fn with_added(
     Ok(Some(all))
 }
 
-/// The CA descriptor of a system and a PID, without private bytes.
+/// The CA descriptor of a CA system and a PID, without private bytes.
 fn ca_descriptor(alloc: Global, pair: &(u64, u64)) -> Result<Option<Descriptor>, AllocError>
     requires { IsAddedCa pair.now }
     ensures { IfOk result (λ descriptor. descriptor ≡ added_ca pair.now) }

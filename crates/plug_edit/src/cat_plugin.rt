@@ -10,7 +10,7 @@ use plugin_trait::Plugin;
 use std::alloc::{AllocError, Global};
 use ts_psi::Cat;
 
-/// What `cat` makes of a current CAT.
+/// The edit of `cat` for a current CAT.
 #[derive(Drop)]
 pub struct CatEdit {
     conf: EditCatConf,
@@ -38,7 +38,7 @@ impl EditPid<Current<CatEdit>> {
     ghost use Rattle.plug_edit.specs.Changes.{change_cat};
     ghost use Rattle.plug_edit.specs.EditRule.{edit_rule};
 
-    /// A plugin that met no cell yet. It takes a copy of the settings; its steps take memory.
+    /// A new plugin, which has processed no cell. It keeps a copy of the settings; its steps allocate memory.
     pub fn new(
         alloc: Global,
         conf: &EditCatConf,

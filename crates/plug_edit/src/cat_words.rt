@@ -1,3 +1,5 @@
+//! The options of `cat`, and its settings from their values.
+
 ghost use Rattle.std.specs.Prelude.{◌≡◌, IfOk, MatchResult, codes, false, true};
 ghost use Rattle.std.specs.List.{All};
 ghost use Rattle.clap.specs.Simple.{app_of};
@@ -36,7 +38,7 @@ pub fn cat_command<'a>(alloc: Global) -> Result<Command<'a>, AllocError>
     command_with(alloc, &CAT)
 }
 
-// The CA descriptors that are put in.
+// The CA descriptors that are added.
 fn added_systems(alloc: Global, found: &ParsedOptions) -> Result<PairList, Refusal>
     ensures reads { MatchResult result
         (λ list. (is_formed (pairs slash (0, LAST_ID) (0, LAST_PID)) (codes "add-ca") found.now ≡ true)

@@ -20,7 +20,7 @@ use ts_descr_dvb::{DvbDescr, Service, text_bytes};
 use ts_outside::NameText;
 use ts_si::SdtService;
 
-/// A service after the edit; none where its service_descriptor would pass 255 bytes.
+/// A service after the edit; `None` if its service_descriptor would exceed 255 bytes.
 pub fn change_service(
     alloc: Global,
     conf: &EditSdtConf,
@@ -75,7 +75,7 @@ fn scrambled_after(given: Option<u64>, held: bool) -> bool
     }
 }
 
-/// The descriptors of the service after the edit; none where one would pass 255 bytes.
+/// The descriptors of the service after the edit; `None` if one would exceed 255 bytes.
 fn changed_descriptors(
     alloc: Global,
     conf: &EditSdtConf,
@@ -91,7 +91,7 @@ fn changed_descriptors(
     Ok(descriptors)
 }
 
-/// The descriptors with the first service_descriptor changed, or a new one last.
+/// The descriptors with the first service_descriptor changed, or with a new one last if there is none.
 fn with_service_descriptor(
     alloc: Global,
     conf: &EditSdtConf,
@@ -110,7 +110,7 @@ fn with_service_descriptor(
     Ok(Some(DescriptorList::of(all)))
 }
 
-/// Where the first service_descriptor stands.
+/// The index of the first service_descriptor.
 fn place_of_service(alloc: Global, descriptors: &[Descriptor]) -> Result<Option<usize>, AllocError>
     ensures place { IfOk result (λ place. place
         ≡ position ServiceChange.is_service_descriptor descriptors.now) }
@@ -133,7 +133,7 @@ fn is_service(alloc: Global, descriptor: &Descriptor) -> Result<bool, AllocError
     Ok(service.is_some())
 }
 
-/// What a service_descriptor holds; none where a descriptor is none.
+/// What a descriptor holds as a service_descriptor; `None` if it is not one.
 fn read_service(alloc: Global, descriptor: &Descriptor) -> Result<Option<Service>, AllocError>
     ensures { IfOk result (λ service. option_map service_fields service
         ≡ ServiceChange.service_values (read_typed dvb_pages descriptor.now)) }
@@ -144,7 +144,7 @@ fn read_service(alloc: Global, descriptor: &Descriptor) -> Result<Option<Service
     }
 }
 
-/// What the service_descriptor at a place holds; a new one where there is none.
+/// What the service_descriptor at an index holds, or a new one without an index.
 fn service_at(
     alloc: Global,
     descriptors: &[Descriptor],
@@ -163,7 +163,7 @@ fn service_at(
     }
 }
 
-/// What a descriptor holds as a service_descriptor; a new one where it is none.
+/// What a descriptor holds as a service_descriptor, or a new one if it is not one.
 fn service_in(alloc: Global, descriptor: &Descriptor) -> Result<Service, AllocError>
     ensures { IfOk result (λ service. service_fields service
         ≡ ServiceChange.values_in (Some descriptor.now)) }
@@ -185,7 +185,7 @@ fn new_service_descriptor(alloc: Global) -> Service
     }
 }
 
-/// The service_descriptor after the edit; none where its body would pass 255 bytes.
+/// The service_descriptor after the edit; `None` if its body would exceed 255 bytes.
 fn changed_descriptor(
     alloc: Global,
     conf: &EditSdtConf,
@@ -219,7 +219,7 @@ fn type_after(given: Option<u64>, held: u8) -> u8
     }
 }
 
-/// The bytes of a text that is given, or else those that are held.
+/// The bytes of a text that is given, or else those that the descriptor has.
 fn text_or(alloc: Global, given: &Option<NameText>, held: Vec<u8>) -> Result<Vec<u8>, AllocError>
     ensures { IfOk result (λ bytes. bytes.items ≡ ServiceChange.text_or given.now held.items) }
 {

@@ -8,19 +8,19 @@ use plugin_trait::{Line, Outcome, Plugin, silent_report};
 use std::alloc::{AllocError, Global};
 use ts_packet::{Cell, NULL_PID};
 
-/// Puts packets of cycles of the edited contents of a PID in the place of its packets.
+/// Replaces the packets of a PID by packets of cycles of the PID's edited contents.
 ///
 /// A step on the PID may run out of memory, and then every later step on it does too.
 #[derive(Drop)]
 pub struct EditPid<E: TableEdit + Drop> {
     pid: u16,
-    /// It is not used where the PID is that of null packets.
+    /// It is not used if the PID is that of null packets.
     editor: Editor<E>,
     alloc: Global,
 }
 
 impl<E: TableEdit + Drop> EditPid<E> {
-    /// A plugin that met no cell yet. On PID 8191 nothing is edited.
+    /// A new plugin, which has processed no cell. On PID 8191 nothing is edited.
     #[tactic(auto, unfolding(ts_demux::specs::TakenWhere::taken_behind))]
     pub fn over(alloc: Global, pid: u16, edit: E) -> Result<EditPid<E>, AllocError>
         requires { pid ≤ NULL_PID }

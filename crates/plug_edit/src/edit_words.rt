@@ -1,4 +1,4 @@
-//! Words that editors have in common.
+//! Options that editors have in common.
 
 ghost use Rattle.std.specs.Prelude.{◌≡◌, ◌<◌, ◌+◌, IfOk, MatchResult, false, true};
 ghost use Rattle.std.specs.Option.{ForSome};
@@ -10,7 +10,7 @@ ghost use Rattle.plug_edit.specs.EditWords.{number_found};
 
 use option_words::{ParsedOptions, Refusal};
 
-/// The number of an option, from 0 to a most, where it is given.
+/// The number of an option, from 0 to `most`, if it is given.
 pub fn number_up_to(found: &ParsedOptions, name: &str, most: u64) -> Result<Option<u64>, Refusal>
     ensures reads { MatchResult result
         (λ n. (is_formed (number 0 most) name.now found.now ≡ true)

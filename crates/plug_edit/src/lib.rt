@@ -1,6 +1,6 @@
-//! The editors of tables in a running stream, `pat`, `cat`, `pmt`, `sdt` and `nit`, with their options: packets come in,
-//! and packets of edited tables go out. The layer above reads settings of words, makes each plugin of its settings, and
-//! uses it by the clauses of `Plugin`, which rest on the edit of each table.
+//! The editors of tables in a running stream, `pat`, `cat`, `pmt`, `sdt` and `nit`, with their options. Packets come in,
+//! and packets of edited tables go out. The layer above reads the settings from the words, makes each plugin from its
+//! settings, and uses it by the clauses of `Plugin`, which speak of the edit of each table.
 #![tactic(auto)]
 
 mod cat_conf;

@@ -1,3 +1,5 @@
+//! The settings of `nit`.
+
 ghost use Rattle.std.specs.Prelude.{◌≡◌, IfOk};
 
 use crate::texts::copy_of_text;
@@ -8,20 +10,20 @@ use ts_outside::NameText;
 /// Settings of `nit`, which edits the NIT of the actual network on PID 16.
 #[derive(Drop)]
 pub struct EditNitConf {
-    /// Transport streams that are left out.
+    /// Transport streams that are removed.
     pub remove_ts: NumberSet,
-    /// The network_id, 0 to 65535.
+    /// The new network_id, 0 to 65535.
     pub network_id: Option<u64>,
-    /// The name of the network.
+    /// The new name of the network.
     pub network_name: Option<NameText>,
-    /// The version, 0 to 31.
+    /// The new version, 0 to 31.
     pub new_version: Option<u64>,
-    /// Whether the version is one more, and 0 after 31.
+    /// Whether the version is incremented; after 31 comes 0.
     pub increment_version: bool,
 }
 
 impl EditNitConf {
-    /// Equal settings.
+    /// A copy of the settings.
     pub fn copy(&self, alloc: Global) -> Result<EditNitConf, AllocError>
         ensures { IfOk result (λ conf. conf ≡ self.now) }
     {

@@ -19,8 +19,8 @@ use ts_descr_dvb::{DvbDescr, NetworkName, text_bytes};
 use ts_outside::NameText;
 use ts_si::{Nit, NitStream, NitStreamList};
 
-/// A NIT after the edit of `nit`. It leaves out transport streams, and sets network_id, the name and the version. None
-/// where the name's descriptor would pass 255 bytes. An `AllocError` leaves nothing.
+/// A NIT after the edit of `nit`: transport streams are removed, and network_id, the name and the version are set.
+/// `None` if the name's descriptor would exceed 255 bytes. After `AllocError` nothing of the NIT is left.
 pub fn edit_nit(alloc: Global, conf: &EditNitConf, nit: Nit) -> Result<Option<Nit>, AllocError>
     requires { IsLawfulNit conf.now }
     ensures { IfOk result (λ edited. option_map nit_held edited ≡ edited_nit conf.now (nit_held nit)) }
@@ -48,7 +48,7 @@ pub fn edit_nit(alloc: Global, conf: &EditNitConf, nit: Nit) -> Result<Option<Ni
     }))
 }
 
-/// Leaves out the transport streams that are listed.
+/// Removes the transport streams that are listed.
 fn remove_streams(streams: &mut Vec<NitStream>, listed: &NumberSet)
     ensures { map stream_item streams.new.items
         ≡ without_streams listed.now (map stream_item streams.old.items) }
@@ -56,7 +56,7 @@ fn remove_streams(streams: &mut Vec<NitStream>, listed: &NumberSet)
     streams.retain(|stream| !listed.has(u64::from(stream.stream_id)));
 }
 
-/// The descriptors with the name, if one is given; none where its descriptor would pass 255 bytes.
+/// The descriptors with the name, if one is given; `None` if its descriptor would exceed 255 bytes.
 fn named(
     alloc: Global,
     conf: &EditNitConf,
@@ -70,7 +70,7 @@ fn named(
     }
 }
 
-/// The descriptors with the name.
+/// The descriptors with this name; `None` if its descriptor would exceed 255 bytes.
 fn with_name(
     alloc: Global,
     text: &NameText,
@@ -96,7 +96,7 @@ fn name_descriptor(alloc: Global, text: &NameText) -> Result<Option<Descriptor>,
     in_room(DvbDescr::NetworkName(name).write(alloc))
 }
 
-/// Where the first network_name_descriptor stands.
+/// The index of the first network_name_descriptor.
 fn place_of_name(alloc: Global, descriptors: &[Descriptor]) -> Result<Option<usize>, AllocError>
     ensures place { IfOk result (λ place. place
         ≡ position NitEdit.is_name_descriptor descriptors.now) }

@@ -10,7 +10,7 @@ use plugin_trait::Plugin;
 use std::alloc::{AllocError, Global};
 use ts_si::Nit;
 
-/// What `nit` makes of a current NIT of the actual network.
+/// The edit of `nit` for a current NIT of the actual network.
 #[derive(Drop)]
 pub struct NitEdit {
     conf: EditNitConf,
@@ -42,7 +42,7 @@ impl EditPid<Current<NitEdit>> {
     ghost use Rattle.plug_edit.specs.Changes.{change_nit};
     ghost use Rattle.plug_edit.specs.EditRule.{edit_rule};
 
-    /// A plugin that met no cell yet. It takes a copy of the settings; its steps take memory.
+    /// A new plugin, which has processed no cell. It keeps a copy of the settings; its steps allocate memory.
     pub fn new(
         alloc: Global,
         conf: &EditNitConf,

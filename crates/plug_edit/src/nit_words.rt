@@ -1,3 +1,5 @@
+//! The options of `nit`, and its settings from their values.
+
 ghost use Rattle.std.specs.Prelude.{◌≡◌, IfOk};
 ghost use Rattle.clap.specs.Simple.{app_of};
 ghost use Rattle.option_words.specs.Options.{command_of};

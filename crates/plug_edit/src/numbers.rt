@@ -1,8 +1,10 @@
+//! Numbers and PIDs that an option may give in place of those of a table.
+
 ghost use Rattle.std.specs.Prelude.{◌≡◌, ◌<◌, unwrap_or};
 ghost use Rattle.std.specs.Option.{ForSome, option_or};
 ghost use Rattle.ts_packet.specs.declared.numbers.TheConstants.{PID_COUNT};
 
-/// A number of 16 bits that is given, or else one that is held.
+/// The number of 16 bits that is given, or else that of the table.
 pub fn number_or(given: Option<u64>, held: u16) -> u16
     requires { ForSome given (λ number. number < 65536) }
     ensures { result ≡ unwrap_or given held }
@@ -13,7 +15,7 @@ pub fn number_or(given: Option<u64>, held: u16) -> u16
     }
 }
 
-/// A PID that is given, or else one that is held.
+/// The PID that is given, or else that of the table.
 pub fn pid_or(given: Option<u64>, held: u16) -> u16
     requires given { ForSome given (λ pid. pid < PID_COUNT) }
     requires held { held < PID_COUNT }
@@ -26,7 +28,7 @@ pub fn pid_or(given: Option<u64>, held: u16) -> u16
     }
 }
 
-/// A PID that is given, or else one that is held, if one is.
+/// The PID that is given, or else that of the table, if it has one.
 pub fn pid_or_held(given: Option<u64>, held: Option<u16>) -> Option<u16>
     requires given { ForSome given (λ pid. pid < PID_COUNT) }
     requires held { ForSome held (λ pid. pid < PID_COUNT) }

@@ -1,3 +1,5 @@
+//! The settings of `pat`.
+
 ghost use Rattle.std.specs.Prelude.{◌≡◌, IfOk};
 
 use plug_conf::{NumberSet, PairList};
@@ -6,22 +8,22 @@ use std::alloc::{AllocError, Global};
 /// Settings of `pat`, which edits the PAT on PID 0.
 #[derive(Drop)]
 pub struct EditPatConf {
-    /// Services that are put in, each with the PID of its PMT, one after another: services from 1 to 65535.
+    /// Services that are added one after another, each from 1 to 65535 with the PID of its PMT.
     pub add_service: PairList,
-    /// Services that are left out.
+    /// Services that are removed.
     pub remove_service: NumberSet,
-    /// The transport_stream_id, 0 to 65535.
+    /// The new transport_stream_id, 0 to 65535.
     pub ts_id: Option<u64>,
-    /// The network PID, 0 to 8191.
+    /// The new network PID, 0 to 8191.
     pub nit: Option<u64>,
-    /// The version, 0 to 31.
+    /// The new version, 0 to 31.
     pub new_version: Option<u64>,
-    /// Whether the version is one more, and 0 after 31.
+    /// Whether the version is incremented; after 31 comes 0.
     pub increment_version: bool,
 }
 
 impl EditPatConf {
-    /// Equal settings.
+    /// A copy of the settings.
     pub fn copy(&self, alloc: Global) -> Result<EditPatConf, AllocError>
         ensures { IfOk result (λ conf. conf ≡ self.now) }
     {

@@ -15,8 +15,9 @@ use plug_conf::NumberSet;
 use std::alloc::AllocError;
 use ts_psi::{Pat, PatService, PatServiceList};
 
-/// A PAT after the edit of `pat`. It leaves out services, then puts in others, each in place of the first entry of its
-/// number or last, and sets transport_stream_id, network PID and version. An `AllocError` leaves nothing.
+/// A PAT after the edit of `pat`. Services are removed, and then others are added, each in place of the first entry with
+/// its number, or last. Then transport_stream_id, network PID and version are set. After `AllocError` nothing of the PAT
+/// is left.
 pub fn edit_pat(conf: &EditPatConf, pat: Pat) -> Result<Pat, AllocError>
     requires { IsLawfulPat conf.now }
     ensures { IfOk result (λ edited. pat_held edited ≡ edited_pat conf.now (pat_held pat)) }
@@ -40,7 +41,7 @@ pub fn edit_pat(conf: &EditPatConf, pat: Pat) -> Result<Pat, AllocError>
     })
 }
 
-/// Leaves out the services that are listed.
+/// Removes the services that are listed.
 fn remove_services(services: &mut Vec<PatService>, listed: &NumberSet)
     ensures { map service_item services.new.items
         ≡ without_services listed.now (map service_item services.old.items) }
@@ -48,7 +49,7 @@ fn remove_services(services: &mut Vec<PatService>, listed: &NumberSet)
     services.retain(|service| !listed.has(u64::from(service.service_id)));
 }
 
-/// Puts in services, one after another.
+/// Adds services, one after another.
 fn add_services(services: &mut Vec<PatService>, added: &[(u64, u64)]) -> Result<(), AllocError>
     requires { All IsAddedService added.now }
     ensures { OnOk result (map service_item services.new.items
@@ -60,7 +61,7 @@ fn add_services(services: &mut Vec<PatService>, added: &[(u64, u64)]) -> Result<
     Ok(())
 }
 
-/// Puts in a service, in place of the first entry of its number or last.
+/// Adds a service, in place of the first entry with its number, or last.
 fn add_service(services: &mut Vec<PatService>, service_id: u16, pid: u16) -> Result<(), AllocError>
     requires named { 0 < service_id }
     requires in_range { pid < PID_COUNT }
@@ -72,7 +73,7 @@ fn add_service(services: &mut Vec<PatService>, service_id: u16, pid: u16) -> Res
     Ok(())
 }
 
-/// Where the first entry of a service stands.
+/// The index of the first entry of a service.
 fn place_of(services: &[PatService], service_id: u16) -> Option<usize>
     ensures place { result ≡ position (is_service service_id) services.now }
     ensures in_range { IfSome result (λ i. i < length services.now) }

@@ -10,7 +10,7 @@ use plugin_trait::Plugin;
 use std::alloc::{AllocError, Global};
 use ts_psi::Pat;
 
-/// What `pat` makes of a current PAT.
+/// The edit of `pat` for a current PAT.
 #[derive(Drop)]
 pub struct PatEdit {
     conf: EditPatConf,
@@ -39,7 +39,7 @@ impl EditPid<Current<PatEdit>> {
     ghost use Rattle.plug_edit.specs.Changes.{change_pat};
     ghost use Rattle.plug_edit.specs.EditRule.{edit_rule};
 
-    /// A plugin that met no cell yet. It takes a copy of the settings; its steps take memory.
+    /// A new plugin, which has processed no cell. It keeps a copy of the settings; its steps allocate memory.
     pub fn new(
         alloc: Global,
         conf: &EditPatConf,

@@ -1,3 +1,5 @@
+//! The options of `pat`, and its settings from their values.
+
 ghost use Rattle.std.specs.Prelude.{◌≡◌, IfOk, MatchResult, codes, false, true};
 ghost use Rattle.std.specs.List.{All};
 ghost use Rattle.clap.specs.Simple.{app_of};
@@ -37,7 +39,7 @@ pub fn pat_command<'a>(alloc: Global) -> Result<Command<'a>, AllocError>
     command_with(alloc, &PAT)
 }
 
-// The services that are put in.
+// The services that are added.
 fn added_services(alloc: Global, found: &ParsedOptions) -> Result<PairList, Refusal>
     ensures reads { MatchResult result
         (λ list. (is_formed (pairs slash (1, LAST_ID) (0, LAST_PID)) (codes "add-service") found.now ≡ true)

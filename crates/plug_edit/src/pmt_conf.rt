@@ -1,3 +1,5 @@
+//! The settings of `pmt`.
+
 ghost use Rattle.std.specs.Prelude.{◌≡◌, IfOk};
 
 use plug_conf::{NumberSet, PairList};
@@ -8,22 +10,22 @@ use std::alloc::{AllocError, Global};
 pub struct EditPmtConf {
     /// The PID of the PMTs, 0 to 8191. On 8191, the PID of null packets, nothing is edited.
     pub pmt_pid: u64,
-    /// Components that are put in, each a PID and a stream_type, 0 to 255, or the type of one that is there.
+    /// Components that are added, each a PID and a stream_type, 0 to 255. If the PID has one already, its type is set.
     pub add_pid: PairList,
-    /// PIDs whose components are left out.
+    /// PIDs whose components are removed.
     pub remove_pid: NumberSet,
-    /// PIDs of components, each with another that it becomes; so does an equal PCR_PID.
+    /// PIDs of components, each with the PID that replaces it. A PCR_PID that is equal to one is replaced too.
     pub move_pid: PairList,
-    /// The PCR_PID.
+    /// The new PCR_PID.
     pub pcr_pid: Option<u64>,
-    /// The version, 0 to 31.
+    /// The new version, 0 to 31.
     pub new_version: Option<u64>,
-    /// Whether the version is one more, and 0 after 31.
+    /// Whether the version is incremented; after 31 comes 0.
     pub increment_version: bool,
 }
 
 impl EditPmtConf {
-    /// Equal settings.
+    /// A copy of the settings.
     pub fn copy(&self, alloc: Global) -> Result<EditPmtConf, AllocError>
         ensures { IfOk result (λ conf. conf ≡ self.now) }
     {

@@ -16,8 +16,8 @@ use std::alloc::{AllocError, Global};
 use ts_bits::DescriptorList;
 use ts_psi::{Component, ComponentList, Pmt};
 
-/// A PMT after the edit of `pmt`. It leaves out components, puts others in, moves PIDs, and sets PCR_PID and version.
-/// An `AllocError` leaves nothing.
+/// A PMT after the edit of `pmt`: components are removed, others are added, PIDs are moved, and PCR_PID and version are
+/// set. After `AllocError` nothing of the PMT is left.
 pub fn edit_pmt(alloc: Global, conf: &EditPmtConf, pmt: Pmt) -> Result<Pmt, AllocError>
     requires { IsLawfulPmt conf.now }
     ensures { IfOk result (λ edited. pmt_held edited ≡ edited_pmt conf.now (pmt_held pmt)) }
@@ -45,7 +45,7 @@ pub fn edit_pmt(alloc: Global, conf: &EditPmtConf, pmt: Pmt) -> Result<Pmt, Allo
     })
 }
 
-/// Leaves out the components whose PIDs are listed.
+/// Removes the components whose PIDs are listed.
 fn remove_components(components: &mut Vec<Component>, listed: &NumberSet)
     ensures { map component_item components.new.items
         ≡ without_components listed.now (map component_item components.old.items) }
@@ -53,7 +53,7 @@ fn remove_components(components: &mut Vec<Component>, listed: &NumberSet)
     components.retain(|component| !listed.has(u64::from(component.pid)));
 }
 
-/// Puts in components, one after another.
+/// Adds components, one after another.
 fn add_components(
     alloc: Global,
     components: &mut Vec<Component>,
@@ -69,7 +69,7 @@ fn add_components(
     Ok(())
 }
 
-/// Sets the type of the first component of a PID; where none has the PID, a new one comes last.
+/// Sets the type of the first component on a PID, or adds a new component last if none is on it.
 fn add_component(
     alloc: Global,
     components: &mut Vec<Component>,
@@ -101,7 +101,7 @@ fn new_component(alloc: Global, stream_type: u8, pid: u16) -> Component
     }
 }
 
-/// Where the first component of a PID stands.
+/// The index of the first component on a PID.
 fn place_of(components: &[Component], pid: u16) -> Option<usize>
     ensures place { result ≡ position (is_on pid) components.now }
     ensures in_range { IfSome result (λ i. i < length components.now) }
@@ -143,7 +143,7 @@ fn moved_to(component: Component, pairs: &[(u64, u64)]) -> Component
     }
 }
 
-/// The PID that a PID becomes where one after another is moved.
+/// The PID that a PID becomes after all moves, one after another.
 fn moved_pid(pid: u16, pairs: &[(u64, u64)]) -> u16
     requires moves { All IsMove pairs.now }
     requires in_range { pid < PID_COUNT }
@@ -157,7 +157,7 @@ fn moved_pid(pid: u16, pairs: &[(u64, u64)]) -> u16
     becomes
 }
 
-/// The PID that it becomes where one is moved.
+/// The PID that a PID becomes after one move.
 fn moved_once(pid: u16, pair: &(u64, u64)) -> u16
     requires moves { IsMove pair.now }
     requires in_range { pid < PID_COUNT }

@@ -10,7 +10,7 @@ use plugin_trait::Plugin;
 use std::alloc::{AllocError, Global};
 use ts_psi::Pmt;
 
-/// What `pmt` makes of a current PMT.
+/// The edit of `pmt` for a current PMT.
 #[derive(Drop)]
 pub struct PmtEdit {
     conf: EditPmtConf,
@@ -39,7 +39,7 @@ impl EditPid<Current<PmtEdit>> {
     ghost use Rattle.plug_edit.specs.Changes.{change_pmt};
     ghost use Rattle.plug_edit.specs.EditRule.{edit_rule};
 
-    /// A plugin that met no cell yet. It takes a copy of the settings; its steps take memory.
+    /// A new plugin, which has processed no cell. It keeps a copy of the settings; its steps allocate memory.
     pub fn new(
         alloc: Global,
         conf: &EditPmtConf,

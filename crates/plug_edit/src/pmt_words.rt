@@ -1,3 +1,5 @@
+//! The options of `pmt`, and its settings from their values.
+
 ghost use Rattle.std.specs.Prelude.{◌≡◌, IfOk, MatchResult, codes, false, true};
 ghost use Rattle.std.specs.List.{All};
 ghost use Rattle.clap.specs.Simple.{app_of};
@@ -38,7 +40,7 @@ pub fn pmt_command<'a>(alloc: Global) -> Result<Command<'a>, AllocError>
     command_with(alloc, &PMT)
 }
 
-// The components that are put in.
+// The components that are added.
 fn added_components(alloc: Global, found: &ParsedOptions) -> Result<PairList, Refusal>
     ensures reads { MatchResult result
         (λ list. (is_formed (pairs slash (0, LAST_PID) (0, LAST_TYPE)) (codes "add-pid") found.now ≡ true)
@@ -49,7 +51,7 @@ fn added_components(alloc: Global, found: &ParsedOptions) -> Result<PairList, Re
     found.pair_list(alloc, "add-pid", '/', (0, LAST_PID), (0, LAST_TYPE))
 }
 
-// The PIDs of components that become others.
+// The PIDs of components that are replaced, each with the new one.
 fn moved_pids(alloc: Global, found: &ParsedOptions) -> Result<PairList, Refusal>
     ensures reads { MatchResult result
         (λ list. (is_formed (pairs slash (0, LAST_PID) (0, LAST_PID)) (codes "move-pid") found.now ≡ true)

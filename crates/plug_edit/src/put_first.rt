@@ -1,10 +1,12 @@
+//! A thing that replaces the first of a list that passes a test, or comes last.
+
 ghost use Rattle.std.specs.Prelude.{◌≡◌, ◌<◌, Bool, IfSome, OnOk, length};
 ghost use Rattle.std.specs.List.{position};
 ghost use Rattle.plug_edit.specs.Changing.{changed_first};
 
 use std::alloc::AllocError;
 
-/// Puts a thing in the place of the first that passes a test, or last where none does.
+/// Puts a thing in place of the first that passes a test, or last if none does. `place` is the index of that first one.
 pub fn put_first<T: Drop>(
     list: &mut Vec<T>,
     place: Option<usize>,

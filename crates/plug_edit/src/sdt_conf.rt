@@ -1,3 +1,5 @@
+//! The settings of `sdt`.
+
 ghost use Rattle.std.specs.Prelude.{◌≡◌, IfOk};
 ghost use Rattle.plug_edit.specs.SdtSettings.{changes_service, sdt_together};
 
@@ -7,31 +9,31 @@ use plug_conf::NumberSet;
 use std::alloc::{AllocError, Global};
 use ts_outside::NameText;
 
-/// Settings of `sdt`, which edits the SDT of the actual stream on PID 17.
+/// Settings of `sdt`, which edits the SDT of the actual transport stream on PID 17.
 #[derive(Drop)]
 pub struct EditSdtConf {
-    /// Services that are left out.
+    /// Services that are removed.
     pub remove_service: NumberSet,
-    /// The service that the options below change, 0 to 65535.
+    /// The service that the next five options change, 0 to 65535.
     pub service: Option<u64>,
-    /// The name of the service.
+    /// Its new name.
     pub name: Option<NameText>,
-    /// The name of its provider.
+    /// The new name of its provider.
     pub provider: Option<NameText>,
-    /// Its service_type, 0 to 255.
+    /// Its new service_type, 0 to 255.
     pub service_type: Option<u64>,
-    /// Its running_status, 0 to 7.
+    /// Its new running_status, 0 to 7.
     pub running_status: Option<u64>,
-    /// Its free_CA_mode, 0 or 1.
+    /// Its new free_CA_mode, 0 or 1.
     pub free_ca_mode: Option<u64>,
-    /// The version, 0 to 31.
+    /// The new version, 0 to 31.
     pub new_version: Option<u64>,
-    /// Whether the version is one more, and 0 after 31.
+    /// Whether the version is incremented; after 31 comes 0.
     pub increment_version: bool,
 }
 
 impl EditSdtConf {
-    /// Equal settings.
+    /// A copy of the settings.
     pub fn copy(&self, alloc: Global) -> Result<EditSdtConf, AllocError>
         ensures { IfOk result (λ conf. conf ≡ self.now) }
     {
@@ -47,7 +49,7 @@ impl EditSdtConf {
             increment_version: self.increment_version,
         })
     }
-    /// Whether something of a service is to be changed.
+    /// Whether something of a service is changed.
     fn changes_service(&self) -> bool
         ensures { result ≡ changes_service self.now }
     {
@@ -58,7 +60,7 @@ impl EditSdtConf {
             || self.free_ca_mode.is_some()
     }
 
-    /// Whether the service is named where something of it is changed, and at most one option of the version is given.
+    /// Whether a service is named if something of it is changed, and at most one option of the version is given.
     pub fn goes_together(&self) -> bool
         ensures { result ≡ sdt_together self.now }
     {

@@ -17,8 +17,8 @@ use ts_bits::DescriptorList;
 use ts_si::{Sdt, SdtService, SdtServiceList};
 use ts_table_rows::Item;
 
-/// An SDT after the edit of `sdt`. It leaves out services, changes one, which comes last where it is not there, and sets
-/// the version. None where a descriptor would pass 255 bytes. An `AllocError` leaves nothing.
+/// An SDT after the edit of `sdt`: services are removed, one is changed, or added last if it is missing, and the version
+/// is set. `None` if a descriptor would exceed 255 bytes. After `AllocError` nothing of the SDT is left.
 pub fn edit_sdt(alloc: Global, conf: &EditSdtConf, sdt: Sdt) -> Result<Option<Sdt>, AllocError>
     requires { IsLawfulSdt conf.now }
     ensures { IfOk result (λ edited. option_map sdt_held edited ≡ edited_sdt conf.now (sdt_held sdt)) }
@@ -46,7 +46,7 @@ pub fn edit_sdt(alloc: Global, conf: &EditSdtConf, sdt: Sdt) -> Result<Option<Sd
     }))
 }
 
-/// Leaves out the services that are listed.
+/// Removes the services that are listed.
 fn remove_services(services: &mut Vec<SdtService>, listed: &NumberSet)
     ensures { map service_item services.new.items
         ≡ without_services listed.now (map service_item services.old.items) }
@@ -70,7 +70,7 @@ fn with_named(
     }
 }
 
-/// The services with the first of a number changed, or a new one last.
+/// The services with the first of a number changed, or with a new one last if there is none.
 fn with_service(
     alloc: Global,
     conf: &EditSdtConf,
@@ -91,7 +91,7 @@ fn with_service(
     Ok(Some(services))
 }
 
-/// The service at a place; a new one where there is none.
+/// The service at an index, or a new one without an index.
 fn service_at(
     alloc: Global,
     services: &[SdtService],
@@ -125,7 +125,7 @@ fn fresh_service(alloc: Global, service_id: u16) -> SdtService
     }
 }
 
-/// Where the first service of a number stands.
+/// The index of the first service with a number.
 fn place_of(services: &[SdtService], id: u16) -> Option<usize>
     ensures place { result ≡ position (is_service id) services.now }
     ensures in_range { IfSome result (λ i. i < length services.now) }

@@ -10,7 +10,7 @@ use plugin_trait::Plugin;
 use std::alloc::{AllocError, Global};
 use ts_si::Sdt;
 
-/// What `sdt` makes of a current SDT of the actual transport stream.
+/// The edit of `sdt` for a current SDT of the actual transport stream.
 #[derive(Drop)]
 pub struct SdtEdit {
     conf: EditSdtConf,
@@ -42,7 +42,7 @@ impl EditPid<Current<SdtEdit>> {
     ghost use Rattle.plug_edit.specs.Changes.{change_sdt};
     ghost use Rattle.plug_edit.specs.EditRule.{edit_rule};
 
-    /// A plugin that met no cell yet. It takes a copy of the settings; its steps take memory.
+    /// A new plugin, which has processed no cell. It keeps a copy of the settings; its steps allocate memory.
     pub fn new(
         alloc: Global,
         conf: &EditSdtConf,

@@ -1,3 +1,5 @@
+//! The options of `sdt`, and its settings from their values.
+
 ghost use Rattle.std.specs.Prelude.{◌≡◌, IfOk};
 ghost use Rattle.clap.specs.Simple.{app_of};
 ghost use Rattle.option_words.specs.Options.{command_of};
@@ -12,7 +14,7 @@ use clap::Command;
 use option_words::{OptionWord, ParsedOptions, Refusal, WordsRule, command_with};
 use std::alloc::{AllocError, Global};
 
-// The options of `sdt`, of which the first five are on services and on a service descriptor.
+// The options of `sdt`. The first five are on services and on a service descriptor.
 static SDT: [OptionWord; 9] = [
     OptionWord::Value("remove-service"),
     OptionWord::Value("service"),

@@ -1,8 +1,11 @@
+//! The version of an edited table.
+
 ghost use Rattle.std.specs.Prelude.{◌≡◌, ◌<◌};
 ghost use Rattle.plug_edit.specs.Versions;
 ghost use Rattle.plug_edit.specs.Versions.{IsVersion, edited_version};
 
-/// The version of an edited table: one that is given, or one more, with 0 after 31, or its own.
+/// The version of an edited table: the one that is given, or else its own, which is incremented if that is asked for; after
+/// 31 comes 0.
 pub fn version_after(given: Option<u64>, increment: bool, version: u8) -> u8
     requires lawful { IsVersion given }
     requires in_range { version < 32 }
