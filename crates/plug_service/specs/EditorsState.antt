@@ -1,4 +1,4 @@
--- When editors stand for the packets that were met.
+-- When editors stand for the packets that were processed.
 -- This project's own rule.
 use Rattle.std.specs.Prelude.{◌≡◌, ℕ, Bool, List, Option, Some, None, if◌then◌else◌}
 use Rattle.ts_demux.specs.TablesOn.{packets_on}
@@ -14,7 +14,7 @@ use Rattle.plug_service.specs.declared.sdt_part.SdtPart.{SdtPart}
 use Rattle.plug_service.specs.declared.pmt_alone.PmtAlone.{PmtAlone}
 use Rattle.plug_service.specs.declared.editors.Editors.{Editors}
 
--- an editor of PATs, of SDTs, or of PMTs edits by this way and this service, and stands for the packets that it took
+-- an editor of PATs, of SDTs, or of PMTs edits by this way and this service, and stands for the packets that it processed
 abbrev pub EditsPats : Way → ℕ → CycleEditor PatPart → ℕ → List (List ℕ) → Type 0
 EditsPats way service editor pid taken =
     InSeededCycles (pat_change (edit_of editor).way (edit_of editor).service) (pat_change way service) editor pid taken
@@ -26,11 +26,11 @@ EditsSdts way service editor pid taken =
 abbrev pub EditsPmts : ℕ → CycleEditor PmtAlone → ℕ → List (List ℕ) → Type 0
 EditsPmts service editor pid taken = InSeededCycles (pmt_change (edit_of editor).service) (pmt_change service) editor pid taken
 
--- the packet that is left in the place of one, where one passes
+-- the packet that is left in place of another, if a packet passes
 abbrev pub left_by : Bool → List ℕ → Option (List ℕ)
 left_by passes packet = if passes then Some packet else None
 
--- the editors stand for the packets that were met
+-- the editors stand for the packets that were processed
 pub record EditorsStand (way : Way) (service : ℕ) (editors : Editors) (met : List (List ℕ)) : Type 0 where
   pub same_service : editors.alone.service ≡ service
   pub pats : EditsPats way service editors.pat 0 (packets_on 0 met)

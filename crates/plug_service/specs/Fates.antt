@@ -1,4 +1,4 @@
--- What becomes of the packets on a PID, where a service is kept or removed.
+-- What becomes of the packets on a PID if a service is kept or removed.
 -- This project's own rule, over the PAT of ISO/IEC 13818-1, 2.4.4.3 and the SDT on PID 17 of ETSI EN 300 468, 5.1.3. First
 -- come PID 0 and PID 17, whose tables are edited, then the PID of the service's PMT, then the PIDs that this PMT has.
 use Rattle.std.specs.Prelude.{ℕ, ◌==◌, ◌&&◌, Bool, true, false, not, nat_lt, List, [], count_by, Option, Some, None, if◌then◌else◌}
@@ -12,7 +12,7 @@ use Rattle.plug_service.specs.declared.way.Way.TheVariants.{Keep, Remove}
 use Rattle.plug_service.specs.declared.fate.Fate.{Fate}
 use Rattle.plug_service.specs.declared.fate.Fate.TheVariants.{EditPat, EditSdt, EditPmt, Pass, Drop}
 
--- whether a PID is the one that is told
+-- whether a PID is given, and it is this one
 abbrev pub is_at : Option ℕ → ℕ → Bool
 is_at None pid = false
 is_at (Some told) pid = told == pid
@@ -21,20 +21,20 @@ is_at (Some told) pid = told == pid
 abbrev pub edited_first : ℕ → Fate → Fate
 edited_first pid other = if pid == 0 then EditPat else (if pid == 17 then EditSdt else other)
 
--- Where a service is kept: on the PID of its PMT packets are edited, but null packets are dropped; packets on the PIDs of
--- its PMT pass, and all others are dropped.
+-- If a service is kept, packets on the PID of its PMT are edited, but null packets are dropped. Packets on the PIDs of its
+-- PMT pass, and all others are dropped.
 abbrev pub kept_fate : Bool → Bool → ℕ → Fate
 kept_fate is_of_pmt is_in_pmt pid =
     if is_of_pmt then (if pid == NULL_PID then Drop else EditPmt) else (if is_in_pmt then Pass else Drop)
 
--- Where a service is removed: packets on the PID of its PMT are dropped unless another entry of the PAT shares it; so are
--- packets on the PIDs that its PMT alone has, but for PIDs up to 31, which tables have; all others pass.
+-- If a service is removed, packets on the PID of its PMT are dropped unless another entry of the PAT shares it. So are
+-- packets on the PIDs that its PMT alone has, except PIDs up to 31, which are for tables. All others pass.
 abbrev pub removed_fate : Bool → Bool → Bool → ℕ → Fate
 removed_fate is_of_pmt is_shared is_in_pmt_alone pid =
     if is_of_pmt then (if is_shared then Pass else Drop)
     else (if nat_lt 31 pid && is_in_pmt_alone then Drop else Pass)
 
--- whether more than one entry of a PAT has the PID that is told, so that another one besides the service's first has it
+-- whether a PID is given, and more than one entry of a PAT has it, so that another one besides the service's first has it
 abbrev pub is_shared_at : Option TableHolding → Option ℕ → Bool
 is_shared_at pat None = false
 is_shared_at pat (Some pid) = nat_lt 1 (count_by (λ entry. entry.1 == pid) (services_in pat))
@@ -43,7 +43,7 @@ is_shared_at pat (Some pid) = nat_lt 1 (count_by (λ entry. entry.1 == pid) (ser
 abbrev pub is_shared : ℕ → Option TableHolding → Bool
 is_shared service pat = is_shared_at pat (pid_for pat service)
 
--- the PIDs of the PMT in force of an entry of a PAT, unless it is one of a service
+-- the PIDs of the PMT in force of an entry of a PAT; none if the entry is one of the service
 abbrev pub pids_besides : ℕ → (ℕ → Option TableHolding) → ℕ × ℕ → List ℕ
 pids_besides service pmts entry = if entry.0 == service then [] else pids_of (pmts entry.0)
 
@@ -56,14 +56,14 @@ abbrev pub is_in_pmt_alone : ℕ → Option TableHolding → (ℕ → Option Tab
 is_in_pmt_alone service pat pmts pid =
     has_pid (pids_of (pmts service)) pid && not (has_pid (other_pids service pat pmts) pid)
 
--- what becomes of packets on a PID, where this PAT and these PMTs are in force
+-- what becomes of packets on a PID if this PAT and these PMTs are in force
 abbrev pub fate_of : Way → ℕ → Option TableHolding → (ℕ → Option TableHolding) → ℕ → Fate
 fate_of Keep service pat pmts pid =
     edited_first pid (kept_fate (is_at (pid_for pat service) pid) (has_pid (pids_of (pmts service)) pid) pid)
 fate_of Remove service pat pmts pid =
     edited_first pid (removed_fate (is_at (pid_for pat service) pid) (is_shared service pat) (is_in_pmt_alone service pat pmts pid) pid)
 
--- what becomes of packets on a PID behind these packets of any PID
+-- what becomes of packets on a PID after these packets of any PID
 unfoldable pub fate_after : Way → ℕ → List (List ℕ) → ℕ → Fate
 fate_after way service packets pid = fate_of way service (pat_of packets) (λ other. pmt_of other packets) pid
 

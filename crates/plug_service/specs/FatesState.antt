@@ -15,12 +15,12 @@ use Rattle.plug_service.specs.declared.fate.Fate.TheVariants.{EditPat, EditSdt, 
 use Rattle.plug_service.specs.declared.pid_fates.PidFates.{PidFates}
 use Rattle.plug_service.specs.declared.service_follower.ServiceFollower.{ServiceFollower}
 
--- what the flag of a PID tells
+-- what the flag of a PID says
 abbrev pub told_flag : Way → ℕ → Option TableHolding → (ℕ → Option TableHolding) → ℕ → Bool
 told_flag Keep service pat pmts pid = has_pid (pids_of (pmts service)) pid
 told_flag Remove service pat pmts pid = is_in_pmt_alone service pat pmts pid
 
--- the PIDs whose flags are not set, of those of the service's PMT
+-- the PIDs whose flags are not set even if the service's PMT has them
 abbrev pub spared_pids : Way → ℕ → Option TableHolding → (ℕ → Option TableHolding) → List ℕ
 spared_pids Keep service pat pmts = []
 spared_pids Remove service pat pmts = other_pids service pat pmts
@@ -42,7 +42,7 @@ pub record FollowsService (way : Way) (service : ℕ) (follower : ServiceFollowe
   pub forced : forcing.StandsFor follower.force met
   pub fated : FatesStand follower.fates (pat_of met) (λ other. pmt_of other met)
 
--- where the packets on a PID are edited as those of PMTs, it is not that of null packets
+-- a PID whose packets are edited as those of PMTs is not that of null packets
 abbrev pub IsEditable : Fate → ℕ → Type 0
 IsEditable EditPmt pid = pid < NULL_PID
 IsEditable EditPat pid = Unit {0}

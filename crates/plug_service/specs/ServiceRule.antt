@@ -1,6 +1,6 @@
 -- The rules of `zap` and `svremove`.
--- This project's own rule, over the cycles of edited contents. What becomes of a packet goes by the PAT and the PMTs that
--- are in force at its position, the position included.
+-- This project's own rule, over the cycles of edited contents. What becomes of a packet depends on the PAT and the PMTs
+-- that are in force at its position, the position included.
 use Rattle.std.specs.Prelude.{ℕ, Bool, List, [], ◌∷◌, ◌++◌, Option, Some, None}
 use Rattle.ts_packet.specs.Cells.{live_packets}
 use Rattle.ts_packet.specs.Header.{pid_of}
@@ -19,12 +19,12 @@ use Rattle.plug_service.specs.declared.fate.Fate.TheVariants.{EditPat, EditSdt, 
 use Rattle.plug_service.specs.declared.service_conf.ServiceConf.{ServiceConf}
 
 -- Whether the packets of a PID are edited as those of the service's PMT at the last of some packets of any PID: the service
--- that is kept has its PMT there. The packets on the PID of which this is so are those that the edit of PMTs takes. On PID 0
--- and PID 17 all packets are taken, and on PID 8191 none.
+-- that is kept has its PMT there. The packets on the PID for which this holds are those that the edit of PMTs takes. On
+-- PID 0 and PID 17 all packets are taken, and on PID 8191 none.
 abbrev pub is_edited : Way → ℕ → ℕ → List (List ℕ) → Bool
 is_edited way service pid packets = edits_pmt (fate_after way service packets pid)
 
--- the packet in the place of one, by what becomes of it, behind the packets before; none where it does not pass
+-- the packet in place of another, by what becomes of that one, after the packets before; none if it does not pass
 abbrev pub made_by : Way → ℕ → Fate → List (List ℕ) → List ℕ → Option (List ℕ)
 made_by way service EditPat before packet = Some (replaced 0 (pat_change way service) (packets_on 0 before) packet)
 made_by way service EditSdt before packet = Some (replaced 17 (sdt_change way service) (packets_on 17 before) packet)
@@ -33,12 +33,12 @@ made_by way service EditPmt before packet =
 made_by way service Pass before packet = Some packet
 made_by way service Drop before packet = None
 
--- the packet in the place of one behind others
+-- the packet in place of another, after the packets before
 abbrev pub made_of : Way → ℕ → List (List ℕ) → List ℕ → Option (List ℕ)
 made_of way service before packet =
     made_by way service (fate_after way service (before ++ packet ∷ []) (pid_of packet)) before packet
 
--- a service is kept alone, or removed; what does not pass is dropped, or becomes a null packet
+-- a service is kept alone, or removed; a packet that does not pass is dropped, or becomes a null packet
 abbrev pub service_rule : Way → ℕ → Bool → PluginRule
 service_rule way service stuffing = silent_rule (λ history packet.
     fate stuffing (made_of way service (live_packets history) packet))

@@ -1,5 +1,5 @@
--- Lawful settings of `zap` and `svremove`.
--- ISO/IEC 13818-1, 2.4.4.5: a program_number has 16 bits, and 0 is none of a service.
+-- Valid settings of `zap` and `svremove`.
+-- ISO/IEC 13818-1, 2.4.4.5: a program_number has 16 bits, and 0 is not that of a service.
 use Rattle.std.specs.Prelude.{◌<◌}
 use Rattle.plug_service.specs.declared.service_conf.ServiceConf.{ServiceConf}
 

@@ -17,6 +17,6 @@ pub record Served (way : Way) (service : ℕ) (plugin : OneService) (met : List 
 abbrev pub StandsFor : OneService → List (List ℕ) → Type 0
 StandsFor plugin met = plugin.failed ≡ false → Served plugin.way plugin.service plugin met
 
--- the rule that the plugin means
+-- the rule of the plugin
 abbrev pub rule_of : OneService → PluginRule
 rule_of plugin = service_rule plugin.way plugin.service plugin.stuffing

@@ -1,4 +1,4 @@
--- The words of `zap` and `svremove`.
+-- The options of `zap` and `svremove`, and their settings from the values.
 -- This project's own rule.
 use Rattle.std.specs.Prelude.{ℕ, List, [], ◌∷◌, codes, true, unwrap_or}
 use Rattle.clap.specs.Walk.{Row}
@@ -19,7 +19,7 @@ service_rows = record { name = codes "operand"; kind = operand (number 1 LAST_SE
 abbrev pub service_found : List Row → ℕ
 service_found found = unwrap_or (read_value (number_within 1 LAST_SERVICE) (codes "operand") found) 1
 
--- the settings of what is found
+-- the settings from the values that were found
 abbrev pub service_settings : List Row → ServiceConf
 service_settings found = record { service = service_found found; stuffing = has_flag (codes "stuffing") found }
 

@@ -37,7 +37,7 @@ pub(crate) struct Editors {
 impl Editors {
     ghost use Rattle.plug_service.specs.EditorsState.{EditorsStand};
 
-    /// No packet was met.
+    /// No packet was processed.
     pub(crate) fn new(alloc: Global, way: Way, service: u16) -> Result<Editors, AllocError>
         ensures { IfOk result (λ editors. EditorsStand way service editors []) }
     {
@@ -54,8 +54,8 @@ impl Editors {
         })
     }
 
-    /// Edits a packet by its fate where it stands, and answers whether one passes in its place. What passes as it came
-    /// is not touched. The tables on PID 0 are those that the tables in force have read. After `AllocError` the packet is as it was.
+    /// Edits a packet in place by its fate, and returns whether a packet passes. A packet that passes as it came in is not
+    /// touched. The tables on PID 0 are those that the tables in force have read. After `AllocError` the packet is as it was.
     #[inline]
     pub(crate) fn edit(
         &mut self,
@@ -76,6 +76,7 @@ impl Editors {
         ensures force { OnOk result ((fed : List (List ℕ)) → Forced force.old fed → Forced force.new fed) }
         ensures as_it_was { OnErr result (packet.new ≡ packet.old) }
     {
+        // A law, which runs nothing.
         unfollowed_packets_change_nothing::<PmtEditor>();
         match fate {
             Fate::EditPat => {

@@ -1,6 +1,6 @@
-//! The plugins `zap` and `svremove`, with their options: packets of a transport stream come in; those of one service
-//! alone, or of all the others, go out, with PAT, SDT and PMTs that say so. The layer above reads settings of words,
-//! makes each plugin of its settings, and uses it by the clauses of `Plugin`.
+//! The plugins `zap` and `svremove`, with their options. Packets of a transport stream come in; those of one service
+//! alone, or of all the others, go out, with a PAT, an SDT and PMTs that match them. The layer above reads the settings
+//! from the words, makes each plugin from its settings, and uses it by the clauses of `Plugin`.
 #![tactic(auto)]
 
 mod editors;

@@ -6,7 +6,7 @@ pub(crate) const PAT_PID: u16 = 0;
 /// The PID of the SDT (ETSI EN 300 468, 5.1.3).
 pub(crate) const SDT_PID: u16 = 17;
 
-/// The greatest of the PIDs on which packets stay, though the PMT of a service that is removed has them.
+/// The greatest PID whose packets pass even if the PMT of a service that is removed has the PID.
 pub(crate) const LAST_FIXED_PID: u16 = 31;
 
 /// The greatest number of a service.

@@ -58,7 +58,7 @@ impl OneService {
         })
     }
 
-    /// Takes the next cell, and leaves in it what becomes of it.
+    /// Processes the next cell, and leaves the result in it.
     #[inline]
     pub(crate) fn step(&mut self, cell: &mut Cell) -> Outcome
         ensures tells { (history : List PlacedCell) → StandsFor self.old (live_packets history)
@@ -102,8 +102,8 @@ impl OneService {
         }
     }
 
-    /// Takes the next packet, edits it where it stands, and answers whether one passes in its place. After `AllocError`
-    /// the packet is as it was, and every later call answers `AllocError`.
+    /// Processes the next packet, edits it in place, and returns whether a packet passes. After `AllocError` the packet is
+    /// as it was, and every later call returns `AllocError`.
     #[inline]
     fn take(&mut self, packet: &mut Packet) -> Result<bool, AllocError>
         ensures made { IfOk result (λ passes. (met : List (List ℕ)) → StandsFor self.old met
@@ -121,7 +121,7 @@ impl OneService {
         Ok(passes)
     }
 
-    /// Takes the next packet, unless memory ran out before. After `AllocError` the packet is as it was.
+    /// Processes the next packet, unless memory ran out before. After `AllocError` the packet is as it was.
     #[inline]
     fn advance(&mut self, packet: &mut Packet) -> Result<bool, AllocError>
         ensures made { IfOk result (λ passes. (way : Way) (service : ℕ) (met : List (List ℕ)) → Served way service self.old met

@@ -1,4 +1,4 @@
-//! The edit of a PAT where a service is kept or removed (ISO/IEC 13818-1, 2.4.4.3).
+//! The edit of a PAT if a service is kept or removed (ISO/IEC 13818-1, 2.4.4.3).
 
 ghost use Rattle.std.specs.Prelude.{◌≡◌, ◌<◌, filter, map};
 ghost use Rattle.ts_psi.specs.PatTables.{pat_held, service_item};
@@ -11,7 +11,7 @@ use std::alloc::{AllocError, Global};
 use ts_psi::{Pat, PatService, PatServiceList};
 use ts_section::TableRun;
 
-/// Leaves out of each current PAT that reads the services that do not stay.
+/// Removes the services that do not stay from each current PAT that reads.
 #[derive(Drop)]
 pub(crate) struct PatPart {
     pub(crate) way: Way,
@@ -69,7 +69,7 @@ fn part_of_pat(way: Way, service: u16, pat: Pat) -> Pat
     }
 }
 
-/// Leaves out the services that do not stay.
+/// Removes the services that do not stay.
 fn leave_out(services: &mut Vec<PatService>, way: Way, service: u16)
     ensures { map service_item services.new.items ≡ filter (entry_stays way service) (map service_item services.old.items) }
 {

@@ -20,8 +20,8 @@ use std::alloc::{AllocError, Global};
 use ts_packet::{NULL_PID, PID_COUNT, PidRow};
 use ts_psi::PatService;
 
-/// What becomes of the packets on each PID, where a service is kept or removed, told by a look-up. It is made anew
-/// where another PAT or another PMT comes into force.
+/// What becomes of the packets on each PID if a service is kept or removed, found by a look-up. It is renewed when
+/// another PAT or another PMT comes into force.
 #[derive(Drop)]
 pub(crate) struct PidFates {
     pub(crate) way: Way,
@@ -30,14 +30,15 @@ pub(crate) struct PidFates {
     pub(crate) of_pmt: Option<u16>,
     /// Whether another entry of the PAT has that PID.
     pub(crate) shared: bool,
-    /// The PIDs of the service's PMT; where it is removed, but for those that PMTs of other services have.
+    /// The flags of the PIDs of the service's PMT. If the service is removed, PIDs that PMTs of other services have are not
+    /// among them.
     pub(crate) flags: PidRow<bool>,
 }
 
 impl PidFates {
     ghost use Rattle.plug_service.specs.FatesState.{FatesStand};
 
-    /// The fates of no tables, which are made anew before they are asked. It takes 8 KiB.
+    /// Fates without tables, which are renewed before they are used. Allocates 8 KiB.
     pub(crate) fn new(alloc: Global, way: Way, service: u16) -> Result<PidFates, AllocError>
         ensures way { IfOk result (λ fates. fates.way ≡ way) }
         ensures service { IfOk result (λ fates. fates.service ≡ service) }
@@ -67,7 +68,7 @@ impl PidFates {
         }
     }
 
-    /// Other tables are in force. It takes memory as it goes, and keeps none.
+    /// Other tables are in force. Allocates memory on the way, and keeps none.
     #[inline(never)]
     pub(crate) fn renew(&mut self, alloc: Global, force: &InForce) -> Result<(), AllocError>
         ensures stands { OnOk result ((fed : List (List ℕ)) → Forced force.now fed
@@ -85,7 +86,7 @@ impl PidFates {
     }
 }
 
-/// The fate of packets on PID 0 and PID 17, or else this one.
+/// The fate of packets on PID 0 or PID 17; on any other PID it is `other`.
 #[inline]
 fn edited_first(pid: u16, other: Fate) -> Fate
     ensures { result ≡ Fates.edited_first pid other }
@@ -99,7 +100,7 @@ fn edited_first(pid: u16, other: Fate) -> Fate
     }
 }
 
-/// The fate of packets on other PIDs, where the service is kept.
+/// The fate of packets on other PIDs, if the service is kept.
 #[inline]
 fn kept_fate(is_of_pmt: bool, is_in_pmt: bool, pid: u16) -> Fate
     requires { pid < PID_COUNT }
@@ -119,7 +120,7 @@ fn kept_fate(is_of_pmt: bool, is_in_pmt: bool, pid: u16) -> Fate
     }
 }
 
-/// The fate of packets on other PIDs, where the service is removed.
+/// The fate of packets on other PIDs, if the service is removed.
 #[inline]
 fn removed_fate(is_of_pmt: bool, is_shared: bool, is_in_pmt_alone: bool, pid: u16) -> Fate
     ensures tells { result ≡ Fates.removed_fate is_of_pmt is_shared is_in_pmt_alone pid }
@@ -145,7 +146,8 @@ fn own_pids(alloc: Global, force: &InForce, service: u16) -> Result<Vec<u16>, Al
     Ok(pids)
 }
 
-/// The PIDs that are not the service's alone: where it is removed, those of the PMTs in force of other services.
+/// The PIDs whose flags are not set even if the service's PMT has them: if the service is removed, those of the PMTs in
+/// force of other services; if it is kept, none.
 fn pids_to_spare(
     alloc: Global,
     way: Way,
@@ -172,7 +174,7 @@ fn other_pids(alloc: Global, force: &InForce, service: u16) -> Result<Vec<u16>, 
     }
 }
 
-/// The PIDs of the PMTs in force of some services but one.
+/// The PIDs of the PMTs in force of some services, except one service.
 fn pids_of_others(
     alloc: Global,
     force: &InForce,
@@ -190,7 +192,7 @@ fn pids_of_others(
     Ok(pids)
 }
 
-/// Adds the PIDs of the PMT in force of a service, unless it is this one.
+/// Adds the PIDs of the PMT in force of the service `id`, unless this is `service`.
 fn add_besides(
     alloc: Global,
     pids: &mut Vec<u16>,

@@ -1,11 +1,11 @@
-//! The edit of the PID of a PMT where its service is kept (ISO/IEC 13818-1, 2.4.4.8).
+//! The edit of the tables on the PID of a PMT if its service is kept (ISO/IEC 13818-1, 2.4.4.8).
 
 use plug_psi::{Edited, SeededEdit, TableEdit, read_current};
 use std::alloc::{AllocError, Global};
 use ts_psi::Pmt;
 use ts_section::TableRun;
 
-/// Carries the current PMT of a service as it is, where it reads, and no other table.
+/// Carries the current PMT of a service as it is, if it reads, and no other table.
 #[derive(Drop)]
 pub(crate) struct PmtAlone {
     pub(crate) service: u16,

@@ -1,4 +1,4 @@
-//! The edit of an SDT where a service is kept or removed (ETSI EN 300 468, 5.2.3).
+//! The edit of an SDT if a service is kept or removed (ETSI EN 300 468, 5.2.3).
 
 ghost use Rattle.std.specs.Prelude.{◌≡◌, IfOk, filter, map};
 ghost use Rattle.ts_si.specs.SiTables.{sdt_held, service_item};
@@ -12,8 +12,8 @@ use std::alloc::{AllocError, Global};
 use ts_section::TableRun;
 use ts_si::{Sdt, SdtService, SdtServiceList};
 
-/// Leaves out of each current SDT of the actual transport stream that reads the services that do not stay. Where a
-/// service is kept, no table but those that are current and have the table_id of such an SDT is carried.
+/// Removes the services that do not stay from each current SDT of the actual transport stream that reads. If a service is
+/// kept, only tables that are current and have the table_id of such an SDT are carried.
 #[derive(Drop)]
 pub(crate) struct SdtPart {
     pub(crate) way: Way,
@@ -48,7 +48,7 @@ impl SeededEdit for SdtPart {
     }
 }
 
-/// Leaves out of a current SDT of the actual transport stream that reads the services that do not stay.
+/// Removes the services that do not stay from a current SDT of the actual transport stream that reads.
 fn edit_sdt(alloc: Global, way: Way, service: u16, run: &TableRun) -> Result<Edited, AllocError>
     ensures { IfOk result (λ edited. edited ≡ edited_sdt way service run.now) }
 {
@@ -99,7 +99,7 @@ fn part_of_sdt(way: Way, service: u16, sdt: Sdt) -> Sdt
     }
 }
 
-/// Leaves out the services that do not stay.
+/// Removes the services that do not stay.
 fn leave_out(services: &mut Vec<SdtService>, way: Way, service: u16)
     ensures { map service_item services.new.items ≡ filter (service_stays way service) (map service_item services.old.items) }
 {

@@ -1,8 +1,10 @@
+//! The settings of `zap` and `svremove`.
+
 /// Settings of `zap` and of `svremove`.
 #[derive(Drop)]
 pub struct ServiceConf {
     /// The number of the service, 1 to 65535.
     pub service: u64,
-    /// What is not passed becomes a null packet and is not dropped.
+    /// A packet that does not pass becomes a null packet instead of being dropped.
     pub stuffing: bool,
 }

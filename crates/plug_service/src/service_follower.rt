@@ -37,7 +37,7 @@ impl ServiceFollower {
         Ok(ServiceFollower { force, fates })
     }
 
-    /// Processes the next packet, of any PID, and answers its fate.
+    /// Processes the next packet, of any PID, and returns its fate.
     #[inline]
     pub(crate) fn meet(&mut self, alloc: Global, packet: &Packet) -> Result<Fate, AllocError>
         ensures stands { OnOk result ((way : Way) (service : ℕ) (met : List (List ℕ)) → FollowsService way service self.old met
@@ -54,7 +54,7 @@ impl ServiceFollower {
     }
 }
 
-/// Makes the fates anew where tables came into force.
+/// Renews the fates if tables came into force.
 #[inline]
 fn renew_where(
     alloc: Global,

@@ -1,4 +1,4 @@
-//! The words of `zap` and `svremove`, which have the same.
+//! The options of `zap` and `svremove`, which have the same ones, and their settings from the values.
 
 ghost use Rattle.std.specs.Prelude.{◌≡◌, ◌≤◌, IfOk, MatchResult, codes, false, true};
 ghost use Rattle.clap.specs.Simple.{app_of};

@@ -13,7 +13,7 @@ use crate::way::Way;
 use plug_psi::number_and_pid;
 use ts_psi::{Pat, PatService};
 
-/// Whether more than one entry of a PAT has the PID that is told.
+/// Whether a PID is given, and more than one entry of a PAT has it.
 pub(crate) fn is_shared(pat: Option<&Pat>, told: Option<u16>) -> bool
     ensures { result ≡ is_shared_at (option_map pat_held (option_copied pat.entry)) told }
 {
@@ -38,7 +38,7 @@ fn entries_on(services: &[PatService], at: u16) -> usize
     count
 }
 
-/// Whether a PID is the one that is told.
+/// Whether a PID is given, and it is this one.
 pub(crate) fn is_at(told: Option<u16>, pid: u16) -> bool
     ensures { result ≡ Fates.is_at told pid }
 {
@@ -48,7 +48,7 @@ pub(crate) fn is_at(told: Option<u16>, pid: u16) -> bool
     }
 }
 
-/// Whether the entries of a number stay.
+/// Whether the entries with a number stay.
 pub(crate) fn stays(way: Way, service: u16, id: u16) -> bool
     ensures { result ≡ ServiceEdits.stays way service id }
 {

@@ -13,10 +13,10 @@ use ts_packet::Cell;
 
 /// Removes one service of a transport stream.
 ///
-/// PID 0 carries the PAT without the entries of this service, and PID 17 the SDT of the actual transport stream likewise;
-/// other tables there stay. Packets on the PID of the service's first entry are dropped, or become null packets, unless
-/// another entry has that PID; so are those on the PIDs above 31 of its PMT in force that no PMT in force of another
-/// service of the PAT has. All others pass.
+/// PID 0 carries the PAT without the entries of this service, and PID 17 the SDT of the actual transport stream without the
+/// service; other tables there stay. Packets on the PID of the service's first entry are dropped, or become null packets,
+/// unless another entry has that PID. The same holds for packets on those PIDs above 31 of its PMT in force that no PMT in
+/// force of another service of the PAT has. All other packets pass.
 #[derive(Drop)]
 pub struct Svremove {
     inner: OneService,
@@ -25,8 +25,8 @@ pub struct Svremove {
 impl Svremove {
     ghost use Rattle.plug_service.specs.ServiceSettings.{IsLawfulService};
 
-    /// A plugin that met no cell yet. Its steps take memory; a step on a live cell may want it, and then every later
-    /// one does.
+    /// A new plugin, which has processed no cell. Its steps allocate memory. If a step on a live cell runs out of memory,
+    /// every later one does too.
     pub fn new(alloc: Global, conf: &ServiceConf, _buffer: usize) -> Result<Svremove, AllocError>
         requires { IsLawfulService conf.now }
         ensures rule { IfOk result (λ plugin. ⟦<Svremove as Plugin>⟧.rule plugin ≡ svremove_rule conf.now) }

@@ -13,10 +13,10 @@ use ts_packet::Cell;
 
 /// Keeps one service of a transport stream, and removes all others.
 ///
-/// PID 0 carries the PAT with the entries of this service and the network entry alone, PID 17 the SDT of the actual
-/// transport stream likewise and no other table, and the PID of the service's first entry its current PMT and no other
-/// table. Packets on the PIDs of its PMT in force pass: those of components, the PCR_PID and the CA_PIDs. All others are
-/// dropped, or become null packets.
+/// PID 0 carries the PAT with only the network entry and the entries of this service. PID 17 carries the SDT of the actual
+/// transport stream with only this service, and no other table. The PID of the service's first entry carries its current
+/// PMT, and no other table. Packets on the PIDs of its PMT in force pass: those of components, the PCR_PID and the CA_PIDs.
+/// All other packets are dropped, or become null packets.
 #[derive(Drop)]
 pub struct Zap {
     inner: OneService,
@@ -25,8 +25,8 @@ pub struct Zap {
 impl Zap {
     ghost use Rattle.plug_service.specs.ServiceSettings.{IsLawfulService};
 
-    /// A plugin that met no cell yet. Its steps take memory; a step on a live cell may want it, and then every later
-    /// one does.
+    /// A new plugin, which has processed no cell. Its steps allocate memory. If a step on a live cell runs out of memory,
+    /// every later one does too.
     pub fn new(alloc: Global, conf: &ServiceConf, _buffer: usize) -> Result<Zap, AllocError>
         requires { IsLawfulService conf.now }
         ensures rule { IfOk result (λ plugin. ⟦<Zap as Plugin>⟧.rule plugin ≡ zap_rule conf.now) }
