@@ -1,3 +1,4 @@
+-- The definitions of `remap`: its options, its rule, and the tables whose PIDs are mapped.
 pub mod Targets
 pub mod MappedTables
 pub mod PidEdit

@@ -2,7 +2,7 @@
 -- ISO/IEC 13818-1, 2.4.4.3 to 2.4.4.9: a PAT names the network PID and the PIDs of PMTs, a PMT names PCR_PID and
 -- elementary_PIDs; 2.6.16: a CA_descriptor, of a CAT, a program or a component, names the CA_PID. Which tables are
 -- edited is this project's own rule: the current PATs on PID 0, the current CATs on PID 1 and the current PMTs on any
--- other PID, where they read. All other tables, and those whose edit has no sections, are carried as they are.
+-- other PID, if they read. All other tables, and those whose edit has no sections, are carried as they are.
 use Rattle.std.specs.Prelude.{ℕ, List, [], ◌∷◌, map, nat_eq, Option, Some, None, unwrap_or, if◌then◌else◌}
 use Rattle.ts_bits.specs.TaggedBody.{TaggedBody}
 use Rattle.ts_fields.specs.Bodies.{Holding}
@@ -22,7 +22,7 @@ use Rattle.plug_psi.specs.TableChange.{changed_current}
 use Rattle.plug_psi.specs.WrittenDescriptor.{written}
 use Rattle.plug_move.specs.Targets.{mapped}
 
--- what a CA descriptor holds, with its PID mapped: the system and the private bytes stay
+-- what a CA descriptor holds, with its CA_PID mapped: the CA system and the private bytes stay
 abbrev pub mapped_holding : List (ℕ × ℕ) → Holding → Holding
 mapped_holding pairs holding = fields_alone (
     number (number_at holding.head 0)
@@ -30,42 +30,42 @@ mapped_holding pairs holding = fields_alone (
     ∷ bytes (bytes_at holding.head 2)
     ∷ [])
 
--- a descriptor that was read as this, or as nothing: one of CA is written with its PID mapped, in which it is as long
--- as before, and any other stays
+-- a descriptor that was read as this, or as nothing: a CA descriptor is written with its CA_PID mapped, which does not
+-- change its length, and any other stays
 abbrev pub mapped_typed : List (ℕ × ℕ) → TaggedBody → Option Typed → TaggedBody
 mapped_typed pairs descriptor None = descriptor
 mapped_typed pairs descriptor (Some typed) =
     if nat_eq typed.tag ca.tag then unwrap_or (written ca (mapped_holding pairs typed.holding)) descriptor else descriptor
 
--- a descriptor with the PID mapped, if it is one of CA
+-- a descriptor, with its CA_PID mapped if it is a CA descriptor
 abbrev pub mapped_descriptor : List (ℕ × ℕ) → TaggedBody → TaggedBody
 mapped_descriptor pairs descriptor = mapped_typed pairs descriptor (read_typed mpeg_pages descriptor)
 
--- descriptors one after another
+-- the same for each of some descriptors
 abbrev pub mapped_descriptors : List (ℕ × ℕ) → List TaggedBody → List TaggedBody
 mapped_descriptors pairs descriptors = map (mapped_descriptor pairs) descriptors
 
--- an item of two numbers, of which the second is a PID: an entry of a PAT, or a component of a PMT
+-- an item of two numbers, of which the second is a PID, with its PIDs mapped: an entry of a PAT, or a component of a PMT
 abbrev pub mapped_item : List (ℕ × ℕ) → ItemHolding → ItemHolding
 mapped_item pairs item = record {
   values = number (number_at item.values 0) ∷ number (mapped pairs (number_at item.values 1)) ∷ [];
   descriptors = mapped_descriptors pairs item.descriptors;
 }
 
--- items one after another
+-- the same for each of some items
 abbrev pub mapped_items : List (ℕ × ℕ) → List ItemHolding → List ItemHolding
 mapped_items pairs items = map (mapped_item pairs) items
 
--- a PAT: the PID of each entry, that of the network too
+-- a PAT with the PID of each entry mapped, that of the network too
 abbrev pub mapped_pat : List (ℕ × ℕ) → TableHolding → TableHolding
 mapped_pat pairs table = record table { body = record table.body { items = mapped_items pairs table.body.items } }
 
--- a CAT: the CA_PIDs
+-- a CAT with its CA_PIDs mapped
 abbrev pub mapped_cat : List (ℕ × ℕ) → TableHolding → TableHolding
 mapped_cat pairs table =
     record table { body = record table.body { descriptors = mapped_descriptors pairs table.body.descriptors } }
 
--- a PMT: PCR_PID, the CA_PIDs of the program, and the PID and the CA_PIDs of each component
+-- a PMT with its PIDs mapped: PCR_PID, the CA_PIDs of the program, and the PID and the CA_PIDs of each component
 abbrev pub mapped_pmt : List (ℕ × ℕ) → TableHolding → TableHolding
 mapped_pmt pairs table = record table {
   body = record {
@@ -75,7 +75,7 @@ mapped_pmt pairs table = record table {
   };
 }
 
--- what becomes of a run on PID 0, on PID 1, and on the PID of a PMT
+-- what the edit makes of a run on PID 0, on PID 1, and on the PID of a PMT
 abbrev pub change_pat : List (ℕ × ℕ) → List (List ℕ) → Change
 change_pat pairs run = changed_current pat_page (λ table. Some (mapped_pat pairs table)) (current_in (read_pat run))
 
@@ -85,7 +85,7 @@ change_cat pairs run = changed_current cat_page (λ table. Some (mapped_cat pair
 abbrev pub change_pmt : List (ℕ × ℕ) → List (List ℕ) → Change
 change_pmt pairs run = changed_current pmt_page (λ table. Some (mapped_pmt pairs table)) (current_in (read_run pmt_page run))
 
--- what becomes of a run on a PID
+-- what the edit makes of a run on a PID
 abbrev pub change_on : List (ℕ × ℕ) → ℕ → List (List ℕ) → Change
 change_on pairs pid run =
     if nat_eq pid 0 then change_pat pairs run

@@ -1,4 +1,4 @@
--- When what `remap` keeps for its tables stands for the packets that it met. This project's own rule.
+-- When what `remap` keeps for its tables stands for the packets that it processed. This project's own rule.
 use Rattle.std.specs.Prelude.{◌≡◌, ℕ, Bool, false, List}
 use Rattle.std.specs.Arc.{arc_value}
 use Rattle.ts_demux.specs.PidTables as reading
@@ -18,11 +18,11 @@ use Rattle.plug_move.specs.RemapRule.{is_edited}
 use Rattle.plug_move.specs.declared.pid_edit.PidsOnTables.{PidsOnTables}
 use Rattle.plug_move.specs.declared.table_mapper.TableMapper.{TableMapper}
 
--- an editor maps PIDs by these pairs on a PID, and stands for the packets that it took
+-- an editor maps PIDs by these pairs on a PID, and stands for the packets that it processed
 abbrev pub EditsOn : List (ℕ × ℕ) → CycleEditor PidsOnTables → ℕ → List (List ℕ) → Type 0
 EditsOn pairs editor pid taken = InSeededCycles (edit_change (edit_of editor)) (change_on pairs pid) editor pid taken
 
--- the parts stand for the packets that were met
+-- the parts stand for the packets that were processed
 pub record Maps (pairs own : List (ℕ × ℕ)) (tables : InForce) (cats : PidTables) (editors : ByPid (Given (CycleEditor PidsOnTables))) (failed : Bool) (met : List (List ℕ)) : Type 0 where
   pub working : failed ≡ false
   pub same_pairs : own ≡ pairs
@@ -30,10 +30,10 @@ pub record Maps (pairs own : List (ℕ × ℕ)) (tables : InForce) (cats : PidTa
   pub cats_read : reading.StandsFor cats 1 (packets_on 1 met)
   pub edits : AllStand (GivenStands (EditsOn own)) editors is_edited met
 
--- what maps PIDs by these pairs stands for the packets that were met
+-- what maps PIDs by these pairs stands for the packets that were processed
 abbrev pub StandsFor : List (ℕ × ℕ) → TableMapper → List (List ℕ) → Type 0
 StandsFor pairs mapper met = Maps pairs (arc_value mapper.table).0 mapper.force mapper.cats mapper.editors mapper.failed met
 
--- whether memory was wanting
+-- whether memory ran out
 abbrev pub has_failed : TableMapper → Bool
 has_failed mapper = mapper.failed

@@ -15,12 +15,12 @@ use Rattle.plug_move.specs.RemapSettings.{is_target}
 use Rattle.plug_move.specs.Targets.{target_of}
 use Rattle.plug_move.specs.declared.remap_conf.RemapConf.{RemapConf}
 
--- packets that come on the PID are refused: targets are checked, it is one, and it is no source
+-- packets that come in on the PID are refused: targets are checked, the PID is one, and it is not a source
 abbrev pub is_refused : RemapConf → ℕ → Bool
 is_refused conf pid =
     not conf.unchecked && (is_target pid conf.operand && not (is_some (target_of conf.operand pid)))
 
--- a packet with the target as its PID, if there is one: that sets this field and nothing else (`with_pid-sets` of
+-- a packet with the target as its PID, if there is one; this field is set and nothing else (`with_pid-sets` of
 -- `ts_packet`)
 abbrev pub moved_to : Option ℕ → List ℕ → List ℕ
 moved_to None packet = packet
@@ -30,35 +30,35 @@ moved_to (Some target) packet = with_pid packet target
 abbrev pub is_fixed : ℕ → Bool
 is_fixed pid = nat_eq pid 0 || nat_eq pid 1
 
--- Whether the tables on a PID are edited at the last of some packets of any PID: on a fixed PID, or where a service of the
--- PAT in force there has it; never on that of null packets. The packets on the PID of which this is so are those that its
--- editor takes.
+-- Whether the tables on a PID are edited at the last of some packets of any PID: they are if the PID is fixed, or if a
+-- service of the PAT in force there has it, but never on the PID of null packets. The packets on the PID for which this
+-- holds are those that its editor takes.
 abbrev pub is_edited : ℕ → List (List ℕ) → Bool
 is_edited pid packets = is_fixed pid || follows pid packets
 
--- what the editor of the PID of a packet puts in its place, behind these packets
+-- what the editor of the PID of a packet puts in its place, after these packets
 abbrev pub edited : List (ℕ × ℕ) → List (List ℕ) → List ℕ → List ℕ
 edited pairs packets packet =
     replaced (pid_of packet) (change_on pairs (pid_of packet)) (taken_on is_edited (pid_of packet) packets) packet
 
--- what was put in, moved; a null packet that was put in stays one
+-- a packet that was put in, moved; a null packet that was put in is not moved
 abbrev pub moved_edited : Option ℕ → List ℕ → List ℕ
 moved_edited target packet = if pid_of packet == NULL_PID then packet else moved_to target packet
 
--- a packet edited and moved, behind these packets; the PAT in force is that of its own position
+-- a packet edited and moved, after these packets; the PAT in force is that of its own position
 abbrev pub with_tables : List (ℕ × ℕ) → List (List ℕ) → List ℕ → List ℕ
 with_tables pairs packets packet =
     if is_edited (pid_of packet) (packets ++ packet ∷ [])
     then moved_edited (target_of pairs (pid_of packet)) (edited pairs packets packet)
     else moved_to (target_of pairs (pid_of packet)) packet
 
--- what goes on in the place of a packet that is not refused
+-- a packet that is not refused, edited and moved
 abbrev pub mapped_packet : RemapConf → List (List ℕ) → List ℕ → List ℕ
 mapped_packet conf packets packet =
     if conf.no_psi then moved_to (target_of conf.operand (pid_of packet)) packet
     else with_tables conf.operand packets packet
 
--- Whether a packet is refused is asked of its PID as it comes, before anything else.
+-- Whether a packet is refused depends on the PID with which it comes in, and is decided before anything else.
 abbrev pub remap_rule : RemapConf → PluginRule
 remap_rule conf = silent_rule (λ history packet.
     if is_refused conf (pid_of packet) then refuses (Pid (pid_of packet))

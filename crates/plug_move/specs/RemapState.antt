@@ -16,27 +16,27 @@ use Rattle.plug_move.specs.declared.table_mapper.TableMapper.{TableMapper}
 abbrev pub conf_of : Remap → RemapConf
 conf_of s = record { operand = s.table.0; no_psi = is_none s.tables; unchecked = s.table.1 }
 
--- what edits tables, if there is such, stands for the packets that were met, unless memory was wanting
+-- what edits tables, if anything does, stands for the packets that were processed, unless memory ran out
 abbrev pub MapperStands : List (ℕ × ℕ) → Option TableMapper → List (List ℕ) → Type 0
 MapperStands pairs None met = Unit {0}
 MapperStands pairs (Some mapper) met = has_failed mapper ≡ false → StandsFor pairs mapper met
 
--- the same of the cells that were met
+-- the same for the cells that were processed
 abbrev pub TablesStand : List (ℕ × ℕ) → Option TableMapper → List Cell → Type 0
 TablesStand pairs tables history = MapperStands pairs tables (live_packets history)
 
--- memory was wanting
+-- memory ran out
 abbrev pub HasFailed : Option TableMapper → Type 0
 HasFailed None = ⊥
 HasFailed (Some mapper) = has_failed mapper ≡ true
 
--- room for so many positions was taken before the run where no tables are edited
+-- room for so many positions was allocated before the run, if no tables are edited
 abbrev pub room_of : Option TableMapper → ℕ → Option ℕ
 room_of None buffer = Some buffer
 room_of (Some mapper) buffer = None
 
--- what was made of a packet with this target or none, and that what edits tables met it; or memory was wanting for the
--- first time or again, and the packet is as it was
+-- either a packet with this target or none was edited and moved, and what edits tables has processed it; or memory ran
+-- out, now or before, and the packet is as it was
 abbrev pub GoesOn : Option TableMapper → Option TableMapper → Option ℕ → List ℕ → List ℕ → Outcome → Type 0
 GoesOn old new target packet made Pass =
     (pairs : List (ℕ × ℕ)) (met : List (List ℕ)) → MapperStands pairs old met

@@ -1,4 +1,4 @@
--- The words of `remap`.
+-- The options of `remap`, and its settings from their values.
 -- This project's own rule.
 use Rattle.std.specs.Prelude.{ℕ, ◌==◌, List, [], ◌∷◌, Option, codes, filter_map, length, not}
 use Rattle.clap.specs.Walk.{Row}
@@ -28,7 +28,7 @@ remap_rows = record {
     ∷ record { name = codes "unchecked"; kind = flag }
     ∷ []
 
--- the settings of what is found
+-- the settings from the values that were found
 abbrev pub remap_settings : List Row → RemapConf
 remap_settings found = record {
   operand = filter_map pid_pair_of (values_of (codes "operand") found);
@@ -36,7 +36,7 @@ remap_settings found = record {
   unchecked = has_flag (codes "unchecked") found;
 }
 
--- a pair has to be given
+-- at least one pair has to be given
 abbrev pub remap : OptionTable RemapConf
 remap = record {
   rows = remap_rows;

@@ -11,7 +11,7 @@ use std::alloc::{AllocError, Global};
 use ts_psi::Cat;
 use ts_section::TableRun;
 
-/// What becomes of a run on PID 1: of a current CAT that reads the sections of the mapped one.
+/// Edits a run on PID 1: a current CAT that reads is replaced by the sections of the mapped one.
 pub(crate) fn edit_cat(
     alloc: Global,
     table: &MoveTable,

@@ -11,7 +11,7 @@ use std::alloc::{AllocError, Global};
 use ts_bits::{Descriptor, DescriptorList};
 use ts_descr_mpeg::{Ca, MpegDescr};
 
-/// The descriptors with the PIDs of those of CA mapped.
+/// The descriptors, with the CA_PIDs of CA descriptors mapped.
 pub(crate) fn map_descriptors(
     alloc: Global,
     table: &MoveTable,
@@ -26,7 +26,7 @@ pub(crate) fn map_descriptors(
     Ok(DescriptorList::of(mapped))
 }
 
-/// A descriptor with its PID mapped, if it is one of CA.
+/// A descriptor, with its CA_PID mapped if it is a CA descriptor.
 fn map_descriptor(
     alloc: Global,
     table: &MoveTable,
@@ -43,7 +43,7 @@ fn map_descriptor(
     }
 }
 
-/// The fields of a CA descriptor with its PID mapped.
+/// The fields of a CA descriptor with its CA_PID mapped.
 fn map_ca(table: &MoveTable, ca: Ca) -> Ca
     ensures { fields_alone (ca_fields result) ≡ mapped_holding table.now.0 (fields_alone (ca_fields ca)) }
 {

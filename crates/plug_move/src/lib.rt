@@ -1,5 +1,6 @@
-//! The plugin that moves packets to other PIDs, and with them the PIDs that tables name, with its options: `remap`.
-//! The layer above reads settings of words, makes it of its settings, and uses it by the clauses of `Plugin`.
+//! The plugin `remap`, with its options. Packets come in, and go out on other PIDs; the PIDs that tables name change with
+//! them. The layer above reads the settings from the words, makes the plugin from them, and uses it by the clauses of
+//! `Plugin`.
 #![tactic(auto)]
 
 mod cat_pids;

@@ -1,3 +1,5 @@
+//! What `remap` does with the packets on each PID.
+
 ghost use Rattle.std.specs.Prelude.{◌≡◌, ◌<◌, ◌&&◌, not, IfOk, IfSome, List, ℕ};
 ghost use Rattle.std.specs.List.{All};
 ghost use Rattle.plug_move.specs.RemapSettings.{IsPidPair, is_target};

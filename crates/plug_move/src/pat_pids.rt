@@ -12,7 +12,7 @@ use std::alloc::{AllocError, Global};
 use ts_psi::{Pat, PatService, PatServiceList};
 use ts_section::TableRun;
 
-/// What becomes of a run on PID 0: of a current PAT that reads the sections of the mapped one.
+/// Edits a run on PID 0: a current PAT that reads is replaced by the sections of the mapped one.
 pub(crate) fn edit_pat(
     alloc: Global,
     table: &MoveTable,

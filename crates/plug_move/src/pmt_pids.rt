@@ -11,7 +11,7 @@ use std::alloc::{AllocError, Global};
 use ts_psi::{Component, ComponentList, Pmt};
 use ts_section::TableRun;
 
-/// What becomes of a run on the PID of a PMT: of a current PMT that reads the section of the mapped one.
+/// Edits a run on the PID of a PMT: a current PMT that reads is replaced by the section of the mapped one.
 pub(crate) fn edit_pmt(
     alloc: Global,
     table: &MoveTable,

@@ -1,3 +1,5 @@
+//! The plugin `remap`.
+
 ghost use Rattle.std.specs.Prelude.{◌≡◌, ◌<◌, IfOk, [], None, Some, is_none, if◌then◌else◌};
 ghost use Rattle.std.specs.Option.{ForSome};
 ghost use Rattle.ts_packet.specs.declared.numbers.TheConstants.{PID_COUNT};
@@ -12,10 +14,11 @@ use plugin_trait::{Line, Outcome, Plugin, Reason, silent_report};
 use std::alloc::{AllocError, Global};
 use ts_packet::{Cell, PID_COUNT, Packet};
 
-/// Moves packets to other PIDs, and refuses those that are on a PID which others are moved to. Unless tables are left as
-/// they are, the PIDs that PAT, CAT and PMTs name are mapped too.
+/// Moves packets to other PIDs. Unless targets are unchecked, it refuses a packet that comes in on a target which is not a
+/// source. Unless tables are left as they are, the PIDs that PAT, CAT and PMTs name are mapped too.
 ///
-/// With tables a step may want memory, and then every later step does, unless its packet is refused.
+/// If tables are edited, a step may run out of memory. Then every later step on a live cell does too, unless its packet is
+/// refused.
 #[derive(Drop)]
 pub struct Remap {
     table: MoveTable,
@@ -27,8 +30,8 @@ pub struct Remap {
 }
 
 impl Remap {
-    /// A plugin that met no cell yet. It takes room for its table of PIDs; its steps take none where tables are left
-    /// as they are.
+    /// A new plugin, which has processed no cell. It allocates its table of PIDs; its steps allocate nothing if tables are
+    /// left as they are.
     pub fn new(alloc: Global, conf: &RemapConf, buffer: usize) -> Result<Remap, AllocError>
         requires { IsLawfulRemap conf.now }
         ensures rule { IfOk result (λ plugin. ⟦<Remap as Plugin>⟧.rule plugin ≡ remap_rule conf.now) }
@@ -96,7 +99,7 @@ impl Plugin for Remap {
     ghost starts_open = { λ plugin history mark stands. refl };
 }
 
-/// What edits tables, unless they are left as they are.
+/// The mapper that edits tables; `None` if they are left as they are.
 fn tables_of(alloc: Global, conf: &RemapConf) -> Result<Option<TableMapper>, AllocError>
     requires { IsLawfulRemap conf.now }
     ensures none { IfOk result (λ tables. is_none tables ≡ conf.now.no_psi) }
@@ -109,7 +112,7 @@ fn tables_of(alloc: Global, conf: &RemapConf) -> Result<Option<TableMapper>, All
     Ok(Some(mapper))
 }
 
-/// Makes of a packet that is not refused what goes on in its place.
+/// Edits and moves a packet that is not refused.
 #[inline]
 fn go_on(tables: &mut Option<TableMapper>, packet: &mut Packet, target: Option<u16>) -> Outcome
     requires { ForSome target (λ pid. pid < PID_COUNT) }

@@ -1,3 +1,5 @@
+//! The settings of `remap`.
+
 ghost use Rattle.std.specs.Prelude.{◌≡◌};
 ghost use Rattle.plug_move.specs.RemapSettings.{is_source, is_target, pairs_agree, sources_differ, targets_differ};
 
@@ -9,17 +11,17 @@ use ts_packet::NULL_PID;
 /// The sources differ and none is 8191. Unless `unchecked` is set the targets differ too.
 #[derive(Drop)]
 pub struct RemapConf {
-    /// A source and its target each, 1 to 1,000 of them.
+    /// 1 to 1,000 pairs of a source and its target.
     pub operand: PairList,
-    /// Tables are left as they are. Otherwise the PIDs in PAT, CAT and PMTs are given the others too.
+    /// Tables are left as they are. Otherwise the PIDs in PAT, CAT and PMTs are mapped too.
     pub no_psi: bool,
-    /// A target may repeat, and may be in use.
+    /// Targets may be equal, and packets may come in on them.
     pub unchecked: bool,
 }
 
 impl RemapConf {
     /// Whether there are at most 1,000 pairs, whose sources differ and are not 8191, and whose
-    /// targets differ where they are checked.
+    /// targets differ unless they are unchecked.
     pub fn has_agreeing_pairs(&self) -> bool
         ensures { result ≡ pairs_agree self.now }
     {

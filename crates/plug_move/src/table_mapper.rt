@@ -35,8 +35,8 @@ type PidEditor = Given<CycleEditor<PidsOnTables>>;
 
 /// Maps the PIDs in PAT, CAT and PMTs of a stream, and moves its packets.
 ///
-/// It holds the tables in force, which read PID 0 and the PIDs of PMTs, what reads the CATs, and for each PID with edited
-/// tables what its editor holds.
+/// It keeps the tables in force, which read PID 0 and the PIDs of PMTs, the reader of the CATs, and the editor of each PID
+/// with edited tables.
 #[derive(Drop)]
 pub(crate) struct TableMapper {
     table: Arc<MoveTable>,
@@ -69,8 +69,8 @@ impl TableMapper {
         })
     }
 
-    /// Takes the next packet, whose PID has this target or none, and makes of it what goes on in its place. After
-    /// `AllocError` the packet is as it was, and every later call answers `AllocError`.
+    /// Processes the next packet, whose PID has this target or none: edits and moves it. After `AllocError` the packet is as
+    /// it was, and every later call returns `AllocError`.
     pub(crate) fn step(
         &mut self,
         packet: &mut Packet,
@@ -91,7 +91,7 @@ impl TableMapper {
         Ok(())
     }
 
-    /// Takes the next packet, unless memory ran out before.
+    /// Processes the next packet, unless memory ran out before.
     fn advance(&mut self, packet: &mut Packet, target: Option<u16>) -> Result<(), AllocError>
         requires { ForSome target (λ pid. pid < PID_COUNT) }
         ensures mapped { OnOk result ((pairs : List (ℕ × ℕ)) (met : List (List ℕ)) → StandsFor pairs self.old met
@@ -101,6 +101,7 @@ impl TableMapper {
         ensures as_it_was { OnErr result (packet.new ≡ packet.old) }
         ensures same_failed { has_failed self.new ≡ has_failed self.old }
     {
+        // A law, which runs nothing.
         unfollowed_packets_change_nothing::<PidEditor>();
         let tables = tables_with(&mut self.force, &mut self.cats, packet)?;
         let Some(tables) = tables else {
@@ -114,7 +115,7 @@ impl TableMapper {
     }
 }
 
-/// Gives a packet the target as its PID, if there is one.
+/// Sets the PID of a packet to the target, if there is one.
 pub(crate) fn move_to(packet: &mut Packet, target: Option<u16>)
     requires { ForSome target (λ pid. pid < PID_COUNT) }
     ensures { packet.new ≡ moved_to target packet.old }
@@ -124,7 +125,7 @@ pub(crate) fn move_to(packet: &mut Packet, target: Option<u16>)
     }
 }
 
-/// The same of a packet that an editor put in, unless it is a null packet.
+/// The same for a packet that an editor put in, unless it is a null packet.
 fn move_edited(packet: &mut Packet, target: Option<u16>)
     requires { ForSome target (λ pid. pid < PID_COUNT) }
     ensures { packet.new ≡ moved_edited target packet.old }
@@ -135,8 +136,8 @@ fn move_edited(packet: &mut Packet, target: Option<u16>)
     move_to(packet, target);
 }
 
-/// The tables that a packet completes on its PID, where these are edited. Each is read once: the PATs and PMTs are those
-/// that the tables in force have read.
+/// The tables that a packet completes on its PID, if the tables there are edited. Each is read once: the PATs and PMTs are
+/// those that the tables in force have read.
 fn tables_with(
     force: &mut InForce,
     cats: &mut PidTables,
