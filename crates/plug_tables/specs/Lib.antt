@@ -1,3 +1,4 @@
+-- The definitions of `tables`: its options, its rule and its state.
 pub mod TableReaderState
 pub mod TablesRule
 pub mod TablesSettings

@@ -13,7 +13,7 @@ use Rattle.plug_conf.specs.Selection.{is_selected}
 use Rattle.plug_tables.specs.declared.tables_conf.TablesConf.{TablesConf}
 use Rattle.plug_tables.specs.WatchedPackets.{Choice, tables_with, usual}
 
--- the choice that settings make
+-- the choice of PIDs that the settings make
 abbrev pub choice_of : List (ℕ × ℕ) → Choice
 choice_of pids = if length pids == 0 then usual else record { listed = pids; follows = false }
 
@@ -22,7 +22,7 @@ abbrev pub id_of : List (List ℕ) → ℕ
 id_of [] = 0
 id_of (section ∷ sections) = table_id_of section
 
--- the table is one of those that are told
+-- the table is one of those that are reported
 abbrev pub is_told : List (ℕ × ℕ) → List (List ℕ) → Bool
 is_told tids table = is_selected tids false (id_of table)
 
@@ -38,12 +38,12 @@ table_text at pid table = codes "packet " ++ (decimal at ++ (codes " pid " ++ (d
 abbrev pub table_texts : List (ℕ × ℕ) → ℕ → ℕ → List (List (List ℕ)) → List (List ℕ)
 table_texts tids at pid tables = map (table_text at pid) (filter (is_told tids) tables)
 
--- the lines of a packet behind a history
+-- the lines of a packet after a history
 abbrev pub lines_on : Choice → List (ℕ × ℕ) → List Cell → List ℕ → List (List ℕ)
 lines_on choice tids history packet =
     table_texts tids (length history) (pid_of packet) (tables_with choice (live_packets history) packet)
 
--- every packet passes, and each table that is told has its line at the packet that completes it
+-- every packet passes, and each table that is reported has its line at the packet that completes it
 abbrev pub rule_with : Choice → List (ℕ × ℕ) → PluginRule
 rule_with choice tids = record {
   outcome_of = λ _ packet _. passes packet;
@@ -53,6 +53,6 @@ rule_with choice tids = record {
   agrees = λ _. false;
 }
 
--- the rule of settings
+-- the rule that the settings make
 abbrev pub tables_rule : TablesConf → PluginRule
 tables_rule conf = rule_with (choice_of conf.pid) conf.tid

@@ -1,4 +1,4 @@
--- Lawful settings of `tables`.
+-- Valid settings of `tables`.
 -- This project's own rule.
 use Rattle.ts_packet.specs.declared.numbers.TheConstants.{PID_COUNT}
 use Rattle.plug_conf.specs.NumberSet.{AllBelow}

@@ -11,7 +11,7 @@ use Rattle.plug_tables.specs.declared.tables.Tables.{Tables}
 abbrev pub has_failed : Tables → Bool
 has_failed s = s.failed
 
--- the rule that it means
+-- the rule of the plugin
 abbrev pub rule_in : Tables → PluginRule
 rule_in s = rule_with (choice_in s.reader) s.tids
 

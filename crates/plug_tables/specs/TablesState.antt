@@ -8,7 +8,7 @@ use Rattle.plug_tables.specs.TablesRule.{rule_with}
 use Rattle.plug_tables.specs.TableReaderState.{HasMet, choice_in}
 use Rattle.plug_tables.specs.declared.table_reader.TableReader.{TableReader}
 
--- the first line, where there is one, is not below the position
+-- the first line, if there is one, is not below the position
 abbrev pub StartsFrom : ℕ → List Line → Type 0
 StartsFrom cut [] = Unit {0}
 StartsFrom cut (line ∷ lines) = cut ≤ line.at

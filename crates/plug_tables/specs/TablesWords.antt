@@ -1,4 +1,4 @@
--- The words of `tables`.
+-- The options of `tables`.
 -- This project's own rule.
 use Rattle.std.specs.Prelude.{List, [], ◌∷◌, codes, true, unwrap_or}
 use Rattle.plug_conf.specs.declared.limits.TheConstants.{LAST_PID}
@@ -15,7 +15,7 @@ tables_rows = record { name = codes "pid"; kind = value (ranges LAST_PID) }
     ∷ record { name = codes "tid"; kind = value (ranges LAST_TABLE_ID) }
     ∷ []
 
--- nothing has to be given
+-- no option has to be given
 abbrev pub tables : OptionTable TablesConf
 tables = record {
   rows = tables_rows;

@@ -17,9 +17,9 @@ pub record Choice : Type 0 where
 abbrev pub usual : Choice
 usual = record { listed = (0, 1) ∷ (16, 18) ∷ []; follows = true }
 
--- Whether a PID is watched at the last of some packets of any PID: it is listed, or, where PMTs are followed, the PAT in
--- force there names it by a service; that of null packets never is. The packets on the PID of which this is so are those
--- that are watched.
+-- Whether a PID is watched at the last of some packets of any PID: it is if it is listed, or, where PMTs are followed, if a
+-- service of the PAT in force there has it. The PID of null packets never is. The packets on the PID for which this holds
+-- are those that are watched.
 abbrev pub is_watched : Choice → ℕ → List (List ℕ) → Bool
 is_watched choice pid packets =
     (has_number choice.listed pid || (choice.follows && names (pat_of packets) pid)) && not (pid == NULL_PID)

@@ -1,6 +1,6 @@
-//! The plugin `tables`: packets come in and pass; each table that they complete on a watched PID comes out as a line with
-//! its JSON element. The layer above reads settings of words, makes the plugin, and uses it by the clauses of `Plugin`,
-//! which hold the lines to the cells that count.
+//! The plugin `tables`. Packets come in and pass; each table that they complete on a watched PID goes out as a line with
+//! its JSON element. The layer above reads its settings from words, makes the plugin, and uses it by the clauses of
+//! `Plugin`, which relate the lines to the cells that count.
 #![tactic(auto)]
 
 mod limits;

@@ -1,4 +1,4 @@
-//! What reads the tables of all PIDs that are watched.
+//! The reader of the tables of all PIDs that are watched.
 ghost use Rattle.std.specs.Prelude.{◌≡◌, ◌<◌, ◌==◌, ◌∷◌, ◌++◌, ℕ, [], List, IfOk, OnOk, length, true, false, if◌then◌else◌};
 ghost use Rattle.plug_tables.specs.TablesRule.{choice_of};
 
@@ -32,7 +32,7 @@ impl TableReader {
     ghost use Rattle.plug_tables.specs.TableReaderState.{HasMet, choice_in};
 
     /// A new reader, which has processed no packet. The PIDs that are watched are those of a list, or the usual ones
-    /// where it is empty.
+    /// if it is empty.
     pub fn new(alloc: Global, list: &NumberSet) -> Result<TableReader, AllocError>
         ensures choice { IfOk result (λ reader. choice_in reader ≡ choice_of list.now) }
         ensures fresh { IfOk result (λ reader. HasMet reader []) }
@@ -46,14 +46,15 @@ impl TableReader {
         })
     }
 
-    /// Processes the next packet, of any PID, and gives the tables that it completes on its PID, where that is watched.
-    /// After `AllocError` no more is to be asked.
+    /// Processes the next packet, of any PID, and returns the tables that it completes on its PID, if that is watched.
+    /// After `AllocError` it is not to be used any more.
     pub fn meet(&mut self, packet: &Packet) -> Result<Vec<TableRun>, AllocError>
         ensures stands { OnOk result ((met : List (List ℕ)) → HasMet self.old met → HasMet self.new (met ++ packet.now ∷ [])) }
         ensures tables { IfOk result (λ tables. (met : List (List ℕ)) → HasMet self.old met
             → tables.items ≡ tables_with (choice_in self.old) met packet.now) }
         ensures choice { choice_in self.new ≡ choice_in self.old }
     {
+        // A law, which runs nothing.
         unfollowed_packets_change_nothing::<PidTables>();
         self.force.feed(packet)?;
         let pid = packet.pid();
@@ -74,7 +75,7 @@ impl TableReader {
     }
 }
 
-// The PIDs of a list, or the usual ones where it is empty.
+// The PIDs of a list, or the usual ones if it is empty.
 fn pids_of(alloc: Global, list: &NumberSet) -> Result<PidSet, AllocError>
     ensures { IfOk result (λ set. set ≡ (choice_of list.now).listed) }
 {

@@ -88,7 +88,7 @@ impl Tables {
     }
 }
 
-// Takes the first line off, where it is below a position.
+// Removes the first line and returns it, if it is below a position.
 fn pop_below(told: &mut VecDeque<Line>, cut: u64) -> Option<Line>
     ensures taken { IfSome result (λ line. (told.old.items ≡ line ∷ told.new.items) × (line.at < cut)) }
     ensures left { IfNone result (StartsFrom cut told.old.items) }
@@ -99,7 +99,7 @@ fn pop_below(told: &mut VecDeque<Line>, cut: u64) -> Option<Line>
     told.pop_front()
 }
 
-// The lines below a position, which are taken off.
+// Removes the lines below a position, and returns them.
 fn lines_below(alloc: Global, told: &mut VecDeque<Line>, cut: u64) -> Result<Vec<Line>, AllocError>
     ensures { IfOk result (λ lines. lines.items ≡ take_while (λ line. nat_lt line.at cut) told.old.items) }
 {

@@ -1,3 +1,5 @@
+//! The options of `tables`, and its settings from their values.
+
 ghost use Rattle.std.specs.Prelude.{◌≡◌, IfOk};
 ghost use Rattle.clap.specs.Simple.{app_of};
 ghost use Rattle.plug_tables.specs.TablesSettings.{IsLawfulTables};

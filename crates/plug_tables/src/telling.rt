@@ -15,7 +15,7 @@ use std::collections::VecDeque;
 use ts_json_tables::{Table, shown_table_is_plain, table_of, to_json};
 use ts_section::TableRun;
 
-/// Puts the lines of the tables that are told behind others. All are complete with the packet at a position on a PID.
+/// Appends the lines of the tables that are reported. All are complete with the packet at a position on a PID.
 pub fn tell_tables(
     alloc: Global,
     told: &mut VecDeque<Line>,
@@ -32,7 +32,7 @@ pub fn tell_tables(
     Ok(())
 }
 
-// Puts the line of a table behind others, if it is told.
+// Appends the line of a table, if it is reported.
 fn tell_table(
     alloc: Global,
     told: &mut VecDeque<Line>,
@@ -51,7 +51,7 @@ fn tell_table(
     Ok(())
 }
 
-// Whether a table is one of those that are told.
+// Whether a table is one of those that are reported.
 fn is_told(tids: &NumberSet, table: &TableRun) -> bool
     ensures { result ≡ is_told tids.now table.now }
 {
