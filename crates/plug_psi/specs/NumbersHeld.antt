@@ -3,7 +3,7 @@ use Rattle.std.specs.Prelude.{ℕ, List, [], slice_get, Option, Some, None}
 use Rattle.ts_fields.specs.Layout.{Held, number, bytes}
 use Rattle.ts_table_rows.specs.TableValues.{ItemHolding}
 
--- what a field holds as a number; 0 where it is not there or holds bytes
+-- what a field holds as a number; 0 if it is not there or holds bytes
 abbrev pub number_in : Option Held → ℕ
 number_in None = 0
 number_in (Some (number n)) = n
@@ -13,7 +13,7 @@ number_in (Some (bytes b)) = 0
 abbrev pub number_at : List Held → ℕ → ℕ
 number_at values place = number_in (slice_get values place)
 
--- what a field holds as bytes; none where it is not there or holds a number
+-- what a field holds as bytes; none if it is not there or holds a number
 abbrev pub bytes_in : Option Held → List ℕ
 bytes_in None = []
 bytes_in (Some (number n)) = []

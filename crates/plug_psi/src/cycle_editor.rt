@@ -124,7 +124,7 @@ fn renew_where_over<E: TableEdit>(
     Ok(false)
 }
 
-/// The next packet of a cycle, or a null packet where it has none, and the counter after it.
+/// The next packet of a cycle, or a null packet if it has none, and the counter after it.
 fn next_in_place(cycle: &mut Cycle, counter: u8) -> (Packet, u8)
     requires { counter < 16 }
     ensures { NextInPlace cycle.old cycle.new counter result.0 result.1 }

@@ -43,7 +43,7 @@ const LAST_FIXED_PID: u16 = 31;
 pub struct Referred {
     force: InForce,
     one: Reading<KeptCat>,
-    /// The flags of the PIDs that tables name. They are set anew when another table comes into force.
+    /// The flags of the PIDs that tables name. They are set again when another table comes into force.
     flags: PidRow<bool>,
     failed: FailureLatch,
     alloc: Global,
@@ -153,7 +153,7 @@ fn is_fixed(pid: u16) -> bool
     pid <= LAST_FIXED_PID || pid == NULL_PID
 }
 
-/// Sets the flags anew if a table came into force.
+/// Sets the flags again if a table came into force.
 #[inline]
 fn renew_where(
     alloc: Global,
@@ -173,7 +173,7 @@ fn renew_where(
     renew(alloc, force, one, flags)
 }
 
-/// Sets the flags anew. It allocates memory on the way, and keeps none.
+/// Sets the flags again. It allocates memory on the way, and keeps none.
 #[inline(never)]
 fn renew(
     alloc: Global,
