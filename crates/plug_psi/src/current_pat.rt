@@ -87,7 +87,7 @@ fn mark(marks: &mut PidRow<bool>, services: &[PatService])
     mark_services(marks, services);
 }
 
-/// Sets the flags of the PIDs of services, where none is set before.
+/// Sets the flags of the PIDs of services, where no flag is set yet.
 fn mark_services(marks: &mut PidRow<bool>, services: &[PatService])
     requires { (pid : ℕ) → slice_index_or marks.old pid false ≡ false }
     ensures { (pid : ℕ) → slice_index_or marks.new pid false

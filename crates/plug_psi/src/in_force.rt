@@ -108,7 +108,7 @@ impl InForce {
         Ok(came)
     }
 
-    /// The tables that the last packet on PID 0 completed. They are handed on once.
+    /// The tables that were completed by the last packet on PID 0. They are handed on once.
     pub fn take_pats(&mut self) -> Vec<TableRun>
         ensures pats { result.items ≡ pats_in self.old }
         ensures stands { (fed : List (List ℕ)) → StandsFor self.old fed → StandsFor self.new fed }
@@ -116,7 +116,7 @@ impl InForce {
         mem::replace(&mut self.pats, Vec::new(self.alloc))
     }
 
-    /// The tables that the last packet on a PID whose packets are taken completed. They are handed on once.
+    /// The tables that were completed by the last packet on a PID whose packets are taken. They are handed on once.
     pub fn take_pmts(&mut self) -> Vec<TableRun>
         ensures pmts { result.items ≡ pmts_in self.old }
         ensures stands { (fed : List (List ℕ)) → StandsFor self.old fed → StandsFor self.new fed }

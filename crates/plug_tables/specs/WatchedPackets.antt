@@ -1,5 +1,5 @@
 -- The packets of a PID that `tables` watches, and the tables that they complete. This project's own rule, over the PIDs of
--- ISO/IEC 13818-1, 2.4.4.2, and EN 300 468, 5.1.3.
+-- ISO/IEC 13818-1, 2.4.4.2, and ETSI EN 300 468, 5.1.3.
 use Rattle.std.specs.Prelude.{ℕ, List, [], ◌∷◌, ◌++◌, length, drop, Bool, true, not, ◌==◌, ◌&&◌, ◌||◌}
 use Rattle.ts_packet.specs.Header.{pid_of}
 use Rattle.ts_packet.specs.declared.numbers.TheConstants.{NULL_PID}
