@@ -35,8 +35,8 @@ abbrev pub room_of : Option TableMapper → ℕ → Option ℕ
 room_of None buffer = Some buffer
 room_of (Some mapper) buffer = None
 
--- either a packet with this target or none was edited and moved, and what edits tables has processed it; or memory ran
--- out, now or before, and the packet is as it was
+-- either a packet with this target or none was edited and moved, and what edits tables, if anything does, has processed
+-- it; or memory ran out, now or before, and the packet is as it was
 abbrev pub GoesOn : Option TableMapper → Option TableMapper → Option ℕ → List ℕ → List ℕ → Outcome → Type 0
 GoesOn old new target packet made Pass =
     (pairs : List (ℕ × ℕ)) (met : List (List ℕ)) → MapperStands pairs old met
