@@ -1,6 +1,6 @@
 use Rattle.std.proofs.Common.{◌≡◌, ◌+◌, ◌-◌, length, sym, ◌∙◌, ap, arith, subst}
 use Rattle.ts_demux.proofs.Feeding.{takes_in-uncounted, takes_in-counted, takes-packet, seen}
-use Rattle.ts_demux.specs.DemuxState.{TakesIn}
+use Rattle.ts_demux.specs.DemuxState.{DemuxState, TakesIn}
 use Rattle.ts_demux.specs.CountedPackets.{counts, part_of_packet}
 use Rattle.ts_demux.specs.Reader.{Takes}
 use Rattle.ts_demux.proofs.demux.Demux.advance.Goals as goal
@@ -18,4 +18,4 @@ returns-in-Ok-clause-taken c =
     let grown : length c.take_part-taken.new.waiting.items ≡ length c.self.inside.waiting.items + (c.len.result - c.len-before.result) = omega (arith, takes.grows) in
     subst (λ old. TakesIn old (seen c.self.inside.pid c.take_part-taken.new.self c.take_part-taken.new.waiting.items c.self.inside.failed) c.args.packet.now (c.len.result - c.len-before.result)) c.self.view_is
     (takes_in-counted c.self.inside.pid c.self.inside.failed c.self.inside.reader c.take_part-taken.new.self c.self.inside.waiting.items c.take_part-taken.new.waiting.items c.args.packet.now (c.len.result - c.len-before.result)
-    c.requires (sym c.counts.ensures ∙ c.if-not-counts.false) takes c.in-Ok.ensures.rest grown)
+    (ap (λ (v : DemuxState). v.failed) c.self.view_is ∙ c.requires) (sym c.counts.ensures ∙ c.if-not-counts.false) takes c.in-Ok.ensures.rest grown)

@@ -1,6 +1,6 @@
-use Rattle.std.proofs.Common.{refl, false}
+use Rattle.std.proofs.Common.{refl}
 use Rattle.ts_demux.proofs.Feeding.{stands-new, seen}
 use Rattle.ts_demux.proofs.demux.Demux.new.Goals as goal
 
 pub returns : goal.returns
-returns c = stands-new (seen c.args.pid c.new.result c.new-2.result.items false) c.args.pid refl refl c.new-2.ensures.items c.new.ensures.fresh
+returns c = stands-new (seen c.args.pid c.new.result c.new-2.result.items c.unset.result) c.args.pid refl c.unset.ensures c.new-2.ensures.items c.new.ensures.fresh
