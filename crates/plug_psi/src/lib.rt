@@ -63,7 +63,7 @@ pub use pids_of_pmt::add_pids;
 pub use psi_table::PsiTable;
 pub use reading::Reading;
 pub use referred::Referred;
+pub use ts_demux::FailureLatch;
 pub use unedited::Unedited;
 pub use written::in_room;
-pub use ts_demux::FailureLatch;
 pub use written_table::sections_or_same;
