@@ -1,5 +1,5 @@
 -- What `remap` keeps of each PID: a table of moves. This project's own rule.
-use Rattle.std.specs.Prelude.{◌≡◌, ◌<◌, ℕ, List, length, Bool, not, Option, None, Some, ◌&&◌, if◌then◌else◌}
+use Rattle.std.specs.Prelude.{◌≡◌, ◌<◌, ℕ, List, Bool, not, Option, None, Some, ◌&&◌, if◌then◌else◌}
 use Rattle.std.specs.List.{slice_index_or}
 use Rattle.ts_packet.specs.declared.numbers.TheConstants.{PID_COUNT}
 use Rattle.plug_move.specs.RemapSettings.{is_target}
@@ -22,8 +22,7 @@ LeadsToPid Keep = Unit {0}
 LeadsToPid (To target) = target < PID_COUNT
 LeadsToPid Refuse = Unit {0}
 
--- the table tells of each PID what is done with its packets
+-- the row has for each PID what is done with its packets
 pub record IsMoveTable (pairs : List (ℕ × ℕ)) (unchecked : Bool) (moves : List Move) : Type 0 where
-  pub whole : length moves ≡ PID_COUNT
   pub tells : (pid : ℕ) → pid < PID_COUNT → slice_index_or moves pid Keep ≡ move_of pairs unchecked pid
   pub leads : (pid : ℕ) → LeadsToPid (move_of pairs unchecked pid)

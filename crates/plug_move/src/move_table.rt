@@ -10,7 +10,7 @@ ghost use Rattle.plug_move.specs.Targets.{target_of};
 use plug_conf::PairList;
 use std::alloc::{AllocError, Global};
 use std::marker::Model;
-use ts_packet::PID_COUNT;
+use ts_packet::{PID_COUNT, PidRow};
 
 /// What `remap` does with the packets on a PID.
 #[derive(Clone, Copy, PartialEq, Eq)]
@@ -29,7 +29,7 @@ pub enum Move {
 pub struct MoveTable {
     pairs: PairList,
     unchecked: bool,
-    moves: Vec<Move>,
+    moves: PidRow<Move>,
 }
 
 impl Model for MoveTable {
@@ -41,7 +41,7 @@ impl Model for MoveTable {
 
     ghost view = { λ t. (t.pairs, t.unchecked) };
 
-    ghost invariant = { λ t. IsMoveTable t.pairs t.unchecked t.moves.items };
+    ghost invariant = { λ t. IsMoveTable t.pairs t.unchecked t.moves };
 }
 
 impl MoveTable {
@@ -66,7 +66,7 @@ impl MoveTable {
         ensures tells { result ≡ move_of self.now.0 self.now.1 pid }
         ensures leads { LeadsToPid result }
     {
-        self.moves[usize::from(pid)]
+        self.moves.get(pid)
     }
 
     /// What a PID becomes: its target, or itself where it is no source.
@@ -83,14 +83,15 @@ impl MoveTable {
 }
 
 // Of each PID, what is done with its packets.
-fn moves_of(alloc: Global, pairs: &[(u64, u64)], unchecked: bool) -> Result<Vec<Move>, AllocError>
+fn moves_of(
+    alloc: Global,
+    pairs: &[(u64, u64)],
+    unchecked: bool,
+) -> Result<PidRow<Move>, AllocError>
     requires { All IsPidPair pairs.now }
-    ensures { IfOk result (λ moves. IsMoveTable pairs.now unchecked moves.items) }
+    ensures { IfOk result (λ moves. IsMoveTable pairs.now unchecked moves) }
 {
-    let mut moves = Vec::with_capacity(alloc, usize::from(PID_COUNT))?;
-    for pid in 0..PID_COUNT {
-        moves.push(move_of(pairs, unchecked, pid))?;
-    }
+    let moves = PidRow::of(alloc, |pid: u16| move_of(pairs, unchecked, pid))?;
     Ok(moves)
 }
 
