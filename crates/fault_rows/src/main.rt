@@ -8,11 +8,20 @@ use fault_texts::{HelpTable, fault_text, general_options, tsp_segments};
 use rows::Row;
 use std::io::Write;
 
+/// A word of a row, in which `~` stands for a blank.
+fn word_of(rt: &HostRuntime, text: &str) -> Result<String> {
+    let mut word = String::new(rt.alloc());
+    for character in text.chars() {
+        word.push(if character == '~' { ' ' } else { character })?;
+    }
+    Ok(word)
+}
+
 /// The words of a text, which stand between spaces.
 fn words_of(rt: &HostRuntime, text: &str) -> Result<Vec<String>> {
     let mut words = Vec::new(rt.alloc());
     for word in text.split(' ') {
-        words.push(String::from_str(rt.alloc(), word)?)?;
+        words.push(word_of(rt, word)?)?;
     }
     Ok(words)
 }

@@ -7,7 +7,7 @@ pub(crate) struct Row {
     pub(crate) rule: WordsRule,
 }
 
-static ROWS: [Row; 49] = [
+static ROWS: [Row; 64] = [
     Row {
         words: "-P filter --pid 9000 -O drop",
         at: 0,
@@ -252,6 +252,81 @@ static ROWS: [Row; 49] = [
         words: "--add-input-stuffing=1=9 -O drop",
         at: 0,
         rule: WordsRule::Value,
+    },
+    Row {
+        words: "-P pmt --pmt-pid 256 --move-pid 256:257",
+        at: 0,
+        rule: WordsRule::Value,
+    },
+    Row {
+        words: "-P remap 256:257",
+        at: 0,
+        rule: WordsRule::Value,
+    },
+    Row {
+        words: "-P remap 256=1,257=2",
+        at: 0,
+        rule: WordsRule::Value,
+    },
+    Row {
+        words: "-P remap 0x100=1ABC",
+        at: 0,
+        rule: WordsRule::Value,
+    },
+    Row {
+        words: "-P filter --pid 5,300-200",
+        at: 0,
+        rule: WordsRule::Value,
+    },
+    Row {
+        words: "-P filter --pid 1,~2",
+        at: 0,
+        rule: WordsRule::Value,
+    },
+    Row {
+        words: "-P filter --pid 1,x-5",
+        at: 0,
+        rule: WordsRule::Value,
+    },
+    Row {
+        words: "-P tables --tid SDT",
+        at: 0,
+        rule: WordsRule::Value,
+    },
+    Row {
+        words: "-P sdt --version 5",
+        at: 0,
+        rule: WordsRule::Shape,
+    },
+    Row {
+        words: "-P pmt --pid 256",
+        at: 0,
+        rule: WordsRule::Shape,
+    },
+    Row {
+        words: "-P zap -202",
+        at: 0,
+        rule: WordsRule::Shape,
+    },
+    Row {
+        words: "-P filter --pid 1 --pid 2",
+        at: 0,
+        rule: WordsRule::Shape,
+    },
+    Row {
+        words: "-P pat --add-service 1/2 --add-service 3/4",
+        at: 0,
+        rule: WordsRule::Shape,
+    },
+    Row {
+        words: "-P zap~202",
+        at: 0,
+        rule: WordsRule::UnknownPlugin,
+    },
+    Row {
+        words: "-I my~file.ts",
+        at: 0,
+        rule: WordsRule::UnknownPlugin,
     },
 ];
 

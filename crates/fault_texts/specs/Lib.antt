@@ -1,3 +1,4 @@
+pub mod BadValue
 pub mod Clash
 pub mod FaultOf
 pub mod FaultText
@@ -6,9 +7,12 @@ pub mod Fits
 pub mod Homes
 pub mod Lists
 pub mod Marked
+pub mod NameHint
 pub mod Nearest
+pub mod Pieces
 pub mod Roles
 pub mod SaidText
 pub mod Segment
 pub mod TakesText
+pub mod UnknownHints
 pub mod Wanted

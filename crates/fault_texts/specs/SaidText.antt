@@ -11,12 +11,15 @@ use Rattle.fault_texts.specs.declared.segment_row.SegmentRow.{SegmentRow}
 use Rattle.fault_texts.specs.declared.said.Fault.{Fault}
 use Rattle.fault_texts.specs.declared.said.Said.{Said}
 use Rattle.fault_texts.specs.declared.said.Said.TheVariants.{Again, Alone, Apart, BadValue, Clash, Extra, Missing, NoName, NoValue, Second, TakesNone, TooMany, UnknownName, UnknownOption, Whole}
+use Rattle.fault_texts.specs.BadValue.{value_text}
 use Rattle.fault_texts.specs.Homes.{homes_text}
 use Rattle.fault_texts.specs.Lists.{names_behind, option_names, texts}
+use Rattle.fault_texts.specs.NameHint.{name_hint}
 use Rattle.fault_texts.specs.Nearest.{near_text, nearest_name, nearest_option}
 use Rattle.fault_texts.specs.Roles.{name_part}
 use Rattle.fault_texts.specs.Segment.{head_of, row_of, word_or_none}
-use Rattle.fault_texts.specs.TakesText.{most_number, takes_text, value_part, value_text}
+use Rattle.fault_texts.specs.TakesText.{list_text, most_number, takes_text, value_part}
+use Rattle.fault_texts.specs.UnknownHints.{unknown_hints}
 use Rattle.fault_texts.specs.Wanted.{wanted}
 
 -- texts that are lent, one after another
@@ -64,7 +67,11 @@ no_value_text row = texts (row.name.now ∷ codes " needs a value\n" ∷ row.for
 
 abbrev pub bad_value_text : OptionRow → List ℕ → List ℕ
 bad_value_text row word =
-    texts (row.form.now ∷ codes ": " ∷ row.meaning.now ∷ codes "\n" ∷ []) ++ value_text row.takes (value_part word)
+    texts (row.form.now ∷ codes ": " ∷ row.meaning.now ∷ codes "\n" ∷ []) ++ value_text row (value_part word)
+
+-- an option that takes a list is given once
+abbrev pub again_text : OptionRow → List ℕ
+again_text row = texts (row.name.now ∷ codes " is given twice\n" ∷ []) ++ list_text row.takes
 
 -- two pairs that may not stand beside one another
 abbrev pub clash_text : OptionRow → List ℕ
@@ -74,7 +81,7 @@ clash_text row = texts (codes "a later pair has the same first or the same secon
 -- what is said of one option
 abbrev pub option_text : Said → List ℕ → List ℕ
 option_text (NoValue row) word = no_value_text row
-option_text (Again row) word = texts (row.name.now ∷ codes " is given twice\n" ∷ [])
+option_text (Again row) word = again_text row
 option_text (TakesNone row) word = texts (row.name.now ∷ codes " takes no value\n" ∷ [])
 option_text (BadValue row) word = bad_value_text row word
 option_text (Apart row) word = texts (codes "only one of these may be given: " ∷ row.choice.now ∷ codes "\n" ∷ [])
@@ -110,13 +117,22 @@ module _ {W : Type 0} (text_of : W → List ℕ) where
       ++ near_text (nearest_name table.segments.now (word_or_none text_of own 0) (word_or_none text_of own 1)))
       ++ homes_text table (word_or_none text_of own 1)
 
+  -- beside these, how words that are one have to be given
+  abbrev pub wrong_name_text : HelpTable → List W → List ℕ
+  wrong_name_text table own =
+      unknown_name_text table own ++ name_hint table (word_or_none text_of own 0) (word_or_none text_of own 1)
+
+  -- what is said of an unknown option, and of an operand in its place
+  unfoldable pub unknown_text : HelpTable → SegmentRow → List W → List ℕ → List ℕ
+  unknown_text table row own word = unknown_option_text table row word ++ unknown_hints text_of table row own word
+
   -- what has to stand and does not, and how the segment may stand
   abbrev pub missing_text : HelpTable → SegmentRow → List W → List ℕ
   missing_text table row own = wanted text_of row.options.now own (drop (head_of text_of table own) own) ++ whole_text row
 
   -- what is said of the options and operands of a segment
   abbrev pub text_of_said : HelpTable → SegmentRow → List W → Said → List ℕ → List ℕ
-  text_of_said table row own UnknownOption word = unknown_option_text table row word
+  text_of_said table row own UnknownOption word = unknown_text table row own word
   text_of_said table row own Extra word = extra_text row word
   text_of_said table row own Missing word = missing_text table row own
   text_of_said table row own Whole word = whole_text row
@@ -136,7 +152,7 @@ module _ {W : Type 0} (text_of : W → List ℕ) where
   abbrev pub text_by_said : HelpTable → List W → Fault → Said → List ℕ
   text_by_said table own fault Second = second_text (word_or_none text_of own 0)
   text_by_said table own fault NoName = no_name_text table (word_or_none text_of own 0)
-  text_by_said table own fault UnknownName = unknown_name_text table own
+  text_by_said table own fault UnknownName = wrong_name_text table own
   text_by_said table own fault TooMany = texts (codes "a chain has at most 62 plugins\n" ∷ [])
   text_by_said table own fault said = row_text table own fault
 

@@ -7,7 +7,6 @@ use Rattle.fault_texts.specs.declared.sign.Sign.{Sign}
 use Rattle.fault_texts.specs.declared.sign.Sign.TheVariants.{Equals, Slash}
 use Rattle.fault_texts.specs.declared.takes.Takes.{Takes}
 use Rattle.fault_texts.specs.declared.takes.Takes.TheVariants.{Bytes, Number, Pair, Pairs, Ranges}
-use Rattle.fault_texts.specs.Fits.{fits}
 use Rattle.fault_texts.specs.Roles.{is_dashed}
 
 abbrev pub pair_text : Sign → List ℕ
@@ -27,15 +26,32 @@ takes_text (Pairs sign first second) = pairs_text sign
 takes_text (Bytes least most) = codes "each byte is two hexadecimal digits\n"
 takes_text _ = []
 
+-- how all values of an option stand in one list
+abbrev pub pairs_list_text : Sign → List ℕ
+pairs_list_text Slash = codes "all of its pairs stand in one list, as 1/2,3/4\n"
+pairs_list_text Equals = codes "all of its pairs stand in one list, as 1=2,3=4\n"
+
+-- of an option that takes no list nothing is said
+unfoldable pub list_text : Takes → List ℕ
+list_text (Ranges least most) = codes "all of its numbers stand in one list, as 0,16-18,0x100\n"
+list_text (Pairs sign first second) = pairs_list_text sign
+list_text _ = []
+
 -- the sign stands in the word
 abbrev pub has_sign : ℕ → List ℕ → Bool
 has_sign sign word = nat_lt (position_or_len (λ byte. byte == sign) word) (length word)
 
 abbrev pub hint_by_sign : Sign → List ℕ → List ℕ
-hint_by_sign Slash word = if has_sign 61 word then codes "= is written here where / is needed\n" else []
-hint_by_sign Equals word = if has_sign 47 word then codes "/ is written here where = is needed\n" else []
+hint_by_sign Slash word =
+    if has_sign 61 word then codes "= is written here where / is needed\n"
+    else if has_sign 58 word then codes ": is written here where / is needed\n"
+    else []
+hint_by_sign Equals word =
+    if has_sign 47 word then codes "/ is written here where = is needed\n"
+    else if has_sign 58 word then codes ": is written here where = is needed\n"
+    else []
 
--- what is said where the other sign stands between two numbers
+-- what is said where another sign stands between two numbers
 abbrev pub sign_hint : Takes → List ℕ → List ℕ
 sign_hint (Pair sign first second) value = hint_by_sign sign value
 sign_hint (Pairs sign first second) value = hint_by_sign sign value
@@ -74,14 +90,6 @@ range_text (Pairs sign first second) = pair_ranges first second
 range_text (Bytes least most) = codes "the range is " ++ from_to least most (codes " bytes\n")
 range_text _ = []
 
--- how the value has to be written
-abbrev pub form_text : Takes → List ℕ → List ℕ
-form_text takes value = takes_text takes ++ sign_hint takes value
-
 -- the value of a word, which in an option's own word stands after `=`
 abbrev pub value_part : List ℕ → List ℕ
 value_part word = if is_dashed word then after_first (λ byte. byte == 61) word else word
-
--- what is said of a wrong value: its range where that alone is wrong
-abbrev pub value_text : Takes → List ℕ → List ℕ
-value_text takes value = if fits (wide takes) value then range_text takes else form_text takes value

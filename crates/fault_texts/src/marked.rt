@@ -19,7 +19,8 @@ fn visible(word: &str) -> &str
     if word.is_empty() { "\"\"" } else { word }
 }
 
-fn put_word(text: &mut Vec<u8>, word: &str) -> Result<(), AllocError>
+/// Puts a word after a text and a space.
+pub(crate) fn put_word(text: &mut Vec<u8>, word: &str) -> Result<(), AllocError>
     ensures { OnOk result (text.new.items ≡ text.old.items ++ Marked.shown_word word.now) }
 {
     text.push(b' ')?;

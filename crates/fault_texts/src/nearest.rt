@@ -1,5 +1,5 @@
 //! Which name of the table is nearest to a word.
-ghost use Rattle.std.specs.Prelude.{◌≡◌, IfOk};
+ghost use Rattle.std.specs.Prelude.{◌≡◌, IfOk, drop};
 ghost use Rattle.fault_texts.specs.Nearest;
 
 use crate::option_row::OptionRow;
@@ -8,7 +8,7 @@ use crate::segment_row::SegmentRow;
 use std::alloc::{AllocError, Global};
 use strsim::levenshtein;
 
-/// A name, and how many characters of a word have to change for it.
+/// A name, and how far it is from a word: how many characters have to change for it, or half as many.
 #[derive(Clone, Copy)]
 pub(crate) struct Near {
     pub(crate) name: &'static str,
@@ -37,6 +37,49 @@ fn nearer(alloc: Global, word: &str, near: Near, name: &'static str) -> Result<N
     }
 }
 
+fn after_first_byte(bytes: &[u8]) -> &[u8]
+    ensures { result.now ≡ drop 1 bytes.now }
+{
+    match bytes.get(1..) {
+        Some(rest) => rest,
+        None => &[],
+    }
+}
+
+// Whether a name ends as a word does after its first character.
+fn is_ending(word: &str, name: &str) -> bool
+    ensures { result ≡ Nearest.is_ending word.now name.now }
+{
+    name.as_bytes().ends_with(after_first_byte(word.as_bytes()))
+}
+
+// How far an option is from a word; one that ends as the word does is nearer by half.
+fn steps(alloc: Global, word: &str, name: &str) -> Result<usize, AllocError>
+    ensures { IfOk result (λ n. n ≡ Nearest.steps word.now name.now) }
+{
+    let changes = levenshtein(alloc, word, name)?;
+    if is_ending(word, name) {
+        Ok(changes / 2)
+    } else {
+        Ok(changes)
+    }
+}
+
+// The option, where it is nearer than the one that was nearest.
+fn nearer_option(alloc: Global, word: &str, near: Near, row: &OptionRow) -> Result<Near, AllocError>
+    ensures { IfOk result (λ it. Nearest.told it ≡ Nearest.nearer_option word.now (Nearest.told near) row.now) }
+{
+    let changes = steps(alloc, word, row.name)?;
+    if changes < near.changes {
+        Ok(Near {
+            name: row.name,
+            changes,
+        })
+    } else {
+        Ok(near)
+    }
+}
+
 // The same of a segment, where it begins with this word.
 fn nearer_segment(
     alloc: Global,
@@ -59,7 +102,7 @@ fn nearest_option(alloc: Global, options: &[OptionRow], word: &str) -> Result<Ne
 {
     let mut near = none_near(word);
     for row in options {
-        near = nearer(alloc, word, near, row.name)?;
+        near = nearer_option(alloc, word, near, row)?;
     }
     Ok(near)
 }

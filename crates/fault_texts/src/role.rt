@@ -86,7 +86,7 @@ pub(crate) fn named(options: &[OptionRow], name: &str) -> Option<OptionRow>
 }
 
 /// The operand after so many others.
-fn operand(options: &[OptionRow], count: usize) -> Option<OptionRow>
+pub(crate) fn operand(options: &[OptionRow], count: usize) -> Option<OptionRow>
     ensures { result ≡ Roles.operand options.now count }
 {
     for row in options {

@@ -4,9 +4,11 @@ ghost use Rattle.std.specs.String.{string_bytes};
 ghost use Rattle.fault_texts.specs.Lists.{option_names};
 ghost use Rattle.fault_texts.specs.SaidText;
 
+use crate::bad_value::value_text;
 use crate::help_table::HelpTable;
 use crate::homes::homes_text;
 use crate::lists::{put_names, put_options};
+use crate::name_hint::put_name_hint;
 use crate::nearest::{near_name_text, near_option_text};
 use crate::option_row::OptionRow;
 use crate::put::put_all;
@@ -14,7 +16,8 @@ use crate::role::name_part;
 use crate::said::{Fault, Said};
 use crate::segment::{head_of, row_of, word_or_none, words_from};
 use crate::segment_row::SegmentRow;
-use crate::takes_text::{takes_text, value_part, value_text};
+use crate::takes_text::{list_text, takes_text, value_part};
+use crate::unknown_hints::put_unknown_hints;
 use crate::wanted::put_wanted;
 use option_words::read_number_within;
 use std::alloc::{AllocError, Global};
@@ -62,6 +65,17 @@ fn unknown_name_text(
     let mut text = known_names_text(alloc, table, first)?;
     text.extend_from_slice(near.as_slice())?;
     text.extend_from_slice(homes.as_slice())?;
+    Ok(text)
+}
+
+// The same, and how words that are one have to be given.
+fn wrong_name_text(alloc: Global, table: &HelpTable, own: &[String]) -> Result<Vec<u8>, AllocError>
+    ensures { IfOk result (λ text. text.items ≡ SaidText.wrong_name_text string_bytes table.now own.now) }
+{
+    let first = word_or_none(own, 0);
+    let name = word_or_none(own, 1);
+    let mut text = unknown_name_text(alloc, table, own)?;
+    put_name_hint(&mut text, table, first, name)?;
     Ok(text)
 }
 
@@ -131,6 +145,22 @@ fn unknown_option_text(
     Ok(text)
 }
 
+// The same, and what is said of an operand in its place.
+#[tactic(auto, unfolding(crate::specs::SaidText::unknown_text))]
+fn unknown_text(
+    alloc: Global,
+    table: &HelpTable,
+    row: &SegmentRow,
+    own: &[String],
+    word: &str,
+) -> Result<Vec<u8>, AllocError>
+    ensures { IfOk result (λ text. text.items ≡ SaidText.unknown_text string_bytes table.now row.now own.now word.now) }
+{
+    let mut text = unknown_option_text(alloc, table, row, word)?;
+    put_unknown_hints(&mut text, table, row, own, word)?;
+    Ok(text)
+}
+
 fn missing_text(
     alloc: Global,
     table: &HelpTable,
@@ -152,7 +182,7 @@ fn option_text(alloc: Global, said: Said, word: &str) -> Result<Vec<u8>, AllocEr
 {
     match said {
         Said::NoValue(row) => no_value_text(alloc, row),
-        Said::Again(row) => text_of_parts(alloc, &[row.name, " is given twice\n"]),
+        Said::Again(row) => again_text(alloc, row),
         Said::TakesNone(row) => text_of_parts(alloc, &[row.name, " takes no value\n"]),
         Said::BadValue(row) => bad_value_text(alloc, row, word),
         Said::Apart(row) => {
@@ -189,9 +219,19 @@ fn no_value_text(alloc: Global, row: OptionRow) -> Result<Vec<u8>, AllocError>
 fn bad_value_text(alloc: Global, row: OptionRow, word: &str) -> Result<Vec<u8>, AllocError>
     ensures { IfOk result (λ text. text.items ≡ SaidText.bad_value_text row word.now) }
 {
-    let value = value_text(alloc, row.takes, value_part(word))?;
+    let value = value_text(alloc, &row, value_part(word))?;
     let mut text = text_of_parts(alloc, &[row.form, ": ", row.meaning, "\n"])?;
-    put_all(&mut text, &[value.as_str()])?;
+    text.extend_from_slice(value.as_slice())?;
+    Ok(text)
+}
+
+// An option that takes a list is given once.
+fn again_text(alloc: Global, row: OptionRow) -> Result<Vec<u8>, AllocError>
+    ensures { IfOk result (λ text. text.items ≡ SaidText.again_text row) }
+{
+    let list = list_text(row.takes);
+    let mut text = text_of_parts(alloc, &[row.name, " is given twice\n"])?;
+    put_all(&mut text, &[list])?;
     Ok(text)
 }
 
@@ -243,7 +283,7 @@ fn segment_text(
 {
     let word = word_or_none(own, fault.at);
     match fault.said {
-        Said::UnknownOption => unknown_option_text(alloc, table, row, word),
+        Said::UnknownOption => unknown_text(alloc, table, row, own, word),
         Said::Extra => extra_text(alloc, row, word),
         Said::Missing => missing_text(alloc, table, row, own),
         Said::Whole => text_of_parts(alloc, &["usage: ", row.usage, "\n", row.rule, "\n"]),
@@ -288,7 +328,7 @@ pub(crate) fn said_text(
     match fault.said {
         Said::Second => second_text(alloc, first),
         Said::NoName => no_name_text(alloc, table, first),
-        Said::UnknownName => unknown_name_text(alloc, table, own),
+        Said::UnknownName => wrong_name_text(alloc, table, own),
         Said::TooMany => text_of_parts(alloc, &["a chain has at most 62 plugins\n"]),
         _ => row_text(alloc, table, own, fault),
     }

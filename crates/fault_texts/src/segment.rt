@@ -74,7 +74,8 @@ pub(crate) fn word_or_none(words: &[String], number: usize) -> &str
     }
 }
 
-fn is_called(row: &SegmentRow, first: &str, name: &str) -> bool
+/// Whether the segment has this first word and this name.
+pub(crate) fn is_called(row: &SegmentRow, first: &str, name: &str) -> bool
     ensures { result ≡ Segment.is_called first.now name.now row.now }
 {
     row.first == first && row.name == name

@@ -3,7 +3,6 @@ ghost use Rattle.std.specs.Prelude.{◌≡◌, ◌<◌, ◌++◌, IfOk};
 ghost use Rattle.std.specs.String.{string_bytes};
 ghost use Rattle.fault_texts.specs.TakesText;
 
-use crate::fits::fits;
 use crate::role::is_dashed;
 use crate::sign::Sign;
 use crate::takes::Takes;
@@ -44,8 +43,30 @@ fn pairs_text(sign: Sign) -> &'static str
     }
 }
 
-// What is said where the other sign stands between two numbers.
-fn sign_hint(takes: Takes, value: &str) -> &'static str
+// How all pairs of an option stand in one list.
+fn pairs_list_text(sign: Sign) -> &'static str
+    ensures { result.now ≡ TakesText.pairs_list_text sign }
+{
+    match sign {
+        Sign::Slash => "all of its pairs stand in one list, as 1/2,3/4\n",
+        Sign::Equals => "all of its pairs stand in one list, as 1=2,3=4\n",
+    }
+}
+
+/// How all values of an option stand in one list, where it takes one.
+#[tactic(auto, unfolding(crate::specs::TakesText::list_text))]
+pub(crate) fn list_text(takes: Takes) -> &'static str
+    ensures { result.now ≡ TakesText.list_text takes }
+{
+    match takes {
+        Takes::Ranges(_, _) => "all of its numbers stand in one list, as 0,16-18,0x100\n",
+        Takes::Pairs(sign, _, _) => pairs_list_text(sign),
+        _ => "",
+    }
+}
+
+/// What is said where another sign stands between two numbers.
+pub(crate) fn sign_hint(takes: Takes, value: &str) -> &'static str
     ensures { result.now ≡ TakesText.sign_hint takes value.now }
 {
     match takes {
@@ -59,13 +80,15 @@ fn hint_by_sign(sign: Sign, value: &str) -> &'static str
 {
     match sign {
         Sign::Slash if has_sign(value, '=') => "= is written here where / is needed\n",
+        Sign::Slash if has_sign(value, ':') => ": is written here where / is needed\n",
         Sign::Equals if has_sign(value, '/') => "/ is written here where = is needed\n",
+        Sign::Equals if has_sign(value, ':') => ": is written here where = is needed\n",
         _ => "",
     }
 }
 
-// The same form without a range.
-fn wide(takes: Takes) -> Takes
+/// The same form without a range.
+pub(crate) fn wide(takes: Takes) -> Takes
     ensures { result ≡ TakesText.wide takes }
 {
     let any = (0, u64::MAX);
@@ -89,8 +112,8 @@ fn pair_ranges(alloc: Global, first: (u64, u64), second: (u64, u64)) -> Result<S
     )
 }
 
-// What is said where a value has its form and not its range.
-fn range_text(alloc: Global, takes: Takes) -> Result<String, AllocError>
+/// What is said where a value has its form and not its range.
+pub(crate) fn range_text(alloc: Global, takes: Takes) -> Result<String, AllocError>
     ensures { IfOk result (λ text. string_bytes text ≡ TakesText.range_text takes) }
 {
     match takes {
@@ -106,15 +129,6 @@ fn range_text(alloc: Global, takes: Takes) -> Result<String, AllocError>
     }
 }
 
-// How the value has to be written.
-fn form_text(alloc: Global, takes: Takes, value: &str) -> Result<String, AllocError>
-    ensures { IfOk result (λ text. string_bytes text ≡ TakesText.form_text takes value.now) }
-{
-    let mut text = String::from_str(alloc, takes_text(takes))?;
-    text.push_str(sign_hint(takes, value))?;
-    Ok(text)
-}
-
 /// The value of a word, which in an option's own word stands after `=`.
 pub(crate) fn value_part(word: &str) -> &str
     ensures { result.now ≡ TakesText.value_part word.now }
@@ -128,17 +142,8 @@ pub(crate) fn value_part(word: &str) -> &str
     }
 }
 
-/// What is said of a wrong value: its range where that alone is wrong, and else its form.
-pub(crate) fn value_text(alloc: Global, takes: Takes, value: &str) -> Result<String, AllocError>
-    ensures { IfOk result (λ text. string_bytes text ≡ TakesText.value_text takes value.now) }
-{
-    if fits(alloc, wide(takes), value)? {
-        return range_text(alloc, takes);
-    }
-    form_text(alloc, takes, value)
-}
-
-fn has_sign(word: &str, sign: char) -> bool
+/// Whether the sign stands in the word.
+pub(crate) fn has_sign(word: &str, sign: char) -> bool
     requires { sign < 128 }
     ensures { result ≡ TakesText.has_sign sign word.now }
 {

@@ -1552,7 +1552,7 @@ fn tables_plugin() -> SegmentRow {
         OptionRow {
             name: "--tid",
             form: "--tid LIST",
-            meaning: "0 to 255: only tables with these table_ids; without it, all",
+            meaning: "0 to 255: only tables with these table_ids, as 66 for an SDT; without it, all",
             takes: Takes::Ranges(0, 255),
             place: 0,
             many: false,
