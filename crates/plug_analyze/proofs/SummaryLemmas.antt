@@ -17,7 +17,7 @@ use Rattle.plug_analyze.specs.AnalyzeRule.{analyze_rule, counts_on, pid_text, su
 
 -- the number of packets on a PID is the tally's
 pub packets_known : (tally : Tally) (packets : List (List ℕ)) (pid : ℕ) → IsCounted tally (map pid_of packets) → pid < PID_COUNT
-    → get_or tally.counts.items pid 0 ≡ packets_on pid packets
+    → get_or tally.counts pid 0 ≡ packets_on pid packets
 packets_known tally packets pid t below = t.each pid below ∙ packets_on-pids pid packets
 
 -- the PIDs with one more looked at

@@ -3,7 +3,7 @@ use Rattle.std.specs.Prelude.{ℕ, List, map, filter}
 use Rattle.ts_packet.specs.declared.cell.Cell.{Cell}
 use Rattle.ts_packet.specs.Cells.{live_packets}
 use Rattle.ts_packet.specs.Header.{pid_of, has_payload_of}
-use Rattle.plugin_notes.specs.Tallies.{HasRoomIn, IsCounted, IsWhole}
+use Rattle.plugin_notes.specs.Tallies.{HasRoomIn, IsCounted}
 use Rattle.plug_analyze.specs.AnalyzeRule.{fault_pids, has_pcr, is_scrambled}
 use Rattle.plug_analyze.specs.declared.note.Note.{Note}
 use Rattle.plug_analyze.specs.declared.totals.Totals.{Totals}
@@ -35,11 +35,3 @@ pub record AreCounted (totals : Totals) (cells : List Cell) : Type 0 where
   pub scrambled : IsCounted totals.scrambled (map pid_of (filter is_scrambled (live_packets cells)))
   pub faults : IsCounted totals.faults (fault_pids cells)
   pub pcr : IsCounted totals.pcr (map pid_of (filter has_pcr (live_packets cells)))
-
--- each tally has a count for each PID
-pub record AreWhole (totals : Totals) : Type 0 where
-  pub packets : IsWhole totals.packets
-  pub payload : IsWhole totals.payload
-  pub scrambled : IsWhole totals.scrambled
-  pub faults : IsWhole totals.faults
-  pub pcr : IsWhole totals.pcr

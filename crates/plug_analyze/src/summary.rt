@@ -7,8 +7,8 @@ ghost use Rattle.ts_packet.specs.Cells.{live_packets};
 ghost use Rattle.ts_packet.specs.Header.{pid_of};
 ghost use Rattle.plugin_trait.specs.PlacedLines.{placed_at};
 ghost use Rattle.plug_analyze.specs.AnalyzeRule.{head_lines, pid_text, counts_on, pids_with, service_text, services_in_force, summary_on};
-ghost use Rattle.plugin_notes.specs.Tallies.{IsCounted, IsWhole};
-ghost use Rattle.plug_analyze.specs.TotalsOf.{AreCounted, AreWhole};
+ghost use Rattle.plugin_notes.specs.Tallies.{IsCounted};
+ghost use Rattle.plug_analyze.specs.TotalsOf.{AreCounted};
 
 use crate::service_count::ServiceCount;
 use crate::totals::Totals;
@@ -24,7 +24,6 @@ pub fn push_summary(
     totals: &Totals,
     services: &[ServiceCount],
 ) -> Result<(), AllocError>
-    requires { AreWhole totals.now }
     ensures { OnOk result ((cells : List GivenCell) → AreCounted totals.now cells → services.now ≡ services_in_force (live_packets cells)
         → lines.new.items ≡ lines.old.items ++ placed_at cut (summary_on cells)) }
 {
@@ -36,7 +35,6 @@ pub fn push_summary(
 
 // The PIDs that have packets, in ascending order.
 fn pids_with_packets(alloc: Global, totals: &Totals) -> Result<Vec<u16>, AllocError>
-    requires { IsWhole totals.now.packets }
     ensures pids { IfOk result (λ pids. (packets : List (List ℕ)) → IsCounted totals.now.packets (map pid_of packets)
         → pids.items ≡ pids_with packets) }
     ensures range { IfOk result (λ pids. All (λ pid. pid < PID_COUNT) pids.items) }
@@ -65,7 +63,6 @@ fn push_head(
     totals: &Totals,
     pids: usize,
 ) -> Result<(), AllocError>
-    requires { IsWhole totals.now.packets }
     ensures { OnOk result ((packets : List (List ℕ)) → IsCounted totals.now.packets (map pid_of packets) → pids ≡ length (pids_with packets)
         → lines.new.items ≡ lines.old.items ++ placed_at cut (head_lines packets)) }
 {
@@ -91,7 +88,6 @@ fn push_pids(
     pids: &[u16],
 ) -> Result<(), AllocError>
     requires range { All (λ pid. pid < PID_COUNT) pids.now }
-    requires whole { AreWhole totals.now }
     ensures { OnOk result ((cells : List GivenCell) → AreCounted totals.now cells
         → lines.new.items ≡ lines.old.items ++ placed_at cut (map (λ pid. pid_text pid (counts_on pid cells)) pids.now)) }
 {

@@ -22,7 +22,7 @@ impl Totals {
     ghost use Rattle.std.specs.Prelude.{◌≡◌, ◌<◌, ◌++◌, ◌∷◌, [], List, IfOk};
     ghost use Rattle.ts_packet.specs.declared.cell.Cell.{Cell as GivenCell};
     ghost use Rattle.plug_analyze.specs.AnalyzeRule.{counts_on};
-    ghost use Rattle.plug_analyze.specs.TotalsOf.{AreTotals, HasRoom, AreWhole};
+    ghost use Rattle.plug_analyze.specs.TotalsOf.{AreTotals, HasRoom};
 
     /// Nothing counted yet. Allocates 320 KiB.
     pub fn new(alloc: Global) -> Result<Totals, AllocError>
@@ -59,8 +59,8 @@ impl Totals {
     ghost use Rattle.ts_packet.specs.Header.{pid_of};
     ghost use Rattle.plugin_notes.specs.PidPackets.{packets_on};
     ghost use Rattle.plug_analyze.specs.AnalyzeRule.{counts_on};
-    ghost use Rattle.plugin_notes.specs.Tallies.{IsCounted, IsWhole};
-    ghost use Rattle.plug_analyze.specs.TotalsOf.{AreCounted, AreWhole};
+    ghost use Rattle.plugin_notes.specs.Tallies.{IsCounted};
+    ghost use Rattle.plug_analyze.specs.TotalsOf.{AreCounted};
 
     /// How many packets were counted in total.
     pub fn packets(&self) -> u64
@@ -72,7 +72,6 @@ impl Totals {
     /// How many packets were counted on a PID.
     pub fn packets_on(&self, pid: u16) -> u64
         requires on_pid { pid < PID_COUNT }
-        requires whole { IsWhole self.now.packets }
         ensures { (packets : List (List ℕ)) → IsCounted self.now.packets (map pid_of packets) → result ≡ packets_on pid packets }
     {
         self.packets.count_on(pid)
@@ -81,7 +80,6 @@ impl Totals {
     /// How many packets of each kind were counted on a PID.
     pub fn counts_on(&self, pid: u16) -> PidCounts
         requires on_pid { pid < PID_COUNT }
-        requires whole { AreWhole self.now }
         ensures { (cells : List GivenCell) → AreCounted self.now cells → result ≡ counts_on pid cells }
     {
         PidCounts {

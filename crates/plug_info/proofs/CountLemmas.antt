@@ -19,7 +19,7 @@ use Rattle.plugin_notes.proofs.Noting.{length-notes_after, notes_after-append}
 use Rattle.plugin_notes.proofs.Remembering.{one_fault}
 use Rattle.plug_analyze.specs.AnalyzeNotes.{is_any, is_fault_at}
 use Rattle.plug_analyze.specs.AnalyzeRule.{all_pids, fault_pids, is_scrambled}
-use Rattle.plug_info.specs.TotalsOf.{AreCounted, AreWhole, HasRoom}
+use Rattle.plug_info.specs.TotalsOf.{AreCounted, HasRoom}
 use Rattle.plug_info.specs.declared.totals.Totals.{Totals}
 
 -- the packets with one more cell
@@ -98,10 +98,6 @@ has_room totals cells t few = record {
   faults = room_in totals.faults _ t.faults (omega (arith, few, few_faults cells));
   errored = room_in totals.errored _ t.errored (omega (arith, few, few_kind error_indicator_of cells));
 }
-
--- each tally has its counts
-pub are_whole : (totals : Totals) (cells : List Cell) → AreCounted totals cells → AreWhole totals
-are_whole totals cells t = record { packets = t.packets.whole; scrambled = t.scrambled.whole; faults = t.faults.whole }
 
 -- a dropped cell is not counted
 pub counted_dropped : (totals : Totals) (cells : List Cell) → AreCounted totals cells → AreCounted totals (cells ++ Dropped ∷ [])

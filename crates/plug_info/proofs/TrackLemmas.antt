@@ -11,15 +11,11 @@ use Rattle.plug_info.specs.ClockSpans.{AreSpans}
 use Rattle.plug_info.specs.ExtentKept.{kept_extent}
 use Rattle.plug_info.specs.SdtStands.{HasFedSdt}
 use Rattle.plug_info.specs.TotalsOf.{AreCounted}
-use Rattle.plug_info.specs.Tracked.{IsReady, Tracks}
+use Rattle.plug_info.specs.Tracked.{Tracks}
 use Rattle.plug_info.specs.declared.tracker.Tracker.{Tracker}
-use Rattle.plug_info.proofs.CountLemmas.{are_whole, counted_dropped, live-dropped, live-live}
+use Rattle.plug_info.proofs.CountLemmas.{counted_dropped, live-dropped, live-live}
 use Rattle.plug_info.proofs.ExtentLemmas.{extent_dropped}
 use Rattle.plug_info.proofs.SpanLemmas.{spans_dropped}
-
--- each table has its entries
-pub is_ready : (t : Tracker) (cells : List Cell) → Tracks t cells → IsReady t
-is_ready t cells w = record { totals = are_whole t.totals cells w.counted }
 
 -- a dropped cell
 pub tracks_dropped : (t : Tracker) (cells : List Cell) → Tracks t cells → Tracks t (cells ++ Dropped ∷ [])

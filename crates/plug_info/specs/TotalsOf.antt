@@ -3,7 +3,7 @@ use Rattle.std.specs.Prelude.{List, map, filter}
 use Rattle.ts_packet.specs.declared.cell.Cell.{Cell}
 use Rattle.ts_packet.specs.Cells.{live_packets}
 use Rattle.ts_packet.specs.Header.{error_indicator_of, pid_of}
-use Rattle.plugin_notes.specs.Tallies.{HasRoomIn, IsCounted, IsWhole}
+use Rattle.plugin_notes.specs.Tallies.{HasRoomIn, IsCounted}
 use Rattle.plug_analyze.specs.AnalyzeRule.{fault_pids, is_scrambled}
 use Rattle.plug_info.specs.declared.totals.Totals.{Totals}
 
@@ -20,9 +20,3 @@ pub record HasRoom (totals : Totals) : Type 0 where
   pub scrambled : HasRoomIn totals.scrambled
   pub faults : HasRoomIn totals.faults
   pub errored : HasRoomIn totals.errored
-
--- each tally has a count for each PID
-pub record AreWhole (totals : Totals) : Type 0 where
-  pub packets : IsWhole totals.packets
-  pub scrambled : IsWhole totals.scrambled
-  pub faults : IsWhole totals.faults

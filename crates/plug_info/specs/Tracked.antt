@@ -10,7 +10,7 @@ use Rattle.plug_analyze.specs.AnalyzeRule.{all_pids}
 use Rattle.plug_info.specs.ClockSpans.{AreSpans}
 use Rattle.plug_info.specs.ExtentKept.{kept_extent}
 use Rattle.plug_info.specs.SdtStands.{HasFedSdt}
-use Rattle.plug_info.specs.TotalsOf.{AreCounted, AreWhole}
+use Rattle.plug_info.specs.TotalsOf.{AreCounted}
 use Rattle.plug_info.specs.declared.tracker.Tracker.{Tracker}
 
 -- each part stands for these cells
@@ -28,7 +28,3 @@ pub record TracksSome (tracker : Tracker) (at : ℕ) : Type 0 where
   pub tracks : Tracks tracker cells
   pub count : length cells ≡ at
   pub few : length cells < POSITION_LIMIT
-
--- each table has an entry for each PID
-pub record IsReady (tracker : Tracker) : Type 0 where
-  pub totals : AreWhole tracker.totals

@@ -14,7 +14,7 @@ ghost use Rattle.info_texts.specs.InfoJson;
 ghost use Rattle.info_texts.specs.InfoJson.{behind_comma};
 ghost use Rattle.plug_info.specs.InfoRule.{component_object, json_on, pid_objects, scene_of, service_object, use_of};
 ghost use Rattle.plug_info.specs.SdtInForce.{items_in};
-ghost use Rattle.plug_info.specs.Tracked.{IsReady, Tracks};
+ghost use Rattle.plug_info.specs.Tracked.{Tracks};
 
 use crate::service_texts::service_body;
 use crate::summary::{
@@ -38,7 +38,6 @@ use ts_psi::{Component, Pmt};
 
 /// Appends the object as a line: the stream, the services in force with their components, and the other PIDs.
 pub fn push_json(lines: &mut Vec<Line>, cut: u64, tracker: &Tracker) -> Result<(), AllocError>
-    requires { IsReady tracker.now }
     ensures { OnOk result ((cells : List GivenCell) → Tracks tracker.now cells
         → lines.new.items ≡ lines.old.items ++ placed_at cut (json_on cells ∷ [])) }
 {
@@ -50,7 +49,6 @@ pub fn push_json(lines: &mut Vec<Line>, cut: u64, tracker: &Tracker) -> Result<(
 
 // The whole object.
 fn whole_json(alloc: Global, tracker: &Tracker) -> Result<LineText, AllocError>
-    requires { IsReady tracker.now }
     ensures { IfOk result (λ text. (cells : List GivenCell) → Tracks tracker.now cells → text ≡ json_on cells) }
 {
     let numbers = stream_numbers(tracker);
@@ -71,7 +69,6 @@ fn whole_json(alloc: Global, tracker: &Tracker) -> Result<LineText, AllocError>
 
 // The array of the services of the PAT in force.
 fn services_json(alloc: Global, tracker: &Tracker, scene: &Scene) -> Result<String, AllocError>
-    requires { IsReady tracker.now }
     ensures { IfOk result (λ text. (cells : List GivenCell) → Tracks tracker.now cells → scene.now ≡ scene_of cells
         → string_bytes text ≡ InfoJson.array (map (service_object cells) (services_in (pat_of (live_packets cells))))) }
 {
@@ -88,7 +85,6 @@ fn push_services(
     tracker: &Tracker,
     scene: &Scene,
 ) -> Result<(), AllocError>
-    requires { IsReady tracker.now }
     ensures { OnOk result ((cells : List GivenCell) → Tracks tracker.now cells → scene.now ≡ scene_of cells
         → string_bytes items.new ≡ string_bytes items.old
         ++ flat_map (λ s. behind_comma (service_object cells s)) (services_in (pat_of (live_packets cells)))) }
@@ -110,7 +106,6 @@ fn service_json(
     id: u16,
     pid: u16,
 ) -> Result<String, AllocError>
-    requires { IsReady tracker.now }
     ensures { IfOk result (λ text. (cells : List GivenCell) → Tracks tracker.now cells → scene.now ≡ scene_of cells
         → string_bytes text ≡ service_object cells (id, pid)) }
 {
@@ -130,7 +125,6 @@ fn components_json(
     scene: &Scene,
     pmt: Option<&Pmt>,
 ) -> Result<String, AllocError>
-    requires { IsReady tracker.now }
     ensures { IfOk result (λ text. (cells : List GivenCell) → Tracks tracker.now cells → scene.now ≡ scene_of cells
         → string_bytes text ≡ InfoJson.array (map (component_object cells) (items_in (option_map pmt_held (option_copied pmt.entry))))) }
 {
@@ -148,7 +142,6 @@ fn push_components(
     scene: &Scene,
     components: &[Component],
 ) -> Result<(), AllocError>
-    requires { IsReady tracker.now }
     ensures { OnOk result ((cells : List GivenCell) → Tracks tracker.now cells → scene.now ≡ scene_of cells
         → string_bytes items.new ≡ string_bytes items.old
         ++ flat_map (λ c. behind_comma (component_object cells (component_item c))) components.now) }
@@ -167,7 +160,6 @@ fn component_json(
     scene: &Scene,
     component: &Component,
 ) -> Result<String, AllocError>
-    requires { IsReady tracker.now }
     ensures { IfOk result (λ text. (cells : List GivenCell) → Tracks tracker.now cells → scene.now ≡ scene_of cells
         → string_bytes text ≡ component_object cells (component_item component.now)) }
 {
@@ -182,7 +174,6 @@ fn component_json(
 
 // The array of the PIDs that have packets and are not a component's.
 fn pids_json(alloc: Global, tracker: &Tracker, scene: &Scene) -> Result<String, AllocError>
-    requires { IsReady tracker.now }
     ensures { IfOk result (λ text. (cells : List GivenCell) → Tracks tracker.now cells → scene.now ≡ scene_of cells
         → string_bytes text ≡ InfoJson.array (flat_map (pid_objects cells) (numbers_below PID_COUNT))) }
 {
@@ -199,7 +190,6 @@ fn push_pids(
     tracker: &Tracker,
     scene: &Scene,
 ) -> Result<(), AllocError>
-    requires { IsReady tracker.now }
     ensures { OnOk result ((cells : List GivenCell) → Tracks tracker.now cells → scene.now ≡ scene_of cells
         → string_bytes items.new ≡ string_bytes items.old
         ++ flat_map (λ pid. flat_map behind_comma (pid_objects cells pid)) (numbers_below PID_COUNT)) }
@@ -218,7 +208,6 @@ fn push_pid(
     scene: &Scene,
     pid: u16,
 ) -> Result<(), AllocError>
-    requires ready { IsReady tracker.now }
     requires on_pid { pid < PID_COUNT }
     ensures { OnOk result ((cells : List GivenCell) → Tracks tracker.now cells → scene.now ≡ scene_of cells
         → string_bytes items.new ≡ string_bytes items.old ++ flat_map behind_comma (pid_objects cells pid)) }

@@ -3,7 +3,7 @@ ghost use Rattle.std.specs.Prelude.{◌≡◌, ◌++◌, List, OnOk};
 ghost use Rattle.ts_packet.specs.declared.cell.Cell.{Cell as GivenCell};
 ghost use Rattle.plugin_trait.specs.PlacedLines.{placed_at};
 ghost use Rattle.plug_info.specs.InfoRule.{report_in};
-ghost use Rattle.plug_info.specs.Tracked.{IsReady, Tracks};
+ghost use Rattle.plug_info.specs.Tracked.{Tracks};
 
 use crate::json::push_json;
 use crate::summary::push_summary;
@@ -18,7 +18,6 @@ pub fn push_report(
     tracker: &Tracker,
     json: bool,
 ) -> Result<(), AllocError>
-    requires { IsReady tracker.now }
     ensures { OnOk result ((cells : List GivenCell) → Tracks tracker.now cells
         → lines.new.items ≡ lines.old.items ++ placed_at cut (report_in json cells)) }
 {

@@ -15,7 +15,6 @@ ghost use Rattle.plug_info.specs.InfoRule.{component_line, has_component, info_o
 ghost use Rattle.info_texts.specs.InfoTexts.{pid_text, sdt_texts};
 ghost use Rattle.plug_info.specs.SdtInForce.{sdt_of};
 ghost use Rattle.plug_info.specs.Tracked.{Tracks};
-ghost use Rattle.plug_info.specs.Tracked.{IsReady};
 ghost use Rattle.info_texts.specs.InfoTexts;
 ghost use Rattle.plugin_notes.specs.PidPackets.{packets_on};
 
@@ -37,7 +36,6 @@ use ts_psi::{Component, Pmt};
 
 /// Appends the summary: the stream, the services in force with their components, and the other PIDs.
 pub fn push_summary(lines: &mut Vec<Line>, cut: u64, tracker: &Tracker) -> Result<(), AllocError>
-    requires { IsReady tracker.now }
     ensures { OnOk result ((cells : List GivenCell) → Tracks tracker.now cells
         → lines.new.items ≡ lines.old.items ++ placed_at cut (info_on cells)) }
 {
@@ -58,7 +56,6 @@ pub fn push_summary(lines: &mut Vec<Line>, cut: u64, tracker: &Tracker) -> Resul
 
 /// The numbers of the whole stream.
 pub fn stream_numbers(tracker: &Tracker) -> StreamNumbers
-    requires { IsReady tracker.now }
     ensures { (cells : List GivenCell) → Tracks tracker.now cells → result ≡ stream_numbers cells }
 {
     StreamNumbers {
@@ -132,7 +129,6 @@ fn push_services(
     tracker: &Tracker,
     scene: &Scene,
 ) -> Result<(), AllocError>
-    requires { IsReady tracker.now }
     ensures { OnOk result ((cells : List GivenCell) → Tracks tracker.now cells → scene.now ≡ scene_of cells
         → lines.new.items ≡ lines.old.items
         ++ placed_at cut (flat_map (service_lines cells) (services_in (pat_of (live_packets cells))))) }
@@ -154,7 +150,6 @@ fn push_service(
     id: u16,
     pid: u16,
 ) -> Result<(), AllocError>
-    requires { IsReady tracker.now }
     ensures { OnOk result ((cells : List GivenCell) → Tracks tracker.now cells → scene.now ≡ scene_of cells
         → lines.new.items ≡ lines.old.items ++ placed_at cut (service_lines cells (id, pid))) }
 {
@@ -175,7 +170,6 @@ fn service_text(
     pid: u16,
     pmt: Option<&Pmt>,
 ) -> Result<LineText, AllocError>
-    requires { IsReady tracker.now }
     ensures { IfOk result (λ text. (cells : List GivenCell) → Tracks tracker.now cells → scene.now ≡ scene_of cells
         → option_map pmt_held (option_copied pmt.entry) ≡ pmt_of id (live_packets cells)
         → text ≡ service_line cells (id, pid)) }
@@ -200,7 +194,6 @@ pub fn pcr_pid_in(pmt: Option<&Pmt>) -> Option<u64>
 
 /// How many packets are on the PIDs of the components of a PMT, each PID counted once.
 pub fn service_packets(tracker: &Tracker, pmt: Option<&Pmt>) -> Result<u64, AllocError>
-    requires { IsReady tracker.now }
     ensures { IfOk result (λ n. (cells : List GivenCell) → Tracks tracker.now cells
         → n ≡ service_packets (option_map pmt_held (option_copied pmt.entry)) (live_packets cells)) }
 {
@@ -213,7 +206,6 @@ pub fn service_packets(tracker: &Tracker, pmt: Option<&Pmt>) -> Result<u64, Allo
 
 // How many packets are on a PID, if they are counted; else 0.
 fn packets_if(tracker: &Tracker, is_one: bool, pid: u16) -> u64
-    requires ready { IsReady tracker.now }
     requires on_pid { pid < PID_COUNT }
     ensures { (cells : List GivenCell) → Tracks tracker.now cells → result ≡ (if is_one then packets_on pid (live_packets cells) else 0) }
 {
@@ -243,7 +235,6 @@ fn push_components(
     service: u16,
     components: &[Component],
 ) -> Result<(), AllocError>
-    requires { IsReady tracker.now }
     ensures { OnOk result ((cells : List GivenCell) → Tracks tracker.now cells → scene.now ≡ scene_of cells
         → lines.new.items ≡ lines.old.items ++ placed_at cut (map (λ c. component_line cells service (component_item c)) components.now)) }
 {
@@ -263,7 +254,6 @@ fn component_text(
     service: u16,
     component: &Component,
 ) -> Result<LineText, AllocError>
-    requires { IsReady tracker.now }
     ensures { IfOk result (λ text. (cells : List GivenCell) → Tracks tracker.now cells → scene.now ≡ scene_of cells
         → text ≡ component_line cells service (component_item component.now)) }
 {
@@ -283,7 +273,6 @@ fn push_pids(
     tracker: &Tracker,
     scene: &Scene,
 ) -> Result<(), AllocError>
-    requires { IsReady tracker.now }
     ensures { OnOk result ((cells : List GivenCell) → Tracks tracker.now cells → scene.now ≡ scene_of cells
         → lines.new.items ≡ lines.old.items ++ placed_at cut (flat_map (pid_lines cells) (numbers_below PID_COUNT))) }
 {
@@ -295,7 +284,6 @@ fn push_pids(
 
 /// The numbers of a PID, if it has packets and is not a component's.
 pub fn numbers_shown(tracker: &Tracker, pid: u16) -> Option<PidNumbers>
-    requires ready { IsReady tracker.now }
     requires on_pid { pid < PID_COUNT }
     ensures { (cells : List GivenCell) → Tracks tracker.now cells
         → result ≡ (if not (packets_on pid (live_packets cells) == 0) && (users_of (live_packets cells) pid == 0) then Some (numbers_on pid cells) else None) }
@@ -318,7 +306,6 @@ fn push_pid(
     scene: &Scene,
     pid: u16,
 ) -> Result<(), AllocError>
-    requires ready { IsReady tracker.now }
     requires on_pid { pid < PID_COUNT }
     ensures { OnOk result ((cells : List GivenCell) → Tracks tracker.now cells → scene.now ≡ scene_of cells
         → lines.new.items ≡ lines.old.items ++ placed_at cut (pid_lines cells pid)) }

@@ -61,7 +61,7 @@ impl Totals {
     ghost use Rattle.plugin_notes.specs.PidPackets.{packets_on};
     ghost use Rattle.plug_analyze.specs.AnalyzeRule.{fault_pids, is_scrambled};
     ghost use Rattle.plug_info.specs.InfoRule.{numbers_on};
-    ghost use Rattle.plug_info.specs.TotalsOf.{AreCounted, AreWhole};
+    ghost use Rattle.plug_info.specs.TotalsOf.{AreCounted};
 
     /// How many packets were counted in total.
     pub fn packets(&self) -> u64
@@ -94,7 +94,6 @@ impl Totals {
     /// How many packets were counted on a PID.
     pub fn packets_on(&self, pid: u16) -> u64
         requires on_pid { pid < PID_COUNT }
-        requires whole { AreWhole self.now }
         ensures { (cells : List GivenCell) → AreCounted self.now cells → result ≡ packets_on pid (live_packets cells) }
     {
         self.packets.count_on(pid)
@@ -103,7 +102,6 @@ impl Totals {
     /// How many packets of each kind were counted on a PID.
     pub fn numbers_on(&self, pid: u16) -> PidNumbers
         requires on_pid { pid < PID_COUNT }
-        requires whole { AreWhole self.now }
         ensures { (cells : List GivenCell) → AreCounted self.now cells → result ≡ numbers_on pid cells }
     {
         PidNumbers {

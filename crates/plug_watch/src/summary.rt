@@ -3,7 +3,7 @@ ghost use Rattle.std.specs.Prelude.{◌≡◌, ◌==◌, ◌++◌, ◌∷◌, []
 ghost use Rattle.std.specs.List.{flat_map};
 ghost use Rattle.ts_packet.specs.Header.{pid_of};
 ghost use Rattle.plugin_trait.specs.PlacedLines.{placed_at};
-ghost use Rattle.plugin_notes.specs.Tallies.{IsCounted, IsWhole};
+ghost use Rattle.plugin_notes.specs.Tallies.{IsCounted};
 ghost use Rattle.plugin_notes.specs.PidPackets.{numbers_below};
 ghost use Rattle.plug_watch.specs.CountRule.{pid_lines, pid_text, summary_on};
 
@@ -19,7 +19,6 @@ pub fn push_summary(
     tally: &Tally,
     total: bool,
 ) -> Result<(), AllocError>
-    requires { IsWhole tally.now }
     ensures { OnOk result ((packets : List (List ℕ)) → IsCounted tally.now (map pid_of packets)
         → lines.new.items ≡ lines.old.items ++ placed_at cut (summary_on total packets)) }
 {
@@ -32,7 +31,6 @@ pub fn push_summary(
 
 // Appends a line for each PID that has packets.
 fn push_pid_lines(lines: &mut Vec<Line>, cut: u64, tally: &Tally) -> Result<(), AllocError>
-    requires { IsWhole tally.now }
     ensures { OnOk result ((packets : List (List ℕ)) → IsCounted tally.now (map pid_of packets)
         → lines.new.items ≡ lines.old.items ++ placed_at cut (flat_map (pid_lines packets) (numbers_below PID_COUNT))) }
 {

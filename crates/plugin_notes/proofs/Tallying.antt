@@ -1,7 +1,8 @@
 -- Lemmas on counting one more packet.
-use Rattle.std.proofs.Common.{◌≡◌, ℕ, ◌+◌, ◌<◌, ◌≤◌, List, [], ◌∷◌, ◌++◌, length, get_or, set, ap, sym, subst, ◌∙◌, inl, inr, Bool, ◌==◌, if◌then◌else◌, arith, length-append, length-set, get_or-set_same, get_or-set_other, eq-eqb, add-zero, refl}
+use Rattle.std.proofs.Common.{◌≡◌, ℕ, ◌+◌, ◌<◌, ◌≤◌, List, [], ◌∷◌, ◌++◌, length, get_or, set, ap, sym, subst, ◌∙◌, inl, inr, Bool, ◌==◌, if◌then◌else◌, arith, length-append, length-set, get_or-set_same, get_or-set_other, eq-eqb, add-zero, replicate, refl}
 use Rattle.std.specs.List.{count_by}
 use Rattle.std.proofs.lemmas.Bool.{cases_eq, ne_eqb}
+use Rattle.std.proofs.lemmas.List.{length-replicate}
 use Rattle.std.proofs.lemmas.List.Sums.{count_by-le-length, fold-append}
 use Rattle.ts_packet.specs.declared.numbers.TheConstants.{PID_COUNT}
 use Rattle.plugin_notes.specs.Tallies.{IsTally}
@@ -9,6 +10,14 @@ use Rattle.plugin_notes.specs.Tallies.{IsTally}
 -- a count with one more member
 count_by-last : (p : ℕ → Bool) (xs : List ℕ) (x : ℕ) → count_by p (xs ++ x ∷ []) ≡ count_by p xs + (if p x then 1 else 0)
 count_by-last p xs x = fold-append (λ (n : ℕ) (y : ℕ). n + (if p y then 1 else 0)) 0 xs (x ∷ [])
+
+-- as many counts as there were made
+length-made : (counts : List ℕ) (n : ℕ) → counts ≡ replicate n 0 → length counts ≡ n
+length-made counts n is = ap length is ∙ length-replicate n 0
+
+-- nothing is counted yet
+pub counts_none : (counts : List ℕ) → counts ≡ replicate PID_COUNT 0 → ((pid : ℕ) → get_or counts pid 0 ≡ 0) → IsTally counts 0 []
+counts_none counts is none = record { whole = length-made counts PID_COUNT is; each = λ pid below. none pid; all = refl }
 
 -- no count is above the total
 pub small_count : (counts pids : List ℕ) (total pid : ℕ) → IsTally counts total pids → pid < PID_COUNT → get_or counts pid 0 ≤ length pids

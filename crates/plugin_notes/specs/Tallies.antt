@@ -11,7 +11,7 @@ pub record IsTally (counts : List ℕ) (total : ℕ) (pids : List ℕ) : Type 0 
 
 -- the counts of a tally are those of a list of PIDs
 abbrev pub IsCounted : Tally → List ℕ → Type 0
-IsCounted tally pids = IsTally tally.counts.items tally.total pids
+IsCounted tally pids = IsTally tally.counts tally.total pids
 
 -- the counts are those of some list, and one more packet can be counted
 pub record HasRoomFor (counts : List ℕ) (total : ℕ) : Type 0 where
@@ -21,8 +21,4 @@ pub record HasRoomFor (counts : List ℕ) (total : ℕ) : Type 0 where
 
 -- one more packet can be counted in a tally
 abbrev pub HasRoomIn : Tally → Type 0
-HasRoomIn tally = HasRoomFor tally.counts.items tally.total
-
--- there is a count for each PID
-abbrev pub IsWhole : Tally → Type 0
-IsWhole tally = length tally.counts.items ≡ PID_COUNT
+HasRoomIn tally = HasRoomFor tally.counts tally.total

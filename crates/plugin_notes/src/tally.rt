@@ -2,28 +2,27 @@
 ghost use Rattle.std.specs.Prelude.{◌≡◌, ◌<◌, ◌++◌, ◌∷◌, [], ℕ, List, IfOk, slice_index, if◌then◌else◌};
 
 use std::alloc::{AllocError, Global};
-use ts_packet::PID_COUNT;
+use ts_packet::{PID_COUNT, PidRow};
 
 /// How many packets were counted on each PID, and in total.
 #[derive(Drop)]
 pub struct Tally {
-    counts: Vec<u64>,
+    counts: PidRow<u64>,
     total: u64,
 }
 
 impl Tally {
     ghost use Rattle.std.specs.Prelude.{◌≡◌, ◌<◌, ◌++◌, ◌∷◌, [], ℕ, List, IfOk, slice_index, if◌then◌else◌};
-    ghost use Rattle.plugin_notes.specs.Tallies.{IsCounted, HasRoomIn, IsWhole};
+    ghost use Rattle.plugin_notes.specs.Tallies.{IsCounted, HasRoomIn};
 
     /// Nothing counted yet. Allocates 64 KiB.
     pub fn new(alloc: Global) -> Result<Tally, AllocError>
         ensures { IfOk result (λ tally. IsCounted tally []) }
     {
-        let mut counts = Vec::with_capacity(alloc, usize::from(PID_COUNT))?;
-        for _ in 0..PID_COUNT {
-            counts.push(0)?;
-        }
-        Ok(Tally { counts, total: 0 })
+        Ok(Tally {
+            counts: PidRow::filled(alloc, 0)?,
+            total: 0,
+        })
     }
 
     /// Counts one more packet on a PID.
@@ -33,7 +32,8 @@ impl Tally {
         requires room { HasRoomIn self.old }
         ensures { (pids : List ℕ) → IsCounted self.old pids → IsCounted self.new (pids ++ pid ∷ []) }
     {
-        self.counts[usize::from(pid)] += 1;
+        let count = self.counts.get(pid);
+        self.counts.set(pid, count + 1);
         self.total += 1;
     }
 
@@ -52,10 +52,9 @@ impl Tally {
     /// How many packets were counted on a PID.
     pub fn count_on(&self, pid: u16) -> u64
         requires on_pid { pid < PID_COUNT }
-        requires whole { IsWhole self.now }
-        ensures { result ≡ slice_index self.now.counts.items pid }
+        ensures { result ≡ slice_index self.now.counts pid }
     {
-        self.counts[usize::from(pid)]
+        self.counts.get(pid)
     }
 
     /// How many packets were counted in total.
