@@ -4,7 +4,7 @@ ghost use Rattle.std.specs.Prelude.{◌≡◌, IfOk, []};
 ghost use Rattle.plug_set.specs.Items.{rule_of_item};
 ghost use Rattle.plug_set.specs.Plugins.{is_silent, steady_of};
 
-use crate::idle::{Idle, idle};
+use crate::idle::{Idle, why_idle};
 use crate::masked_plugin::MaskedPlugin;
 use crate::plugin_item::PluginItem;
 use crate::some_plugin::SomePlugin;
@@ -49,7 +49,7 @@ impl AnyPlugin {
     /// Why the plugin was idle in all packets that it was shown; `None` where it was not, or where its kind edits,
     /// inserts and reads nothing. It is asked before `finish`.
     pub fn idle(&self) -> Result<Option<Idle>, AllocError> {
-        idle(&self.masked.plugin)
+        why_idle(&self.masked.plugin)
     }
 }
 

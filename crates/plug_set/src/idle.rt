@@ -23,7 +23,7 @@ pub enum Idle {
 }
 
 /// Why a plugin was idle; `None` where it was not, or where it edits nothing in any case.
-pub(crate) fn idle(plugin: &SomePlugin) -> Result<Option<Idle>, AllocError> {
+pub(crate) fn why_idle(plugin: &SomePlugin) -> Result<Option<Idle>, AllocError> {
     let unedited = match plugin {
         SomePlugin::Pat(plugin) => plugin.unedited()?,
         SomePlugin::Cat(plugin) => plugin.unedited()?,
