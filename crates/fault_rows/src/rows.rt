@@ -1,3 +1,4 @@
+//! Command lines that break a rule, of each kind of fault.
 use option_words::WordsRule;
 
 /// A command line, the number of the first word of the segment that breaks a rule, and the rule.

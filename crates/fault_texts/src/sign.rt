@@ -1,3 +1,4 @@
+//! The sign between the two numbers of a pair.
 ghost use Rattle.std.specs.Prelude.{◌≡◌};
 ghost use Rattle.fault_texts.specs.Fits.{code_of_sign};
 
