@@ -31,8 +31,7 @@ impl Fields for BouquetName {
 
     #[tactic(auto, unfolding(ts_fields::specs::Fitting::fits_uncounted))]
     fn values(&self, alloc: Global) -> Result<Vec<FieldValue>, AllocError> {
-        let mut values = Vec::new(alloc);
-        values.push(bytes_value(alloc, &self.bouquet_name)?)?;
-        Ok(values)
+        let bouquet_name = bytes_value(alloc, &self.bouquet_name)?;
+        Ok(vec![in alloc; bouquet_name]?)
     }
 }

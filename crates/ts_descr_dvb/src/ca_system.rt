@@ -32,8 +32,6 @@ impl Fields for CaSystem {
 
     #[tactic(auto, unfolding(ts_fields::specs::Fitting::fits_uncounted))]
     fn values(&self, alloc: Global) -> Result<Vec<FieldValue>, AllocError> {
-        let mut values = Vec::new(alloc);
-        values.push(FieldValue::Number(u64::from(self.value)))?;
-        Ok(values)
+        Ok(vec![in alloc; FieldValue::Number(u64::from(self.value))]?)
     }
 }

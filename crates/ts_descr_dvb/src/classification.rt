@@ -46,10 +46,10 @@ impl Fields for Classification {
 
     #[tactic(auto, unfolding(ts_fields::specs::Fitting::fits_uncounted))]
     fn values(&self, alloc: Global) -> Result<Vec<FieldValue>, AllocError> {
-        let mut values = Vec::new(alloc);
-        values.push(FieldValue::Number(u64::from(self.content_nibble_level_1)))?;
-        values.push(FieldValue::Number(u64::from(self.content_nibble_level_2)))?;
-        values.push(FieldValue::Number(u64::from(self.user_byte)))?;
-        Ok(values)
+        Ok(vec![in alloc;
+            FieldValue::Number(u64::from(self.content_nibble_level_1)),
+            FieldValue::Number(u64::from(self.content_nibble_level_2)),
+            FieldValue::Number(u64::from(self.user_byte)),
+        ]?)
     }
 }

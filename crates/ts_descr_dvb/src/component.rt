@@ -60,13 +60,15 @@ impl Fields for Component {
 
     #[tactic(auto, unfolding(ts_fields::specs::Fitting::fits_uncounted))]
     fn values(&self, alloc: Global) -> Result<Vec<FieldValue>, AllocError> {
-        let mut values = Vec::new(alloc);
-        values.push(FieldValue::Number(u64::from(self.stream_content_ext)))?;
-        values.push(FieldValue::Number(u64::from(self.stream_content)))?;
-        values.push(FieldValue::Number(u64::from(self.component_type)))?;
-        values.push(FieldValue::Number(u64::from(self.component_tag)))?;
-        values.push(FieldValue::Bytes(self.language_code.to_vec(alloc)?))?;
-        values.push(bytes_value(alloc, &self.text)?)?;
-        Ok(values)
+        let language_code = self.language_code.to_vec(alloc)?;
+        let text = bytes_value(alloc, &self.text)?;
+        Ok(vec![in alloc;
+            FieldValue::Number(u64::from(self.stream_content_ext)),
+            FieldValue::Number(u64::from(self.stream_content)),
+            FieldValue::Number(u64::from(self.component_type)),
+            FieldValue::Number(u64::from(self.component_tag)),
+            FieldValue::Bytes(language_code),
+            text,
+        ]?)
     }
 }

@@ -38,9 +38,10 @@ impl Fields for Country {
 
     #[tactic(auto, unfolding(ts_fields::specs::Fitting::fits_uncounted))]
     fn values(&self, alloc: Global) -> Result<Vec<FieldValue>, AllocError> {
-        let mut values = Vec::new(alloc);
-        values.push(FieldValue::Bytes(self.country_code.to_vec(alloc)?))?;
-        values.push(FieldValue::Number(u64::from(self.rating)))?;
-        Ok(values)
+        let country_code = self.country_code.to_vec(alloc)?;
+        Ok(vec![in alloc;
+            FieldValue::Bytes(country_code),
+            FieldValue::Number(u64::from(self.rating)),
+        ]?)
     }
 }

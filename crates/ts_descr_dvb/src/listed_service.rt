@@ -39,9 +39,9 @@ impl Fields for ListedService {
 
     #[tactic(auto, unfolding(ts_fields::specs::Fitting::fits_uncounted))]
     fn values(&self, alloc: Global) -> Result<Vec<FieldValue>, AllocError> {
-        let mut values = Vec::new(alloc);
-        values.push(FieldValue::Number(u64::from(self.service_id)))?;
-        values.push(FieldValue::Number(u64::from(self.service_type)))?;
-        Ok(values)
+        Ok(vec![in alloc;
+            FieldValue::Number(u64::from(self.service_id)),
+            FieldValue::Number(u64::from(self.service_type)),
+        ]?)
     }
 }

@@ -31,8 +31,7 @@ impl Fields for NetworkName {
 
     #[tactic(auto, unfolding(ts_fields::specs::Fitting::fits_uncounted))]
     fn values(&self, alloc: Global) -> Result<Vec<FieldValue>, AllocError> {
-        let mut values = Vec::new(alloc);
-        values.push(bytes_value(alloc, &self.network_name)?)?;
-        Ok(values)
+        let network_name = bytes_value(alloc, &self.network_name)?;
+        Ok(vec![in alloc; network_name]?)
     }
 }

@@ -34,8 +34,6 @@ impl Fields for PrivateDataSpecifier {
 
     #[tactic(auto, unfolding(ts_fields::specs::Fitting::fits_uncounted))]
     fn values(&self, alloc: Global) -> Result<Vec<FieldValue>, AllocError> {
-        let mut values = Vec::new(alloc);
-        values.push(FieldValue::Number(u64::from(self.private_data_specifier)))?;
-        Ok(values)
+        Ok(vec![in alloc; FieldValue::Number(u64::from(self.private_data_specifier))]?)
     }
 }

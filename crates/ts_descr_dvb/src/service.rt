@@ -42,10 +42,12 @@ impl Fields for Service {
 
     #[tactic(auto, unfolding(ts_fields::specs::Fitting::fits_uncounted))]
     fn values(&self, alloc: Global) -> Result<Vec<FieldValue>, AllocError> {
-        let mut values = Vec::new(alloc);
-        values.push(FieldValue::Number(u64::from(self.service_type)))?;
-        values.push(bytes_value(alloc, &self.service_provider_name)?)?;
-        values.push(bytes_value(alloc, &self.service_name)?)?;
-        Ok(values)
+        let service_provider_name = bytes_value(alloc, &self.service_provider_name)?;
+        let service_name = bytes_value(alloc, &self.service_name)?;
+        Ok(vec![in alloc;
+            FieldValue::Number(u64::from(self.service_type)),
+            service_provider_name,
+            service_name,
+        ]?)
     }
 }

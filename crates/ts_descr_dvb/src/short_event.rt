@@ -45,10 +45,9 @@ impl Fields for ShortEvent {
 
     #[tactic(auto, unfolding(ts_fields::specs::Fitting::fits_uncounted))]
     fn values(&self, alloc: Global) -> Result<Vec<FieldValue>, AllocError> {
-        let mut values = Vec::new(alloc);
-        values.push(FieldValue::Bytes(self.language_code.to_vec(alloc)?))?;
-        values.push(bytes_value(alloc, &self.event_name)?)?;
-        values.push(bytes_value(alloc, &self.text)?)?;
-        Ok(values)
+        let language_code = self.language_code.to_vec(alloc)?;
+        let event_name = bytes_value(alloc, &self.event_name)?;
+        let text = bytes_value(alloc, &self.text)?;
+        Ok(vec![in alloc; FieldValue::Bytes(language_code), event_name, text]?)
     }
 }

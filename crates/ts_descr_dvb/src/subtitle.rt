@@ -50,11 +50,12 @@ impl Fields for Subtitle {
 
     #[tactic(auto, unfolding(ts_fields::specs::Fitting::fits_uncounted))]
     fn values(&self, alloc: Global) -> Result<Vec<FieldValue>, AllocError> {
-        let mut values = Vec::new(alloc);
-        values.push(FieldValue::Bytes(self.language_code.to_vec(alloc)?))?;
-        values.push(FieldValue::Number(u64::from(self.subtitling_type)))?;
-        values.push(FieldValue::Number(u64::from(self.composition_page_id)))?;
-        values.push(FieldValue::Number(u64::from(self.ancillary_page_id)))?;
-        Ok(values)
+        let language_code = self.language_code.to_vec(alloc)?;
+        Ok(vec![in alloc;
+            FieldValue::Bytes(language_code),
+            FieldValue::Number(u64::from(self.subtitling_type)),
+            FieldValue::Number(u64::from(self.composition_page_id)),
+            FieldValue::Number(u64::from(self.ancillary_page_id)),
+        ]?)
     }
 }

@@ -53,11 +53,12 @@ impl Fields for TeletextPage {
 
     #[tactic(auto, unfolding(ts_fields::specs::Fitting::fits_uncounted))]
     fn values(&self, alloc: Global) -> Result<Vec<FieldValue>, AllocError> {
-        let mut values = Vec::new(alloc);
-        values.push(FieldValue::Bytes(self.language_code.to_vec(alloc)?))?;
-        values.push(FieldValue::Number(u64::from(self.teletext_type)))?;
-        values.push(FieldValue::Number(u64::from(self.teletext_magazine_number)))?;
-        values.push(FieldValue::Number(u64::from(self.teletext_page_number)))?;
-        Ok(values)
+        let language_code = self.language_code.to_vec(alloc)?;
+        Ok(vec![in alloc;
+            FieldValue::Bytes(language_code),
+            FieldValue::Number(u64::from(self.teletext_type)),
+            FieldValue::Number(u64::from(self.teletext_magazine_number)),
+            FieldValue::Number(u64::from(self.teletext_page_number)),
+        ]?)
     }
 }
