@@ -54,12 +54,12 @@ impl Fields for Cable {
 
     #[tactic(auto, unfolding(ts_fields::specs::Fitting::fits_uncounted))]
     fn values(&self, alloc: Global) -> Result<Vec<FieldValue>, AllocError> {
-        let mut values = Vec::new(alloc);
-        values.push(FieldValue::Number(u64::from(self.frequency)))?;
-        values.push(FieldValue::Number(u64::from(self.fec_outer)))?;
-        values.push(FieldValue::Number(u64::from(self.modulation)))?;
-        values.push(FieldValue::Number(u64::from(self.symbol_rate)))?;
-        values.push(FieldValue::Number(u64::from(self.fec_inner)))?;
-        Ok(values)
+        Ok(vec![in alloc;
+            FieldValue::Number(u64::from(self.frequency)),
+            FieldValue::Number(u64::from(self.fec_outer)),
+            FieldValue::Number(u64::from(self.modulation)),
+            FieldValue::Number(u64::from(self.symbol_rate)),
+            FieldValue::Number(u64::from(self.fec_inner)),
+        ]?)
     }
 }

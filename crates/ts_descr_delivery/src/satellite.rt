@@ -62,17 +62,17 @@ impl Fields for Satellite {
 
     #[tactic(auto, unfolding(ts_fields::specs::Fitting::fits_uncounted))]
     fn values(&self, alloc: Global) -> Result<Vec<FieldValue>, AllocError> {
-        let mut values = Vec::new(alloc);
-        values.push(FieldValue::Number(u64::from(self.frequency)))?;
-        values.push(FieldValue::Number(u64::from(self.orbital_position)))?;
-        values.push(FieldValue::Number(u64::from(self.west_east_flag)))?;
-        values.push(FieldValue::Number(u64::from(self.polarization)))?;
-        values.push(FieldValue::Number(u64::from(self.roll_off)))?;
-        values.push(FieldValue::Number(u64::from(self.modulation_system)))?;
-        values.push(FieldValue::Number(u64::from(self.modulation_type)))?;
-        values.push(FieldValue::Number(u64::from(self.symbol_rate)))?;
-        values.push(FieldValue::Number(u64::from(self.fec_inner)))?;
-        Ok(values)
+        Ok(vec![in alloc;
+            FieldValue::Number(u64::from(self.frequency)),
+            FieldValue::Number(u64::from(self.orbital_position)),
+            FieldValue::Number(u64::from(self.west_east_flag)),
+            FieldValue::Number(u64::from(self.polarization)),
+            FieldValue::Number(u64::from(self.roll_off)),
+            FieldValue::Number(u64::from(self.modulation_system)),
+            FieldValue::Number(u64::from(self.modulation_type)),
+            FieldValue::Number(u64::from(self.symbol_rate)),
+            FieldValue::Number(u64::from(self.fec_inner)),
+        ]?)
     }
 }
 

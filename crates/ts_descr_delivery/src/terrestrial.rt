@@ -75,20 +75,20 @@ impl Fields for Terrestrial {
 
     #[tactic(auto, unfolding(ts_fields::specs::Fitting::fits_uncounted))]
     fn values(&self, alloc: Global) -> Result<Vec<FieldValue>, AllocError> {
-        let mut values = Vec::new(alloc);
-        values.push(FieldValue::Number(u64::from(self.centre_frequency)))?;
-        values.push(FieldValue::Number(u64::from(self.bandwidth)))?;
-        values.push(FieldValue::Number(u64::from(self.priority)))?;
-        values.push(FieldValue::Number(u64::from(self.time_slicing)))?;
-        values.push(FieldValue::Number(u64::from(self.mpe_fec)))?;
-        values.push(FieldValue::Number(u64::from(self.constellation)))?;
-        values.push(FieldValue::Number(u64::from(self.hierarchy)))?;
-        values.push(FieldValue::Number(u64::from(self.code_rate_hp)))?;
-        values.push(FieldValue::Number(u64::from(self.code_rate_lp)))?;
-        values.push(FieldValue::Number(u64::from(self.guard_interval)))?;
-        values.push(FieldValue::Number(u64::from(self.transmission_mode)))?;
-        values.push(FieldValue::Number(u64::from(self.other_frequency)))?;
-        Ok(values)
+        Ok(vec![in alloc;
+            FieldValue::Number(u64::from(self.centre_frequency)),
+            FieldValue::Number(u64::from(self.bandwidth)),
+            FieldValue::Number(u64::from(self.priority)),
+            FieldValue::Number(u64::from(self.time_slicing)),
+            FieldValue::Number(u64::from(self.mpe_fec)),
+            FieldValue::Number(u64::from(self.constellation)),
+            FieldValue::Number(u64::from(self.hierarchy)),
+            FieldValue::Number(u64::from(self.code_rate_hp)),
+            FieldValue::Number(u64::from(self.code_rate_lp)),
+            FieldValue::Number(u64::from(self.guard_interval)),
+            FieldValue::Number(u64::from(self.transmission_mode)),
+            FieldValue::Number(u64::from(self.other_frequency)),
+        ]?)
     }
 }
 
