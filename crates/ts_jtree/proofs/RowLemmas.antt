@@ -59,6 +59,16 @@ sound_more fields i inside all =
     let d : Field = record { name = record { ref_ptr = (0, 0); now = [] }; kind = Number 0; absent = None; range = None } in
     right_true (is_sound (get_or fields i d).kind) _ (rw (rows_left fields i d inside) at all)
 
+left_true : (a b : Bool) → IsTrue (a && b) → IsTrue a
+left_true true b is = refl
+left_true false b is = cc
+
+-- the row at a place
+pub sound_first : (fields : List Field) (i : ℕ) (d : Field) → i < length fields
+    → IsTrue (are_sound (rows_of (drop i fields))) → IsTrue (is_sound (get_or fields i d).kind)
+sound_first fields i d inside all =
+    left_true (is_sound (get_or fields i d).kind) (are_sound (rows_of (drop (i + 1) fields))) (rw (rows_left fields i d inside) at all)
+
 pub ten_power : (digits : ℕ) → 1 ≤ 10 ^ digits
 ten_power zero = omega arith
 ten_power (suc digits) = omega (arith, ten_power digits)

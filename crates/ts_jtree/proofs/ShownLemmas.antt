@@ -90,3 +90,9 @@ fit_shown [] values fit = refl
 fit_shown (r ∷ rs) values fit =
     let parts = both (field_fits r.kind (slice_get values 0)) (fits rs (drop (holds r.kind) values)) fit in
     rw (field_shown r.kind (slice_get values 0) parts.0, fit_shown rs (drop (holds r.kind) values) parts.1) refl
+
+-- without a value nothing is put
+pub none_put : (kind : Kind) (name : List ℕ) (ms : Members) → put_attribute kind name None ms ≡ ms
+unfolding put_attribute
+none_put (Number count) name ms = refl
+none_put _ name ms = refl

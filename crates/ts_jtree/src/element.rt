@@ -16,10 +16,10 @@ use std::alloc::Global;
 use ts_fields::{Field, FieldValue, Kind};
 
 /// The key of an element's name.
-const NAME: &str = "#name";
+pub(crate) const NAME: &str = "#name";
 
 /// The key of an element's children.
-const NODES: &str = "#nodes";
+pub(crate) const NODES: &str = "#nodes";
 
 /// The members of an element: `WrongKind` on `#name` where the value is not an object.
 pub fn members(alloc: Global, value: &Value) -> Result<&Map<String, Value>, ReadRefusal>

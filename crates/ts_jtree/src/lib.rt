@@ -16,4 +16,4 @@ pub use element::{
 pub use element_laws::{element_shows, fit_is_shown, shown_is_read, values_are_shaped};
 pub use fault::{JsonFault, JsonKind, KeyText, PathList, ReadRefusal, at_child, refuse_key};
 pub use number::{number_of_value, truth_of_value};
-pub use shown::{put_member, put_text, show_attributes};
+pub use shown::{element_json, put_member, put_text, show_attributes};

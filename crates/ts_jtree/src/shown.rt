@@ -1,16 +1,19 @@
 //! Writing elements.
 
-ghost use Rattle.std.specs.Prelude.{◌≡◌, map, slice_get, option_map, OnOk, true};
+ghost use Rattle.std.specs.Prelude.{◌≡◌, map, slice_get, option_map, IfOk, OnOk, Some, true};
 ghost use Rattle.hex.specs.Hex.{encode_lower};
-ghost use Rattle.serde_json.specs.Data.{put, string};
+ghost use Rattle.serde_json.specs.Data.{object, put, string};
 ghost use Rattle.serde_json.specs.View.{view, members_view};
 ghost use Rattle.ts_fields.specs.Layout.{held, row, rows_of};
+ghost use Rattle.ts_fields.specs.Layout as rows;
 ghost use Rattle.ts_days.specs.TimeTexts;
 ghost use Rattle.ts_fields.specs.Reading;
 ghost use Rattle.ts_jtree.specs.Shown;
-ghost use Rattle.ts_jtree.specs.Shown.{put_attribute, put_attributes};
+ghost use Rattle.ts_jtree.specs.Elements.{name_key};
+ghost use Rattle.ts_jtree.specs.Shown.{element_members, put_attribute, put_attributes, put_nodes};
 
 use crate::attribute::hex_key;
+use crate::element::{NAME, NODES};
 use serde_json::{Map, Value};
 use std::alloc::{AllocError, Global};
 use ts_days::{start_text, time_text};
@@ -106,8 +109,51 @@ fn put_text_or_hex(
     put_text(alloc, members, key, text)
 }
 
-/// Puts the attribute of a field with this value.
+/// Puts the attribute of a field with this number.
 #[tactic(auto, unfolding(crate::specs::Shown::put_attribute))]
+fn show_number(
+    alloc: Global,
+    members: &mut Map<String, Value>,
+    field: &Field,
+    number: u64,
+) -> Result<(), AllocError>
+    ensures { OnOk result (members_view members.new.entries
+        ≡ put_attribute (row field.now).kind (row field.now).name (Some (rows.number number))
+        (members_view members.old.entries)) }
+{
+    match field.kind {
+        Kind::Flag => put_member(alloc, members, field.name, Value::Bool(number == 1)),
+        Kind::Number(_) | Kind::Decimal(_) => {
+            put_member(alloc, members, field.name, Value::from(number))
+        }
+        Kind::Start => put_start(alloc, members, field.name, number),
+        Kind::Duration => put_text(alloc, members, field.name, time_text(number).as_str()),
+        _ => Ok(()),
+    }
+}
+
+/// Puts the attribute of a field with these bytes.
+#[tactic(auto, unfolding(crate::specs::Shown::put_attribute))]
+fn show_bytes(
+    alloc: Global,
+    members: &mut Map<String, Value>,
+    field: &Field,
+    bytes: &[u8],
+) -> Result<(), AllocError>
+    requires { Shown.is_shown (row field.now).kind (Some (rows.bytes bytes.now)) ≡ true }
+    ensures { OnOk result (members_view members.new.entries
+        ≡ put_attribute (row field.now).kind (row field.now).name (Some (rows.bytes bytes.now))
+        (members_view members.old.entries)) }
+{
+    match field.kind {
+        Kind::Language => put_language(alloc, members, field.name, bytes),
+        Kind::CountedText | Kind::Text => put_text_or_hex(alloc, members, field.name, bytes),
+        Kind::Hex => put_hex(alloc, members, field.name, bytes),
+        _ => Ok(()),
+    }
+}
+
+/// Puts the attribute of a field with this value.
 fn show_attribute(
     alloc: Global,
     members: &mut Map<String, Value>,
@@ -119,27 +165,10 @@ fn show_attribute(
         ≡ put_attribute (row field.now).kind (row field.now).name (option_map (λ v. held v.now) value.entry)
         (members_view members.old.entries)) }
 {
-    match (field.kind, value) {
-        (Kind::Flag, Some(FieldValue::Number(bit))) => {
-            put_member(alloc, members, field.name, Value::Bool(*bit == 1))
-        }
-        (Kind::Number(_) | Kind::Decimal(_), Some(FieldValue::Number(number))) => {
-            put_member(alloc, members, field.name, Value::from(*number))
-        }
-        (Kind::Start, Some(FieldValue::Number(number))) => {
-            put_start(alloc, members, field.name, *number)
-        }
-        (Kind::Duration, Some(FieldValue::Number(number))) => {
-            put_text(alloc, members, field.name, time_text(*number).as_str())
-        }
-        (Kind::Language, Some(FieldValue::Bytes(bytes))) => {
-            put_language(alloc, members, field.name, bytes)
-        }
-        (Kind::CountedText | Kind::Text, Some(FieldValue::Bytes(bytes))) => {
-            put_text_or_hex(alloc, members, field.name, bytes)
-        }
-        (Kind::Hex, Some(FieldValue::Bytes(bytes))) => put_hex(alloc, members, field.name, bytes),
-        _ => Ok(()),
+    match value {
+        Some(FieldValue::Number(number)) => show_number(alloc, members, field, *number),
+        Some(FieldValue::Bytes(bytes)) => show_bytes(alloc, members, field, bytes),
+        None => Ok(()),
     }
 }
 
@@ -167,4 +196,55 @@ fn value_at(values: &[FieldValue], place: usize) -> Option<&FieldValue>
     ensures { option_map (λ v. v.now) result ≡ slice_get values.now place }
 {
     values.get(place)
+}
+
+/// Puts what an element has as its children, where it may have some.
+fn put_children(
+    alloc: Global,
+    members: &mut Map<String, Value>,
+    nodes: Option<Value>,
+) -> Result<(), AllocError>
+    ensures { OnOk result (members_view members.new.entries
+        ≡ put_nodes (option_map view nodes) (members_view members.old.entries)) }
+{
+    match nodes {
+        Some(nodes) => put_member(alloc, members, NODES, nodes),
+        None => Ok(()),
+    }
+}
+
+/// Puts the name, the children and the attributes of an element, in this order.
+fn put_element(
+    alloc: Global,
+    members: &mut Map<String, Value>,
+    name: &str,
+    rows: &[Field],
+    values: &[FieldValue],
+    nodes: Option<Value>,
+) -> Result<(), AllocError>
+    requires { Shown.are_shown (rows_of rows.now) (map held values.now) ≡ true }
+    ensures { OnOk result (members_view members.new.entries
+        ≡ put_attributes (rows_of rows.now) (map held values.now)
+        (put_nodes (option_map view nodes) (put name_key (string name.now) (members_view members.old.entries)))) }
+{
+    put_text(alloc, members, NAME, name)?;
+    put_children(alloc, members, nodes)?;
+    show_attributes(alloc, members, rows, values)
+}
+
+/// The element of this name, with these rows, values and children.
+pub fn element_json(
+    alloc: Global,
+    name: &str,
+    rows: &[Field],
+    values: &[FieldValue],
+    nodes: Option<Value>,
+) -> Result<Value, AllocError>
+    requires { Shown.are_shown (rows_of rows.now) (map held values.now) ≡ true }
+    ensures { IfOk result (λ v. view v
+        ≡ object (element_members (rows_of rows.now) name.now (option_map view nodes) (map held values.now))) }
+{
+    let mut members = Map::new(alloc);
+    put_element(alloc, &mut members, name, rows, values, nodes)?;
+    Ok(Value::Object(members))
 }

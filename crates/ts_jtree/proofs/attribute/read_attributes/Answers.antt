@@ -3,9 +3,12 @@ use Rattle.std.specs.Prelude.{option_map}
 use Rattle.std.proofs.lemmas.Result.{err_from_is_err_and}
 use Rattle.serde_json.specs.View.{members_view}
 use Rattle.ts_fields.specs.Layout.{held}
-use Rattle.ts_jtree.proofs.RowLemmas.{sound_more, held_more}
+use Rattle.ts_jtree.proofs.RowLemmas.{sound_first, sound_more, held_more}
 use Rattle.ts_jtree.proofs.AttributeLemmas.{values_go_on, values_stop, values_done}
 use Rattle.ts_jtree.proofs.attribute.read_attributes.Goals as goal
+
+pub read_attribute-requires : goal.read_attribute-requires
+read_attribute-requires c = sound_first c.args.rows.now c.loop-field.field-index _ c.loop-field-test.true c.loop-field.invariant.sound
 
 pub returns-in_err-value : goal.returns-in_err-value
 returns-in_err-value c =
