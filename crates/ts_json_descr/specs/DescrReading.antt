@@ -68,11 +68,16 @@ read_generic ms = do
   h ← read_holding generic_page ms
   tagged h.head
 
+-- the descriptor of an element of this name
+abbrev pub read_by_name : List ℕ → Members → Reading (ℕ × List Bool)
+read_by_name name ms =
+    if bytes_eq name generic_name then read_generic ms else (do
+      p ← or_refuse (page_named name) name_key UnknownKey
+      read_typed p ms)
+
 -- the tag and the bits of the body of a descriptor's element
 unfoldable pub descr_read : Data → Reading (ℕ × List Bool)
 descr_read value = do
   ms ← members_of value
   name ← name_of ms
-  if bytes_eq name generic_name then read_generic ms else (do
-    p ← or_refuse (page_named name) name_key UnknownKey
-    read_typed p ms)
+  read_by_name name ms

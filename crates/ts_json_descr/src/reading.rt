@@ -1,6 +1,6 @@
 //! Reading descriptors from JSON elements.
 
-ghost use Rattle.std.specs.Prelude.{◌≡◌, [], map, length, IsTrue, Some, option_map};
+ghost use Rattle.std.specs.Prelude.{◌≡◌, map, IsTrue, option_map};
 ghost use Rattle.serde_json.specs.View.{view, items_view, members_view};
 ghost use Rattle.ts_fields.specs.Bits.{bits_of};
 ghost use Rattle.ts_fields.specs.Bodies.{page, page_sound, items_sound, body_held, item_held, item_page};
@@ -8,7 +8,7 @@ ghost use Rattle.ts_fields.specs.Layout.{rows_of, held};
 ghost use Rattle.ts_fields.specs.SoundRows.{are_sound};
 ghost use Rattle.ts_jtree.specs.Faults.{Answers, at_child};
 ghost use Rattle.ts_json_descr.specs.DescrReading;
-ghost use Rattle.ts_json_descr.specs.DescrReading.{read_holding, descr_read};
+ghost use Rattle.ts_json_descr.specs.DescrReading.{read_holding, read_by_name, descr_read};
 
 use crate::showing::GENERIC;
 use serde_json::{Map, Value};
@@ -134,7 +134,7 @@ fn tagged(alloc: Global, values: &[FieldValue]) -> Result<Descriptor, ReadRefusa
     ensures { Answers (λ d. (d.tag, bits_of d.body)) result (DescrReading.tagged (map held values.now)) }
 {
     let [FieldValue::Number(tag), FieldValue::Bytes(body)] = values else {
-        return Err(refuse_key(alloc, "#name", JsonKind::OutOfRange));
+        unreachable!()
     };
     Ok(Descriptor::new(alloc, *tag as u8, body)?)
 }
@@ -149,6 +149,24 @@ fn read_generic(alloc: Global, members: &Map<String, Value>) -> Result<Descripto
     tagged(alloc, &body.head)
 }
 
+/// The descriptor of an element of this name.
+fn read_named(
+    alloc: Global,
+    name: &str,
+    members: &Map<String, Value>,
+) -> Result<Descriptor, ReadRefusal>
+    ensures { Answers (λ d. (d.tag, bits_of d.body)) result
+        (read_by_name name.now (members_view members.now.entries)) }
+{
+    if name == "generic_descriptor" {
+        return read_generic(alloc, members);
+    }
+    match layout_named(name) {
+        Some(layout) => read_typed(alloc, layout, members),
+        None => Err(refuse_key(alloc, "#name", JsonKind::UnknownKey)),
+    }
+}
+
 /// The descriptor of an element, or the first fault of the element and its children. A body of more than 255
 /// bytes is `OutOfRange` on `#name`, and is checked last.
 #[tactic(auto, unfolding(crate::specs::DescrReading::descr_read))]
@@ -157,11 +175,5 @@ pub fn json_descr(alloc: Global, value: &Value) -> Result<Descriptor, ReadRefusa
 {
     let members = members(alloc, value)?;
     let name = element_name(alloc, members)?;
-    if name == "generic_descriptor" {
-        return read_generic(alloc, members);
-    }
-    let Some(layout) = layout_named(name) else {
-        return Err(refuse_key(alloc, "#name", JsonKind::UnknownKey));
-    };
-    read_typed(alloc, layout, members)
+    read_named(alloc, name, members)
 }

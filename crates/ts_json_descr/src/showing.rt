@@ -1,19 +1,18 @@
 //! Showing descriptors as JSON elements.
 
-ghost use Rattle.std.specs.Prelude.{◌≡◌, ◌∷◌, [], map, option_map, Some, true, OnOk, IfOk};
-ghost use Rattle.serde_json.specs.View.{view, members_view};
+ghost use Rattle.std.specs.Prelude.{◌≡◌, ◌∷◌, [], map, option_map, true, IfOk};
+ghost use Rattle.serde_json.specs.View.{view};
 ghost use Rattle.ts_fields.specs.Bodies.{page, page_fits, body_held, item_held, item_page, all_fit, items_fit};
 ghost use Rattle.ts_fields.specs.Fitting.{fits};
 ghost use Rattle.ts_fields.specs.Layout.{rows_of, held, number, bytes};
-ghost use Rattle.ts_jtree.specs.Shown.{put_nodes};
 ghost use Rattle.ts_json_descr.specs.DescrElements;
 ghost use Rattle.ts_json_descr.specs.DescrElements.{descr_shown, body_shown, item_shown, items_shown, generic_shown};
 
-use serde_json::{Map, Value};
+use serde_json::Value;
 use std::alloc::{AllocError, Global};
 use ts_bits::Descriptor;
 use ts_fields::{Body, Field, FieldValue, Item, ItemLayout, Kind, Layout, NotRead, read_body};
-use ts_jtree::{fit_is_shown, put_member, put_text, show_attributes};
+use ts_jtree::{element_json, fit_is_shown};
 use ts_pages::layout_of;
 
 /// The layout of a descriptor without a page: tag and bytes.
@@ -57,21 +56,17 @@ pub fn descr_json(alloc: Global, from: &Descriptor) -> Result<Value, AllocError>
 fn generic_json(alloc: Global, from: &Descriptor) -> Result<Value, AllocError>
     ensures { IfOk result (λ v. view v ≡ generic_shown from.now) }
 {
-    let mut members = Map::new(alloc);
-    put_text(alloc, &mut members, "#name", GENERIC.name)?;
     let values = generic_values(alloc, from)?;
-    show_attributes(alloc, &mut members, GENERIC.head, &values)?;
-    Ok(Value::Object(members))
+    element_json(alloc, GENERIC.name, GENERIC.head, &values, None)
 }
 
 /// The values of the fields of a tag and bytes.
 fn generic_values(alloc: Global, from: &Descriptor) -> Result<Vec<FieldValue>, AllocError>
     ensures { IfOk result (λ v. map held v.items ≡ number from.now.tag ∷ bytes from.now.body ∷ []) }
 {
-    let mut values = Vec::new(alloc);
-    values.push(FieldValue::Number(u64::from(from.tag())))?;
-    values.push(FieldValue::Bytes(Vec::from_slice(alloc, from.body())?))?;
-    Ok(values)
+    let body = Vec::from_slice(alloc, from.body())?;
+    let tag = u64::from(from.tag());
+    Ok(vec![in alloc; FieldValue::Number(tag), FieldValue::Bytes(body)]?)
 }
 
 /// The element of a body that a page reads.
@@ -79,31 +74,26 @@ fn body_json(alloc: Global, layout: &Layout, body: &Body) -> Result<Value, Alloc
     requires { page_fits (page layout.now) (body_held body.now) ≡ true }
     ensures { IfOk result (λ v. view v ≡ body_shown (page layout.now) (body_held body.now)) }
 {
-    let mut members = Map::new(alloc);
-    put_text(alloc, &mut members, "#name", layout.name)?;
-    put_items(alloc, &mut members, layout.items, &body.items)?;
+    let nodes = nodes_json(alloc, layout.items, &body.items)?;
     fit_is_shown();
-    show_attributes(alloc, &mut members, layout.head, &body.head)?;
-    Ok(Value::Object(members))
+    element_json(alloc, layout.name, layout.head, &body.head, nodes)
 }
 
-/// Puts the items as children, where the layout has items.
-fn put_items(
+/// The items as children, where the layout has items.
+fn nodes_json(
     alloc: Global,
-    members: &mut Map<String, Value>,
     layout: Option<ItemLayout>,
     items: &[Item],
-) -> Result<(), AllocError>
+) -> Result<Option<Value>, AllocError>
     requires { items_fit (option_map item_page layout) (map item_held items.now) ≡ true }
-    ensures { OnOk result (members_view members.new.entries
-        ≡ put_nodes (items_shown (option_map item_page layout) (map item_held items.now))
-        (members_view members.old.entries)) }
+    ensures { IfOk result (λ nodes. option_map view nodes
+        ≡ items_shown (option_map item_page layout) (map item_held items.now)) }
 {
     match layout {
-        None => Ok(()),
+        None => Ok(None),
         Some(layout) => {
             let nodes = items_json(alloc, layout, items)?;
-            put_member(alloc, members, "#nodes", Value::Array(nodes))
+            Ok(Some(Value::Array(nodes)))
         }
     }
 }
@@ -126,9 +116,6 @@ fn item_json(alloc: Global, layout: ItemLayout, item: &Item) -> Result<Value, Al
     requires { fits (rows_of layout.rows.now) (item_held item.now) ≡ true }
     ensures { IfOk result (λ v. view v ≡ item_shown (item_page layout) (item_held item.now)) }
 {
-    let mut members = Map::new(alloc);
-    put_text(alloc, &mut members, "#name", layout.name)?;
     fit_is_shown();
-    show_attributes(alloc, &mut members, layout.rows, &item.values)?;
-    Ok(Value::Object(members))
+    element_json(alloc, layout.name, layout.rows, &item.values, None)
 }

@@ -6,10 +6,13 @@ use Rattle.ts_jtree.specs.Shown.{are_shown}
 use Rattle.ts_json_descr.proofs.StepLemmas.{both}
 use Rattle.ts_json_descr.proofs.showing.body_json.Goals as goal
 
-pub show_attributes-requires : goal.show_attributes-requires
-show_attributes-requires c =
+pub element_json-requires : goal.element_json-requires
+element_json-requires c =
     let p = page c.args.layout.now in
     let h = body_held c.args.body.now in
     let fit = (both (fits p.head h.head) (items_fit p.items h.items) c.requires).0 in
     ap (λ vs. are_shown (rows_of c.args.layout.now.head.now) (map held vs)) c.deref-2.ensures.value
     ∙ c.fit_is_shown.ensures p.head h.head fit
+
+pub returns : goal.returns
+returns c = rw (c.deref-2.ensures.value, c.in_ok-nodes.ensures, c.deref.ensures.value) at c.element_json.ensures
