@@ -2,11 +2,10 @@
 use Rattle.std.proofs.Common.{◌≡◌, ℕ, ◌<◌, ◌^◌, Bool, true, false, List, [], ◌∷◌, refl, ap, ◌∙◌, arith, drop}
 use Rattle.std.specs.Prelude.{◌&&◌, Option, Some, None, nat_lt, nat_le, nat_eq, if◌then◌else◌}
 use Rattle.std.proofs.lemmas.Bool.{and_from, lt-ltb, ltb-true, leb-true}
-use Rattle.serde_json.specs.Data.{Members, object}
 use Rattle.ts_fields.specs.Fitting.{fits}
 use Rattle.ts_fields.specs.Layout.{Row, Held, number, bytes}
 use Rattle.ts_jtree.specs.Numbers.{truth_bit}
-use Rattle.ts_jtree.specs.Shown.{are_shown, put_attributes}
+use Rattle.ts_jtree.specs.Shown.{are_shown}
 use Rattle.ts_table_pages.specs.PatEntries.{entry_item}
 use Rattle.ts_table_pages.specs.PsiPages.{entry_page}
 use Rattle.ts_table_rows.specs.BodyReading.{first_number, is_zero}
@@ -22,12 +21,6 @@ use Rattle.ts_json_tables.proofs.FitLemmas.{Parts, fit_parts}
 use Rattle.ts_json_tables.proofs.KnownLemmas.{named_facts}
 use Rattle.ts_json_tables.proofs.RowLemmas.{fits_append}
 use Rattle.ts_json_tables.proofs.StepLemmas.{both}
-
-pub shown_object : (rs rs2 : List Row) (vs vs2 : List Held) (new old base : Members) → new ≡ put_attributes rs vs old
-    → rs ≡ rs2 → vs ≡ vs2 → old ≡ base → object new ≡ object (put_attributes rs2 vs2 base)
-shown_object rs rs2 vs vs2 new old base is rows values under =
-    ap object (is ∙ ap (λ r. put_attributes r vs old) rows ∙ ap (λ v. put_attributes rs2 v old) values
-    ∙ ap (put_attributes rs2 vs2) under)
 
 pub shown_with : (rs rs2 : List Row) (vs vs2 : List Held) → rs ≡ rs2 → vs ≡ vs2 → are_shown rs2 vs2 ≡ true
     → are_shown rs vs ≡ true

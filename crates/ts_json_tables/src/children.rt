@@ -241,8 +241,7 @@ fn read_payload(alloc: Global, value: &Value) -> Result<Vec<u8>, ReadRefusal>
     let members = members(alloc, value)?;
     let name = element_name(alloc, members)?;
     check_name(alloc, "section", name)?;
-    let rows = section_rows(alloc)?;
-    check_keys(alloc, &rows, members)?;
+    check_keys(alloc, &section_rows(), members)?;
     let payload = read_bytes(alloc, members, &LONG_PAYLOAD)?;
     let nodes = children(alloc, members)?;
     no_children(alloc, nodes)?;

@@ -1,10 +1,9 @@
 //! Showing the children of a table's element.
 
-ghost use Rattle.std.specs.Prelude.{◌≡◌, ◌++◌, ◌∷◌, [], map, drop, option_map, true, IfOk, OnOk, IsTrue, if◌then◌else◌};
+ghost use Rattle.std.specs.Prelude.{◌≡◌, ◌++◌, ◌∷◌, [], map, drop, option_map, true, IfOk, IsTrue, if◌then◌else◌};
 ghost use Rattle.std.specs.List.{list_all};
-ghost use Rattle.serde_json.specs.View.{view, members_view};
+ghost use Rattle.serde_json.specs.View.{view};
 ghost use Rattle.ts_fields.specs.Layout.{rows_of, held, bytes};
-ghost use Rattle.ts_jtree.specs.Shown.{put_nodes};
 ghost use Rattle.ts_table_rows.specs.TableFitting.{item_fits, items_fit};
 ghost use Rattle.ts_table_rows.specs.TablePages.{item_page, table_page};
 ghost use Rattle.ts_table_rows.specs.TableValues.{body_held, item_held};
@@ -13,12 +12,12 @@ ghost use Rattle.ts_json_tables.specs.TableElements.{children_shown, described_s
 
 use crate::rows::section_rows;
 use crate::values::begins_with_zero;
-use serde_json::{Map, Value};
+use serde_json::Value;
 use std::alloc::{AllocError, Global};
 use ts_bits::{Descriptor, DescriptorList};
 use ts_fields::FieldValue;
 use ts_json_descr::descr_json;
-use ts_jtree::{fit_is_shown, put_member, put_text, show_attributes};
+use ts_jtree::{element_json, fit_is_shown};
 use ts_table_rows::{ItemForm, TableBody, TableItem, TableLayout};
 
 /// The elements of descriptors.
@@ -32,21 +31,19 @@ fn descrs_json(alloc: Global, descriptors: &[Descriptor]) -> Result<Vec<Value>, 
     Ok(nodes)
 }
 
-/// Puts descriptors as children, where the layout has them.
-fn put_described(
+/// The descriptors as children, where the layout has them.
+fn described_json(
     alloc: Global,
-    members: &mut Map<String, Value>,
     described: bool,
     descriptors: &DescriptorList,
-) -> Result<(), AllocError>
-    ensures { OnOk result (members_view members.new.entries
-        ≡ put_nodes (described_shown described descriptors.now) (members_view members.old.entries)) }
+) -> Result<Option<Value>, AllocError>
+    ensures { IfOk result (λ nodes. option_map view nodes ≡ described_shown described descriptors.now) }
 {
     if !described {
-        return Ok(());
+        return Ok(None);
     }
     let nodes = descrs_json(alloc, descriptors.as_slice())?;
-    put_member(alloc, members, "#nodes", Value::Array(nodes))
+    Ok(Some(Value::Array(nodes)))
 }
 
 /// The element of an item.
@@ -54,12 +51,9 @@ fn item_json(alloc: Global, form: ItemForm, item: &TableItem) -> Result<Value, A
     requires { item_fits (item_page form) (item_held item.now) ≡ true }
     ensures { IfOk result (λ v. view v ≡ item_shown (item_page form) (item_held item.now)) }
 {
-    let mut members = Map::new(alloc);
-    put_text(alloc, &mut members, "#name", form.name)?;
-    put_described(alloc, &mut members, form.described, &item.descriptors)?;
+    let nodes = described_json(alloc, form.described, &item.descriptors)?;
     fit_is_shown();
-    show_attributes(alloc, &mut members, form.rows, &item.values)?;
-    Ok(Value::Object(members))
+    element_json(alloc, form.name, form.rows, &item.values, nodes)
 }
 
 /// The elements of items.
@@ -124,9 +118,8 @@ pub fn children_json(
 fn payload_values(alloc: Global, payload: &[u8]) -> Result<Vec<FieldValue>, AllocError>
     ensures { IfOk result (λ v. map held v.items ≡ bytes payload.now ∷ []) }
 {
-    let mut values = Vec::new(alloc);
-    values.push(FieldValue::Bytes(Vec::from_slice(alloc, payload)?))?;
-    Ok(values)
+    let payload = Vec::from_slice(alloc, payload)?;
+    Ok(vec![in alloc; FieldValue::Bytes(payload)]?)
 }
 
 /// The element of the body of a section.
@@ -134,12 +127,8 @@ fn payload_values(alloc: Global, payload: &[u8]) -> Result<Vec<FieldValue>, Allo
 fn section_json(alloc: Global, payload: &[u8]) -> Result<Value, AllocError>
     ensures { IfOk result (λ v. view v ≡ section_shown payload.now) }
 {
-    let mut members = Map::new(alloc);
-    put_text(alloc, &mut members, "#name", "section")?;
-    let rows = section_rows(alloc)?;
     let values = payload_values(alloc, payload)?;
-    show_attributes(alloc, &mut members, &rows, &values)?;
-    Ok(Value::Object(members))
+    element_json(alloc, "section", &section_rows(), &values, None)
 }
 
 /// The elements of the bodies of sections.

@@ -35,18 +35,17 @@ use ts_table_rows::{TableBody, TableItem, TableLayout};
 fn network_rows(alloc: Global, network: Option<u16>) -> Result<Vec<TableItem>, AllocError>
     ensures { IfOk result (λ v. map item_held v.items ≡ network_items network) }
 {
-    let mut items = Vec::new(alloc);
     let Some(pid) = network else {
-        return Ok(items);
+        return Ok(Vec::new(alloc));
     };
-    let mut values = Vec::new(alloc);
-    values.push(FieldValue::Number(0))?;
-    values.push(FieldValue::Number(u64::from(pid)))?;
-    items.push(TableItem {
-        values,
-        descriptors: DescriptorList::of(Vec::new(alloc)),
-    })?;
-    Ok(items)
+    let values = vec![in alloc; FieldValue::Number(0), FieldValue::Number(u64::from(pid))]?;
+    let descriptors = DescriptorList::of(Vec::new(alloc));
+    Ok(vec![in alloc;
+        TableItem {
+            values,
+            descriptors
+        },
+    ]?)
 }
 
 /// A table of a layout, whose name was checked before.
@@ -88,8 +87,7 @@ fn read_short(alloc: Global, members: &Map<String, Value>) -> Result<ShortTable,
     ensures { Answers (λ t. short (short_held t)) result
         (TableReading.read_short (members_view members.now.entries)) }
 {
-    let rows = short_rows(alloc)?;
-    check_keys(alloc, &rows, members)?;
+    check_keys(alloc, &short_rows(), members)?;
     let table_id = read_byte(alloc, members, &ANY_TABLE_ID)?;
     let private = read_truth(alloc, members, &PRIVATE)?;
     let payload = read_bytes(alloc, members, &SHORT_PAYLOAD)?;

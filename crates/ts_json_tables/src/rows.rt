@@ -182,6 +182,22 @@ fn push_network(rows: &mut Vec<Field>, network: bool) -> Result<(), AllocError>
     Ok(())
 }
 
+/// Appends the attributes of a table of a layout after those of each table, with or without the PID of the entry
+/// with number 0.
+fn push_rows(rows: &mut Vec<Field>, layout: &TableLayout, network: bool) -> Result<(), AllocError>
+    ensures { OnOk result (rows_of rows.new.items
+        ≡ rows_of rows.old.items ++ ((id_rows layout.now.ids.now ++ extension_rows layout.now.extension.now)
+        ++ (rows_of layout.now.common.now ++ (kept_rows layout.now.keeps_numbers
+        ++ (rows_of layout.now.head.now ++ network_rows network))))) }
+{
+    push_id(rows, layout.ids)?;
+    push_extension(rows, layout.extension)?;
+    rows.extend_from_slice(layout.common)?;
+    push_kept(rows, layout.keeps_numbers)?;
+    rows.extend_from_slice(layout.head)?;
+    push_network(rows, network)
+}
+
 /// The attributes of a table of a layout, with or without the PID of the entry with number 0.
 pub fn element_rows(
     alloc: Global,
@@ -190,15 +206,8 @@ pub fn element_rows(
 ) -> Result<Vec<Field>, AllocError>
     ensures { IfOk result (λ v. rows_of v.items ≡ ElementRows.element_rows (table_page layout.now) network) }
 {
-    let mut rows = Vec::new(alloc);
-    rows.push(VERSION)?;
-    rows.push(CURRENT)?;
-    push_id(&mut rows, layout.ids)?;
-    push_extension(&mut rows, layout.extension)?;
-    rows.extend_from_slice(layout.common)?;
-    push_kept(&mut rows, layout.keeps_numbers)?;
-    rows.extend_from_slice(layout.head)?;
-    push_network(&mut rows, network)?;
+    let mut rows = Vec::from_slice(alloc, &[VERSION, CURRENT])?;
+    push_rows(&mut rows, layout, network)?;
     Ok(rows)
 }
 
@@ -206,32 +215,24 @@ pub fn element_rows(
 pub fn long_rows(alloc: Global, kept: bool) -> Result<Vec<Field>, AllocError>
     ensures { IfOk result (λ v. rows_of v.items ≡ ElementRows.long_rows kept) }
 {
-    let mut rows = Vec::new(alloc);
-    rows.push(VERSION)?;
-    rows.push(CURRENT)?;
-    rows.push(ANY_TABLE_ID)?;
-    rows.push(ANY_EXTENSION)?;
-    rows.push(PRIVATE)?;
+    let mut rows = Vec::from_slice(
+        alloc,
+        &[VERSION, CURRENT, ANY_TABLE_ID, ANY_EXTENSION, PRIVATE],
+    )?;
     push_kept(&mut rows, kept)?;
     Ok(rows)
 }
 
 /// The attributes of a section of the short form.
-pub fn short_rows(alloc: Global) -> Result<Vec<Field>, AllocError>
-    ensures { IfOk result (λ v. rows_of v.items ≡ ElementRows.short_rows) }
+pub fn short_rows() -> [Field; 3]
+    ensures { rows_of result ≡ ElementRows.short_rows }
 {
-    let mut rows = Vec::new(alloc);
-    rows.push(ANY_TABLE_ID)?;
-    rows.push(PRIVATE)?;
-    rows.push(SHORT_PAYLOAD)?;
-    Ok(rows)
+    [ANY_TABLE_ID, PRIVATE, SHORT_PAYLOAD]
 }
 
 /// The attribute of a section of the long form.
-pub fn section_rows(alloc: Global) -> Result<Vec<Field>, AllocError>
-    ensures { IfOk result (λ v. rows_of v.items ≡ ElementRows.section_rows) }
+pub fn section_rows() -> [Field; 1]
+    ensures { rows_of result ≡ ElementRows.section_rows }
 {
-    let mut rows = Vec::new(alloc);
-    rows.push(LONG_PAYLOAD)?;
-    Ok(rows)
+    [LONG_PAYLOAD]
 }

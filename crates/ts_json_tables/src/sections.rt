@@ -35,9 +35,7 @@ fn one_section(alloc: Global, table: &ShortTable) -> Result<Vec<Section>, TableR
     ensures { Writes (λ v. v.items) result (sections_of_table (short (short_held table.now))) }
 {
     let section = Section::short(alloc, table.table_id, table.private, &table.payload)?;
-    let mut sections = Vec::new(alloc);
-    sections.push(section)?;
-    Ok(sections)
+    Ok(vec![in alloc; section]?)
 }
 
 /// The first and the last section number: an EIT's own, or from 0.

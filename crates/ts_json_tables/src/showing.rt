@@ -1,7 +1,7 @@
 //! Showing tables as JSON elements.
 
-ghost use Rattle.std.specs.Prelude.{◌≡◌, ◌++◌, map, true, IfOk, OnOk};
-ghost use Rattle.serde_json.specs.View.{view, members_view};
+ghost use Rattle.std.specs.Prelude.{◌≡◌, ◌++◌, map, true, IfOk};
+ghost use Rattle.serde_json.specs.View.{view};
 ghost use Rattle.ts_fields.specs.Layout.{rows_of, held};
 ghost use Rattle.ts_table_rows.specs.TablePages.{table_page};
 ghost use Rattle.ts_table_rows.specs.TableValues.{table_held};
@@ -14,9 +14,9 @@ use crate::items::{children_json, sections_json};
 use crate::rows::{element_rows, long_rows, short_rows};
 use crate::table::{LaidTable, LongTable, ShortTable, Table};
 use crate::values::{begins_with_zero, element_values, is_eit_id, long_values, short_values};
-use serde_json::{Map, Value};
+use serde_json::Value;
 use std::alloc::{AllocError, Global};
-use ts_jtree::{fit_is_shown, put_member, put_text, show_attributes};
+use ts_jtree::{element_json, fit_is_shown};
 
 /// The element of a table of a layout.
 fn laid_json(alloc: Global, table: &LaidTable) -> Result<Value, AllocError>
@@ -25,42 +25,42 @@ fn laid_json(alloc: Global, table: &LaidTable) -> Result<Value, AllocError>
 {
     let layout = table.layout;
     let body = &table.held.body;
-    let mut members = Map::new(alloc);
-    put_text(alloc, &mut members, "#name", layout.name)?;
-    let nodes = children_json(alloc, layout, body)?;
-    put_member(alloc, &mut members, "#nodes", Value::Array(nodes))?;
     let network = begins_with_zero(layout.one_zero, &body.items);
     let rows = element_rows(alloc, layout, network)?;
     let values = element_values(alloc, layout, &table.held)?;
+    let nodes = children_json(alloc, layout, body)?;
     fit_is_shown();
-    show_attributes(alloc, &mut members, &rows, &values)?;
-    Ok(Value::Object(members))
+    element_json(
+        alloc,
+        layout.name,
+        &rows,
+        &values,
+        Some(Value::Array(nodes)),
+    )
 }
 
 /// The element of a section of the short form.
 fn short_json(alloc: Global, table: &ShortTable) -> Result<Value, AllocError>
     ensures { IfOk result (λ v. view v ≡ short_shown (short_held table.now)) }
 {
-    let mut members = Map::new(alloc);
-    put_text(alloc, &mut members, "#name", "generic_short_table")?;
-    let rows = short_rows(alloc)?;
     let values = short_values(alloc, table)?;
-    show_attributes(alloc, &mut members, &rows, &values)?;
-    Ok(Value::Object(members))
+    element_json(alloc, "generic_short_table", &short_rows(), &values, None)
 }
 
 /// The element of sections of the long form.
 fn long_json(alloc: Global, table: &LongTable) -> Result<Value, AllocError>
     ensures { IfOk result (λ v. view v ≡ long_shown (long_held table.now)) }
 {
-    let mut members = Map::new(alloc);
-    put_text(alloc, &mut members, "#name", "generic_long_table")?;
-    let nodes = sections_json(alloc, &table.payloads)?;
-    put_member(alloc, &mut members, "#nodes", Value::Array(nodes))?;
     let rows = long_rows(alloc, is_eit_id(table.table_id))?;
     let values = long_values(alloc, table)?;
-    show_attributes(alloc, &mut members, &rows, &values)?;
-    Ok(Value::Object(members))
+    let nodes = sections_json(alloc, &table.payloads)?;
+    element_json(
+        alloc,
+        "generic_long_table",
+        &rows,
+        &values,
+        Some(Value::Array(nodes)),
+    )
 }
 
 /// The element that shows a table: every attribute is written, defaults too, and `#nodes` in every element that

@@ -152,6 +152,30 @@ fn parted(values: &[FieldValue], place: usize) -> (&[FieldValue], &[FieldValue])
     }
 }
 
+/// Puts the values of the attributes of a table of a layout into an empty list.
+fn push_values(
+    alloc: Global,
+    values: &mut Vec<FieldValue>,
+    layout: &TableLayout,
+    table: &ts_table_rows::Table,
+) -> Result<(), AllocError>
+    requires { values.old.items ≡ [] }
+    ensures { OnOk result (map held values.new.items
+        ≡ TableElements.element_values (table_page layout.now) (table_held table.now)) }
+{
+    let head = table.head;
+    let (common, others) = parted(&table.body.values, held_count(layout.common));
+    push_number(values, u64::from(head.version))?;
+    push_truth(values, head.current)?;
+    push_id(values, layout.ids, head.table_id)?;
+    push_extension(values, layout.extension, head.extension)?;
+    push_copies(alloc, values, common)?;
+    push_kept(values, head.numbers)?;
+    push_copies(alloc, values, others)?;
+    push_network(alloc, values, layout.one_zero, &table.body.items)?;
+    Ok(())
+}
+
 /// The values of the attributes of a table of a layout.
 pub fn element_values(
     alloc: Global,
@@ -161,17 +185,8 @@ pub fn element_values(
     ensures { IfOk result (λ v. map held v.items
         ≡ TableElements.element_values (table_page layout.now) (table_held table.now)) }
 {
-    let head = table.head;
-    let (common, others) = parted(&table.body.values, held_count(layout.common));
     let mut values = Vec::new(alloc);
-    push_number(&mut values, u64::from(head.version))?;
-    push_truth(&mut values, head.current)?;
-    push_id(&mut values, layout.ids, head.table_id)?;
-    push_extension(&mut values, layout.extension, head.extension)?;
-    push_copies(alloc, &mut values, common)?;
-    push_kept(&mut values, head.numbers)?;
-    push_copies(alloc, &mut values, others)?;
-    push_network(alloc, &mut values, layout.one_zero, &table.body.items)?;
+    push_values(alloc, &mut values, layout, table)?;
     Ok(values)
 }
 
@@ -180,11 +195,11 @@ pub fn short_values(alloc: Global, table: &ShortTable) -> Result<Vec<FieldValue>
     ensures { IfOk result (λ v. map held v.items ≡ TableElements.short_values (short_held table.now)) }
 {
     let payload = Vec::from_slice(alloc, &table.payload)?;
-    let mut values = Vec::new(alloc);
-    push_number(&mut values, u64::from(table.table_id))?;
-    push_truth(&mut values, table.private)?;
-    values.push(FieldValue::Bytes(payload))?;
-    Ok(values)
+    Ok(vec![in alloc;
+        FieldValue::Number(u64::from(table.table_id)),
+        FieldValue::Number(u64::from(table.private)),
+        FieldValue::Bytes(payload),
+    ]?)
 }
 
 /// Whether a table_id is one of an EIT.
@@ -209,12 +224,13 @@ fn numbers_shown(table: &LongTable) -> Option<(u8, u8)>
 pub fn long_values(alloc: Global, table: &LongTable) -> Result<Vec<FieldValue>, AllocError>
     ensures { IfOk result (λ v. map held v.items ≡ TableElements.long_values (long_held table.now)) }
 {
-    let mut values = Vec::new(alloc);
-    push_number(&mut values, u64::from(table.version))?;
-    push_truth(&mut values, table.current)?;
-    push_number(&mut values, u64::from(table.table_id))?;
-    push_number(&mut values, u64::from(table.table_id_extension))?;
-    push_truth(&mut values, table.private)?;
+    let mut values = vec![in alloc;
+        FieldValue::Number(u64::from(table.version)),
+        FieldValue::Number(u64::from(table.current)),
+        FieldValue::Number(u64::from(table.table_id)),
+        FieldValue::Number(u64::from(table.table_id_extension)),
+        FieldValue::Number(u64::from(table.private)),
+    ]?;
     push_kept(&mut values, numbers_shown(table))?;
     Ok(values)
 }

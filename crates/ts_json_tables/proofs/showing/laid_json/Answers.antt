@@ -1,4 +1,5 @@
 use Rattle.std.proofs.Common.{◌∙◌, map, ap}
+use Rattle.serde_json.proofs.Views.{view-Array}
 use Rattle.ts_fields.specs.Layout.{held, rows_of}
 use Rattle.ts_table_rows.specs.TablePages.{table_page}
 use Rattle.ts_table_rows.specs.TableValues.{item_held, table_held}
@@ -11,8 +12,8 @@ use Rattle.ts_json_tables.proofs.showing.laid_json.Goals as goal
 pub children_json-requires : goal.children_json-requires
 children_json-requires c = (fit_parts (table_page c.args.table.now.layout.now) (table_held c.args.table.now.held) c.requires.fits).items
 
-pub show_attributes-requires : goal.show_attributes-requires
-show_attributes-requires c =
+pub element_json-requires : goal.element_json-requires
+element_json-requires c =
     let p = table_page c.args.table.now.layout.now in
     let t = table_held c.args.table.now.held in
     let b = begins_with_zero p.one_zero t.body.items in
@@ -20,3 +21,8 @@ show_attributes-requires c =
     (ap rows_of c.deref-2.ensures.value ∙ c.in_ok-rows.ensures ∙ ap (element_rows p) (c.begins_with_zero-network.ensures ∙ ap (λ l. begins_with_zero p.one_zero (map item_held l)) c.deref.ensures.value))
     (ap (map held) c.deref-3.ensures.value ∙ c.in_ok-values.ensures)
     (c.fit_is_shown.ensures (element_rows p b) (element_values p t) (element_fits p t c.requires))
+
+pub returns : goal.returns
+returns c =
+    rw (c.deref-2.ensures.value, c.in_ok-rows.ensures, c.begins_with_zero-network.ensures, c.deref.ensures.value, c.deref-3.ensures.value, c.in_ok-values.ensures, view-Array c.in_ok-nodes.nodes, c.in_ok-nodes.ensures)
+    at c.element_json.ensures
