@@ -1,5 +1,6 @@
 //! One item of a `CA_identifier_descriptor` (ETSI EN 300 468, 6.2.5).
 
+use crate::listed::list_of;
 use std::alloc::{AllocError, Global};
 use ts_descr::Fields;
 use ts_fields::FieldValue;
@@ -32,6 +33,6 @@ impl Fields for CaSystem {
 
     #[tactic(auto, unfolding(ts_fields::specs::Fitting::fits_uncounted))]
     fn values(&self, alloc: Global) -> Result<Vec<FieldValue>, AllocError> {
-        Ok(vec![in alloc; FieldValue::Number(u64::from(self.value))]?)
+        list_of(alloc, [FieldValue::Number(u64::from(self.value))])
     }
 }

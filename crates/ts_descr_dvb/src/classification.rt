@@ -2,6 +2,7 @@
 
 ghost use Rattle.std.specs.Prelude.{◌<◌, ◌^◌};
 
+use crate::listed::list_of;
 use std::alloc::{AllocError, Global};
 use ts_descr::Fields;
 use ts_fields::FieldValue;
@@ -46,10 +47,13 @@ impl Fields for Classification {
 
     #[tactic(auto, unfolding(ts_fields::specs::Fitting::fits_uncounted))]
     fn values(&self, alloc: Global) -> Result<Vec<FieldValue>, AllocError> {
-        Ok(vec![in alloc;
-            FieldValue::Number(u64::from(self.content_nibble_level_1)),
-            FieldValue::Number(u64::from(self.content_nibble_level_2)),
-            FieldValue::Number(u64::from(self.user_byte)),
-        ]?)
+        list_of(
+            alloc,
+            [
+                FieldValue::Number(u64::from(self.content_nibble_level_1)),
+                FieldValue::Number(u64::from(self.content_nibble_level_2)),
+                FieldValue::Number(u64::from(self.user_byte)),
+            ],
+        )
     }
 }

@@ -2,6 +2,7 @@
 
 ghost use Rattle.std.specs.Prelude.{◌<◌, ◌^◌};
 
+use crate::listed::list_of;
 use std::alloc::{AllocError, Global};
 use ts_descr::{Fields, LanguageCode, bytes_value};
 use ts_fields::FieldValue;
@@ -62,13 +63,16 @@ impl Fields for Component {
     fn values(&self, alloc: Global) -> Result<Vec<FieldValue>, AllocError> {
         let language_code = self.language_code.to_vec(alloc)?;
         let text = bytes_value(alloc, &self.text)?;
-        Ok(vec![in alloc;
-            FieldValue::Number(u64::from(self.stream_content_ext)),
-            FieldValue::Number(u64::from(self.stream_content)),
-            FieldValue::Number(u64::from(self.component_type)),
-            FieldValue::Number(u64::from(self.component_tag)),
-            FieldValue::Bytes(language_code),
-            text,
-        ]?)
+        Ok(list_of(
+            alloc,
+            [
+                FieldValue::Number(u64::from(self.stream_content_ext)),
+                FieldValue::Number(u64::from(self.stream_content)),
+                FieldValue::Number(u64::from(self.component_type)),
+                FieldValue::Number(u64::from(self.component_tag)),
+                FieldValue::Bytes(language_code),
+                text,
+            ],
+        )?)
     }
 }

@@ -1,5 +1,6 @@
 //! One item of a `parental_rating_descriptor` (ETSI EN 300 468, 6.2.28).
 
+use crate::listed::list_of;
 use std::alloc::{AllocError, Global};
 use ts_descr::{Fields, LanguageCode};
 use ts_fields::FieldValue;
@@ -39,9 +40,12 @@ impl Fields for Country {
     #[tactic(auto, unfolding(ts_fields::specs::Fitting::fits_uncounted))]
     fn values(&self, alloc: Global) -> Result<Vec<FieldValue>, AllocError> {
         let country_code = self.country_code.to_vec(alloc)?;
-        Ok(vec![in alloc;
-            FieldValue::Bytes(country_code),
-            FieldValue::Number(u64::from(self.rating)),
-        ]?)
+        list_of(
+            alloc,
+            [
+                FieldValue::Bytes(country_code),
+                FieldValue::Number(u64::from(self.rating)),
+            ],
+        )
     }
 }

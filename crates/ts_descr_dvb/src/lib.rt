@@ -8,6 +8,7 @@ mod classification;
 mod component;
 mod country;
 mod dvb_descr;
+mod listed;
 mod listed_service;
 mod network_name;
 mod private_data_specifier;

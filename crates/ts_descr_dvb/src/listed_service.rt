@@ -1,5 +1,6 @@
 //! One item of a `service_list_descriptor` (ETSI EN 300 468, 6.2.35).
 
+use crate::listed::list_of;
 use std::alloc::{AllocError, Global};
 use ts_descr::Fields;
 use ts_fields::FieldValue;
@@ -39,9 +40,12 @@ impl Fields for ListedService {
 
     #[tactic(auto, unfolding(ts_fields::specs::Fitting::fits_uncounted))]
     fn values(&self, alloc: Global) -> Result<Vec<FieldValue>, AllocError> {
-        Ok(vec![in alloc;
-            FieldValue::Number(u64::from(self.service_id)),
-            FieldValue::Number(u64::from(self.service_type)),
-        ]?)
+        list_of(
+            alloc,
+            [
+                FieldValue::Number(u64::from(self.service_id)),
+                FieldValue::Number(u64::from(self.service_type)),
+            ],
+        )
     }
 }

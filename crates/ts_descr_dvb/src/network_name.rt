@@ -1,5 +1,6 @@
 //! The fields of a `network_name_descriptor` (ETSI EN 300 468, 6.2.27).
 
+use crate::listed::list_of;
 use std::alloc::{AllocError, Global};
 use ts_descr::{Fields, bytes_value};
 use ts_fields::FieldValue;
@@ -32,6 +33,6 @@ impl Fields for NetworkName {
     #[tactic(auto, unfolding(ts_fields::specs::Fitting::fits_uncounted))]
     fn values(&self, alloc: Global) -> Result<Vec<FieldValue>, AllocError> {
         let network_name = bytes_value(alloc, &self.network_name)?;
-        Ok(vec![in alloc; network_name]?)
+        list_of(alloc, [network_name])
     }
 }

@@ -1,5 +1,6 @@
 //! The fields of a `private_data_specifier_descriptor` (ETSI EN 300 468, 6.2.31).
 
+use crate::listed::list_of;
 use std::alloc::{AllocError, Global};
 use ts_descr::Fields;
 use ts_fields::FieldValue;
@@ -34,6 +35,9 @@ impl Fields for PrivateDataSpecifier {
 
     #[tactic(auto, unfolding(ts_fields::specs::Fitting::fits_uncounted))]
     fn values(&self, alloc: Global) -> Result<Vec<FieldValue>, AllocError> {
-        Ok(vec![in alloc; FieldValue::Number(u64::from(self.private_data_specifier))]?)
+        list_of(
+            alloc,
+            [FieldValue::Number(u64::from(self.private_data_specifier))],
+        )
     }
 }

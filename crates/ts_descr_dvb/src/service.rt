@@ -1,5 +1,6 @@
 //! The fields of a `service_descriptor` (ETSI EN 300 468, 6.2.33).
 
+use crate::listed::list_of;
 use std::alloc::{AllocError, Global};
 use ts_descr::{Fields, bytes_value};
 use ts_fields::FieldValue;
@@ -44,10 +45,13 @@ impl Fields for Service {
     fn values(&self, alloc: Global) -> Result<Vec<FieldValue>, AllocError> {
         let service_provider_name = bytes_value(alloc, &self.service_provider_name)?;
         let service_name = bytes_value(alloc, &self.service_name)?;
-        Ok(vec![in alloc;
-            FieldValue::Number(u64::from(self.service_type)),
-            service_provider_name,
-            service_name,
-        ]?)
+        list_of(
+            alloc,
+            [
+                FieldValue::Number(u64::from(self.service_type)),
+                service_provider_name,
+                service_name,
+            ],
+        )
     }
 }

@@ -1,5 +1,6 @@
 //! The fields of a `short_event_descriptor` (ETSI EN 300 468, 6.2.37).
 
+use crate::listed::list_of;
 use std::alloc::{AllocError, Global};
 use ts_descr::{Fields, LanguageCode, bytes_value};
 use ts_fields::FieldValue;
@@ -48,6 +49,6 @@ impl Fields for ShortEvent {
         let language_code = self.language_code.to_vec(alloc)?;
         let event_name = bytes_value(alloc, &self.event_name)?;
         let text = bytes_value(alloc, &self.text)?;
-        Ok(vec![in alloc; FieldValue::Bytes(language_code), event_name, text]?)
+        list_of(alloc, [FieldValue::Bytes(language_code), event_name, text])
     }
 }

@@ -1,5 +1,6 @@
 //! The fields of a `stream_identifier_descriptor` (ETSI EN 300 468, 6.2.39).
 
+use crate::listed::list_of;
 use std::alloc::{AllocError, Global};
 use ts_descr::Fields;
 use ts_fields::FieldValue;
@@ -31,6 +32,6 @@ impl Fields for StreamIdentifier {
 
     #[tactic(auto, unfolding(ts_fields::specs::Fitting::fits_uncounted))]
     fn values(&self, alloc: Global) -> Result<Vec<FieldValue>, AllocError> {
-        Ok(vec![in alloc; FieldValue::Number(u64::from(self.component_tag))]?)
+        list_of(alloc, [FieldValue::Number(u64::from(self.component_tag))])
     }
 }

@@ -1,5 +1,6 @@
 //! One item of a `subtitling_descriptor` (ETSI EN 300 468, 6.2.41).
 
+use crate::listed::list_of;
 use std::alloc::{AllocError, Global};
 use ts_descr::{Fields, LanguageCode};
 use ts_fields::FieldValue;
@@ -51,11 +52,14 @@ impl Fields for Subtitle {
     #[tactic(auto, unfolding(ts_fields::specs::Fitting::fits_uncounted))]
     fn values(&self, alloc: Global) -> Result<Vec<FieldValue>, AllocError> {
         let language_code = self.language_code.to_vec(alloc)?;
-        Ok(vec![in alloc;
-            FieldValue::Bytes(language_code),
-            FieldValue::Number(u64::from(self.subtitling_type)),
-            FieldValue::Number(u64::from(self.composition_page_id)),
-            FieldValue::Number(u64::from(self.ancillary_page_id)),
-        ]?)
+        list_of(
+            alloc,
+            [
+                FieldValue::Bytes(language_code),
+                FieldValue::Number(u64::from(self.subtitling_type)),
+                FieldValue::Number(u64::from(self.composition_page_id)),
+                FieldValue::Number(u64::from(self.ancillary_page_id)),
+            ],
+        )
     }
 }

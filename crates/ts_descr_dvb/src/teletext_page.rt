@@ -2,6 +2,7 @@
 
 ghost use Rattle.std.specs.Prelude.{◌<◌, ◌^◌};
 
+use crate::listed::list_of;
 use std::alloc::{AllocError, Global};
 use ts_descr::{Fields, LanguageCode};
 use ts_fields::FieldValue;
@@ -54,11 +55,14 @@ impl Fields for TeletextPage {
     #[tactic(auto, unfolding(ts_fields::specs::Fitting::fits_uncounted))]
     fn values(&self, alloc: Global) -> Result<Vec<FieldValue>, AllocError> {
         let language_code = self.language_code.to_vec(alloc)?;
-        Ok(vec![in alloc;
-            FieldValue::Bytes(language_code),
-            FieldValue::Number(u64::from(self.teletext_type)),
-            FieldValue::Number(u64::from(self.teletext_magazine_number)),
-            FieldValue::Number(u64::from(self.teletext_page_number)),
-        ]?)
+        list_of(
+            alloc,
+            [
+                FieldValue::Bytes(language_code),
+                FieldValue::Number(u64::from(self.teletext_type)),
+                FieldValue::Number(u64::from(self.teletext_magazine_number)),
+                FieldValue::Number(u64::from(self.teletext_page_number)),
+            ],
+        )
     }
 }
