@@ -17,7 +17,7 @@ impl fmt::Display for Failed {
     ghost output = { λ _. Some (codes "the outside failed") };
 
     fn fmt<W: fmt::Write>(&self, f: &mut fmt::Formatter<W>) -> fmt::Result {
-        write!(f, "the outside failed")
+        f.write_str("the outside failed")
     }
 }
 
@@ -37,8 +37,8 @@ impl fmt::Display for OpenFault {
 
     fn fmt<W: fmt::Write>(&self, f: &mut fmt::Formatter<W>) -> fmt::Result {
         match self {
-            OpenFault::Failed => write!(f, "cannot open"),
-            OpenFault::NoMemory => write!(f, "out of memory"),
+            OpenFault::Failed => f.write_str("cannot open"),
+            OpenFault::NoMemory => f.write_str("out of memory"),
         }
     }
 }
@@ -77,9 +77,9 @@ impl fmt::Display for FileFault {
 
     fn fmt<W: fmt::Write>(&self, f: &mut fmt::Formatter<W>) -> fmt::Result {
         match self {
-            FileFault::Failed => write!(f, "cannot read"),
-            FileFault::TooMany => write!(f, "too many bytes"),
-            FileFault::NoMemory => write!(f, "out of memory"),
+            FileFault::Failed => f.write_str("cannot read"),
+            FileFault::TooMany => f.write_str("too many bytes"),
+            FileFault::NoMemory => f.write_str("out of memory"),
         }
     }
 }
