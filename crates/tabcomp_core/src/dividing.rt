@@ -12,7 +12,7 @@ use std::mem;
 use ts_section::{RunFault, Section, TableRun};
 
 /// Why sections are not runs.
-#[derive(Debug, Clone, Copy, PartialEq, Eq)]
+#[derive(Clone, Copy)]
 pub enum NoRuns {
     /// At this section, or at the end, no run continues.
     Place(usize),
