@@ -1,4 +1,5 @@
 mod StepLemmas
+mod MappedLemmas
 mod EachLemmas
 mod ZeroLemmas
 mod ChildLemmas

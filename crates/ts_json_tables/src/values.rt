@@ -152,30 +152,6 @@ fn parted(values: &[FieldValue], place: usize) -> (&[FieldValue], &[FieldValue])
     }
 }
 
-/// Puts the values of the attributes of a table of a layout into an empty list.
-fn push_values(
-    alloc: Global,
-    values: &mut Vec<FieldValue>,
-    layout: &TableLayout,
-    table: &ts_table_rows::Table,
-) -> Result<(), AllocError>
-    requires { values.old.items ≡ [] }
-    ensures { OnOk result (map held values.new.items
-        ≡ TableElements.element_values (table_page layout.now) (table_held table.now)) }
-{
-    let head = table.head;
-    let (common, others) = parted(&table.body.values, held_count(layout.common));
-    push_number(values, u64::from(head.version))?;
-    push_truth(values, head.current)?;
-    push_id(values, layout.ids, head.table_id)?;
-    push_extension(values, layout.extension, head.extension)?;
-    push_copies(alloc, values, common)?;
-    push_kept(values, head.numbers)?;
-    push_copies(alloc, values, others)?;
-    push_network(alloc, values, layout.one_zero, &table.body.items)?;
-    Ok(())
-}
-
 /// The values of the attributes of a table of a layout.
 pub fn element_values(
     alloc: Global,
@@ -185,8 +161,17 @@ pub fn element_values(
     ensures { IfOk result (λ v. map held v.items
         ≡ TableElements.element_values (table_page layout.now) (table_held table.now)) }
 {
+    let head = table.head;
+    let (common, others) = parted(&table.body.values, held_count(layout.common));
     let mut values = Vec::new(alloc);
-    push_values(alloc, &mut values, layout, table)?;
+    push_number(&mut values, u64::from(head.version))?;
+    push_truth(&mut values, head.current)?;
+    push_id(&mut values, layout.ids, head.table_id)?;
+    push_extension(&mut values, layout.extension, head.extension)?;
+    push_copies(alloc, &mut values, common)?;
+    push_kept(&mut values, head.numbers)?;
+    push_copies(alloc, &mut values, others)?;
+    push_network(alloc, &mut values, layout.one_zero, &table.body.items)?;
     Ok(values)
 }
 

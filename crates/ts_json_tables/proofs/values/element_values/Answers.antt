@@ -6,7 +6,7 @@ use Rattle.ts_table_rows.specs.TablePages.{table_page}
 use Rattle.ts_table_rows.specs.TableValues.{item_held}
 use Rattle.ts_json_tables.specs.TableElements.{extension_values, id_values, kept_values, network_values, truth}
 use Rattle.ts_json_tables.proofs.ValueLemmas.{values_joined}
-use Rattle.ts_json_tables.proofs.values.push_values.Goals as goal
+use Rattle.ts_json_tables.proofs.values.element_values.Goals as goal
 
 pub returns : goal.returns
 returns c =
@@ -22,7 +22,7 @@ returns c =
     ∙ ap (λ l. drop (held_count (table_page layout).common) (map held l)) c.deref.ensures.value in
     values_joined (number head.version) (truth head.current) (id_values layout.ids.now head.table_id) (extension_values layout.extension.now head.extension) (take (held_count (table_page layout).common) (map held c.args.table.now.body.values.items)) (kept_values head.numbers) (drop (held_count (table_page layout).common) (map held c.args.table.now.body.values.items)) (network_values layout.one_zero (map item_held c.args.table.now.body.items.items))
     (map held c.push_number.new.values.items) (map held c.push_truth.new.values.items) (map held c.push_id.new.values.items) (map held c.push_extension.new.values.items) (map held c.push_copies.new.values.items) (map held c.push_kept.new.values.items) (map held c.push_copies-2.new.values.items) (map held c.push_network.new.values.items)
-    (c.in_ok-push_number.ensures ∙ ap (λ l. map held l ++ number c.from.result ∷ []) c.requires ∙ ap (λ k. number k ∷ []) c.from.ensures)
+    (c.in_ok-push_number.ensures ∙ ap (λ l. map held l ++ number c.from.result ∷ []) c.new-values.ensures.items ∙ ap (λ k. number k ∷ []) c.from.ensures)
     c.in_ok-push_truth.ensures c.in_ok-push_id.ensures c.in_ok-push_extension.ensures
     (c.in_ok-push_copies.ensures ∙ ap (λ l. map held c.push_extension.new.values.items ++ l) first)
     c.in_ok-push_kept.ensures
