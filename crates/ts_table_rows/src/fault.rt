@@ -58,7 +58,7 @@ pub enum TableRefusal {
 }
 
 /// Why the body of a section was not read.
-#[derive(Debug, Clone, Copy, PartialEq, Eq)]
+#[derive(Clone, Copy)]
 pub enum BodyStop {
     /// The first broken rule, and the number of bits from the faulty field to the end of the body.
     At { rule: TableRule, left: usize },

@@ -14,6 +14,7 @@ use crate::layout::{ItemForm, TableLayout};
 use crate::table::TableItem;
 use crate::write_rows::{body_bytes, descriptor_row, item_bytes};
 use std::alloc::{AllocError, Global};
+use std::mem;
 use ts_bits::DescriptorList;
 use ts_fields::FieldValue;
 
@@ -93,18 +94,16 @@ pub fn item_rows(
     }
 }
 
-/// A piece with one thing more at its end.
-fn put_thing(piece: Piece, row: &ThingRow) -> Result<Piece, AllocError>
-    ensures { IfOk result (λ p. piece_view p ≡ with_thing (piece_view piece) (thing_view row.now)) }
+/// Appends one thing to a piece.
+fn put_thing(piece: &mut Piece, row: &ThingRow) -> Result<(), AllocError>
+    ensures { OnOk result (piece_view piece.new ≡ with_thing (piece_view piece.old) (thing_view row.now)) }
 {
-    let mut own = piece.own;
-    let mut items = piece.items;
     if row.is_item {
-        items.extend_from_slice(&row.bytes)?;
-        return Ok(Piece { own, items });
+        piece.items.extend_from_slice(&row.bytes)?;
+        return Ok(());
     }
-    own.extend_from_slice(&row.bytes)?;
-    Ok(Piece { own, items })
+    piece.own.extend_from_slice(&row.bytes)?;
+    Ok(())
 }
 
 /// A piece without descriptors and items.
@@ -117,27 +116,29 @@ fn empty_piece(alloc: Global) -> Piece
     }
 }
 
-/// Appends the next thing to the current piece, or to a new one where the current piece has no room for it.
+/// Appends the next thing to the current piece, or to a new one where the current piece has no room for it, and returns
+/// how many bytes of the room the current piece then takes.
 fn put_next(
     alloc: Global,
     pieces: &mut Vec<Piece>,
+    hand: &mut Piece,
     room: usize,
     used: usize,
-    hand: Piece,
     row: &ThingRow,
-) -> Result<(Piece, usize), AllocError>
+) -> Result<usize, AllocError>
     requires { room ≤ 4096 }
-    ensures { IfOk result (λ x. IsStep (map piece_view pieces.old.items) (map piece_view pieces.new.items)
-        (FilledRows.step room used (piece_view hand) (thing_view row.now)) (piece_view x.0) x.1) }
+    ensures { IfOk result (λ now. IsStep (map piece_view pieces.old.items) (map piece_view pieces.new.items)
+        (FilledRows.step room used (piece_view hand.old) (thing_view row.now)) (piece_view hand.new) now) }
 {
     let size = row.bytes.len();
     if used.saturating_add(size) <= room {
-        let piece = put_thing(hand, row)?;
-        return Ok((piece, used + size));
+        put_thing(hand, row)?;
+        return Ok(used + size);
     }
-    pieces.push(hand)?;
-    let piece = put_thing(empty_piece(alloc), row)?;
-    Ok((piece, size))
+    let full = mem::replace(hand, empty_piece(alloc));
+    pieces.push(full)?;
+    put_thing(hand, row)?;
+    Ok(size)
 }
 
 /// The pieces of the bodies: each takes things as long as they fit the room, in bytes.
@@ -150,9 +151,8 @@ pub fn fill(alloc: Global, room: usize, rows: &[ThingRow]) -> Result<Vec<Piece>,
     let mut hand = empty_piece(alloc);
     let mut used = 0;
     for row in rows {
-        let (piece, more) = put_next(alloc, &mut pieces, room, used, hand, row)?;
-        hand = piece;
-        used = more;
+        let now = put_next(alloc, &mut pieces, &mut hand, room, used, row)?;
+        used = now;
     }
     pieces.push(hand)?;
     Ok(pieces)
@@ -164,7 +164,7 @@ pub fn gather(alloc: Global, rows: &[ThingRow]) -> Result<Piece, AllocError>
 {
     let mut hand = empty_piece(alloc);
     for row in rows {
-        hand = put_thing(hand, row)?;
+        put_thing(&mut hand, row)?;
     }
     Ok(hand)
 }

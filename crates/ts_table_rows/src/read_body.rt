@@ -125,14 +125,14 @@ fn read_heading<'a>(
     Ok((values, found, rest))
 }
 
-/// The values of two lists, joined.
-fn with_more(values: Vec<FieldValue>, more: Vec<FieldValue>) -> Result<Vec<FieldValue>, AllocError>
-    ensures { IfOk result (λ v. v.items ≡ values.items ++ more.items) }
+/// Two lists, joined.
+pub fn with_more<T: Drop>(first: Vec<T>, more: Vec<T>) -> Result<Vec<T>, AllocError>
+    ensures { IfOk result (λ v. v.items ≡ first.items ++ more.items) }
 {
-    let mut values = values;
+    let mut first = first;
     let mut more = more;
-    values.append(&mut more)?;
-    Ok(values)
+    first.append(&mut more)?;
+    Ok(first)
 }
 
 /// Reads the body of one section, and returns what the sections have shown so far.

@@ -11,7 +11,7 @@ ghost use Rattle.ts_table_rows.specs.TableValues.{joined, body_held, table_held}
 
 use crate::fault::{BodyStop, TableFault, TableRule};
 use crate::layout::TableLayout;
-use crate::read_body::{SeenSoFar, read_body};
+use crate::read_body::{SeenSoFar, read_body, with_more};
 use crate::read_laws::read_tables_fit;
 use crate::table::{Table, TableBody, TableHead};
 use std::alloc::{AllocError, Global};
@@ -71,12 +71,8 @@ fn read_section(
 fn join(body: TableBody, next: TableBody) -> Result<TableBody, AllocError>
     ensures { IfOk result (λ b. body_held b ≡ joined (body_held body) (body_held next)) }
 {
-    let mut descriptors = body.descriptors.into_vec();
-    let mut more = next.descriptors.into_vec();
-    descriptors.append(&mut more)?;
-    let mut items = body.items;
-    let mut others = next.items;
-    items.append(&mut others)?;
+    let descriptors = with_more(body.descriptors.into_vec(), next.descriptors.into_vec())?;
+    let items = with_more(body.items, next.items)?;
     Ok(TableBody {
         values: body.values,
         descriptors: DescriptorList::of(descriptors),

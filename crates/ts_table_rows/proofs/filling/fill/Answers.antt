@@ -10,8 +10,8 @@ loop-row-init c =
 
 pub loop-row-preserved : goal.loop-row-preserved
 loop-row-preserved c =
-    fill_goes_on c.args.room c.loop-row.used (piece_view c.loop-row.hand) (map piece_view c.loop-row.pieces.items) _ c.args.rows.now c.loop-row.row-index c.row-item.result (piece_view c.in_ok-piece.piece) c.in_ok-piece.more _
-    c.loop-row-test.true c.row-item.is c.in_ok-piece.ensures c.loop-row.invariant
+    fill_goes_on c.args.room c.loop-row.used (piece_view c.loop-row.hand) (map piece_view c.loop-row.pieces.items) _ c.args.rows.now c.loop-row.row-index c.row-item.result (piece_view c.put_next.new.hand) c.in_ok-now.now _
+    c.loop-row-test.true c.row-item.is c.in_ok-now.ensures c.loop-row.invariant
 
 pub returns : goal.returns
 returns c =

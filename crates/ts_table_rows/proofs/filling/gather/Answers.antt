@@ -8,7 +8,7 @@ loop-row-init c = ap (λ h. gathered h (map thing_view c.args.rows.now)) c.empty
 
 pub loop-row-preserved : goal.loop-row-preserved
 loop-row-preserved c =
-    gather_goes_on (piece_view c.loop-row.hand) _ c.args.rows.now c.loop-row.row-index c.row-item.result _ c.loop-row-test.true c.row-item.is c.in_ok-hand.ensures c.loop-row.invariant
+    gather_goes_on (piece_view c.loop-row.hand) _ c.args.rows.now c.loop-row.row-index c.row-item.result _ c.loop-row-test.true c.row-item.is c.in_ok-put_thing.ensures c.loop-row.invariant
 
 pub returns : goal.returns
 returns c = gather_ends (piece_view c.loop-row.hand) c.args.rows.now c.loop-row.row-index _ c.loop-row-test.false c.loop-row.invariant
