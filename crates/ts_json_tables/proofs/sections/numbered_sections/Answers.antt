@@ -1,4 +1,5 @@
 use Rattle.std.proofs.Common.{◌∙◌, arith, ap, sym}
+use Rattle.std.proofs.lemmas.Grind.{common_steps}
 use Rattle.std.specs.Prelude.{Ok}
 use Rattle.std.proofs.lemmas.List.{length-map}
 use Rattle.ts_json_tables.specs.HeldTables.{long_held}
@@ -40,3 +41,6 @@ pub returns : goal.returns
 returns c =
     ap Ok (numbered_whole (long_held c.args.table.now) c.first_and_last-first.result c.first_and_last-first.ensures
     ∙ sym (numbered_done (λ p. p.items) (long_held c.args.table.now) c.first_and_last-first.result.1 c.loop-payload.number c.loop-payload.sections.items c.args.table.now.payloads.items c.loop-payload.payload-index _ (rw c.deref-payload-items.ensures.value at c.loop-payload-test.false) c.loop-payload.invariant.left))
+
+pub overflow_add-number : goal.overflow_add-number
+overflow_add-number c = grind (arith, common_steps)
