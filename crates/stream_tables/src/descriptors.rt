@@ -1,16 +1,14 @@
 //! Descriptors, by tag and bytes.
 
-use anyhow::Result;
+use crate::page::Page;
 use ts_bits::DescriptorList;
 
-/// Prints descriptors: the tag, and the bytes after the length.
-pub fn print_descriptors(rt: &impl Print, pid: u16, descriptors: &DescriptorList) -> Result<()> {
+/// Writes descriptors: the tag, and the bytes after the length.
+pub fn write_descriptors(page: &mut Page, descriptors: &DescriptorList) {
     for descriptor in descriptors.as_slice() {
-        print!(rt; "pid {pid} descriptor {} ", descriptor.tag())?;
-        for byte in descriptor.body() {
-            print!(rt; "{byte:02x}")?;
-        }
-        println!(rt;)?;
+        page.begin("descriptor");
+        page.value(&descriptor.tag());
+        page.bytes(descriptor.body());
+        page.end();
     }
-    Ok(())
 }

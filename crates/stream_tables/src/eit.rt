@@ -1,52 +1,61 @@
 //! The EIT of DVB, field by field.
 
-use crate::descriptors::print_descriptors;
-use crate::written::print_written;
-use anyhow::Result;
-use ts_eit::{Eit, Event};
+use crate::descriptors::write_descriptors;
+use crate::page::Page;
+use crate::written::write_written;
+use ts_eit::{Eit, Event, Start};
 use ts_section::TableRun;
 
-/// Prints a section of an EIT: its fields, its events with their descriptors, and whether it is written back
+/// Writes a section of an EIT: its fields, its events with their descriptors, and whether it is written back
 /// unchanged.
-pub fn print_eit(rt: &(impl Print + AllocGlobal), pid: u16, run: &TableRun) -> Result<()> {
-    let eit = match Eit::read(rt.alloc(), run) {
-        Ok(eit) => eit,
-        Err(fault) => {
-            println!(rt; "pid {pid} no EIT: {fault:?}")?;
-            return Ok(());
+pub fn write_eit(page: &mut Page, run: &TableRun) {
+    match Eit::read(page.alloc(), run) {
+        Ok(eit) => {
+            write_head(page, &eit);
+            write_events(page, eit.events.as_slice());
+            write_written(page, run, eit.sections(page.alloc()));
         }
-    };
-    print_head(rt, pid, &eit)?;
-    for event in eit.events.as_slice() {
-        print_event(rt, pid, event)?;
-        print_descriptors(rt, pid, &event.descriptors)?;
+        Err(fault) => page.not_read("EIT", fault),
     }
-    print_written(rt, pid, run, eit.sections(rt.alloc()))
 }
 
-/// Prints the fields before the events.
-fn print_head(rt: &impl Print, pid: u16, eit: &Eit) -> Result<()> {
-    print!(rt;
-        "pid {pid} EIT version {} current {} service_id {} table_id {} number {} last {}",
-        eit.version, eit.current, eit.service_id, eit.table_id, eit.number, eit.last
-    )?;
-    println!(rt;
-        " stream_id {} original_id {} segment_last {} last_table_id {}",
-        eit.stream_id, eit.original_id, eit.segment_last, eit.last_table_id
-    )?;
-    Ok(())
+/// Writes the fields before the events.
+fn write_head(page: &mut Page, eit: &Eit) {
+    page.head("EIT", eit.version, eit.current);
+    page.field("service_id", &eit.service_id);
+    page.field("table_id", &eit.table_id);
+    page.field("number", &eit.number);
+    page.field("last", &eit.last);
+    page.field("stream_id", &eit.stream_id);
+    page.field("original_id", &eit.original_id);
+    page.field("segment_last", &eit.segment_last);
+    page.field("last_table_id", &eit.last_table_id);
+    page.end();
 }
 
-/// Prints an event without its descriptors: the day and second of its start if it is defined, and its duration in
+/// Writes events, each with its descriptors.
+fn write_events(page: &mut Page, events: &[Event]) {
+    for event in events {
+        write_event(page, event);
+        write_descriptors(page, &event.descriptors);
+    }
+}
+
+/// Writes an event without its descriptors: the day and second of its start if it is defined, and its duration in
 /// seconds.
-fn print_event(rt: &impl Print, pid: u16, event: &Event) -> Result<()> {
-    print!(rt; "pid {pid} event id {} ", event.event_id)?;
-    if let Some(start) = event.start {
-        print!(rt; "day {} second {} ", start.day, start.second)?;
+fn write_event(page: &mut Page, event: &Event) {
+    page.begin("event");
+    page.field("id", &event.event_id);
+    write_start(page, event.start);
+    page.field("duration", &event.duration);
+    page.field("running", &event.running);
+    page.field("free_ca", &event.free_ca);
+    page.end();
+}
+
+fn write_start(page: &mut Page, start: Option<Start>) {
+    if let Some(start) = start {
+        page.field("day", &start.day);
+        page.field("second", &start.second);
     }
-    println!(rt;
-        "duration {} running {} free_ca {}",
-        event.duration, event.running, event.free_ca
-    )?;
-    Ok(())
 }

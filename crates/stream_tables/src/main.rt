@@ -5,6 +5,7 @@
 
 mod descriptors;
 mod eit;
+mod page;
 mod pid;
 mod psi;
 mod si;
@@ -14,7 +15,7 @@ mod written;
 use crate::pid::print_pid;
 use anyhow::{Context, Result};
 use std::fs::Files;
-use std::{env, fs};
+use std::{env, fs, io};
 
 /// A stream, and its PIDs that carry sections.
 struct Stream {
@@ -40,27 +41,40 @@ const STREAMS: [Stream; 3] = [
 fn main(rt: HostRuntime) -> Result<()> {
     let mut words = env::args(&rt)?;
     let _name = words.next();
-    let Some(name) = words.next() else {
-        return print_stored(&rt);
-    };
-    let bytes = fs::read(&rt, name.as_str())?;
-    for word in words {
-        let pid = word
-            .parse::<u16>()
-            .context(format_args!("reading {word:?}"))?;
-        print_pid(&rt, pid, bytes.as_slice())?;
+    match words.next() {
+        Some(name) => {
+            let bytes = fs::read(&rt, name.as_str())?;
+            for word in words {
+                print_word(&rt, word.as_str(), bytes.as_slice())?;
+            }
+            Ok(())
+        }
+        None => print_stored(&rt),
     }
-    Ok(())
+}
+
+/// Prints the PID that a word gives.
+fn print_word(rt: &(impl Print + AllocGlobal), word: &str, stream: &[u8]) -> Result<()> {
+    let pid = word
+        .parse::<u16>()
+        .context(format_args!("reading {word:?}"))?;
+    Ok(print_pid(rt, pid, stream)?)
 }
 
 /// Prints the three streams that are stored beside the program.
 fn print_stored(rt: &(impl Print + AllocGlobal + Files)) -> Result<()> {
     for stream in &STREAMS {
         println!(rt; "{}", stream.name)?;
-        let bytes = fs::read(rt, stream.name)?;
-        for pid in stream.pids {
-            print_pid(rt, *pid, bytes.as_slice())?;
-        }
+        print_stream(rt, stream)?;
+    }
+    Ok(())
+}
+
+/// Prints a stored stream.
+fn print_stream(rt: &(impl Print + AllocGlobal + Files), stream: &Stream) -> io::Result<()> {
+    let bytes = fs::read(rt, stream.name)?;
+    for pid in stream.pids {
+        print_pid(rt, *pid, bytes.as_slice())?;
     }
     Ok(())
 }

@@ -1,66 +1,106 @@
 //! The sections and tables of one PID.
 
-use crate::table::print_table;
-use anyhow::Result;
+use crate::page::Page;
+use crate::table::write_table;
+use std::alloc::{AllocError, Global};
+use std::io;
 use ts_demux::{Assembly, Demux};
 use ts_packet::{NULL_PID, PACKET_SIZE, Packet};
 use ts_section::{Section, TableRun};
 
 /// Prints the sections of one PID, the content of each that is a table by itself, and the tables of several sections.
-pub fn print_pid(rt: &(impl Print + AllocGlobal), pid: u16, stream: &[u8]) -> Result<()> {
+pub fn print_pid(rt: &(impl Print + AllocGlobal), pid: u16, stream: &[u8]) -> io::Result<()> {
+    let mut page = Page::new(rt.alloc(), pid);
+    write_pid(rt.alloc(), &mut page, pid, stream)?;
+    page.print(rt)
+}
+
+/// Writes what `print_pid` prints.
+fn write_pid(alloc: Global, page: &mut Page, pid: u16, stream: &[u8]) -> Result<(), AllocError> {
     if pid > NULL_PID {
         return Ok(());
     }
-    let mut demux = Demux::new(rt.alloc(), pid)?;
-    let mut assembly = Assembly::new(rt.alloc())?;
+    let mut assembly = Assembly::new(alloc)?;
+    let mut demux = Demux::new(alloc, pid)?;
+    write_packets(page, &mut demux, &mut assembly, stream)
+}
+
+fn write_packets(
+    page: &mut Page,
+    demux: &mut Demux,
+    assembly: &mut Assembly,
+    stream: &[u8],
+) -> Result<(), AllocError> {
     let mut left = stream;
     while let Some((row, rest)) = left.split_first_chunk::<PACKET_SIZE>() {
         if let Ok(packet) = Packet::of(row) {
-            for _ in 0..demux.feed(&packet)? {
-                if let Some(section) = demux.next_section() {
-                    print_section(rt, pid, &section)?;
-                    print_alone(rt, pid, &section)?;
-                    if let Some(table) = assembly.add(section)? {
-                        print_joined(rt, pid, &table)?;
-                    }
-                }
-            }
+            write_packet(page, demux, assembly, &packet)?;
         }
         left = rest;
     }
     Ok(())
 }
 
-/// Prints the table_id of a section, its section_length, and the CRC of the long form.
-fn print_section(rt: &impl Print, pid: u16, section: &Section) -> Result<()> {
-    let bytes = section.bytes();
-    let id = section.table_id();
-    let length = bytes.len().saturating_sub(3);
-    match (section.is_long(), bytes) {
-        (true, [.., a, b, c, d]) => {
-            println!(rt; "pid {pid} id {id} length {length} crc {a:02x}{b:02x}{c:02x}{d:02x}")?
+/// Writes the sections that a packet completes, and the tables that these complete.
+fn write_packet(
+    page: &mut Page,
+    demux: &mut Demux,
+    assembly: &mut Assembly,
+    packet: &Packet,
+) -> Result<(), AllocError> {
+    for _ in 0..demux.feed(packet)? {
+        if let Some(section) = demux.next_section() {
+            write_section(page, &section);
+            write_alone(page, table_alone(page.alloc(), &section)?);
+            write_joined(page, assembly.add(section)?);
         }
-        _ => println!(rt; "pid {pid} id {id} length {length}")?,
     }
     Ok(())
 }
 
-/// Prints the content of a section that is a whole table by itself.
-fn print_alone(rt: &(impl Print + AllocGlobal), pid: u16, section: &Section) -> Result<()> {
-    let mut sections = Vec::new(rt.alloc());
-    sections.push(section.copy()?)?;
-    if let Ok(run) = TableRun::of(sections) {
-        print_table(rt, pid, &run)?;
+/// Writes the table_id of a section, its section_length, and the CRC of the long form.
+fn write_section(page: &mut Page, section: &Section) {
+    let bytes = section.bytes();
+    page.begin("id");
+    page.value(&section.table_id());
+    page.field("length", &bytes.len().saturating_sub(3));
+    if section.is_long() {
+        write_crc(page, bytes);
     }
-    Ok(())
+    page.end();
 }
 
-/// Prints how many sections a table has, and its content if there are several.
-fn print_joined(rt: &(impl Print + AllocGlobal), pid: u16, table: &TableRun) -> Result<()> {
-    let count = table.sections().len();
-    println!(rt; "pid {pid} table of {count} sections")?;
-    if count > 1 {
-        print_table(rt, pid, table)?;
+/// Writes the last four bytes of a section.
+fn write_crc(page: &mut Page, bytes: &[u8]) {
+    if let Some((_, crc)) = bytes.split_last_chunk::<4>() {
+        page.text(" crc");
+        page.bytes(crc);
     }
-    Ok(())
+}
+
+/// The table that a section is by itself; `None` where it is one of several.
+fn table_alone(alloc: Global, section: &Section) -> Result<Option<TableRun>, AllocError> {
+    let copy = section.copy()?;
+    let sections = vec![in alloc; copy]?;
+    Ok(TableRun::of(sections).ok())
+}
+
+/// Writes the content of a table of one section.
+fn write_alone(page: &mut Page, table: Option<TableRun>) {
+    if let Some(run) = table {
+        write_table(page, &run);
+    }
+}
+
+/// Writes how many sections a table has, and its content if there are several.
+fn write_joined(page: &mut Page, table: Option<TableRun>) {
+    if let Some(run) = table {
+        let count = run.sections().len();
+        page.begin("table of");
+        page.value(&count);
+        page.text(" sections\n");
+        if count > 1 {
+            write_table(page, &run);
+        }
+    }
 }

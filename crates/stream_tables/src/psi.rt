@@ -1,73 +1,77 @@
 //! The tables of ISO/IEC 13818-1 (PAT, CAT and PMT), field by field.
 
-use crate::descriptors::print_descriptors;
-use crate::written::print_written;
-use anyhow::Result;
-use ts_psi::{Cat, Pat, Pmt};
+use crate::descriptors::write_descriptors;
+use crate::page::Page;
+use crate::written::write_written;
+use ts_psi::{Cat, Component, Pat, PatService, Pmt};
 use ts_section::TableRun;
 
-/// Prints a PAT: its entries, the network entry as number 0, and whether it is written back unchanged.
-pub fn print_pat(rt: &(impl Print + AllocGlobal), pid: u16, run: &TableRun) -> Result<()> {
-    let pat = match Pat::read(rt.alloc(), run) {
-        Ok(pat) => pat,
-        Err(fault) => {
-            println!(rt; "pid {pid} no PAT: {fault:?}")?;
-            return Ok(());
+/// Writes a PAT: its entries, the network entry as number 0, and whether it is written back unchanged.
+pub fn write_pat(page: &mut Page, run: &TableRun) {
+    match Pat::read(page.alloc(), run) {
+        Ok(pat) => {
+            write_stream(page, &pat);
+            write_services(page, pat.services.as_slice());
+            write_written(page, run, pat.sections(page.alloc()));
         }
-    };
-    println!(rt;
-        "pid {pid} PAT version {} current {} stream_id {}",
-        pat.version, pat.current, pat.stream_id
-    )?;
+        Err(fault) => page.not_read("PAT", fault),
+    }
+}
+
+/// Writes the fields of a PAT and its network entry.
+fn write_stream(page: &mut Page, pat: &Pat) {
+    page.head("PAT", pat.version, pat.current);
+    page.field("stream_id", &pat.stream_id);
+    page.end();
     if let Some(network) = pat.network_pid {
-        println!(rt; "pid {pid} entry 0 pid {network}")?;
+        page.pair("entry", 0, "pid", network);
     }
-    for service in pat.services.as_slice() {
-        println!(rt;
-            "pid {pid} entry {} pid {}",
-            service.service_id, service.pid
-        )?;
-    }
-    print_written(rt, pid, run, pat.sections(rt.alloc()))
 }
 
-/// Prints a CAT: its descriptors, and whether it is written back unchanged.
-pub fn print_cat(rt: &(impl Print + AllocGlobal), pid: u16, run: &TableRun) -> Result<()> {
-    let cat = match Cat::read(rt.alloc(), run) {
-        Ok(cat) => cat,
-        Err(fault) => {
-            println!(rt; "pid {pid} no CAT: {fault:?}")?;
-            return Ok(());
-        }
-    };
-    println!(rt;
-        "pid {pid} CAT version {} current {}",
-        cat.version, cat.current
-    )?;
-    print_descriptors(rt, pid, &cat.descriptors)?;
-    print_written(rt, pid, run, cat.sections(rt.alloc()))
+fn write_services(page: &mut Page, services: &[PatService]) {
+    for service in services {
+        page.pair("entry", service.service_id, "pid", service.pid);
+    }
 }
 
-/// Prints a PMT: its descriptors, its components and their descriptors, and whether it is written back unchanged.
-pub fn print_pmt(rt: &(impl Print + AllocGlobal), pid: u16, run: &TableRun) -> Result<()> {
-    let pmt = match Pmt::read(rt.alloc(), run) {
-        Ok(pmt) => pmt,
-        Err(fault) => {
-            println!(rt; "pid {pid} no PMT: {fault:?}")?;
-            return Ok(());
+/// Writes a CAT: its descriptors, and whether it is written back unchanged.
+pub fn write_cat(page: &mut Page, run: &TableRun) {
+    match Cat::read(page.alloc(), run) {
+        Ok(cat) => {
+            page.head("CAT", cat.version, cat.current);
+            page.end();
+            write_descriptors(page, &cat.descriptors);
+            write_written(page, run, cat.sections(page.alloc()));
         }
-    };
-    println!(rt;
-        "pid {pid} PMT version {} current {} service_id {} pcr {}",
-        pmt.version, pmt.current, pmt.service_id, pmt.pcr_pid
-    )?;
-    print_descriptors(rt, pid, &pmt.descriptors)?;
-    for component in pmt.components.as_slice() {
-        println!(rt;
-            "pid {pid} component type {} pid {}",
-            component.stream_type, component.pid
-        )?;
-        print_descriptors(rt, pid, &component.descriptors)?;
+        Err(fault) => page.not_read("CAT", fault),
     }
-    print_written(rt, pid, run, pmt.sections(rt.alloc()))
+}
+
+/// Writes a PMT: its descriptors, its components and their descriptors, and whether it is written back unchanged.
+pub fn write_pmt(page: &mut Page, run: &TableRun) {
+    match Pmt::read(page.alloc(), run) {
+        Ok(pmt) => {
+            write_service(page, &pmt);
+            write_components(page, pmt.components.as_slice());
+            write_written(page, run, pmt.sections(page.alloc()));
+        }
+        Err(fault) => page.not_read("PMT", fault),
+    }
+}
+
+/// Writes the fields of a PMT and the descriptors of its service.
+fn write_service(page: &mut Page, pmt: &Pmt) {
+    page.head("PMT", pmt.version, pmt.current);
+    page.field("service_id", &pmt.service_id);
+    page.field("pcr", &pmt.pcr_pid);
+    page.end();
+    write_descriptors(page, &pmt.descriptors);
+}
+
+fn write_components(page: &mut Page, components: &[Component]) {
+    for component in components {
+        let stream_type = u16::from(component.stream_type);
+        page.pair("component type", stream_type, "pid", component.pid);
+        write_descriptors(page, &component.descriptors);
+    }
 }

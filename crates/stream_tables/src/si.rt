@@ -1,80 +1,102 @@
 //! NIT, BAT and SDT of DVB, field by field.
 
-use crate::descriptors::print_descriptors;
-use crate::written::print_written;
-use anyhow::Result;
+use crate::descriptors::write_descriptors;
+use crate::page::Page;
+use crate::written::write_written;
 use ts_section::TableRun;
-use ts_si::{Bat, Nit, NitStreamList, Sdt};
+use ts_si::{Bat, Nit, NitStream, Sdt, SdtService};
 
-/// Prints a NIT: its descriptors, its transport streams and their descriptors, and whether it is written back
+/// Writes a NIT: its descriptors, its transport streams and their descriptors, and whether it is written back
 /// unchanged.
-pub fn print_nit(rt: &(impl Print + AllocGlobal), pid: u16, run: &TableRun) -> Result<()> {
-    let nit = match Nit::read(rt.alloc(), run) {
-        Ok(nit) => nit,
-        Err(fault) => {
-            println!(rt; "pid {pid} no NIT: {fault:?}")?;
-            return Ok(());
+pub fn write_nit(page: &mut Page, run: &TableRun) {
+    match Nit::read(page.alloc(), run) {
+        Ok(nit) => {
+            write_network(page, &nit);
+            write_streams(page, nit.streams.as_slice());
+            write_written(page, run, nit.sections(page.alloc()));
         }
-    };
-    println!(rt;
-        "pid {pid} NIT version {} current {} network_id {} actual {}",
-        nit.version, nit.current, nit.network_id, nit.actual
-    )?;
-    print_descriptors(rt, pid, &nit.descriptors)?;
-    print_streams(rt, pid, &nit.streams)?;
-    print_written(rt, pid, run, nit.sections(rt.alloc()))
+        Err(fault) => page.not_read("NIT", fault),
+    }
 }
 
-/// Prints a BAT: its descriptors, its transport streams and their descriptors, and whether it is written back
+/// Writes the fields of a NIT and the descriptors of its network.
+fn write_network(page: &mut Page, nit: &Nit) {
+    page.head("NIT", nit.version, nit.current);
+    page.field("network_id", &nit.network_id);
+    page.field("actual", &nit.actual);
+    page.end();
+    write_descriptors(page, &nit.descriptors);
+}
+
+/// Writes a BAT: its descriptors, its transport streams and their descriptors, and whether it is written back
 /// unchanged.
-pub fn print_bat(rt: &(impl Print + AllocGlobal), pid: u16, run: &TableRun) -> Result<()> {
-    let bat = match Bat::read(rt.alloc(), run) {
-        Ok(bat) => bat,
-        Err(fault) => {
-            println!(rt; "pid {pid} no BAT: {fault:?}")?;
-            return Ok(());
+pub fn write_bat(page: &mut Page, run: &TableRun) {
+    match Bat::read(page.alloc(), run) {
+        Ok(bat) => {
+            write_bouquet(page, &bat);
+            write_streams(page, bat.streams.as_slice());
+            write_written(page, run, bat.sections(page.alloc()));
         }
-    };
-    println!(rt;
-        "pid {pid} BAT version {} current {} bouquet_id {}",
-        bat.version, bat.current, bat.bouquet_id
-    )?;
-    print_descriptors(rt, pid, &bat.descriptors)?;
-    print_streams(rt, pid, &bat.streams)?;
-    print_written(rt, pid, run, bat.sections(rt.alloc()))
+        Err(fault) => page.not_read("BAT", fault),
+    }
 }
 
-/// Prints an SDT: its services and their descriptors, and whether it is written back unchanged.
-pub fn print_sdt(rt: &(impl Print + AllocGlobal), pid: u16, run: &TableRun) -> Result<()> {
-    let sdt = match Sdt::read(rt.alloc(), run) {
-        Ok(sdt) => sdt,
-        Err(fault) => {
-            println!(rt; "pid {pid} no SDT: {fault:?}")?;
-            return Ok(());
-        }
-    };
-    println!(rt;
-        "pid {pid} SDT version {} current {} stream_id {} original_id {} actual {}",
-        sdt.version, sdt.current, sdt.stream_id, sdt.original_id, sdt.actual
-    )?;
-    for service in sdt.services.as_slice() {
-        println!(rt;
-            "pid {pid} service id {} schedule {} present {} running {} free_ca {}",
-            service.service_id, service.schedule, service.present, service.running, service.free_ca
-        )?;
-        print_descriptors(rt, pid, &service.descriptors)?;
-    }
-    print_written(rt, pid, run, sdt.sections(rt.alloc()))
+/// Writes the fields of a BAT and the descriptors of its bouquet.
+fn write_bouquet(page: &mut Page, bat: &Bat) {
+    page.head("BAT", bat.version, bat.current);
+    page.field("bouquet_id", &bat.bouquet_id);
+    page.end();
+    write_descriptors(page, &bat.descriptors);
 }
 
-/// Prints the transport streams of a NIT or a BAT, each with its descriptors.
-fn print_streams(rt: &impl Print, pid: u16, streams: &NitStreamList) -> Result<()> {
-    for stream in streams.as_slice() {
-        println!(rt;
-            "pid {pid} stream id {} original_id {}",
-            stream.stream_id, stream.original_id
-        )?;
-        print_descriptors(rt, pid, &stream.descriptors)?;
+/// Writes an SDT: its services and their descriptors, and whether it is written back unchanged.
+pub fn write_sdt(page: &mut Page, run: &TableRun) {
+    match Sdt::read(page.alloc(), run) {
+        Ok(sdt) => {
+            write_sdt_head(page, &sdt);
+            write_services(page, sdt.services.as_slice());
+            write_written(page, run, sdt.sections(page.alloc()));
+        }
+        Err(fault) => page.not_read("SDT", fault),
     }
-    Ok(())
+}
+
+/// Writes the fields of an SDT before its services.
+fn write_sdt_head(page: &mut Page, sdt: &Sdt) {
+    page.head("SDT", sdt.version, sdt.current);
+    page.field("stream_id", &sdt.stream_id);
+    page.field("original_id", &sdt.original_id);
+    page.field("actual", &sdt.actual);
+    page.end();
+}
+
+/// Writes the services of an SDT, each with its descriptors.
+fn write_services(page: &mut Page, services: &[SdtService]) {
+    for service in services {
+        write_service(page, service);
+        write_descriptors(page, &service.descriptors);
+    }
+}
+
+fn write_service(page: &mut Page, service: &SdtService) {
+    page.begin("service");
+    page.field("id", &service.service_id);
+    page.field("schedule", &service.schedule);
+    page.field("present", &service.present);
+    page.field("running", &service.running);
+    page.field("free_ca", &service.free_ca);
+    page.end();
+}
+
+/// Writes the transport streams of a NIT or a BAT, each with its descriptors.
+fn write_streams(page: &mut Page, streams: &[NitStream]) {
+    for stream in streams {
+        page.pair(
+            "stream id",
+            stream.stream_id,
+            "original_id",
+            stream.original_id,
+        );
+        write_descriptors(page, &stream.descriptors);
+    }
 }

@@ -1,24 +1,24 @@
 //! The content of the sections of a table.
 
-use crate::eit::print_eit;
-use crate::psi::{print_cat, print_pat, print_pmt};
-use crate::si::{print_bat, print_nit, print_sdt};
-use anyhow::Result;
+use crate::eit::write_eit;
+use crate::page::Page;
+use crate::psi::{write_cat, write_pat, write_pmt};
+use crate::si::{write_bat, write_nit, write_sdt};
 use ts_section::TableRun;
 
-/// Prints the content of a table, if its table_id is one of those below.
-pub fn print_table(rt: &(impl Print + AllocGlobal), pid: u16, run: &TableRun) -> Result<()> {
+/// Writes the content of a table, if its table_id is one of those below.
+pub fn write_table(page: &mut Page, run: &TableRun) {
     let Some(first) = run.sections().first() else {
-        return Ok(());
+        return;
     };
     match first.table_id() {
-        0x00 => print_pat(rt, pid, run),
-        0x01 => print_cat(rt, pid, run),
-        0x02 => print_pmt(rt, pid, run),
-        0x40 | 0x41 => print_nit(rt, pid, run),
-        0x42 | 0x46 => print_sdt(rt, pid, run),
-        0x4A => print_bat(rt, pid, run),
-        0x4E..=0x6F => print_eit(rt, pid, run),
-        _ => Ok(()),
+        0x00 => write_pat(page, run),
+        0x01 => write_cat(page, run),
+        0x02 => write_pmt(page, run),
+        0x40 | 0x41 => write_nit(page, run),
+        0x42 | 0x46 => write_sdt(page, run),
+        0x4A => write_bat(page, run),
+        0x4E..=0x6F => write_eit(page, run),
+        _ => {}
     }
 }

@@ -1,69 +1,62 @@
 //! Whether a table that was read is written back unchanged.
 
-use anyhow::Result;
+use crate::page::Page;
 use ts_section::{Section, TableRun};
 use ts_table_rows::TableRefusal;
 
-/// Prints whether the written sections of a table are those that it was read from, or which bytes differ.
-pub fn print_written(
-    rt: &impl Print,
-    pid: u16,
-    run: &TableRun,
-    written: Result<Vec<Section>, TableRefusal>,
-) -> Result<()> {
-    let sections = match written {
-        Ok(sections) => sections,
-        Err(refusal) => {
-            println!(rt; "pid {pid} not written: {refusal:?}")?;
-            return Ok(());
-        }
-    };
-    let read = run.sections();
-    if read.len() != sections.len() {
-        println!(rt; "pid {pid} written as {} sections", sections.len())?;
-        return Ok(());
+/// Writes whether the written sections of a table are those that it was read from, or which bytes differ.
+pub fn write_written(page: &mut Page, run: &TableRun, written: Result<Vec<Section>, TableRefusal>) {
+    match written {
+        Ok(sections) => write_compared(page, run.sections(), sections.as_slice()),
+        Err(refusal) => page.not_written(refusal),
+    }
+}
+
+fn write_compared(page: &mut Page, read: &[Section], written: &[Section]) {
+    if read.len() != written.len() {
+        page.begin("written as");
+        page.value(&written.len());
+        page.text(" sections\n");
+        return;
     }
     let mut same = true;
     for (place, section) in read.iter().enumerate() {
-        if let Some(again) = sections.get(place) {
-            if print_others(rt, pid, place, section.bytes(), again.bytes())? {
-                same = false;
-            }
+        if let Some(again) = written.get(place) {
+            same = write_others(page, place, section, again) && same;
         }
     }
     if same {
-        println!(rt; "pid {pid} written as it was")?;
+        page.line("written as it was");
     }
-    Ok(())
 }
 
-/// Prints the bytes of a section before its CRC that differ when it is written back, and returns whether there are
-/// any.
-fn print_others(
-    rt: &impl Print,
-    pid: u16,
-    place: usize,
-    read: &[u8],
-    written: &[u8],
-) -> Result<bool> {
+/// Writes how a section differs from the one that is written, and returns whether it does not.
+fn write_others(page: &mut Page, place: usize, read: &Section, written: &Section) -> bool {
+    let read = read.bytes();
+    let written = written.bytes();
     if read.len() != written.len() {
-        println!(rt;
-            "pid {pid} section {place} written with {} bytes",
-            written.len()
-        )?;
-        return Ok(true);
+        page.begin("section");
+        page.value(&place);
+        page.field("written with", &written.len());
+        page.text(" bytes\n");
+        return false;
     }
-    let crc = read.len().saturating_sub(4);
-    let mut some = false;
-    for (at, byte) in read.iter().enumerate() {
-        if let Some(now) = written.get(at) {
-            if at < crc && now != byte {
-                println!(rt;
-                    "pid {pid} section {place} byte {at} was {byte:02x} written {now:02x}"
-                )?;
-                some = true;
-            }
+    write_other_bytes(page, place, read, written)
+}
+
+/// Writes the bytes of a section before its CRC that differ when it is written back, and returns whether there are
+/// none.
+fn write_other_bytes(page: &mut Page, place: usize, read: &[u8], written: &[u8]) -> bool {
+    let end = read.len().saturating_sub(4);
+    let mut same = true;
+    for at in 0..end {
+        if let Some(was) = read.get(at)
+            && let Some(now) = written.get(at)
+            && was != now
+        {
+            page.other_byte(place, at, *was, *now);
+            same = false;
         }
     }
-    Ok(some)
+    same
 }

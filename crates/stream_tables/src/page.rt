@@ -1,0 +1,153 @@
+//! The text of one PID, which is printed at once.
+
+use std::alloc::{AllocError, Global};
+use std::fmt::{Debug, Display, Write};
+use std::io;
+use ts_table_rows::{TableFault, TableRefusal};
+
+/// The lines of one PID, each of which begins with its number.
+///
+/// What appends has no result, so that nothing has to be let go on the way: once memory has ended, the text is not
+/// printed any more.
+#[derive(Drop)]
+pub struct Page {
+    alloc: Global,
+    pid: u16,
+    text: String,
+    state: Result<(), AllocError>,
+}
+
+impl Page {
+    /// The page of a PID, without lines.
+    pub fn new(alloc: Global, pid: u16) -> Page {
+        Page {
+            alloc,
+            pid,
+            text: String::new(alloc),
+            state: Ok(()),
+        }
+    }
+
+    /// The memory of the page.
+    pub fn alloc(&self) -> Global {
+        self.alloc
+    }
+
+    /// Prints all lines. Where memory ended before, nothing is printed, and the error tells it.
+    pub fn print(&self, rt: &impl Print) -> io::Result<()> {
+        self.state?;
+        rt.print(self.text.as_str())
+    }
+
+    /// Keeps that memory has ended.
+    fn keep(&mut self, wrote: Result<(), AllocError>) {
+        if wrote.is_err() {
+            self.state = wrote;
+        }
+    }
+
+    /// Appends a text.
+    pub fn text(&mut self, text: &str) {
+        let wrote = self.text.push_str(text);
+        self.keep(wrote);
+    }
+
+    /// Appends a value as it is.
+    fn bare(&mut self, value: &impl Display) {
+        let wrote = write!(self.text, "{value}");
+        self.keep(wrote);
+    }
+
+    /// Appends a byte as two hexadecimal digits.
+    fn byte(&mut self, byte: u8) {
+        let wrote = write!(self.text, "{byte:02x}");
+        self.keep(wrote);
+    }
+
+    /// Appends a fault, and ends the line.
+    fn fault(&mut self, fault: &impl Debug) {
+        let wrote = write!(self.text, ": {fault:?}\n");
+        self.keep(wrote);
+    }
+
+    /// Begins a line.
+    pub fn begin(&mut self, what: &str) {
+        let pid = self.pid;
+        self.text("pid");
+        self.value(&pid);
+        self.text(" ");
+        self.text(what);
+    }
+
+    /// Appends a value after a blank.
+    pub fn value(&mut self, value: &impl Display) {
+        self.text(" ");
+        self.bare(value);
+    }
+
+    /// Appends a value with its name.
+    pub fn field(&mut self, name: &str, value: &impl Display) {
+        self.text(" ");
+        self.text(name);
+        self.value(value);
+    }
+
+    /// Appends bytes as hexadecimal digits after a blank.
+    pub fn bytes(&mut self, bytes: &[u8]) {
+        self.text(" ");
+        for byte in bytes {
+            self.byte(*byte);
+        }
+    }
+
+    /// Ends a line.
+    pub fn end(&mut self) {
+        self.text("\n");
+    }
+
+    /// Appends a line without values.
+    pub fn line(&mut self, what: &str) {
+        self.begin(what);
+        self.end();
+    }
+
+    /// Appends a line of two numbers with their names.
+    pub fn pair(&mut self, first: &str, one: u16, second: &str, other: u16) {
+        self.begin(first);
+        self.value(&one);
+        self.field(second, &other);
+        self.end();
+    }
+
+    /// Appends a line on a byte of a section that differs when it is written back.
+    pub fn other_byte(&mut self, place: usize, at: usize, was: u8, now: u8) {
+        self.begin("section");
+        self.value(&place);
+        self.field("byte", &at);
+        self.text(" was ");
+        self.byte(was);
+        self.text(" written ");
+        self.byte(now);
+        self.end();
+    }
+
+    /// Begins the line of a table that was read.
+    pub fn head(&mut self, table: &str, version: u8, current: bool) {
+        self.begin(table);
+        self.field("version", &version);
+        self.field("current", &current);
+    }
+
+    /// Appends that a table was not read.
+    pub fn not_read(&mut self, table: &str, fault: TableFault) {
+        self.begin("no ");
+        self.text(table);
+        self.fault(&fault);
+    }
+
+    /// Appends that a table was not written.
+    pub fn not_written(&mut self, refusal: TableRefusal) {
+        self.begin("not written");
+        self.fault(&refusal);
+    }
+}
