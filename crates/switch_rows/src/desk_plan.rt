@@ -1,5 +1,5 @@
 //! The plan of a row for the calls of its desk.
-ghost use Rattle.std.specs.Prelude.{◌<◌, IfOk};
+ghost use Rattle.std.specs.Prelude.{◌≡◌, ◌<◌, IfOk};
 
 use std::alloc::{AllocError, Global};
 use ts_outside::{FailPlan, NumberList};
@@ -40,24 +40,24 @@ pub(crate) const ORDINARY: DeskPlan = DeskPlan {
 
 impl DeskPlan {
     /// The plan as a desk takes it. Out of memory it returns `AllocError`.
-    pub(crate) fn fail_plan(self, alloc: Global) -> Result<FailPlan, AllocError>
+    pub(crate) fn fail_plan(&self, alloc: Global) -> Result<FailPlan, AllocError>
         ensures { IfOk result (λ p. (0 < p.read_piece) × (0 < p.write_piece)) }
     {
-        let opens = numbers(alloc, self.opens)?;
-        let reads = numbers(alloc, self.reads)?;
-        let writes = numbers(alloc, self.writes)?;
-        let reports = numbers(alloc, self.reports)?;
-        let closes = numbers(alloc, self.closes)?;
-        Ok(FailPlan {
-            opens,
-            reads,
-            writes,
-            reports,
-            closes,
-            read_piece: READ_PIECE,
-            write_piece: WRITE_PIECE,
-            room: self.room,
-        })
+        let mut plan = FailPlan::none(alloc, READ_PIECE, WRITE_PIECE, self.room);
+        self.fill(alloc, &mut plan)?;
+        Ok(plan)
+    }
+
+    /// Puts the numbers of the calls that fail into a plan. Nothing else is held while room for them is taken.
+    fn fill(&self, alloc: Global, plan: &mut FailPlan) -> Result<(), AllocError>
+        ensures { (plan.new.read_piece ≡ plan.old.read_piece) × (plan.new.write_piece ≡ plan.old.write_piece) }
+    {
+        plan.opens = numbers(alloc, self.opens)?;
+        plan.reads = numbers(alloc, self.reads)?;
+        plan.writes = numbers(alloc, self.writes)?;
+        plan.reports = numbers(alloc, self.reports)?;
+        plan.closes = numbers(alloc, self.closes)?;
+        Ok(())
     }
 }
 

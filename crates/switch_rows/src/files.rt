@@ -57,23 +57,33 @@ static FILES: [PacketFile; 5] = [
 pub(crate) fn files(alloc: Global) -> Result<FileList, AllocError> {
     let mut files = Vec::new(alloc);
     for file in &FILES {
-        let bytes = bytes_of(alloc, file)?;
-        let name = NameText::of(String::from_str(alloc, file.name)?);
-        files.push((name, FileBytes::of(bytes)))?;
+        files.push(named(alloc, file)?)?;
     }
     Ok(FileList::of(files))
 }
 
+/// A file with its name.
+fn named(alloc: Global, file: &PacketFile) -> Result<(NameText, FileBytes), AllocError> {
+    let name = NameText::of(String::from_str(alloc, file.name)?);
+    let bytes = bytes_of(alloc, file)?;
+    Ok((name, FileBytes::of(bytes)))
+}
+
 fn bytes_of(alloc: Global, file: &PacketFile) -> Result<Vec<u8>, AllocError> {
     let mut bytes = Vec::new(alloc);
+    push_packets(&mut bytes, file)?;
+    Ok(bytes)
+}
+
+/// Appends the packets of a file.
+fn push_packets(bytes: &mut Vec<u8>, file: &PacketFile) -> Result<(), AllocError> {
     for pid in file.pids {
-        push_packet(&mut bytes, SYNC, *pid, 188)?;
+        push_packet(bytes, SYNC, *pid, 188)?;
     }
     if file.is_lost {
-        push_packet(&mut bytes, NO_SYNC, 8191, 188)?;
+        push_packet(bytes, NO_SYNC, 8191, 188)?;
     }
-    push_packet(&mut bytes, SYNC, 8191, file.rest)?;
-    Ok(bytes)
+    push_packet(bytes, SYNC, 8191, file.rest)
 }
 
 /// Appends the first bytes of a packet.

@@ -9,6 +9,7 @@ mod files;
 mod meeting;
 mod meeting_rows;
 mod outcome;
+mod page;
 mod play_rows;
 mod row;
 mod steps;
@@ -18,11 +19,11 @@ mod watched_desk;
 mod watched_source;
 mod word_rows;
 
-use anyhow::Result;
 use row::{Row, print_rows};
+use std::io;
 use tally::Tally;
 
-fn main(rt: HostRuntime) -> Result<()> {
+fn main(rt: HostRuntime) -> io::Result<()> {
     let tables: [&[Row]; 3] = [
         play_rows::rows(),
         fault_rows::rows(),

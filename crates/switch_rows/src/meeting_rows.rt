@@ -1,9 +1,11 @@
 //! Plays in which the next input is read while the current one is.
 use crate::desk_plan::{DeskPlan, ORDINARY};
 use crate::meeting::Meeting;
-use crate::outcome::print_outcome;
-use crate::trial::{called, push_words};
-use anyhow::Result;
+use crate::outcome::write_outcome;
+use crate::page::Page;
+use crate::trial::played;
+use std::alloc::AllocError;
+use std::io;
 use std::sync::Wait;
 use std::thread::Threads;
 
@@ -42,7 +44,9 @@ static ROWS: [MeetingRow; 3] = [
 ];
 
 /// Plays all of them, and prints their results and whether the reads met.
-pub(crate) fn print_meetings<R: Threads + Wait + Sync + Print + AllocGlobal>(rt: &R) -> Result<()> {
+pub(crate) fn print_meetings<R: Threads + Wait + Sync + Print + AllocGlobal>(
+    rt: &R,
+) -> io::Result<()> {
     for row in &ROWS {
         print_meeting(rt, row)?;
     }
@@ -52,13 +56,24 @@ pub(crate) fn print_meetings<R: Threads + Wait + Sync + Print + AllocGlobal>(rt:
 fn print_meeting<R: Threads + Wait + Sync + Print + AllocGlobal>(
     rt: &R,
     row: &MeetingRow,
-) -> Result<()> {
-    println!(rt; "{}", row.name)?;
+) -> io::Result<()> {
+    let mut page = Page::new(rt.alloc());
+    write_meeting(rt, &mut page, row)?;
+    page.print(rt)
+}
+
+fn write_meeting<R: Threads + Wait + Sync + AllocGlobal>(
+    rt: &R,
+    page: &mut Page,
+    row: &MeetingRow,
+) -> Result<(), AllocError> {
+    page.text(row.name);
+    page.text("\n");
     let meeting = Meeting::with_read(row.read);
-    let mut words = Vec::new(rt.alloc());
-    push_words(rt.alloc(), &mut words, row.words)?;
-    let trial = called(rt, words.as_slice(), row.plan, &meeting)?;
-    print_outcome(rt, &trial)?;
-    println!(rt; "  both reads met: {}", meeting.have_met())?;
+    let trial = played(rt, "", row.words, row.plan, &meeting)?;
+    write_outcome(page, &trial);
+    page.text("  both reads met: ");
+    page.add(meeting.have_met());
+    page.text("\n");
     Ok(())
 }

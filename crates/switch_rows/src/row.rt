@@ -1,11 +1,12 @@
 //! A worked example: its words, and the plan for the calls of its desk.
 use crate::desk_plan::DeskPlan;
 use crate::meeting::Meeting;
-use crate::outcome::print_outcome;
+use crate::outcome::write_outcome;
+use crate::page::Page;
 use crate::tally::Tally;
-use crate::trial::{Trial, called, push_words};
-use anyhow::Result;
-use std::alloc::{AllocError, Global};
+use crate::trial::{Trial, played};
+use std::alloc::AllocError;
+use std::io;
 use std::sync::Wait;
 use std::thread::Threads;
 
@@ -29,7 +30,7 @@ pub(crate) fn print_rows<R: Threads + Wait + Sync + Print + AllocGlobal>(
     rt: &R,
     rows: &[Row],
     tally: &mut Tally,
-) -> Result<()> {
+) -> io::Result<()> {
     for row in rows {
         *tally = print_row(rt, row, *tally)?;
     }
@@ -41,21 +42,26 @@ fn print_row<R: Threads + Wait + Sync + Print + AllocGlobal>(
     rt: &R,
     row: &Row,
     tally: Tally,
-) -> Result<Tally> {
-    println!(rt; "{}", row.name)?;
-    let meeting = Meeting::none();
-    let words = words_with(rt.alloc(), "", row.words)?;
-    let trial = called(rt, words.as_slice(), row.plan, &meeting)?;
-    print_outcome(rt, &trial)?;
-    Ok(over_buffers(rt, row, &trial, tally)?)
+) -> io::Result<Tally> {
+    let mut page = Page::new(rt.alloc());
+    let tally = write_row(rt, &mut page, row, tally)?;
+    page.print(rt)?;
+    Ok(tally)
 }
 
-/// The words of two texts.
-fn words_with(alloc: Global, first: &str, text: &str) -> Result<Vec<String>, AllocError> {
-    let mut words = Vec::new(alloc);
-    push_words(alloc, &mut words, first)?;
-    push_words(alloc, &mut words, text)?;
-    Ok(words)
+/// Plays a row and writes its result; returns the tally as `print_row`.
+fn write_row<R: Threads + Wait + Sync + AllocGlobal>(
+    rt: &R,
+    page: &mut Page,
+    row: &Row,
+    tally: Tally,
+) -> Result<Tally, AllocError> {
+    page.text(row.name);
+    page.text("\n");
+    let meeting = Meeting::none();
+    let trial = played(rt, "", row.words, row.plan, &meeting)?;
+    write_outcome(page, &trial);
+    over_buffers(rt, row, &trial, tally)
 }
 
 /// The tally with a row's runs over rings of each of the sizes, each of which must have the same result.
@@ -79,7 +85,6 @@ fn is_same_with<R: Threads + Wait + Sync + AllocGlobal>(
     wanted: &Trial,
 ) -> Result<bool, AllocError> {
     let meeting = Meeting::none();
-    let words = words_with(rt.alloc(), buffer, row.words)?;
-    let trial = called(rt, words.as_slice(), row.plan, &meeting)?;
+    let trial = played(rt, buffer, row.words, row.plan, &meeting)?;
     Ok(trial.is_like(wanted))
 }

@@ -40,14 +40,22 @@ impl<'a> Trial<'a> {
         }
     }
 
+    /// The calls of the desk in order, and how many inputs were open at once.
+    fn calls(&self) -> (&str, u64) {
+        let steps = &self.desk.steps;
+        (steps.text(), steps.most())
+    }
+
+    /// The report, whether there is an output, and its bytes.
+    fn results(&self) -> (&[u8], bool, &[u8]) {
+        (self.reported(), self.output().is_some(), self.written())
+    }
+
     /// Whether two calls had the same status, report and output, and the same calls of the desk in the same order.
     pub(crate) fn is_like(&self, other: &Trial) -> bool {
         self.status == other.status
-            && self.reported() == other.reported()
-            && self.output().is_some() == other.output().is_some()
-            && self.written() == other.written()
-            && self.desk.steps.text() == other.desk.steps.text()
-            && self.desk.steps.most() == other.desk.steps.most()
+            && self.results() == other.results()
+            && self.calls() == other.calls()
     }
 }
 
@@ -57,8 +65,8 @@ fn filled_desk<'a>(
     plan: DeskPlan,
     meeting: &'a Meeting,
 ) -> Result<Box<WatchedDesk<'a>>, AllocError> {
-    let plan = plan.fail_plan(alloc)?;
     let files = files(alloc)?;
+    let plan = plan.fail_plan(alloc)?;
     let desk = MemoryDesk::new(alloc, files, plan)?;
     Ok(Box::new(alloc, WatchedDesk::new(alloc, desk, meeting))?)
 }
@@ -73,6 +81,30 @@ pub(crate) fn called<'a, R: Threads + Wait + Sync + AllocGlobal>(
     let mut desk = filled_desk(rt.alloc(), plan, meeting)?;
     let status = switch_call(rt, rt.alloc(), words, &mut *desk, &OpenGate);
     Ok(Trial { desk, status })
+}
+
+/// The words of two texts.
+pub(crate) fn words_with(
+    alloc: Global,
+    first: &str,
+    text: &str,
+) -> Result<Vec<String>, AllocError> {
+    let mut words = Vec::new(alloc);
+    push_words(alloc, &mut words, first)?;
+    push_words(alloc, &mut words, text)?;
+    Ok(words)
+}
+
+/// Calls `switch_call` with the words of two texts.
+pub(crate) fn played<'a, R: Threads + Wait + Sync + AllocGlobal>(
+    rt: &R,
+    first: &str,
+    text: &str,
+    plan: DeskPlan,
+    meeting: &'a Meeting,
+) -> Result<Trial<'a>, AllocError> {
+    let words = words_with(rt.alloc(), first, text)?;
+    called(rt, words.as_slice(), plan, meeting)
 }
 
 /// Appends the words of a text, separated by blanks. The word `''` is the empty one.

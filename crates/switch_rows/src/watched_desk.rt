@@ -69,14 +69,14 @@ impl<'a> Desk for WatchedDesk<'a> {
     }
 
     fn open_out(&mut self, name: Option<&str>) -> Result<MemorySink, OpenFault> {
-        let text = text_of(self.alloc, name)?;
+        let text = name.unwrap_or("");
         match self.desk.open_out(name) {
             Ok(sink) => {
-                self.steps.opens(text.as_str());
+                self.steps.opens(text);
                 Ok(sink)
             }
             Err(fault) => {
-                self.steps.misses(text.as_str());
+                self.steps.misses(text);
                 Err(fault)
             }
         }

@@ -1,9 +1,11 @@
 //! Words that are not of the form, and the limits of those that are.
 use crate::desk_plan::ORDINARY;
 use crate::meeting::Meeting;
-use crate::trial::{Trial, called, push_words};
-use anyhow::Result;
+use crate::page::Page;
+use crate::trial::{Trial, called, push_words, words_with};
 use std::alloc::{AllocError, Global};
+use std::fmt::Display;
+use std::io;
 use std::sync::Wait;
 use std::thread::Threads;
 
@@ -59,7 +61,9 @@ static LAWFUL: [&str; 3] = [
 ];
 
 /// Prints the results of all of them, and of one input more than allowed.
-pub(crate) fn print_words<R: Threads + Wait + Sync + Print + AllocGlobal>(rt: &R) -> Result<()> {
+pub(crate) fn print_words<R: Threads + Wait + Sync + Print + AllocGlobal>(
+    rt: &R,
+) -> io::Result<()> {
     for text in &WORDS {
         print_text(rt, text)?;
     }
@@ -70,21 +74,21 @@ pub(crate) fn print_words<R: Threads + Wait + Sync + Print + AllocGlobal>(rt: &R
     print_inputs(rt, 33)
 }
 
-fn print_text<R: Threads + Wait + Sync + Print + AllocGlobal>(rt: &R, text: &str) -> Result<()> {
-    let mut words = Vec::new(rt.alloc());
-    push_words(rt.alloc(), &mut words, text)?;
-    print!(rt; "{text:?}: ")?;
-    print_short(rt, words.as_slice())
+fn print_text<R: Threads + Wait + Sync + Print + AllocGlobal>(
+    rt: &R,
+    text: &str,
+) -> io::Result<()> {
+    let words = words_with(rt.alloc(), "", text)?;
+    print_short(rt, format_args!("{text:?}"), words.as_slice())
 }
 
 /// Plays `count` inputs of one packet.
 fn print_inputs<R: Threads + Wait + Sync + Print + AllocGlobal>(
     rt: &R,
     count: usize,
-) -> Result<()> {
+) -> io::Result<()> {
     let words = inputs(rt.alloc(), count)?;
-    print!(rt; "{count} inputs: ")?;
-    print_short(rt, words.as_slice())
+    print_short(rt, format_args!("{count} inputs"), words.as_slice())
 }
 
 fn inputs(alloc: Global, count: usize) -> Result<Vec<String>, AllocError> {
@@ -96,24 +100,41 @@ fn inputs(alloc: Global, count: usize) -> Result<Vec<String>, AllocError> {
     Ok(words)
 }
 
-/// Plays, and prints the status, how many names the desk was asked to open, how many lines were reported, and the
-/// last of them.
-fn print_short<R: Threads + Wait + Sync + Print + AllocGlobal>(
+/// Plays, and prints a title, the status, how many names the desk was asked to open, how many lines were reported, and
+/// the last of them.
+fn print_short<R: Threads + Wait + Sync + Print + AllocGlobal, D: Display + Drop>(
     rt: &R,
+    title: D,
     words: &[String],
-) -> Result<()> {
-    let meeting = Meeting::none();
-    let trial = called(rt, words, ORDINARY, &meeting)?;
-    print_end(rt, &trial)
+) -> io::Result<()> {
+    let mut page = Page::new(rt.alloc());
+    page.add(title);
+    write_short(rt, &mut page, words)?;
+    page.print(rt)
 }
 
-fn print_end(rt: &impl Print, trial: &Trial) -> Result<()> {
+fn write_short<R: Threads + Wait + Sync + AllocGlobal>(
+    rt: &R,
+    page: &mut Page,
+    words: &[String],
+) -> Result<(), AllocError> {
+    let meeting = Meeting::none();
+    let trial = called(rt, words, ORDINARY, &meeting)?;
+    write_end(page, &trial);
+    Ok(())
+}
+
+fn write_end(page: &mut Page, trial: &Trial) {
     let status = &trial.status;
     let exit = status.exit_code();
     let asked = trial.asked_count();
-    let text = str::from_utf8(trial.reported()).unwrap_or("");
+    page.add(format_args!(": {status:?}, exit {exit}, asked for {asked}"));
+    write_lines(page, str::from_utf8(trial.reported()).unwrap_or(""));
+}
+
+/// Writes how many lines a text has, and the last of them.
+fn write_lines(page: &mut Page, text: &str) {
     let lines = text.lines().count();
     let last = text.lines().last().unwrap_or("");
-    println!(rt; "{status:?}, exit {exit}, asked for {asked}, lines {lines}, {last:?}")?;
-    Ok(())
+    page.add(format_args!(", lines {lines}, {last:?}\n"));
 }
