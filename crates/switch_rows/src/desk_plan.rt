@@ -52,16 +52,16 @@ impl DeskPlan {
     fn fill(&self, alloc: Global, plan: &mut FailPlan) -> Result<(), AllocError>
         ensures { (plan.new.read_piece ≡ plan.old.read_piece) × (plan.new.write_piece ≡ plan.old.write_piece) }
     {
-        plan.opens = numbers(alloc, self.opens)?;
-        plan.reads = numbers(alloc, self.reads)?;
-        plan.writes = numbers(alloc, self.writes)?;
-        plan.reports = numbers(alloc, self.reports)?;
-        plan.closes = numbers(alloc, self.closes)?;
-        Ok(())
+        set(alloc, &mut plan.opens, self.opens)?;
+        set(alloc, &mut plan.reads, self.reads)?;
+        set(alloc, &mut plan.writes, self.writes)?;
+        set(alloc, &mut plan.reports, self.reports)?;
+        set(alloc, &mut plan.closes, self.closes)
     }
 }
 
-/// The numbers as a desk takes them. Out of memory it returns `AllocError`.
-fn numbers(alloc: Global, calls: &[u64]) -> Result<NumberList, AllocError> {
-    Ok(NumberList::of(Vec::from_slice(alloc, calls)?))
+/// Puts numbers in the place of a list. Out of memory it returns `AllocError`.
+fn set(alloc: Global, list: &mut NumberList, calls: &[u64]) -> Result<(), AllocError> {
+    *list = NumberList::of(Vec::from_slice(alloc, calls)?);
+    Ok(())
 }

@@ -19,11 +19,31 @@ mod watched_desk;
 mod watched_source;
 mod word_rows;
 
-use row::{Row, print_rows};
+use page::Page;
+use row::{Row, write_rows};
+use std::alloc::AllocError;
 use std::io;
+use std::sync::Wait;
+use std::thread::Threads;
 use tally::Tally;
 
 fn main(rt: HostRuntime) -> io::Result<()> {
+    print_tables(&rt)?;
+    word_rows::print_words(&rt)?;
+    meeting_rows::print_meetings(&rt)
+}
+
+/// Prints the rows of all tables, and how many of their runs have the same result over rings of the other sizes.
+fn print_tables<R: Threads + Wait + Sync + Print + AllocGlobal>(rt: &R) -> io::Result<()> {
+    let mut page = Page::new(rt.alloc());
+    write_tables(rt, &mut page)?;
+    page.print(rt)
+}
+
+fn write_tables<R: Threads + Wait + Sync + AllocGlobal>(
+    rt: &R,
+    page: &mut Page,
+) -> Result<(), AllocError> {
     let tables: [&[Row]; 3] = [
         play_rows::rows(),
         fault_rows::rows(),
@@ -31,12 +51,11 @@ fn main(rt: HostRuntime) -> io::Result<()> {
     ];
     let mut tally = Tally::empty();
     for rows in tables {
-        print_rows(&rt, rows, &mut tally)?;
+        write_rows(rt, page, rows, &mut tally)?;
     }
-    println!(rt;
-        "over rings of 1, 2 and 7 packets the same: {} of {} runs",
+    page.add(format_args!(
+        "over rings of 1, 2 and 7 packets the same: {} of {} runs\n",
         tally.alike, tally.runs
-    )?;
-    word_rows::print_words(&rt)?;
-    meeting_rows::print_meetings(&rt)
+    ));
+    Ok(())
 }

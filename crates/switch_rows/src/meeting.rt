@@ -13,27 +13,18 @@ const SPINS: u32 = 64;
 /// first one has: if inputs are read one after another they never meet.
 #[derive(Drop)]
 pub(crate) struct Meeting {
-    /// The number of the second input's read, from 1 on. Without it no read waits.
-    of_second: Option<u64>,
+    /// The number of the second input's read, from 1 on.
+    of_second: u64,
     first_came: AtomicBool,
     second_came: AtomicBool,
     was_given_up: AtomicBool,
 }
 
 impl Meeting {
-    /// No read waits for another one.
-    pub(crate) fn none() -> Meeting {
-        Meeting::of(None)
-    }
-
     /// The second read of the first input meets this one of the second input.
     pub(crate) fn with_read(number: u64) -> Meeting {
-        Meeting::of(Some(number))
-    }
-
-    fn of(of_second: Option<u64>) -> Meeting {
         Meeting {
-            of_second,
+            of_second: number,
             first_came: AtomicBool::new(false),
             second_came: AtomicBool::new(false),
             was_given_up: AtomicBool::new(false),
@@ -42,13 +33,11 @@ impl Meeting {
 
     /// To be called when a read of an input begins; inputs and reads are counted from 1.
     pub(crate) fn begin(&self, input: u64, read: u64) {
-        if let Some(of_second) = self.of_second {
-            if input == 1 && read == 2 {
-                self.meet(&self.first_came, &self.second_came);
-            }
-            if input == 2 && read == of_second {
-                self.meet(&self.second_came, &self.first_came);
-            }
+        if input == 1 && read == 2 {
+            self.meet(&self.first_came, &self.second_came);
+        }
+        if input == 2 && read == self.of_second {
+            self.meet(&self.second_came, &self.first_came);
         }
     }
 

@@ -47,19 +47,19 @@ static ROWS: [MeetingRow; 3] = [
 pub(crate) fn print_meetings<R: Threads + Wait + Sync + Print + AllocGlobal>(
     rt: &R,
 ) -> io::Result<()> {
-    for row in &ROWS {
-        print_meeting(rt, row)?;
-    }
-    Ok(())
+    let mut page = Page::new(rt.alloc());
+    write_meetings(rt, &mut page)?;
+    page.print(rt)
 }
 
-fn print_meeting<R: Threads + Wait + Sync + Print + AllocGlobal>(
+fn write_meetings<R: Threads + Wait + Sync + AllocGlobal>(
     rt: &R,
-    row: &MeetingRow,
-) -> io::Result<()> {
-    let mut page = Page::new(rt.alloc());
-    write_meeting(rt, &mut page, row)?;
-    page.print(rt)
+    page: &mut Page,
+) -> Result<(), AllocError> {
+    for row in &ROWS {
+        write_meeting(rt, page, row)?;
+    }
+    Ok(())
 }
 
 fn write_meeting<R: Threads + Wait + Sync + AllocGlobal>(
@@ -70,7 +70,7 @@ fn write_meeting<R: Threads + Wait + Sync + AllocGlobal>(
     page.text(row.name);
     page.text("\n");
     let meeting = Meeting::with_read(row.read);
-    let trial = played(rt, "", row.words, row.plan, &meeting)?;
+    let trial = played(rt, "", row.words, row.plan, Some(&meeting))?;
     write_outcome(page, &trial);
     page.text("  both reads met: ");
     page.add(meeting.have_met());

@@ -1,12 +1,10 @@
 //! A worked example: its words, and the plan for the calls of its desk.
 use crate::desk_plan::DeskPlan;
-use crate::meeting::Meeting;
 use crate::outcome::write_outcome;
 use crate::page::Page;
 use crate::tally::Tally;
 use crate::trial::{Trial, played};
 use std::alloc::AllocError;
-use std::io;
 use std::sync::Wait;
 use std::thread::Threads;
 
@@ -25,31 +23,20 @@ static BUFFERS: [&str; 3] = [
     "--buffer-packets 7",
 ];
 
-/// Plays rows, and prints their results. The returned tally has them too, over rings of each of the sizes.
-pub(crate) fn print_rows<R: Threads + Wait + Sync + Print + AllocGlobal>(
+/// Plays rows, and writes their results. The tally gets them too, over rings of each of the sizes.
+pub(crate) fn write_rows<R: Threads + Wait + Sync + AllocGlobal>(
     rt: &R,
+    page: &mut Page,
     rows: &[Row],
     tally: &mut Tally,
-) -> io::Result<()> {
+) -> Result<(), AllocError> {
     for row in rows {
-        *tally = print_row(rt, row, *tally)?;
+        *tally = write_row(rt, page, row, *tally)?;
     }
     Ok(())
 }
 
-/// Plays a row and prints its result; returns the tally with its runs over rings of the other sizes.
-fn print_row<R: Threads + Wait + Sync + Print + AllocGlobal>(
-    rt: &R,
-    row: &Row,
-    tally: Tally,
-) -> io::Result<Tally> {
-    let mut page = Page::new(rt.alloc());
-    let tally = write_row(rt, &mut page, row, tally)?;
-    page.print(rt)?;
-    Ok(tally)
-}
-
-/// Plays a row and writes its result; returns the tally as `print_row`.
+/// Plays a row and writes its result; returns the tally with its runs over rings of the other sizes.
 fn write_row<R: Threads + Wait + Sync + AllocGlobal>(
     rt: &R,
     page: &mut Page,
@@ -58,8 +45,7 @@ fn write_row<R: Threads + Wait + Sync + AllocGlobal>(
 ) -> Result<Tally, AllocError> {
     page.text(row.name);
     page.text("\n");
-    let meeting = Meeting::none();
-    let trial = played(rt, "", row.words, row.plan, &meeting)?;
+    let trial = played(rt, "", row.words, row.plan, None)?;
     write_outcome(page, &trial);
     over_buffers(rt, row, &trial, tally)
 }
@@ -84,7 +70,6 @@ fn is_same_with<R: Threads + Wait + Sync + AllocGlobal>(
     buffer: &str,
     wanted: &Trial,
 ) -> Result<bool, AllocError> {
-    let meeting = Meeting::none();
-    let trial = played(rt, buffer, row.words, row.plan, &meeting)?;
+    let trial = played(rt, buffer, row.words, row.plan, None)?;
     Ok(trial.is_like(wanted))
 }

@@ -63,7 +63,7 @@ impl<'a> Trial<'a> {
 fn filled_desk<'a>(
     alloc: Global,
     plan: DeskPlan,
-    meeting: &'a Meeting,
+    meeting: Option<&'a Meeting>,
 ) -> Result<Box<WatchedDesk<'a>>, AllocError> {
     let files = files(alloc)?;
     let plan = plan.fail_plan(alloc)?;
@@ -76,7 +76,7 @@ pub(crate) fn called<'a, R: Threads + Wait + Sync + AllocGlobal>(
     rt: &R,
     words: &[String],
     plan: DeskPlan,
-    meeting: &'a Meeting,
+    meeting: Option<&'a Meeting>,
 ) -> Result<Trial<'a>, AllocError> {
     let mut desk = filled_desk(rt.alloc(), plan, meeting)?;
     let status = switch_call(rt, rt.alloc(), words, &mut *desk, &OpenGate);
@@ -101,7 +101,7 @@ pub(crate) fn played<'a, R: Threads + Wait + Sync + AllocGlobal>(
     first: &str,
     text: &str,
     plan: DeskPlan,
-    meeting: &'a Meeting,
+    meeting: Option<&'a Meeting>,
 ) -> Result<Trial<'a>, AllocError> {
     let words = words_with(rt.alloc(), first, text)?;
     called(rt, words.as_slice(), plan, meeting)

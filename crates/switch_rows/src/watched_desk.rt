@@ -11,14 +11,18 @@ pub(crate) struct WatchedDesk<'a> {
     pub(crate) desk: MemoryDesk,
     pub(crate) steps: Steps,
     alloc: Global,
-    meeting: &'a Meeting,
+    meeting: Option<&'a Meeting>,
     /// How many inputs were opened.
     opened: u64,
 }
 
 impl<'a> WatchedDesk<'a> {
     /// A desk without calls so far.
-    pub(crate) fn new(alloc: Global, desk: MemoryDesk, meeting: &'a Meeting) -> WatchedDesk<'a> {
+    pub(crate) fn new(
+        alloc: Global,
+        desk: MemoryDesk,
+        meeting: Option<&'a Meeting>,
+    ) -> WatchedDesk<'a> {
         WatchedDesk {
             desk,
             steps: Steps::none(String::new(alloc)),

@@ -1,16 +1,15 @@
 //! Words that are not of the form, and the limits of those that are.
 use crate::desk_plan::ORDINARY;
-use crate::meeting::Meeting;
 use crate::page::Page;
 use crate::trial::{Trial, called, push_words, words_with};
 use std::alloc::{AllocError, Global};
-use std::fmt::Display;
 use std::io;
 use std::sync::Wait;
 use std::thread::Threads;
 
-/// Each of these lists has its first fault at another word or for another reason.
-static WORDS: [&str; 40] = [
+/// Each of these lists but the last three has its first fault at another word or for another reason. The last three
+/// stand at the limits of the form.
+static WORDS: [&str; 43] = [
     "",
     "-O drop",
     "A",
@@ -51,10 +50,6 @@ static WORDS: [&str; 40] = [
     "-I file A -O drop C",
     "-I file A -O drop -O drop",
     "-I file A -O file C -I file A",
-];
-
-/// Words at the limits of the form.
-static LAWFUL: [&str; 3] = [
     "--cycle 1000 -I file none -O drop",
     "--buffer-packets 5 --cycle 2 -I file A -O drop",
     "--cycle 2 --buffer-packets 5 -I file A -O drop",
@@ -64,31 +59,42 @@ static LAWFUL: [&str; 3] = [
 pub(crate) fn print_words<R: Threads + Wait + Sync + Print + AllocGlobal>(
     rt: &R,
 ) -> io::Result<()> {
-    for text in &WORDS {
-        print_text(rt, text)?;
-    }
-    for text in &LAWFUL {
-        print_text(rt, text)?;
-    }
-    print_inputs(rt, 32)?;
-    print_inputs(rt, 33)
+    let mut page = Page::new(rt.alloc());
+    write_texts(rt, &mut page)?;
+    write_inputs(rt, &mut page, 32)?;
+    write_inputs(rt, &mut page, 33)?;
+    page.print(rt)
 }
 
-fn print_text<R: Threads + Wait + Sync + Print + AllocGlobal>(
+fn write_texts<R: Threads + Wait + Sync + AllocGlobal>(
     rt: &R,
+    page: &mut Page,
+) -> Result<(), AllocError> {
+    for text in &WORDS {
+        write_text(rt, page, text)?;
+    }
+    Ok(())
+}
+
+fn write_text<R: Threads + Wait + Sync + AllocGlobal>(
+    rt: &R,
+    page: &mut Page,
     text: &str,
-) -> io::Result<()> {
+) -> Result<(), AllocError> {
+    page.add(format_args!("{text:?}: "));
     let words = words_with(rt.alloc(), "", text)?;
-    print_short(rt, format_args!("{text:?}"), words.as_slice())
+    write_short(rt, page, words.as_slice())
 }
 
 /// Plays `count` inputs of one packet.
-fn print_inputs<R: Threads + Wait + Sync + Print + AllocGlobal>(
+fn write_inputs<R: Threads + Wait + Sync + AllocGlobal>(
     rt: &R,
+    page: &mut Page,
     count: usize,
-) -> io::Result<()> {
+) -> Result<(), AllocError> {
+    page.add(format_args!("{count} inputs: "));
     let words = inputs(rt.alloc(), count)?;
-    print_short(rt, format_args!("{count} inputs"), words.as_slice())
+    write_short(rt, page, words.as_slice())
 }
 
 fn inputs(alloc: Global, count: usize) -> Result<Vec<String>, AllocError> {
@@ -100,26 +106,14 @@ fn inputs(alloc: Global, count: usize) -> Result<Vec<String>, AllocError> {
     Ok(words)
 }
 
-/// Plays, and prints a title, the status, how many names the desk was asked to open, how many lines were reported, and
-/// the last of them.
-fn print_short<R: Threads + Wait + Sync + Print + AllocGlobal, D: Display + Drop>(
-    rt: &R,
-    title: D,
-    words: &[String],
-) -> io::Result<()> {
-    let mut page = Page::new(rt.alloc());
-    page.add(title);
-    write_short(rt, &mut page, words)?;
-    page.print(rt)
-}
-
+/// Plays, and writes the status, how many names the desk was asked to open, how many lines were reported, and the last
+/// of them.
 fn write_short<R: Threads + Wait + Sync + AllocGlobal>(
     rt: &R,
     page: &mut Page,
     words: &[String],
 ) -> Result<(), AllocError> {
-    let meeting = Meeting::none();
-    let trial = called(rt, words, ORDINARY, &meeting)?;
+    let trial = called(rt, words, ORDINARY, None)?;
     write_end(page, &trial);
     Ok(())
 }
@@ -128,7 +122,7 @@ fn write_end(page: &mut Page, trial: &Trial) {
     let status = &trial.status;
     let exit = status.exit_code();
     let asked = trial.asked_count();
-    page.add(format_args!(": {status:?}, exit {exit}, asked for {asked}"));
+    page.add(format_args!("{status:?}, exit {exit}, asked for {asked}"));
     write_lines(page, str::from_utf8(trial.reported()).unwrap_or(""));
 }
 
