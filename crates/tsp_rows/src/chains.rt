@@ -3,11 +3,12 @@
 use crate::chain_table::{CHAINS, Chain};
 use crate::desk_plan::ORDINARY;
 use crate::inputs::Input;
-use crate::outcome::print_outcome;
+use crate::outcome::write_outcome;
+use crate::page::Page;
 use crate::tally::Tally;
 use crate::trial::{Case, Trial, by_serial_call, by_tsp_call, push_words};
-use anyhow::Result;
 use std::alloc::{AllocError, Global};
+use std::io;
 use std::sync::Wait;
 use std::thread::Threads;
 use ts_outside::OpenGate;
@@ -25,33 +26,36 @@ static BUFFERS: [&str; 5] = [
 static BATCHES: [&str; 3] = ["--max-flushed-packets 1", "--max-flushed-packets 3", ""];
 
 /// Runs each chain, and prints its result.
-pub(crate) fn print_chains<R: Threads + Wait + Sync + Print + AllocGlobal>(rt: &R) -> Result<()> {
+pub(crate) fn print_chains<R: Threads + Wait + Sync + Print + AllocGlobal>(
+    rt: &R,
+) -> io::Result<()> {
+    let mut page = Page::new(rt.alloc());
+    write_chains(rt, &mut page)?;
+    page.print(rt)
+}
+
+fn write_chains<R: Threads + Wait + Sync + AllocGlobal>(
+    rt: &R,
+    page: &mut Page,
+) -> Result<(), AllocError> {
     for chain in &CHAINS {
-        print_chain(rt, chain)?;
+        write_chain(rt, page, chain)?;
     }
     Ok(())
 }
 
-fn print_chain<R: Threads + Wait + Sync + Print + AllocGlobal>(
+/// Writes how many of the other runs agree, and the result of the first one.
+fn write_chain<R: Threads + Wait + Sync + AllocGlobal>(
     rt: &R,
+    page: &mut Page,
     chain: &Chain,
-) -> Result<()> {
+) -> Result<(), AllocError> {
     let first = first_run(rt.alloc(), chain)?;
-    print_runs(rt, chain, &first)
-}
-
-/// Prints how many of the other runs agree, and the result of the first one.
-fn print_runs<R: Threads + Wait + Sync + Print + AllocGlobal>(
-    rt: &R,
-    chain: &Chain,
-    first: &Trial,
-) -> Result<()> {
-    let tally = tally_of(rt, chain, first)?;
-    println!(rt;
-        "{}: {} of {} runs agree",
-        chain.name, tally.alike, tally.runs
-    )?;
-    print_outcome(rt, first)
+    let tally = tally_of(rt, chain, &first)?;
+    page.text(chain.name);
+    page.add(format_args!(": {} of {} runs agree\n", tally.alike, tally.runs));
+    write_outcome(page, &first);
+    Ok(())
 }
 
 /// The run in one thread with the default sizes.
@@ -69,20 +73,22 @@ fn tally_of<R: Threads + Wait + Sync + AllocGlobal>(
     let mut tally = Tally::empty();
     for buffer in BUFFERS {
         for batch in BATCHES {
-            let words = sized_words(rt.alloc(), chain, buffer, batch)?;
-            tally = tally.with(is_like(rt, words.as_slice(), first)?);
+            tally = tally.with(is_like(rt, chain, buffer, batch, first)?);
         }
     }
     Ok(tally)
 }
 
-/// Whether the run of these words has the result of the first one.
+/// Whether the run with these sizes has the result of the first one.
 fn is_like<R: Threads + Wait + Sync + AllocGlobal>(
     rt: &R,
-    words: &[String],
+    chain: &Chain,
+    buffer: &str,
+    batch: &str,
     first: &Trial,
 ) -> Result<bool, AllocError> {
-    let other = by_tsp_call(rt, case_of(words), &OpenGate)?;
+    let words = sized_words(rt.alloc(), chain, buffer, batch)?;
+    let other = by_tsp_call(rt, case_of(words.as_slice()), &OpenGate)?;
     first.is_like(rt.alloc(), &other)
 }
 

@@ -1,5 +1,5 @@
 //! Which calls of the desk of a row fail, and how much each moves.
-ghost use Rattle.std.specs.Prelude.{◌<◌, IfOk};
+ghost use Rattle.std.specs.Prelude.{◌≡◌, ◌<◌, IfOk};
 
 use std::alloc::{AllocError, Global};
 use ts_outside::{FailPlan, NumberList};
@@ -36,28 +36,30 @@ pub(crate) const ORDINARY: DeskPlan = DeskPlan {
 
 impl DeskPlan {
     /// The plan as a desk takes it. A desk has no pieces of 0 bytes: they have one byte.
-    pub(crate) fn fail_plan(self, alloc: Global) -> Result<FailPlan, AllocError>
+    pub(crate) fn fail_plan(&self, alloc: Global) -> Result<FailPlan, AllocError>
         ensures { IfOk result (λ p. (0 < p.read_piece) × (0 < p.write_piece)) }
     {
-        let opens = numbers(alloc, self.opens)?;
-        let reads = numbers(alloc, self.reads)?;
-        let writes = numbers(alloc, self.writes)?;
-        let reports = numbers(alloc, self.reports)?;
-        let closes = numbers(alloc, self.closes)?;
-        Ok(FailPlan {
-            opens,
-            reads,
-            writes,
-            reports,
-            closes,
-            read_piece: self.read_piece.max(1),
-            write_piece: self.write_piece.max(1),
-            room: self.room,
-        })
+        let read_piece = self.read_piece.max(1);
+        let write_piece = self.write_piece.max(1);
+        let mut plan = FailPlan::none(alloc, read_piece, write_piece, self.room);
+        self.fill(alloc, &mut plan)?;
+        Ok(plan)
+    }
+
+    /// Puts the numbers of the calls that fail into a plan. Nothing else is held while room for them is taken.
+    fn fill(&self, alloc: Global, plan: &mut FailPlan) -> Result<(), AllocError>
+        ensures { (plan.new.read_piece ≡ plan.old.read_piece) × (plan.new.write_piece ≡ plan.old.write_piece) }
+    {
+        set(alloc, &mut plan.opens, self.opens)?;
+        set(alloc, &mut plan.reads, self.reads)?;
+        set(alloc, &mut plan.writes, self.writes)?;
+        set(alloc, &mut plan.reports, self.reports)?;
+        set(alloc, &mut plan.closes, self.closes)
     }
 }
 
-/// The numbers as a desk takes them.
-fn numbers(alloc: Global, calls: &[u64]) -> Result<NumberList, AllocError> {
-    Ok(NumberList::of(Vec::from_slice(alloc, calls)?))
+/// Puts numbers in the place of a list.
+fn set(alloc: Global, list: &mut NumberList, calls: &[u64]) -> Result<(), AllocError> {
+    *list = NumberList::of(Vec::from_slice(alloc, calls)?);
+    Ok(())
 }

@@ -1,4 +1,7 @@
 //! The input file of a row: packets with payload, made from their PIDs and continuity counters.
+ghost use Rattle.std.specs.Prelude.{◌<◌, length};
+
+use crate::bytes::Bytes;
 use crate::carried::Carried;
 use crate::long_pat::PatPart;
 use crate::mixed_stream::push_mixed;
@@ -51,121 +54,118 @@ pub(crate) enum Input {
 
 /// The bytes of the file.
 pub(crate) fn input_bytes(alloc: Global, input: Input) -> Result<Vec<u8>, AllocError> {
-    let mut bytes = Vec::new(alloc);
+    let mut bytes = Bytes::new(alloc);
+    push_input(&mut bytes, input);
+    bytes.finish()
+}
+
+/// Appends what is in a file.
+fn push_input(bytes: &mut Bytes, input: Input) {
     match input {
-        Input::Pids(pids) => push_packets(&mut bytes, pids)?,
-        Input::Counters(counters) => push_counters(&mut bytes, counters)?,
+        Input::Pids(pids) => push_packets(bytes, pids),
+        Input::Counters(counters) => push_counters(bytes, counters),
         Input::Cut(pids, len) => {
-            push_packets(&mut bytes, pids)?;
+            push_packets(bytes, pids);
             bytes.truncate(len);
         }
         Input::Lost(pids, place) => {
-            push_packets(&mut bytes, pids)?;
-            if let Some(byte) = bytes.get_mut(place) {
-                *byte = OTHER_BYTE;
-            }
+            push_packets(bytes, pids);
+            bytes.put(place, OTHER_BYTE);
         }
-        Input::Mixed => push_mixed(&mut bytes)?,
-        Input::Tables(carried) => push_tables(&mut bytes, carried)?,
+        Input::Mixed => push_mixed(bytes),
+        Input::Tables(carried) => push_tables(bytes, carried),
         Input::Around(before, carried, behind) => {
-            push_packets(&mut bytes, before)?;
-            push_tables(&mut bytes, carried)?;
-            push_packets(&mut bytes, behind)?;
+            push_packets(bytes, before);
+            push_tables(bytes, carried);
+            push_packets(bytes, behind);
         }
         Input::Scrambled(carried, pids) => {
-            push_tables(&mut bytes, carried)?;
-            push_scrambled(&mut bytes, pids)?;
+            push_tables(bytes, carried);
+            push_scrambled(bytes, pids);
         }
-        Input::Headed(heads) => push_headed(&mut bytes, heads)?,
-        Input::LongPats(parts) => push_parts(&mut bytes, parts)?,
-        Input::Units(units) => push_units(&mut bytes, units)?,
+        Input::Headed(heads) => push_headed(bytes, heads),
+        Input::LongPats(parts) => push_parts(bytes, parts),
+        Input::Units(units) => push_units(bytes, units),
     }
-    Ok(bytes)
 }
 
 /// A packet on each of these PIDs, with the counter that follows the one before on its PID.
-fn push_packets(bytes: &mut Vec<u8>, pids: &[u16]) -> Result<(), AllocError> {
-    for (i, pid) in pids.iter().enumerate() {
-        let before = pids[..i].iter().filter(|p| **p == *pid).count();
-        push_packet(bytes, *pid, (before % 16) as u8)?;
+fn push_packets(bytes: &mut Bytes, pids: &[u16]) {
+    for i in 0..pids.len() {
+        push_place(bytes, pids, i);
     }
-    Ok(())
+}
+
+/// The packet of the PID at this place.
+fn push_place(bytes: &mut Bytes, pids: &[u16], i: usize)
+    requires { i < length pids.now }
+{
+    let pid = pids[i];
+    let before = pids[..i].iter().filter(|p| **p == pid).count();
+    push_packet(bytes, pid, (before % 16) as u8);
 }
 
 /// The first bytes of packets on these PIDs, each with what stands before and after it.
-fn push_units(bytes: &mut Vec<u8>, units: Units) -> Result<(), AllocError> {
-    for (i, pid) in units.pids.iter().enumerate() {
-        for _ in 0..units.before {
-            bytes.push(BESIDE_BYTE)?;
-        }
-        let before = units.pids[..i].iter().filter(|p| **p == *pid).count();
-        push_packet(bytes, *pid, (before % 16) as u8)?;
-        for _ in 0..units.behind {
-            bytes.push(BESIDE_BYTE)?;
-        }
+fn push_units(bytes: &mut Bytes, units: Units) {
+    let pids = units.pids;
+    for i in 0..pids.len() {
+        bytes.fill(BESIDE_BYTE, units.before);
+        push_place(bytes, pids, i);
+        bytes.fill(BESIDE_BYTE, units.behind);
     }
     bytes.truncate(units.len);
-    Ok(())
 }
 
 /// A packet on PID 256 with each of these counters.
-fn push_counters(bytes: &mut Vec<u8>, counters: &[u8]) -> Result<(), AllocError> {
+fn push_counters(bytes: &mut Bytes, counters: &[u8]) {
     for counter in counters {
-        push_packet(bytes, 256, *counter)?;
+        push_packet(bytes, 256, *counter);
     }
-    Ok(())
 }
 
 /// A packet with payload from byte 4 on and without its unit start; the bytes of its payload count up from the counter.
-fn push_packet(bytes: &mut Vec<u8>, pid: u16, counter: u8) -> Result<(), AllocError> {
+fn push_packet(bytes: &mut Bytes, pid: u16, counter: u8) {
     let [high, low] = pid.to_be_bytes();
-    bytes.extend_from_slice(&[0x47, high, low, 0x10 | counter % 16])?;
-    for k in 0..184u8 {
-        bytes.push(counter.wrapping_add(k))?;
-    }
-    Ok(())
+    bytes.extend(&[0x47, high, low, 0x10 | counter % 16]);
+    bytes.count_up(counter);
 }
 
 /// A packet on each of these PIDs whose payload was scrambled with the even key.
-fn push_scrambled(bytes: &mut Vec<u8>, pids: &[u16]) -> Result<(), AllocError> {
+fn push_scrambled(bytes: &mut Bytes, pids: &[u16]) {
     for (i, pid) in pids.iter().enumerate() {
         let [high, low] = pid.to_be_bytes();
-        bytes.extend_from_slice(&[0x47, high, low, 0x90 | (i % 16) as u8])?;
-        for k in 0..184u8 {
-            bytes.push(k)?;
-        }
+        bytes.extend(&[0x47, high, low, 0x90 | (i % 16) as u8]);
+        bytes.count_up(0);
     }
-    Ok(())
 }
 
 /// A packet for each section, with unit start, pointer 0 and 0xFF after the section.
-fn push_tables(bytes: &mut Vec<u8>, carried: &[Carried]) -> Result<(), AllocError> {
+fn push_tables(bytes: &mut Bytes, carried: &[Carried]) {
     for (i, table) in carried.iter().enumerate() {
-        let [high, low] = table.pid().to_be_bytes();
-        bytes.extend_from_slice(&[0x47, 0x40 | high, low, 0x10 | ((i + 5) % 16) as u8, 0])?;
-        bytes.extend_from_slice(table.section())?;
-        for _ in table.section().len()..183 {
-            bytes.push(0xFF)?;
-        }
+        push_table(bytes, *table, ((i + 5) % 16) as u8);
     }
-    Ok(())
+}
+
+/// A packet with a section and this counter.
+fn push_table(bytes: &mut Bytes, table: Carried, counter: u8) {
+    let [high, low] = table.pid().to_be_bytes();
+    let section = table.section();
+    bytes.extend(&[0x47, 0x40 | high, low, 0x10 | counter, 0]);
+    bytes.extend(section);
+    bytes.fill(0xFF, 183usize.saturating_sub(section.len()));
 }
 
 /// A packet for each of these heads, filled up with one byte.
-fn push_headed(bytes: &mut Vec<u8>, heads: &[[u8; 5]]) -> Result<(), AllocError> {
+fn push_headed(bytes: &mut Bytes, heads: &[[u8; 5]]) {
     for head in heads {
-        bytes.extend_from_slice(head)?;
-        for _ in head.len()..188 {
-            bytes.push(FLAGS_BYTE)?;
-        }
+        bytes.extend(head);
+        bytes.fill(FLAGS_BYTE, 183);
     }
-    Ok(())
 }
 
 /// The packets of these parts of PATs.
-fn push_parts(bytes: &mut Vec<u8>, parts: &[PatPart]) -> Result<(), AllocError> {
+fn push_parts(bytes: &mut Bytes, parts: &[PatPart]) {
     for (i, part) in parts.iter().enumerate() {
-        part.push(bytes, (i % 16) as u8)?;
+        part.push(bytes, (i % 16) as u8);
     }
-    Ok(())
 }

@@ -2,9 +2,9 @@
 use crate::desk_plan::ORDINARY;
 use crate::inputs::{Input, input_bytes};
 use crate::row::Row;
-use crate::trial::{Case, Trial, by_serial_call, push_words};
-use anyhow::Result;
+use crate::trial::{Case, Trial, by_serial_call, words_of};
 use std::alloc::{AllocError, Global};
+use std::io;
 use ts_outside::OpenGate;
 
 /// Three packets with unit start on PID 0: one with the reserved control 0, one with an adaptation field alone whose length
@@ -31,7 +31,7 @@ static LAWLESS_ROWS: [Row; 1] = [Row {
 }];
 
 /// Prints whether those packets are written as they came.
-pub(crate) fn print_unchanged(rt: &(impl Print + AllocGlobal)) -> Result<()> {
+pub(crate) fn print_unchanged(rt: &(impl Print + AllocGlobal)) -> io::Result<()> {
     for row in &LAWLESS_ROWS {
         let is_unchanged = is_unchanged(rt.alloc(), row)?;
         println!(rt; "{}, written as they came: {is_unchanged}", row.name)?;
@@ -47,8 +47,7 @@ fn is_unchanged(alloc: Global, row: &Row) -> Result<bool, AllocError> {
 }
 
 fn serial_trial(alloc: Global, row: &Row) -> Result<Trial, AllocError> {
-    let mut words = Vec::new(alloc);
-    push_words(alloc, &mut words, row.words)?;
+    let words = words_of(alloc, row.words)?;
     let case = Case {
         words: words.as_slice(),
         input: row.input,

@@ -3,12 +3,12 @@
 //! Blanks separate the fields of a line. The first five are the numbers of the calls that fail, separated by commas: of the openings,
 //! reads, writes, reports and closings. Then come the most bytes that a read and a write move, the room of an output, and the
 //! files. All after these are words.
-ghost use Rattle.std.specs.Prelude.{◌<◌, IfOk};
+ghost use Rattle.std.specs.Prelude.{◌≡◌, ◌<◌, IfOk};
 
-use anyhow::Result;
+use crate::trial_desk::boxed_desk;
 use std::alloc::{AllocError, Global};
-use std::fs;
 use std::fs::Files;
+use std::{fs, io};
 use ts_outside::{FailPlan, FileBytes, FileList, MemoryDesk, NameText, NumberList};
 
 /// How many fields come before the words.
@@ -26,15 +26,10 @@ pub(crate) fn words_of(alloc: Global, line: &str) -> Result<Vec<String>, AllocEr
 }
 
 /// The desk of a line's call, with its plan and its files.
-pub(crate) fn desk_of(rt: &(impl AllocGlobal + Files), line: &str) -> Result<Box<MemoryDesk>> {
+pub(crate) fn desk_of(rt: &(impl AllocGlobal + Files), line: &str) -> io::Result<Box<MemoryDesk>> {
     let files = files_of(rt, field(line, 8))?;
-    Ok(boxed_desk(rt.alloc(), files, line)?)
-}
-
-/// A desk with these files and a line's plan.
-fn boxed_desk(alloc: Global, files: FileList, line: &str) -> Result<Box<MemoryDesk>, AllocError> {
-    let plan = plan_of(alloc, line)?;
-    Ok(Box::new(alloc, MemoryDesk::new(alloc, files, plan)?)?)
+    let plan = plan_of(rt.alloc(), line)?;
+    Ok(boxed_desk(rt.alloc(), files, plan)?)
 }
 
 /// The field of this number, the empty one where there are not so many.
@@ -46,32 +41,39 @@ fn field(line: &str, number: usize) -> &str {
 fn plan_of(alloc: Global, line: &str) -> Result<FailPlan, AllocError>
     ensures { IfOk result (λ p. (0 < p.read_piece) × (0 < p.write_piece)) }
 {
-    let opens = numbers_of(alloc, field(line, 0))?;
-    let reads = numbers_of(alloc, field(line, 1))?;
-    let writes = numbers_of(alloc, field(line, 2))?;
-    let reports = numbers_of(alloc, field(line, 3))?;
-    let closes = numbers_of(alloc, field(line, 4))?;
-    Ok(FailPlan {
-        opens,
-        reads,
-        writes,
-        reports,
-        closes,
-        read_piece: size_of(field(line, 5)).max(1),
-        write_piece: size_of(field(line, 6)).max(1),
-        room: size_of(field(line, 7)),
-    })
+    let read_piece = size_of(field(line, 5)).max(1);
+    let write_piece = size_of(field(line, 6)).max(1);
+    let mut plan = FailPlan::none(alloc, read_piece, write_piece, size_of(field(line, 7)));
+    fill(alloc, &mut plan, line)?;
+    Ok(plan)
 }
 
-/// The numbers that commas separate; a part that is no number is left out.
-fn numbers_of(alloc: Global, field: &str) -> Result<NumberList, AllocError> {
+/// Puts the numbers of the calls that fail into a plan. Nothing else is held while room for them is taken.
+fn fill(alloc: Global, plan: &mut FailPlan, line: &str) -> Result<(), AllocError>
+    ensures { (plan.new.read_piece ≡ plan.old.read_piece) × (plan.new.write_piece ≡ plan.old.write_piece) }
+{
+    set(alloc, &mut plan.opens, field(line, 0))?;
+    set(alloc, &mut plan.reads, field(line, 1))?;
+    set(alloc, &mut plan.writes, field(line, 2))?;
+    set(alloc, &mut plan.reports, field(line, 3))?;
+    set(alloc, &mut plan.closes, field(line, 4))
+}
+
+/// Puts the numbers that commas separate in the place of a list; a part that is no number is left out.
+fn set(alloc: Global, list: &mut NumberList, field: &str) -> Result<(), AllocError> {
+    *list = NumberList::of(numbers_of(alloc, field)?);
+    Ok(())
+}
+
+/// The numbers that commas separate.
+fn numbers_of(alloc: Global, field: &str) -> Result<Vec<u64>, AllocError> {
     let mut numbers = Vec::new(alloc);
     for text in field.split(',') {
         if let Ok(number) = text.parse::<u64>() {
             numbers.push(number)?;
         }
     }
-    Ok(NumberList::of(numbers))
+    Ok(numbers)
 }
 
 /// A number of bytes, 0 for a text that is no number.
@@ -80,7 +82,7 @@ fn size_of(field: &str) -> usize {
 }
 
 /// The files that commas separate, each by its name on the desk, a colon and the path of its bytes.
-fn files_of(rt: &(impl AllocGlobal + Files), field: &str) -> Result<FileList> {
+fn files_of(rt: &(impl AllocGlobal + Files), field: &str) -> io::Result<FileList> {
     let mut files = Vec::new(rt.alloc());
     for text in field.split(',') {
         if let Some((name, path)) = text.split_once(':') {

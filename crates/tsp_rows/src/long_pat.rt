@@ -1,5 +1,5 @@
 //! A PAT of sixty services, of two versions: its section has 252 bytes and takes two packets.
-use std::alloc::AllocError;
+use crate::bytes::Bytes;
 
 /// One of the two packets of the section, of one version.
 #[derive(Clone, Copy)]
@@ -45,26 +45,21 @@ const SERVICES_END: usize = 248;
 
 impl PatPart {
     /// Appends its packet on PID 0 to others, with this counter.
-    pub(crate) fn push(self, bytes: &mut Vec<u8>, counter: u8) -> Result<(), AllocError> {
+    pub(crate) fn push(self, bytes: &mut Bytes, counter: u8) {
         if self.second {
-            bytes.extend_from_slice(&[0x47, 0, 0, 0x10 | counter % 16])?;
-            return self.push_section(bytes, IN_FIRST, 184);
+            bytes.extend(&[0x47, 0, 0, 0x10 | counter % 16]);
+            self.push_section(bytes, IN_FIRST, 184);
+        } else {
+            bytes.extend(&[0x47, 0x40, 0, 0x10 | counter % 16, 0]);
+            self.push_section(bytes, 0, IN_FIRST);
         }
-        bytes.extend_from_slice(&[0x47, 0x40, 0, 0x10 | counter % 16, 0])?;
-        self.push_section(bytes, 0, IN_FIRST)
     }
 
     /// Appends so many of the section's bytes to others, from one on; after the section it appends 0xFF.
-    fn push_section(
-        self,
-        bytes: &mut Vec<u8>,
-        from: usize,
-        count: usize,
-    ) -> Result<(), AllocError> {
+    fn push_section(self, bytes: &mut Bytes, from: usize, count: usize) {
         for k in from..from.saturating_add(count) {
-            bytes.push(self.section_byte(k))?;
+            bytes.push(self.section_byte(k));
         }
-        Ok(())
     }
 
     /// A byte of the section: its head, then the services 100 to 159, each on the PID 4096 above its number, then the CRC.

@@ -5,6 +5,7 @@
 //! Where an argument is given, it names a list of calls, and only these are made (`tests/calls`).
 #![tactic(auto)]
 
+mod bytes;
 mod carried;
 mod chain_table;
 mod chains;
@@ -32,6 +33,7 @@ mod meeting_pairs;
 mod mixed_stream;
 mod note_rows;
 mod outcome;
+mod page;
 mod plugin_rows;
 mod row;
 mod service_rows;
@@ -46,14 +48,15 @@ mod window_rows;
 mod windows;
 mod word_rows;
 
-use anyhow::Result;
-use row::{Row, print_rows};
-use std::env;
+use page::Page;
+use row::{Row, write_rows};
+use std::alloc::AllocError;
 use std::sync::Wait;
 use std::thread::Threads;
+use std::{env, io};
 use tally::Tally;
 
-fn main(rt: HostRuntime) -> Result<()> {
+fn main(rt: HostRuntime) -> io::Result<()> {
     let mut words = env::args(&rt)?;
     let _name = words.next();
     match words.next() {
@@ -63,7 +66,7 @@ fn main(rt: HostRuntime) -> Result<()> {
 }
 
 /// Prints the worked examples.
-fn print_worked<R: Threads + Wait + Sync + Print + AllocGlobal>(rt: &R) -> Result<()> {
+fn print_worked<R: Threads + Wait + Sync + Print + AllocGlobal>(rt: &R) -> io::Result<()> {
     print_tables(rt)?;
     lawless_packets::print_unchanged(rt)?;
     windows::print_windows(rt)?;
@@ -73,8 +76,27 @@ fn print_worked<R: Threads + Wait + Sync + Print + AllocGlobal>(rt: &R) -> Resul
 }
 
 /// Prints the rows of all tables, and how many of them have the same result by both calls.
-fn print_tables<R: Threads + Wait + Sync + Print + AllocGlobal>(rt: &R) -> Result<()> {
-    let tables: [&[Row]; 32] = [
+fn print_tables<R: Threads + Wait + Sync + Print + AllocGlobal>(rt: &R) -> io::Result<()> {
+    let mut page = Page::new(rt.alloc());
+    write_tables(rt, &mut page)?;
+    page.print(rt)
+}
+
+fn write_tables<R: Threads + Wait + Sync + AllocGlobal>(
+    rt: &R,
+    page: &mut Page,
+) -> Result<(), AllocError> {
+    let mut tally = Tally::empty();
+    for rows in tables() {
+        write_rows(rt, page, rows, &mut tally)?;
+    }
+    page.add(format_args!("both calls agree: {} of {} rows\n", tally.alike, tally.runs));
+    Ok(())
+}
+
+/// All tables, in the order in which they are printed.
+fn tables() -> [&'static [Row]; 32] {
+    [
         end_rows::rows(),
         plugin_rows::rows(),
         plugin_rows::of_watchers(),
@@ -107,11 +129,5 @@ fn print_tables<R: Threads + Wait + Sync + Print + AllocGlobal>(rt: &R) -> Resul
         stream_rows::of_words(),
         clock_rows::of_words(),
         info_rows::of_words(),
-    ];
-    let mut tally = Tally::empty();
-    for rows in tables {
-        print_rows(rt, rows, &mut tally)?;
-    }
-    println!(rt; "both calls agree: {} of {} rows", tally.alike, tally.runs)?;
-    Ok(())
+    ]
 }

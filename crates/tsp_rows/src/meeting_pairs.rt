@@ -3,9 +3,9 @@ use crate::desk_plan::ORDINARY;
 use crate::inputs::Input;
 use crate::meeting_gate::MeetingGate;
 use crate::tally::Tally;
-use crate::trial::{Case, by_threaded_call, push_words};
-use anyhow::Result;
+use crate::trial::{Case, by_threaded_call, words_of};
 use std::alloc::AllocError;
+use std::io;
 use std::sync::Wait;
 use std::thread::Threads;
 
@@ -17,7 +17,7 @@ const PLUGINS: usize = 6;
 /// Runs the chain once for each two of its plugins, neighbours or not: two that share a thread never meet.
 pub(crate) fn print_meeting_pairs<R: Threads + Wait + Sync + Print + AllocGlobal>(
     rt: &R,
-) -> Result<()> {
+) -> io::Result<()> {
     let mut tally = Tally::empty();
     for stage in 1..PLUGINS {
         tally = met_by_those_behind(rt, stage, tally)?;
@@ -25,8 +25,7 @@ pub(crate) fn print_meeting_pairs<R: Threads + Wait + Sync + Print + AllocGlobal
     println!(rt;
         "each two of six plugins meet: {} of {} pairs",
         tally.alike, tally.runs
-    )?;
-    Ok(())
+    )
 }
 
 /// The tally with a run for each plugin after this one, in which the two have to meet.
@@ -50,8 +49,7 @@ fn have_met<R: Threads + Wait + Sync + AllocGlobal>(
     stage: usize,
     behind: usize,
 ) -> Result<bool, AllocError> {
-    let mut words = Vec::new(rt.alloc());
-    push_words(rt.alloc(), &mut words, WORDS)?;
+    let words = words_of(rt.alloc(), WORDS)?;
     let gate = MeetingGate::between(stage, behind);
     let case = Case {
         words: words.as_slice(),

@@ -1,6 +1,6 @@
 //! The stream of the chains: sixty packets on four PIDs, some with unit starts, some with adaptation fields, some with
 //! counters that jump or stay.
-use std::alloc::AllocError;
+use crate::bytes::Bytes;
 
 const PIDS: [u16; 4] = [256, 257, 258, 512];
 
@@ -24,17 +24,16 @@ struct Kind {
 }
 
 /// Appends all packets of the stream to the bytes.
-pub(crate) fn push_mixed(bytes: &mut Vec<u8>) -> Result<(), AllocError> {
+pub(crate) fn push_mixed(bytes: &mut Bytes) {
     let mut counters = [0u8; 4];
     for n in 0..60usize {
         let kind = kind_of(n);
         let which = (n + n * n / 7) % 4;
         let counter = next_counter(counters[which], n, kind);
         counters[which] = counter;
-        push_header(bytes, n, PIDS[which], kind.control | counter)?;
-        push_body(bytes, (n % 256) as u8, kind.field)?;
+        push_header(bytes, n, PIDS[which], kind.control | counter);
+        push_body(bytes, (n % 256) as u8, kind.field);
     }
-    Ok(())
 }
 
 /// Whether a packet has an adaptation field alone, one before a payload, or a payload alone. The flag
@@ -81,22 +80,21 @@ fn next_counter(before: u8, n: usize, kind: Kind) -> u8 {
 }
 
 /// The four bytes of the header; each fifth packet has its unit start.
-fn push_header(bytes: &mut Vec<u8>, n: usize, pid: u16, last: u8) -> Result<(), AllocError> {
+fn push_header(bytes: &mut Bytes, n: usize, pid: u16, last: u8) {
     let [high, low] = pid.to_be_bytes();
     let unit_start = if n % 5 == 0 { 0x40 } else { 0 };
-    bytes.extend_from_slice(&[0x47, unit_start | high, low, last])
+    bytes.extend(&[0x47, unit_start | high, low, last]);
 }
 
 /// The 184 bytes after the header: the adaptation field's length and flags, where there is one, and bytes that
 /// count up from the least one.
-fn push_body(bytes: &mut Vec<u8>, least: u8, field: Option<Field>) -> Result<(), AllocError> {
+fn push_body(bytes: &mut Bytes, least: u8, field: Option<Field>) {
     for k in 0..184u8 {
         let byte = match field {
             Some(field) if k == 0 => field.length,
             Some(field) if k == 1 && field.length > 0 => field.flags,
             _ => least.wrapping_add(k),
         };
-        bytes.push(byte)?;
+        bytes.push(byte);
     }
-    Ok(())
 }

@@ -1,119 +1,116 @@
 //! The result of a call, as text.
+use crate::page::Page;
 use crate::trial::Trial;
-use anyhow::Result;
 use ts_outside::MemoryDesk;
 
 /// The PID of null packets.
 const NULL_PID: u16 = 8191;
 
-/// Longer outputs are printed without their packets.
+/// Longer outputs are written without their packets.
 const SHORT: usize = 2000;
 
-/// Prints the status, the report and the outputs.
-pub(crate) fn print_outcome(rt: &impl Print, trial: &Trial) -> Result<()> {
+/// Writes the status, the report and the outputs.
+pub(crate) fn write_outcome(page: &mut Page, trial: &Trial) {
     let status = &trial.status;
     let exit = status.exit_code();
     let asked = trial.desk.asked_count();
-    println!(rt; "  {status:?}, exit {exit}, names asked for: {asked}")?;
-    print_report(rt, trial.desk.reported())?;
-    print_outputs(rt, &*trial.desk)
+    page.add(format_args!("  {status:?}, exit {exit}, names asked for: {asked}\n"));
+    write_report(page, trial.desk.reported());
+    write_outputs(page, &*trial.desk);
 }
 
-/// Prints each output.
-fn print_outputs(rt: &impl Print, desk: &MemoryDesk) -> Result<()> {
+/// Writes each output.
+fn write_outputs(page: &mut Page, desk: &MemoryDesk) {
     for i in 0..desk.output_count() {
         if let Some((name, bytes)) = desk.output(i) {
-            print_output(rt, name, bytes)?;
+            write_output(page, name, bytes);
         }
     }
-    Ok(())
 }
 
-/// Prints the report, each line after a bar.
-fn print_report(rt: &impl Print, bytes: &[u8]) -> Result<()> {
+/// Writes the report, each line after a bar.
+fn write_report(page: &mut Page, bytes: &[u8]) {
     if let Ok(text) = str::from_utf8(bytes) {
         for line in text.lines() {
-            println!(rt; "  | {line}")?;
+            page.text("  | ");
+            page.text(line);
+            page.text("\n");
         }
     }
-    Ok(())
 }
 
-/// Prints how many bytes were written under a name, the packets, and the last four bytes; and sections.
-fn print_output(rt: &impl Print, name: &str, bytes: &[u8]) -> Result<()> {
-    print!(rt; "  output {name:?}: {} bytes", bytes.len())?;
+/// Writes how many bytes were written under a name, the packets, and the last four bytes; and sections.
+fn write_output(page: &mut Page, name: &str, bytes: &[u8]) {
+    page.add(format_args!("  output {name:?}: {} bytes", bytes.len()));
     let is_short = bytes.len() <= SHORT;
     if is_short && 188 <= bytes.len() {
-        print_packets(rt, bytes)?;
+        write_packets(page, bytes);
     }
-    print_end(rt, bytes)?;
+    write_end(page, bytes);
     if is_short {
-        print_sections(rt, bytes)?;
+        write_sections(page, bytes);
     }
-    Ok(())
 }
 
-/// Prints the last four bytes, and ends the line.
-fn print_end(rt: &impl Print, bytes: &[u8]) -> Result<()> {
-    if let [.., a, b, c, d] = bytes {
-        print!(rt; ", ends {a:02x}{b:02x}{c:02x}{d:02x}")?;
+/// Writes the last four bytes, and ends the line.
+fn write_end(page: &mut Page, bytes: &[u8]) {
+    if let Some((_, last)) = bytes.split_last_chunk::<4>() {
+        page.text(", ends ");
+        for byte in last {
+            page.byte(*byte);
+        }
     }
-    println!(rt; "")?;
-    Ok(())
+    page.text("\n");
 }
 
-/// Prints whole packets after a comma.
-fn print_packets(rt: &impl Print, bytes: &[u8]) -> Result<()> {
-    print!(rt; ",")?;
+/// Writes whole packets after a comma.
+fn write_packets(page: &mut Page, bytes: &[u8]) {
+    page.text(",");
     let mut left = bytes;
     while let Some((row, rest)) = left.split_first_chunk::<188>() {
-        print_packet(rt, row)?;
+        write_packet(page, row);
         left = rest;
     }
-    Ok(())
 }
 
-/// Prints a packet by its PID and its counter, and a null packet as `N`.
-fn print_packet(rt: &impl Print, row: &[u8; 188]) -> Result<()> {
+/// Writes a packet by its PID and its counter, and a null packet as `N`.
+fn write_packet(page: &mut Page, row: &[u8; 188]) {
     let pid = u16::from_be_bytes([row[1] & 0x1F, row[2]]);
     if pid == NULL_PID {
-        print!(rt; " N")?;
+        page.text(" N");
     } else {
-        print!(rt; " {pid}/{}", row[3] & 0x0F)?;
+        page.add(format_args!(" {pid}/{}", row[3] & 0x0F));
     }
-    Ok(())
 }
 
-/// Prints the section that begins right after the pointer field, of each packet that has one.
-fn print_sections(rt: &impl Print, bytes: &[u8]) -> Result<()> {
+/// Writes the section that begins right after the pointer field, of each packet that has one.
+fn write_sections(page: &mut Page, bytes: &[u8]) {
     let mut left = bytes;
     while let Some((row, rest)) = left.split_first_chunk::<188>() {
         if row[1] & 0x40 != 0 && row[4] == 0 {
-            print_section(rt, &row[5..])?;
+            write_section(page, &row[5..]);
         }
         left = rest;
     }
-    Ok(())
 }
 
-/// Prints the bytes of the first section; where the packet does not have the whole of it, its header alone.
-fn print_section(rt: &impl Print, bytes: &[u8]) -> Result<()> {
+/// Writes the bytes of the first section; where the packet does not have the whole of it, its header alone.
+fn write_section(page: &mut Page, bytes: &[u8]) {
     if let [_, high, low, ..] = bytes {
         let length = u16::from_be_bytes([*high & 0x0F, *low]);
         match bytes.get(..usize::from(length) + 3) {
-            Some(section) => print_bytes(rt, "section", section)?,
-            None => print_bytes(rt, "section begins", bytes.get(..8).unwrap_or(bytes))?,
+            Some(section) => write_bytes(page, "  section", section),
+            None => write_bytes(page, "  section begins", bytes.get(..8).unwrap_or(bytes)),
         }
     }
-    Ok(())
 }
 
-/// Prints a line with a title and bytes.
-fn print_bytes(rt: &impl Print, called: &str, bytes: &[u8]) -> Result<()> {
-    print!(rt; "  {called}")?;
+/// Writes a line with a title and bytes.
+fn write_bytes(page: &mut Page, title: &str, bytes: &[u8]) {
+    page.text(title);
     for byte in bytes {
-        print!(rt; " {byte:02x}")?;
+        page.text(" ");
+        page.byte(*byte);
     }
-    println!(rt; "")?;
-    Ok(())
+    page.text("\n");
 }

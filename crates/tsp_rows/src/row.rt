@@ -1,10 +1,10 @@
 //! A worked example: its words, its input, and which calls of its desk fail.
 use crate::desk_plan::DeskPlan;
 use crate::inputs::Input;
-use crate::outcome::print_outcome;
+use crate::outcome::write_outcome;
+use crate::page::Page;
 use crate::tally::Tally;
-use crate::trial::{Case, Trial, by_serial_call, by_tsp_call, push_words};
-use anyhow::Result;
+use crate::trial::{Case, Trial, by_serial_call, by_tsp_call, words_of};
 use std::alloc::{AllocError, Global};
 use std::sync::Wait;
 use std::thread::Threads;
@@ -19,46 +19,51 @@ pub(crate) struct Row {
     pub(crate) plan: DeskPlan,
 }
 
-/// Runs rows by both calls, prints their results, and adds them to the tally.
-pub(crate) fn print_rows<R: Threads + Wait + Sync + Print + AllocGlobal>(
+/// Runs rows by both calls, writes their results, and adds them to the tally.
+pub(crate) fn write_rows<R: Threads + Wait + Sync + AllocGlobal>(
     rt: &R,
+    page: &mut Page,
     rows: &[Row],
     tally: &mut Tally,
-) -> Result<()> {
+) -> Result<(), AllocError> {
     for row in rows {
-        let is_alike = print_row(rt, row)?;
-        *tally = tally.with(is_alike);
-        if !is_alike {
-            println!(rt; "  serial_call came to something else")?;
-        }
+        *tally = tally.with(write_row(rt, page, row)?);
     }
     Ok(())
 }
 
-/// Runs a row, and prints its result by `tsp_call`. Returns whether `serial_call` gives the same.
-fn print_row<R: Threads + Wait + Sync + Print + AllocGlobal>(rt: &R, row: &Row) -> Result<bool> {
-    println!(rt; "{}", row.name)?;
-    let mut words = Vec::new(rt.alloc());
-    push_words(rt.alloc(), &mut words, row.words)?;
+/// Runs a row, and writes its result by `tsp_call`. Returns whether `serial_call` gives the same.
+fn write_row<R: Threads + Wait + Sync + AllocGlobal>(
+    rt: &R,
+    page: &mut Page,
+    row: &Row,
+) -> Result<bool, AllocError> {
+    page.text(row.name);
+    page.text("\n");
+    let words = words_of(rt.alloc(), row.words)?;
     let case = Case {
         words: words.as_slice(),
         input: row.input,
         plan: row.plan,
     };
-    print_case(rt, case)
+    write_case(rt, page, case)
 }
 
-fn print_case<R: Threads + Wait + Sync + Print + AllocGlobal>(rt: &R, case: Case) -> Result<bool> {
+fn write_case<R: Threads + Wait + Sync + AllocGlobal>(
+    rt: &R,
+    page: &mut Page,
+    case: Case,
+) -> Result<bool, AllocError> {
     let outcome = by_tsp_call(rt, case, &OpenGate)?;
-    print_trial(rt, case, &outcome)
+    write_outcome(page, &outcome);
+    let is_alike = is_serial_like(rt.alloc(), case, &outcome)?;
+    if !is_alike {
+        page.text("  serial_call came to something else\n");
+    }
+    Ok(is_alike)
 }
 
-/// Prints the result of a call. Returns whether `serial_call` gives the same.
-fn print_trial(rt: &(impl Print + AllocGlobal), case: Case, outcome: &Trial) -> Result<bool> {
-    print_outcome(rt, outcome)?;
-    Ok(is_serial_like(rt.alloc(), case, outcome)?)
-}
-
+/// Whether `serial_call` gives the same.
 fn is_serial_like(alloc: Global, case: Case, outcome: &Trial) -> Result<bool, AllocError> {
     let serial = by_serial_call(alloc, case, &OpenGate)?;
     outcome.is_like(alloc, &serial)

@@ -3,9 +3,11 @@ use crate::desk_plan::ORDINARY;
 use crate::following_gate::FollowingGate;
 use crate::inputs::Input;
 use crate::meeting_gate::MeetingGate;
-use crate::outcome::print_outcome;
-use crate::trial::{Case, by_threaded_call, push_words};
-use anyhow::Result;
+use crate::outcome::write_outcome;
+use crate::page::Page;
+use crate::trial::{Case, by_threaded_call, words_of};
+use std::alloc::AllocError;
+use std::io;
 use std::sync::Wait;
 use std::thread::Threads;
 use ts_outside::Gate;
@@ -18,54 +20,63 @@ const FOLLOWING_WORDS: &str =
 const BUFFER: u64 = 4;
 
 /// Runs both chains, and prints what their gates saw.
-pub(crate) fn print_threads<R: Threads + Wait + Sync + Print + AllocGlobal>(rt: &R) -> Result<()> {
-    print_meeting(rt)?;
-    print_following(rt)
+pub(crate) fn print_threads<R: Threads + Wait + Sync + Print + AllocGlobal>(
+    rt: &R,
+) -> io::Result<()> {
+    let mut page = Page::new(rt.alloc());
+    write_meeting(rt, &mut page)?;
+    write_following(rt, &mut page)?;
+    page.print(rt)
 }
 
 /// Two stages that are held until they meet, which they never do in one thread.
-fn print_meeting<R: Threads + Wait + Sync + Print + AllocGlobal>(rt: &R) -> Result<()> {
-    println!(rt; "two stages meet")?;
+fn write_meeting<R: Threads + Wait + Sync + AllocGlobal>(
+    rt: &R,
+    page: &mut Page,
+) -> Result<(), AllocError> {
+    page.text("two stages meet\n");
     let gate = MeetingGate::between(1, 2);
-    print_call(rt, MEETING_WORDS, &gate)?;
-    print_met(rt, gate.have_met())
-}
-
-fn print_met(rt: &impl Print, have_met: bool) -> Result<()> {
-    println!(rt; "  each was inside a window at once with the other: {have_met}")?;
+    write_call(rt, page, MEETING_WORDS, &gate)?;
+    page.text("  each was inside a window at once with the other: ");
+    page.add(gate.have_met());
+    page.text("\n");
     Ok(())
 }
 
 /// Two stages over a buffer of four cells.
-fn print_following<R: Threads + Wait + Sync + Print + AllocGlobal>(rt: &R) -> Result<()> {
-    println!(rt; "windows follow one another")?;
+fn write_following<R: Threads + Wait + Sync + AllocGlobal>(
+    rt: &R,
+    page: &mut Page,
+) -> Result<(), AllocError> {
+    page.text("windows follow one another\n");
     let gate = FollowingGate::new(BUFFER);
-    print_call(rt, FOLLOWING_WORDS, &gate)?;
-    print_stages(rt, &gate)
-}
-
-/// Prints what the gate saw of each stage.
-fn print_stages(rt: &impl Print, gate: &FollowingGate) -> Result<()> {
-    for stage in gate.stages() {
-        let end = stage.end();
-        let wrong = stage.wrong();
-        println!(rt; "  a plugin's windows end at {end}, and {wrong} stand wrong")?;
-    }
+    write_call(rt, page, FOLLOWING_WORDS, &gate)?;
+    write_stages(page, &gate);
     Ok(())
 }
 
-fn print_call<R: Threads + Wait + Sync + Print + AllocGlobal, G: Gate>(
+/// Writes what the gate saw of each stage.
+fn write_stages(page: &mut Page, gate: &FollowingGate) {
+    for stage in gate.stages() {
+        let end = stage.end();
+        let wrong = stage.wrong();
+        page.add(format_args!("  a plugin's windows end at {end}, and {wrong} stand wrong\n"));
+    }
+}
+
+fn write_call<R: Threads + Wait + Sync + AllocGlobal, G: Gate>(
     rt: &R,
+    page: &mut Page,
     text: &str,
     gate: &G,
-) -> Result<()> {
-    let mut words = Vec::new(rt.alloc());
-    push_words(rt.alloc(), &mut words, text)?;
+) -> Result<(), AllocError> {
+    let words = words_of(rt.alloc(), text)?;
     let case = Case {
         words: words.as_slice(),
         input: Input::Pids(&[]),
         plan: ORDINARY,
     };
     let trial = by_threaded_call(rt, case, gate)?;
-    print_outcome(rt, &trial)
+    write_outcome(page, &trial);
+    Ok(())
 }

@@ -27,21 +27,26 @@ impl Trial {
     /// Whether two calls gave the same status, the same report, the same names asked for and the same first output under its name.
     /// No row has a second output.
     pub(crate) fn is_like(&self, alloc: Global, other: &Trial) -> Result<bool, AllocError> {
-        let same_status = self.status_text(alloc)? == other.status_text(alloc)?;
-        Ok(
-            same_status
-                && self.desk.reported() == other.desk.reported()
-                && self.desk.asked_count() == other.desk.asked_count()
-                && self.desk.output_count() == other.desk.output_count()
-                && self.written_name() == other.written_name()
-                && self.written() == other.written(),
-        )
+        if self.results() != other.results() {
+            return Ok(false);
+        }
+        let status = self.status_text(alloc)?;
+        Ok(status == other.status_text(alloc)?)
     }
 
     /// The status with its fields.
     fn status_text(&self, alloc: Global) -> Result<String, AllocError> {
         let status = &self.status;
         format!(in alloc; "{status:?}")
+    }
+
+    /// The numbers of names asked for and of outputs, the report, and the name and the bytes of the first output.
+    fn results(&self) -> ((usize, usize), &[u8], (&str, &[u8])) {
+        (
+            (self.desk.asked_count(), self.desk.output_count()),
+            self.desk.reported(),
+            (self.written_name(), self.written()),
+        )
     }
 
     /// The name of the first output.
@@ -92,6 +97,13 @@ pub(crate) fn by_serial_call<G: Gate>(
     let mut desk = filled_desk(alloc, case.input, case.plan)?;
     let status = serial_call(alloc, case.words, &mut *desk, gate);
     Ok(Trial { desk, status })
+}
+
+/// The words of a text, which blanks separate.
+pub(crate) fn words_of(alloc: Global, text: &str) -> Result<Vec<String>, AllocError> {
+    let mut words = Vec::new(alloc);
+    push_words(alloc, &mut words, text)?;
+    Ok(words)
 }
 
 /// Appends the words of a text, which blanks separate, to others.

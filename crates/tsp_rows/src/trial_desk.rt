@@ -1,8 +1,10 @@
 //! The desk of a trial: its input under two names, and files of tables.
+ghost use Rattle.std.specs.Prelude.{◌<◌};
+
 use crate::desk_plan::DeskPlan;
 use crate::inputs::{Input, input_bytes};
 use std::alloc::{AllocError, Global};
-use ts_outside::{FileBytes, FileList, MemoryDesk, NameText};
+use ts_outside::{FailPlan, FileBytes, FileList, MemoryDesk, NameText};
 
 /// The name of the file; it has the empty name, too, as the standard input.
 const FILE_NAME: &str = "in";
@@ -17,9 +19,21 @@ pub(crate) fn filled_desk(
     input: Input,
     plan: DeskPlan,
 ) -> Result<Box<MemoryDesk>, AllocError> {
-    let plan = plan.fail_plan(alloc)?;
     let files = files(alloc, input)?;
-    Ok(Box::new(alloc, MemoryDesk::new(alloc, files, plan)?)?)
+    let plan = plan.fail_plan(alloc)?;
+    boxed_desk(alloc, files, plan)
+}
+
+/// A desk in a box.
+pub(crate) fn boxed_desk(
+    alloc: Global,
+    files: FileList,
+    plan: FailPlan,
+) -> Result<Box<MemoryDesk>, AllocError>
+    requires { (0 < plan.read_piece) × (0 < plan.write_piece) }
+{
+    let desk = MemoryDesk::new(alloc, files, plan)?;
+    Ok(Box::new(alloc, desk)?)
 }
 
 /// The text files beside the input: one of tables, one that is no JSON, and an empty one, which has no section.
@@ -28,34 +42,17 @@ static TEXTS: [(&str, &str); 3] = [("t.json", TABLES), ("bad.json", "{"), ("e.bi
 /// The input under its name and under the empty one, and the texts.
 fn files(alloc: Global, input: Input) -> Result<FileList, AllocError> {
     let mut files = Vec::new(alloc);
-    push_input(alloc, &mut files, FILE_NAME, input)?;
-    push_input(alloc, &mut files, "", input)?;
+    for name in [FILE_NAME, ""] {
+        files.push(named(alloc, name, input_bytes(alloc, input)?)?)?;
+    }
     for (name, text) in &TEXTS {
-        push_file(alloc, &mut files, name, text.as_bytes())?;
+        files.push(named(alloc, name, Vec::from_slice(alloc, text.as_bytes())?)?)?;
     }
     Ok(FileList::of(files))
 }
 
-/// Appends the input to other files, under this name.
-fn push_input(
-    alloc: Global,
-    files: &mut Vec<(NameText, FileBytes)>,
-    name: &str,
-    input: Input,
-) -> Result<(), AllocError> {
-    let bytes = input_bytes(alloc, input)?;
-    push_file(alloc, files, name, bytes.as_slice())
-}
-
-/// Appends a file with these bytes to others.
-fn push_file(
-    alloc: Global,
-    files: &mut Vec<(NameText, FileBytes)>,
-    name: &str,
-    bytes: &[u8],
-) -> Result<(), AllocError> {
-    let bytes = Vec::from_slice(alloc, bytes)?;
-    let name = String::from_str(alloc, name)?;
-    files.push((NameText::of(name), FileBytes::of(bytes)))?;
-    Ok(())
+/// A file with these bytes under this name.
+fn named(alloc: Global, name: &str, bytes: Vec<u8>) -> Result<(NameText, FileBytes), AllocError> {
+    let name = NameText::of(String::from_str(alloc, name)?);
+    Ok((name, FileBytes::of(bytes)))
 }

@@ -2,9 +2,11 @@
 use crate::desk_plan::ORDINARY;
 use crate::inputs::Input;
 use crate::keeping_gate::{KeepingGate, ROOM, Windows};
-use crate::outcome::print_outcome;
-use crate::trial::{Case, by_serial_call, by_tsp_call, push_words};
-use anyhow::Result;
+use crate::outcome::write_outcome;
+use crate::page::Page;
+use crate::trial::{Case, by_serial_call, by_tsp_call, words_of};
+use std::alloc::{AllocError, Global};
+use std::io;
 use std::sync::Wait;
 use std::thread::Threads;
 
@@ -19,75 +21,77 @@ const PLUGINS: usize = 2;
 const PIDS: [u16; 10] = [300, 301, 302, 303, 304, 305, 306, 307, 308, 309];
 
 /// Runs the chain by both calls, and prints the windows of its plugins.
-pub(crate) fn print_windows<R: Threads + Wait + Sync + Print + AllocGlobal>(rt: &R) -> Result<()> {
-    let mut words = Vec::new(rt.alloc());
-    push_words(rt.alloc(), &mut words, WORDS)?;
+pub(crate) fn print_windows<R: Threads + Wait + Sync + Print + AllocGlobal>(
+    rt: &R,
+) -> io::Result<()> {
+    let mut page = Page::new(rt.alloc());
+    write_windows(rt, &mut page)?;
+    page.print(rt)
+}
+
+fn write_windows<R: Threads + Wait + Sync + AllocGlobal>(
+    rt: &R,
+    page: &mut Page,
+) -> Result<(), AllocError> {
+    let words = words_of(rt.alloc(), WORDS)?;
     let case = Case {
         words: words.as_slice(),
         input: Input::Pids(&PIDS),
         plan: ORDINARY,
     };
-    print_serial(rt, case)?;
-    print_by_tsp_call(rt, case)
+    write_serial(rt.alloc(), page, case)?;
+    write_by_tsp_call(rt, page, case)
 }
 
 /// In one thread: each window of each plugin, in order.
-fn print_serial(rt: &(impl Print + AllocGlobal), case: Case) -> Result<()> {
-    println!(rt; "the windows of two plugins")?;
-    let gate = KeepingGate::new(rt.alloc(), PLUGINS)?;
-    print_serial_end(rt, case, &gate)?;
-    print_plugins(rt, &gate)
-}
-
-fn print_plugins(rt: &impl Print, gate: &KeepingGate) -> Result<()> {
-    for windows in gate.plugins() {
-        print_plugin(rt, windows)?;
-    }
+fn write_serial(alloc: Global, page: &mut Page, case: Case) -> Result<(), AllocError> {
+    page.text("the windows of two plugins\n");
+    let gate = KeepingGate::new(alloc, PLUGINS)?;
+    let trial = by_serial_call(alloc, case, &gate)?;
+    write_outcome(page, &trial);
+    write_plugins(page, &gate);
     Ok(())
 }
 
-fn print_serial_end(rt: &(impl Print + AllocGlobal), case: Case, gate: &KeepingGate) -> Result<()> {
-    let trial = by_serial_call(rt.alloc(), case, gate)?;
-    print_outcome(rt, &trial)
+fn write_plugins(page: &mut Page, gate: &KeepingGate) {
+    for windows in gate.plugins() {
+        write_plugin(page, windows);
+    }
 }
 
-fn print_plugin(rt: &impl Print, windows: &Windows) -> Result<()> {
-    print!(rt; "  a plugin's windows:")?;
+fn write_plugin(page: &mut Page, windows: &Windows) {
+    page.text("  a plugin's windows:");
     for n in 0..ROOM {
         if let Some(window) = windows.window(n) {
-            print!(rt; " {}..{}", window.start, window.end)?;
+            page.add(format_args!(" {}..{}", window.start, window.end));
         }
     }
-    println!(rt; ", each left: {}", windows.is_whole())?;
-    Ok(())
+    page.text(", each left: ");
+    page.add(windows.is_whole());
+    page.text("\n");
 }
 
 /// By `tsp_call`: its windows may be others, but each begins where the one before it ends, too.
-fn print_by_tsp_call<R: Threads + Wait + Sync + Print + AllocGlobal>(
+fn write_by_tsp_call<R: Threads + Wait + Sync + AllocGlobal>(
     rt: &R,
+    page: &mut Page,
     case: Case,
-) -> Result<()> {
-    println!(rt; "the same by tsp_call")?;
+) -> Result<(), AllocError> {
+    page.text("the same by tsp_call\n");
     let gate = KeepingGate::new(rt.alloc(), PLUGINS)?;
-    print_end(rt, case, &gate)?;
-    print_rows(rt, &gate)
-}
-
-/// Prints whether each window of each plugin begins where the one before it ends, and whether each was left.
-fn print_rows(rt: &impl Print, gate: &KeepingGate) -> Result<()> {
-    for windows in gate.plugins() {
-        let is_row = windows.is_one_row();
-        let is_whole = windows.is_whole();
-        println!(rt; "  a plugin's windows follow one another: {is_row}, each left: {is_whole}")?;
-    }
+    let trial = by_tsp_call(rt, case, &gate)?;
+    write_outcome(page, &trial);
+    write_rows(page, &gate);
     Ok(())
 }
 
-fn print_end<R: Threads + Wait + Sync + Print + AllocGlobal>(
-    rt: &R,
-    case: Case,
-    gate: &KeepingGate,
-) -> Result<()> {
-    let trial = by_tsp_call(rt, case, gate)?;
-    print_outcome(rt, &trial)
+/// Writes whether each window of each plugin begins where the one before it ends, and whether each was left.
+fn write_rows(page: &mut Page, gate: &KeepingGate) {
+    for windows in gate.plugins() {
+        page.text("  a plugin's windows follow one another: ");
+        page.add(windows.is_one_row());
+        page.text(", each left: ");
+        page.add(windows.is_whole());
+        page.text("\n");
+    }
 }
