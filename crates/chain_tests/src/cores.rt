@@ -54,29 +54,51 @@ macro_rules! news {
     };
 }
 
-/// Runs a core of two plugins over the visits, and compares where and why it was closed.
-fn row(
-    rt: &impl Abort,
-    alloc: Global,
-    users: StageSet,
-    steps: &[Step],
+/// The plugins of two that use joint termination.
+#[derive(Clone, Copy)]
+enum Users {
+    None,
+    First,
+    Both,
+}
+
+/// Visits of a core of two plugins, and where and why it is closed after them.
+#[derive(Clone, Copy)]
+struct CoreRow {
+    users: Users,
+    visits: &'static [Step],
     cut: u64,
     cause: Cause,
-) -> Result<(), AllocError>
-    requires { All (λ k. (1 ≤ k) × (k ≤ 2)) (stages_of users) }
+}
+
+fn set_of(users: Users) -> StageSet
+    ensures { All (λ k. (1 ≤ k) × (k ≤ 2)) (stages_of result) }
 {
+    match users {
+        Users::None => no_users(),
+        Users::First => first_plugin(),
+        Users::Both => both_plugins(),
+    }
+}
+
+/// Runs a core over the visits of a row, and compares where and why it was closed.
+fn closes(rt: &(impl Abort + AllocGlobal), row: &CoreRow) -> Result<(), AllocError> {
     let plan = CorePlan {
         plugins: 2,
         buffer: 8,
         most: 8,
-        users,
+        users: set_of(row.users),
     };
-    let mut driver = Driver::new(alloc, &plan)?;
-    for step in steps {
+    let mut driver = Driver::new(rt.alloc(), &plan)?;
+    for step in row.visits {
         let _ = told(rt, &mut driver, *step);
     }
     assert!(rt; driver.all_ended());
-    same(rt, driver.close(), Closed { cut, cause });
+    let wanted = Closed {
+        cut: row.cut,
+        cause: row.cause,
+    };
+    same(rt, driver.close(), wanted);
     Ok(())
 }
 
@@ -84,6 +106,12 @@ fn no_users() -> StageSet
     ensures { stages_of result ≡ [] }
 {
     StageSet::none()
+}
+
+fn first_plugin() -> StageSet
+    ensures { stages_of result ≡ 1 ∷ [] }
+{
+    StageSet::none().with(1)
 }
 
 fn both_plugins() -> StageSet
@@ -111,8 +139,13 @@ static JOINT_TERMINATION_AGREEING: [Step; 11] = [
     ends!(0, 0, FOLLOWED),
 ];
 
-fn agreeing() -> &'static [Step] {
-    &JOINT_TERMINATION_AGREEING
+fn agreeing() -> CoreRow {
+    CoreRow {
+        users: Users::Both,
+        visits: &JOINT_TERMINATION_AGREEING,
+        cut: 5,
+        cause: Cause::Joint,
+    }
 }
 
 /// The same visits with joint termination ignored: the chain goes on to the input's end.
@@ -130,8 +163,13 @@ static JOINT_TERMINATION_IGNORED: [Step; 11] = [
     ends!(3, 0, FOLLOWED),
 ];
 
-fn ignored() -> &'static [Step] {
-    &JOINT_TERMINATION_IGNORED
+fn ignored() -> CoreRow {
+    CoreRow {
+        users: Users::None,
+        visits: &JOINT_TERMINATION_IGNORED,
+        cut: 8,
+        cause: Cause::Input(INPUT_END),
+    }
 }
 
 /// Plugin 2 never agrees.
@@ -149,36 +187,13 @@ static JOINT_TERMINATION_NEVER: [Step; 11] = [
     ends!(3, 0, FOLLOWED),
 ];
 
-fn never() -> &'static [Step] {
-    &JOINT_TERMINATION_NEVER
-}
-
-#[test]
-fn joint_termination(rt: HostRuntime) -> Result<(), Fail> {
-    row(&rt, rt.alloc(), both_plugins(), agreeing(), 5, Cause::Joint)?;
-    row(
-        &rt,
-        rt.alloc(),
-        no_users(),
-        ignored(),
-        8,
-        Cause::Input(INPUT_END),
-    )?;
-    row(
-        &rt,
-        rt.alloc(),
-        both_plugins(),
-        never(),
-        8,
-        Cause::Input(INPUT_END),
-    )?;
-    Ok(())
-}
-
-fn first_plugin() -> StageSet
-    ensures { stages_of result ≡ 1 ∷ [] }
-{
-    StageSet::none().with(1)
+fn never() -> CoreRow {
+    CoreRow {
+        users: Users::Both,
+        visits: &JOINT_TERMINATION_NEVER,
+        cut: 8,
+        cause: Cause::Input(INPUT_END),
+    }
 }
 
 /// A last packet at the joint cut: joint termination has priority.
@@ -196,8 +211,13 @@ static ENDS_AT_ONE_PLACE_LAST: [Step; 11] = [
     ends!(0, 0, FOLLOWED),
 ];
 
-fn last() -> &'static [Step] {
-    &ENDS_AT_ONE_PLACE_LAST
+fn last() -> CoreRow {
+    CoreRow {
+        users: Users::None,
+        visits: &ENDS_AT_ONE_PLACE_LAST,
+        cut: 5,
+        cause: Cause::Until(1),
+    }
 }
 
 /// Two last packets: the first plugin's counts. Two other ends: the last stage's counts.
@@ -214,8 +234,13 @@ static ENDS_AT_ONE_PLACE_TWO_LASTS: [Step; 10] = [
     ends!(0, 0, FOLLOWED),
 ];
 
-fn two_lasts() -> &'static [Step] {
-    &ENDS_AT_ONE_PLACE_TWO_LASTS
+fn two_lasts() -> CoreRow {
+    CoreRow {
+        users: Users::None,
+        visits: &ENDS_AT_ONE_PLACE_TWO_LASTS,
+        cut: 5,
+        cause: Cause::Until(1),
+    }
 }
 
 static ENDS_AT_ONE_PLACE_TWO_ENDS: [Step; 10] = [
@@ -231,8 +256,13 @@ static ENDS_AT_ONE_PLACE_TWO_ENDS: [Step; 10] = [
     ends!(0, 0, FOLLOWED),
 ];
 
-fn two_ends() -> &'static [Step] {
-    &ENDS_AT_ONE_PLACE_TWO_ENDS
+fn two_ends() -> CoreRow {
+    CoreRow {
+        users: Users::None,
+        visits: &ENDS_AT_ONE_PLACE_TWO_ENDS,
+        cut: 6,
+        cause: Cause::NoMemory(2),
+    }
 }
 
 /// Plugin 1 is far after the cut, at which plugin 2 refuses a packet.
@@ -250,8 +280,13 @@ static ENDS_AT_ONE_PLACE_AHEAD: [Step; 11] = [
     ends!(0, 0, FOLLOWED),
 ];
 
-fn ahead() -> &'static [Step] {
-    &ENDS_AT_ONE_PLACE_AHEAD
+fn ahead() -> CoreRow {
+    CoreRow {
+        users: Users::Both,
+        visits: &ENDS_AT_ONE_PLACE_AHEAD,
+        cut: 1,
+        cause: Cause::Refuse(2, Reason::Pid(33)),
+    }
 }
 
 /// Three packets followed by four null packets of the stop stuffing, and an agreement at two.
@@ -268,32 +303,13 @@ static ENDS_AT_ONE_PLACE_NULLS: [Step; 10] = [
     ends!(2, 0, FOLLOWED),
 ];
 
-fn nulls() -> &'static [Step] {
-    &ENDS_AT_ONE_PLACE_NULLS
-}
-
-#[test]
-fn ends_at_one_place(rt: HostRuntime) -> Result<(), Fail> {
-    row(&rt, rt.alloc(), no_users(), last(), 5, Cause::Until(1))?;
-    row(&rt, rt.alloc(), no_users(), two_lasts(), 5, Cause::Until(1))?;
-    row(
-        &rt,
-        rt.alloc(),
-        no_users(),
-        two_ends(),
-        6,
-        Cause::NoMemory(2),
-    )?;
-    row(
-        &rt,
-        rt.alloc(),
-        both_plugins(),
-        ahead(),
-        1,
-        Cause::Refuse(2, Reason::Pid(33)),
-    )?;
-    row(&rt, rt.alloc(), first_plugin(), nulls(), 2, Cause::Joint)?;
-    Ok(())
+fn nulls() -> CoreRow {
+    CoreRow {
+        users: Users::First,
+        visits: &ENDS_AT_ONE_PLACE_NULLS,
+        cut: 2,
+        cause: Cause::Joint,
+    }
 }
 
 static FAULTS_BEFORE_THE_CUT_READ_FAULT: [Step; 11] = [
@@ -310,8 +326,13 @@ static FAULTS_BEFORE_THE_CUT_READ_FAULT: [Step; 11] = [
     ends!(3, 0, FOLLOWED),
 ];
 
-fn read_fault() -> &'static [Step] {
-    &FAULTS_BEFORE_THE_CUT_READ_FAULT
+fn read_fault() -> CoreRow {
+    CoreRow {
+        users: Users::Both,
+        visits: &FAULTS_BEFORE_THE_CUT_READ_FAULT,
+        cut: 3,
+        cause: Cause::Input(InputEnd::ReadFault),
+    }
 }
 
 static FAULTS_BEFORE_THE_CUT_FIRST_PLUGIN_WANTS: [Step; 11] = [
@@ -328,8 +349,13 @@ static FAULTS_BEFORE_THE_CUT_FIRST_PLUGIN_WANTS: [Step; 11] = [
     ends!(0, 0, FOLLOWED),
 ];
 
-fn first_plugin_wants() -> &'static [Step] {
-    &FAULTS_BEFORE_THE_CUT_FIRST_PLUGIN_WANTS
+fn first_plugin_wants() -> CoreRow {
+    CoreRow {
+        users: Users::Both,
+        visits: &FAULTS_BEFORE_THE_CUT_FIRST_PLUGIN_WANTS,
+        cut: 3,
+        cause: Cause::NoMemory(1),
+    }
 }
 
 static FAULTS_BEFORE_THE_CUT_SECOND_PLUGIN_WANTS: [Step; 11] = [
@@ -346,8 +372,13 @@ static FAULTS_BEFORE_THE_CUT_SECOND_PLUGIN_WANTS: [Step; 11] = [
     ends!(0, 0, FOLLOWED),
 ];
 
-fn second_plugin_wants() -> &'static [Step] {
-    &FAULTS_BEFORE_THE_CUT_SECOND_PLUGIN_WANTS
+fn second_plugin_wants() -> CoreRow {
+    CoreRow {
+        users: Users::Both,
+        visits: &FAULTS_BEFORE_THE_CUT_SECOND_PLUGIN_WANTS,
+        cut: 3,
+        cause: Cause::NoMemory(2),
+    }
 }
 
 static FAULTS_BEFORE_THE_CUT_WRITE_FAULT: [Step; 11] = [
@@ -364,39 +395,13 @@ static FAULTS_BEFORE_THE_CUT_WRITE_FAULT: [Step; 11] = [
     ends!(0, 0, FOLLOWED),
 ];
 
-fn write_fault() -> &'static [Step] {
-    &FAULTS_BEFORE_THE_CUT_WRITE_FAULT
-}
-
-#[test]
-fn faults_before_the_cut(rt: HostRuntime) -> Result<(), Fail> {
-    let cause = Cause::Input(InputEnd::ReadFault);
-    row(&rt, rt.alloc(), both_plugins(), read_fault(), 3, cause)?;
-    row(
-        &rt,
-        rt.alloc(),
-        both_plugins(),
-        first_plugin_wants(),
-        3,
-        Cause::NoMemory(1),
-    )?;
-    row(
-        &rt,
-        rt.alloc(),
-        both_plugins(),
-        second_plugin_wants(),
-        3,
-        Cause::NoMemory(2),
-    )?;
-    row(
-        &rt,
-        rt.alloc(),
-        both_plugins(),
-        write_fault(),
-        3,
-        Cause::WriteFault,
-    )?;
-    Ok(())
+fn write_fault() -> CoreRow {
+    CoreRow {
+        users: Users::Both,
+        visits: &FAULTS_BEFORE_THE_CUT_WRITE_FAULT,
+        cut: 3,
+        cause: Cause::WriteFault,
+    }
 }
 
 /// A read fault at the joint cut: joint termination is the cause.
@@ -414,8 +419,13 @@ static FAULTS_AT_THE_CUT_READ_FAULT: [Step; 11] = [
     ends!(3, 0, FOLLOWED),
 ];
 
-fn read_fault_at_the_cut() -> &'static [Step] {
-    &FAULTS_AT_THE_CUT_READ_FAULT
+fn read_fault_at_the_cut() -> CoreRow {
+    CoreRow {
+        users: Users::Both,
+        visits: &FAULTS_AT_THE_CUT_READ_FAULT,
+        cut: 5,
+        cause: Cause::Joint,
+    }
 }
 
 static FAULTS_AT_THE_CUT_PLUGINS_WANT: [Step; 12] = [
@@ -433,8 +443,13 @@ static FAULTS_AT_THE_CUT_PLUGINS_WANT: [Step; 12] = [
     ends!(0, 0, FOLLOWED),
 ];
 
-fn plugins_want() -> &'static [Step] {
-    &FAULTS_AT_THE_CUT_PLUGINS_WANT
+fn plugins_want() -> CoreRow {
+    CoreRow {
+        users: Users::Both,
+        visits: &FAULTS_AT_THE_CUT_PLUGINS_WANT,
+        cut: 5,
+        cause: Cause::Joint,
+    }
 }
 
 static FAULTS_AT_THE_CUT_WRITE_FAULT: [Step; 11] = [
@@ -451,8 +466,13 @@ static FAULTS_AT_THE_CUT_WRITE_FAULT: [Step; 11] = [
     ends!(0, 0, FOLLOWED),
 ];
 
-fn write_fault_at_the_cut() -> &'static [Step] {
-    &FAULTS_AT_THE_CUT_WRITE_FAULT
+fn write_fault_at_the_cut() -> CoreRow {
+    CoreRow {
+        users: Users::Both,
+        visits: &FAULTS_AT_THE_CUT_WRITE_FAULT,
+        cut: 5,
+        cause: Cause::Joint,
+    }
 }
 
 /// A last packet at the joint cut is the cause.
@@ -469,44 +489,44 @@ static FAULTS_AT_THE_CUT_LAST_PACKET: [Step; 10] = [
     ends!(0, 0, FOLLOWED),
 ];
 
-fn last_packet() -> &'static [Step] {
-    &FAULTS_AT_THE_CUT_LAST_PACKET
+fn last_packet() -> CoreRow {
+    CoreRow {
+        users: Users::None,
+        visits: &FAULTS_AT_THE_CUT_LAST_PACKET,
+        cut: 5,
+        cause: Cause::Until(1),
+    }
 }
 
-#[test]
-fn faults_at_the_cut(rt: HostRuntime) -> Result<(), Fail> {
-    row(
-        &rt,
-        rt.alloc(),
-        both_plugins(),
+/// Each row in a function of its own: the content of a `static` is written into each function that names it.
+fn core_rows() -> [CoreRow; 16] {
+    [
+        agreeing(),
+        ignored(),
+        never(),
+        last(),
+        two_lasts(),
+        two_ends(),
+        ahead(),
+        nulls(),
+        read_fault(),
+        first_plugin_wants(),
+        second_plugin_wants(),
+        write_fault(),
         read_fault_at_the_cut(),
-        5,
-        Cause::Joint,
-    )?;
-    row(
-        &rt,
-        rt.alloc(),
-        both_plugins(),
         plugins_want(),
-        5,
-        Cause::Joint,
-    )?;
-    row(
-        &rt,
-        rt.alloc(),
-        both_plugins(),
         write_fault_at_the_cut(),
-        5,
-        Cause::Joint,
-    )?;
-    row(
-        &rt,
-        rt.alloc(),
-        no_users(),
         last_packet(),
-        5,
-        Cause::Until(1),
-    )?;
+    ]
+}
+
+/// Joint termination, ends at one place, and faults before the cut and at it.
+#[test]
+fn visits_end_as_their_rows_say(rt: HostRuntime) -> Result<(), Fail> {
+    let rows = core_rows();
+    for row in &rows {
+        closes(&rt, row)?;
+    }
     Ok(())
 }
 

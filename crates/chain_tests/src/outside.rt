@@ -8,7 +8,7 @@ use std::process::Abort;
 use std::test::Fail;
 use ts_outside::{
     Desk, FailPlan, FileBytes, FileFault, FileList, Gate, MemoryDesk, NameText, NumberList,
-    OpenGate, SteadyDesk, read_to_end,
+    OpenGate, Source, SteadyDesk, read_to_end,
 };
 
 // The one call that fails: its kind, and its number, counted from 1.
@@ -110,21 +110,27 @@ macro_rules! rows {
     };
 }
 
-// Whether a copy ends as its row says.
-fn is_so(alloc: Global, row: &CopyRow) -> Result<bool, AllocError> {
+// How a copy of the long file ended, how many outputs there are, and how many bytes the first has.
+fn told_by(desk: &mut MemoryDesk) -> (CopyEnd, usize, usize) {
+    let end = copied(desk, "long", Some("to"));
+    (end, desk.output_count(), output_len(desk, 0))
+}
+
+// The same of a desk whose calls fail as the row says.
+fn told(alloc: Global, row: &CopyRow) -> Result<(CopyEnd, usize, usize), AllocError> {
     let mut desk = planned(alloc, row.fails, row.room)?;
-    let end = copied(&mut *desk, "long", Some("to"));
-    Ok(end == row.end && desk.output_count() == row.outputs && output_len(&desk, 0) == row.bytes)
+    Ok(told_by(&mut *desk))
 }
 
 // Checks the records of a desk from which a file was copied and one that does not exist.
 fn tells_two(rt: &impl Abort, desk: &mut MemoryDesk) {
-    same(rt, copied(desk, "long", None), CopyEnd::Done);
-    same(rt, copied(desk, "unknown", Some("to")), CopyEnd::Done);
-    same(rt, desk.asked_count(), 4);
-    same_bytes(rt, desk.reported(), b"donedone");
-    same(rt, desk.output_count(), 2);
+    let first = copied(desk, "long", None);
+    let second = copied(desk, "unknown", Some("to"));
+    same(rt, (first, second), (CopyEnd::Done, CopyEnd::Done));
+    let counts = (desk.asked_count(), desk.output_count());
+    same(rt, counts, (4, 2));
     same(rt, (output_len(desk, 0), output_len(desk, 1)), (400, 0));
+    same_bytes(rt, desk.reported(), b"donedone");
     holds(rt, desk.output(2).is_none());
 }
 
@@ -136,19 +142,26 @@ fn a_copy_is_told(rt: HostRuntime) -> Result<(), Fail> {
 }
 
 // Checks the name and the bytes of the first output.
-fn is_output(rt: &impl Abort, desk: &MemoryDesk, name: &str, bytes: &[u8]) {
-    let Some((found_name, found_bytes)) = desk.output(0) else {
-        panic!(rt; "no output");
-    };
-    assert_eq!(rt; found_name, name);
-    same_bytes(rt, found_bytes, bytes);
+fn is_output(rt: &impl Abort, desk: &MemoryDesk, name: &[u8], bytes: &[u8]) {
+    match desk.output(0) {
+        Some((found_name, found_bytes)) => {
+            same_bytes(rt, found_name.as_bytes(), name);
+            same_bytes(rt, found_bytes, bytes);
+        }
+        None => holds(rt, false),
+    }
+}
+
+// Checks the output to which a short file was copied.
+fn names_one(rt: &impl Abort, desk: &mut MemoryDesk) {
+    same(rt, copied(desk, "short", Some("to")), CopyEnd::Done);
+    is_output(rt, desk, b"to", &[7; 5]);
 }
 
 #[test]
 fn an_output_has_its_name(rt: HostRuntime) -> Result<(), Fail> {
     let mut desk = planned(rt.alloc(), Fails::Never, 1000)?;
-    same(&rt, copied(&mut *desk, "short", Some("to")), CopyEnd::Done);
-    is_output(&rt, &*desk, "to", &[7, 7, 7, 7, 7]);
+    names_one(&rt, &mut *desk);
     Ok(())
 }
 
@@ -173,7 +186,8 @@ fn copies() -> &'static [CopyRow] {
 #[test]
 fn calls_fail_where_the_plan_or_the_room_says_so(rt: HostRuntime) -> Result<(), Fail> {
     for row in copies() {
-        assert!(rt; is_so(rt.alloc(), row)?);
+        let wanted = (row.end, row.outputs, row.bytes);
+        same(&rt, told(rt.alloc(), row)?, wanted);
     }
     Ok(())
 }
@@ -185,10 +199,19 @@ fn read<D: Desk>(desk: &mut D, name: Option<&str>, most: usize) -> Result<usize,
 
 // Checks how a short file is read whole; its third opening fails.
 fn reads_whole(rt: &impl Abort, desk: &mut MemoryDesk) {
-    same(rt, read(desk, Some("short"), 5), Ok(5));
-    same(rt, read(desk, Some("short"), 4), Err(FileFault::TooMany));
-    same(rt, read(desk, Some("short"), 5), Err(FileFault::Failed));
-    same(rt, read(desk, None, 0), Ok(0));
+    let found = [
+        read(desk, Some("short"), 5),
+        read(desk, Some("short"), 4),
+        read(desk, Some("short"), 5),
+        read(desk, None, 0),
+    ];
+    let wanted = [
+        Ok(5),
+        Err(FileFault::TooMany),
+        Err(FileFault::Failed),
+        Ok(0),
+    ];
+    same(rt, found, wanted);
     same(rt, desk.asked_count(), 4);
 }
 
@@ -207,10 +230,11 @@ fn steady(alloc: Global) -> Result<Box<SteadyDesk>, AllocError> {
 
 // Checks the counts of such a desk.
 fn counts(rt: &impl Abort, desk: &mut SteadyDesk) {
-    same(rt, copied(desk, "long", Some("to")), CopyEnd::Done);
-    same(rt, copied(desk, "short", Some("to")), CopyEnd::Done);
-    same(rt, desk.written_count(), 405);
-    same(rt, desk.reported_count(), 8);
+    let first = copied(desk, "long", Some("to"));
+    let second = copied(desk, "short", Some("to"));
+    same(rt, (first, second), (CopyEnd::Done, CopyEnd::Done));
+    let counts = (desk.written_count(), desk.reported_count());
+    same(rt, counts, (405, 8));
     same(rt, read(desk, Some("short"), 5), Ok(5));
 }
 
@@ -226,58 +250,99 @@ fn sent<T: Send>(value: T) -> T {
     value
 }
 
-// Opens a file and reads it whole, and opens and closes an output; source and sink are of types that may be sent.
+// How many bytes a source has, if it has at most `most`.
+fn read_len<S: Source>(alloc: Global, source: &mut S, most: usize) -> Result<usize, FileFault> {
+    Ok(read_to_end(alloc, source, most)?.as_slice().len())
+}
+
+// Opens and closes an output, whose type may be sent. Whether it opens.
+fn opens_output<D: Desk>(desk: &mut D) -> bool {
+    match desk.open_out(None) {
+        Ok(output) => {
+            let _ = desk.close_out(sent(output));
+            true
+        }
+        Err(_) => false,
+    }
+}
+
+// Opens a file, whose source's type may be sent, and reads it whole.
 fn crossed<D: Desk>(
     alloc: Global,
     desk: &mut D,
     name: &str,
     most: usize,
 ) -> Result<usize, FileFault> {
-    let mut input = match desk.open_in(Some(name)) {
-        Ok(input) => sent(input),
-        Err(_) => return Err(FileFault::Failed),
-    };
-    let read = read_to_end(alloc, &mut input, most);
-    desk.close_in(input);
-    match desk.open_out(None) {
-        Ok(output) => {
-            let _ = desk.close_out(sent(output));
+    match desk.open_in(Some(name)) {
+        Ok(input) => {
+            let mut input = sent(input);
+            let read = read_len(alloc, &mut input, most);
+            desk.close_in(input);
+            read
         }
-        Err(_) => return Err(FileFault::Failed),
+        Err(_) => Err(FileFault::Failed),
     }
-    Ok(read?.as_slice().len())
+}
+
+// What was read of a desk's file, and whether an output opens.
+type Crossed = (Result<usize, FileFault>, bool);
+
+fn memory_crossed(alloc: Global) -> Result<Crossed, AllocError> {
+    let mut desk = planned(alloc, Fails::Never, 1000)?;
+    let read = crossed(alloc, &mut *desk, "short", 5);
+    Ok((read, opens_output(&mut *desk)))
+}
+
+fn steady_crossed(alloc: Global) -> Result<Crossed, AllocError> {
+    let mut desk = steady(alloc)?;
+    let read = crossed(alloc, &mut *desk, "long", 399);
+    Ok((read, opens_output(&mut *desk)))
 }
 
 #[test]
 fn sources_and_sinks_may_cross_threads(rt: HostRuntime) -> Result<(), Fail> {
-    let mut desk = planned(rt.alloc(), Fails::Never, 1000)?;
-    let read = crossed(rt.alloc(), &mut *desk, "short", 5);
-    same(&rt, read, Ok(5));
-    let mut steady = steady(rt.alloc())?;
-    let read = crossed(rt.alloc(), &mut *steady, "long", 399);
-    same(&rt, read, Err(FileFault::TooMany));
+    same(&rt, memory_crossed(rt.alloc())?, (Ok(5), true));
+    let fault = Err(FileFault::TooMany);
+    same(&rt, steady_crossed(rt.alloc())?, (fault, true));
     Ok(())
+}
+
+// The length of a name that is copied.
+fn name_len(name: &NameText) -> Result<usize, AllocError> {
+    Ok(name.copy()?.into_string().len())
+}
+
+// How many bytes there are, copied.
+fn bytes_len(bytes: &FileBytes) -> Result<usize, AllocError> {
+    Ok(bytes.copy()?.into_vec().len())
 }
 
 // The lengths of the name and of the bytes of a copied file.
 fn copied_lens(alloc: Global) -> Result<(usize, usize), AllocError> {
     let (name, bytes) = file(alloc, "a b", 3)?;
-    let name_len = name.copy()?.into_string().len();
-    Ok((name_len, bytes.copy()?.into_vec().len()))
+    Ok((name_len(&name)?, bytes_len(&bytes)?))
 }
 
-// Checks a list of 3 and 1.
-fn has_numbers(rt: &impl Abort, list: &NumberList) {
-    same(rt, (list.has(1), list.has(2)), (true, false));
+fn file_count(alloc: Global) -> Result<usize, AllocError> {
+    Ok(files(alloc)?.into_vec().len())
+}
+
+// A list of 3 and 1, copied.
+fn three_and_one(alloc: Global) -> Result<NumberList, AllocError> {
+    numbers(alloc, &[3, 1])?.copy()
+}
+
+// Whether that list has 1 and has 2, and how many numbers it has.
+fn told_of_numbers(alloc: Global) -> Result<(bool, bool, usize), AllocError> {
+    let list = three_and_one(alloc)?;
+    Ok((list.has(1), list.has(2), list.into_vec().len()))
 }
 
 #[test]
 fn texts_and_lists_keep_what_they_hold(rt: HostRuntime) -> Result<(), Fail> {
     same(&rt, copied_lens(rt.alloc())?, (3, 3));
-    same(&rt, files(rt.alloc())?.into_vec().len(), 3);
-    let list = numbers(rt.alloc(), &[3, 1])?.copy()?;
-    has_numbers(&rt, &list);
-    same(&rt, list.into_vec().len(), 2);
+    same(&rt, file_count(rt.alloc())?, 3);
+    same(&rt, told_of_numbers(rt.alloc())?, (true, false, 2));
     Ok(())
 }
 

@@ -38,36 +38,31 @@ fn files(alloc: Global, packets: usize) -> Result<FileList, AllocError> {
     Ok(FileList::of(files))
 }
 
-/// A plan in which the read and the write with these numbers fail; one write takes at most 300 bytes.
-fn plan(alloc: Global, read: u64, write: u64) -> Result<FailPlan, AllocError>
-    ensures { IfOk result (λ p. (p.read_piece ≡ 1000) × (p.write_piece ≡ 300)) }
+/// A plan by which a read gives at most `piece` bytes and a write takes at most 300, and in which the read and the write
+/// with these numbers fail.
+fn plan(alloc: Global, piece: usize, read: u64, write: u64) -> Result<FailPlan, AllocError>
+    ensures { IfOk result (λ p. (p.read_piece ≡ piece) × (p.write_piece ≡ 300)) }
 {
     let reads = NumberList::of(vec![in alloc; read]?);
     let writes = NumberList::of(vec![in alloc; write]?);
-    let mut plan = FailPlan::none(alloc, 1000, 300, 1000);
+    let mut plan = FailPlan::none(alloc, piece, 300, 1000);
     plan.reads = reads;
     plan.writes = writes;
     Ok(plan)
-}
-
-/// A desk with a file `in` of `packets` packets, of which a read gives at most `piece` bytes.
-fn slow_desk(alloc: Global, packets: usize, piece: usize) -> Result<Box<MemoryDesk>, AllocError>
-    requires { 0 < piece }
-{
-    let files = files(alloc, packets)?;
-    let plan = FailPlan::none(alloc, piece, 300, 1000);
-    Ok(Box::new(alloc, MemoryDesk::new(alloc, files, plan)?)?)
 }
 
 /// A desk with a file `in` of `packets` packets. Calls are numbered from 1, so none fails with 0.
 fn desk(
     alloc: Global,
     packets: usize,
+    piece: usize,
     read: u64,
     write: u64,
-) -> Result<Box<MemoryDesk>, AllocError> {
+) -> Result<Box<MemoryDesk>, AllocError>
+    requires { 0 < piece }
+{
     let files = files(alloc, packets)?;
-    let plan = plan(alloc, read, write)?;
+    let plan = plan(alloc, piece, read, write)?;
     Ok(Box::new(alloc, MemoryDesk::new(alloc, files, plan)?)?)
 }
 
@@ -213,30 +208,108 @@ fn gives<S: Source, K: Sink, P: Plugin>(part: &mut StagePart<S, K, P>) -> Gave
     gave
 }
 
-/// Works on three windows with an input, and returns the input.
-fn gives_and_ends<S: Source, K: Sink, P: Plugin>(
-    part: InputPart<S>,
-    start: u64,
-    room: IoBuffer,
-) -> (InputPart<S>, Gave)
-    requires { IsUnused part }
-{
-    let mut part: StagePart<S, K, P> = input(part, start, room);
-    let gave = gives(&mut part);
-    (part.into_input(), gave)
+/// Where the packets of an input come from.
+#[derive(Clone, Copy)]
+enum Feed {
+    /// A file of so many packets. A read gives at most `piece` bytes, and at least one; the read of this number fails.
+    File {
+        packets: usize,
+        piece: usize,
+        read: u64,
+    },
+    /// So many null packets.
+    Nulls(u64),
+    /// The first packets of the generated stream of seed 1.
+    Generated(u64),
 }
 
-/// Works on three windows with an input that reads a desk's file `in`.
-fn read_file(alloc: Global, mut desk: Box<MemoryDesk>, start: u64) -> Result<Gave, Fail> {
-    let room = IoBuffer::new(alloc, 2)?;
-    let source = match desk.open_in(Some("in")) {
-        Ok(source) => source,
-        Err(_) => return Err("no source".into()),
-    };
-    let part = InputPart::Stream(source);
-    let (part, gave) = gives_and_ends::<MemorySource, MemorySink, StopsAt>(part, start, room);
-    close_input(&mut *desk, part);
-    Ok(gave)
+/// The PIDs of the packets of two cells; `None` for a dropped cell. A `static` holds no array of these.
+type Pids = (Option<u16>, Option<u16>);
+
+/// An input behind `start` packets of start stuffing; what it does with three windows, the PIDs of the packets in
+/// these, and how many packets it has afterwards if it has no source.
+#[derive(Drop)]
+struct InputRow {
+    feed: Feed,
+    start: u64,
+    did: (Option<Did>, Option<Did>, Option<Did>),
+    pids: (Pids, Pids, Pids),
+    left: Option<u64>,
+}
+
+/// A desk with the file of an input, if it reads one.
+fn desk_of(alloc: Global, feed: Feed) -> Result<Box<MemoryDesk>, AllocError> {
+    match feed {
+        Feed::File {
+            packets,
+            piece,
+            read,
+        } => desk(alloc, packets, piece.max(1), read, 0),
+        _ => desk(alloc, 0, 1000, 0, 0),
+    }
+}
+
+/// The buffer of an input.
+fn room_of(alloc: Global, feed: Feed) -> Result<IoBuffer, AllocError> {
+    match feed {
+        Feed::File { .. } => IoBuffer::new(alloc, 2),
+        _ => IoBuffer::new(alloc, 1),
+    }
+}
+
+/// An input, whose source reads the desk's file `in`.
+fn part_of(
+    alloc: Global,
+    desk: &mut MemoryDesk,
+    feed: Feed,
+) -> Result<InputPart<MemorySource>, Fail>
+    ensures { IfOk result (λ part. IsUnused part) }
+{
+    match feed {
+        Feed::File { .. } => match desk.open_in(Some("in")) {
+            Ok(source) => Ok(InputPart::Stream(source)),
+            Err(_) => Err("no source".into()),
+        },
+        Feed::Nulls(count) => Ok(InputPart::Nulls(count)),
+        Feed::Generated(packets) => {
+            let generator = TestGen::new(alloc, 1)?;
+            Ok(InputPart::Generated { generator, packets })
+        }
+    }
+}
+
+/// Works on three windows with an input, and returns the input.
+fn gives_and_ends<S: Source, K: Sink, P: Plugin>(
+    rt: &impl Abort,
+    part: InputPart<S>,
+    room: IoBuffer,
+    row: &InputRow,
+) -> InputPart<S>
+    requires { IsUnused part }
+{
+    let mut part: StagePart<S, K, P> = input(part, row.start, room);
+    gave_so(rt, &gives(&mut part), row);
+    part.into_input()
+}
+
+/// Works on three windows with an input, and closes its source.
+fn runs_input(
+    rt: &(impl Abort + AllocGlobal),
+    desk: &mut MemoryDesk,
+    room: IoBuffer,
+    row: &InputRow,
+) -> Result<(), Fail> {
+    let part = part_of(rt.alloc(), desk, row.feed)?;
+    let part = gives_and_ends::<MemorySource, MemorySink, StopsAt>(rt, part, room, row);
+    same(rt, close_input(desk, part), row.left);
+    Ok(())
+}
+
+/// Makes an input and its desk, and works with it.
+fn is_input(rt: &(impl Abort + AllocGlobal), row: &InputRow) -> Result<(), Fail> {
+    let room = room_of(rt.alloc(), row.feed)?;
+    let mut desk = desk_of(rt.alloc(), row.feed)?;
+    runs_input(rt, &mut *desk, room, row)
 }
 
 /// Two dropped cells.
@@ -252,19 +325,26 @@ fn pid(cell: &Cell) -> Option<u16> {
 /// How many cells were done in a window, and how the stage ended in it.
 type Did = (usize, Option<StageEnd>);
 
-/// Checks what was done with cells.
-fn did(rt: &impl Abort, work: Work, wanted: Did) {
-    same(rt, done_by(work), wanted);
+/// The PIDs of a window's packets.
+fn pids(window: &[Cell; 2]) -> Pids {
+    (pid(&window[0]), pid(&window[1]))
 }
 
 /// Checks what was done with three windows; those after an end were not worked on.
-fn did_all(rt: &impl Abort, gave: &Gave, wanted: [Option<Did>; 3]) {
-    let found = [
+fn gave_so(rt: &impl Abort, gave: &Gave, row: &InputRow) {
+    let did = (
         Some(done_by(gave.first)),
         gave.second.map(done_by),
         gave.third.map(done_by),
-    ];
-    same(rt, found, wanted);
+    );
+    same(rt, did, row.did);
+    let windows = &gave.windows;
+    let pids = (
+        pids(&windows.first),
+        pids(&windows.second),
+        pids(&windows.third),
+    );
+    same(rt, pids, row.pids);
 }
 
 /// How many cells were done, and how the stage ended.
@@ -272,115 +352,65 @@ fn done_by(work: Work) -> Did {
     (work.done, work.word.ended)
 }
 
-/// Checks the PIDs of a window's packets.
-fn are_on(rt: &impl Abort, window: &[Cell; 2], pids: [Option<u16>; 2]) {
-    same(rt, [pid(&window[0]), pid(&window[1])], pids);
-}
-
 /// The end of an input of whole packets.
 const PLAIN_END: StageEnd = StageEnd::Input(InputEnd::End { left: 0 });
 
-#[test]
-fn a_file_is_read_in_full_windows(rt: HostRuntime) -> Result<(), Fail> {
-    let desk = desk(rt.alloc(), 4, 0, 0)?;
-    let gave = read_file(rt.alloc(), desk, 0)?;
-    let did = [Some((2, None)), Some((2, None)), Some((0, Some(PLAIN_END)))];
-    did_all(&rt, &gave, did);
-    are_on(&rt, &gave.windows.first, [Some(256), Some(256)]);
-    are_on(&rt, &gave.windows.second, [Some(256), Some(256)]);
-    are_on(&rt, &gave.windows.third, [None, None]);
-    Ok(())
-}
-
-#[test]
-fn what_one_read_gave_is_handed_on(rt: HostRuntime) -> Result<(), Fail> {
-    let desk = slow_desk(rt.alloc(), 4, 188)?;
-    let gave = read_file(rt.alloc(), desk, 0)?;
-    let did = [Some((1, None)), Some((1, None)), Some((1, None))];
-    did_all(&rt, &gave, did);
-    are_on(&rt, &gave.windows.second, [Some(256), None]);
-    Ok(())
-}
-
-// A packet is complete after two reads.
-#[test]
-fn half_a_packet_is_not_handed_on(rt: HostRuntime) -> Result<(), Fail> {
-    let desk = slow_desk(rt.alloc(), 2, 94)?;
-    let gave = read_file(rt.alloc(), desk, 0)?;
-    let did = [Some((1, None)), Some((1, None)), Some((0, Some(PLAIN_END)))];
-    did_all(&rt, &gave, did);
-    Ok(())
-}
-
-// The first read gives one packet and a half, the second read the rest of that and one more.
-#[test]
-fn half_a_packet_waits_for_the_rest(rt: HostRuntime) -> Result<(), Fail> {
-    let desk = slow_desk(rt.alloc(), 3, 282)?;
-    let gave = read_file(rt.alloc(), desk, 0)?;
-    let did = [Some((1, None)), Some((2, None)), Some((0, Some(PLAIN_END)))];
-    did_all(&rt, &gave, did);
-    Ok(())
-}
-
-#[test]
-fn stuffing_comes_first(rt: HostRuntime) -> Result<(), Fail> {
-    let desk = desk(rt.alloc(), 2, 0, 0)?;
-    let gave = read_file(rt.alloc(), desk, 1)?;
-    let did = [Some((1, None)), Some((2, None)), Some((0, Some(PLAIN_END)))];
-    did_all(&rt, &gave, did);
-    are_on(&rt, &gave.windows.first, [Some(8191), None]);
-    are_on(&rt, &gave.windows.second, [Some(256), Some(256)]);
-    Ok(())
-}
-
-#[test]
-fn a_read_fails_behind_the_first_window(rt: HostRuntime) -> Result<(), Fail> {
-    let desk = desk(rt.alloc(), 3, 2, 0)?;
-    let gave = read_file(rt.alloc(), desk, 0)?;
-    let fault = StageEnd::Input(InputEnd::ReadFault);
-    did_all(&rt, &gave, [Some((2, None)), Some((0, Some(fault))), None]);
-    Ok(())
-}
-
-/// The cells that an input of one null packet gives, and how many packets it then has.
-fn nulls(alloc: Global) -> Result<(Option<u64>, Gave), Fail> {
-    let room = IoBuffer::new(alloc, 1)?;
-    let mut desk = desk(alloc, 0, 0, 0)?;
-    let part = InputPart::Nulls(1);
-    let (part, gave) = gives_and_ends::<MemorySource, MemorySink, StopsAt>(part, 0, room);
-    Ok((close_input(&mut *desk, part), gave))
-}
-
-#[test]
-fn an_input_of_null_packets_ends(rt: HostRuntime) -> Result<(), Fail> {
-    let (packets, gave) = nulls(rt.alloc())?;
-    same(&rt, packets, Some(1));
-    did_all(&rt, &gave, [Some((1, Some(PLAIN_END))), None, None]);
-    are_on(&rt, &gave.windows.first, [Some(8191), None]);
-    Ok(())
-}
-
-/// The cells that an input of three generated packets gives, and how many packets it then has.
-fn generated(alloc: Global) -> Result<(Option<u64>, Gave), Fail> {
-    let room = IoBuffer::new(alloc, 1)?;
-    let mut desk = desk(alloc, 0, 0, 0)?;
-    let generator = TestGen::new(alloc, 1)?;
-    let part = InputPart::Generated {
-        generator,
-        packets: 3,
+// Macros, since a `static` calls no function.
+macro_rules! file {
+    ($packets:literal, $piece:literal, $read:literal) => {
+        Feed::File {
+            packets: $packets,
+            piece: $piece,
+            read: $read,
+        }
     };
-    let (part, gave) = gives_and_ends::<MemorySource, MemorySink, StopsAt>(part, 0, room);
-    Ok((close_input(&mut *desk, part), gave))
+}
+
+macro_rules! input_rows {
+    ($($feed:expr, $start:literal, $did:expr, $pids:expr, $left:expr;)*) => {
+        [$(InputRow { feed: $feed, start: $start, did: $did, pids: $pids, left: $left }),*]
+    };
+}
+
+/// A file is read in full windows. What one read gave is handed on. A packet is complete after two reads. One read gives
+/// a packet and a half, and the next the rest and one more. Stuffing comes first. A read fails behind the first window.
+/// Null packets and generated ones end.
+static INPUTS: [InputRow; 8] = input_rows![
+    file!(4, 1000, 0), 0,
+    (Some((2, None)), Some((2, None)), Some((0, Some(PLAIN_END)))),
+    ((Some(256), Some(256)), (Some(256), Some(256)), (None, None)), None;
+    file!(4, 188, 0), 0,
+    (Some((1, None)), Some((1, None)), Some((1, None))),
+    ((Some(256), None), (Some(256), None), (Some(256), None)), None;
+    file!(2, 94, 0), 0,
+    (Some((1, None)), Some((1, None)), Some((0, Some(PLAIN_END)))),
+    ((Some(256), None), (Some(256), None), (None, None)), None;
+    file!(3, 282, 0), 0,
+    (Some((1, None)), Some((2, None)), Some((0, Some(PLAIN_END)))),
+    ((Some(256), None), (Some(256), Some(256)), (None, None)), None;
+    file!(2, 1000, 0), 1,
+    (Some((1, None)), Some((2, None)), Some((0, Some(PLAIN_END)))),
+    ((Some(8191), None), (Some(256), Some(256)), (None, None)), None;
+    file!(3, 1000, 2), 0,
+    (Some((2, None)), Some((0, Some(StageEnd::Input(InputEnd::ReadFault)))), None),
+    ((Some(256), Some(256)), (None, None), (None, None)), None;
+    Feed::Nulls(1), 0,
+    (Some((1, Some(PLAIN_END))), None, None),
+    ((Some(8191), None), (None, None), (None, None)), Some(1);
+    Feed::Generated(3), 0,
+    (Some((2, None)), Some((1, Some(PLAIN_END))), None),
+    ((Some(0), Some(4096)), (Some(4097), None), (None, None)), Some(3);
+];
+
+fn inputs() -> &'static [InputRow] {
+    &INPUTS
 }
 
 #[test]
-fn an_input_of_generated_packets_ends(rt: HostRuntime) -> Result<(), Fail> {
-    let (packets, gave) = generated(rt.alloc())?;
-    same(&rt, packets, Some(3));
-    let did = [Some((2, None)), Some((1, Some(PLAIN_END))), None];
-    did_all(&rt, &gave, did);
-    are_on(&rt, &gave.windows.first, [Some(0), Some(4096)]);
-    are_on(&rt, &gave.windows.second, [Some(4097), None]);
+fn inputs_give_as_their_rows_say(rt: HostRuntime) -> Result<(), Fail> {
+    for row in inputs() {
+        is_input(&rt, row)?;
+    }
     Ok(())
 }
 
@@ -403,94 +433,116 @@ fn four() -> [Cell; 4] {
     ]
 }
 
-/// Works on four cells with a plugin that stops at a position, and returns its position.
-fn stops(alloc: Global, position: u64, cells: &mut [Cell; 4]) -> (u64, Work) {
+/// Works on four cells with a plugin that stops at a position. Returns the position that it then has, and what was done.
+fn stops(alloc: Global, position: u64, cells: &mut [Cell; 4]) -> (u64, Did) {
     let stops = StopsAt { position, alloc };
     let (stops, work) = edits::<MemorySource, MemorySink, StopsAt>(stops, cells);
-    (stops.position, work)
+    (stops.position, done_by(work))
 }
 
 #[test]
-fn a_plugin_passes_and_stops(rt: HostRuntime) -> Result<(), Fail> {
+fn a_plugin_passes_and_stops(rt: HostRuntime) {
     let mut cells = four();
-    let (position, work) = stops(rt.alloc(), 4, &mut cells);
-    did(&rt, work, (4, None));
-    same(&rt, position, 4);
-    let (_, work) = stops(rt.alloc(), 1, &mut cells);
-    did(&rt, work, (2, Some(StageEnd::Stop)));
-    Ok(())
+    let passed = stops(rt.alloc(), 4, &mut cells);
+    same(&rt, passed, (4, (4, None)));
+    let stopped = stops(rt.alloc(), 1, &mut cells);
+    same(&rt, stopped, (1, (2, Some(StageEnd::Stop))));
+}
+
+/// An output; what it does with four cells, of which it may write those below a limit, and how many bytes its sink takes.
+/// A write with this number fails.
+#[derive(Drop)]
+struct OutputRow {
+    to_sink: bool,
+    limit: Option<u64>,
+    write: u64,
+    did: Did,
+    bytes: Option<usize>,
 }
 
 /// Works on four cells with an output, and returns the output.
 fn writes<S: Source, K: Sink, P: Plugin>(
+    rt: &impl Abort,
     part: OutputPart<K>,
     room: IoBuffer,
-    limit: Option<u64>,
-) -> (OutputPart<K>, Work) {
+    row: &OutputRow,
+) -> OutputPart<K> {
     let mut part: StagePart<S, K, P> = output(part, room);
     let mut cells = four();
-    let work = work(&mut part, 0, &mut cells, limit);
-    (part.into_output(), work)
+    let work = work(&mut part, 0, &mut cells, row.limit);
+    same(rt, done_by(work), row.did);
+    part.into_output()
 }
 
-/// Writes four cells, and returns how many bytes the sink took. A write with this number fails.
-fn written(alloc: Global, limit: Option<u64>, write: u64) -> Result<(usize, Work), Fail> {
-    let room = IoBuffer::new(alloc, 4)?;
-    let mut desk = desk(alloc, 0, 0, write)?;
-    let sink = match desk.open_out(None) {
-        Ok(sink) => sink,
-        Err(_) => return Err("no sink".into()),
-    };
-    let (part, work) = writes::<MemorySource, MemorySink, StopsAt>(
-        OutputPart::Stream(sink),
-        room,
-        limit,
-    );
-    close_output(&mut *desk, part);
-    match desk.output(0) {
-        Some((_, bytes)) => Ok((bytes.len(), work)),
-        None => Err("no output".into()),
+/// An output that drops packets, or one whose sink the desk opens.
+fn output_of(desk: &mut MemoryDesk, to_sink: bool) -> Result<OutputPart<MemorySink>, Fail> {
+    if !to_sink {
+        return Ok(OutputPart::Discard);
+    }
+    match desk.open_out(None) {
+        Ok(sink) => Ok(OutputPart::Stream(sink)),
+        Err(_) => Err("no sink".into()),
     }
 }
 
-#[test]
-fn an_output_writes_live_cells_alone(rt: HostRuntime) -> Result<(), Fail> {
-    let (bytes, work) = written(rt.alloc(), None, 0)?;
-    did(&rt, work, (4, None));
-    same(&rt, bytes, 3 * 188);
+/// The buffer of an output.
+fn output_room(alloc: Global, to_sink: bool) -> Result<IoBuffer, AllocError> {
+    if to_sink {
+        IoBuffer::new(alloc, 4)
+    } else {
+        IoBuffer::new(alloc, 1)
+    }
+}
+
+/// How many bytes the first output of a desk has.
+fn output_len(desk: &MemoryDesk) -> Option<usize> {
+    desk.output(0).map(|(_, bytes)| bytes.len())
+}
+
+/// Writes four cells, and closes the sink.
+fn runs_output(
+    rt: &impl Abort,
+    desk: &mut MemoryDesk,
+    room: IoBuffer,
+    row: &OutputRow,
+) -> Result<(), Fail> {
+    let part = output_of(desk, row.to_sink)?;
+    let part = writes::<MemorySource, MemorySink, StopsAt>(rt, part, room, row);
+    same(rt, close_output(desk, part), row.to_sink);
+    same(rt, output_len(desk), row.bytes);
     Ok(())
 }
 
-#[test]
-fn an_output_ends_at_the_limit(rt: HostRuntime) -> Result<(), Fail> {
-    let (bytes, work) = written(rt.alloc(), Some(2), 0)?;
-    did(&rt, work, (2, Some(StageEnd::Followed)));
-    same(&rt, bytes, 188);
-    Ok(())
+/// Makes an output and its desk, and works with it.
+fn is_output(rt: &(impl Abort + AllocGlobal), row: &OutputRow) -> Result<(), Fail> {
+    let room = output_room(rt.alloc(), row.to_sink)?;
+    let mut desk = desk(rt.alloc(), 0, 1000, 0, row.write)?;
+    runs_output(rt, &mut *desk, room, row)
 }
 
-// The first write takes 300 bytes: a packet, and part of the one after the dropped cell.
-#[test]
-fn a_write_fails_within_a_packet(rt: HostRuntime) -> Result<(), Fail> {
-    let (bytes, work) = written(rt.alloc(), None, 2)?;
-    did(&rt, work, (2, Some(StageEnd::WriteFault)));
-    same(&rt, bytes, 300);
-    Ok(())
+macro_rules! output_rows {
+    ($($to_sink:literal, $limit:expr, $write:literal, $did:expr, $bytes:expr;)*) => {
+        [$(OutputRow { to_sink: $to_sink, limit: $limit, write: $write, did: $did, bytes: $bytes }),*]
+    };
 }
 
-/// What an output that drops packets does with four cells, and whether it has a sink.
-fn discarded(alloc: Global) -> Result<(bool, Work), Fail> {
-    let room = IoBuffer::new(alloc, 1)?;
-    let mut desk = desk(alloc, 0, 0, 0)?;
-    let part = OutputPart::Discard;
-    let (part, work) = writes::<MemorySource, MemorySink, StopsAt>(part, room, None);
-    Ok((close_output(&mut *desk, part), work))
+/// Live cells alone are written. The output ends at the limit. A write fails within a packet: the first write takes 300
+/// bytes, a packet and part of the one after the dropped cell. An output that drops packets counts cells.
+static OUTPUTS: [OutputRow; 4] = output_rows![
+    true, None, 0, (4, None), Some(564);
+    true, Some(2), 0, (2, Some(StageEnd::Followed)), Some(188);
+    true, None, 2, (2, Some(StageEnd::WriteFault)), Some(300);
+    false, None, 0, (4, None), None;
+];
+
+fn outputs() -> &'static [OutputRow] {
+    &OUTPUTS
 }
 
 #[test]
-fn a_discarding_output_counts_cells(rt: HostRuntime) -> Result<(), Fail> {
-    let (is_stream, work) = discarded(rt.alloc())?;
-    same(&rt, is_stream, false);
-    did(&rt, work, (4, None));
+fn outputs_write_as_their_rows_say(rt: HostRuntime) -> Result<(), Fail> {
+    for row in outputs() {
+        is_output(&rt, row)?;
+    }
     Ok(())
 }
