@@ -2,6 +2,7 @@
 
 ghost use Rattle.std.specs.Prelude.{◌≡◌, ◌<◌, ℕ, Some};
 
+use crate::compared::{holds, same, same_bytes};
 use std::alloc::Global;
 use std::process::Abort;
 use std::test::Fail;
@@ -83,11 +84,18 @@ pub(crate) fn bytes_from(cell: &Cell, from: usize) -> &[u8] {
     }
 }
 
+/// Checks the bytes of a cell's packet from an offset on.
+fn shows(rt: &impl Abort, cell: &Cell, from: usize, wanted: &[u8]) {
+    match bytes_from(cell, from).get(..wanted.len()) {
+        Some(bytes) => same_bytes(rt, bytes, wanted),
+        None => holds(rt, false),
+    }
+}
+
 /// Checks the bytes of each cell's packet from an offset on.
 pub(crate) fn each_shows(rt: &impl Abort, cells: &[Cell], from: usize, wanted: &[u8]) {
     for cell in cells {
-        let bytes = bytes_from(cell, from);
-        assert_eq!(rt; bytes.get(..wanted.len()), Some(wanted));
+        shows(rt, cell, from, wanted);
     }
 }
 
@@ -99,6 +107,6 @@ pub(crate) fn counter_of(cell: &Cell) -> Option<u8> {
 /// Checks that the counters count up from 0.
 pub(crate) fn are_counted(rt: &impl Abort, cells: &[Cell]) {
     for (i, cell) in cells.iter().enumerate() {
-        assert!(rt; counter_of(cell).map(usize::from) == Some(i));
+        same(rt, counter_of(cell).map(usize::from), Some(i));
     }
 }

@@ -12,3 +12,8 @@ pub(crate) fn same<T: Copy + PartialEq + Debug>(rt: &impl Abort, found: T, wante
 pub(crate) fn holds(rt: &impl Abort, what: bool) {
     assert!(rt; what);
 }
+
+/// Aborts unless bytes are the expected ones.
+pub(crate) fn same_bytes(rt: &impl Abort, found: &[u8], wanted: &[u8]) {
+    assert_eq!(rt; found, wanted);
+}

@@ -10,6 +10,7 @@ use plug_edit::{
 };
 use plugin_trait::{Plugin, apply_plugin};
 use std::alloc::Global;
+use std::process::Abort;
 use std::test::Fail;
 use ts_bits::DescriptorList;
 use ts_outside::NameText;
@@ -61,18 +62,6 @@ fn with_system(alloc: Global) -> Result<Vec<Cell>, Fail> {
     edited(alloc, EditCat::new(alloc, &conf, 1)?, packet)
 }
 
-#[test]
-fn a_system_is_added(rt: HostRuntime) -> Result<(), Fail> {
-    let cells = with_system(rt.alloc())?;
-    let wanted = [
-        0x00, 0x01, 0xB0, 0x0F, 0xFF, 0xFF, 0xC9, 0x00, 0x00, 0x09, 0x04, 0x18, 0x00, 0xE1, 0x00,
-        0x72, 0xA9, 0x5C, 0xD9, 0xFF,
-    ];
-    each_shows(&rt, &cells, 4, &wanted);
-    are_counted(&rt, &cells);
-    Ok(())
-}
-
 /// A packet with a PMT of a component on PID 257.
 fn pmt_packet(alloc: Global) -> Result<Packet, Fail> {
     let component = Component {
@@ -100,15 +89,6 @@ fn with_a_pid_moved(alloc: Global) -> Result<Vec<Cell>, Fail> {
     edited(alloc, EditPmt::new(alloc, &conf, 1)?, packet)
 }
 
-#[test]
-fn a_pid_is_moved_without_a_pat(rt: HostRuntime) -> Result<(), Fail> {
-    let cells = with_a_pid_moved(rt.alloc())?;
-    let wanted = [0xE1, 0x2C, 0xF0, 0x00, 0x03, 0xE1, 0x2C, 0xF0, 0x00];
-    each_shows(&rt, &cells, 13, &wanted);
-    are_counted(&rt, &cells);
-    Ok(())
-}
-
 /// Packets on the PID of a PAT that does not come, after the plugin.
 fn without_a_pat(alloc: Global) -> Result<Vec<Cell>, Fail> {
     let conf = EditPatConf {
@@ -120,13 +100,6 @@ fn without_a_pat(alloc: Global) -> Result<Vec<Cell>, Fail> {
         increment_version: false,
     };
     edited(alloc, EditPat::new(alloc, &conf, 1)?, packet(0))
-}
-
-#[test]
-fn no_contents_give_null_packets(rt: HostRuntime) -> Result<(), Fail> {
-    let cells = without_a_pat(rt.alloc())?;
-    each_shows(&rt, &cells, 0, Packet::null().bytes());
-    Ok(())
 }
 
 /// A packet with a NIT without descriptors and transport streams.
@@ -154,14 +127,6 @@ fn with_a_network_name(alloc: Global) -> Result<Vec<Cell>, Fail> {
         increment_version: false,
     };
     edited(alloc, EditNit::new(alloc, &conf, 1)?, packet)
-}
-
-#[test]
-fn a_network_is_named(rt: HostRuntime) -> Result<(), Fail> {
-    let cells = with_a_network_name(rt.alloc())?;
-    let wanted = [0xF0, 0x05, 0x40, 0x03, 0x6E, 0x65, 0x74];
-    each_shows(&rt, &cells, 13, &wanted);
-    Ok(())
 }
 
 /// A packet with an SDT of version 31 without services.
@@ -195,13 +160,63 @@ fn with_a_service(alloc: Global) -> Result<Vec<Cell>, Fail> {
     edited(alloc, EditSdt::new(alloc, &conf, 1)?, packet)
 }
 
-#[test]
-fn a_service_is_put_in(rt: HostRuntime) -> Result<(), Fail> {
-    let cells = with_a_service(rt.alloc())?;
-    let wanted = [
-        0xC1, 0x00, 0x00, 0x00, 0x01, 0xFF, 0x00, 0x01, 0xFC, 0x80, 0x08, 0x48, 0x06, 0x01, 0x00,
-        0x03, 0x6F, 0x6E, 0x65,
-    ];
-    each_shows(&rt, &cells, 10, &wanted);
+/// Which editor: of a CAT, a PMT, a PAT that does not come, a NIT or an SDT.
+#[derive(Clone, Copy)]
+enum Edit {
+    System,
+    MovedPid,
+    NoPat,
+    Network,
+    Service,
+}
+
+/// The cells of that editor.
+fn cells_of(alloc: Global, edit: Edit) -> Result<Vec<Cell>, Fail> {
+    match edit {
+        Edit::System => with_system(alloc),
+        Edit::MovedPid => with_a_pid_moved(alloc),
+        Edit::NoPat => without_a_pat(alloc),
+        Edit::Network => with_a_network_name(alloc),
+        Edit::Service => with_a_service(alloc),
+    }
+}
+
+static SYSTEM: [u8; 20] = [
+    0x00, 0x01, 0xB0, 0x0F, 0xFF, 0xFF, 0xC9, 0x00, 0x00, 0x09, 0x04, 0x18, 0x00, 0xE1, 0x00, 0x72,
+    0xA9, 0x5C, 0xD9, 0xFF,
+];
+
+static MOVED_PID: [u8; 9] = [0xE1, 0x2C, 0xF0, 0x00, 0x03, 0xE1, 0x2C, 0xF0, 0x00];
+
+static NETWORK: [u8; 7] = [0xF0, 0x05, 0x40, 0x03, 0x6E, 0x65, 0x74];
+
+static SERVICE: [u8; 19] = [
+    0xC1, 0x00, 0x00, 0x00, 0x01, 0xFF, 0x00, 0x01, 0xFC, 0x80, 0x08, 0x48, 0x06, 0x01, 0x00, 0x03,
+    0x6F, 0x6E, 0x65,
+];
+
+/// Checks the bytes of both cells of an editor from an offset on, and their counters.
+fn shows(
+    rt: &(impl Abort + AllocGlobal),
+    edit: Edit,
+    from: usize,
+    wanted: &[u8],
+) -> Result<(), Fail> {
+    let cells = cells_of(rt.alloc(), edit)?;
+    each_shows(rt, &cells, from, wanted);
+    if !matches!(edit, Edit::NoPat) {
+        are_counted(rt, &cells);
+    }
     Ok(())
+}
+
+/// A system is added; a PID is moved without a PAT; no contents give null packets; a network is named; a service is put
+/// in.
+#[test]
+fn editors_write_what_they_were_told(rt: HostRuntime) -> Result<(), Fail> {
+    shows(&rt, Edit::System, 4, &SYSTEM)?;
+    shows(&rt, Edit::MovedPid, 13, &MOVED_PID)?;
+    shows(&rt, Edit::NoPat, 0, Packet::null().bytes())?;
+    shows(&rt, Edit::Network, 13, &NETWORK)?;
+    shows(&rt, Edit::Service, 10, &SERVICE)
 }

@@ -2,7 +2,7 @@
 ghost use Rattle.std.specs.Prelude.{◌<◌, ℕ, [], IfOk, length, slice_index};
 
 use crate::cells::{each_shows, live, packet};
-use crate::compared::same;
+use crate::compared::{same, same_bytes};
 use plug_conf::NumberSet;
 use plug_pass::{Filter, FilterConf, Pattern, PatternConf, Skip, SkipConf, Slice, SliceConf};
 use plugin_trait::{ListEnd, Plugin, apply_plugin};
@@ -72,35 +72,17 @@ fn filtered(alloc: Global, negate: bool, stuffing: bool) -> Result<(String, List
 
 /// Checks what a plugin output, and how it ended.
 fn is_shape(rt: &impl Abort, found: &(String, ListEnd), letters: &str, end: ListEnd) {
-    assert_eq!(rt; found.0.as_str(), letters);
+    same_bytes(rt, found.0.as_bytes(), letters.as_bytes());
     same(rt, found.1, end);
 }
 
-/// Checks what the filter outputs for three packets.
-fn passes(
-    rt: &(impl Abort + AllocGlobal),
-    negate: bool,
-    stuffing: bool,
-    wanted: &str,
-) -> Result<(), Fail> {
-    let found = filtered(rt.alloc(), negate, stuffing)?;
-    is_shape(rt, &found, wanted, ListEnd::Through);
-    Ok(())
-}
-
-#[test]
-fn filter_passes_a_pid(rt: HostRuntime) -> Result<(), Fail> {
-    passes(&rt, false, false, "p.p")?;
-    passes(&rt, true, false, ".p.")?;
-    passes(&rt, false, true, "pnp")
-}
-
-#[test]
-fn skip_drops_the_first(rt: HostRuntime) -> Result<(), Fail> {
-    let skip = Skip::new(rt.alloc(), &SkipConf { operand: 1 }, 1)?;
-    let found = shape(rt.alloc(), skip, &THREE)?;
-    is_shape(&rt, &found, ".pp", ListEnd::Through);
-    Ok(())
+/// What `skip` outputs for three packets where it skips one.
+fn skipped(alloc: Global) -> Result<(String, ListEnd), Fail> {
+    Ok(shape(
+        alloc,
+        Skip::new(alloc, &SkipConf { operand: 1 }, 1)?,
+        &THREE,
+    )?)
 }
 
 /// A slice that drops from the second packet on, passes from the fourth, makes null packets from the fifth, and stops
@@ -117,11 +99,80 @@ fn slice(alloc: Global) -> Result<Slice, Fail>
     Ok(Slice::new(alloc, &conf, 1)?)
 }
 
+/// What it outputs for ten packets.
+fn sliced(alloc: Global) -> Result<(String, ListEnd), Fail> {
+    Ok(shape(alloc, slice(alloc)?, &[256; 10])?)
+}
+
+/// Which plugin passes packets on.
+#[derive(Clone, Copy)]
+enum Passing {
+    Filter { negate: bool, stuffing: bool },
+    Skip,
+    Slice,
+}
+
+/// What that plugin outputs.
+fn shape_of(alloc: Global, passing: Passing) -> Result<(String, ListEnd), Fail> {
+    match passing {
+        Passing::Filter { negate, stuffing } => filtered(alloc, negate, stuffing),
+        Passing::Skip => skipped(alloc),
+        Passing::Slice => sliced(alloc),
+    }
+}
+
+/// Plugins, what they output, and how they end their lists.
+static SHAPES: [(Passing, &str, ListEnd); 5] = [
+    (
+        Passing::Filter {
+            negate: false,
+            stuffing: false,
+        },
+        "p.p",
+        ListEnd::Through,
+    ),
+    (
+        Passing::Filter {
+            negate: true,
+            stuffing: false,
+        },
+        ".p.",
+        ListEnd::Through,
+    ),
+    (
+        Passing::Filter {
+            negate: false,
+            stuffing: true,
+        },
+        "pnp",
+        ListEnd::Through,
+    ),
+    (Passing::Skip, ".pp", ListEnd::Through),
+    (Passing::Slice, "p..pnn", ListEnd::Stop),
+];
+
+fn shapes() -> &'static [(Passing, &'static str, ListEnd)] {
+    &SHAPES
+}
+
+/// Checks what a plugin outputs.
+fn passes(
+    rt: &(impl Abort + AllocGlobal),
+    passing: Passing,
+    letters: &str,
+    end: ListEnd,
+) -> Result<(), Fail> {
+    let found = shape_of(rt.alloc(), passing)?;
+    is_shape(rt, &found, letters, end);
+    Ok(())
+}
+
+/// A filter passes a PID, a skip drops the first packets, and a slice goes by where its parts start.
 #[test]
-fn slice_goes_by_starts(rt: HostRuntime) -> Result<(), Fail> {
-    let slice = slice(rt.alloc())?;
-    let found = shape(rt.alloc(), slice, &[256; 10])?;
-    is_shape(&rt, &found, "p..pnn", ListEnd::Stop);
+fn plugins_pass_and_drop(rt: HostRuntime) -> Result<(), Fail> {
+    for (passing, letters, end) in shapes() {
+        passes(&rt, *passing, letters, *end)?;
+    }
     Ok(())
 }
 

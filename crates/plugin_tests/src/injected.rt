@@ -3,9 +3,11 @@
 ghost use Rattle.plug_inject.specs.InjectSettings.{IsLawfulMode};
 
 use crate::cells::one_service;
+use crate::compared::same;
 use plug_inject::{Inject, InjectConf, InjectMode};
 use plugin_trait::{ListEnd, apply_plugin};
 use std::alloc::Global;
+use std::process::Abort;
 use std::test::Fail;
 use ts_outside::NameText;
 use ts_packet::{Cell, Labels, Packet};
@@ -38,34 +40,43 @@ fn injected(alloc: Global, mode: InjectMode, sections: Vec<Section>) -> Result<V
     }
 }
 
-/// The continuity counters of the packets on PID 0, which are the PAT's, each with its place.
-fn counters(alloc: Global, cells: &[Cell]) -> Result<Vec<(usize, u8)>, Fail> {
-    let mut found = Vec::new(alloc);
-    for (at, cell) in cells.iter().enumerate() {
-        if let Some(live) = cell.live()
-            && live.packet.pid() == 0
-        {
-            found.push((at, live.packet.counter()))?;
-        }
+/// The continuity counter of a packet on PID 0, which is the PAT's; `None` for another cell.
+fn counter_of_pat(cell: &Cell) -> Option<u8> {
+    match cell.live() {
+        Some(live) if live.packet.pid() == 0 => Some(live.packet.counter()),
+        _ => None,
     }
-    Ok(found)
+}
+
+/// Checks which of seven cells have the PAT, with which counters.
+fn have(rt: &impl Abort, cells: &[Cell], counters: &[Option<u8>]) {
+    same(rt, cells.len(), counters.len());
+    for (cell, counter) in cells.iter().zip(counters) {
+        same(rt, counter_of_pat(cell), *counter);
+    }
+}
+
+/// Each third null packet becomes the PAT.
+fn each_third(alloc: Global) -> Result<Vec<Cell>, Fail> {
+    injected(alloc, InjectMode::InterPacket(3), pat_sections(alloc)?)
+}
+
+/// No section replaces each null packet.
+fn without_sections(alloc: Global) -> Result<Vec<Cell>, Fail> {
+    injected(alloc, InjectMode::InterPacket(1), Vec::new(alloc))
 }
 
 #[test]
 fn each_third_null_packet_is_replaced(rt: HostRuntime) -> Result<(), Fail> {
-    let alloc = rt.alloc();
-    let mode = InjectMode::InterPacket(3);
-    let cells = injected(alloc, mode, pat_sections(alloc)?)?;
-    let found = counters(alloc, &cells)?;
-    assert!(rt; found.as_slice() == [(0, 0), (3, 1), (6, 2)].as_slice());
+    let cells = each_third(rt.alloc())?;
+    let counters = [Some(0), None, None, Some(1), None, None, Some(2)];
+    have(&rt, &cells, &counters);
     Ok(())
 }
 
 #[test]
 fn no_sections_replace_nothing(rt: HostRuntime) -> Result<(), Fail> {
-    let alloc = rt.alloc();
-    let mode = InjectMode::InterPacket(1);
-    let cells = injected(alloc, mode, Vec::new(alloc))?;
-    assert!(rt; counters(alloc, &cells)?.is_empty());
+    let cells = without_sections(rt.alloc())?;
+    have(&rt, &cells, &[None; 7]);
     Ok(())
 }

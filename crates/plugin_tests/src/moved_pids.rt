@@ -3,7 +3,7 @@
 ghost use Rattle.std.specs.Prelude.{◌<◌, [], IfOk};
 
 use crate::cells::{live, one_component, one_service, packet, packet_of};
-use crate::compared::same;
+use crate::compared::{holds, same};
 use plug_conf::PairList;
 use plug_move::{Remap, RemapConf};
 use plugin_trait::{ListEnd, Plugin, Reason, apply_plugin};
@@ -49,9 +49,9 @@ fn pid_of(cell: &Cell) -> Option<u16> {
 
 /// Checks that the cells have packets on these PIDs.
 fn are_on(rt: &impl Abort, cells: &[Cell], pids: &[u16]) {
-    assert_eq!(rt; cells.len(), pids.len());
+    same(rt, cells.len(), pids.len());
     for (cell, pid) in cells.iter().zip(pids) {
-        assert!(rt; pid_of(cell) == Some(*pid));
+        same(rt, pid_of(cell), Some(*pid));
     }
 }
 
@@ -142,49 +142,77 @@ fn shows(cell: Option<&Cell>, pid: u16, body: &[u8]) -> bool {
     }
 }
 
-#[test]
-fn a_pat_follows(rt: HostRuntime) -> Result<(), Fail> {
-    let alloc = rt.alloc();
-    let cells = moved(alloc, vec![in alloc; pat_cell(alloc)?]?)?;
-    let body = [0x00, 0x00, 0xE2, 0x00, 0x00, 0x01, 0xE1, 0x2C];
-    assert!(rt; shows(cells.first(), 301, &body));
+/// Which cells a plugin moves.
+#[derive(Clone, Copy)]
+enum Table {
+    Pat,
+    Cat,
+    /// A PMT before and after the PAT that names it.
+    Pmt,
+    /// A packet that the plugin puts in.
+    None,
+}
+
+/// A PMT, the PAT and the PMT again, after the plugin.
+fn pmt_moved(alloc: Global) -> Result<Vec<Cell>, Fail> {
+    moved(
+        alloc,
+        vec![in alloc; pmt_cell(alloc)?, pat_cell(alloc)?, pmt_cell(alloc)?]?,
+    )
+}
+
+/// These cells, after the plugin.
+fn moved_of(alloc: Global, table: Table) -> Result<Vec<Cell>, Fail> {
+    match table {
+        Table::Pat => moved(alloc, vec![in alloc; pat_cell(alloc)?]?),
+        Table::Cat => moved(alloc, vec![in alloc; cat_cell(alloc)?]?),
+        Table::Pmt => pmt_moved(alloc),
+        Table::None => moved(alloc, vec![in alloc; cell(0)]?),
+    }
+}
+
+/// Checks the first of these cells.
+fn first_shows(
+    rt: &(impl Abort + AllocGlobal),
+    table: Table,
+    pid: u16,
+    body: &[u8],
+) -> Result<(), Fail> {
+    let cells = moved_of(rt.alloc(), table)?;
+    holds(rt, shows(cells.first(), pid, body));
     Ok(())
 }
 
-#[test]
-fn a_cat_follows(rt: HostRuntime) -> Result<(), Fail> {
-    let alloc = rt.alloc();
-    let cells = moved(alloc, vec![in alloc; cat_cell(alloc)?]?)?;
-    let body = [
-        0x09, 0x06, 0x18, 0x00, 0xE2, 0x00, 0xAA, 0xBB, 0x09, 0x04, 0x18, 0x00, 0x01, 0x00,
-    ];
-    assert!(rt; shows(cells.first(), 1, &body));
+/// Checks the last of these cells.
+fn last_shows(
+    rt: &(impl Abort + AllocGlobal),
+    table: Table,
+    pid: u16,
+    body: &[u8],
+) -> Result<(), Fail> {
+    let cells = moved_of(rt.alloc(), table)?;
+    holds(rt, shows(cells.last(), pid, body));
     Ok(())
 }
 
-#[test]
-fn a_pmt_follows_once_it_is_named(rt: HostRuntime) -> Result<(), Fail> {
-    let alloc = rt.alloc();
-    let cells = vec![in alloc; pmt_cell(alloc)?, pat_cell(alloc)?, pmt_cell(alloc)?]?;
-    let cells = moved(alloc, cells)?;
-    assert!(rt;
-        shows(
-            cells.first(),
-            300,
-            &[0xE1, 0x00, 0xF0, 0x00, 0x02, 0xE1, 0x00]
-        )
-    );
-    let body = [
-        0xE2, 0x00, 0xF0, 0x00, 0x02, 0xE2, 0x00, 0xF0, 0x0E, 0x09, 0x06, 0x18, 0x00, 0xE2, 0x00,
-    ];
-    assert!(rt; shows(cells.last(), 300, &body));
-    Ok(())
-}
+static PAT: [u8; 8] = [0x00, 0x00, 0xE2, 0x00, 0x00, 0x01, 0xE1, 0x2C];
 
+static CAT: [u8; 14] = [
+    0x09, 0x06, 0x18, 0x00, 0xE2, 0x00, 0xAA, 0xBB, 0x09, 0x04, 0x18, 0x00, 0x01, 0x00,
+];
+
+static PMT_AS_IT_WAS: [u8; 7] = [0xE1, 0x00, 0xF0, 0x00, 0x02, 0xE1, 0x00];
+
+static PMT: [u8; 15] = [
+    0xE2, 0x00, 0xF0, 0x00, 0x02, 0xE2, 0x00, 0xF0, 0x0E, 0x09, 0x06, 0x18, 0x00, 0xE2, 0x00,
+];
+
+/// A PAT and a CAT follow, a PMT follows once it is named, and a null packet that is put in stays.
 #[test]
-fn a_null_packet_that_is_put_in_stays(rt: HostRuntime) -> Result<(), Fail> {
-    let alloc = rt.alloc();
-    let cells = moved(alloc, vec![in alloc; cell(0)]?)?;
-    assert!(rt; shows(cells.first(), NULL_PID, &[0xFF]));
-    Ok(())
+fn tables_follow(rt: HostRuntime) -> Result<(), Fail> {
+    first_shows(&rt, Table::Pat, 301, &PAT)?;
+    first_shows(&rt, Table::Cat, 1, &CAT)?;
+    first_shows(&rt, Table::Pmt, 300, &PMT_AS_IT_WAS)?;
+    last_shows(&rt, Table::Pmt, 300, &PMT)?;
+    first_shows(&rt, Table::None, NULL_PID, &[0xFF])
 }

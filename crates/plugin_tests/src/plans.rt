@@ -1,5 +1,5 @@
 //! Tests of the plans of command lines.
-use crate::compared::{holds, same};
+use crate::compared::{holds, same, same_bytes};
 use chain_args::{Form, InputConf, OutputConf, Plan, WordsFault, WordsRule, plan};
 use plug_conf::NumberSet;
 use plug_pass::{FilterConf, PatternConf, SliceConf};
@@ -85,19 +85,7 @@ fn breaks(
     wanted: Option<WordsFault>,
 ) -> Result<(), Fail> {
     let fault = fault_of_line(rt.alloc(), line)?;
-    assert!(rt; fault == wanted, "{line}");
-    Ok(())
-}
-
-#[test]
-fn first_broken_rules(rt: HostRuntime) -> Result<(), Fail> {
-    for (line, word, rule) in first_broken() {
-        let wanted = WordsFault::At {
-            word: *word,
-            rule: *rule,
-        };
-        breaks(&rt, line, Some(wanted))?;
-    }
+    same(rt, (line, fault), (line, wanted));
     Ok(())
 }
 
@@ -145,16 +133,16 @@ static FORMS: [(&str, Option<WordsRule>); 29] = [
     ("-I file -", None),
 ];
 
-#[test]
-fn forms_of_values(rt: HostRuntime) -> Result<(), Fail> {
-    break_rules(&rt, &FORMS)
+fn forms_of_values() -> &'static [(&'static str, Option<WordsRule>)] {
+    &FORMS
 }
 
 /// Checks the plan of the line below, except its plugin.
 fn is_whole(rt: &impl Abort, plan: &Plan) {
-    same(rt, plan.general.add_input_stuffing, (1, 2));
-    same(rt, plan.general.buffer_packets, Some(7));
-    holds(rt, plan.general.ignore_joint_termination);
+    let general = &plan.general;
+    let found = (general.add_input_stuffing, general.buffer_packets);
+    same(rt, found, ((1, 2), Some(7)));
+    holds(rt, general.ignore_joint_termination);
     holds(rt, matches!(plan.input, InputConf::Null(4)));
     holds(rt, matches!(plan.output, OutputConf::Drop));
 }
@@ -174,32 +162,32 @@ fn has_one_filter(rt: &impl Abort, plan: &Plan) -> Result<(), Fail> {
     Ok(())
 }
 
+/// Checks ranges of numbers.
+fn same_ranges(rt: &impl Abort, found: &[(u64, u64)], wanted: &[(u64, u64)]) {
+    holds(rt, found == wanted);
+}
+
 /// Checks the settings of that filter, and its labels.
 fn is_filter(rt: &impl Abort, filter: &FilterConf, only: &NumberSet) {
-    holds(rt, only.as_slice() == [(0, 3)].as_slice());
-    holds(
-        rt,
-        filter.pid.as_slice() == [(8191, 8191), (5, 7)].as_slice(),
-    );
+    same_ranges(rt, only.as_slice(), &[(0, 3)]);
+    same_ranges(rt, filter.pid.as_slice(), &[(8191, 8191), (5, 7)]);
     let flags = [filter.negate, filter.pcr, filter.stuffing];
     same(rt, flags, [true, false, false]);
 }
 
-#[test]
-fn a_whole_plan(rt: HostRuntime) -> Result<(), Fail> {
-    let line =
-        "--add-input-stuffing 1/2 --buffer-packets=7 --ignore-joint-termination -I null 4 -P filter --pid 0x1FFF,5-7 --negate --only-label 0-3 -O drop";
-    let plan = plan_of_line(rt.alloc(), line)?;
-    is_whole(&rt, &*plan);
-    has_one_filter(&rt, &*plan)
-}
+static WHOLE: &str =
+    "--add-input-stuffing 1/2 --buffer-packets=7 --ignore-joint-termination -I null 4 -P filter --pid 0x1FFF,5-7 --negate --only-label 0-3 -O drop";
 
 /// Checks the plan of no words.
 fn is_plain(rt: &impl Abort, plan: &Plan) {
-    same(rt, plan.general.buffer_packets, None);
-    same(rt, plan.general.max_flushed_packets, None);
-    same(rt, plan.general.max_input_packets, None);
-    same(rt, plan.general.add_input_stuffing, (0, 1));
+    let general = &plan.general;
+    let found = (
+        general.buffer_packets,
+        general.max_flushed_packets,
+        general.max_input_packets,
+        general.add_input_stuffing,
+    );
+    same(rt, found, (None, None, None, (0, 1)));
     holds(rt, is_standard_input(&plan.input));
     holds(rt, is_standard_output(&plan.output));
     holds(rt, plan.plugins.as_slice().is_empty());
@@ -215,13 +203,6 @@ fn is_standard_output(output: &OutputConf) -> bool {
     matches!(output, OutputConf::File(name) if name.as_str().is_empty())
 }
 
-#[test]
-fn what_holds_without_words(rt: HostRuntime) -> Result<(), Fail> {
-    let plan = plan_of_line(rt.alloc(), "")?;
-    is_plain(&rt, &*plan);
-    Ok(())
-}
-
 /// The words of `count` plugins.
 fn many_plugins(alloc: Global, count: usize) -> Result<Vec<String>, Fail> {
     let mut words = Vec::new(alloc);
@@ -235,17 +216,6 @@ fn many_plugins(alloc: Global, count: usize) -> Result<Vec<String>, Fail> {
 fn fault_of_plugins(alloc: Global, count: usize) -> Result<Option<WordsFault>, Fail> {
     let words = many_plugins(alloc, count)?;
     Ok(fault_of(alloc, &words))
-}
-
-#[test]
-fn the_63rd_plugin(rt: HostRuntime) -> Result<(), Fail> {
-    let fault = WordsFault::At {
-        word: 186,
-        rule: WordsRule::TooMany,
-    };
-    same(&rt, fault_of_plugins(rt.alloc(), 63)?, Some(fault));
-    same(&rt, fault_of_plugins(rt.alloc(), 62)?, None);
-    Ok(())
 }
 
 static OF_PLUGINS: [(&str, Option<WordsRule>); 35] = [
@@ -292,9 +262,8 @@ static OF_PLUGINS: [(&str, Option<WordsRule>); 35] = [
     ("-P remap 1=2 --no-psi 3=8191", None),
 ];
 
-#[test]
-fn words_of_plugins(rt: HostRuntime) -> Result<(), Fail> {
-    break_rules(&rt, &OF_PLUGINS)
+fn words_of_plugins() -> &'static [(&'static str, Option<WordsRule>)] {
+    &OF_PLUGINS
 }
 
 static OF_LABELS: [(&str, Option<WordsRule>); 8] = [
@@ -314,22 +283,35 @@ static OF_LABELS: [(&str, Option<WordsRule>); 8] = [
     ("-P count --only-label", Some(WordsRule::Shape)),
 ];
 
+fn words_of_labels() -> &'static [(&'static str, Option<WordsRule>)] {
+    &OF_LABELS
+}
+
 #[test]
-fn words_of_labels(rt: HostRuntime) -> Result<(), Fail> {
-    break_rules(&rt, &OF_LABELS)
+fn lines_break_their_rules(rt: HostRuntime) -> Result<(), Fail> {
+    for (line, word, rule) in first_broken() {
+        let wanted = WordsFault::At {
+            word: *word,
+            rule: *rule,
+        };
+        breaks(&rt, line, Some(wanted))?;
+    }
+    break_rules(&rt, forms_of_values())?;
+    break_rules(&rt, words_of_plugins())?;
+    break_rules(&rt, words_of_labels())
 }
 
 /// Checks the settings of a pattern.
 fn is_pattern(rt: &impl Abort, pattern: &PatternConf) {
-    holds(rt, pattern.operand.as_slice() == [0xAB, 0xCD].as_slice());
+    same_bytes(rt, pattern.operand.as_slice(), &[0xAB, 0xCD]);
     let offsets = (pattern.offset_pusi, pattern.offset_non_pusi);
     same(rt, offsets, (None, Some(182)));
 }
 
 /// Checks the settings of a slice.
 fn is_slice(rt: &impl Abort, slice: &SliceConf) {
-    same(rt, (slice.drop, slice.null), (Some(1), None));
-    same(rt, slice.stop, Some(4));
+    let found = (slice.drop, slice.null, slice.stop);
+    same(rt, found, (Some(1), None, Some(4)));
 }
 
 /// Checks the plan of the line below.
@@ -348,16 +330,57 @@ fn has_settings(rt: &impl Abort, plan: &Plan) -> Result<(), Fail> {
     };
     is_pattern(rt, pattern);
     is_slice(rt, slice);
-    holds(rt, remap.operand.as_slice() == [(1, 2), (3, 4)].as_slice());
+    same_ranges(rt, remap.operand.as_slice(), &[(1, 2), (3, 4)]);
     Ok(())
 }
 
+static SETTINGS: &str =
+    "-P pattern abCD --offset-non-pusi 182 -P slice --drop 1 --stop 4 -P remap 1=2 --no-psi 3=4";
+
+/// A line that has a plan.
+#[derive(Clone, Copy)]
+enum Planned {
+    Whole,
+    Plain,
+    Settings,
+}
+
+/// The words of that line.
+fn line_of(planned: Planned) -> &'static str {
+    match planned {
+        Planned::Whole => WHOLE,
+        Planned::Plain => "",
+        Planned::Settings => SETTINGS,
+    }
+}
+
+/// Checks the plan of that line.
+fn is_planned(rt: &impl Abort, planned: Planned, plan: &Plan) -> Result<(), Fail> {
+    match planned {
+        Planned::Whole => {
+            is_whole(rt, plan);
+            has_one_filter(rt, plan)
+        }
+        Planned::Plain => {
+            is_plain(rt, plan);
+            Ok(())
+        }
+        Planned::Settings => has_settings(rt, plan),
+    }
+}
+
+/// Makes that plan, and checks it.
+fn has_plan(rt: &(impl Abort + AllocGlobal), planned: Planned) -> Result<(), Fail> {
+    let plan = plan_of_line(rt.alloc(), line_of(planned))?;
+    is_planned(rt, planned, &*plan)
+}
+
+/// A whole plan, what holds without words, and the settings of plugins.
 #[test]
-fn settings_of_plugins(rt: HostRuntime) -> Result<(), Fail> {
-    let line =
-        "-P pattern abCD --offset-non-pusi 182 -P slice --drop 1 --stop 4 -P remap 1=2 --no-psi 3=4";
-    let plan = plan_of_line(rt.alloc(), line)?;
-    has_settings(&rt, &*plan)
+fn lines_have_their_plans(rt: HostRuntime) -> Result<(), Fail> {
+    has_plan(&rt, Planned::Whole)?;
+    has_plan(&rt, Planned::Plain)?;
+    has_plan(&rt, Planned::Settings)
 }
 
 /// The words of a `remap` with `count` pairs of one target.
@@ -375,13 +398,20 @@ fn fault_of_pairs(alloc: Global, count: u32) -> Result<Option<WordsFault>, Fail>
     Ok(fault_of(alloc, &words))
 }
 
+/// There is no 63rd plugin, and there are at most 1000 pairs.
 #[test]
-fn many_pairs(rt: HostRuntime) -> Result<(), Fail> {
-    let fault = WordsFault::At {
+fn there_are_not_too_many(rt: HostRuntime) -> Result<(), Fail> {
+    let plugins = WordsFault::At {
+        word: 186,
+        rule: WordsRule::TooMany,
+    };
+    same(&rt, fault_of_plugins(rt.alloc(), 63)?, Some(plugins));
+    same(&rt, fault_of_plugins(rt.alloc(), 62)?, None);
+    let pairs = WordsFault::At {
         word: 0,
         rule: WordsRule::Conflict,
     };
-    same(&rt, fault_of_pairs(rt.alloc(), 1001)?, Some(fault));
+    same(&rt, fault_of_pairs(rt.alloc(), 1001)?, Some(pairs));
     same(&rt, fault_of_pairs(rt.alloc(), 1000)?, None);
     Ok(())
 }

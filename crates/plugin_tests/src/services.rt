@@ -4,6 +4,7 @@
 ghost use Rattle.std.specs.Prelude.{[]};
 
 use crate::cells::{bytes_from, live};
+use crate::compared::{holds, same};
 use plug_service::{ServiceConf, Svremove, Zap};
 use plugin_trait::{Plugin, apply_plugin};
 use std::alloc::Global;
@@ -47,13 +48,21 @@ fn count_of(cells: &[Cell], pid: u16) -> usize {
 /// Checks that each of these PIDs has `count` packets.
 fn has_each(rt: &impl Abort, cells: &[Cell], pids: &[u16], count: usize) {
     for pid in pids {
-        assert_eq!(rt; count_of(cells, *pid), count);
+        same(rt, (*pid, count_of(cells, *pid)), (*pid, count));
+    }
+}
+
+/// The bytes of the first packet after its header and its pointer_field.
+fn first_bytes(cells: &[Cell]) -> &[u8] {
+    match cells.first() {
+        Some(cell) => bytes_from(cell, 5),
+        None => &[],
     }
 }
 
 /// Checks the bytes of the first packet after its header and its pointer_field.
 fn begins(rt: &impl Abort, cells: &[Cell], wanted: &[u8]) {
-    assert!(rt; matches!(cells.first(), Some(cell) if bytes_from(cell, 5).starts_with(wanted)));
+    holds(rt, first_bytes(cells).starts_with(wanted));
 }
 
 /// What is left where service 1 is kept.
@@ -65,19 +74,18 @@ fn kept(alloc: Global) -> Result<Vec<Cell>, Fail> {
     made_of_stream(alloc, Zap::new(alloc, &conf, 1)?)
 }
 
-#[test]
-fn a_service_is_kept(rt: HostRuntime) -> Result<(), Fail> {
-    let cells = kept(rt.alloc())?;
-    assert_eq!(rt; cells.len(), 100);
-    has_each(&rt, &cells, &[258, 259, 4097, 8191], 0);
-    has_each(&rt, &cells, &[0, 17, 4096], 2);
-    assert!(rt; count_of(&cells, 256) > 2);
-    assert!(rt; count_of(&cells, 257) > 2);
-    let wanted = [
-        0x00, 0xB0, 0x0D, 0x00, 0x01, 0xC1, 0x00, 0x00, 0x00, 0x01, 0xF0, 0x00,
-    ];
-    begins(&rt, &cells, &wanted);
-    Ok(())
+static KEPT_PAT: [u8; 12] = [
+    0x00, 0xB0, 0x0D, 0x00, 0x01, 0xC1, 0x00, 0x00, 0x00, 0x01, 0xF0, 0x00,
+];
+
+/// Checks what is left then.
+fn is_kept(rt: &impl Abort, cells: &[Cell]) {
+    same(rt, cells.len(), 100);
+    has_each(rt, cells, &[258, 259, 4097, 8191], 0);
+    has_each(rt, cells, &[0, 17, 4096], 2);
+    holds(rt, count_of(cells, 256) > 2);
+    holds(rt, count_of(cells, 257) > 2);
+    begins(rt, cells, &KEPT_PAT);
 }
 
 /// What is left where service 1 is taken out.
@@ -89,17 +97,30 @@ fn without_it(alloc: Global) -> Result<Vec<Cell>, Fail> {
     made_of_stream(alloc, Svremove::new(alloc, &conf, 1)?)
 }
 
+static REMOVED_PAT: [u8; 12] = [
+    0x00, 0xB0, 0x0D, 0x00, 0x01, 0xC1, 0x00, 0x00, 0x00, 0x02, 0xF0, 0x01,
+];
+
+/// Checks what is left then.
+fn is_removed(rt: &impl Abort, cells: &[Cell]) {
+    same(rt, cells.len(), 100);
+    has_each(rt, cells, &[257, 4096], 0);
+    has_each(rt, cells, &[0, 17, 4097], 2);
+    holds(rt, count_of(cells, 256) > 2);
+    holds(rt, count_of(cells, 8191) > 12);
+    begins(rt, cells, &REMOVED_PAT);
+}
+
+#[test]
+fn a_service_is_kept(rt: HostRuntime) -> Result<(), Fail> {
+    let cells = kept(rt.alloc())?;
+    is_kept(&rt, &cells);
+    Ok(())
+}
+
 #[test]
 fn a_service_is_removed(rt: HostRuntime) -> Result<(), Fail> {
     let cells = without_it(rt.alloc())?;
-    assert_eq!(rt; cells.len(), 100);
-    has_each(&rt, &cells, &[257, 4096], 0);
-    has_each(&rt, &cells, &[0, 17, 4097], 2);
-    assert!(rt; count_of(&cells, 256) > 2);
-    assert!(rt; count_of(&cells, 8191) > 12);
-    let wanted = [
-        0x00, 0xB0, 0x0D, 0x00, 0x01, 0xC1, 0x00, 0x00, 0x00, 0x02, 0xF0, 0x01,
-    ];
-    begins(&rt, &cells, &wanted);
+    is_removed(&rt, &cells);
     Ok(())
 }

@@ -73,8 +73,8 @@ fn replaces(
     same(rt, early.pid(), NULL_PID);
     let first = stepped(editor, counted(pat))?;
     let seen = (first.pid(), first.counter(), first.unit_start());
-    same(rt, seen, (0, 0, true));
-    same(rt, first.payload().get(8).copied(), Some(0x00));
+    let byte = first.payload().get(8).copied();
+    same(rt, (seen, byte), ((0, 0, true), Some(0x00)));
     let second = stepped(editor, first)?;
     same(rt, second.counter(), 1);
     Ok(())

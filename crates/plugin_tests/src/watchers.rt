@@ -2,7 +2,7 @@
 ghost use Rattle.std.specs.Prelude.{◌<◌, ◌≤◌, ◌^◌, [], IfOk, vec_len};
 
 use crate::cells::counter_of;
-use crate::compared::same;
+use crate::compared::{same, same_bytes};
 use plug_conf::NumberSet;
 use plug_watch::{Continuity, ContinuityConf, Count, CountConf};
 use plugin_trait::{Line, ListEnd, Plugin, apply_plugin, report};
@@ -39,9 +39,9 @@ fn run<P: Plugin + Drop>(
 
 /// Checks the texts of lines.
 fn are_lines(rt: &impl Abort, lines: &[Line], wanted: &[&str]) {
-    assert_eq!(rt; lines.len(), wanted.len());
+    same(rt, lines.len(), wanted.len());
     for (line, text) in lines.iter().zip(wanted) {
-        assert_eq!(rt; line.text.as_str(), *text);
+        same_bytes(rt, line.text.as_str().as_bytes(), text.as_bytes());
     }
 }
 
@@ -114,23 +114,16 @@ fn ends_so(
     text: &str,
 ) -> Result<(), Fail> {
     let (end, cells, lines) = counted_in(rt.alloc(), buffer)?;
-    same(rt, end, wanted_end);
-    same(rt, cells, wanted_cells);
+    same(rt, (end, cells), (wanted_end, wanted_cells));
     are_lines(rt, &lines, &[text]);
     Ok(())
 }
 
 #[test]
 fn count_ends_where_its_buffer_is_full(rt: HostRuntime) -> Result<(), Fail> {
-    let rows = [
-        (0, ListEnd::NoMemory, 0, "total 0"),
-        (2, ListEnd::NoMemory, 2, "total 2"),
-        (3, ListEnd::Through, 3, "total 3"),
-    ];
-    for (buffer, end, cells, text) in rows {
-        ends_so(&rt, buffer, end, cells, text)?;
-    }
-    Ok(())
+    ends_so(&rt, 0, ListEnd::NoMemory, 0, "total 0")?;
+    ends_so(&rt, 2, ListEnd::NoMemory, 2, "total 2")?;
+    ends_so(&rt, 3, ListEnd::Through, 3, "total 3")
 }
 
 /// The report on four packets of which the third jumps and the last stays, and the packets after the plugin.

@@ -4,6 +4,7 @@ ghost use Rattle.std.specs.Prelude.{[], ◌<◌, ◌≤◌, ℕ, length, slice_i
 ghost use Rattle.chain_model.specs.declared.positions.TheConstants.{POSITION_LIMIT};
 
 use crate::cells::{live, one_component, one_service, packet, packet_of};
+use crate::compared::{holds, same};
 use plug_psi::Referred;
 use plug_window::{Compact, Rmorphan, WindowConf};
 use plugin_trait::{Plugin, apply_plugin};
@@ -26,11 +27,16 @@ fn cells_on(alloc: Global, pids: &[u16]) -> Result<Vec<Cell>, AllocError>
     Ok(cells)
 }
 
+/// The PID of a cell's packet; `None` for a dropped cell.
+fn pid_of(cell: &Cell) -> Option<u16> {
+    cell.live().map(|live| live.packet.pid())
+}
+
 /// Checks that the cells have packets on these PIDs, or none.
 fn are_on(rt: &impl Abort, cells: &[Cell], pids: &[Option<u16>]) {
-    assert_eq!(rt; cells.len(), pids.len());
+    same(rt, cells.len(), pids.len());
     for (cell, pid) in cells.iter().zip(pids) {
-        assert!(rt; cell.live().map(|live| live.packet.pid()) == *pid);
+        same(rt, pid_of(cell), *pid);
     }
 }
 
@@ -38,10 +44,11 @@ fn are_on(rt: &impl Abort, cells: &[Cell], pids: &[Option<u16>]) {
 fn has_label(rt: &impl Abort, cells: &[Cell], at: usize, label: u32)
     requires { label < 32 }
 {
-    match cells.get(at).and_then(Cell::live) {
-        Some(live) => assert!(rt; live.labels.has(label)),
-        None => assert!(rt; false),
-    }
+    let has = match cells.get(at).and_then(Cell::live) {
+        Some(live) => live.labels.has(label),
+        None => false,
+    };
+    holds(rt, has);
 }
 
 /// What a plugin outputs for these cells.
@@ -64,15 +71,29 @@ fn compacted(alloc: Global) -> Result<Vec<Cell>, Fail> {
     Ok(given(compact, cells))
 }
 
+static COMPACTED: [Option<u16>; 9] = [
+    None,
+    None,
+    None,
+    Some(256),
+    Some(257),
+    Some(NULL_PID),
+    Some(256),
+    Some(NULL_PID),
+    Some(NULL_PID),
+];
+
+/// Checks what it outputs, and two of the labels.
+fn is_compacted(rt: &impl Abort, cells: &[Cell]) {
+    are_on(rt, cells, &COMPACTED);
+    has_label(rt, cells, 4, 2);
+    has_label(rt, cells, 6, 5);
+}
+
 #[test]
 fn null_packets_come_last_in_each_block(rt: HostRuntime) -> Result<(), Fail> {
     let cells = compacted(rt.alloc())?;
-    let null = Some(NULL_PID);
-    let first = [None, None, None, Some(256), Some(257), null];
-    are_on(&rt, cells.get(..6).unwrap_or(&[]), &first);
-    are_on(&rt, cells.get(6..).unwrap_or(&[]), &[Some(256), null, null]);
-    has_label(&rt, &cells, 4, 2);
-    has_label(&rt, &cells, 6, 5);
+    is_compacted(&rt, &cells);
     Ok(())
 }
 
@@ -118,26 +139,33 @@ fn kept(alloc: Global, window: u64, stuffing: bool) -> Result<Vec<Cell>, Fail>
     Ok(given(rmorphan, cells))
 }
 
-#[test]
-fn a_table_in_the_window_counts(rt: HostRuntime) -> Result<(), Fail> {
-    let cells = kept(rt.alloc(), 3, false)?;
-    let first = [None, None, None, Some(300), Some(0)];
-    are_on(&rt, cells.get(..5).unwrap_or(&[]), &first);
-    are_on(
-        &rt,
-        cells.get(5..).unwrap_or(&[]),
-        &[Some(4096), Some(300), None],
-    );
-    Ok(())
-}
+static IN_THE_WINDOW: [Option<u16>; 8] = [
+    None,
+    None,
+    None,
+    Some(300),
+    Some(0),
+    Some(4096),
+    Some(300),
+    None,
+];
 
+static TOO_LATE: [Option<u16>; 8] = [
+    Some(NULL_PID),
+    Some(NULL_PID),
+    Some(0),
+    Some(4096),
+    Some(300),
+    Some(NULL_PID),
+    Some(NULL_PID),
+    Some(NULL_PID),
+];
+
+/// A table in the window counts, and one behind the window comes too late.
 #[test]
-fn a_table_behind_the_window_comes_too_late(rt: HostRuntime) -> Result<(), Fail> {
-    let cells = kept(rt.alloc(), 1, true)?;
-    let null = Some(NULL_PID);
-    are_on(&rt, cells.get(..3).unwrap_or(&[]), &[null, null, Some(0)]);
-    let others = [Some(4096), Some(300), null, null, null];
-    are_on(&rt, cells.get(3..).unwrap_or(&[]), &others);
+fn a_window_keeps_what_its_tables_name(rt: HostRuntime) -> Result<(), Fail> {
+    are_on(&rt, &kept(rt.alloc(), 3, false)?, &IN_THE_WINDOW);
+    are_on(&rt, &kept(rt.alloc(), 1, true)?, &TOO_LATE);
     Ok(())
 }
 
@@ -154,7 +182,7 @@ fn are_told(rt: &impl Abort, referred: &Referred, pids: &[u16], wanted: bool)
     requires { (k : ℕ) → slice_index pids.now k < 8192 }
 {
     for pid in pids {
-        assert!(rt; referred.has(*pid) == wanted);
+        same(rt, (*pid, referred.has(*pid)), (*pid, wanted));
     }
 }
 
