@@ -1,9 +1,11 @@
 //! Packets and cells that several tests share.
 
-ghost use Rattle.std.specs.Prelude.{◌≡◌, ◌<◌, ℕ, Some};
+ghost use Rattle.std.specs.Prelude.{◌≡◌, ◌<◌, ◌≤◌, [], ℕ, Some, IfOk, vec_len};
+ghost use Rattle.chain_model.specs.declared.positions.TheConstants.{POSITION_LIMIT};
 
 use crate::compared::{holds, same, same_bytes};
-use std::alloc::Global;
+use plugin_trait::{ListEnd, Plugin, apply_plugin};
+use std::alloc::{AllocError, Global};
 use std::process::Abort;
 use std::test::Fail;
 use ts_bits::DescriptorList;
@@ -74,6 +76,27 @@ pub(crate) fn one_component(alloc: Global, version: u8, component: Component) ->
 /// A cell with a packet, and without labels.
 pub(crate) fn live(packet: Packet) -> Cell {
     Cell::of(packet, Labels::none())
+}
+
+/// What a new plugin outputs for cells, and how it ends their list.
+pub(crate) fn given<P: Plugin + Drop>(
+    plugin: Result<P, AllocError>,
+    mut cells: Vec<Cell>,
+) -> Result<(ListEnd, Vec<Cell>), AllocError>
+    requires fresh { IfOk plugin (λ p. P.stands_for p [] 0) }
+    requires short { vec_len cells ≤ POSITION_LIMIT }
+{
+    let mut plugin = plugin?;
+    let end = apply_plugin(&mut plugin, &mut cells);
+    Ok((end, cells))
+}
+
+/// A value in a box of its own.
+pub(crate) fn boxed<T: Drop>(
+    alloc: Global,
+    value: Result<T, AllocError>,
+) -> Result<Box<T>, AllocError> {
+    Ok(Box::new(alloc, value?)?)
 }
 
 /// The bytes of a cell's packet from an offset on; an empty slice for a dropped cell.

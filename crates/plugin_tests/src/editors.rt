@@ -1,15 +1,15 @@
 //! Tests of the editors of tables: worked rows of packets before and after.
 
-ghost use Rattle.std.specs.Prelude.{◌≡◌, []};
+ghost use Rattle.std.specs.Prelude.{◌≡◌, [], IfOk};
 
-use crate::cells::{are_counted, each_shows, live, one_component, packet, packet_of};
+use crate::cells::{are_counted, each_shows, given, live, one_component, packet, packet_of};
 use plug_conf::{NumberSet, PairList};
 use plug_edit::{
     EditCat, EditCatConf, EditNit, EditNitConf, EditPat, EditPatConf, EditPmt, EditPmtConf,
     EditSdt, EditSdtConf,
 };
-use plugin_trait::{Plugin, apply_plugin};
-use std::alloc::Global;
+use plugin_trait::Plugin;
+use std::alloc::{AllocError, Global};
 use std::process::Abort;
 use std::test::Fail;
 use ts_bits::DescriptorList;
@@ -19,16 +19,19 @@ use ts_psi::{Cat, Component};
 use ts_si::{Nit, NitStreamList, Sdt, SdtServiceList};
 
 /// The cells after a plugin processed a packet twice, with counters 5 and 6.
-fn edited<P: Plugin + Drop>(alloc: Global, mut plugin: P, packet: Packet) -> Result<Vec<Cell>, Fail>
-    requires { P.stands_for plugin [] 0 }
+fn edited<P: Plugin + Drop>(
+    alloc: Global,
+    plugin: Result<P, AllocError>,
+    packet: Packet,
+) -> Result<Vec<Cell>, Fail>
+    requires { IfOk plugin (λ p. P.stands_for p [] 0) }
 {
     let mut first = packet;
     first.set_counter(5);
     let mut second = packet;
     second.set_counter(6);
-    let mut cells = vec![in alloc; live(first), live(second)]?;
-    let _end = apply_plugin(&mut plugin, &mut cells);
-    Ok(cells)
+    let cells = vec![in alloc; live(first), live(second)]?;
+    Ok(given(plugin, cells)?.1)
 }
 
 /// An empty set of numbers.
@@ -59,7 +62,7 @@ fn with_system(alloc: Global) -> Result<Vec<Cell>, Fail> {
         new_version: None,
         increment_version: true,
     };
-    edited(alloc, EditCat::new(alloc, &conf, 1)?, packet)
+    edited(alloc, EditCat::new(alloc, &conf, 1), packet)
 }
 
 /// A packet with a PMT of a component on PID 257.
@@ -86,7 +89,7 @@ fn with_a_pid_moved(alloc: Global) -> Result<Vec<Cell>, Fail> {
         new_version: None,
         increment_version: false,
     };
-    edited(alloc, EditPmt::new(alloc, &conf, 1)?, packet)
+    edited(alloc, EditPmt::new(alloc, &conf, 1), packet)
 }
 
 /// Packets on the PID of a PAT that does not come, after the plugin.
@@ -99,7 +102,7 @@ fn without_a_pat(alloc: Global) -> Result<Vec<Cell>, Fail> {
         new_version: None,
         increment_version: false,
     };
-    edited(alloc, EditPat::new(alloc, &conf, 1)?, packet(0))
+    edited(alloc, EditPat::new(alloc, &conf, 1), packet(0))
 }
 
 /// A packet with a NIT without descriptors and transport streams.
@@ -126,7 +129,7 @@ fn with_a_network_name(alloc: Global) -> Result<Vec<Cell>, Fail> {
         new_version: None,
         increment_version: false,
     };
-    edited(alloc, EditNit::new(alloc, &conf, 1)?, packet)
+    edited(alloc, EditNit::new(alloc, &conf, 1), packet)
 }
 
 /// A packet with an SDT of version 31 without services.
@@ -157,7 +160,7 @@ fn with_a_service(alloc: Global) -> Result<Vec<Cell>, Fail> {
         new_version: None,
         increment_version: true,
     };
-    edited(alloc, EditSdt::new(alloc, &conf, 1)?, packet)
+    edited(alloc, EditSdt::new(alloc, &conf, 1), packet)
 }
 
 /// Which editor: of a CAT, a PMT, a PAT that does not come, a NIT or an SDT.

@@ -1,11 +1,11 @@
 //! Tests of `filter`, `slice` and `pattern`.
 ghost use Rattle.std.specs.Prelude.{◌<◌, ℕ, [], IfOk, length, slice_index};
 
-use crate::cells::{each_shows, live, packet};
+use crate::cells::{each_shows, given, live, packet};
 use crate::compared::{same, same_bytes};
 use plug_conf::NumberSet;
 use plug_pass::{Filter, FilterConf, Pattern, PatternConf, Skip, SkipConf, Slice, SliceConf};
-use plugin_trait::{ListEnd, Plugin, apply_plugin};
+use plugin_trait::{ListEnd, Plugin};
 use std::alloc::{AllocError, Global};
 use std::process::Abort;
 use std::test::Fail;
@@ -40,15 +40,14 @@ fn letters(alloc: Global, cells: &[Cell]) -> Result<String, AllocError> {
 /// What a plugin outputs for packets on these PIDs, as letters.
 fn shape<P: Plugin + Drop>(
     alloc: Global,
-    mut plugin: P,
+    plugin: Result<P, AllocError>,
     pids: &[u16],
 ) -> Result<(String, ListEnd), AllocError>
-    requires fresh { P.stands_for plugin [] 0 }
+    requires fresh { IfOk plugin (λ p. P.stands_for p [] 0) }
     requires pids { (k : ℕ) → slice_index pids.now k < 8192 }
     requires short { length pids.now < 1000 }
 {
-    let mut cells = cells_on(alloc, pids)?;
-    let end = apply_plugin(&mut plugin, &mut cells);
+    let (end, cells) = given(plugin, cells_on(alloc, pids)?)?;
     Ok((letters(alloc, &cells)?, end))
 }
 
@@ -67,7 +66,7 @@ fn filtered(alloc: Global, negate: bool, stuffing: bool) -> Result<(String, List
         stuffing,
         set_label: NumberSet::of(Vec::new(alloc)),
     };
-    Ok(shape(alloc, Filter::new(alloc, &conf, 1)?, &THREE)?)
+    Ok(shape(alloc, Filter::new(alloc, &conf, 1), &THREE)?)
 }
 
 /// Checks what a plugin output, and how it ended.
@@ -78,16 +77,12 @@ fn is_shape(rt: &impl Abort, found: &(String, ListEnd), letters: &str, end: List
 
 /// What `skip` outputs for three packets where it skips one.
 fn skipped(alloc: Global) -> Result<(String, ListEnd), Fail> {
-    Ok(shape(
-        alloc,
-        Skip::new(alloc, &SkipConf { operand: 1 }, 1)?,
-        &THREE,
-    )?)
+    Ok(shape(alloc, Skip::new(alloc, &SkipConf { operand: 1 }, 1), &THREE)?)
 }
 
 /// A slice that drops from the second packet on, passes from the fourth, makes null packets from the fifth, and stops
 /// at the seventh.
-fn slice(alloc: Global) -> Result<Slice, Fail>
+fn slice(alloc: Global) -> Result<Slice, AllocError>
     ensures { IfOk result (λ plugin. ⟦<Slice as Plugin>⟧.stands_for plugin [] 0) }
 {
     let conf = SliceConf {
@@ -96,12 +91,12 @@ fn slice(alloc: Global) -> Result<Slice, Fail>
         pass: Some(3),
         stop: Some(6),
     };
-    Ok(Slice::new(alloc, &conf, 1)?)
+    Slice::new(alloc, &conf, 1)
 }
 
 /// What it outputs for ten packets.
 fn sliced(alloc: Global) -> Result<(String, ListEnd), Fail> {
-    Ok(shape(alloc, slice(alloc)?, &[256; 10])?)
+    Ok(shape(alloc, slice(alloc), &[256; 10])?)
 }
 
 /// Which plugin passes packets on.
@@ -177,7 +172,7 @@ fn plugins_pass_and_drop(rt: HostRuntime) -> Result<(), Fail> {
 }
 
 /// A pattern that is written from three bytes before the end of the packet on.
-fn pattern(alloc: Global) -> Result<Pattern, Fail>
+fn pattern(alloc: Global) -> Result<Pattern, AllocError>
     ensures { IfOk result (λ plugin. ⟦<Pattern as Plugin>⟧.stands_for plugin [] 0) }
 {
     let bytes = vec![in alloc; 0xAB, 0xCD]?;
@@ -188,15 +183,13 @@ fn pattern(alloc: Global) -> Result<Pattern, Fail>
         offset_pusi: None,
         offset_non_pusi: Some(181),
     };
-    Ok(Pattern::new(alloc, &conf, 1)?)
+    Pattern::new(alloc, &conf, 1)
 }
 
 /// A packet on PID 256 after a pattern was written up to its end.
-fn patterned(alloc: Global) -> Result<(ListEnd, Vec<Cell>), Fail> {
-    let mut cells = vec![in alloc; live(packet(256))]?;
-    let mut pattern = pattern(alloc)?;
-    let end = apply_plugin(&mut pattern, &mut cells);
-    Ok((end, cells))
+fn patterned(alloc: Global) -> Result<(ListEnd, Vec<Cell>), AllocError> {
+    let cells = vec![in alloc; live(packet(256))]?;
+    given(pattern(alloc), cells)
 }
 
 #[test]

@@ -2,10 +2,10 @@
 
 ghost use Rattle.plug_inject.specs.InjectSettings.{IsLawfulMode};
 
-use crate::cells::one_service;
+use crate::cells::{given, one_service};
 use crate::compared::same;
 use plug_inject::{Inject, InjectConf, InjectMode};
-use plugin_trait::{ListEnd, apply_plugin};
+use plugin_trait::ListEnd;
 use std::alloc::Global;
 use std::process::Abort;
 use std::test::Fail;
@@ -27,14 +27,14 @@ fn null() -> Cell {
 fn injected(alloc: Global, mode: InjectMode, sections: Vec<Section>) -> Result<Vec<Cell>, Fail>
     requires { IsLawfulMode mode }
 {
-    let mut cells = vec![in alloc; null(), null(), null(), null(), null(), null(), null()]?;
+    let cells = vec![in alloc; null(), null(), null(), null(), null(), null(), null()]?;
     let conf = InjectConf {
         file: NameText::of(String::new(alloc)),
         pid: 0,
         mode,
     };
-    let mut inject = Inject::new(alloc, &conf, sections)?;
-    match apply_plugin(&mut inject, &mut cells) {
+    let (end, cells) = given(Inject::new(alloc, &conf, sections), cells)?;
+    match end {
         ListEnd::Through => Ok(cells),
         _ => Err("the plugin ended its list".into()),
     }

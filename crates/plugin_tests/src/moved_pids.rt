@@ -2,12 +2,12 @@
 
 ghost use Rattle.std.specs.Prelude.{◌<◌, [], IfOk};
 
-use crate::cells::{live, one_component, one_service, packet, packet_of};
+use crate::cells::{given, live, one_component, one_service, packet, packet_of};
 use crate::compared::{holds, same};
 use plug_conf::PairList;
 use plug_move::{Remap, RemapConf};
-use plugin_trait::{ListEnd, Plugin, Reason, apply_plugin};
-use std::alloc::Global;
+use plugin_trait::{ListEnd, Plugin, Reason};
+use std::alloc::{AllocError, Global};
 use std::process::Abort;
 use std::test::Fail;
 use ts_bits::{Descriptor, DescriptorList};
@@ -15,7 +15,7 @@ use ts_packet::{Cell, NULL_PID};
 use ts_psi::{Cat, Component};
 
 /// The plugin that moves PIDs 256 and 257, without tables.
-fn remap_of_two(alloc: Global, unchecked: bool) -> Result<Remap, Fail>
+fn remap_of_two(alloc: Global, unchecked: bool) -> Result<Remap, AllocError>
     ensures { IfOk result (λ plugin. ⟦<Remap as Plugin>⟧.stands_for plugin [] 0) }
 {
     let pairs = vec![in alloc; (256, 512), (257, 256)]?;
@@ -24,15 +24,13 @@ fn remap_of_two(alloc: Global, unchecked: bool) -> Result<Remap, Fail>
         no_psi: true,
         unchecked,
     };
-    Ok(Remap::new(alloc, &conf, 1)?)
+    Remap::new(alloc, &conf, 1)
 }
 
 /// Its output for four packets, and how it ends.
-fn remapped(alloc: Global, unchecked: bool) -> Result<(ListEnd, Vec<Cell>), Fail> {
-    let mut cells = vec![in alloc; cell(256), cell(257), cell(258), cell(512)]?;
-    let mut remap = remap_of_two(alloc, unchecked)?;
-    let end = apply_plugin(&mut remap, &mut cells);
-    Ok((end, cells))
+fn remapped(alloc: Global, unchecked: bool) -> Result<(ListEnd, Vec<Cell>), AllocError> {
+    let cells = vec![in alloc; cell(256), cell(257), cell(258), cell(512)]?;
+    given(remap_of_two(alloc, unchecked), cells)
 }
 
 /// A cell with a packet on a PID.
@@ -111,7 +109,7 @@ fn pmt_cell(alloc: Global) -> Result<Cell, Fail> {
 }
 
 /// The plugin that moves some PIDs, including that of the PAT.
-fn remap(alloc: Global) -> Result<Remap, Fail>
+fn remap(alloc: Global) -> Result<Remap, AllocError>
     ensures { IfOk result (λ plugin. ⟦<Remap as Plugin>⟧.stands_for plugin [] 0) }
 {
     let pairs = vec![in alloc; (0, 301), (256, 512), (4096, 300)]?;
@@ -120,15 +118,12 @@ fn remap(alloc: Global) -> Result<Remap, Fail>
         no_psi: false,
         unchecked: false,
     };
-    Ok(Remap::new(alloc, &conf, 1)?)
+    Remap::new(alloc, &conf, 1)
 }
 
 /// Its output for cells.
 fn moved(alloc: Global, cells: Vec<Cell>) -> Result<Vec<Cell>, Fail> {
-    let mut cells = cells;
-    let mut remap = remap(alloc)?;
-    let _end = apply_plugin(&mut remap, &mut cells);
-    Ok(cells)
+    Ok(given(remap(alloc), cells)?.1)
 }
 
 /// Whether a cell has a packet on this PID whose section body begins with these bytes.

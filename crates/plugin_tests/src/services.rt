@@ -1,13 +1,13 @@
 //! Tests of `zap` and `svremove`: what is left of the generated stream, which has service 1 with PIDs 256 and 257 and
 //! service 2 with PIDs 256, 258 and 259.
 
-ghost use Rattle.std.specs.Prelude.{[]};
+ghost use Rattle.std.specs.Prelude.{[], IfOk};
 
-use crate::cells::{bytes_from, live};
+use crate::cells::{bytes_from, given, live};
 use crate::compared::{holds, same};
 use plug_service::{ServiceConf, Svremove, Zap};
-use plugin_trait::{Plugin, apply_plugin};
-use std::alloc::Global;
+use plugin_trait::Plugin;
+use std::alloc::{AllocError, Global};
 use std::process::Abort;
 use std::test::Fail;
 use ts_packet::Cell;
@@ -24,12 +24,13 @@ fn stream(alloc: Global) -> Result<Vec<Cell>, Fail> {
 }
 
 /// What a plugin outputs for them.
-fn made_of_stream<P: Plugin + Drop>(alloc: Global, mut plugin: P) -> Result<Vec<Cell>, Fail>
-    requires { P.stands_for plugin [] 0 }
+fn made_of_stream<P: Plugin + Drop>(
+    alloc: Global,
+    plugin: Result<P, AllocError>,
+) -> Result<Vec<Cell>, Fail>
+    requires { IfOk plugin (λ p. P.stands_for p [] 0) }
 {
-    let mut cells = stream(alloc)?;
-    let _end = apply_plugin(&mut plugin, &mut cells);
-    Ok(cells)
+    Ok(given(plugin, stream(alloc)?)?.1)
 }
 
 /// How many packets have this PID.
@@ -71,7 +72,7 @@ fn kept(alloc: Global) -> Result<Vec<Cell>, Fail> {
         service: 1,
         stuffing: false,
     };
-    made_of_stream(alloc, Zap::new(alloc, &conf, 1)?)
+    made_of_stream(alloc, Zap::new(alloc, &conf, 1))
 }
 
 static KEPT_PAT: [u8; 12] = [
@@ -94,7 +95,7 @@ fn without_it(alloc: Global) -> Result<Vec<Cell>, Fail> {
         service: 1,
         stuffing: true,
     };
-    made_of_stream(alloc, Svremove::new(alloc, &conf, 1)?)
+    made_of_stream(alloc, Svremove::new(alloc, &conf, 1))
 }
 
 static REMOVED_PAT: [u8; 12] = [

@@ -1,6 +1,6 @@
 //! Tests of tables in force and of the editor: each call that allocates, once with enough memory, on a few packets.
 
-use crate::cells::{one_component, packet, packet_of};
+use crate::cells::{boxed, one_component, packet, packet_of};
 use crate::compared::{holds, same};
 use plug_psi::{Edited, Editor, InForce, TableEdit};
 use std::alloc::{AllocError, Global};
@@ -83,7 +83,7 @@ fn replaces(
 #[test]
 fn packets_of_a_pat_are_replaced(rt: HostRuntime) -> Result<(), Fail> {
     let pat = pat_packet(rt.alloc())?;
-    let mut editor = Box::new(rt.alloc(), Editor::new(rt.alloc(), 0, Unchanged {})?)?;
+    let mut editor = boxed(rt.alloc(), Editor::new(rt.alloc(), 0, Unchanged {}))?;
     replaces(&rt, &mut *editor, pat)?;
     Ok(())
 }
@@ -110,7 +110,7 @@ fn comes_into_force(
 fn a_pmt_in_force(rt: HostRuntime) -> Result<(), Fail> {
     let pmt = pmt_packet(rt.alloc())?;
     let pat = pat_packet(rt.alloc())?;
-    let mut force = Box::new(rt.alloc(), InForce::new(rt.alloc())?)?;
+    let mut force = boxed(rt.alloc(), InForce::new(rt.alloc()))?;
     comes_into_force(&rt, &mut *force, &pat, &pmt)?;
     Ok(())
 }

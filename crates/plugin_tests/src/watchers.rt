@@ -24,14 +24,14 @@ fn packet(pid: u16, counter: u8) -> Cell
 
 /// How a plugin ends a list of cells, and its report on those of the cells that stand before the cut.
 fn run<P: Plugin + Drop>(
-    plugin: P,
+    plugin: Result<P, AllocError>,
     cells: &mut Vec<Cell>,
     cut: u64,
 ) -> Result<(ListEnd, Vec<Line>), AllocError>
-    requires fresh { P.stands_for plugin [] 0 }
+    requires fresh { IfOk plugin (λ p. P.stands_for p [] 0) }
     requires short { vec_len cells.old < 1000 }
 {
-    let mut plugin = plugin;
+    let mut plugin = plugin?;
     let end = apply_plugin(&mut plugin, cells);
     let lines = report(&mut plugin, cut.min(cells.len() as u64))?;
     Ok((end, lines))
@@ -60,7 +60,7 @@ fn counted(alloc: Global, all: bool, total: bool, cut: u64) -> Result<Vec<Line>,
         all,
         total,
     };
-    let (_, lines) = run(Count::new(alloc, &conf, 4)?, &mut cells, cut)?;
+    let (_, lines) = run(Count::new(alloc, &conf, 4), &mut cells, cut)?;
     Ok(lines)
 }
 
@@ -101,7 +101,7 @@ fn counted_in(alloc: Global, buffer: usize) -> Result<(ListEnd, usize, Vec<Line>
         all: false,
         total: true,
     };
-    let (end, lines) = run(Count::new(alloc, &conf, buffer)?, &mut cells, 3)?;
+    let (end, lines) = run(Count::new(alloc, &conf, buffer), &mut cells, 3)?;
     Ok((end, cells.len(), lines))
 }
 
@@ -138,7 +138,7 @@ fn fixed(alloc: Global) -> Result<(Vec<Cell>, Vec<Line>), Fail> {
         pid: NumberSet::of(Vec::new(alloc)),
         fix: true,
     };
-    let (_, lines) = run(Continuity::new(alloc, &conf, 1)?, &mut cells, 4)?;
+    let (_, lines) = run(Continuity::new(alloc, &conf, 1), &mut cells, 4)?;
     Ok((cells, lines))
 }
 

@@ -1,13 +1,11 @@
 //! Tests of `compact` and `rmorphan` on a few packets, with enough memory.
 
 ghost use Rattle.std.specs.Prelude.{[], ◌<◌, ◌≤◌, ℕ, length, slice_index, vec_len};
-ghost use Rattle.chain_model.specs.declared.positions.TheConstants.{POSITION_LIMIT};
 
-use crate::cells::{live, one_component, one_service, packet, packet_of};
+use crate::cells::{given, live, one_component, one_service, packet, packet_of};
 use crate::compared::{holds, same};
 use plug_psi::Referred;
 use plug_window::{Compact, Rmorphan, WindowConf};
-use plugin_trait::{Plugin, apply_plugin};
 use std::alloc::{AllocError, Global};
 use std::process::Abort;
 use std::test::Fail;
@@ -51,24 +49,14 @@ fn has_label(rt: &impl Abort, cells: &[Cell], at: usize, label: u32)
     holds(rt, has);
 }
 
-/// What a plugin outputs for these cells.
-fn given<P: Plugin + Drop>(mut plugin: P, mut cells: Vec<Cell>) -> Vec<Cell>
-    requires fresh { P.stands_for plugin [] 0 }
-    requires short { vec_len cells ≤ POSITION_LIMIT }
-{
-    let _end = apply_plugin(&mut plugin, &mut cells);
-    cells
-}
-
 /// What `compact` outputs for packets in two blocks of three, followed by three null packets.
 fn compacted(alloc: Global) -> Result<Vec<Cell>, Fail> {
     let conf = WindowConf {
         window: 3,
         stuffing: false,
     };
-    let compact = Compact::new(alloc, &conf, 1)?;
     let cells = cells_on(alloc, &[256, 8191, 257, 8191, 8191, 256, 8191, 8191, 8191])?;
-    Ok(given(compact, cells))
+    Ok(given(Compact::new(alloc, &conf, 1), cells)?.1)
 }
 
 static COMPACTED: [Option<u16>; 9] = [
@@ -135,8 +123,7 @@ fn kept(alloc: Global, window: u64, stuffing: bool) -> Result<Vec<Cell>, Fail>
 {
     let conf = WindowConf { window, stuffing };
     let cells = late_tables(alloc)?;
-    let rmorphan = Rmorphan::new(alloc, &conf)?;
-    Ok(given(rmorphan, cells))
+    Ok(given(Rmorphan::new(alloc, &conf), cells)?.1)
 }
 
 static IN_THE_WINDOW: [Option<u16>; 8] = [
