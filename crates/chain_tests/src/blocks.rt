@@ -1,5 +1,6 @@
 //! Tests of blocks of values that are split and joined.
 
+use crate::compared::{same, same_bytes};
 use ts_land::land;
 
 #[test]
@@ -7,11 +8,11 @@ fn cuts_and_joins(rt: HostRuntime) {
     let window = land(rt.alloc(), 7, 3u8).expect(&rt, "memory");
     let (one, two) = window.split(3);
     let _base = one.base();
-    assert!(&rt; two.start() == 3 && two.len() == 4);
+    same(&rt, (two.start(), two.len()), (3, 4));
     let (two, three) = two.split(2);
     let mut two = two.join(three);
     two.as_mut_slice()[1] = 9;
     let all = one.join(two);
-    assert!(&rt; all.as_slice() == [3u8, 3, 3, 3, 9, 3, 3].as_slice());
+    same_bytes(&rt, all.as_slice(), &[3, 3, 3, 3, 9, 3, 3]);
     all.close();
 }

@@ -58,32 +58,30 @@ fn whole_fault(desk: &mut OsDesk, name: &str, most: usize) -> Option<FileFault> 
 }
 
 // Opening an input, an output and a whole file fails.
-#[test]
-fn desk_fails(rt: HostRuntime) {
-    let mut desk = OsDesk::new(rt);
+fn none_opens(rt: &impl Abort, desk: &mut OsDesk) {
+    let name = "no/such/file";
+    let opened = (input_fault(desk, name), output_fault(desk, name));
     let failed = Some(OpenFault::Failed);
-    same(&rt, input_fault(&mut desk, "no/such/file"), failed);
-    same(&rt, output_fault(&mut desk, "no/such/file"), failed);
+    same(rt, opened, (failed, failed));
+    let whole = (whole_fault(desk, name, 9), whole_fault(desk, "/", 9));
     let failed = Some(FileFault::Failed);
-    same(&rt, whole_fault(&mut desk, "no/such/file", 9), failed);
-    same(&rt, whole_fault(&mut desk, "/", 9), failed);
+    same(rt, whole, (failed, failed));
 }
 
-// A directory opens, and its first read fails.
-#[test]
-fn source_fails(rt: HostRuntime) {
-    let mut desk = OsDesk::new(rt);
-    same(&rt, input_fault(&mut desk, "/"), None);
+// A directory opens, and its first read fails. A full device opens, and its first write fails.
+fn first_calls_fail(rt: &impl Abort, desk: &mut OsDesk) {
+    let opened = (input_fault(desk, "/"), output_fault(desk, "/dev/full"));
+    same(rt, opened, (None, None));
     let mut into = [0; 4];
-    same(&rt, read_twice(&mut desk, "/", &mut into), Err(Failed));
+    same(rt, read_twice(desk, "/", &mut into), Err(Failed));
+    same(rt, write(desk, "/dev/full", b"abc"), Err(Failed));
 }
 
-// A full device opens, and its first write fails.
 #[test]
-fn sink_fails(rt: HostRuntime) {
+fn calls_fail(rt: HostRuntime) {
     let mut desk = OsDesk::new(rt);
-    same(&rt, output_fault(&mut desk, "/dev/full"), None);
-    same(&rt, write(&mut desk, "/dev/full", b"abc"), Err(Failed));
+    none_opens(&rt, &mut desk);
+    first_calls_fail(&rt, &mut desk);
 }
 
 // Writes a file twice, and reads it in pieces.
@@ -104,25 +102,42 @@ fn is_whole(rt: &impl Abort, desk: &mut OsDesk, name: &str) -> Result<(), Fail> 
     Ok(())
 }
 
+// The name of a file that nobody else writes.
+fn file_name(rt: HostRuntime) -> Result<String, Fail> {
+    let folder = env::temp_dir(&rt)?.into_string();
+    let process = process::id(rt.process());
+    Ok(format!(in rt.alloc(); "{folder}/ts_os-{process}")?)
+}
+
+// Writes a file of this name, and reads it.
+fn goes_round(rt: &impl Abort, desk: &mut OsDesk, name: &str) -> Result<(), Fail> {
+    is_written(rt, desk, name)?;
+    is_whole(rt, desk, name)
+}
+
 // What was written is read back, in pieces and whole, and a second writing leaves nothing of the first.
 #[test]
 fn round_trip(rt: HostRuntime) -> Result<(), Fail> {
-    let folder = env::temp_dir(&rt)?.into_string();
-    let process = process::id(rt.process());
-    let name = format!(in rt.alloc(); "{folder}/ts_os-{process}")?;
+    let name = file_name(rt)?;
     let mut desk = OsDesk::new(rt);
-    is_written(&rt, &mut desk, name.as_str())?;
-    is_whole(&rt, &mut desk, name.as_str())?;
+    goes_round(&rt, &mut desk, name.as_str())?;
     fs::remove_file(&rt, name.as_str())?;
     Ok(())
+}
+
+// Opens and closes standard streams, and reports.
+fn are_taken(rt: &impl Abort, desk: &mut OsDesk) {
+    let input = input_fault(desk, "");
+    let out = desk.report(b"out\n");
+    let output = output_fault(desk, "");
+    let err = desk.report(b"err\n");
+    same(rt, (input, output), (None, None));
+    same(rt, (out, err), (Ok(4), Ok(4)));
 }
 
 // The empty name is a standard stream, and a report is taken as a whole.
 #[test]
 fn standard_streams(rt: HostRuntime) {
     let mut desk = OsDesk::new(rt);
-    same(&rt, input_fault(&mut desk, ""), None);
-    same(&rt, desk.report(b"out\n"), Ok(4));
-    same(&rt, output_fault(&mut desk, ""), None);
-    same(&rt, desk.report(b"err\n"), Ok(4));
+    are_taken(&rt, &mut desk);
 }

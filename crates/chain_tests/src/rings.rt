@@ -1,6 +1,6 @@
 //! Tests of a ring from its making to its close, and of cells in hand that wrap at the block's end.
 
-ghost use Rattle.std.specs.Prelude.{◌≡◌, ◌≤◌, ℕ, suc, [], length, IsTrue, IfSome};
+ghost use Rattle.std.specs.Prelude.{◌≡◌, ◌≤◌, ℕ, suc, [], length, IsTrue, IfSome, Some};
 ghost use Rattle.chain_core.specs.CoreNumbers.{IsLawfulPlan};
 ghost use Rattle.chain_core.specs.Stages.{stages_of};
 ghost use Rattle.window_ring.specs.Opening.{IsFresh};
@@ -8,6 +8,7 @@ ghost use Rattle.window_ring.specs.Closing.{IsDone};
 ghost use Rattle.window_ring.specs.Seats.{key_of, table_of};
 ghost use Rattle.chain_tests.specs.Going.{GoesOn};
 
+use crate::compared::same;
 use chain_core::{CorePlan, StageEnd, StageSet, StageWord, news_promises, one_visit};
 use std::process::Abort;
 use window_ring::{NewRing, Ring, StageSeat, Visited, new_ring, seat_laws};
@@ -149,6 +150,16 @@ fn was_made(rt: &impl Abort, made: bool)
     assert!(rt; made, "another stage has the turn");
 }
 
+/// The cells in hand of visits that were made; aborts where they were not.
+fn made(rt: &impl Abort, front: Option<FrontCells>) -> FrontCells
+    ensures { front ≡ Some result }
+{
+    match front {
+        Some(front) => front,
+        None => panic!(rt; "another stage has the turn"),
+    }
+}
+
 #[test]
 fn wraps(rt: HostRuntime) {
     let plan = CorePlan {
@@ -167,12 +178,10 @@ fn wraps(rt: HostRuntime) {
     // Positions 0 to 6 in seven slots: five cells are given, and the first two of them are free again, as 7 and 8.
     was_made(&rt, takes_and_gives(&ring, &mut seats[0], 5));
     was_made(&rt, gives_and_ends(&ring, &mut seats[1], 2));
-    let Some(front) = takes_and_ends(&ring, &mut seats[0]) else {
-        panic!(&rt; "another stage has the turn");
-    };
-    assert!(&rt; front.start == 5 && front.len == 2 && front.next == 7);
+    let front = made(&rt, takes_and_ends(&ring, &mut seats[0]));
+    same(&rt, (front.start, front.len, front.next), (5, 2, 7));
     let closed = ring.close(root, seats);
-    assert!(&rt; closed.cut == 2);
+    same(&rt, closed.cut, 2);
 }
 
 // Requires that a ring can be shared by threads.
@@ -204,5 +213,5 @@ fn opens_and_closes(rt: HostRuntime) {
     ring.wait_news(&rt, 1, heard);
     was_made(&rt, ends(&ring, &mut seats[1]));
     let closed = ring.close(root, seats);
-    assert!(&rt; closed.cut == 0);
+    same(&rt, closed.cut, 0);
 }
