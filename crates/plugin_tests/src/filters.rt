@@ -54,7 +54,7 @@ fn shape<P: Plugin + Drop>(
 const THREE: [u16; 3] = [256, 257, 256];
 
 /// What the filter of PID 256 outputs for three packets.
-fn filtered(alloc: Global, negate: bool, stuffing: bool) -> Result<(String, ListEnd), Fail> {
+fn filtered(alloc: Global, negate: bool, stuffing: bool) -> Result<(String, ListEnd), AllocError> {
     let pids = vec![in alloc; (256, 256)]?;
     let conf = FilterConf {
         pid: NumberSet::of(pids),
@@ -66,7 +66,7 @@ fn filtered(alloc: Global, negate: bool, stuffing: bool) -> Result<(String, List
         stuffing,
         set_label: NumberSet::of(Vec::new(alloc)),
     };
-    Ok(shape(alloc, Filter::new(alloc, &conf, 1), &THREE)?)
+    shape(alloc, Filter::new(alloc, &conf, 1), &THREE)
 }
 
 /// Checks what a plugin output, and how it ended.
@@ -76,8 +76,8 @@ fn is_shape(rt: &impl Abort, found: &(String, ListEnd), letters: &str, end: List
 }
 
 /// What `skip` outputs for three packets where it skips one.
-fn skipped(alloc: Global) -> Result<(String, ListEnd), Fail> {
-    Ok(shape(alloc, Skip::new(alloc, &SkipConf { operand: 1 }, 1), &THREE)?)
+fn skipped(alloc: Global) -> Result<(String, ListEnd), AllocError> {
+    shape(alloc, Skip::new(alloc, &SkipConf { operand: 1 }, 1), &THREE)
 }
 
 /// A slice that drops from the second packet on, passes from the fourth, makes null packets from the fifth, and stops
@@ -95,8 +95,8 @@ fn slice(alloc: Global) -> Result<Slice, AllocError>
 }
 
 /// What it outputs for ten packets.
-fn sliced(alloc: Global) -> Result<(String, ListEnd), Fail> {
-    Ok(shape(alloc, slice(alloc), &[256; 10])?)
+fn sliced(alloc: Global) -> Result<(String, ListEnd), AllocError> {
+    shape(alloc, slice(alloc), &[256; 10])
 }
 
 /// Which plugin passes packets on.
@@ -108,7 +108,7 @@ enum Passing {
 }
 
 /// What that plugin outputs.
-fn shape_of(alloc: Global, passing: Passing) -> Result<(String, ListEnd), Fail> {
+fn shape_of(alloc: Global, passing: Passing) -> Result<(String, ListEnd), AllocError> {
     match passing {
         Passing::Filter { negate, stuffing } => filtered(alloc, negate, stuffing),
         Passing::Skip => skipped(alloc),

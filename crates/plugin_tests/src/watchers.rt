@@ -45,8 +45,27 @@ fn are_lines(rt: &impl Abort, lines: &[Line], wanted: &[&str]) {
     }
 }
 
+/// A new `count` of no PIDs, or of all others.
+fn counting(
+    alloc: Global,
+    negate: bool,
+    all: bool,
+    total: bool,
+    buffer: usize,
+) -> Result<Count, AllocError>
+    ensures { IfOk result (λ plugin. ⟦<Count as Plugin>⟧.stands_for plugin [] 0) }
+{
+    let conf = CountConf {
+        pid: NumberSet::of(Vec::new(alloc)),
+        negate,
+        all,
+        total,
+    };
+    Count::new(alloc, &conf, buffer)
+}
+
 /// The report on four packets and a dropped cell, up to a cut.
-fn counted(alloc: Global, all: bool, total: bool, cut: u64) -> Result<Vec<Line>, Fail> {
+fn counted(alloc: Global, all: bool, total: bool, cut: u64) -> Result<Vec<Line>, AllocError> {
     let mut cells = vec![in alloc;
         packet(256, 0),
         packet(257, 0),
@@ -54,13 +73,7 @@ fn counted(alloc: Global, all: bool, total: bool, cut: u64) -> Result<Vec<Line>,
         packet(256, 1),
         packet(258, 0),
     ]?;
-    let conf = CountConf {
-        pid: NumberSet::of(Vec::new(alloc)),
-        negate: true,
-        all,
-        total,
-    };
-    let (_, lines) = run(Count::new(alloc, &conf, 4), &mut cells, cut)?;
+    let (_, lines) = run(counting(alloc, true, all, total, 4), &mut cells, cut)?;
     Ok(lines)
 }
 
@@ -93,15 +106,10 @@ fn count_counts_to_the_cut(rt: HostRuntime) -> Result<(), Fail> {
 }
 
 /// How counting three packets with room for `buffer` of them ends, how many cells are left, and the report.
-fn counted_in(alloc: Global, buffer: usize) -> Result<(ListEnd, usize, Vec<Line>), Fail> {
+fn counted_in(alloc: Global, buffer: usize) -> Result<(ListEnd, usize, Vec<Line>), AllocError> {
     let mut cells = vec![in alloc; packet(256, 0), packet(256, 1), packet(257, 0)]?;
-    let conf = CountConf {
-        pid: NumberSet::of(Vec::new(alloc)),
-        negate: false,
-        all: false,
-        total: true,
-    };
-    let (end, lines) = run(Count::new(alloc, &conf, buffer), &mut cells, 3)?;
+    let count = counting(alloc, false, false, true, buffer);
+    let (end, lines) = run(count, &mut cells, 3)?;
     Ok((end, cells.len(), lines))
 }
 
@@ -126,19 +134,26 @@ fn count_ends_where_its_buffer_is_full(rt: HostRuntime) -> Result<(), Fail> {
     ends_so(&rt, 3, ListEnd::Through, 3, "total 3")
 }
 
+/// A new `continuity` that fixes all PIDs.
+fn fixing(alloc: Global) -> Result<Continuity, AllocError>
+    ensures { IfOk result (λ plugin. ⟦<Continuity as Plugin>⟧.stands_for plugin [] 0) }
+{
+    let conf = ContinuityConf {
+        pid: NumberSet::of(Vec::new(alloc)),
+        fix: true,
+    };
+    Continuity::new(alloc, &conf, 1)
+}
+
 /// The report on four packets of which the third jumps and the last stays, and the packets after the plugin.
-fn fixed(alloc: Global) -> Result<(Vec<Cell>, Vec<Line>), Fail> {
+fn fixed(alloc: Global) -> Result<(Vec<Cell>, Vec<Line>), AllocError> {
     let mut cells = vec![in alloc;
         packet(256, 5),
         packet(256, 6),
         packet(256, 8),
         packet(256, 8),
     ]?;
-    let conf = ContinuityConf {
-        pid: NumberSet::of(Vec::new(alloc)),
-        fix: true,
-    };
-    let (_, lines) = run(Continuity::new(alloc, &conf, 1), &mut cells, 4)?;
+    let (_, lines) = run(fixing(alloc), &mut cells, 4)?;
     Ok((cells, lines))
 }
 
