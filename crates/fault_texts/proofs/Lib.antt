@@ -1,1 +1,4 @@
+pub mod EachLemmas
+pub mod FaultLemmas
 pub mod PieceLemmas
+pub mod TextLemmas

@@ -42,6 +42,11 @@ value_said (role.Named row) word = named_value row word
 value_said role.Unknown word = None
 value_said role.Extra word = None
 
+-- what is wrong with the word of this number
+abbrev pub numbered : Option Said → ℕ → Option Fault
+numbered (Some said) at = Some (record { at = at; said = said })
+numbered None at = None
+
 -- words in any form, each with its text
 module _ {W : Type 0} (text_of : W → List ℕ) where
   -- the option of a name stands among words

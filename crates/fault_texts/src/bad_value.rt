@@ -1,6 +1,7 @@
 //! What is said of a value that does not fit.
-ghost use Rattle.std.specs.Prelude.{◌≡◌, ◌++◌, IfOk, OnOk};
+ghost use Rattle.std.specs.Prelude.{◌≡◌, ◌++◌, OnOk};
 ghost use Rattle.fault_texts.specs.BadValue;
+ghost use Rattle.fault_texts.specs.TakesText.{range_text};
 
 use crate::fits::fits;
 use crate::marked::put_word;
@@ -77,26 +78,37 @@ fn put_slip(text: &mut Vec<u8>, row: &OptionRow, value: &str) -> Result<(), Allo
     put_piece(text, row.takes, value)
 }
 
-// How the value has to be written, and what is wrong with it.
-fn form_text(alloc: Global, row: &OptionRow, value: &str) -> Result<Vec<u8>, AllocError>
-    ensures { IfOk result (λ text. text.items ≡ BadValue.form_text row.now value.now) }
+// Puts how the value has to be written, and what is wrong with it.
+fn put_form(text: &mut Vec<u8>, row: &OptionRow, value: &str) -> Result<(), AllocError>
+    ensures { OnOk result (text.new.items ≡ text.old.items ++ BadValue.form_text row.now value.now) }
 {
     let form = takes_text(row.takes);
     let sign = sign_hint(row.takes, value);
-    let mut text = Vec::new(alloc);
-    put_all(&mut text, &[form, sign])?;
-    put_slip(&mut text, row, value)?;
-    Ok(text)
+    put_all(text, &[form, sign])?;
+    put_slip(text, row, value)
 }
 
-/// What is said of a wrong value: its range where that alone is wrong, and else its form.
+// Puts the range of what is taken.
+fn put_range(alloc: Global, text: &mut Vec<u8>, takes: Takes) -> Result<(), AllocError>
+    ensures { OnOk result (text.new.items ≡ text.old.items ++ range_text takes) }
+{
+    let range = range_text(alloc, takes)?;
+    text.extend_from_slice(range.as_bytes())
+}
+
+/// Puts what is said of a wrong value: its range where that alone is wrong, and else its form.
 #[tactic(auto, unfolding(crate::specs::BadValue::value_text))]
-pub(crate) fn value_text(alloc: Global, row: &OptionRow, value: &str) -> Result<Vec<u8>, AllocError>
-    ensures { IfOk result (λ text. text.items ≡ BadValue.value_text row.now value.now) }
+pub(crate) fn put_value(
+    alloc: Global,
+    text: &mut Vec<u8>,
+    row: &OptionRow,
+    value: &str,
+) -> Result<(), AllocError>
+    ensures { OnOk result (text.new.items ≡ text.old.items ++ BadValue.value_text row.now value.now) }
 {
     if fits(alloc, wide(row.takes), value)? {
-        let range = range_text(alloc, row.takes)?;
-        return Ok(range.into_bytes());
+        put_range(alloc, text, row.takes)
+    } else {
+        put_form(text, row, value)
     }
-    form_text(alloc, row, value)
 }

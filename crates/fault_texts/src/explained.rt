@@ -1,49 +1,74 @@
 //! The lines that a refused command line is shown.
-ghost use Rattle.std.specs.Prelude.{◌≡◌, IfOk};
+ghost use Rattle.std.specs.Prelude.{◌≡◌, ◌<◌, ◌++◌, ◌∷◌, [], IfOk, OnOk, codes, length, take};
 ghost use Rattle.std.specs.String.{string_bytes};
 ghost use Rattle.fault_texts.specs.FaultText;
+ghost use Rattle.fault_texts.specs.Lists.{texts};
+ghost use Rattle.fault_texts.specs.Marked.{below, blanks_below};
+ghost use Rattle.fault_texts.specs.Segment.{word_or_none};
 
 use crate::fault_of::fault_of;
 use crate::help_table::HelpTable;
 use crate::marked::{put_blanks, put_mark, put_words};
 use crate::put::put_all;
-use crate::said_text::said_text;
+use crate::said::Fault;
+use crate::said_text::put_said;
 use crate::segment::{segment_of, word_or_none, words_from};
 use option_words::WordsRule;
 use std::alloc::{AllocError, Global};
 
-// The words in one line.
-fn words_line(alloc: Global, own: &[String]) -> Result<Vec<u8>, AllocError>
-    ensures { IfOk result (λ text. text.items ≡ FaultText.words_line string_bytes own.now) }
+// Puts the words in one line.
+fn put_words_line(text: &mut Vec<u8>, own: &[String]) -> Result<(), AllocError>
+    ensures { OnOk result (text.new.items ≡ text.old.items ++ FaultText.words_line string_bytes own.now) }
 {
-    let mut text = Vec::new(alloc);
-    put_all(&mut text, &["   "])?;
-    put_words(&mut text, own)?;
-    put_all(&mut text, &["\n"])?;
-    Ok(text)
+    put_all(text, &["   "])?;
+    put_words(text, own)?;
+    put_all(text, &["\n"])?;
+    Ok(())
 }
 
-// The line that marks a word; none where there is no word of this number.
-fn mark_line(alloc: Global, own: &[String], at: usize) -> Result<Vec<u8>, AllocError>
-    ensures { IfOk result (λ text. text.items ≡ FaultText.mark_line string_bytes own.now at) }
+// Puts what stands below the words up to one of them, of this number: blanks, and the mark.
+fn put_marked(text: &mut Vec<u8>, own: &[String], at: usize) -> Result<(), AllocError>
+    requires { at < length own.now }
+    ensures { OnOk result (text.new.items ≡ text.old.items ++ ((texts (codes "   " ∷ []) ++ blanks_below string_bytes (take at own.now)) ++ below 94 (word_or_none string_bytes own.now at))) }
 {
-    let mut text = Vec::new(alloc);
+    put_all(text, &["   "])?;
+    put_blanks(text, &own[..at])?;
+    put_mark(text, word_or_none(own, at))?;
+    Ok(())
+}
+
+// Puts the line that marks a word; none where there is no word of this number.
+fn put_mark_line(text: &mut Vec<u8>, own: &[String], at: usize) -> Result<(), AllocError>
+    ensures { OnOk result (text.new.items ≡ text.old.items ++ FaultText.mark_line string_bytes own.now at) }
+{
     if at < own.len() {
-        put_all(&mut text, &["   "])?;
-        put_blanks(&mut text, &own[..at])?;
-        put_mark(&mut text, word_or_none(own, at))?;
-        put_all(&mut text, &["\n"])?;
+        put_marked(text, own, at)?;
+        put_all(text, &["\n"])?;
     }
-    Ok(text)
+    Ok(())
 }
 
 /// Words in one line, and below them a line that marks the one of this number, where there is one. An `AllocError` leaves nothing.
 pub fn marked_words(alloc: Global, own: &[String], at: usize) -> Result<Vec<u8>, AllocError>
     ensures { IfOk result (λ text. text.items ≡ FaultText.marked_words string_bytes own.now at) }
 {
-    let mark = mark_line(alloc, own, at)?;
-    let mut text = words_line(alloc, own)?;
-    text.extend_from_slice(mark.as_slice())?;
+    let mut text = Vec::new(alloc);
+    put_words_line(&mut text, own)?;
+    put_mark_line(&mut text, own, at)?;
+    Ok(text)
+}
+
+// The lines of a segment and its fault.
+fn fault_lines(
+    alloc: Global,
+    table: &HelpTable,
+    own: &[String],
+    fault: &Fault,
+) -> Result<Vec<u8>, AllocError>
+    ensures { IfOk result (λ text. text.items ≡ FaultText.fault_lines string_bytes table.now own.now fault.now) }
+{
+    let mut text = marked_words(alloc, own, fault.at)?;
+    put_said(alloc, &mut text, table, own, fault)?;
     Ok(text)
 }
 
@@ -61,8 +86,5 @@ pub fn fault_text(
 {
     let own = segment_of(table, words_from(words, at));
     let fault = fault_of(alloc, table, own, rule)?;
-    let said = said_text(alloc, table, own, fault)?;
-    let mut text = marked_words(alloc, own, fault.at)?;
-    text.extend_from_slice(said.as_slice())?;
-    Ok(text)
+    fault_lines(alloc, table, own, &fault)
 }

@@ -1,5 +1,5 @@
 //! Where else a word is known.
-ghost use Rattle.std.specs.Prelude.{◌≡◌, IfOk};
+ghost use Rattle.std.specs.Prelude.{◌≡◌, ◌++◌, OnOk};
 ghost use Rattle.std.specs.List.{list_any};
 ghost use Rattle.fault_texts.specs.Homes;
 ghost use Rattle.fault_texts.specs.Lists.{has_word};
@@ -8,7 +8,7 @@ use crate::help_table::HelpTable;
 use crate::lists::{has_word, put_homes};
 use crate::put::put_all;
 use crate::segment_row::SegmentRow;
-use std::alloc::{AllocError, Global};
+use std::alloc::AllocError;
 
 fn any_has_word(segments: &[SegmentRow], word: &str) -> bool
     ensures { result ≡ list_any (has_word word.now) segments.now }
@@ -22,19 +22,18 @@ fn has_home(table: &HelpTable, word: &str) -> bool
     has_word(&table.general, word) || any_has_word(table.segments, word)
 }
 
-/// One line with the segments that have this name or this option, where there is one.
-pub(crate) fn homes_text(
-    alloc: Global,
+/// Puts one line with the segments that have this name or this option, where there is one.
+pub(crate) fn put_homes_line(
+    text: &mut Vec<u8>,
     table: &HelpTable,
     word: &str,
-) -> Result<Vec<u8>, AllocError>
-    ensures { IfOk result (λ text. text.items ≡ Homes.homes_text table.now word.now) }
+) -> Result<(), AllocError>
+    ensures { OnOk result (text.new.items ≡ text.old.items ++ Homes.homes_text table.now word.now) }
 {
-    let mut text = Vec::new(alloc);
     if has_home(table, word) {
-        put_all(&mut text, &["it belongs to:"])?;
-        put_homes(&mut text, table, word)?;
-        put_all(&mut text, &["\n"])?;
+        put_all(text, &["it belongs to:"])?;
+        put_homes(text, table, word)?;
+        put_all(text, &["\n"])?;
     }
-    Ok(text)
+    Ok(())
 }

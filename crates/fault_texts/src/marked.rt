@@ -46,11 +46,11 @@ pub(crate) fn put_words(text: &mut Vec<u8>, words: &[String]) -> Result<(), Allo
     Ok(())
 }
 
-// One sign for each character of a word.
-fn put_signs(text: &mut Vec<u8>, sign: u8, word: &str) -> Result<(), AllocError>
-    ensures { OnOk result (text.new.items ≡ text.old.items ++ Marked.signs_below sign word.now) }
+// One sign for each character of these bytes.
+fn put_signs(text: &mut Vec<u8>, sign: u8, bytes: &[u8]) -> Result<(), AllocError>
+    ensures { OnOk result (text.new.items ≡ text.old.items ++ Marked.signs_below sign bytes.now) }
 {
-    for byte in word.as_bytes() {
+    for byte in bytes {
         put_sign(text, sign, *byte)?;
     }
     Ok(())
@@ -71,7 +71,7 @@ fn put_below(text: &mut Vec<u8>, sign: u8, word: &str) -> Result<(), AllocError>
     ensures { OnOk result (text.new.items ≡ text.old.items ++ Marked.below sign word.now) }
 {
     text.push(b' ')?;
-    put_signs(text, sign, visible(word))
+    put_signs(text, sign, visible(word).as_bytes())
 }
 
 /// Puts spaces below words after a text.

@@ -1,5 +1,5 @@
 //! Which name of the table is nearest to a word.
-ghost use Rattle.std.specs.Prelude.{◌≡◌, IfOk, drop};
+ghost use Rattle.std.specs.Prelude.{◌≡◌, ◌++◌, IfOk, OnOk, drop};
 ghost use Rattle.fault_texts.specs.Nearest;
 
 use crate::option_row::OptionRow;
@@ -122,38 +122,39 @@ fn nearest_name(
     Ok(near)
 }
 
-// A line with the nearest name, where there is one.
-fn near_text(alloc: Global, near: Near) -> Result<Vec<u8>, AllocError>
-    ensures { IfOk result (λ text. text.items ≡ Nearest.near_text (Nearest.told near)) }
+// Puts a line with the nearest name, where there is one.
+fn put_near(text: &mut Vec<u8>, near: Near) -> Result<(), AllocError>
+    ensures { OnOk result (text.new.items ≡ text.old.items ++ Nearest.near_text (Nearest.told near)) }
 {
-    let mut text = Vec::new(alloc);
     if !near.name.is_empty() {
-        put_all(&mut text, &["did you mean ", near.name, "?\n"])?;
+        put_all(text, &["did you mean ", near.name, "?\n"])?;
     }
-    Ok(text)
+    Ok(())
 }
 
-/// A line with the option that is nearest to a word, where there is one.
-pub(crate) fn near_option_text(
+/// Puts a line with the option that is nearest to a word, where there is one.
+pub(crate) fn put_near_option(
     alloc: Global,
+    text: &mut Vec<u8>,
     options: &[OptionRow],
     word: &str,
-) -> Result<Vec<u8>, AllocError>
-    ensures { IfOk result (λ text. text.items ≡ Nearest.near_text (Nearest.nearest_option options.now word.now)) }
+) -> Result<(), AllocError>
+    ensures { OnOk result (text.new.items ≡ text.old.items ++ Nearest.near_text (Nearest.nearest_option options.now word.now)) }
 {
     let near = nearest_option(alloc, options, word)?;
-    near_text(alloc, near)
+    put_near(text, near)
 }
 
-/// A line with the name after a first word that is nearest to a word, where there is one.
-pub(crate) fn near_name_text(
+/// Puts a line with the name after a first word that is nearest to a word, where there is one.
+pub(crate) fn put_near_name(
     alloc: Global,
+    text: &mut Vec<u8>,
     segments: &[SegmentRow],
     first: &str,
     word: &str,
-) -> Result<Vec<u8>, AllocError>
-    ensures { IfOk result (λ text. text.items ≡ Nearest.near_text (Nearest.nearest_name segments.now first.now word.now)) }
+) -> Result<(), AllocError>
+    ensures { OnOk result (text.new.items ≡ text.old.items ++ Nearest.near_text (Nearest.nearest_name segments.now first.now word.now)) }
 {
     let near = nearest_name(alloc, segments, first, word)?;
-    near_text(alloc, near)
+    put_near(text, near)
 }

@@ -1,5 +1,5 @@
 //! What a word of a segment stands for.
-ghost use Rattle.std.specs.Prelude.{◌≡◌, ◌+◌, ◌<◌, ◌^◌};
+ghost use Rattle.std.specs.Prelude.{◌≡◌, ◌+◌, ◌<◌, ◌≤◌, ◌^◌};
 ghost use Rattle.fault_texts.specs.Roles;
 
 use crate::option_row::OptionRow;
@@ -125,9 +125,10 @@ pub(crate) fn role_of(options: &[OptionRow], previous: &str, count: usize, word:
 }
 
 /// How many operands stand up to a word of this role.
-pub(crate) fn counted(role: Role, count: usize) -> usize
+pub(crate) fn counted(role: &Role, count: usize) -> usize
     requires { count + 1 < 2 ^ 64 }
-    ensures { result ≡ Roles.counted role count }
+    ensures counted { result ≡ Roles.counted role.now count }
+    ensures one_more { result ≤ count + 1 }
 {
     match role {
         Role::Operand(_) => count + 1,

@@ -1,15 +1,18 @@
 //! What is said of a fault, in whole lines.
-ghost use Rattle.std.specs.Prelude.{◌≡◌, IfOk};
+ghost use Rattle.std.specs.Prelude.{◌≡◌, ◌++◌, OnOk};
 ghost use Rattle.std.specs.String.{string_bytes};
+ghost use Rattle.fault_texts.specs.Homes.{homes_text};
 ghost use Rattle.fault_texts.specs.Lists.{option_names};
+ghost use Rattle.fault_texts.specs.Nearest.{near_text, nearest_option};
+ghost use Rattle.fault_texts.specs.Roles.{name_part};
 ghost use Rattle.fault_texts.specs.SaidText;
 
-use crate::bad_value::value_text;
+use crate::bad_value::put_value;
 use crate::help_table::HelpTable;
-use crate::homes::homes_text;
+use crate::homes::put_homes_line;
 use crate::lists::{put_names, put_options};
 use crate::name_hint::put_name_hint;
-use crate::nearest::{near_name_text, near_option_text};
+use crate::nearest::{put_near_name, put_near_option};
 use crate::option_row::OptionRow;
 use crate::put::put_all;
 use crate::role::name_part;
@@ -22,93 +25,81 @@ use crate::wanted::put_wanted;
 use option_words::read_number_within;
 use std::alloc::{AllocError, Global};
 
-// A text of these parts.
-fn text_of_parts(alloc: Global, parts: &[&str]) -> Result<Vec<u8>, AllocError>
-    ensures { IfOk result (λ text. text.items ≡ SaidText.text_of_parts parts.now) }
+fn put_no_name(text: &mut Vec<u8>, table: &HelpTable, first: &str) -> Result<(), AllocError>
+    ensures { OnOk result (text.new.items ≡ text.old.items ++ SaidText.no_name_text table.now first.now) }
 {
-    let mut text = Vec::new(alloc);
-    put_all(&mut text, parts)?;
-    Ok(text)
+    put_all(text, &["a name has to follow ", first, ", one of:"])?;
+    put_names(text, table, first)?;
+    put_all(text, &["\n"])?;
+    Ok(())
 }
 
-fn no_name_text(alloc: Global, table: &HelpTable, first: &str) -> Result<Vec<u8>, AllocError>
-    ensures { IfOk result (λ text. text.items ≡ SaidText.no_name_text table.now first.now) }
+fn put_known_names(text: &mut Vec<u8>, table: &HelpTable, first: &str) -> Result<(), AllocError>
+    ensures { OnOk result (text.new.items ≡ text.old.items ++ SaidText.known_names_text table.now first.now) }
 {
-    let mut text = Vec::new(alloc);
-    put_all(&mut text, &["a name has to follow ", first, ", one of:"])?;
-    put_names(&mut text, table, first)?;
-    put_all(&mut text, &["\n"])?;
-    Ok(text)
+    put_all(text, &["unknown name after ", first, "; there are:"])?;
+    put_names(text, table, first)?;
+    put_all(text, &["\na file is named after -I file or -O file\n"])?;
+    Ok(())
 }
 
-fn known_names_text(alloc: Global, table: &HelpTable, first: &str) -> Result<Vec<u8>, AllocError>
-    ensures { IfOk result (λ text. text.items ≡ SaidText.known_names_text table.now first.now) }
-{
-    let mut text = Vec::new(alloc);
-    put_all(&mut text, &["unknown name after ", first, "; there are:"])?;
-    put_names(&mut text, table, first)?;
-    put_all(&mut text, &["\na file is named after -I file or -O file\n"])?;
-    Ok(text)
-}
-
-fn unknown_name_text(
+fn put_unknown_name(
     alloc: Global,
+    text: &mut Vec<u8>,
     table: &HelpTable,
     own: &[String],
-) -> Result<Vec<u8>, AllocError>
-    ensures { IfOk result (λ text. text.items ≡ SaidText.unknown_name_text string_bytes table.now own.now) }
+) -> Result<(), AllocError>
+    ensures { OnOk result (text.new.items ≡ text.old.items ++ SaidText.unknown_name_text string_bytes table.now own.now) }
 {
     let first = word_or_none(own, 0);
     let name = word_or_none(own, 1);
-    let homes = homes_text(alloc, table, name)?;
-    let near = near_name_text(alloc, table.segments, first, name)?;
-    let mut text = known_names_text(alloc, table, first)?;
-    text.extend_from_slice(near.as_slice())?;
-    text.extend_from_slice(homes.as_slice())?;
-    Ok(text)
+    put_known_names(text, table, first)?;
+    put_near_name(alloc, text, table.segments, first, name)?;
+    put_homes_line(text, table, name)?;
+    Ok(())
 }
 
 // The same, and how words that are one have to be given.
-fn wrong_name_text(alloc: Global, table: &HelpTable, own: &[String]) -> Result<Vec<u8>, AllocError>
-    ensures { IfOk result (λ text. text.items ≡ SaidText.wrong_name_text string_bytes table.now own.now) }
+fn put_wrong_name(
+    alloc: Global,
+    text: &mut Vec<u8>,
+    table: &HelpTable,
+    own: &[String],
+) -> Result<(), AllocError>
+    ensures { OnOk result (text.new.items ≡ text.old.items ++ SaidText.wrong_name_text string_bytes table.now own.now) }
 {
-    let first = word_or_none(own, 0);
-    let name = word_or_none(own, 1);
-    let mut text = unknown_name_text(alloc, table, own)?;
-    put_name_hint(&mut text, table, first, name)?;
-    Ok(text)
+    put_unknown_name(alloc, text, table, own)?;
+    put_name_hint(text, table, word_or_none(own, 0), word_or_none(own, 1))?;
+    Ok(())
 }
 
-fn known_options_text(alloc: Global, row: &SegmentRow) -> Result<Vec<u8>, AllocError>
-    ensures { IfOk result (λ text. text.items ≡ SaidText.known_options_text row.now) }
+// Puts that an option is unknown, with the names that there are.
+fn put_known_options(text: &mut Vec<u8>, row: &SegmentRow) -> Result<(), AllocError>
+    ensures { OnOk result (text.new.items ≡ text.old.items ++ SaidText.known_options_text row.now) }
 {
-    let mut text = Vec::new(alloc);
-    put_all(
-        &mut text,
-        &[
-            "unknown option of ",
-            row.first,
-            " ",
-            row.name,
-            "; there are:",
-        ],
-    )?;
-    let names = option_list(alloc, row.options)?;
-    text.extend_from_slice(names.as_slice())?;
-    put_all(&mut text, &["\nusage: ", row.usage, "\n"])?;
-    Ok(text)
+    let named = [
+        "unknown option of ",
+        row.first,
+        " ",
+        row.name,
+        "; there are:",
+    ];
+    put_all(text, &named)?;
+    put_option_list(text, row.options)?;
+    put_all(text, &["\nusage: ", row.usage, "\n"])?;
+    Ok(())
 }
 
-// The names of options; some words where there are none.
-fn option_list(alloc: Global, options: &[OptionRow]) -> Result<Vec<u8>, AllocError>
-    ensures { IfOk result (λ text. text.items ≡ SaidText.listed (option_names options.now)) }
+// Puts the names of options; some words where there are none.
+fn put_option_list(text: &mut Vec<u8>, options: &[OptionRow]) -> Result<(), AllocError>
+    ensures { OnOk result (text.new.items ≡ text.old.items ++ SaidText.listed (option_names options.now)) }
 {
-    let mut text = Vec::new(alloc);
-    put_options(&mut text, options)?;
-    if text.is_empty() {
-        return text_of_parts(alloc, &[" none"]);
+    let before = text.len();
+    put_options(text, options)?;
+    if text.len() == before {
+        text.extend_from_slice(b" none")?;
     }
-    Ok(text)
+    Ok(())
 }
 
 // What is said of a segment's first word that is written with a small letter.
@@ -127,81 +118,102 @@ fn capital_hint(word: &str) -> &'static str
     ""
 }
 
-fn unknown_option_text(
+// Puts the options that there are, the nearest of them, and where else the option is known.
+fn put_other_options(
     alloc: Global,
+    text: &mut Vec<u8>,
     table: &HelpTable,
     row: &SegmentRow,
     word: &str,
-) -> Result<Vec<u8>, AllocError>
-    ensures { IfOk result (λ text. text.items ≡ SaidText.unknown_option_text table.now row.now word.now) }
+) -> Result<(), AllocError>
+    ensures { OnOk result (text.new.items ≡ text.old.items ++ ((SaidText.known_options_text row.now ++ near_text (nearest_option row.now.options.now (name_part word.now))) ++ homes_text table.now word.now)) }
 {
-    let homes = homes_text(alloc, table, word)?;
-    let near = near_option_text(alloc, row.options, name_part(word))?;
-    let mut text = known_options_text(alloc, row)?;
-    text.extend_from_slice(near.as_slice())?;
-    text.extend_from_slice(homes.as_slice())?;
-    let hint = capital_hint(word);
-    put_all(&mut text, &[hint])?;
-    Ok(text)
+    put_known_options(text, row)?;
+    put_near_option(alloc, text, row.options, name_part(word))?;
+    put_homes_line(text, table, word)?;
+    Ok(())
+}
+
+fn put_unknown_option(
+    alloc: Global,
+    text: &mut Vec<u8>,
+    table: &HelpTable,
+    row: &SegmentRow,
+    word: &str,
+) -> Result<(), AllocError>
+    ensures { OnOk result (text.new.items ≡ text.old.items ++ SaidText.unknown_option_text table.now row.now word.now) }
+{
+    put_other_options(alloc, text, table, row, word)?;
+    text.extend_from_slice(capital_hint(word).as_bytes())?;
+    Ok(())
 }
 
 // The same, and what is said of an operand in its place.
 #[tactic(auto, unfolding(crate::specs::SaidText::unknown_text))]
-fn unknown_text(
+fn put_unknown(
     alloc: Global,
+    text: &mut Vec<u8>,
     table: &HelpTable,
     row: &SegmentRow,
     own: &[String],
     word: &str,
-) -> Result<Vec<u8>, AllocError>
-    ensures { IfOk result (λ text. text.items ≡ SaidText.unknown_text string_bytes table.now row.now own.now word.now) }
+) -> Result<(), AllocError>
+    ensures { OnOk result (text.new.items ≡ text.old.items ++ SaidText.unknown_text string_bytes table.now row.now own.now word.now) }
 {
-    let mut text = unknown_option_text(alloc, table, row, word)?;
-    put_unknown_hints(&mut text, table, row, own, word)?;
-    Ok(text)
+    put_unknown_option(alloc, text, table, row, word)?;
+    put_unknown_hints(text, table, row, own, word)?;
+    Ok(())
 }
 
-fn missing_text(
-    alloc: Global,
+// Puts how a segment may stand, and what it does.
+fn put_whole(text: &mut Vec<u8>, row: &SegmentRow) -> Result<(), AllocError>
+    ensures { OnOk result (text.new.items ≡ text.old.items ++ SaidText.whole_text row.now) }
+{
+    put_all(text, &["usage: ", row.usage, "\n", row.rule, "\n"])
+}
+
+fn put_missing(
+    text: &mut Vec<u8>,
     table: &HelpTable,
     row: &SegmentRow,
     own: &[String],
-) -> Result<Vec<u8>, AllocError>
-    ensures { IfOk result (λ text. text.items ≡ SaidText.missing_text string_bytes table.now row.now own.now) }
+) -> Result<(), AllocError>
+    ensures { OnOk result (text.new.items ≡ text.old.items ++ SaidText.missing_text string_bytes table.now row.now own.now) }
 {
     let words = words_from(own, head_of(table, own));
-    let mut text = Vec::new(alloc);
-    put_wanted(&mut text, row.options, own, words)?;
-    put_all(&mut text, &["usage: ", row.usage, "\n", row.rule, "\n"])?;
-    Ok(text)
+    put_wanted(text, row.options, own, words)?;
+    put_whole(text, row)?;
+    Ok(())
 }
 
-// What is said of one option.
-fn option_text(alloc: Global, said: Said, word: &str) -> Result<Vec<u8>, AllocError>
-    ensures { IfOk result (λ text. text.items ≡ SaidText.option_text said word.now) }
+// Puts what is said of one option.
+fn put_option_said(
+    alloc: Global,
+    text: &mut Vec<u8>,
+    said: &Said,
+    word: &str,
+) -> Result<(), AllocError>
+    ensures { OnOk result (text.new.items ≡ text.old.items ++ SaidText.option_text said.now word.now) }
 {
     match said {
-        Said::NoValue(row) => no_value_text(alloc, row),
-        Said::Again(row) => again_text(alloc, row),
-        Said::TakesNone(row) => text_of_parts(alloc, &[row.name, " takes no value\n"]),
-        Said::BadValue(row) => bad_value_text(alloc, row, word),
+        Said::NoValue(row) => put_no_value(text, row),
+        Said::Again(row) => put_again(text, row),
+        Said::TakesNone(row) => put_all(text, &[row.name, " takes no value\n"]),
+        Said::BadValue(row) => put_bad_value(alloc, text, row, word),
         Said::Apart(row) => {
-            text_of_parts(
-                alloc,
+            put_all(
+                text,
                 &["only one of these may be given: ", row.choice, "\n"],
             )
         }
-        Said::Clash(row) => clash_text(alloc, row),
-        Said::Alone(row) => text_of_parts(
-            alloc,
-            &[row.name, " is only allowed with ", row.with, "\n"],
-        ),
-        _ => Ok(Vec::new(alloc)),
+        Said::Clash(row) => put_clash(text, row),
+        Said::Alone(row) => { put_all(text, &[row.name, " is only allowed with ", row.with, "\n"]) }
+        _ => Ok(()),
     }
 }
 
-fn no_value_text(alloc: Global, row: OptionRow) -> Result<Vec<u8>, AllocError>
-    ensures { IfOk result (λ text. text.items ≡ SaidText.no_value_text row) }
+fn put_no_value(text: &mut Vec<u8>, row: &OptionRow) -> Result<(), AllocError>
+    ensures { OnOk result (text.new.items ≡ text.old.items ++ SaidText.no_value_text row.now) }
 {
     let form = takes_text(row.takes);
     let parts = [
@@ -213,34 +225,37 @@ fn no_value_text(alloc: Global, row: OptionRow) -> Result<Vec<u8>, AllocError>
         "\n",
         form,
     ];
-    text_of_parts(alloc, &parts)
+    put_all(text, &parts)
 }
 
-fn bad_value_text(alloc: Global, row: OptionRow, word: &str) -> Result<Vec<u8>, AllocError>
-    ensures { IfOk result (λ text. text.items ≡ SaidText.bad_value_text row word.now) }
+fn put_bad_value(
+    alloc: Global,
+    text: &mut Vec<u8>,
+    row: &OptionRow,
+    word: &str,
+) -> Result<(), AllocError>
+    ensures { OnOk result (text.new.items ≡ text.old.items ++ SaidText.bad_value_text row.now word.now) }
 {
-    let value = value_text(alloc, &row, value_part(word))?;
-    let mut text = text_of_parts(alloc, &[row.form, ": ", row.meaning, "\n"])?;
-    text.extend_from_slice(value.as_slice())?;
-    Ok(text)
+    put_all(text, &[row.form, ": ", row.meaning, "\n"])?;
+    put_value(alloc, text, row, value_part(word))?;
+    Ok(())
 }
 
 // An option that takes a list is given once.
-fn again_text(alloc: Global, row: OptionRow) -> Result<Vec<u8>, AllocError>
-    ensures { IfOk result (λ text. text.items ≡ SaidText.again_text row) }
+fn put_again(text: &mut Vec<u8>, row: &OptionRow) -> Result<(), AllocError>
+    ensures { OnOk result (text.new.items ≡ text.old.items ++ SaidText.again_text row.now) }
 {
     let list = list_text(row.takes);
-    let mut text = text_of_parts(alloc, &[row.name, " is given twice\n"])?;
-    put_all(&mut text, &[list])?;
-    Ok(text)
+    put_all(text, &[row.name, " is given twice\n", list])?;
+    Ok(())
 }
 
 // Two pairs that may not stand beside one another.
-fn clash_text(alloc: Global, row: OptionRow) -> Result<Vec<u8>, AllocError>
-    ensures { IfOk result (λ text. text.items ≡ SaidText.clash_text row) }
+fn put_clash(text: &mut Vec<u8>, row: &OptionRow) -> Result<(), AllocError>
+    ensures { OnOk result (text.new.items ≡ text.old.items ++ SaidText.clash_text row.now) }
 {
     let said = "a later pair has the same first or the same second number\n";
-    text_of_parts(alloc, &[said, row.form, ": ", row.meaning, "\n"])
+    put_all(text, &[said, row.form, ": ", row.meaning, "\n"])
 }
 
 // A word that is no number may be the name of a file.
@@ -253,12 +268,12 @@ fn file_hint(word: &str) -> &'static str
     }
 }
 
-fn extra_text(alloc: Global, row: &SegmentRow, word: &str) -> Result<Vec<u8>, AllocError>
-    ensures { IfOk result (λ text. text.items ≡ SaidText.extra_text row.now word.now) }
+fn put_extra(text: &mut Vec<u8>, row: &SegmentRow, word: &str) -> Result<(), AllocError>
+    ensures { OnOk result (text.new.items ≡ text.old.items ++ SaidText.extra_text row.now word.now) }
 {
     let said = "no further word is allowed here: ";
     let hint = file_hint(word);
-    text_of_parts(alloc, &[said, row.usage, "\n", hint])
+    put_all(text, &[said, row.usage, "\n", hint])
 }
 
 // Another program has several inputs.
@@ -271,65 +286,67 @@ fn second_hint(first: &str) -> &'static str
     ""
 }
 
-// What is said of a segment of the table.
-fn segment_text(
+// Puts what is said of a segment of the table.
+fn put_segment_said(
     alloc: Global,
+    text: &mut Vec<u8>,
     table: &HelpTable,
     row: &SegmentRow,
     own: &[String],
-    fault: Fault,
-) -> Result<Vec<u8>, AllocError>
-    ensures { IfOk result (λ text. text.items ≡ SaidText.segment_text string_bytes table.now row.now own.now fault) }
+    fault: &Fault,
+) -> Result<(), AllocError>
+    ensures { OnOk result (text.new.items ≡ text.old.items ++ SaidText.segment_text string_bytes table.now row.now own.now fault.now) }
 {
     let word = word_or_none(own, fault.at);
-    match fault.said {
-        Said::UnknownOption => unknown_text(alloc, table, row, own, word),
-        Said::Extra => extra_text(alloc, row, word),
-        Said::Missing => missing_text(alloc, table, row, own),
-        Said::Whole => text_of_parts(alloc, &["usage: ", row.usage, "\n", row.rule, "\n"]),
-        said => option_text(alloc, said, word),
+    match &fault.said {
+        Said::UnknownOption => put_unknown(alloc, text, table, row, own, word),
+        Said::Extra => put_extra(text, row, word),
+        Said::Missing => put_missing(text, table, row, own),
+        Said::Whole => put_whole(text, row),
+        said => put_option_said(alloc, text, said, word),
     }
 }
 
-// What is said where the segment is in the table.
-fn row_text(
+// Puts what is said where the segment is in the table.
+fn put_row_said(
     alloc: Global,
+    text: &mut Vec<u8>,
     table: &HelpTable,
     own: &[String],
-    fault: Fault,
-) -> Result<Vec<u8>, AllocError>
-    ensures { IfOk result (λ text. text.items ≡ SaidText.row_text string_bytes table.now own.now fault) }
+    fault: &Fault,
+) -> Result<(), AllocError>
+    ensures { OnOk result (text.new.items ≡ text.old.items ++ SaidText.row_text string_bytes table.now own.now fault.now) }
 {
     match row_of(table, own) {
-        Some(row) => segment_text(alloc, table, &row, own, fault),
-        None => Ok(Vec::new(alloc)),
+        Some(row) => put_segment_said(alloc, text, table, &row, own, fault),
+        None => Ok(()),
     }
 }
 
-fn second_text(alloc: Global, first: &str) -> Result<Vec<u8>, AllocError>
-    ensures { IfOk result (λ text. text.items ≡ SaidText.second_text first.now) }
+fn put_second(text: &mut Vec<u8>, first: &str) -> Result<(), AllocError>
+    ensures { OnOk result (text.new.items ≡ text.old.items ++ SaidText.second_text first.now) }
 {
-    let hint = second_hint(first);
-    let mut text = text_of_parts(alloc, &["only one ", first, " is allowed\n"])?;
-    put_all(&mut text, &[hint])?;
-    Ok(text)
+    put_all(text, &["only one ", first, " is allowed\n"])?;
+    text.extend_from_slice(second_hint(first).as_bytes())?;
+    Ok(())
 }
 
-/// What is said of a fault.
-pub(crate) fn said_text(
+/// Puts what is said of a fault.
+pub(crate) fn put_said(
     alloc: Global,
+    text: &mut Vec<u8>,
     table: &HelpTable,
     own: &[String],
-    fault: Fault,
-) -> Result<Vec<u8>, AllocError>
-    ensures { IfOk result (λ text. text.items ≡ SaidText.said_text string_bytes table.now own.now fault) }
+    fault: &Fault,
+) -> Result<(), AllocError>
+    ensures { OnOk result (text.new.items ≡ text.old.items ++ SaidText.said_text string_bytes table.now own.now fault.now) }
 {
     let first = word_or_none(own, 0);
-    match fault.said {
-        Said::Second => second_text(alloc, first),
-        Said::NoName => no_name_text(alloc, table, first),
-        Said::UnknownName => wrong_name_text(alloc, table, own),
-        Said::TooMany => text_of_parts(alloc, &["a chain has at most 62 plugins\n"]),
-        _ => row_text(alloc, table, own, fault),
+    match &fault.said {
+        Said::Second => put_second(text, first),
+        Said::NoName => put_no_name(text, table, first),
+        Said::UnknownName => put_wrong_name(alloc, text, table, own),
+        Said::TooMany => put_all(text, &["a chain has at most 62 plugins\n"]),
+        _ => put_row_said(alloc, text, table, own, fault),
     }
 }

@@ -11,13 +11,12 @@ use crate::segment_row::SegmentRow;
 fn begins(table: &HelpTable, word: &str) -> bool
     ensures { result ≡ Segment.begins table.now word.now }
 {
-    table.segments.iter().any(|row| is_first(row, word))
-}
-
-fn is_first(row: &SegmentRow, word: &str) -> bool
-    ensures { result ≡ Segment.is_first word.now row.now }
-{
-    row.first == word
+    for row in table.segments {
+        if row.first == word {
+            return true;
+        }
+    }
+    false
 }
 
 /// The words from that number on.

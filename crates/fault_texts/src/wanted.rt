@@ -48,7 +48,7 @@ fn operands_in(options: &[OptionRow], previous: &str, count: usize, words: &[Str
         return count + rest.len();
     }
     let role = role_of(options, previous, count, word.as_str());
-    operands_in(options, word.as_str(), counted(role, count), rest)
+    operands_in(options, word.as_str(), counted(&role, count), rest)
 }
 
 // Whether the option, or the operand of so many, stands.
