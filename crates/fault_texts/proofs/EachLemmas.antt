@@ -1,7 +1,8 @@
--- A loop that puts something of each item behind a text.
-use Rattle.std.proofs.Common.{◌≡◌, ℕ, ◌+◌, ◌<◌, ◌≤◌, List, [], ◌∷◌, ◌++◌, length, get_or, map, take, ap, ap₂, ◌∙◌, sym, append_assoc}
+-- Loops over lists: what is put of each item behind a text, and what is folded.
+use Rattle.std.proofs.Common.{◌≡◌, ℕ, ◌+◌, ◌<◌, ◌≤◌, List, [], ◌∷◌, ◌++◌, length, drop, get_or, map, take, ap, ap₂, ◌∙◌, sym, append_assoc}
+use Rattle.std.specs.Prelude.{fold}
 use Rattle.std.specs.List.{flat_map}
-use Rattle.std.proofs.lemmas.List.{flat_map_more, map-append, take_more, take_all}
+use Rattle.std.proofs.lemmas.List.{at_drop_more, drop_all, flat_map_more, map-append, take_more, take_all}
 
 -- one item more
 pub put_more : {X : Type 0} (f : X → List ℕ) (xs : List X) (k : ℕ) (d : X) (begun old new : List ℕ) → k < length xs
@@ -30,3 +31,13 @@ push_more f xs k d byte begun old new lt is so_far more =
 pub push_each : (f : ℕ → ℕ) (xs : List ℕ) (k : ℕ) (begun new : List ℕ) → length xs ≤ k
     → new ≡ begun ++ map f (take k xs) → new ≡ begun ++ map f xs
 push_each f xs k begun new le so_far = so_far ∙ ap (λ ys. begun ++ map f ys) (take_all k xs le)
+
+-- one item folded
+pub fold_more : {X Y : Type 0} (f : Y → X → Y) (xs : List X) (k : ℕ) (d : X) (old new end : Y) → k < length xs → new ≡ f old (get_or xs k d)
+    → fold f old (drop k xs) ≡ end → fold f new (drop (k + 1) xs) ≡ end
+fold_more f xs k d old new end lt is so_far =
+    ap (λ y. fold f y (drop (k + 1) xs)) is ∙ sym (at_drop_more (fold f old) xs k d lt) ∙ so_far
+
+-- all items folded
+pub fold_each : {X Y : Type 0} (f : Y → X → Y) (xs : List X) (k : ℕ) (new end : Y) → length xs ≤ k → fold f new (drop k xs) ≡ end → new ≡ end
+fold_each f xs k new end le so_far = sym (ap (fold f new) (drop_all k xs le)) ∙ so_far

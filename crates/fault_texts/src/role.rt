@@ -1,5 +1,5 @@
 //! What a word of a segment stands for.
-ghost use Rattle.std.specs.Prelude.{◌≡◌, ◌+◌, ◌<◌, ◌≤◌, ◌^◌};
+ghost use Rattle.std.specs.Prelude.{◌≡◌, ◌+◌, ◌<◌, ◌≤◌, ◌^◌, option_map};
 ghost use Rattle.fault_texts.specs.Roles;
 
 use crate::option_row::OptionRow;
@@ -62,36 +62,36 @@ fn is_operand(row: &OptionRow, count: usize) -> bool
 }
 
 /// The option that awaits a value after this word.
-fn awaiting(options: &[OptionRow], previous: &str) -> Option<OptionRow>
-    ensures { result ≡ Roles.awaiting options.now previous.now }
+fn awaiting<'a>(options: &'a [OptionRow], previous: &str) -> Option<&'a OptionRow>
+    ensures { option_map (λ row. row.now) result ≡ Roles.awaiting options.now previous.now }
 {
     for row in options {
         if awaits(row, previous) {
-            return Some(*row);
+            return Some(row);
         }
     }
     None
 }
 
 /// The option of this name.
-pub(crate) fn named(options: &[OptionRow], name: &str) -> Option<OptionRow>
-    ensures { result ≡ Roles.named options.now name.now }
+pub(crate) fn named<'a>(options: &'a [OptionRow], name: &str) -> Option<&'a OptionRow>
+    ensures { option_map (λ row. row.now) result ≡ Roles.named options.now name.now }
 {
     for row in options {
         if row.name == name {
-            return Some(*row);
+            return Some(row);
         }
     }
     None
 }
 
 /// The operand after so many others.
-pub(crate) fn operand(options: &[OptionRow], count: usize) -> Option<OptionRow>
-    ensures { result ≡ Roles.operand options.now count }
+pub(crate) fn operand(options: &[OptionRow], count: usize) -> Option<&OptionRow>
+    ensures { option_map (λ row. row.now) result ≡ Roles.operand options.now count }
 {
     for row in options {
         if is_operand(row, count) {
-            return Some(*row);
+            return Some(row);
         }
     }
     None
@@ -103,12 +103,12 @@ fn free_role(options: &[OptionRow], count: usize, word: &str) -> Role
 {
     if is_dashed(word) {
         match named(options, name_part(word)) {
-            Some(row) => Role::Named(row),
+            Some(row) => Role::Named(*row),
             None => Role::Unknown,
         }
     } else {
         match operand(options, count) {
-            Some(row) => Role::Operand(row),
+            Some(row) => Role::Operand(*row),
             None => Role::Extra,
         }
     }
@@ -119,7 +119,7 @@ pub(crate) fn role_of(options: &[OptionRow], previous: &str, count: usize, word:
     ensures { result ≡ Roles.role_of options.now previous.now count word.now }
 {
     match awaiting(options, previous) {
-        Some(row) => Role::Value(row),
+        Some(row) => Role::Value(*row),
         None => free_role(options, count, word),
     }
 }

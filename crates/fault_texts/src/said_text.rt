@@ -68,8 +68,10 @@ fn put_wrong_name(
 ) -> Result<(), AllocError>
     ensures { OnOk result (text.new.items ≡ text.old.items ++ SaidText.wrong_name_text string_bytes table.now own.now) }
 {
+    let first = word_or_none(own, 0);
+    let name = word_or_none(own, 1);
     put_unknown_name(alloc, text, table, own)?;
-    put_name_hint(text, table, word_or_none(own, 0), word_or_none(own, 1))?;
+    put_name_hint(text, table, first, name)?;
     Ok(())
 }
 
@@ -149,7 +151,6 @@ fn put_unknown_option(
 }
 
 // The same, and what is said of an operand in its place.
-#[tactic(auto, unfolding(crate::specs::SaidText::unknown_text))]
 fn put_unknown(
     alloc: Global,
     text: &mut Vec<u8>,
@@ -318,7 +319,7 @@ fn put_row_said(
     ensures { OnOk result (text.new.items ≡ text.old.items ++ SaidText.row_text string_bytes table.now own.now fault.now) }
 {
     match row_of(table, own) {
-        Some(row) => put_segment_said(alloc, text, table, &row, own, fault),
+        Some(row) => put_segment_said(alloc, text, table, row, own, fault),
         None => Ok(()),
     }
 }

@@ -1,5 +1,5 @@
 //! Which words a fault is about.
-ghost use Rattle.std.specs.Prelude.{◌≡◌, drop};
+ghost use Rattle.std.specs.Prelude.{◌≡◌, drop, option_map};
 ghost use Rattle.std.specs.List.{position};
 ghost use Rattle.std.specs.String.{string_bytes};
 ghost use Rattle.fault_texts.specs.Segment;
@@ -81,17 +81,17 @@ pub(crate) fn is_called(row: &SegmentRow, first: &str, name: &str) -> bool
 }
 
 /// What is said of the segment, where there is one of its name.
-pub(crate) fn row_of(table: &HelpTable, own: &[String]) -> Option<SegmentRow>
-    ensures { result ≡ Segment.row_of string_bytes table.now own.now }
+pub(crate) fn row_of<'a>(table: &'a HelpTable, own: &[String]) -> Option<&'a SegmentRow>
+    ensures { option_map (λ row. row.now) result ≡ Segment.row_of string_bytes table.now own.now }
 {
     if !is_begun(table, own) {
-        return Some(table.general);
+        return Some(&table.general);
     }
     let first = word_or_none(own, 0);
     let name = word_or_none(own, 1);
     for row in table.segments {
         if is_called(row, first, name) {
-            return Some(*row);
+            return Some(row);
         }
     }
     None
