@@ -29,11 +29,11 @@ fn put_byte(text: &mut Vec<u8>, byte: u8) -> Result<(), AllocError>
     put_plain(text, byte)
 }
 
-// Puts a key after a text.
-fn put_key(text: &mut Vec<u8>, key: &str) -> Result<(), AllocError>
+// Puts the bytes of a key after a text.
+fn put_key(text: &mut Vec<u8>, key: &[u8]) -> Result<(), AllocError>
     ensures { OnOk result (text.new.items ≡ text.old.items ++ Pointer.escaped_key key.now) }
 {
-    for byte in key.as_bytes() {
+    for byte in key {
         put_byte(text, *byte)?;
     }
     Ok(())
@@ -65,6 +65,6 @@ pub(crate) fn key_pointer(alloc: Global, path: &[usize], key: &str) -> Result<Ve
     let mut text = Vec::new(alloc);
     put_path(alloc, &mut text, path)?;
     text.extend_from_slice(b"/")?;
-    put_key(&mut text, key)?;
+    put_key(&mut text, key.as_bytes())?;
     Ok(text)
 }
