@@ -4,8 +4,10 @@
 /// a dash.
 pub fn named_behind<'a>(words: &'a [String], first: &str, number: u32) -> Option<&'a str> {
     let mut left = number;
-    let pairs = words.iter().zip(words.iter().skip(1));
-    for ((word, kind), name) in pairs.zip(words.iter().skip(2)) {
+    for part in words.windows(3) {
+        let [word, kind, name] = part else {
+            continue;
+        };
         if word.as_str() == first && kind.as_str() == "file" {
             if left <= 1 {
                 return (!name.starts_with('-')).then_some(name.as_str());
