@@ -34,7 +34,12 @@ fn is_end(word: &str) -> bool
 fn ends_options(own: &[String]) -> bool
     ensures { result ≡ FaultOf.ends_options string_bytes own.now }
 {
-    own.iter().any(|word| is_end(word.as_str()))
+    for word in own {
+        if is_end(word.as_str()) {
+            return true;
+        }
+    }
+    false
 }
 
 // The first word that is wrong of a segment with these options and operands.
@@ -96,8 +101,10 @@ fn fault_of_options(
 ) -> Result<Fault, AllocError>
     ensures { IfOk result (λ fault. fault ≡ FaultOf.fault_of_options string_bytes table.now own.now rule) }
 {
-    let found = found_of_options(alloc, table, own, rule)?;
-    Ok(or_whole(found, own, rule))
+    match found_of_options(alloc, table, own, rule) {
+        Ok(found) => Ok(or_whole(found, own, rule)),
+        Err(error) => Err(error),
+    }
 }
 
 /// What is wrong with a segment, and with which word of it.

@@ -245,8 +245,10 @@ fn fault_at(
     ensures { IfOk result (λ fault. fault ≡ FirstFault.numbered (FirstFault.said_of_word string_bytes held.now.options.now held.now.rule held.now.all.now (role_of held.now.options.now previous.now count word.now) word.now rest.now) at) }
 {
     let role = role_of(held.options, previous, count, word);
-    let said = said_of_word(alloc, held, &role, word, rest)?;
-    Ok(numbered(said, at))
+    match said_of_word(alloc, held, &role, word, rest) {
+        Ok(said) => Ok(numbered(said, at)),
+        Err(error) => Err(error),
+    }
 }
 
 // How many operands there are up to a word after another one and so many operands.

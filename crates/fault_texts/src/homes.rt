@@ -13,7 +13,12 @@ use std::alloc::AllocError;
 fn any_has_word(segments: &[SegmentRow], word: &str) -> bool
     ensures { result ≡ list_any (has_word word.now) segments.now }
 {
-    segments.iter().any(|row| has_word(row, word))
+    for row in segments {
+        if has_word(row, word) {
+            return true;
+        }
+    }
+    false
 }
 
 fn has_home(table: &HelpTable, word: &str) -> bool

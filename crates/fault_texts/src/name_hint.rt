@@ -13,7 +13,12 @@ use std::alloc::AllocError;
 fn is_known(table: &HelpTable, first: &str, name: &str) -> bool
     ensures { result ≡ NameHint.is_known table.now first.now name.now }
 {
-    table.segments.iter().any(|row| is_called(row, first, name))
+    for row in table.segments {
+        if is_called(row, first, name) {
+            return true;
+        }
+    }
+    false
 }
 
 // Whether such a name stands before a blank.

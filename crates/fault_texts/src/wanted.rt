@@ -20,7 +20,12 @@ fn is_of_choice(other: &OptionRow, row: &OptionRow, own: &[String]) -> bool
 fn any_of_choice(options: &[OptionRow], row: &OptionRow, own: &[String]) -> bool
     ensures { result ≡ list_any (Wanted.is_of_choice string_bytes row.now own.now) options.now }
 {
-    options.iter().any(|other| is_of_choice(other, row, own))
+    for other in options {
+        if is_of_choice(other, row, own) {
+            return true;
+        }
+    }
+    false
 }
 
 fn choice_stands(options: &[OptionRow], row: &OptionRow, own: &[String]) -> bool
@@ -107,13 +112,23 @@ fn is_given(row: &OptionRow, own: &[String]) -> bool
 fn any_is_given(options: &[OptionRow], own: &[String]) -> bool
     ensures { result ≡ list_any (Wanted.is_given string_bytes own.now) options.now }
 {
-    options.iter().any(|row| is_given(row, own))
+    for row in options {
+        if is_given(row, own) {
+            return true;
+        }
+    }
+    false
 }
 
 fn has_group(options: &[OptionRow]) -> bool
     ensures { result ≡ list_any (λ row. row.in_group) options.now }
 {
-    options.iter().any(|row| row.in_group)
+    for row in options {
+        if row.in_group {
+            return true;
+        }
+    }
+    false
 }
 
 fn put_name_of_group(text: &mut Vec<u8>, row: &OptionRow) -> Result<(), AllocError>
