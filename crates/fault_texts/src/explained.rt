@@ -85,6 +85,8 @@ pub fn fault_text(
     ensures { IfOk result (λ text. text.items ≡ FaultText.fault_text string_bytes table.now words.now at rule) }
 {
     let own = segment_of(table, words_from(words, at));
-    let fault = fault_of(alloc, table, own, rule)?;
-    fault_lines(alloc, table, own, &fault)
+    match fault_of(alloc, table, own, rule) {
+        Ok(fault) => fault_lines(alloc, table, own, &fault),
+        Err(error) => Err(error),
+    }
 }

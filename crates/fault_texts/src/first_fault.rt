@@ -278,10 +278,14 @@ pub(crate) fn first_fault(
         return Ok(None);
     };
     let text = word.as_str();
-    let fault = fault_at(alloc, held, previous, count, at, text, rest)?;
-    if fault.is_some() {
-        return Ok(fault);
+    match fault_at(alloc, held, previous, count, at, text, rest) {
+        Ok(fault) => {
+            if fault.is_some() {
+                return Ok(fault);
+            }
+            let so_far = counted_with(held.options, previous, count, text);
+            first_fault(alloc, held, text, so_far, at + 1, rest)
+        }
+        Err(error) => Err(error),
     }
-    let so_far = counted_with(held.options, previous, count, text);
-    first_fault(alloc, held, text, so_far, at + 1, rest)
 }

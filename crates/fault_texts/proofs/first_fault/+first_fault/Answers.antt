@@ -13,14 +13,14 @@ pub returns-then-is_some : goal.returns-then-is_some
 returns-then-is_some t c =
     let held = c.args.held.now in
     fault_here string_bytes held.options.now held.rule held.all.now c.args.previous.now c.args.count c.args.at c.in-Some.word.now c.in-Some.rest.now
-    c.as_str-text.result.now c.args.words.now c.in_ok-fault.fault c.as_str-text.ensures.value c.in-Some.ensures.cases.0
-    c.in_ok-fault.ensures (sym c.is_some.ensures ∙ c.if-is_some.true)
+    c.as_str-text.result.now c.args.words.now c.in-Ok.fault c.as_str-text.ensures.value c.in-Some.ensures.cases.0
+    c.in-Ok.ensures (sym c.is_some.ensures ∙ c.if-is_some.true)
 
-pub returns : goal.returns
-returns t c =
+pub returns-else-is_some : goal.returns-else-is_some
+returns-else-is_some t c =
     let held = c.args.held.now in
     subst (λ found. IfOk c.first_fault.result (λ fault. fault ≡ found))
     (fault_later string_bytes held.options.now held.rule held.all.now c.args.previous.now c.args.count c.args.at c.in-Some.word.now c.in-Some.rest.now
-    c.as_str-text.result.now c.args.words.now c.in_ok-fault.fault c.counted_with-so_far.result c.as_str-text.ensures.value c.in-Some.ensures.cases.0
-    c.in_ok-fault.ensures (sym c.is_some.ensures ∙ c.if-is_some.false) c.counted_with-so_far.ensures.counted)
+    c.as_str-text.result.now c.args.words.now c.in-Ok.fault c.counted_with-so_far.result c.as_str-text.ensures.value c.in-Some.ensures.cases.0
+    c.in-Ok.ensures (sym c.is_some.ensures ∙ c.if-is_some.false) c.counted_with-so_far.ensures.counted)
     c.first_fault.ensures
