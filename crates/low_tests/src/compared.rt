@@ -1,6 +1,6 @@
 //! Comparisons of the tests. An assertion written out has many steps, and a call of these has one.
 
-ghost use Rattle.std.specs.Prelude.{◌≡◌};
+ghost use Rattle.std.specs.Prelude.{◌≡◌, Ok};
 
 use std::fmt::Debug;
 use std::process::Abort;
@@ -20,4 +20,15 @@ pub(crate) fn are_so_many(rt: &impl Abort, found: usize, wanted: usize)
     ensures { found ≡ wanted }
 {
     assert_eq!(rt; found, wanted);
+}
+
+/// The value of a call that has to succeed. Aborts with its error otherwise: a `?` in its place is one more way out, on
+/// which all that the caller holds is dropped.
+pub(crate) fn got<T, E: Debug>(rt: &impl Abort, made: Result<T, E>) -> T
+    ensures { made ≡ Ok result }
+{
+    match made {
+        Ok(value) => value,
+        Err(error) => rt.panic(format_args!("error: {error:?}")),
+    }
 }

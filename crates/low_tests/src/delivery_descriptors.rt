@@ -1,6 +1,7 @@
 //! A delivery system descriptor is read and written back; each call that allocates, once with enough memory.
 
-use std::test::Fail;
+use crate::compared::{got, same, same_bytes};
+use std::process::Abort;
 use ts_bits::Descriptor;
 use ts_descr_delivery::DeliveryDescr;
 
@@ -9,20 +10,22 @@ static CABLE: [u8; 11] = [
     0x03, 0x46, 0x00, 0x00, 0xFF, 0xF2, 0x03, 0x00, 0x68, 0x75, 0x0F,
 ];
 
-#[test]
-fn a_cable_is_written_again(rt: HostRuntime) -> Result<(), Fail> {
-    let descriptor = Descriptor::new(rt.alloc(), 0x44, &CABLE)?;
-    let value = DeliveryDescr::read(rt.alloc(), &descriptor)?.ok_or("no page")?;
-    let written = value.write(rt.alloc())?;
-    assert_eq!(rt; written.body(), CABLE.as_slice());
-    Ok(())
+/// What is read from a cable_delivery_system_descriptor.
+fn read(rt: &(impl Abort + AllocGlobal), body: &[u8; 11]) -> Option<DeliveryDescr> {
+    let descriptor = got(rt, Descriptor::new(rt.alloc(), 0x44, body));
+    got(rt, DeliveryDescr::read(rt.alloc(), &descriptor))
 }
 
 #[test]
-fn ten_is_no_digit(rt: HostRuntime) -> Result<(), Fail> {
+fn a_cable_is_written_again(rt: HostRuntime) {
+    let value = got(&rt, read(&rt, &CABLE).ok_or("no page"));
+    let written = got(&rt, value.write(rt.alloc()));
+    same_bytes(&rt, written.body(), &CABLE);
+}
+
+#[test]
+fn ten_is_no_digit(rt: HostRuntime) {
     let mut body = CABLE;
     body[1] = 0x0A;
-    let descriptor = Descriptor::new(rt.alloc(), 0x44, &body)?;
-    assert!(rt; DeliveryDescr::read(rt.alloc(), &descriptor)?.is_none());
-    Ok(())
+    same(&rt, read(&rt, &body).is_none(), true);
 }

@@ -3,10 +3,9 @@
 ghost use Rattle.std.specs.Prelude.{◌≤◌, length, IsTrue};
 ghost use Rattle.ts_fields.specs.Bodies.{page, page_sound};
 
-use crate::compared::{same, same_bytes};
+use crate::compared::{got, same, same_bytes};
 use std::alloc::Global;
 use std::process::Abort;
-use std::test::Fail;
 use ts_fields::{
     Field, ItemLayout, Kind, Layout, NotRead, fit_page_is_shaped, read_body, write_body,
 };
@@ -66,28 +65,31 @@ fn again(alloc: Global, layout: &Layout, from: &[u8]) -> Result<Vec<u8>, NotRead
 }
 
 /// Checks that a body, read and written back, gives the bytes `OF_EACH_KIND`.
-fn is_kept(rt: &(impl Abort + AllocGlobal), from: &[u8]) -> Result<(), Fail>
+fn is_kept(rt: &(impl Abort + AllocGlobal), from: &[u8])
     requires { length from.now ≤ 4096 }
 {
-    let bytes = again(rt.alloc(), &EACH_KIND, from)?;
+    let bytes = got(rt, again(rt.alloc(), &EACH_KIND, from));
     same_bytes(rt, &bytes, &OF_EACH_KIND);
-    Ok(())
 }
 
 #[test]
-fn each_kind_is_read_and_written(rt: HostRuntime) -> Result<(), Fail> {
+fn each_kind_is_read_and_written(rt: HostRuntime) {
     let mut free = OF_EACH_KIND;
+    is_kept(&rt, &free);
     free[0] = 0xB9;
-    is_kept(&rt, &OF_EACH_KIND)?;
-    is_kept(&rt, &free)
+    is_kept(&rt, &free);
+}
+
+/// What is written after reading pairs.
+fn pairs(rt: &(impl Abort + AllocGlobal), from: &[u8]) -> Result<Vec<u8>, NotRead>
+    requires { length from.now ≤ 4096 }
+{
+    again(rt.alloc(), &PAIRS, from)
 }
 
 #[test]
-fn items_are_read_and_written(rt: HostRuntime) -> Result<(), Fail> {
+fn items_are_read_and_written(rt: HostRuntime) {
     let row = [0x07, 0x12, 0x34, 0x56, 0x78];
-    let cut = again(rt.alloc(), &PAIRS, &row[..4]).err();
-    same(&rt, cut, Some(NotRead::Outside));
-    let bytes = again(rt.alloc(), &PAIRS, &row)?;
-    same_bytes(&rt, &bytes, &row);
-    Ok(())
+    same(&rt, pairs(&rt, &row[..4]).err(), Some(NotRead::Outside));
+    same_bytes(&rt, &got(&rt, pairs(&rt, &row)), &row);
 }

@@ -1,6 +1,5 @@
 //! Tests of the generated stream.
-use crate::compared::same_bytes;
-use std::test::Fail;
+use crate::compared::{got, same_bytes};
 use ts_testgen::TestGen;
 
 /// The first five bytes of packet number `i` of the stream of seed 1.
@@ -15,13 +14,12 @@ fn front_at(i: u64) -> Option<[u8; 5]> {
 }
 
 #[test]
-fn some_packets(rt: HostRuntime) -> Result<(), Fail> {
-    let mut generator = TestGen::new(rt.alloc(), 1)?;
+fn some_packets(rt: HostRuntime) {
+    let mut generator = got(&rt, TestGen::new(rt.alloc(), 1));
     for i in 0..51u64 {
         let packet = generator.next_packet();
         if let Some(front) = front_at(i) {
             same_bytes(&rt, &packet.bytes()[..5], &front);
         }
     }
-    Ok(())
 }

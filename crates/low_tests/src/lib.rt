@@ -25,8 +25,6 @@ mod generated;
 #[cfg(test)]
 mod lawless_pmt;
 #[cfg(test)]
-mod lawless_pointers;
-#[cfg(test)]
 mod mpeg_descriptors;
 #[cfg(test)]
 mod packets_of_bytes;

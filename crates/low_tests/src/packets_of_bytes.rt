@@ -189,17 +189,20 @@ fn written() -> Packet {
     written
 }
 
+/// Sets the PCR of a packet, and checks its bytes.
+fn is_clocked(rt: &impl Abort, packet: &mut Packet) {
+    same(rt, packet.set_pcr(19_009_872), true);
+    let wanted = [0, 0, 0x7B, 0xC3, 0x7E, 0x48];
+    same_bytes(rt, &packet.bytes()[6..12], &wanted);
+}
+
 /// Each setter once, on the null packet and on one with a PCR.
 #[test]
 fn fields_written(rt: HostRuntime) {
     let wanted = [0x47, 0xE1, 1, 0xF6, 1, 0xE0, 0xFF];
     same_bytes(&rt, &written().bytes()[..7], &wanted);
-
     let head = [0x47, 1, 0, 0x33, 7, 0x10, 0, 0, 0, 0, 0, 0];
-    let mut clocked = packet(&rt, head);
-    same(&rt, clocked.set_pcr(19_009_872), true);
-    let wanted = [0, 0, 0x7B, 0xC3, 0x7E, 0x48];
-    same_bytes(&rt, &clocked.bytes()[6..12], &wanted);
+    is_clocked(&rt, &mut packet(&rt, head));
     same(&rt, Packet::null().set_pcr(0), false);
 }
 
@@ -210,16 +213,24 @@ fn sync_byte(rt: HostRuntime) {
     same(&rt, Packet::null(), packet(&rt, NULL_HEAD));
 }
 
+/// Which labels a set has.
+fn has_labels(labels: Labels) -> [bool; 4] {
+    [labels.has(0), labels.has(3), labels.has(4), labels.has(31)]
+}
+
+/// Checks what the set of the labels 3 and 31 has in common with others.
+fn intersect(rt: &impl Abort, labels: Labels) {
+    let last = Labels::none().with(31);
+    same(rt, labels.shares(last), true);
+    same(rt, labels.shares(Labels::none().with(4)), false);
+    same(rt, Labels::none().with(3).union(last), labels);
+}
+
 /// Labels are found again, two sets intersect in one label, and a cell with labels takes 196 bytes.
 #[test]
 fn labels_of_a_cell(rt: HostRuntime) {
     let labels = Labels::none().with(3).with(31);
-    for (n, wanted) in [(0, false), (3, true), (4, false), (31, true)] {
-        assert!(rt; labels.has(n) == wanted, "label {n}");
-    }
-    let last = Labels::none().with(31);
-    same(&rt, labels.shares(last), true);
-    same(&rt, labels.shares(Labels::none().with(4)), false);
-    same(&rt, Labels::none().with(3).union(last), labels);
+    same(&rt, has_labels(labels), [false, true, false, true]);
+    intersect(&rt, labels);
     same(&rt, size_of::<Cell>(), 196);
 }

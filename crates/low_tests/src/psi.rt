@@ -1,53 +1,55 @@
 //! Tests of PAT, CAT and PMT: worked rows, and each call that allocates, once with enough memory.
 
-ghost use Rattle.std.specs.Prelude.{◌≡◌, IfOk};
+ghost use Rattle.std.specs.Prelude.{◌≡◌};
 ghost use Rattle.ts_psi.specs.CatTables.{cat_held};
 ghost use Rattle.ts_psi.specs.PatTables.{pat_held};
 ghost use Rattle.ts_psi.specs.PsiTables.{pmt_held};
 
-use crate::compared::{are_so_many, same, same_bytes};
+use crate::compared::{are_so_many, got, same, same_bytes};
 use crate::tables_of_bytes::{is_one_section, is_one_section_of, long_descriptors, run_of};
-use std::alloc::Global;
 use std::process::Abort;
-use std::test::Fail;
 use ts_bits::DescriptorList;
 use ts_psi::{Cat, Component, ComponentList, Pat, PatService, PatServiceList, Pmt};
 use ts_section::{Section, TableRun};
 use ts_table_rows::TableRefusal;
 
 /// A PAT of transport stream 1 with service 1 on PID 4096, as many multiplexers write it.
-const PAT: [u8; 16] = [
+static PAT: [u8; 16] = [
     0x00, 0xB0, 0x0D, 0x00, 0x01, 0xC1, 0x00, 0x00, 0x00, 0x01, 0xF0, 0x00, 0x2A, 0xB1, 0x04, 0xB2,
 ];
 
 /// A PAT after writing and reading its sections.
-fn pat_again(alloc: Global, pat: &Pat) -> Result<Pat, Fail>
-    ensures { IfOk result (λ p. pat_held p ≡ pat_held pat.now) }
+fn pat_again(rt: &(impl Abort + AllocGlobal), pat: &Pat) -> Pat
+    ensures { pat_held result ≡ pat_held pat.now }
 {
-    let run = TableRun::of(pat.sections(alloc)?)?;
-    Ok(Pat::read(alloc, &run)?)
+    let sections = got(rt, pat.sections(rt.alloc()));
+    let run = got(rt, TableRun::of(sections));
+    got(rt, Pat::read(rt.alloc(), &run))
 }
 
 /// A CAT after writing and reading its sections.
-fn cat_again(alloc: Global, cat: &Cat) -> Result<Cat, Fail>
-    ensures { IfOk result (λ c. cat_held c ≡ cat_held cat.now) }
+fn cat_again(rt: &(impl Abort + AllocGlobal), cat: &Cat) -> Cat
+    ensures { cat_held result ≡ cat_held cat.now }
 {
-    let run = TableRun::of(cat.sections(alloc)?)?;
-    Ok(Cat::read(alloc, &run)?)
+    let sections = got(rt, cat.sections(rt.alloc()));
+    let run = got(rt, TableRun::of(sections));
+    got(rt, Cat::read(rt.alloc(), &run))
 }
 
 /// A PMT after writing and reading its section.
-fn pmt_again(alloc: Global, pmt: &Pmt) -> Result<Pmt, Fail>
-    ensures { IfOk result (λ p. pmt_held p ≡ pmt_held pmt.now) }
+fn pmt_again(rt: &(impl Abort + AllocGlobal), pmt: &Pmt) -> Pmt
+    ensures { pmt_held result ≡ pmt_held pmt.now }
 {
-    let run = TableRun::of(pmt.sections(alloc)?)?;
-    Ok(Pmt::read(alloc, &run)?)
+    let sections = got(rt, pmt.sections(rt.alloc()));
+    let run = got(rt, TableRun::of(sections));
+    got(rt, Pmt::read(rt.alloc(), &run))
 }
 
 /// A copy of the PAT of these bytes.
-fn copied_pat(alloc: Global) -> Result<Pat, Fail> {
-    let run = run_of(alloc, &PAT)?;
-    Ok(Pat::read(alloc, &run)?.copy()?)
+fn copied_pat(rt: &(impl Abort + AllocGlobal)) -> Pat {
+    let run = run_of(rt, &PAT);
+    let pat = got(rt, Pat::read(rt.alloc(), &run));
+    got(rt, pat.copy())
 }
 
 /// Checks the fields of that PAT.
@@ -60,28 +62,26 @@ fn is_the_pat(rt: &impl Abort, pat: &Pat) {
 }
 
 #[test]
-fn a_pat(rt: HostRuntime) -> Result<(), Fail> {
-    let pat = copied_pat(rt.alloc())?;
+fn a_pat(rt: HostRuntime) {
+    let pat = copied_pat(&rt);
     is_the_pat(&rt, &pat);
-    let sections = pat.sections(rt.alloc())?;
-    is_one_section(&rt, &sections, &PAT);
-    Ok(())
+    is_one_section(&rt, &got(&rt, pat.sections(rt.alloc())), &PAT);
 }
 
 /// A PAT with a network PID and a service.
-fn with_a_network(alloc: Global) -> Result<Pat, Fail> {
+fn with_a_network(rt: &(impl Abort + AllocGlobal)) -> Pat {
     let service = PatService {
         service_id: 7,
         pid: 256,
     };
-    let services = vec![in alloc; service]?;
-    Ok(Pat {
+    let services = got(rt, vec![in rt.alloc(); service]);
+    Pat {
         version: 3,
         current: true,
         stream_id: 2,
         network_pid: Some(16),
         services: PatServiceList::of(services),
-    })
+    }
 }
 
 /// Checks that there is one section, with this body.
@@ -90,85 +90,87 @@ fn is_one_body(rt: &impl Abort, sections: &[Section], body: &[u8]) {
     same_bytes(rt, sections[0].body(), body);
 }
 
+/// Checks a PAT after writing and reading its sections.
+fn comes_again(rt: &(impl Abort + AllocGlobal), pat: &Pat) {
+    let again = pat_again(rt, pat);
+    same(rt, again.network_pid, Some(16));
+    same(rt, again.services.as_slice().len(), 1);
+}
+
 #[test]
-fn a_network_entry(rt: HostRuntime) -> Result<(), Fail> {
-    let pat = with_a_network(rt.alloc())?;
-    let sections = pat.sections(rt.alloc())?;
+fn a_network_entry(rt: HostRuntime) {
+    let pat = with_a_network(&rt);
+    let sections = got(&rt, pat.sections(rt.alloc()));
     is_one_body(&rt, &sections, &[0, 0, 0xE0, 0x10, 0, 7, 0xE1, 0]);
-    let again = pat_again(rt.alloc(), &pat)?;
-    same(&rt, again.network_pid, Some(16));
-    same(&rt, again.services.as_slice().len(), 1);
-    Ok(())
+    comes_again(&rt, &pat);
 }
 
 /// A CAT without descriptors.
-fn empty_cat(alloc: Global) -> Cat {
+fn empty_cat(rt: &(impl Abort + AllocGlobal)) -> Cat {
     Cat {
         version: 0,
         current: true,
-        descriptors: DescriptorList::of(Vec::new(alloc)),
+        descriptors: DescriptorList::of(Vec::new(rt.alloc())),
     }
 }
 
 /// The sections of a copy of that CAT.
-fn empty_sections(alloc: Global) -> Result<Vec<Section>, Fail> {
-    Ok(empty_cat(alloc).copy()?.sections(alloc)?)
+fn empty_sections(rt: &(impl Abort + AllocGlobal)) -> Vec<Section> {
+    let cat = empty_cat(rt);
+    got(rt, got(rt, cat.copy()).sections(rt.alloc()))
 }
 
 #[test]
-fn an_empty_cat(rt: HostRuntime) -> Result<(), Fail> {
+fn an_empty_cat(rt: HostRuntime) {
     let bytes = [
         0x01, 0xB0, 0x09, 0xFF, 0xFF, 0xC1, 0x00, 0x00, 0xD6, 0x6D, 0xA2, 0x42,
     ];
-    is_one_section(&rt, &empty_sections(rt.alloc())?, &bytes);
-    let again = cat_again(rt.alloc(), &empty_cat(rt.alloc()))?;
+    is_one_section(&rt, &empty_sections(&rt), &bytes);
+    let again = cat_again(&rt, &empty_cat(&rt));
     same(&rt, again.descriptors.as_slice().len(), 0);
-    Ok(())
 }
 
 /// One component without descriptors.
-fn one_component(alloc: Global) -> Result<ComponentList, Fail> {
+fn one_component(rt: &(impl Abort + AllocGlobal)) -> ComponentList {
     let component = Component {
         stream_type: 2,
         pid: 256,
-        descriptors: DescriptorList::of(Vec::new(alloc)),
+        descriptors: DescriptorList::of(Vec::new(rt.alloc())),
     };
-    Ok(ComponentList::of(vec![in alloc; component]?))
+    ComponentList::of(got(rt, vec![in rt.alloc(); component]))
 }
 
 /// A PMT with four descriptors, the last of `last` bytes.
-fn pmt_with(alloc: Global, last: usize) -> Result<Pmt, Fail> {
-    let descriptors = long_descriptors(alloc, 3, last)?;
-    let components = one_component(alloc)?;
-    Ok(Pmt {
+fn pmt_with(rt: &(impl Abort + AllocGlobal), last: usize) -> Pmt {
+    let descriptors = long_descriptors(rt, 3, last);
+    let components = one_component(rt);
+    Pmt {
         version: 0,
         current: true,
         service_id: 1,
         pcr_pid: 256,
         descriptors,
         components,
-    })
+    }
 }
 
-/// The sections of a copy of the longest PMT.
-fn longest_sections(alloc: Global) -> Result<Vec<Section>, Fail> {
-    let pmt = pmt_with(alloc, 230)?;
-    Ok(pmt.copy()?.sections(alloc)?)
+/// Why a PMT that is one byte too long has no section.
+fn past(rt: &(impl Abort + AllocGlobal)) -> Option<TableRefusal> {
+    pmt_with(rt, 231).sections(rt.alloc()).err()
 }
 
-/// The longest PMT after writing and reading its section.
-fn longest_again(alloc: Global) -> Result<Pmt, Fail> {
-    let pmt = pmt_with(alloc, 230)?;
-    pmt_again(alloc, &pmt)
+/// Checks the section of a copy of the longest PMT.
+fn is_longest(rt: &(impl Abort + AllocGlobal), pmt: &Pmt) {
+    let copied = got(rt, pmt.copy());
+    is_one_section_of(rt, &got(rt, copied.sections(rt.alloc())), 1024);
 }
 
 #[test]
-fn the_longest_pmt(rt: HostRuntime) -> Result<(), Fail> {
-    let past = pmt_with(rt.alloc(), 231)?.sections(rt.alloc()).err();
-    same(&rt, past, Some(TableRefusal::TooLarge { bytes: 1022 }));
-    is_one_section_of(&rt, &longest_sections(rt.alloc())?, 1024);
-    let again = longest_again(rt.alloc())?;
+fn the_longest_pmt(rt: HostRuntime) {
+    same(&rt, past(&rt), Some(TableRefusal::TooLarge { bytes: 1022 }));
+    let pmt = pmt_with(&rt, 230);
+    is_longest(&rt, &pmt);
+    let again = pmt_again(&rt, &pmt);
     same(&rt, again.descriptors.as_slice().len(), 4);
     same(&rt, again.components.as_slice().len(), 1);
-    Ok(())
 }

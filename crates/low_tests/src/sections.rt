@@ -1,10 +1,10 @@
 //! Tests of sections: worked rows, sections that other tools wrote, and each call that allocates, once with enough
 //! memory.
 
-use crate::compared::{are_so_many, same, same_bytes};
+use crate::compared::{got, same, same_bytes};
+use crate::tables_of_bytes::{is_one_section, run_of};
 use std::alloc::{AllocError, Global};
 use std::process::Abort;
-use std::test::Fail;
 use ts_section::{LongHead, Section, SectionFault, SectionRule, TableRun, crc_of};
 
 /// A PAT as ffmpeg's muxer writes it: transport_stream_id 1105, the network PID 16, service 769 on PID 272.
@@ -26,63 +26,92 @@ fn fault(alloc: Global, bytes: &[u8]) -> Option<SectionFault> {
     Section::parse(alloc, bytes).err()
 }
 
+/// Bytes and their CRC: the check value of the algorithm, whole sections, and nothing.
+static CRCS: [(&[u8], u32); 4] = [
+    (b"123456789", 0x0376_E6E7),
+    (&PAT, 0),
+    (&CAT, 0),
+    (&[], 0xFFFF_FFFF),
+];
+
+/// The rows. The content of a `static` is written into each function that names it.
+fn crcs() -> &'static [(&'static [u8], u32)] {
+    &CRCS
+}
+
 #[test]
 fn published_crcs(rt: HostRuntime) {
-    same(&rt, crc_of(b"123456789"), 0x0376_E6E7);
-    same(&rt, crc_of(&PAT), 0);
-    same(&rt, crc_of(&CAT), 0);
-    same(&rt, crc_of(&[]), 0xFFFF_FFFF);
+    for (bytes, wanted) in crcs() {
+        same(&rt, crc_of(bytes), *wanted);
+    }
+}
+
+/// Bytes, and why they are not a section.
+type FaultRow = (&'static [u8], Option<SectionFault>);
+
+// A `static` calls no function.
+macro_rules! lawless {
+    ($rule:ident) => {
+        Some(SectionFault::Lawless {
+            rule: SectionRule::$rule,
+        })
+    };
+}
+
+/// The first broken rules, and a CAT with a wrong CRC.
+static FAULTS: [FaultRow; 10] = [
+    (
+        &[0x00, 0xBF, 0xFE],
+        Some(SectionFault::TooLong { length: 4094 }),
+    ),
+    (&[0xFF, 0x30, 0x00], lawless!(Stuffing)),
+    (&[0xFF, 0x3F, 0xFF], lawless!(Stuffing)),
+    (
+        &[0x72, 0x30, 0x02, 0xAA],
+        Some(SectionFault::Short {
+            wanted: 5,
+            found: 4,
+        }),
+    ),
+    (
+        &[0x72, 0x30],
+        Some(SectionFault::Short {
+            wanted: 3,
+            found: 2,
+        }),
+    ),
+    (&[0x72, 0x30, 0x00, 0xAA], lawless!(Trailing)),
+    (
+        &[0x00, 0xB0, 0x05, 0x00, 0x00, 0xC1, 0x01, 0x00],
+        lawless!(ShortLong),
+    ),
+    (
+        &[0x00, 0xB0, 0x09, 0x00, 0x00, 0xC1, 0x01, 0x00, 0, 0, 0, 0],
+        lawless!(Numbers),
+    ),
+    (&TDT, None),
+    (
+        &[
+            0x01, 0xB0, 0x09, 0xFF, 0xFF, 0xC1, 0x00, 0x00, 0xD6, 0x6D, 0xA2, 0x43,
+        ],
+        Some(SectionFault::BadCrc {
+            wanted: 0xD66D_A242,
+            found: 0xD66D_A243,
+        }),
+    ),
+];
+
+/// The rows.
+fn faults() -> &'static [FaultRow] {
+    &FAULTS
 }
 
 #[test]
 fn first_broken_rules(rt: HostRuntime) {
-    let lawless = |rule| Some(SectionFault::Lawless { rule });
-    let rows: [(&[u8], Option<SectionFault>); 9] = [
-        (
-            &[0x00, 0xBF, 0xFE],
-            Some(SectionFault::TooLong { length: 4094 }),
-        ),
-        (&[0xFF, 0x30, 0x00], lawless(SectionRule::Stuffing)),
-        (&[0xFF, 0x3F, 0xFF], lawless(SectionRule::Stuffing)),
-        (
-            &[0x72, 0x30, 0x02, 0xAA],
-            Some(SectionFault::Short {
-                wanted: 5,
-                found: 4,
-            }),
-        ),
-        (
-            &[0x72, 0x30],
-            Some(SectionFault::Short {
-                wanted: 3,
-                found: 2,
-            }),
-        ),
-        (&[0x72, 0x30, 0x00, 0xAA], lawless(SectionRule::Trailing)),
-        (
-            &[0x00, 0xB0, 0x05, 0x00, 0x00, 0xC1, 0x01, 0x00],
-            lawless(SectionRule::ShortLong),
-        ),
-        (
-            &[0x00, 0xB0, 0x09, 0x00, 0x00, 0xC1, 0x01, 0x00, 0, 0, 0, 0],
-            lawless(SectionRule::Numbers),
-        ),
-        (&TDT, None),
-    ];
-    for (bytes, want) in rows {
-        assert_eq!(rt; fault(rt.alloc(), bytes), want, "of {bytes:?}");
+    for (bytes, wanted) in faults() {
+        let found = fault(rt.alloc(), bytes);
+        same(&rt, (*bytes, found), (*bytes, *wanted));
     }
-}
-
-#[test]
-fn a_wrong_crc(rt: HostRuntime) {
-    let mut bytes = CAT;
-    bytes[11] = 0x43;
-    let want = SectionFault::BadCrc {
-        wanted: 0xD66D_A242,
-        found: 0xD66D_A243,
-    };
-    same(&rt, fault(rt.alloc(), &bytes), Some(want));
 }
 
 /// The header fields of that PAT.
@@ -104,43 +133,53 @@ fn is_the_pat(rt: &impl Abort, section: &Section) {
     same_bytes(rt, section.body(), &PAT[8..16]);
 }
 
+/// Checks the bytes of a section that is made again.
+fn is_made(rt: &impl Abort, made: Result<Section, AllocError>, bytes: &[u8]) {
+    same_bytes(rt, got(rt, made).bytes(), bytes);
+}
+
+/// A copy of that PAT.
+fn copied(rt: &(impl Abort + AllocGlobal)) -> Section {
+    let section = got(rt, Section::parse(rt.alloc(), &PAT));
+    got(rt, section.copy())
+}
+
 #[test]
-fn a_pat(rt: HostRuntime) -> Result<(), Fail> {
-    let section = Section::parse(rt.alloc(), &PAT)?.copy()?;
-    is_the_pat(&rt, &section);
-    let written = Section::long(rt.alloc(), PAT_HEAD, section.body())?;
-    same_bytes(&rt, written.bytes(), &PAT);
-    Ok(())
+fn a_pat(rt: HostRuntime) {
+    is_the_pat(&rt, &copied(&rt));
+    let written = Section::long(rt.alloc(), PAT_HEAD, &PAT[8..16]);
+    is_made(&rt, written, &PAT);
 }
 
 /// The TDT, read from bytes in which the CAT follows it.
-fn in_front(alloc: Global) -> Result<Section, Fail> {
-    let mut bytes = Vec::from_slice(alloc, &TDT)?;
-    bytes.extend_from_slice(&CAT)?;
-    Ok(Section::parse_front(alloc, &bytes)?)
+fn in_front(rt: &(impl Abort + AllocGlobal)) -> Section {
+    let mut bytes = got(rt, Vec::from_slice(rt.alloc(), &TDT));
+    got(rt, bytes.extend_from_slice(&CAT));
+    got(rt, Section::parse_front(rt.alloc(), &bytes))
 }
 
 #[test]
-fn a_section_in_front(rt: HostRuntime) -> Result<(), Fail> {
+fn a_section_in_front(rt: HostRuntime) {
     let cut = Section::parse_front(rt.alloc(), &TDT[..5]).err();
     let short = SectionFault::Short {
         wanted: 8,
         found: 5,
     };
     same(&rt, cut, Some(short));
-    let section = in_front(rt.alloc())?;
-    same_bytes(&rt, section.bytes(), &TDT);
-    Ok(())
+    same_bytes(&rt, in_front(&rt).bytes(), &TDT);
+}
+
+/// Checks the fields of the TDT.
+fn is_the_tdt(rt: &impl Abort, section: &Section) {
+    same(rt, (section.is_long(), section.head()), (false, None));
+    same_bytes(rt, section.body(), &TDT[3..]);
 }
 
 #[test]
-fn a_tdt(rt: HostRuntime) -> Result<(), Fail> {
-    let section = Section::parse(rt.alloc(), &TDT)?;
-    same(&rt, (section.is_long(), section.head()), (false, None));
-    same_bytes(&rt, section.body(), &TDT[3..]);
-    let written = Section::short(rt.alloc(), 0x70, true, section.body())?;
-    same_bytes(&rt, written.bytes(), &TDT);
-    Ok(())
+fn a_tdt(rt: HostRuntime) {
+    is_the_tdt(&rt, &got(&rt, Section::parse(rt.alloc(), &TDT)));
+    let written = Section::short(rt.alloc(), 0x70, true, &TDT[3..]);
+    is_made(&rt, written, &TDT);
 }
 
 /// The section with this section_number, at most 2, of an EIT or an SDT whose last_section_number is 2.
@@ -158,49 +197,54 @@ fn numbered(alloc: Global, eit: bool, number: u8) -> Result<Section, AllocError>
 }
 
 /// The index at which sections with these section_numbers stop being one table; `None` if they are one.
-fn place(alloc: Global, eit: bool, numbers: &[u8]) -> Result<Option<usize>, AllocError> {
-    let mut sections = Vec::new(alloc);
+fn place(rt: &(impl Abort + AllocGlobal), eit: bool, numbers: &[u8]) -> Option<usize> {
+    let mut sections = Vec::new(rt.alloc());
     for number in numbers {
-        sections.push(numbered(alloc, eit, *number)?)?;
+        let section = got(rt, numbered(rt.alloc(), eit, *number));
+        got(rt, sections.push(section));
     }
-    Ok(TableRun::of(sections).err().map(|fault| fault.place))
+    match TableRun::of(sections) {
+        Ok(_) => None,
+        Err(fault) => Some(fault.place),
+    }
+}
+
+/// Whether the sections are of an EIT, their section_numbers, and the place.
+type RunRow = (bool, &'static [u8], Option<usize>);
+
+/// Runs of sections whose last_section_number is 2.
+static RUNS: [RunRow; 9] = [
+    (false, &[0, 1, 2], None),
+    (false, &[0, 2], Some(1)),
+    (false, &[0, 1], Some(2)),
+    (false, &[1, 2], Some(0)),
+    (false, &[0, 1, 2, 2], Some(3)),
+    (false, &[0, 0], Some(1)),
+    (false, &[], Some(0)),
+    (true, &[1], None),
+    (true, &[0, 1], Some(1)),
+];
+
+/// The rows.
+fn run_rows() -> &'static [RunRow] {
+    &RUNS
 }
 
 #[test]
-fn runs(rt: HostRuntime) -> Result<(), Fail> {
-    let rows: [(bool, &[u8], Option<usize>); 9] = [
-        (false, &[0, 1, 2], None),
-        (false, &[0, 2], Some(1)),
-        (false, &[0, 1], Some(2)),
-        (false, &[1, 2], Some(0)),
-        (false, &[0, 1, 2, 2], Some(3)),
-        (false, &[0, 0], Some(1)),
-        (false, &[], Some(0)),
-        (true, &[1], None),
-        (true, &[0, 1], Some(1)),
-    ];
-    for (eit, numbers, want) in rows {
-        assert_eq!(rt; place(rt.alloc(), eit, numbers)?, want, "of {numbers:?}");
+fn runs(rt: HostRuntime) {
+    for (eit, numbers, wanted) in run_rows() {
+        let found = place(&rt, *eit, numbers);
+        same(&rt, (*numbers, found), (*numbers, *wanted));
     }
-    Ok(())
 }
 
 /// A copy of the sections of the PAT.
-fn copied_run(alloc: Global) -> Result<TableRun, Fail> {
-    let section = Section::parse(alloc, &PAT)?;
-    let sections = vec![in alloc; section]?;
-    Ok(TableRun::of(sections)?.copy()?)
-}
-
-/// Checks that the PAT is the only section.
-fn has_the_pat(rt: &impl Abort, sections: &[Section]) {
-    are_so_many(rt, sections.len(), 1);
-    same_bytes(rt, sections[0].bytes(), &PAT);
+fn copied_run(rt: &(impl Abort + AllocGlobal)) -> TableRun {
+    let run = run_of(rt, &PAT);
+    got(rt, run.copy())
 }
 
 #[test]
-fn a_run_keeps_its_sections(rt: HostRuntime) -> Result<(), Fail> {
-    let run = copied_run(rt.alloc())?;
-    has_the_pat(&rt, run.sections());
-    Ok(())
+fn a_run_keeps_its_sections(rt: HostRuntime) {
+    is_one_section(&rt, copied_run(&rt).sections(), &PAT);
 }

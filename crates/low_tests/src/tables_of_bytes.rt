@@ -1,16 +1,15 @@
 //! Tables that several tests make from bytes, and of many descriptors.
 
-use crate::compared::{are_so_many, same_bytes};
-use std::alloc::Global;
+use crate::compared::{are_so_many, got, same_bytes};
 use std::process::Abort;
-use std::test::Fail;
 use ts_bits::{Descriptor, DescriptorList};
 use ts_section::{Section, TableRun};
 
 /// A table of one section with these bytes.
-pub(crate) fn run_of(alloc: Global, bytes: &[u8]) -> Result<TableRun, Fail> {
-    let section = Section::parse(alloc, bytes)?;
-    Ok(TableRun::of(vec![in alloc; section]?)?)
+pub(crate) fn run_of(rt: &(impl Abort + AllocGlobal), bytes: &[u8]) -> TableRun {
+    let section = got(rt, Section::parse(rt.alloc(), bytes));
+    let sections = got(rt, vec![in rt.alloc(); section]);
+    got(rt, TableRun::of(sections))
 }
 
 /// Checks that there is one section, with these bytes.
@@ -25,17 +24,22 @@ pub(crate) fn is_one_section_of(rt: &impl Abort, sections: &[Section], len: usiz
     are_so_many(rt, sections[0].bytes().len(), len);
 }
 
+/// A descriptor of `len` bytes, but at most 255.
+fn long_descriptor(rt: &(impl Abort + AllocGlobal), len: usize) -> Descriptor {
+    let body = [7u8; 255];
+    got(rt, Descriptor::new(rt.alloc(), 0x80, &body[..len.min(255)]))
+}
+
 /// `count` descriptors of 255 bytes, and one of `last` bytes.
 pub(crate) fn long_descriptors(
-    alloc: Global,
+    rt: &(impl Abort + AllocGlobal),
     count: usize,
     last: usize,
-) -> Result<DescriptorList, Fail> {
-    let body = [7u8; 255];
-    let mut descriptors = Vec::new(alloc);
+) -> DescriptorList {
+    let mut descriptors = Vec::new(rt.alloc());
     for _ in 0..count {
-        descriptors.push(Descriptor::new(alloc, 0x80, &body)?)?;
+        got(rt, descriptors.push(long_descriptor(rt, 255)));
     }
-    descriptors.push(Descriptor::new(alloc, 0x80, &body[..last.min(255)])?)?;
-    Ok(DescriptorList::of(descriptors))
+    got(rt, descriptors.push(long_descriptor(rt, last)));
+    DescriptorList::of(descriptors)
 }
