@@ -1,10 +1,8 @@
 //! Calls over a desk in memory: what is written, what is reported, and how a call on a failing desk ends.
-ghost use Rattle.std.specs.Prelude.{◌≡◌, IfOk};
+ghost use Rattle.std.specs.Prelude.{◌≡◌};
 
-use crate::compared::{same, same_bytes};
-use std::alloc::{AllocError, Global};
+use crate::compared::{got, same, same_bytes};
 use std::process::Abort;
-use std::test::Fail;
 use tabcomp_top::{TabStatus, tabcomp_call};
 use ts_outside::{FailPlan, FileBytes, FileList, MemoryDesk, NameText, NumberList};
 
@@ -16,80 +14,65 @@ const PAT: &[u8] =
 const CANONICAL: &[u8] =
     br##"{"#name":"tsduck","#nodes":[{"#name":"PAT","#nodes":[{"#name":"service","program_map_PID":4096,"service_id":1}],"current":true,"transport_stream_id":1,"version":0}]}"##;
 
-/// The file `pat.json` with the text.
-fn files(alloc: Global) -> Result<FileList, AllocError> {
-    let bytes = FileBytes::of(Vec::from_slice(alloc, PAT)?);
-    let name = NameText::of(String::from_str(alloc, "pat.json")?);
-    Ok(FileList::of(vec![in alloc; (name, bytes)]?))
+/// A text.
+fn text(rt: &(impl Abort + AllocGlobal), text: &str) -> String {
+    got(rt, String::from_str(rt.alloc(), text))
 }
 
-/// A desk with that file, on which the closing with this number fails.
-fn desk(alloc: Global, failing: u64) -> Result<Box<MemoryDesk>, AllocError> {
-    let files = files(alloc)?;
-    let plan = plan(alloc, failing)?;
-    Ok(Box::new(alloc, MemoryDesk::new(alloc, files, plan)?)?)
+/// The file `pat.json` with the text of the PAT.
+fn files(rt: &(impl Abort + AllocGlobal)) -> FileList {
+    let bytes = FileBytes::of(got(rt, Vec::from_slice(rt.alloc(), PAT)));
+    let name = NameText::of(text(rt, "pat.json"));
+    FileList::of(got(rt, vec![in rt.alloc(); (name, bytes)]))
 }
 
-/// A plan by which only that closing fails.
-fn plan(alloc: Global, failing: u64) -> Result<FailPlan, AllocError>
-    ensures { IfOk result (λ p. (p.read_piece ≡ 100) × (p.write_piece ≡ 70)) }
+/// A plan by which only the closing with this number fails.
+fn plan(rt: &(impl Abort + AllocGlobal), failing: u64) -> FailPlan
+    ensures { (result.read_piece ≡ 100) × (result.write_piece ≡ 70) }
 {
-    let closes = NumberList::of(Vec::from_slice(alloc, &[failing])?);
-    let mut plan = FailPlan::none(alloc, 100, 70, 1000);
+    let closes = NumberList::of(got(rt, Vec::from_slice(rt.alloc(), &[failing])));
+    let mut plan = FailPlan::none(rt.alloc(), 100, 70, 1000);
     plan.closes = closes;
-    Ok(plan)
+    plan
+}
+
+/// A desk with that file and that plan, in a box, since it is large.
+fn desk(rt: &(impl Abort + AllocGlobal), failing: u64) -> Box<MemoryDesk> {
+    let files = files(rt);
+    let desk = got(rt, MemoryDesk::new(rt.alloc(), files, plan(rt, failing)));
+    got(rt, Box::new(rt.alloc(), desk))
 }
 
 /// The words of a text, separated by spaces.
-fn words_of(alloc: Global, text: &str) -> Result<Vec<String>, AllocError> {
-    let mut words = Vec::new(alloc);
-    for word in text.split(' ') {
-        words.push(String::from_str(alloc, word)?)?;
+fn words_of(rt: &(impl Abort + AllocGlobal), words: &str) -> Vec<String> {
+    let mut list = Vec::new(rt.alloc());
+    for word in words.split(' ') {
+        got(rt, list.push(text(rt, word)));
     }
-    Ok(words)
+    list
 }
 
-/// Checks the first output, if there is to be one.
-fn is_written(rt: &impl Abort, desk: &MemoryDesk, wanted: Option<&[u8]>) {
-    assert_eq!(rt; desk.output(0).map(|(_, bytes)| bytes), wanted);
-}
-
-/// Makes a call, and checks its exit status, its report and its output.
-fn calls(
-    rt: &(impl Abort + AllocGlobal),
-    words: &[String],
-    failing: u64,
-    code: u8,
-    reported: &[u8],
-    written: Option<&[u8]>,
-) -> Result<(), AllocError> {
-    let mut desk = desk(rt.alloc(), failing)?;
-    let status = tabcomp_call(rt.alloc(), words, &mut *desk);
-    same(rt, status.exit_code(), code);
+/// Checks the report and the output of a call.
+fn has_written(rt: &impl Abort, desk: &MemoryDesk, reported: &[u8]) {
     same_bytes(rt, desk.reported(), reported);
-    is_written(rt, &*desk, written);
-    Ok(())
+    let (_, bytes) = got(rt, desk.output(0).ok_or("output"));
+    same_bytes(rt, bytes, CANONICAL);
 }
 
-#[test]
-fn the_canonical_text_is_written(rt: HostRuntime) -> Result<(), Fail> {
-    let words = words_of(rt.alloc(), "--canonical pat.json out.json")?;
-    calls(&rt, &words, 9, 0, b"", Some(CANONICAL))?;
-    Ok(())
+/// Makes a call that writes the canonical text, and checks its exit status, its report and its output.
+fn calls(rt: &(impl Abort + AllocGlobal), failing: u64, code: u8, reported: &[u8]) {
+    let words = words_of(rt, "--canonical pat.json out.json");
+    let mut desk = desk(rt, failing);
+    let status = tabcomp_call(rt.alloc(), &words, &mut *desk);
+    same(rt, status.exit_code(), code);
+    has_written(rt, &*desk, reported);
 }
 
+/// The text is written, and a failing close is told.
 #[test]
-fn a_failing_close_is_told(rt: HostRuntime) -> Result<(), Fail> {
-    let words = words_of(rt.alloc(), "--canonical pat.json out.json")?;
-    calls(
-        &rt,
-        &words,
-        1,
-        4,
-        b"tstabcomp: cannot write\n",
-        Some(CANONICAL),
-    )?;
-    Ok(())
+fn the_canonical_text_is_written(rt: HostRuntime) {
+    calls(&rt, 9, 0, b"");
+    calls(&rt, 1, 4, b"tstabcomp: cannot write\n");
 }
 
 /// Checks which word of a call is reported as faulty.
@@ -100,20 +83,27 @@ fn is_faulty(
     wanted: usize,
 ) {
     let status = tabcomp_call(rt.alloc(), words, desk);
-    assert!(rt; matches!(status, TabStatus::Words { word } if word == wanted));
+    same(
+        rt,
+        matches!(status, TabStatus::Words { word } if word == wanted),
+        true,
+    );
+}
+
+/// Makes two calls with faulty words.
+fn both_are_faulty(rt: &(impl Abort + AllocGlobal), desk: &mut MemoryDesk) {
+    is_faulty(rt, &[], desk, 0);
+    is_faulty(rt, &words_of(rt, "--compile a b c"), desk, 3);
 }
 
 #[test]
-fn faulty_words_are_told(rt: HostRuntime) -> Result<(), Fail> {
-    let words = words_of(rt.alloc(), "--compile a b c")?;
-    let mut desk = desk(rt.alloc(), 9)?;
-    is_faulty(&rt, &[], &mut *desk, 0);
-    is_faulty(&rt, &words, &mut *desk, 3);
+fn faulty_words_are_told(rt: HostRuntime) {
+    let mut desk = desk(&rt, 9);
+    both_are_faulty(&rt, &mut *desk);
     same_bytes(
         &rt,
         desk.reported(),
         b"tstabcomp: words\ntstabcomp: words\n",
     );
     same(&rt, desk.asked_count(), 0);
-    Ok(())
 }

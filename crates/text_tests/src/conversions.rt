@@ -1,10 +1,10 @@
 //! Texts compiled, and bytes cut and decompiled; each call that allocates is made once with enough memory.
 
-use crate::compared::{same, same_bytes};
-use crate::faults::{is_refused, json_fault, tells};
+use crate::compared::{got, same, same_bytes, same_text};
+use crate::faults::{compiled, is_no_json, is_told};
 use std::alloc::Global;
-use std::test::Fail;
-use tabcomp_core::{CompileFault, DecompileFault, compile, decompile, sections_of};
+use std::process::Abort;
+use tabcomp_core::{DecompileFault, decompile, sections_of};
 use ts_jtree::JsonKind;
 use ts_section::SectionFault;
 
@@ -12,108 +12,155 @@ use ts_section::SectionFault;
 const PAT: &[u8] =
     br##"{"#name":"tsduck","#nodes":[{"#name":"PAT","transport_stream_id":1,"#nodes":[{"#name":"service","service_id":1,"program_map_PID":"0x1000"}]}]}"##;
 
-/// The bytes that a text is compiled to.
-fn compiled(alloc: Global, text: &[u8]) -> Result<Vec<u8>, Fail> {
-    match compile(alloc, text) {
-        Ok(bytes) => Ok(bytes),
-        Err(_) => Err(Fail::from("no sections")),
-    }
-}
-
 /// The number of sections in bytes.
 fn section_count(alloc: Global, bytes: &[u8]) -> Result<usize, DecompileFault> {
     Ok(sections_of(alloc, bytes)?.len())
 }
 
-#[test]
-fn a_text_is_compiled(rt: HostRuntime) -> Result<(), Fail> {
-    let bytes = compiled(rt.alloc(), PAT)?;
-    same_bytes(&rt, &bytes, PAT_BYTES);
-    same(&rt, section_count(rt.alloc(), &bytes), Ok(1));
-    let fault = SectionFault::Short {
-        wanted: 16,
-        found: 5,
-    };
-    let cut = section_count(rt.alloc(), &PAT_BYTES[..5]);
-    same(&rt, cut, Err(DecompileFault::Section { offset: 0, fault }));
-    Ok(())
-}
-
-/// A PAT with a service of number 0.
-const ZERO: &[u8] =
-    br##"{"#name":"tsduck","#nodes":[{"#name":"PAT","transport_stream_id":1,"#nodes":[{"#name":"service","service_id":0,"program_map_PID":1}]}]}"##;
-
-/// Whether a text is not JSON.
-fn is_no_json(alloc: Global, text: &[u8]) -> bool {
-    matches!(compile(alloc, text), Err(CompileFault::NotJson))
-}
-
-#[test]
-fn the_first_fault_is_told(rt: HostRuntime) -> Result<(), Fail> {
-    same(&rt, is_no_json(rt.alloc(), b"{"), true);
-    let fault = json_fault(rt.alloc(), ZERO)?;
-    tells(&rt, &fault, &[0, 0], "service_id", JsonKind::OutOfRange);
-    Ok(())
-}
-
 /// A PAT of one service with its CRC.
-const PAT_BYTES: &[u8] = b"\x00\xB0\x0D\x00\x01\xC1\x00\x00\x00\x01\xF0\x00\x2A\xB1\x04\xB2";
+static PAT_BYTES: [u8; 16] = [
+    0x00, 0xB0, 0x0D, 0x00, 0x01, 0xC1, 0x00, 0x00, 0x00, 0x01, 0xF0, 0x00, 0x2A, 0xB1, 0x04, 0xB2,
+];
 
-/// Its text.
-const PAT_TEXT: &str =
-    r##"{"#name":"tsduck","#nodes":[{"#name":"PAT","#nodes":[{"#name":"service","program_map_PID":4096,"service_id":1}],"current":true,"transport_stream_id":1,"version":0}]}"##;
+/// The bytes. The content of a `static` is written into each function that names it.
+fn pat_bytes() -> &'static [u8; 16] {
+    &PAT_BYTES
+}
 
-/// A section of the short form, with table_id 0x72, as text.
-const SHORT_TEXT: &str =
-    r##"{"#name":"tsduck","#nodes":[{"#name":"generic_short_table","payload":"aa","private":true,"table_id":114}]}"##;
-
-/// Whether bytes are decompiled to a text.
-fn is_text(alloc: Global, bytes: &[u8], text: &str) -> bool {
-    match decompile(alloc, bytes) {
-        Ok(found) => found.as_str() == text,
-        Err(_) => false,
+/// The fault of a section that is cut.
+fn short(wanted: usize, found: usize) -> DecompileFault {
+    DecompileFault::Section {
+        offset: 0,
+        fault: SectionFault::Short { wanted, found },
     }
 }
 
 #[test]
-fn bytes_are_decompiled(rt: HostRuntime) -> Result<(), Fail> {
-    assert!(rt; is_text(rt.alloc(), PAT_BYTES, PAT_TEXT));
-    assert!(rt; is_text(rt.alloc(), b"\x72\x70\x01\xAA", SHORT_TEXT));
-    assert!(rt; is_text(rt.alloc(), b"", r##"{"#name":"tsduck","#nodes":[]}"##));
-    Ok(())
+fn a_text_is_compiled(rt: HostRuntime) {
+    let bytes = compiled(&rt, PAT);
+    same_bytes(&rt, &bytes, pat_bytes());
+    same(&rt, section_count(rt.alloc(), &bytes), Ok(1));
+    let cut = section_count(rt.alloc(), &pat_bytes()[..5]);
+    same(&rt, cut, Err(short(16, 5)));
 }
 
-/// The two, one after another.
-const BOTH: &[u8] =
-    b"\x72\x70\x01\xAA\x00\xB0\x0D\x00\x01\xC1\x00\x00\x00\x01\xF0\x00\x2A\xB1\x04\xB2";
+/// Texts whose service has an unknown key, and the number 0; and what is told of them.
+static FAULTS: [(&[u8], &str, JsonKind); 2] = [
+    (
+        br##"{"#name":"tsduck","#nodes":[{"#name":"PAT","transport_stream_id":1,"#nodes":[{"#name":"service","service_id":1,"program_map_PID":"0x1000","extra":1}]}]}"##,
+        "extra",
+        JsonKind::UnknownKey,
+    ),
+    (
+        br##"{"#name":"tsduck","#nodes":[{"#name":"PAT","transport_stream_id":1,"#nodes":[{"#name":"service","service_id":0,"program_map_PID":1}]}]}"##,
+        "service_id",
+        JsonKind::OutOfRange,
+    ),
+];
 
-/// Their text.
-const BOTH_TEXT: &str =
-    r##"{"#name":"tsduck","#nodes":[{"#name":"generic_short_table","payload":"aa","private":true,"table_id":114},{"#name":"PAT","#nodes":[{"#name":"service","program_map_PID":4096,"service_id":1}],"current":true,"transport_stream_id":1,"version":0}]}"##;
+/// The texts.
+fn faults() -> &'static [(&'static [u8], &'static str, JsonKind)] {
+    &FAULTS
+}
+
+#[test]
+fn the_first_fault_is_told(rt: HostRuntime) {
+    is_no_json(&rt, b"{");
+    for (text, key, kind) in faults() {
+        is_told(&rt, text, &[0, 0], key, *kind);
+    }
+}
+
+/// Bytes and their texts: a PAT, a section of the short form with table_id 0x72, nothing, and the first two turned.
+static TEXTS: [(&[u8], &str); 4] = [
+    (
+        b"\x00\xB0\x0D\x00\x01\xC1\x00\x00\x00\x01\xF0\x00\x2A\xB1\x04\xB2",
+        r##"{"#name":"tsduck","#nodes":[{"#name":"PAT","#nodes":[{"#name":"service","program_map_PID":4096,"service_id":1}],"current":true,"transport_stream_id":1,"version":0}]}"##,
+    ),
+    (
+        b"\x72\x70\x01\xAA",
+        r##"{"#name":"tsduck","#nodes":[{"#name":"generic_short_table","payload":"aa","private":true,"table_id":114}]}"##,
+    ),
+    (b"", r##"{"#name":"tsduck","#nodes":[]}"##),
+    (
+        b"\x72\x70\x01\xAA\x00\xB0\x0D\x00\x01\xC1\x00\x00\x00\x01\xF0\x00\x2A\xB1\x04\xB2",
+        r##"{"#name":"tsduck","#nodes":[{"#name":"generic_short_table","payload":"aa","private":true,"table_id":114},{"#name":"PAT","#nodes":[{"#name":"service","program_map_PID":4096,"service_id":1}],"current":true,"transport_stream_id":1,"version":0}]}"##,
+    ),
+];
+
+/// The bytes and their texts.
+fn texts() -> &'static [(&'static [u8], &'static str); 4] {
+    &TEXTS
+}
+
+/// Checks the text that bytes are decompiled to.
+fn is_text(rt: &(impl Abort + AllocGlobal), bytes: &[u8], text: &str) {
+    let found = got(rt, decompile(rt.alloc(), bytes));
+    same_text(rt, found.as_str(), text);
+}
+
+#[test]
+fn bytes_are_decompiled(rt: HostRuntime) {
+    for (bytes, text) in texts() {
+        is_text(&rt, bytes, text);
+        same_bytes(&rt, &compiled(&rt, text.as_bytes()), bytes);
+    }
+}
 
 /// The PAT's body in a table given by its bytes.
 const PAT_AS_BYTES: &[u8] =
     br##"{"#name":"tsduck","#nodes":[{"#name":"generic_long_table","table_id":0,"table_id_extension":1,"private":false,"#nodes":[{"#name":"section","payload":"0001f000"}]}]}"##;
 
 #[test]
-fn what_is_compiled_is_decompiled(rt: HostRuntime) -> Result<(), Fail> {
-    assert!(rt; is_text(rt.alloc(), BOTH, BOTH_TEXT));
-    same_bytes(&rt, &compiled(rt.alloc(), BOTH_TEXT.as_bytes())?, BOTH);
-    let table = compiled(rt.alloc(), PAT_AS_BYTES)?;
-    assert!(rt; is_text(rt.alloc(), &table, PAT_TEXT));
-    Ok(())
+fn what_is_compiled_is_decompiled(rt: HostRuntime) {
+    is_text(&rt, &compiled(&rt, PAT_AS_BYTES), texts()[0].1);
 }
 
-/// The first and the second section of one table, each of 12 bytes.
-const FIRST: &[u8] = b"\x80\xB0\x09\x00\x01\xC1\x00\x01\x92\xE3\x2A\x93";
+/// Bytes that are refused: a PAT with a wrong CRC, the first of two sections of one table alone, and both turned.
+static REFUSED: [(&[u8], DecompileFault); 3] = [
+    (
+        b"\x00\xB0\x0D\x00\x01\xC1\x00\x00\x00\x01\xF0\x00\x2A\xB1\x04\xB3",
+        DecompileFault::Section {
+            offset: 0,
+            fault: SectionFault::BadCrc {
+                wanted: 0x2AB1_04B2,
+                found: 0x2AB1_04B3,
+            },
+        },
+    ),
+    (
+        b"\x80\xB0\x09\x00\x01\xC1\x00\x01\x92\xE3\x2A\x93",
+        DecompileFault::Sequence { offset: 12 },
+    ),
+    (
+        b"\x80\xB0\x09\x00\x01\xC1\x01\x01\x40\xFA\xEB\x4F\x80\xB0\x09\x00\x01\xC1\x00\x01\x92\xE3\x2A\x93",
+        DecompileFault::Sequence { offset: 0 },
+    ),
+];
 
-const SECOND_THEN_FIRST: &[u8] =
-    b"\x80\xB0\x09\x00\x01\xC1\x01\x01\x40\xFA\xEB\x4F\x80\xB0\x09\x00\x01\xC1\x00\x01\x92\xE3\x2A\x93";
+/// The bytes that are refused.
+fn refused() -> &'static [(&'static [u8], DecompileFault)] {
+    &REFUSED
+}
+
+/// Checks why bytes are not decompiled.
+fn is_refused(rt: &(impl Abort + AllocGlobal), bytes: &[u8], wanted: DecompileFault) {
+    let told = decompile(rt.alloc(), bytes).err();
+    same(rt, told, Some(wanted));
+}
 
 #[test]
-fn runs_are_whole(rt: HostRuntime) -> Result<(), Fail> {
-    is_refused(&rt, FIRST, DecompileFault::Sequence { offset: 12 });
-    let turned = DecompileFault::Sequence { offset: 0 };
-    is_refused(&rt, SECOND_THEN_FIRST, turned);
-    Ok(())
+fn runs_are_whole(rt: HostRuntime) {
+    for (bytes, fault) in refused() {
+        is_refused(&rt, bytes, *fault);
+    }
+}
+
+/// Three bytes are needed to know the length of a section.
+#[test]
+fn each_first_part_is_short(rt: HostRuntime) {
+    for found in 1..16 {
+        let wanted = if found < 3 { 3 } else { 16 };
+        is_refused(&rt, &pat_bytes()[..found], short(wanted, found));
+    }
 }

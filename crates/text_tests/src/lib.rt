@@ -7,11 +7,7 @@ mod calls;
 #[cfg(test)]
 mod compared;
 #[cfg(test)]
-mod conversion_faults;
-#[cfg(test)]
 mod conversions;
-#[cfg(test)]
-mod cut_sections;
 #[cfg(test)]
 mod descriptors;
 #[cfg(test)]

@@ -1,56 +1,37 @@
 //! Texts of nested arrays: JSON is read to a depth of 127.
-use std::alloc::{AllocError, Global};
-use std::test::Fail;
-use tabcomp_core::{CompileFault, compile};
-use ts_jtree::{JsonFault, JsonKind};
+use crate::compared::got;
+use crate::faults::{is_no_json, is_told};
+use std::alloc::AllocError;
+use std::process::Abort;
+use ts_jtree::JsonKind;
 
-/// This number of arrays, each in the one before.
-fn nested(alloc: Global, depth: usize) -> Result<Vec<u8>, AllocError> {
-    let mut text = Vec::new(alloc);
+/// Appends this number of arrays, each in the one before.
+fn push_nested(text: &mut Vec<u8>, depth: usize) -> Result<(), AllocError> {
     for _ in 0..depth {
         text.push(b'[')?;
     }
     for _ in 0..depth {
         text.push(b']')?;
     }
-    Ok(text)
+    Ok(())
 }
 
-/// Whether the fault is that the value itself is not an element.
-fn is_of_root(fault: &JsonFault) -> bool {
-    fault.path.as_slice().is_empty()
-        && fault.key.as_str() == "#name"
-        && fault.kind == JsonKind::WrongKind
+/// The text of these arrays.
+fn nested(rt: &(impl Abort + AllocGlobal), depth: usize) -> Vec<u8> {
+    let mut text = Vec::new(rt.alloc());
+    got(rt, push_nested(&mut text, depth));
+    text
 }
 
-/// Whether a text is read as JSON, which is then not an element.
-fn is_read(alloc: Global, text: &[u8]) -> Result<bool, Fail> {
-    let Err(fault) = compile(alloc, text) else {
-        return Err(Fail::from("it has tables"));
-    };
-    match fault {
-        CompileFault::NotJson => Ok(false),
-        CompileFault::Json(fault) => {
-            if is_of_root(&fault) {
-                Ok(true)
-            } else {
-                Err(Fail::from("another place"))
-            }
-        }
-        _ => Err(Fail::from("another fault")),
-    }
-}
-
-/// Whether this number of nested arrays is read as JSON.
-fn is_json(alloc: Global, depth: usize) -> Result<bool, Fail> {
-    let text = nested(alloc, depth)?;
-    is_read(alloc, &text)
+/// Checks that nested arrays are read as JSON, and that the fault is that the value itself is not an element.
+fn are_read(rt: &(impl Abort + AllocGlobal), depth: usize) {
+    is_told(rt, &nested(rt, depth), &[], "#name", JsonKind::WrongKind);
 }
 
 #[test]
-fn nested_arrays(rt: HostRuntime) -> Result<(), Fail> {
-    for (depth, want) in [(1, true), (127, true), (128, false), (1000, false)] {
-        assert_eq!(rt; is_json(rt.alloc(), depth)?, want, "of {depth}");
-    }
-    Ok(())
+fn nested_arrays(rt: HostRuntime) {
+    are_read(&rt, 1);
+    are_read(&rt, 127);
+    is_no_json(&rt, &nested(&rt, 128));
+    is_no_json(&rt, &nested(&rt, 1000));
 }

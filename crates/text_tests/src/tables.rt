@@ -1,38 +1,40 @@
 //! Tables as JSON texts and sections; each call that allocates is made once with enough memory.
 
-ghost use Rattle.std.specs.Prelude.{IfOk};
 ghost use Rattle.ts_json_tables.specs.HeldTables.{table_value};
 ghost use Rattle.ts_json_tables.specs.LawfulTables.{IsTable};
 
-use crate::compared::same_text;
-use crate::faults::kind_words;
+use crate::compared::{got, same, same_text};
 use serde_json::Value;
-use std::alloc::Global;
 use std::process::Abort;
-use std::test::Fail;
 use ts_json_tables::{Table, of_json, table_of, table_sections, to_json};
-use ts_jtree::{JsonFault, ReadRefusal};
+use ts_jtree::{JsonKind, ReadRefusal};
 use ts_section::TableRun;
 
+/// The JSON value of a text.
+fn value_of(rt: &(impl Abort + AllocGlobal), text: &str) -> Value {
+    got(rt, Value::from_str(rt.alloc(), text))
+}
+
 /// The table of a text.
-fn read(alloc: Global, text: &str) -> Result<Table, Fail>
-    ensures { IfOk result (λ t. IsTable (table_value t)) }
+fn read(rt: &(impl Abort + AllocGlobal), text: &str) -> Table
+    ensures { IsTable (table_value result) }
 {
-    let value = Value::from_str(alloc, text)?;
-    Ok(of_json(alloc, &value)?)
+    let value = value_of(rt, text);
+    got(rt, of_json(rt.alloc(), &value))
 }
 
 /// The sections of a text.
-fn written(alloc: Global, text: &str) -> Result<TableRun, Fail> {
-    let table = read(alloc, text)?;
-    Ok(TableRun::of(table_sections(alloc, &table)?)?)
+fn written(rt: &(impl Abort + AllocGlobal), text: &str) -> TableRun {
+    let table = read(rt, text);
+    let sections = got(rt, table_sections(rt.alloc(), &table));
+    got(rt, TableRun::of(sections))
 }
 
-/// The text that a table is shown as after it is read, written as sections and read again.
-fn again(alloc: Global, text: &str) -> Result<String, Fail> {
-    let run = written(alloc, text)?;
-    let back = table_of(alloc, &run)?;
-    Ok(to_json(alloc, &back)?.to_string(alloc)?)
+/// The JSON value that a table is shown as after it is read, written as sections and read again.
+fn again(rt: &(impl Abort + AllocGlobal), text: &str) -> Value {
+    let run = written(rt, text);
+    let back = got(rt, table_of(rt.alloc(), &run));
+    got(rt, to_json(rt.alloc(), &back))
 }
 
 /// Texts, and their canonical forms.
@@ -77,90 +79,81 @@ fn texts() -> &'static [(&'static str, &'static str)] {
 }
 
 /// Checks the canonical form of a text.
-fn comes_back(rt: &(impl Abort + AllocGlobal), text: &str, canonical: &str) -> Result<(), Fail> {
-    let back = again(rt.alloc(), text)?;
+fn comes_back(rt: &(impl Abort + AllocGlobal), text: &str, canonical: &str) {
+    let back = got(rt, again(rt, text).to_string(rt.alloc()));
     same_text(rt, back.as_str(), canonical);
-    Ok(())
 }
 
 #[test]
-fn tables_come_back(rt: HostRuntime) -> Result<(), Fail> {
+fn tables_come_back(rt: HostRuntime) {
     for (text, canonical) in texts() {
-        comes_back(&rt, text, canonical)?;
-    }
-    Ok(())
-}
-
-/// The fault of a text that is not a table.
-fn fault(alloc: Global, text: &str) -> Result<JsonFault, Fail> {
-    let value = Value::from_str(alloc, text)?;
-    match of_json(alloc, &value) {
-        Err(ReadRefusal::Json(fault)) => Ok(fault),
-        _ => Err(Fail::from("no fault")),
+        comes_back(&rt, text, canonical);
     }
 }
 
-/// The path, the key and the kind of a fault, as text.
-fn fault_text(alloc: Global, text: &str) -> Result<String, Fail> {
-    let fault = fault(alloc, text)?;
-    let kind = kind_words(fault.kind);
-    let first = fault.path.as_slice().first().copied().unwrap_or(99);
-    Ok(format!(in alloc; "{first} {} {kind}", fault.key.as_str())?)
-}
+/// The number of the child that a fault is in, if it is in one, the key and the kind.
+type Told<'a> = (Option<usize>, &'a str, JsonKind);
 
-/// Texts, and their first faults; 99 stands for the table itself.
-static FAULTS: [(&str, &str); 9] = [
-    (r##"{"#name":"PAD"}"##, "99 #name unknown"),
+/// Texts, and their first faults.
+static FAULTS: [(&str, Told<'static>); 9] = [
+    (
+        r##"{"#name":"PAD"}"##,
+        (None, "#name", JsonKind::UnknownKey),
+    ),
     (
         r##"{"#name":"PAT","transport_stream_id":1,"#nodes":[{"#name":"service","service_id":0,"program_map_PID":1}]}"##,
-        "0 service_id out of range",
+        (Some(0), "service_id", JsonKind::OutOfRange),
     ),
     (
         r##"{"#name":"PAT","transport_stream_id":1,"network_PID":8192}"##,
-        "99 network_PID out of range",
+        (None, "network_PID", JsonKind::OutOfRange),
     ),
     (
         r##"{"#name":"CAT","network_PID":8191}"##,
-        "99 network_PID unknown",
+        (None, "network_PID", JsonKind::UnknownKey),
     ),
     (
         r##"{"#name":"PMT","service_id":1,"#nodes":[{"#name":"CA_descriptor","CA_PID":1,"CA_system_id":1},{"#name":"service"}]}"##,
-        "1 #name unknown",
+        (Some(1), "#name", JsonKind::UnknownKey),
     ),
     (
         r##"{"#name":"generic_long_table","table_id":77,"section_number":0,"table_id_extension":1}"##,
-        "99 section_number unknown",
+        (None, "section_number", JsonKind::UnknownKey),
     ),
     (
         r##"{"#name":"generic_long_table","table_id":"111","section_number":1,"table_id_extension":1}"##,
-        "99 last_section_number out of range",
+        (None, "last_section_number", JsonKind::OutOfRange),
     ),
     (
         r##"{"#name":"generic_long_table","table_id":77,"table_id_extension":1}"##,
-        "99 #nodes out of range",
+        (None, "#nodes", JsonKind::OutOfRange),
     ),
     (
         r##"{"#name":"generic_short_table","table_id":255,"private":1}"##,
-        "99 table_id out of range",
+        (None, "table_id", JsonKind::OutOfRange),
     ),
 ];
 
 /// The texts with faults.
-fn faults() -> &'static [(&'static str, &'static str)] {
+fn faults() -> &'static [(&'static str, Told<'static>)] {
     &FAULTS
 }
 
 /// Checks the first fault of a text.
-fn is_faulty(rt: &(impl Abort + AllocGlobal), text: &str, told: &str) -> Result<(), Fail> {
-    let fault = fault_text(rt.alloc(), text)?;
-    same_text(rt, fault.as_str(), told);
-    Ok(())
+fn is_faulty(rt: &(impl Abort + AllocGlobal), text: &str, wanted: Told) {
+    let value = value_of(rt, text);
+    match of_json(rt.alloc(), &value) {
+        Err(ReadRefusal::Json(fault)) => {
+            let first = fault.path.as_slice().first().copied();
+            same(rt, (first, fault.key.as_str(), fault.kind), wanted);
+        }
+        _ => rt.panic("no fault"),
+    }
 }
 
 #[test]
-fn the_first_fault_is_told(rt: HostRuntime) -> Result<(), Fail> {
+fn the_first_fault_is_told(rt: HostRuntime) {
     for (text, told) in faults() {
-        is_faulty(&rt, text, told)?;
+        is_faulty(&rt, text, *told);
     }
-    Ok(())
 }
