@@ -24,20 +24,23 @@ pub enum Idle {
 
 /// Why a plugin was idle; `None` where it was not, or where it edits nothing in any case.
 pub(crate) fn why_idle(plugin: &SomePlugin) -> Result<Option<Idle>, AllocError> {
-    let unedited = match plugin {
-        SomePlugin::Pat(plugin) => plugin.unedited()?,
-        SomePlugin::Cat(plugin) => plugin.unedited()?,
-        SomePlugin::Pmt(plugin) => plugin.unedited()?,
-        SomePlugin::Sdt(plugin) => plugin.unedited()?,
-        SomePlugin::Nit(plugin) => plugin.unedited()?,
-        SomePlugin::Zap(plugin) => plugin.unedited(),
-        SomePlugin::Svremove(plugin) => plugin.unedited(),
-        SomePlugin::Remap(plugin) => return Ok(idle_remap(plugin)),
-        SomePlugin::Inject(plugin) => return Ok(idle_inject(plugin)),
-        SomePlugin::Tables(plugin) => return Ok(idle_tables(plugin)),
-        _ => None,
-    };
-    Ok(unedited.map(Idle::Unedited))
+    match plugin {
+        SomePlugin::Pat(plugin) => idle_editor(plugin.unedited()),
+        SomePlugin::Cat(plugin) => idle_editor(plugin.unedited()),
+        SomePlugin::Pmt(plugin) => idle_editor(plugin.unedited()),
+        SomePlugin::Sdt(plugin) => idle_editor(plugin.unedited()),
+        SomePlugin::Nit(plugin) => idle_editor(plugin.unedited()),
+        SomePlugin::Zap(plugin) => idle_editor(Ok(plugin.unedited())),
+        SomePlugin::Svremove(plugin) => idle_editor(Ok(plugin.unedited())),
+        SomePlugin::Remap(plugin) => Ok(idle_remap(plugin)),
+        SomePlugin::Inject(plugin) => Ok(idle_inject(plugin)),
+        SomePlugin::Tables(plugin) => Ok(idle_tables(plugin)),
+        _ => Ok(None),
+    }
+}
+
+fn idle_editor(found: Result<Option<Unedited>, AllocError>) -> Result<Option<Idle>, AllocError> {
+    Ok(found?.map(Idle::Unedited))
 }
 
 fn idle_remap(plugin: &Remap) -> Option<Idle> {

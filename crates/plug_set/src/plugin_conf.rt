@@ -1,5 +1,6 @@
 //! The settings and the kinds of all plugins. A new one has a line in each list of this file.
-ghost use Rattle.std.specs.Prelude.{◌≡◌, IfOk, IfSome, MatchResult, codes, false, map, option_map, true};
+ghost use Rattle.std.specs.Prelude.{◌≡◌, Err, IfOk, IfSome, MatchResult, Ok, codes, false, find, map, option_map, true};
+ghost use Rattle.std.specs.Str.{bytes_eq};
 ghost use Rattle.std.specs.String.{string_bytes};
 ghost use Rattle.clap.specs.Simple.{app_of};
 ghost use Rattle.plug_conf.specs.NumberSet.{AllBelow};
@@ -96,36 +97,50 @@ pub enum PluginKind {
     Pcrverify,
 }
 
+// All kinds.
+static KINDS: [PluginKind; 22] = [
+    PluginKind::Filter,
+    PluginKind::Skip,
+    PluginKind::Slice,
+    PluginKind::Pattern,
+    PluginKind::Until,
+    PluginKind::Count,
+    PluginKind::Continuity,
+    PluginKind::Remap,
+    PluginKind::Inject,
+    PluginKind::Pat,
+    PluginKind::Cat,
+    PluginKind::Pmt,
+    PluginKind::Sdt,
+    PluginKind::Nit,
+    PluginKind::Zap,
+    PluginKind::Svremove,
+    PluginKind::Analyze,
+    PluginKind::Info,
+    PluginKind::Tables,
+    PluginKind::Compact,
+    PluginKind::Rmorphan,
+    PluginKind::Pcrverify,
+];
+
+// The first of these kinds that has this name.
+fn kind_named(kinds: &[PluginKind], name: &str) -> Option<PluginKind>
+    ensures { result ≡ find (λ kind. bytes_eq name.now (name_of_kind kind)) kinds.now }
+{
+    for kind in kinds {
+        if name == kind.name() {
+            return Some(*kind);
+        }
+    }
+    None
+}
+
 impl PluginKind {
     /// The kind of plugin with this name; `None` where there is none.
     pub fn of(name: &str) -> Option<PluginKind>
         ensures { result ≡ plugin_kind_named name.now }
     {
-        match name {
-            "filter" => Some(PluginKind::Filter),
-            "skip" => Some(PluginKind::Skip),
-            "slice" => Some(PluginKind::Slice),
-            "pattern" => Some(PluginKind::Pattern),
-            "until" => Some(PluginKind::Until),
-            "count" => Some(PluginKind::Count),
-            "continuity" => Some(PluginKind::Continuity),
-            "remap" => Some(PluginKind::Remap),
-            "inject" => Some(PluginKind::Inject),
-            "pat" => Some(PluginKind::Pat),
-            "cat" => Some(PluginKind::Cat),
-            "pmt" => Some(PluginKind::Pmt),
-            "sdt" => Some(PluginKind::Sdt),
-            "nit" => Some(PluginKind::Nit),
-            "zap" => Some(PluginKind::Zap),
-            "svremove" => Some(PluginKind::Svremove),
-            "analyze" => Some(PluginKind::Analyze),
-            "info" => Some(PluginKind::Info),
-            "tables" => Some(PluginKind::Tables),
-            "compact" => Some(PluginKind::Compact),
-            "rmorphan" => Some(PluginKind::Rmorphan),
-            "pcrverify" => Some(PluginKind::Pcrverify),
-            _ => None,
-        }
+        kind_named(&KINDS, name)
     }
 
     /// The name of the plugin on the command line and in the reports.
@@ -247,8 +262,7 @@ fn only_labels(alloc: Global, found: &ParsedOptions) -> Result<Option<NumberSet>
     Ok(Some(only))
 }
 
-// The settings of the own options of a plugin, with the labels of `--only-label`. A fault of these labels is reported
-// before options in conflict, and after what is missing.
+// The settings of the own options of a plugin, with the labels of `--only-label`.
 fn with_only_labels(
     alloc: Global,
     conf: Result<PluginConf, Refusal>,
@@ -260,15 +274,53 @@ fn with_only_labels(
     ensures lawful { IfOk result IsLawfulItem }
 {
     match conf {
-        Ok(conf) => {
-            let only = only_labels(alloc, found)?;
-            Ok(PluginItem { conf, only })
-        }
-        Err(Refusal::Broken(WordsRule::Conflict)) => {
+        Ok(conf) => labelled(alloc, conf, found),
+        Err(refusal) => refused(alloc, refusal, found),
+    }
+}
+
+// The settings with those labels.
+fn labelled(alloc: Global, conf: PluginConf, found: &ParsedOptions) -> Result<PluginItem, Refusal>
+    requires { IsLawful conf }
+    ensures reads { (table : OptionTable GivenConf) → ReadsParsed table found.now (Ok conf)
+        → ReadsParsed (with_only_label table) found.now result }
+    ensures lawful { IfOk result IsLawfulItem }
+{
+    let (conf, only) = with_labels(alloc, conf, found)?;
+    Ok(PluginItem { conf, only })
+}
+
+// Any settings with those labels. They are a type parameter, since to say what becomes of a large value where it is
+// dropped takes long to prove.
+fn with_labels<C: Drop>(
+    alloc: Global,
+    conf: C,
+    found: &ParsedOptions,
+) -> Result<(C, Option<NumberSet>), Refusal>
+    ensures same { IfOk result (λ pair. pair.0 ≡ conf) }
+    ensures reads { MatchResult result
+        (λ pair. (is_formed (ranges LAST_LABEL) (codes "only-label") found.now ≡ true)
+        × (pair.1 ≡ read_value (ranges_of LAST_LABEL) (codes "only-label") found.now))
+        (IsRefusedBy Value (is_formed (ranges LAST_LABEL) (codes "only-label") found.now ≡ false)) }
+    ensures range { IfOk result (λ pair. IfSome pair.1 (AllBelow LABEL_COUNT)) }
+{
+    let only = only_labels(alloc, found)?;
+    Ok((conf, only))
+}
+
+// Why the words are refused, where the own options of the plugin are. A fault of the labels is reported before options
+// in conflict, and after what is missing.
+fn refused(alloc: Global, refusal: Refusal, found: &ParsedOptions) -> Result<PluginItem, Refusal>
+    ensures reads { (table : OptionTable GivenConf) → ReadsParsed table found.now (Err refusal)
+        → ReadsParsed (with_only_label table) found.now result }
+    ensures lawful { IfOk result IsLawfulItem }
+{
+    match refusal {
+        Refusal::Broken(WordsRule::Conflict) => {
             let _ = only_labels(alloc, found)?;
             Err(Refusal::Broken(WordsRule::Conflict))
         }
-        Err(refusal) => Err(refusal),
+        refusal => Err(refusal),
     }
 }
 

@@ -81,6 +81,16 @@ macro_rules! each_plugin {
     };
 }
 
+// A plugin of one kind, where there is one, as a plugin of any kind.
+macro_rules! made {
+    ($new:expr, $variant:path) => {
+        match $new {
+            Ok(plugin) => Ok($variant(plugin)),
+            Err(error) => Err(error),
+        }
+    };
+}
+
 impl SomePlugin {
     ghost use Rattle.plug_set.specs.Plugins.{IsLawful};
 
@@ -100,40 +110,49 @@ impl SomePlugin {
         ensures silent { IfOk result (λ plugin. ⟦<SomePlugin as Plugin>⟧.silent plugin ≡ is_silent conf.now) }
     {
         match conf {
-            PluginConf::Filter(conf) => Ok(SomePlugin::Filter(Filter::new(alloc, conf, buffer)?)),
-            PluginConf::Skip(conf) => Ok(SomePlugin::Skip(Skip::new(alloc, conf, buffer)?)),
-            PluginConf::Slice(conf) => Ok(SomePlugin::Slice(Slice::new(alloc, conf, buffer)?)),
-            PluginConf::Pattern(conf) => {
-                Ok(SomePlugin::Pattern(Pattern::new(alloc, conf, buffer)?))
-            }
-            PluginConf::Until(conf) => Ok(SomePlugin::Until(Until::new(alloc, conf, buffer)?)),
-            PluginConf::Count(conf) => Ok(SomePlugin::Count(Count::new(alloc, conf, buffer)?)),
-            PluginConf::Continuity(conf) => {
-                Ok(SomePlugin::Continuity(Continuity::new(alloc, conf, buffer)?))
-            }
-            PluginConf::Remap(conf) => Ok(SomePlugin::Remap(Remap::new(alloc, conf, buffer)?)),
-            PluginConf::Inject(conf) => Ok(SomePlugin::Inject(Inject::new(alloc, conf, sections)?)),
-            PluginConf::Pat(conf) => Ok(SomePlugin::Pat(EditPat::new(alloc, conf, buffer)?)),
-            PluginConf::Cat(conf) => Ok(SomePlugin::Cat(EditCat::new(alloc, conf, buffer)?)),
-            PluginConf::Pmt(conf) => Ok(SomePlugin::Pmt(EditPmt::new(alloc, conf, buffer)?)),
-            PluginConf::Sdt(conf) => Ok(SomePlugin::Sdt(EditSdt::new(alloc, conf, buffer)?)),
-            PluginConf::Nit(conf) => Ok(SomePlugin::Nit(EditNit::new(alloc, conf, buffer)?)),
-            PluginConf::Zap(conf) => Ok(SomePlugin::Zap(Zap::new(alloc, conf, buffer)?)),
-            PluginConf::Svremove(conf) => {
-                Ok(SomePlugin::Svremove(Svremove::new(alloc, conf, buffer)?))
-            }
-            PluginConf::Analyze(conf) => {
-                Ok(SomePlugin::Analyze(Analyze::new(alloc, conf, buffer)?))
-            }
-            PluginConf::Info(conf) => Ok(SomePlugin::Info(Info::new(alloc, conf, buffer)?)),
-            PluginConf::Tables(conf) => Ok(SomePlugin::Tables(Tables::new(alloc, conf, buffer)?)),
-            PluginConf::Compact(conf) => {
-                Ok(SomePlugin::Compact(Compact::new(alloc, conf, buffer)?))
-            }
-            PluginConf::Rmorphan(conf) => Ok(SomePlugin::Rmorphan(Rmorphan::new(alloc, conf)?)),
-            PluginConf::Pcrverify(conf) => {
-                Ok(SomePlugin::Pcrverify(Pcrverify::new(alloc, conf, buffer)?))
-            }
+            PluginConf::Filter(conf) => made!(Filter::new(alloc, conf, buffer), SomePlugin::Filter),
+            PluginConf::Skip(conf) => made!(Skip::new(alloc, conf, buffer), SomePlugin::Skip),
+            PluginConf::Slice(conf) => made!(Slice::new(alloc, conf, buffer), SomePlugin::Slice),
+            PluginConf::Pattern(conf) => made!(
+                Pattern::new(alloc, conf, buffer),
+                SomePlugin::Pattern
+            ),
+            PluginConf::Until(conf) => made!(Until::new(alloc, conf, buffer), SomePlugin::Until),
+            PluginConf::Count(conf) => made!(Count::new(alloc, conf, buffer), SomePlugin::Count),
+            PluginConf::Continuity(conf) => made!(
+                Continuity::new(alloc, conf, buffer),
+                SomePlugin::Continuity
+            ),
+            PluginConf::Remap(conf) => made!(Remap::new(alloc, conf, buffer), SomePlugin::Remap),
+            PluginConf::Inject(conf) => made!(
+                Inject::new(alloc, conf, sections),
+                SomePlugin::Inject
+            ),
+            PluginConf::Pat(conf) => made!(EditPat::new(alloc, conf, buffer), SomePlugin::Pat),
+            PluginConf::Cat(conf) => made!(EditCat::new(alloc, conf, buffer), SomePlugin::Cat),
+            PluginConf::Pmt(conf) => made!(EditPmt::new(alloc, conf, buffer), SomePlugin::Pmt),
+            PluginConf::Sdt(conf) => made!(EditSdt::new(alloc, conf, buffer), SomePlugin::Sdt),
+            PluginConf::Nit(conf) => made!(EditNit::new(alloc, conf, buffer), SomePlugin::Nit),
+            PluginConf::Zap(conf) => made!(Zap::new(alloc, conf, buffer), SomePlugin::Zap),
+            PluginConf::Svremove(conf) => made!(
+                Svremove::new(alloc, conf, buffer),
+                SomePlugin::Svremove
+            ),
+            PluginConf::Analyze(conf) => made!(
+                Analyze::new(alloc, conf, buffer),
+                SomePlugin::Analyze
+            ),
+            PluginConf::Info(conf) => made!(Info::new(alloc, conf, buffer), SomePlugin::Info),
+            PluginConf::Tables(conf) => made!(Tables::new(alloc, conf, buffer), SomePlugin::Tables),
+            PluginConf::Compact(conf) => made!(
+                Compact::new(alloc, conf, buffer),
+                SomePlugin::Compact
+            ),
+            PluginConf::Rmorphan(conf) => made!(Rmorphan::new(alloc, conf), SomePlugin::Rmorphan),
+            PluginConf::Pcrverify(conf) => made!(
+                Pcrverify::new(alloc, conf, buffer),
+                SomePlugin::Pcrverify
+            ),
         }
     }
 }
