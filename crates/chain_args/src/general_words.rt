@@ -2,16 +2,14 @@
 
 ghost use Rattle.std.specs.Prelude.{◌≡◌, IfOk, map};
 ghost use Rattle.std.specs.String.{string_bytes};
-ghost use Rattle.clap.specs.Simple.{app_of};
-ghost use Rattle.chain_args.specs.General.{general, general_rows};
+ghost use Rattle.chain_args.specs.General.{general};
 ghost use Rattle.chain_args.specs.LawfulPlan.{IsLawfulGeneral};
-ghost use Rattle.option_words.specs.Options.{command_of};
 ghost use Rattle.option_words.specs.Refusal.{Reads, ReadsParsed};
 
+use crate::found_words::found_words;
 use crate::general_conf::GeneralConf;
-use clap::Command;
-use option_words::{OptionWord, ParsedOptions, Refusal, command_with};
-use std::alloc::{AllocError, Global};
+use option_words::{OptionWord, ParsedOptions, Refusal};
+use std::alloc::Global;
 
 /// The maximum number of packets of one stuffing, of the buffer, and of one turn of a stage.
 const MOST_SIZE: u64 = 1_000_000;
@@ -29,12 +27,6 @@ static GENERAL: [OptionWord; 7] = [
     OptionWord::Value("max-input-packets"),
     OptionWord::Flag("ignore-joint-termination"),
 ];
-
-fn general_command<'a>(alloc: Global) -> Result<Command<'a>, AllocError>
-    ensures { IfOk result (λ c. app_of c ≡ command_of general_rows) }
-{
-    command_with(alloc, &GENERAL)
-}
 
 fn general_settings(found: &ParsedOptions) -> Result<GeneralConf, Refusal>
     ensures reads { ReadsParsed general found.now result }
@@ -63,6 +55,6 @@ pub(crate) fn read_general(alloc: Global, words: &[String]) -> Result<GeneralCon
     ensures reads { Reads general (map string_bytes words.now) result }
     ensures lawful { IfOk result IsLawfulGeneral }
 {
-    let found = ParsedOptions::of(general_command(alloc)?, words)?;
+    let found = found_words(alloc, &GENERAL, words)?;
     general_settings(&found)
 }

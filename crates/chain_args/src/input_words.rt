@@ -10,8 +10,9 @@ ghost use Rattle.option_words.specs.OptionTable.{OptionTable};
 ghost use Rattle.option_words.specs.Refusal.{Reads, ReadsParsed};
 
 use crate::form_words::read_format;
+use crate::found_words::found_words;
 use crate::input_conf::{InputConf, MOST_SEED};
-use option_words::{ParsedOptions, Refusal, WordsRule, new_command, with_operand, with_value};
+use option_words::{OptionWord, ParsedOptions, Refusal, WordsRule};
 use plug_conf::MOST_PACKETS;
 use std::alloc::Global;
 
@@ -49,13 +50,14 @@ impl InputKind {
     }
 }
 
+// The operand and the option of `file`.
+static FILE: [OptionWord; 2] = [OptionWord::Operand("name"), OptionWord::Value("format")];
+
 fn read_file(alloc: Global, words: &[String]) -> Result<InputConf, Refusal>
     ensures reads { Reads file_input (map string_bytes words.now) result }
     ensures lawful { IfOk result IsLawfulInput }
 {
-    let command = with_operand(alloc, new_command(alloc), "name")?;
-    let command = with_value(alloc, command, "format")?;
-    let found = ParsedOptions::of(command, words)?;
+    let found = found_words(alloc, &FILE, words)?;
     file_settings(alloc, &found)
 }
 
@@ -70,12 +72,14 @@ fn file_settings(alloc: Global, found: &ParsedOptions) -> Result<InputConf, Refu
     })
 }
 
+// The operand of `null`.
+static NULL: [OptionWord; 1] = [OptionWord::Operand("count")];
+
 fn read_null(alloc: Global, words: &[String]) -> Result<InputConf, Refusal>
     ensures reads { Reads null_input (map string_bytes words.now) result }
     ensures lawful { IfOk result IsLawfulInput }
 {
-    let command = with_operand(alloc, new_command(alloc), "count")?;
-    let found = ParsedOptions::of(command, words)?;
+    let found = found_words(alloc, &NULL, words)?;
     null_settings(&found)
 }
 
@@ -90,13 +94,14 @@ fn null_settings(found: &ParsedOptions) -> Result<InputConf, Refusal>
     Ok(InputConf::Null(count.unwrap_or(0)))
 }
 
+// The operands of `testgen`.
+static TESTGEN: [OptionWord; 2] = [OptionWord::Operand("seed"), OptionWord::Operand("count")];
+
 fn read_testgen(alloc: Global, words: &[String]) -> Result<InputConf, Refusal>
     ensures reads { Reads testgen_input (map string_bytes words.now) result }
     ensures lawful { IfOk result IsLawfulInput }
 {
-    let command = with_operand(alloc, new_command(alloc), "seed")?;
-    let command = with_operand(alloc, command, "count")?;
-    let found = ParsedOptions::of(command, words)?;
+    let found = found_words(alloc, &TESTGEN, words)?;
     testgen_settings(&found)
 }
 

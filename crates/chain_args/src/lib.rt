@@ -3,6 +3,7 @@
 #![tactic(auto)]
 
 mod form_words;
+mod found_words;
 mod general_conf;
 mod general_words;
 mod input_conf;

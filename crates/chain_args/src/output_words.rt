@@ -6,8 +6,9 @@ ghost use Rattle.chain_args.specs.Outputs.{drop_output, file_output, output_kind
 ghost use Rattle.option_words.specs.OptionTable.{OptionTable};
 ghost use Rattle.option_words.specs.Refusal.{Reads};
 
+use crate::found_words::found_words;
 use crate::output_conf::OutputConf;
-use option_words::{ParsedOptions, Refusal, new_command, with_operand};
+use option_words::{OptionWord, Refusal};
 use std::alloc::Global;
 
 /// The kinds of outputs.
@@ -40,17 +41,19 @@ impl OutputKind {
     }
 }
 
+// The operand of `file`.
+static FILE: [OptionWord; 1] = [OptionWord::Operand("name")];
+
 fn read_file(alloc: Global, words: &[String]) -> Result<OutputConf, Refusal>
     ensures { Reads file_output (map string_bytes words.now) result }
 {
-    let command = with_operand(alloc, new_command(alloc), "name")?;
-    let found = ParsedOptions::of(command, words)?;
+    let found = found_words(alloc, &FILE, words)?;
     Ok(OutputConf::File(found.text(alloc, "name")?))
 }
 
 fn read_drop(alloc: Global, words: &[String]) -> Result<OutputConf, Refusal>
     ensures { Reads drop_output (map string_bytes words.now) result }
 {
-    let _found = ParsedOptions::of(new_command(alloc), words)?;
+    let _found = found_words(alloc, &[], words)?;
     Ok(OutputConf::Drop)
 }
