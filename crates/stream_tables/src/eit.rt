@@ -1,14 +1,14 @@
 //! The EIT of DVB, field by field.
 
 use crate::descriptors::write_descriptors;
-use crate::page::Page;
+use crate::page::PidPage;
 use crate::written::write_written;
 use ts_eit::{Eit, Event, Start};
 use ts_section::TableRun;
 
 /// Writes a section of an EIT: its fields, its events with their descriptors, and whether it is written back
 /// unchanged.
-pub fn write_eit(page: &mut Page, run: &TableRun) {
+pub fn write_eit(page: &mut PidPage, run: &TableRun) {
     match Eit::read(page.alloc(), run) {
         Ok(eit) => {
             write_head(page, &eit);
@@ -20,7 +20,7 @@ pub fn write_eit(page: &mut Page, run: &TableRun) {
 }
 
 /// Writes the fields before the events.
-fn write_head(page: &mut Page, eit: &Eit) {
+fn write_head(page: &mut PidPage, eit: &Eit) {
     page.head("EIT", eit.version, eit.current);
     page.field("service_id", &eit.service_id);
     page.field("table_id", &eit.table_id);
@@ -34,7 +34,7 @@ fn write_head(page: &mut Page, eit: &Eit) {
 }
 
 /// Writes events, each with its descriptors.
-fn write_events(page: &mut Page, events: &[Event]) {
+fn write_events(page: &mut PidPage, events: &[Event]) {
     for event in events {
         write_event(page, event);
         write_descriptors(page, &event.descriptors);
@@ -43,7 +43,7 @@ fn write_events(page: &mut Page, events: &[Event]) {
 
 /// Writes an event without its descriptors: the day and second of its start if it is defined, and its duration in
 /// seconds.
-fn write_event(page: &mut Page, event: &Event) {
+fn write_event(page: &mut PidPage, event: &Event) {
     page.begin("event");
     page.field("id", &event.event_id);
     write_start(page, event.start);
@@ -53,7 +53,7 @@ fn write_event(page: &mut Page, event: &Event) {
     page.end();
 }
 
-fn write_start(page: &mut Page, start: Option<Start>) {
+fn write_start(page: &mut PidPage, start: Option<Start>) {
     if let Some(start) = start {
         page.field("day", &start.day);
         page.field("second", &start.second);

@@ -1,30 +1,26 @@
 //! The text of one PID, which is printed at once.
 
-use std::alloc::{AllocError, Global};
-use std::fmt::{Debug, Display, Write};
+use row_tools::Page;
+use std::alloc::Global;
+use std::fmt::{Debug, Display};
 use std::io;
 use ts_table_rows::{TableFault, TableRefusal};
 
 /// The lines of one PID, each of which begins with its number.
-///
-/// What appends has no result, so that nothing has to be let go on the way: once memory has ended, the text is not
-/// printed any more.
 #[derive(Drop)]
-pub struct Page {
+pub struct PidPage {
     alloc: Global,
     pid: u16,
-    text: String,
-    state: Result<(), AllocError>,
+    page: Page,
 }
 
-impl Page {
+impl PidPage {
     /// The page of a PID, without lines.
-    pub fn new(alloc: Global, pid: u16) -> Page {
-        Page {
+    pub fn new(alloc: Global, pid: u16) -> PidPage {
+        PidPage {
             alloc,
             pid,
-            text: String::new(alloc),
-            state: Ok(()),
+            page: Page::new(alloc),
         }
     }
 
@@ -35,39 +31,17 @@ impl Page {
 
     /// Prints all lines. Where memory ended before, nothing is printed, and the error tells it.
     pub fn print(&self, rt: &impl Print) -> io::Result<()> {
-        self.state?;
-        rt.print(self.text.as_str())
-    }
-
-    /// Keeps that memory has ended.
-    fn keep(&mut self, wrote: Result<(), AllocError>) {
-        if wrote.is_err() {
-            self.state = wrote;
-        }
+        self.page.print(rt)
     }
 
     /// Appends a text.
     pub fn text(&mut self, text: &str) {
-        let wrote = self.text.push_str(text);
-        self.keep(wrote);
-    }
-
-    /// Appends a value as it is.
-    fn bare(&mut self, value: &impl Display) {
-        let wrote = write!(self.text, "{value}");
-        self.keep(wrote);
-    }
-
-    /// Appends a byte as two hexadecimal digits.
-    fn byte(&mut self, byte: u8) {
-        let wrote = write!(self.text, "{byte:02x}");
-        self.keep(wrote);
+        self.page.text(text);
     }
 
     /// Appends a fault, and ends the line.
     fn fault(&mut self, fault: &impl Debug) {
-        let wrote = write!(self.text, ": {fault:?}\n");
-        self.keep(wrote);
+        self.page.add(format_args!(": {fault:?}\n"));
     }
 
     /// Begins a line.
@@ -81,8 +55,7 @@ impl Page {
 
     /// Appends a value after a blank.
     pub fn value(&mut self, value: &impl Display) {
-        self.text(" ");
-        self.bare(value);
+        self.page.add(format_args!(" {value}"));
     }
 
     /// Appends a value with its name.
@@ -96,7 +69,7 @@ impl Page {
     pub fn bytes(&mut self, bytes: &[u8]) {
         self.text(" ");
         for byte in bytes {
-            self.byte(*byte);
+            self.page.byte(*byte);
         }
     }
 
@@ -125,9 +98,9 @@ impl Page {
         self.value(&place);
         self.field("byte", &at);
         self.text(" was ");
-        self.byte(was);
+        self.page.byte(was);
         self.text(" written ");
-        self.byte(now);
+        self.page.byte(now);
         self.end();
     }
 

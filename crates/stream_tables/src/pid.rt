@@ -1,6 +1,6 @@
 //! The sections and tables of one PID.
 
-use crate::page::Page;
+use crate::page::PidPage;
 use crate::table::write_table;
 use std::alloc::{AllocError, Global};
 use std::io;
@@ -10,13 +10,13 @@ use ts_section::{Section, TableRun};
 
 /// Prints the sections of one PID, the content of each that is a table by itself, and the tables of several sections.
 pub fn print_pid(rt: &(impl Print + AllocGlobal), pid: u16, stream: &[u8]) -> io::Result<()> {
-    let mut page = Page::new(rt.alloc(), pid);
+    let mut page = PidPage::new(rt.alloc(), pid);
     write_pid(rt.alloc(), &mut page, pid, stream)?;
     page.print(rt)
 }
 
 /// Writes what `print_pid` prints.
-fn write_pid(alloc: Global, page: &mut Page, pid: u16, stream: &[u8]) -> Result<(), AllocError> {
+fn write_pid(alloc: Global, page: &mut PidPage, pid: u16, stream: &[u8]) -> Result<(), AllocError> {
     if pid > NULL_PID {
         return Ok(());
     }
@@ -26,7 +26,7 @@ fn write_pid(alloc: Global, page: &mut Page, pid: u16, stream: &[u8]) -> Result<
 }
 
 fn write_packets(
-    page: &mut Page,
+    page: &mut PidPage,
     demux: &mut Demux,
     assembly: &mut Assembly,
     stream: &[u8],
@@ -43,7 +43,7 @@ fn write_packets(
 
 /// Writes the sections that a packet completes, and the tables that these complete.
 fn write_packet(
-    page: &mut Page,
+    page: &mut PidPage,
     demux: &mut Demux,
     assembly: &mut Assembly,
     packet: &Packet,
@@ -59,7 +59,7 @@ fn write_packet(
 }
 
 /// Writes the table_id of a section, its section_length, and the CRC of the long form.
-fn write_section(page: &mut Page, section: &Section) {
+fn write_section(page: &mut PidPage, section: &Section) {
     let bytes = section.bytes();
     page.begin("id");
     page.value(&section.table_id());
@@ -71,7 +71,7 @@ fn write_section(page: &mut Page, section: &Section) {
 }
 
 /// Writes the last four bytes of a section.
-fn write_crc(page: &mut Page, bytes: &[u8]) {
+fn write_crc(page: &mut PidPage, bytes: &[u8]) {
     if let Some((_, crc)) = bytes.split_last_chunk::<4>() {
         page.text(" crc");
         page.bytes(crc);
@@ -86,14 +86,14 @@ fn table_alone(alloc: Global, section: &Section) -> Result<Option<TableRun>, All
 }
 
 /// Writes the content of a table of one section.
-fn write_alone(page: &mut Page, table: Option<TableRun>) {
+fn write_alone(page: &mut PidPage, table: Option<TableRun>) {
     if let Some(run) = table {
         write_table(page, &run);
     }
 }
 
 /// Writes how many sections a table has, and its content if there are several.
-fn write_joined(page: &mut Page, table: Option<TableRun>) {
+fn write_joined(page: &mut PidPage, table: Option<TableRun>) {
     if let Some(run) = table {
         let count = run.sections().len();
         page.begin("table of");

@@ -1,14 +1,14 @@
 //! NIT, BAT and SDT of DVB, field by field.
 
 use crate::descriptors::write_descriptors;
-use crate::page::Page;
+use crate::page::PidPage;
 use crate::written::write_written;
 use ts_section::TableRun;
 use ts_si::{Bat, Nit, NitStream, Sdt, SdtService};
 
 /// Writes a NIT: its descriptors, its transport streams and their descriptors, and whether it is written back
 /// unchanged.
-pub fn write_nit(page: &mut Page, run: &TableRun) {
+pub fn write_nit(page: &mut PidPage, run: &TableRun) {
     match Nit::read(page.alloc(), run) {
         Ok(nit) => {
             write_network(page, &nit);
@@ -20,7 +20,7 @@ pub fn write_nit(page: &mut Page, run: &TableRun) {
 }
 
 /// Writes the fields of a NIT and the descriptors of its network.
-fn write_network(page: &mut Page, nit: &Nit) {
+fn write_network(page: &mut PidPage, nit: &Nit) {
     page.head("NIT", nit.version, nit.current);
     page.field("network_id", &nit.network_id);
     page.field("actual", &nit.actual);
@@ -30,7 +30,7 @@ fn write_network(page: &mut Page, nit: &Nit) {
 
 /// Writes a BAT: its descriptors, its transport streams and their descriptors, and whether it is written back
 /// unchanged.
-pub fn write_bat(page: &mut Page, run: &TableRun) {
+pub fn write_bat(page: &mut PidPage, run: &TableRun) {
     match Bat::read(page.alloc(), run) {
         Ok(bat) => {
             write_bouquet(page, &bat);
@@ -42,7 +42,7 @@ pub fn write_bat(page: &mut Page, run: &TableRun) {
 }
 
 /// Writes the fields of a BAT and the descriptors of its bouquet.
-fn write_bouquet(page: &mut Page, bat: &Bat) {
+fn write_bouquet(page: &mut PidPage, bat: &Bat) {
     page.head("BAT", bat.version, bat.current);
     page.field("bouquet_id", &bat.bouquet_id);
     page.end();
@@ -50,7 +50,7 @@ fn write_bouquet(page: &mut Page, bat: &Bat) {
 }
 
 /// Writes an SDT: its services and their descriptors, and whether it is written back unchanged.
-pub fn write_sdt(page: &mut Page, run: &TableRun) {
+pub fn write_sdt(page: &mut PidPage, run: &TableRun) {
     match Sdt::read(page.alloc(), run) {
         Ok(sdt) => {
             write_sdt_head(page, &sdt);
@@ -62,7 +62,7 @@ pub fn write_sdt(page: &mut Page, run: &TableRun) {
 }
 
 /// Writes the fields of an SDT before its services.
-fn write_sdt_head(page: &mut Page, sdt: &Sdt) {
+fn write_sdt_head(page: &mut PidPage, sdt: &Sdt) {
     page.head("SDT", sdt.version, sdt.current);
     page.field("stream_id", &sdt.stream_id);
     page.field("original_id", &sdt.original_id);
@@ -71,14 +71,14 @@ fn write_sdt_head(page: &mut Page, sdt: &Sdt) {
 }
 
 /// Writes the services of an SDT, each with its descriptors.
-fn write_services(page: &mut Page, services: &[SdtService]) {
+fn write_services(page: &mut PidPage, services: &[SdtService]) {
     for service in services {
         write_service(page, service);
         write_descriptors(page, &service.descriptors);
     }
 }
 
-fn write_service(page: &mut Page, service: &SdtService) {
+fn write_service(page: &mut PidPage, service: &SdtService) {
     page.begin("service");
     page.field("id", &service.service_id);
     page.field("schedule", &service.schedule);
@@ -89,7 +89,7 @@ fn write_service(page: &mut Page, service: &SdtService) {
 }
 
 /// Writes the transport streams of a NIT or a BAT, each with its descriptors.
-fn write_streams(page: &mut Page, streams: &[NitStream]) {
+fn write_streams(page: &mut PidPage, streams: &[NitStream]) {
     for stream in streams {
         page.pair(
             "stream id",

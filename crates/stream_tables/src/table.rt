@@ -1,13 +1,13 @@
 //! The content of the sections of a table.
 
 use crate::eit::write_eit;
-use crate::page::Page;
+use crate::page::PidPage;
 use crate::psi::{write_cat, write_pat, write_pmt};
 use crate::si::{write_bat, write_nit, write_sdt};
 use ts_section::TableRun;
 
 /// Writes the content of a table, if its table_id is one of those below.
-pub fn write_table(page: &mut Page, run: &TableRun) {
+pub fn write_table(page: &mut PidPage, run: &TableRun) {
     let Some(first) = run.sections().first() else {
         return;
     };

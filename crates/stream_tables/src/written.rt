@@ -1,18 +1,22 @@
 //! Whether a table that was read is written back unchanged.
 
-use crate::page::Page;
+use crate::page::PidPage;
 use ts_section::{Section, TableRun};
 use ts_table_rows::TableRefusal;
 
 /// Writes whether the written sections of a table are those that it was read from, or which bytes differ.
-pub fn write_written(page: &mut Page, run: &TableRun, written: Result<Vec<Section>, TableRefusal>) {
+pub fn write_written(
+    page: &mut PidPage,
+    run: &TableRun,
+    written: Result<Vec<Section>, TableRefusal>,
+) {
     match written {
         Ok(sections) => write_compared(page, run.sections(), sections.as_slice()),
         Err(refusal) => page.not_written(refusal),
     }
 }
 
-fn write_compared(page: &mut Page, read: &[Section], written: &[Section]) {
+fn write_compared(page: &mut PidPage, read: &[Section], written: &[Section]) {
     if read.len() != written.len() {
         page.begin("written as");
         page.value(&written.len());
@@ -31,7 +35,7 @@ fn write_compared(page: &mut Page, read: &[Section], written: &[Section]) {
 }
 
 /// Writes how a section differs from the one that is written, and returns whether it does not.
-fn write_others(page: &mut Page, place: usize, read: &Section, written: &Section) -> bool {
+fn write_others(page: &mut PidPage, place: usize, read: &Section, written: &Section) -> bool {
     let read = read.bytes();
     let written = written.bytes();
     if read.len() != written.len() {
@@ -46,7 +50,7 @@ fn write_others(page: &mut Page, place: usize, read: &Section, written: &Section
 
 /// Writes the bytes of a section before its CRC that differ when it is written back, and returns whether there are
 /// none.
-fn write_other_bytes(page: &mut Page, place: usize, read: &[u8], written: &[u8]) -> bool {
+fn write_other_bytes(page: &mut PidPage, place: usize, read: &[u8], written: &[u8]) -> bool {
     let end = read.len().saturating_sub(4);
     let mut same = true;
     for at in 0..end {

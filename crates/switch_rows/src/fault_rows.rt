@@ -1,6 +1,6 @@
 //! Rows with failing calls of the desk.
-use crate::desk_plan::{DeskPlan, ORDINARY};
 use crate::row::Row;
+use row_tools::{DeskPlan, ORDINARY};
 
 /// Openings, reads and writes that fail.
 pub(crate) fn rows() -> &'static [Row] {

@@ -3,29 +3,25 @@
 //! of the form, and plays inputs of which two have to be read at the same time.
 #![tactic(auto)]
 
-mod desk_plan;
 mod fault_rows;
 mod files;
 mod meeting;
 mod meeting_rows;
 mod outcome;
-mod page;
 mod play_rows;
 mod row;
 mod steps;
-mod tally;
 mod trial;
 mod watched_desk;
 mod watched_source;
 mod word_rows;
 
-use page::Page;
 use row::{Row, write_rows};
+use row_tools::{Page, Tally};
 use std::alloc::AllocError;
 use std::io;
 use std::sync::Wait;
 use std::thread::Threads;
-use tally::Tally;
 
 fn main(rt: HostRuntime) -> io::Result<()> {
     print_tables(&rt)?;

@@ -1,9 +1,8 @@
 //! Plays in which the next input is read while the current one is.
-use crate::desk_plan::{DeskPlan, ORDINARY};
 use crate::meeting::Meeting;
 use crate::outcome::write_outcome;
-use crate::page::Page;
 use crate::trial::played;
+use row_tools::{DeskPlan, ORDINARY, Page};
 use std::alloc::AllocError;
 use std::io;
 use std::sync::Wait;

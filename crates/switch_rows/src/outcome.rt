@@ -1,7 +1,7 @@
 //! The result of a call, as text.
-use crate::page::Page;
 use crate::steps::Steps;
 use crate::trial::Trial;
+use row_tools::Page;
 
 /// Writes the status, the report, the output, and the calls of the desk.
 pub(crate) fn write_outcome(page: &mut Page, trial: &Trial) {

@@ -1,6 +1,6 @@
 //! Rows on plays: their order, and how the last one ends.
-use crate::desk_plan::{DeskPlan, ORDINARY};
 use crate::row::Row;
+use row_tools::{DeskPlan, ORDINARY};
 
 /// Plays one after another.
 pub(crate) fn rows() -> &'static [Row] {

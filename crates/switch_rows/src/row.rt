@@ -1,9 +1,7 @@
 //! A worked example: its words, and the plan for the calls of its desk.
-use crate::desk_plan::DeskPlan;
 use crate::outcome::write_outcome;
-use crate::page::Page;
-use crate::tally::Tally;
 use crate::trial::{Trial, played};
+use row_tools::{DeskPlan, Page, Tally};
 use std::alloc::AllocError;
 use std::sync::Wait;
 use std::thread::Threads;

@@ -1,8 +1,8 @@
 //! One call over a desk in memory.
-use crate::desk_plan::DeskPlan;
 use crate::files::files;
 use crate::meeting::Meeting;
 use crate::watched_desk::WatchedDesk;
+use row_tools::DeskPlan;
 use std::alloc::{AllocError, Global};
 use std::sync::Wait;
 use std::thread::Threads;

@@ -1,7 +1,6 @@
 //! Words that are not of the form, and the limits of those that are.
-use crate::desk_plan::ORDINARY;
-use crate::page::Page;
 use crate::trial::{Trial, called, push_words, words_with};
+use row_tools::{ORDINARY, Page};
 use std::alloc::{AllocError, Global};
 use std::io;
 use std::sync::Wait;

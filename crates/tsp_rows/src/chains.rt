@@ -1,12 +1,10 @@
 //! Chains with many sizes of the buffer and the batches: each run has to give the result of the run in one thread with the
 //! default sizes.
 use crate::chain_table::{CHAINS, Chain};
-use crate::desk_plan::ORDINARY;
 use crate::inputs::Input;
 use crate::outcome::write_outcome;
-use crate::page::Page;
-use crate::tally::Tally;
 use crate::trial::{Case, Trial, by_serial_call, by_tsp_call, push_words};
+use row_tools::{ORDINARY, Page, Tally};
 use std::alloc::{AllocError, Global};
 use std::io;
 use std::sync::Wait;

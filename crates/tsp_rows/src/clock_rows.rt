@@ -1,8 +1,8 @@
 //! Rows on PCRs that are held to a constant bit rate. The generated stream has a PCR at every fiftieth packet from the one at 4
 //! on, 3000 units a packet, which is 13,536,000 bits per second.
-use crate::desk_plan::ORDINARY;
 use crate::inputs::Input;
 use crate::row::Row;
+use row_tools::ORDINARY;
 
 /// The generated stream, at its bit rate and at a lower one, with the least allowed jitter that gives no fault and with one less.
 pub(crate) fn rows() -> &'static [Row] {

@@ -1,8 +1,8 @@
 //! Rows on cycles: the packets of a PID that an editor rewrites, whose tables change in the middle of a cycle.
-use crate::desk_plan::ORDINARY;
 use crate::inputs::Input;
 use crate::long_pat::{FIRST_OF_0, FIRST_OF_1, SECOND_OF_0, SECOND_OF_1};
 use crate::row::Row;
+use row_tools::ORDINARY;
 
 /// A table that is complete in the middle of a cycle waits for the next one.
 pub(crate) fn rows() -> &'static [Row] {

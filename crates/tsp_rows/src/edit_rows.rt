@@ -1,8 +1,8 @@
 //! Rows on the editors of tables.
 use crate::carried::Carried;
-use crate::desk_plan::ORDINARY;
 use crate::inputs::Input;
 use crate::row::Row;
+use row_tools::ORDINARY;
 
 /// Each editor, and two in one chain.
 pub(crate) fn rows() -> &'static [Row] {

@@ -1,7 +1,7 @@
 //! Rows on inputs, outputs and the ends of the input.
-use crate::desk_plan::ORDINARY;
 use crate::inputs::Input;
 use crate::row::Row;
+use row_tools::ORDINARY;
 
 /// Three packets on two PIDs.
 const THREE: [u16; 3] = [256, 257, 256];

@@ -1,7 +1,7 @@
 //! Rows on writes that fail in the run.
-use crate::desk_plan::{DeskPlan, ORDINARY};
 use crate::inputs::Input;
 use crate::row::Row;
+use row_tools::{DeskPlan, ORDINARY};
 
 /// Three packets on two PIDs.
 const THREE: [u16; 3] = [256, 257, 256];

@@ -1,7 +1,7 @@
 //! Rows on files that keep bytes before or after each packet.
-use crate::desk_plan::{DeskPlan, ORDINARY};
 use crate::inputs::{Input, Units};
 use crate::row::Row;
+use row_tools::{DeskPlan, ORDINARY};
 
 /// Packets before sixteen bytes each, of which the last are missing.
 const TRAILS: Units = Units {

@@ -1,7 +1,7 @@
 //! Rows on the tables of the generated stream.
-use crate::desk_plan::ORDINARY;
 use crate::inputs::Input;
 use crate::row::Row;
+use row_tools::ORDINARY;
 
 /// Its tables, reported, edited and left out.
 pub(crate) fn rows() -> &'static [Row] {

@@ -1,8 +1,8 @@
 //! Rows on `info`. The generated stream has a PCR at every fiftieth packet from the one at 4 on.
 use crate::carried::Carried;
-use crate::desk_plan::ORDINARY;
 use crate::inputs::Input;
 use crate::row::Row;
+use row_tools::ORDINARY;
 
 /// What `info` reports of streams, with tables and without.
 pub(crate) fn rows() -> &'static [Row] {

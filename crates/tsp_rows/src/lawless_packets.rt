@@ -1,8 +1,8 @@
 //! Rows on packets with an invalid adaptation field.
-use crate::desk_plan::ORDINARY;
 use crate::inputs::{Input, input_bytes};
 use crate::row::Row;
 use crate::trial::{Case, Trial, by_serial_call, words_of};
+use row_tools::ORDINARY;
 use std::alloc::{AllocError, Global};
 use std::io;
 use ts_outside::OpenGate;

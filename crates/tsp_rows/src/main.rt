@@ -11,7 +11,6 @@ mod chain_table;
 mod chains;
 mod clock_rows;
 mod cycle_rows;
-mod desk_plan;
 mod edit_rows;
 mod end_rows;
 mod failing_ends;
@@ -33,14 +32,12 @@ mod meeting_pairs;
 mod mixed_stream;
 mod note_rows;
 mod outcome;
-mod page;
 mod plugin_rows;
 mod row;
 mod service_rows;
 mod small_pieces;
 mod stream_rows;
 mod table_rows;
-mod tally;
 mod threads;
 mod trial;
 mod trial_desk;
@@ -48,13 +45,12 @@ mod window_rows;
 mod windows;
 mod word_rows;
 
-use page::Page;
 use row::{Row, write_rows};
+use row_tools::{Page, Tally};
 use std::alloc::AllocError;
 use std::sync::Wait;
 use std::thread::Threads;
 use std::{env, io};
-use tally::Tally;
 
 fn main(rt: HostRuntime) -> io::Result<()> {
     let mut words = env::args(&rt)?;

@@ -1,9 +1,8 @@
 //! A chain of six plugins, each two of which have to meet.
-use crate::desk_plan::ORDINARY;
 use crate::inputs::Input;
 use crate::meeting_gate::MeetingGate;
-use crate::tally::Tally;
 use crate::trial::{Case, by_threaded_call, words_of};
+use row_tools::{ORDINARY, Tally};
 use std::alloc::AllocError;
 use std::io;
 use std::sync::Wait;

@@ -1,7 +1,7 @@
 //! Rows on notes: what a plugin notes of packets beyond the mark is bounded by the buffer, however long the stream is.
-use crate::desk_plan::ORDINARY;
 use crate::inputs::Input;
 use crate::row::Row;
+use row_tools::ORDINARY;
 
 /// A million packets through a buffer of a thousand.
 pub(crate) fn rows() -> &'static [Row] {

@@ -1,6 +1,6 @@
 //! The result of a call, as text.
-use crate::page::Page;
 use crate::trial::Trial;
+use row_tools::Page;
 use ts_outside::MemoryDesk;
 
 /// The PID of null packets.

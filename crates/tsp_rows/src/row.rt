@@ -1,10 +1,8 @@
 //! A worked example: its words, its input, and which calls of its desk fail.
-use crate::desk_plan::DeskPlan;
 use crate::inputs::Input;
 use crate::outcome::write_outcome;
-use crate::page::Page;
-use crate::tally::Tally;
 use crate::trial::{Case, Trial, by_serial_call, by_tsp_call, words_of};
+use row_tools::{DeskPlan, Page, Tally};
 use std::alloc::{AllocError, Global};
 use std::sync::Wait;
 use std::thread::Threads;

@@ -1,7 +1,7 @@
 //! Rows on whole services, and on PIDs that tables name.
-use crate::desk_plan::ORDINARY;
 use crate::inputs::Input;
 use crate::row::Row;
+use row_tools::ORDINARY;
 
 /// A service kept alone, and one taken out, of the generated stream.
 pub(crate) fn rows() -> &'static [Row] {

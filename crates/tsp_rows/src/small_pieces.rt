@@ -1,7 +1,7 @@
 //! Rows whose reads and writes move one byte each.
-use crate::desk_plan::{DeskPlan, ORDINARY};
 use crate::inputs::Input;
 use crate::row::Row;
+use row_tools::{DeskPlan, ORDINARY};
 
 /// One byte a call.
 const BYTE_BY_BYTE: DeskPlan = DeskPlan {

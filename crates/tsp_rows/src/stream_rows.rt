@@ -1,7 +1,7 @@
 //! Rows on the contents of a stream: its PIDs, its services and its tables.
-use crate::desk_plan::ORDINARY;
 use crate::inputs::Input;
 use crate::row::Row;
+use row_tools::ORDINARY;
 
 /// What `analyze` and `tables` report of null packets and of the generated stream.
 pub(crate) fn rows() -> &'static [Row] {

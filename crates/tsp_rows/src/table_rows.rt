@@ -1,7 +1,7 @@
 //! Rows on files of tables, which are read before anything is opened.
-use crate::desk_plan::{DeskPlan, ORDINARY};
 use crate::inputs::Input;
 use crate::row::Row;
+use row_tools::{DeskPlan, ORDINARY};
 
 /// What a file of tables puts into the stream.
 pub(crate) fn rows() -> &'static [Row] {

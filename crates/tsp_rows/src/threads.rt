@@ -1,11 +1,10 @@
 //! Chains by `threaded_call` whose gate checks how its stages work at once.
-use crate::desk_plan::ORDINARY;
 use crate::following_gate::FollowingGate;
 use crate::inputs::Input;
 use crate::meeting_gate::MeetingGate;
 use crate::outcome::write_outcome;
-use crate::page::Page;
 use crate::trial::{Case, by_threaded_call, words_of};
+use row_tools::{ORDINARY, Page};
 use std::alloc::AllocError;
 use std::io;
 use std::sync::Wait;

@@ -1,7 +1,7 @@
 //! One call of the tool over a desk in memory.
-use crate::desk_plan::DeskPlan;
 use crate::inputs::Input;
 use crate::trial_desk::filled_desk;
+use row_tools::DeskPlan;
 use std::alloc::{AllocError, Global};
 use std::sync::Wait;
 use std::thread::Threads;

@@ -1,8 +1,8 @@
 //! The desk of a trial: its input under two names, and files of tables.
 ghost use Rattle.std.specs.Prelude.{◌<◌};
 
-use crate::desk_plan::DeskPlan;
 use crate::inputs::{Input, input_bytes};
+use row_tools::DeskPlan;
 use std::alloc::{AllocError, Global};
 use ts_outside::{FailPlan, FileBytes, FileList, MemoryDesk, NameText};
 

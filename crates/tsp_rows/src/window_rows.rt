@@ -1,8 +1,8 @@
 //! Rows on the plugins that see packets ahead in a window.
 use crate::carried::Carried;
-use crate::desk_plan::ORDINARY;
 use crate::inputs::Input;
 use crate::row::Row;
+use row_tools::ORDINARY;
 
 /// A packet on PID 300, a PAT and a PMT that names this PID, a second packet on it, and one on a PID that none names.
 const LATE_TABLES: Input = Input::Around(&[300], &[Carried::Pat, Carried::PmtOf300], &[300, 301]);

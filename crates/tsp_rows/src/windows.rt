@@ -1,10 +1,9 @@
 //! A chain whose gate records the windows that each plugin works on.
-use crate::desk_plan::ORDINARY;
 use crate::inputs::Input;
 use crate::keeping_gate::{KeepingGate, ROOM, Windows};
 use crate::outcome::write_outcome;
-use crate::page::Page;
 use crate::trial::{Case, by_serial_call, by_tsp_call, words_of};
+use row_tools::{ORDINARY, Page};
 use std::alloc::{AllocError, Global};
 use std::io;
 use std::sync::Wait;

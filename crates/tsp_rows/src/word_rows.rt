@@ -1,7 +1,7 @@
 //! Rows on words that are no command line: nothing is opened.
-use crate::desk_plan::ORDINARY;
 use crate::inputs::Input;
 use crate::row::Row;
+use row_tools::ORDINARY;
 
 /// A row or two for each broken rule but that of too many plugins.
 pub(crate) fn rows() -> &'static [Row] {

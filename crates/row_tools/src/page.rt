@@ -6,14 +6,14 @@ use std::io;
 /// A text. What appends to it has no result, so that nothing has to be let go on the way: once memory has ended, the
 /// text is not printed any more.
 #[derive(Drop)]
-pub(crate) struct Page {
+pub struct Page {
     text: String,
     state: Result<(), AllocError>,
 }
 
 impl Page {
     /// The empty text.
-    pub(crate) fn new(alloc: Global) -> Page {
+    pub fn new(alloc: Global) -> Page {
         Page {
             text: String::new(alloc),
             state: Ok(()),
@@ -21,14 +21,20 @@ impl Page {
     }
 
     /// Appends a text.
-    pub(crate) fn text(&mut self, text: &str) {
+    pub fn text(&mut self, text: &str) {
         let wrote = self.text.push_str(text);
         self.keep(wrote);
     }
 
     /// Appends a value.
-    pub(crate) fn add<D: Display + Drop>(&mut self, value: D) {
+    pub fn add<D: Display + Drop>(&mut self, value: D) {
         let wrote = write!(self.text, "{value}");
+        self.keep(wrote);
+    }
+
+    /// Appends a byte as two hexadecimal digits.
+    pub fn byte(&mut self, byte: u8) {
+        let wrote = write!(self.text, "{byte:02x}");
         self.keep(wrote);
     }
 
@@ -40,7 +46,7 @@ impl Page {
     }
 
     /// Prints the text. Where memory ended before, nothing is printed, and the error tells it.
-    pub(crate) fn print(&self, rt: &impl Print) -> io::Result<()> {
+    pub fn print(&self, rt: &impl Print) -> io::Result<()> {
         self.state?;
         rt.print(self.text.as_str())
     }

@@ -1,49 +1,53 @@
-//! The plan of a row for the calls of its desk.
+//! Which calls of the desk of a row fail, and how much each moves.
+
 ghost use Rattle.std.specs.Prelude.{◌≡◌, ◌<◌, IfOk};
 
 use std::alloc::{AllocError, Global};
 use ts_outside::{FailPlan, NumberList};
 
-/// The most bytes that one read gives: a packet.
-const READ_PIECE: usize = 188;
-
-/// The most bytes that one write or one report takes.
-const WRITE_PIECE: usize = 100;
-
-/// Which calls of a desk fail, each kind counted from 1, and how many bytes an output and the reports hold at most: a
+/// Which calls of a desk fail, each kind counted from 1, how many bytes one call moves, and how many the desk holds: a
 /// `FailPlan` that stands in a table of rows.
 #[derive(Clone, Copy)]
-pub(crate) struct DeskPlan {
-    /// The openings of the output and the inputs that fail, counted together.
-    pub(crate) opens: &'static [u64],
+pub struct DeskPlan {
+    /// The files of tables and the openings of inputs and outputs that fail, counted together.
+    pub opens: &'static [u64],
     /// The reads of each input that fail.
-    pub(crate) reads: &'static [u64],
-    /// The writes of the output that fail.
-    pub(crate) writes: &'static [u64],
+    pub reads: &'static [u64],
+    /// The writes of an output that fail.
+    pub writes: &'static [u64],
     /// The reports that fail.
-    pub(crate) reports: &'static [u64],
-    /// The closings of the output that fail.
-    pub(crate) closes: &'static [u64],
+    pub reports: &'static [u64],
+    /// The closings of an output that fail.
+    pub closes: &'static [u64],
+    /// The most bytes that one read gives.
+    pub read_piece: usize,
+    /// The most bytes that one write or one report takes.
+    pub write_piece: usize,
     /// How many bytes an output holds at most, and the reports.
-    pub(crate) room: usize,
+    pub room: usize,
 }
 
-/// No call fails.
-pub(crate) const ORDINARY: DeskPlan = DeskPlan {
+/// No call fails, a read gives one packet at most, and a write takes 100 bytes.
+pub const ORDINARY: DeskPlan = DeskPlan {
     opens: &[],
     reads: &[],
     writes: &[],
     reports: &[],
     closes: &[],
+    read_piece: 188,
+    write_piece: 100,
     room: 20_000,
 };
 
 impl DeskPlan {
-    /// The plan as a desk takes it. Out of memory it returns `AllocError`.
-    pub(crate) fn fail_plan(&self, alloc: Global) -> Result<FailPlan, AllocError>
+    /// The plan as a desk takes it. A desk has no pieces of 0 bytes: they have one byte. Out of memory it returns
+    /// `AllocError`.
+    pub fn fail_plan(&self, alloc: Global) -> Result<FailPlan, AllocError>
         ensures { IfOk result (λ p. (0 < p.read_piece) × (0 < p.write_piece)) }
     {
-        let mut plan = FailPlan::none(alloc, READ_PIECE, WRITE_PIECE, self.room);
+        let read_piece = self.read_piece.max(1);
+        let write_piece = self.write_piece.max(1);
+        let mut plan = FailPlan::none(alloc, read_piece, write_piece, self.room);
         self.fill(alloc, &mut plan)?;
         Ok(plan)
     }

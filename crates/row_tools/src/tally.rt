@@ -2,21 +2,21 @@
 
 /// A count of runs, and of those with the same result as another one.
 #[derive(Clone, Copy)]
-pub(crate) struct Tally {
+pub struct Tally {
     /// How many runs were counted.
-    pub(crate) runs: u32,
+    pub runs: u32,
     /// How many of them had the same result.
-    pub(crate) alike: u32,
+    pub alike: u32,
 }
 
 impl Tally {
     /// The tally of no run.
-    pub(crate) fn empty() -> Tally {
+    pub fn empty() -> Tally {
         Tally { runs: 0, alike: 0 }
     }
 
     /// The tally with one more run.
-    pub(crate) fn with(self, is_alike: bool) -> Tally {
+    pub fn with(self, is_alike: bool) -> Tally {
         Tally {
             runs: self.runs.wrapping_add(1),
             alike: self.alike.wrapping_add(u32::from(is_alike)),
