@@ -225,9 +225,6 @@ list-until_at c k list is at = ap (find is_until) (list-here c k list last_passe
 
 -- ---- ends of a list, and faults
 
-IsOwnOf : ℕ → StageList → List Cell → Cause → Type 0
-IsOwnOf k list given why = (own : OwnEnd) × IsEndOf list given own × (why ≡ cause_of_end k own)
-
 own-or-fault : (plugins k : ℕ) (list : StageList) (given : List Cell) (end : StageEnd) (why : Cause) → EndsAs plugins k list given end → cause_of_stage k end ≡ Some why → ((own : OwnEnd) × IsEndOf list given own × (why ≡ cause_of_end k own)) ⊎ IsTrue (is_fault why)
 own-or-fault plugins k list given (Input (End left)) why e gives =
     inl (input_over (End left), e, cc)

@@ -1,12 +1,11 @@
 -- More cells give longer lists: what a chain gives for a first part of its
 -- input is a first part of what it gives for the whole.
-use Rattle.std.proofs.Common.{ℕ, zero, suc, List, [], ◌∷◌, ◌++◌, take, drop, refl, ap, sym, ◌∙◌, append_assoc}
+use Rattle.std.proofs.Common.{ℕ, List, [], ◌∷◌, ◌++◌, take, drop, refl, ap, sym, ◌∙◌, append_assoc}
 use Rattle.std.proofs.lemmas.List.{take-append-drop}
 use Rattle.ts_packet.specs.declared.cell.Cell.{Cell}
 use Rattle.chain_model.specs.Prefix.{IsPrefix}
 use Rattle.chain_model.specs.PluginRule.{PluginRule}
 use Rattle.chain_model.specs.Apply.{StageList, CellOutcome, goes_on, ends_after, ends_before, became, onto, apply_after, apply}
-use Rattle.chain_model.specs.StageLists.{rule_behind, stage_list}
 
 pub IsPrefix-trans : {X : Type 0} (xs ys zs : List X) → IsPrefix xs ys → IsPrefix ys zs → IsPrefix xs zs
 IsPrefix-trans xs ys zs p q = (p.0 ++ q.0, q.1 ∙ ap (λ l. l ++ q.0) p.1 ∙ append_assoc xs p.0 q.0)
@@ -28,8 +27,3 @@ apply_after-append rule history (x ∷ xs) ys =
 pub IsPrefix-apply : (rule : PluginRule) (xs ys : List Cell) → IsPrefix xs ys → IsPrefix (apply rule xs).cells (apply rule ys).cells
 IsPrefix-apply rule xs ys p =
     rw p.1 (apply_after-append rule [] xs p.0)
-
-pub IsPrefix-stage_list : (rules : List PluginRule) (a b : StageList) (j : ℕ) → IsPrefix a.cells b.cells → IsPrefix (stage_list rules a j).cells (stage_list rules b j).cells
-IsPrefix-stage_list rules a b zero p = p
-IsPrefix-stage_list rules a b (suc j) p =
-    IsPrefix-apply (rule_behind rules j) (stage_list rules a j).cells (stage_list rules b j).cells (IsPrefix-stage_list rules a b j p)

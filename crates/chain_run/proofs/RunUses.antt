@@ -1,15 +1,13 @@
 -- What a layer above needs of a run, in other words.
-use Rattle.std.proofs.Common.{ℕ, zero, suc, ◌-◌, ◌<◌, List, [], ◌∷◌, length, map, take, Option, None, arith}
-use Rattle.std.specs.Prelude.{slice_index_or, Ok, Err, IsOk, OnErr}
+use Rattle.std.proofs.Common.{ℕ, suc, ◌-◌, List, [], ◌∷◌, take, arith}
+use Rattle.std.specs.Prelude.{Ok, Err, IsOk, OnErr}
 use Rattle.std.specs.declared.result.Result.{Result}
-use Rattle.std.proofs.lemmas.List.{take-take, length-take, length-map}
+use Rattle.std.proofs.lemmas.List.{take-take, length-take}
 use Rattle.ts_packet.specs.declared.cell.Cell.{Cell}
 use Rattle.chain_model.specs.PluginRule.{PluginRule}
 use Rattle.chain_model.specs.Apply.{StageList}
 use Rattle.chain_model.specs.StageLists.{stage_list}
-use Rattle.plugin_trait.specs.Steps.{IsSteadyFor}
 use Rattle.chain_run.specs.Met.{AllMetTo, AllMetFirst}
-use Rattle.chain_run.specs.Rooms.{AreSteadyFor, WantsMemory}
 
 -- plugins that met the first cells of their lists met the cells before the cut
 pub met-to : {P : Type 0} (stands : P → List Cell → ℕ → Type 0) (rules : List PluginRule) (input : StageList) (gave : ℕ → ℕ) (cut j : ℕ) (plugins : List P)
@@ -28,16 +26,6 @@ met-to stands rules input gave cut j (plugin ∷ plugins) met =
       },
       met-to stands rules input gave cut (suc j) plugins met.1,
     )
-
--- where each plugin made room for the buffer, none runs out of memory
-pub steady-wants_none : {P : Type 0} (steady : P → Option ℕ) (buffer : ℕ) (plugins : List P) (k : ℕ) → AreSteadyFor steady buffer plugins → WantsMemory (map steady plugins) buffer k → ⊥
-steady-wants_none steady buffer plugins k are wants =
-    wants.no_room (at plugins (k - 1) are (let a = wants.there_is in let b = wants.behind_input in omega (arith, length-map plugins steady)))
-  where
-    at : (ps : List _) (i : ℕ) → AreSteadyFor steady buffer ps → i < length ps → IsSteadyFor (slice_index_or (map steady ps) i None) buffer
-    at [] i are' lt = absurd (omega arith)
-    at (p ∷ ps) zero are' lt = are'.0
-    at (p ∷ ps) (suc i) are' lt = at ps i are'.1 (omega arith)
 
 -- of an answer that is there no clause on its fault says anything
 pub never-err : {T E : Type 0} (r : Result T E) (P : Type 0) → IsOk r → OnErr r P

@@ -1,12 +1,6 @@
 -- For how many positions plugins made room before a run, and which of them may run out of memory. This project's own rule.
-use Rattle.std.specs.Prelude.{ℕ, ◌-◌, ◌≤◌, List, [], ◌∷◌, length, Option, None, slice_index_or}
+use Rattle.std.specs.Prelude.{ℕ, ◌-◌, ◌≤◌, List, length, Option, None, slice_index_or}
 use Rattle.plugin_trait.specs.Steps.{IsSteadyFor}
-
--- each plugin made room for so many positions
-abbrev pub AreSteadyFor : {P : Type 0} → (P → Option ℕ) → ℕ → List P → Type 0
-AreSteadyFor steady count [] = Unit {0}
-AreSteadyFor steady count (plugin ∷ plugins) =
-    IsSteadyFor (steady plugin) count × AreSteadyFor steady count plugins
 
 -- stage `k` may run out of memory: it is a plugin's, the first one's being stage 1, and that plugin made no room for the buffer
 pub record WantsMemory (rooms : List (Option ℕ)) (buffer k : ℕ) : Type 0 where

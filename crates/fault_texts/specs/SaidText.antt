@@ -1,8 +1,6 @@
 -- What is said of a fault, in whole lines.
 -- This project's own rule.
 use Rattle.std.specs.Prelude.{ℕ, ◌++◌, ◌==◌, List, [], ◌∷◌, Option, None, Some, codes, drop, if◌then◌else◌, is_some, length}
-use Rattle.std.specs.Borrow.{Bor}
-use Rattle.std.specs.List.{flat_map}
 use Rattle.std.specs.Str.{bytes_eq}
 use Rattle.option_words.specs.Number.{number_within}
 use Rattle.fault_texts.specs.declared.help_table.HelpTable.{HelpTable}
@@ -21,10 +19,6 @@ use Rattle.fault_texts.specs.Segment.{head_of, row_of, word_or_none}
 use Rattle.fault_texts.specs.TakesText.{list_text, most_number, takes_text, value_part}
 use Rattle.fault_texts.specs.UnknownHints.{unknown_hints}
 use Rattle.fault_texts.specs.Wanted.{wanted}
-
--- texts that are lent, one after another
-abbrev pub text_of_parts : List (Bor (List ℕ)) → List ℕ
-text_of_parts = flat_map (λ part. part.now)
 
 -- the names that there are after a first word
 abbrev pub no_name_text : HelpTable → List ℕ → List ℕ

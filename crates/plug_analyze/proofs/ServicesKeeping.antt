@@ -16,14 +16,13 @@ use Rattle.plug_psi.specs.declared.in_force.InForce.{InForce}
 use Rattle.plug_psi.specs.ForceStands as forcing
 use Rattle.plug_psi.specs.InForce.{pat_of, pmt_of, service_in, services_in}
 use Rattle.plug_psi.specs.SameForce.{SameInForce}
-use Rattle.plugin_notes.specs.NotesKept.{StartsFrom}
 use Rattle.plugin_notes.proofs.Noting.{is_below, not_below}
 use Rattle.plug_analyze.specs.declared.change.Change.{Change}
 use Rattle.plug_analyze.specs.declared.service_count.ServiceCount.{ServiceCount}
 use Rattle.plug_analyze.specs.declared.services.Services.{Services}
 use Rattle.plug_analyze.specs.AnalyzeRule.{service_with, services_in_force}
 use Rattle.plug_analyze.specs.AnalyzeState.{Serves}
-use Rattle.plug_analyze.specs.ServicesKept.{DropsChanges, KeepsServices, changes_from, place_of_change, services_at, services_below}
+use Rattle.plug_analyze.specs.ServicesKept.{DropsChanges, KeepsServices, changes_from, services_at, services_below}
 
 -- the packets with one cell more
 live-live : (history : List Cell) (packet : List ℕ) (labels : ℕ) → live_packets (history ++ Live packet labels ∷ []) ≡ live_packets history ++ packet ∷ []
@@ -81,23 +80,6 @@ left_all n m (c ∷ cs) early =
       | true ↦ left_all n m cs (All-tail (λ (c : Change). c.at < n) c cs early)
       | false ↦ early
     ]
-
--- one change below the position is taken off
-pub one_dropped : (mark : ℕ) (services : List ServiceCount) (changes rest : List Change) (change : Change) → changes ≡ change ∷ rest → change.at < mark
-    → (services_below mark change.services.items rest ≡ services_below mark services changes) × (changes_from mark rest ≡ changes_from mark changes)
-one_dropped mark services changes rest change is lt = (
-  sym (ap (services_below mark services) is ∙ ap (λ (b : Bool). if b then services_below mark change.services.items rest else services) (is_below change.at mark lt)),
-  sym (ap (changes_from mark) is ∙ ap (λ (b : Bool). if b then changes_from mark rest else change ∷ rest) (is_below change.at mark lt)),
-)
-
--- where none is below the position, none is taken off
-pub none_dropped : (mark : ℕ) (services : List ServiceCount) (changes : List Change) → StartsFrom place_of_change mark changes
-    → (services_below mark services changes ≡ services) × (changes_from mark changes ≡ changes)
-none_dropped mark services [] starts = (refl, refl)
-none_dropped mark services (c ∷ cs) starts = (
-  ap (λ (b : Bool). if b then services_below mark c.services.items cs else services) (not_below c.at mark starts),
-  ap (λ (b : Bool). if b then changes_from mark cs else c ∷ cs) (not_below c.at mark starts),
-)
 
 -- the services after a part of the history are those they were
 at-same : (k : ℕ) (history : List Cell) (cell : Cell) → k ≤ length history → services_at k (history ++ cell ∷ []) ≡ services_at k history

@@ -6,19 +6,11 @@ use Rattle.std.proofs.lemmas.List.Elements.{All-push, filter-append}
 use Rattle.ts_packet.specs.declared.cell.Cell.{Cell}
 use Rattle.ts_packet.specs.Cells.{Live, Dropped}
 use Rattle.ts_packet.specs.declared.numbers.TheConstants.{PID_COUNT}
-use Rattle.ts_packet.specs.Header.{pid_of}
 use Rattle.plugin_trait.specs.declared.line.Line.{Line}
 use Rattle.plugin_trait.specs.PlacedLines.{placed_after, placed_at, placed_of}
 use Rattle.plugin_notes.specs.PidPackets.{numbers_below, packets_on}
-use Rattle.plugin_notes.specs.Tallies.{IsCounted}
-use Rattle.plugin_notes.specs.declared.tally.Tally.{Tally}
-use Rattle.plugin_notes.proofs.PidLemmas.{numbers_below_more, packets_on-pids, placed_at-append}
+use Rattle.plugin_notes.proofs.PidLemmas.{numbers_below_more, placed_at-append}
 use Rattle.plug_analyze.specs.AnalyzeRule.{analyze_rule, counts_on, pid_text, summary_on}
-
--- the number of packets on a PID is the tally's
-pub packets_known : (tally : Tally) (packets : List (List ℕ)) (pid : ℕ) → IsCounted tally (map pid_of packets) → pid < PID_COUNT
-    → get_or tally.counts pid 0 ≡ packets_on pid packets
-packets_known tally packets pid t below = t.each pid below ∙ packets_on-pids pid packets
 
 -- the PIDs with one more looked at
 pub pids_more : (packets : List (List ℕ)) (pid n : ℕ) (pids pids_new : List ℕ) → n ≡ packets_on pid packets

@@ -4,7 +4,6 @@ use Rattle.ts_packet.specs.declared.cell.Cell.{Cell}
 use Rattle.ts_packet.specs.Header.{pid_of, has_payload_of}
 use Rattle.plugin_notes.specs.declared.continuity_error.ContinuityError.{ContinuityError}
 use Rattle.plugin_notes.specs.ContinuityErrors.{error_on}
-use Rattle.plugin_notes.specs.Notes.{notes_after}
 use Rattle.plug_analyze.specs.AnalyzeRule.{all_pids, has_pcr, is_scrambled}
 use Rattle.plug_analyze.specs.declared.note.Note.{Note}
 
@@ -38,7 +37,3 @@ pid_in note = note.pid
 -- each packet has one note
 abbrev pub note_on : List Cell → List ℕ → List Note
 note_on history packet = noted history packet ∷ []
-
--- the notes of a list of cells
-abbrev pub notes_in : List Cell → List Note
-notes_in cells = notes_after note_on [] cells

@@ -1,12 +1,11 @@
 -- Worked rows of edited tables, computed on the definitions.
-use Rattle.std.proofs.Common.{◌≡◌, ℕ, List, [], ◌∷◌, map, None, Some, true, false, refl}
+use Rattle.std.proofs.Common.{◌≡◌, ℕ, [], ◌∷◌, None, Some, true, false, refl}
 use Rattle.ts_bits.specs.TaggedBody.{TaggedBody}
-use Rattle.ts_fields.specs.Layout.{number}
 use Rattle.ts_fields.specs.Bits.{bits, number_of}
 use Rattle.ts_fields.specs.Reading.{read_number, read_bytes, read_rest, read_field, read_rows}
 use Rattle.ts_fields.specs.Bodies.{read_page, read_behind}
 use Rattle.ts_descr.specs.Descriptors.{read_typed}
-use Rattle.ts_table_rows.specs.TableValues.{ItemHolding, TableHolding}
+use Rattle.ts_table_rows.specs.TableValues.{TableHolding}
 use Rattle.plug_psi.proofs.RowTables.{item_of, table_of}
 use Rattle.plug_edit.specs.Changing.{changed_first}
 use Rattle.plug_edit.specs.PatEdit.{edited_pat}
@@ -14,11 +13,6 @@ use Rattle.plug_edit.specs.CatEdit.{edited_cat, with_ca}
 use Rattle.plug_edit.specs.PmtEdit.{edited_pmt}
 use Rattle.plug_edit.specs.SdtEdit.{edited_sdt}
 use Rattle.plug_edit.specs.NitEdit.{edited_nit}
-use Rattle.plug_edit.specs.declared.pat_conf.EditPatConf.{EditPatConf}
-use Rattle.plug_edit.specs.declared.cat_conf.EditCatConf.{EditCatConf}
-use Rattle.plug_edit.specs.declared.pmt_conf.EditPmtConf.{EditPmtConf}
-use Rattle.plug_edit.specs.declared.sdt_conf.EditSdtConf.{EditSdtConf}
-use Rattle.plug_edit.specs.declared.nit_conf.EditNitConf.{EditNitConf}
 
 -- a table of another version
 abbrev of_version : ℕ → TableHolding → TableHolding

@@ -1,6 +1,6 @@
 -- One cell more.
 use Rattle.std.proofs.Common.{◌≡◌, ◌≢◌, ℕ, ◌<◌, ◌≤◌, Bool, true, false, List, [], ◌∷◌, ◌++◌, length, filter, refl, sym, ◌∙◌, ap, arith, length-append, subst}
-use Rattle.std.specs.Prelude.{◌==◌, ◌&&◌, if◌then◌else◌, nat_eq, nat_lt}
+use Rattle.std.specs.Prelude.{◌==◌, ◌&&◌, nat_eq, nat_lt}
 use Rattle.std.proofs.lemmas.Grind.{flat_map-append}
 use Rattle.ts_packet.specs.declared.cell.Cell.{Cell}
 use Rattle.ts_packet.specs.Cells.{Live, live_packets, packet_in}
@@ -13,31 +13,12 @@ use Rattle.plug_psi.specs.EditorStands.{StandsFor, has_failed}
 use Rattle.plug_psi.specs.declared.editor.Editor.{Editor}
 use Rattle.plug_edit.specs.EditRule.{is_taken, taken_of, takes}
 
-if_true : {X : Type 0} (b : Bool) (x y : X) → b ≡ true → (if b then x else y) ≡ x
-if_true true x y e = refl
-if_true false x y e = cc
-
-if_false : {X : Type 0} (b : Bool) (x y : X) → b ≡ false → (if b then x else y) ≡ y
-if_false true x y e = cc
-if_false false x y e = refl
-
 -- a packet on another PID
 pub other_pid : (pid : ℕ) (packet : List ℕ) → pid_of packet ≢ pid → is_taken pid packet ≡ false
 other_pid pid packet h = ap (λ b. b && nat_lt pid NULL_PID) (differ (pid_of packet) pid h)
   where
     differ : (a b : ℕ) → a ≢ b → nat_eq a b ≡ false
     differ a b h = grind (arith, h)
-
--- an editor of null packets takes none
-pub null_pid : (pid : ℕ) (packet : List ℕ) → NULL_PID ≤ pid → is_taken pid packet ≡ false
-null_pid pid packet h = ap (λ b. nat_eq (pid_of packet) pid && b) (above h) ∙ never (nat_eq (pid_of packet) pid)
-  where
-    above : NULL_PID ≤ pid → nat_lt pid NULL_PID ≡ false
-    above h = grind (arith, h)
-
-    never : (b : Bool) → (b && false) ≡ false
-    never true = refl
-    never false = refl
 
 -- a packet on the PID of an editor
 pub same_pid : (pid : ℕ) (packet : List ℕ) → pid_of packet ≡ pid → pid < NULL_PID → is_taken pid packet ≡ true
@@ -48,13 +29,6 @@ same_pid pid packet same below = ap (λ b. b && nat_lt pid NULL_PID) (equal (pid
 
     told : pid < NULL_PID → nat_lt pid NULL_PID ≡ true
     told h = grind (arith, h)
-
--- what the rule makes of a packet that is not taken, and of one that is
-pub passed_other : (pid : ℕ) (packet new : List ℕ) → is_taken pid packet ≡ false → packet ≡ (if is_taken pid packet then new else packet)
-passed_other pid packet new e = sym (if_false (is_taken pid packet) new packet e)
-
-pub passed_taken : (pid : ℕ) (packet new : List ℕ) → is_taken pid packet ≡ true → new ≡ (if is_taken pid packet then new else packet)
-passed_taken pid packet new e = sym (if_true (is_taken pid packet) new packet e)
 
 -- what is taken are the packets that pass the test of each
 pub filtered : (pid : ℕ) (history : List Cell) → taken_of pid history ≡ filter (is_taken pid) (live_packets history)

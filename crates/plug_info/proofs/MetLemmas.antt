@@ -1,9 +1,8 @@
 -- Lemmas on the cells that were processed, cell by cell and mark by mark.
-use Rattle.std.proofs.Common.{◌≡◌, ℕ, zero, suc, ◌+◌, ◌<◌, ◌≤◌, List, [], ◌∷◌, ◌++◌, length, take, drop, ap, sym, subst, ◌∙◌, refl, arith, length-append, drop-drop, get_or}
-use Rattle.std.proofs.lemmas.List.{drop-append-le, length-take-le, take-append-le, take_more}
+use Rattle.std.proofs.Common.{◌≡◌, ℕ, zero, suc, ◌+◌, ◌<◌, ◌≤◌, List, [], ◌∷◌, ◌++◌, length, take, drop, ap, sym, subst, ◌∙◌, refl, arith, drop-drop, get_or}
+use Rattle.std.proofs.lemmas.List.{length-take-le, take_more}
 use Rattle.ts_packet.specs.declared.cell.Cell.{Cell}
 use Rattle.ts_packet.specs.Cells.{Live, Dropped}
-use Rattle.chain_model.specs.declared.positions.TheConstants.{POSITION_LIMIT}
 use Rattle.plugin_trait.specs.declared.line.Line.{Line}
 use Rattle.plugin_trait.specs.PlacedLines.{placed_after, placed_at, placed_of}
 use Rattle.plug_info.specs.InfoRule.{info_rule, report_in}
@@ -11,23 +10,10 @@ use Rattle.plug_info.specs.MetState.{HasMet}
 use Rattle.plug_info.specs.Tracked.{Tracks, TracksSome}
 use Rattle.plug_info.specs.declared.info_conf.InfoConf.{InfoConf}
 use Rattle.plug_info.specs.declared.met_cells.MetCells.{MetCells}
-use Rattle.plug_info.specs.declared.tracker.Tracker.{Tracker}
 
 -- no cell yet
 pub met_none : (met : MetCells) → met.waiting.items ≡ [] → met.mark ≡ 0 → Tracks met.tracker [] → HasMet met [] 0
 met_none met none at_zero tracks = record { tracks = tracks; waits = none; marked = at_zero; within = omega arith; short = omega arith }
-
--- one more cell
-pub met_more : (met met_new : MetCells) (history : List Cell) (mark : ℕ) (cell : Cell) → HasMet met history mark → length history < POSITION_LIMIT
-    → met_new.tracker ≡ met.tracker → met_new.mark ≡ met.mark → met_new.waiting.items ≡ met.waiting.items ++ cell ∷ [] → HasMet met_new (history ++ cell ∷ []) mark
-met_more met met_new history mark cell w few same marked pushed = record {
-  tracks = subst (λ (t : Tracker). Tracks t (take mark (history ++ cell ∷ []))) (sym same)
-      (subst (Tracks met.tracker) (sym (take-append-le mark history (cell ∷ []) w.within)) w.tracks);
-  waits = pushed ∙ (ap (λ (cs : List Cell). cs ++ cell ∷ []) w.waits ∙ sym (drop-append-le mark history (cell ∷ []) w.within));
-  marked = marked ∙ w.marked;
-  within = omega (arith, w.within, length-append history (cell ∷ []));
-  short = omega (arith, few, length-append history (cell ∷ []));
-}
 
 -- the first of the rest
 first_of : (n : ℕ) (cells : List Cell) (cell : Cell) (rest : List Cell) → drop n cells ≡ cell ∷ rest → (get_or cells n cell ≡ cell) × (n < length cells)

@@ -1,5 +1,5 @@
 -- Tables whose PIDs are mapped, one packet more.
-use Rattle.std.proofs.Common.{◌≡◌, ℕ, ◌==◌, ◌||◌, Bool, true, false, List, [], ◌∷◌, ◌++◌, Option, Some, None, refl, sym, ◌∙◌, ap, subst}
+use Rattle.std.proofs.Common.{◌≡◌, ℕ, ◌||◌, true, false, List, [], ◌∷◌, ◌++◌, Option, Some, None, sym, ◌∙◌, ap, subst}
 use Rattle.std.specs.Prelude.{MatchOption, nat_eq}
 use Rattle.ts_packet.specs.Header.{pid_of}
 use Rattle.ts_demux.specs.TablesOn.{Completes, packets_on}
@@ -34,10 +34,6 @@ named-completed met p tables fixed flag completes = record {
   completes = subst (λ ps. Completes (pid_of p) ps p tables)
       (sym (taken-agree is_edited follows (pid_of p) (λ upto. ap (λ b. b || follows (pid_of p) upto) fixed) met)) completes;
 }
-
--- one on another PID is not edited
-pub not-edited : (met : List (List ℕ)) (p : List ℕ) → is_fixed (pid_of p) ≡ false → follows (pid_of p) (met ++ p ∷ []) ≡ false → is_edited (pid_of p) (met ++ p ∷ []) ≡ false
-not-edited met p fixed flag = ap (λ b. b || follows (pid_of p) (met ++ p ∷ [])) fixed ∙ flag
 
 pub not-fixed : (pid : ℕ) (p : List ℕ) → pid ≡ pid_of p → nat_eq pid 0 ≡ false → nat_eq pid 1 ≡ false → is_fixed (pid_of p) ≡ false
 not-fixed pid p at zero one = ap is_fixed (sym at) ∙ ap (λ b. b || nat_eq pid 1) zero ∙ one

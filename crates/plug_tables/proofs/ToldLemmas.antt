@@ -49,16 +49,6 @@ texts_more tids at pid i tables table before told told_new lt is so_far pushed =
     ∙ ap (filter (is_told tids))
     (ap (λ (t : List (List ℕ)). take i tables ++ t ∷ []) is ∙ sym (take_more tables i table lt)))))))
 
--- a table that is told, and one that is not
-pub text_one : (tids : List (ℕ × ℕ)) (at pid : ℕ) (table : List (List ℕ)) (b : Bool) → is_told tids table ≡ b
-    → table_texts tids at pid (table ∷ []) ≡ (if b then table_text at pid table ∷ [] else [])
-text_one tids at pid table b e =
-    ap (λ (x : Bool). map (table_text at pid) (if x then table ∷ [] else [])) e ∙ pick b
-  where
-    pick : (x : Bool) → map (table_text at pid) (if x then table ∷ [] else []) ≡ (if x then table_text at pid table ∷ [] else [])
-    pick true = refl
-    pick false = refl
-
 -- the lines with one cell more
 placed_after-append : (rule : PluginRule) (history xs ys : List Cell) → placed_after rule history (xs ++ ys) ≡ placed_after rule history xs ++ placed_after rule (history ++ xs) ys
 placed_after-append rule history [] ys = ap (λ (h : List Cell). placed_after rule h ys) (sym (append-nil history))

@@ -37,11 +37,3 @@ choice_is list pids follows a b =
       | true ↦ refl
       | false ↦ refl
     ]))
-
--- the PIDs of a choice
-pub listed_is : (list : List (ℕ × ℕ)) (b : Bool) → (length list == 0) ≡ b → (if b then usual.listed else list) ≡ (choice_of list).listed
-listed_is list b e = pick b ∙ ap (λ (f : Bool). (if f then usual else (let other : Choice = record { listed = list; follows = false } in other)).listed) (sym e)
-  where
-    pick : (f : Bool) → (if f then usual.listed else list) ≡ (if f then usual else (let other : Choice = record { listed = list; follows = false } in other)).listed
-    pick true = refl
-    pick false = refl

@@ -1,5 +1,5 @@
 -- An input step by step: what was given, with the null packets that are due, stays the stuffed list of its packets.
-use Rattle.std.proofs.Common.{◌≡◌, ℕ, ◌+◌, ◌*◌, ◌%◌, ◌==◌, ◌≤◌, Bool, true, false, if◌then◌else◌, List, [], ◌∷◌, ◌++◌, length, refl, ap, sym, ◌∙◌, arith, length-append, append_assoc, append-nil, add-one, subst, Option, None, Some, is_some, inr}
+use Rattle.std.proofs.Common.{◌≡◌, ℕ, ◌+◌, ◌*◌, ◌%◌, ◌==◌, ◌≤◌, Bool, true, false, if◌then◌else◌, List, [], ◌∷◌, ◌++◌, length, refl, ap, sym, ◌∙◌, arith, length-append, append_assoc, append-nil, add-one, subst, Option, None, Some, is_some}
 use Rattle.std.specs.Option.{IfSome}
 use Rattle.std.proofs.lemmas.List.{append_cancel_left, length-replicate}
 use Rattle.ts_packet.specs.Packet.{null_packet}
@@ -22,7 +22,7 @@ use Rattle.stage_run.specs.GeneratedInput.{input_of_generated}
 use Rattle.stage_run.proofs.GeneratedLemmas.{length-generated}
 use Rattle.stage_run.specs.Feeds.{FeedStands, FeedLooks, FeedPuts, FeedPutsAll, SameFeed, StandsAtSource, packets_put, hand_of, live_cells}
 use Rattle.stage_run.specs.InputStands.{InputHolds, FeedGives, MayGive, stuffing_of, stuffed_so_far}
-use Rattle.stage_run.specs.InputSteps.{InputGoes, IsOver, IsFilled, EndsAtLimit, cell_put, with_more, stop_count, null_count}
+use Rattle.stage_run.specs.InputSteps.{InputGoes, IsOver, IsFilled, cell_put, with_more, stop_count, null_count}
 
 -- one packet more, with the null packets after it
 pub stuffed_after-push : (stuffing : model.Stuffing) (n : ℕ) (rows : List (List ℕ)) (row : List ℕ)
@@ -356,10 +356,3 @@ IsFilled-over stage len done (Some how) some over = over
 pub None-from_is_some : {T : Type 0} (o : Option T) → is_some o ≡ false → o ≡ None
 None-from_is_some None no_value = refl
 None-from_is_some (Some x) no_value = cc
-
--- a list that is over ends at the last position as elsewhere
-pub EndsAtLimit-over : {S : Type 0} (stage : InputStage S) (how : InputEnd) → IsOver stage how → EndsAtLimit stage how
-EndsAtLimit-over stage (End left) over = over
-EndsAtLimit-over stage (Sync packet) over = over
-EndsAtLimit-over stage ReadFault over = over
-EndsAtLimit-over stage TooLong over = inr (inr over.ended)

@@ -16,7 +16,7 @@ use Rattle.ts_outside.specs.Source.{SourceView, unread, read_failed}
 use Rattle.ts_outside.proofs.Views.{take-filled, unread-unread, unread-nil}
 use Rattle.chain_model.specs.declared.input_end.InputEnd.TheVariants.{End, Sync, ReadFault}
 use Rattle.stage_run.specs.declared.packet_stream.PacketStream.{PacketStream}
-use Rattle.stage_run.specs.Rows.{IsUnfinished, IsInSync, IsOutOfSync, BeginsPacket}
+use Rattle.stage_run.specs.Rows.{IsUnfinished, IsInSync, IsOutOfSync}
 use Rattle.stage_run.specs.Feeds.{hand_of, HasRoom, ReadsMore, FailsToRead, StreamStands, StreamLooks, StreamPuts, StreamPutsAll, live_cells}
 
 pub length-put_mid : (have k : ℕ) (old got : List ℕ) → have + k ≤ length old → length got ≡ k → length (put_mid have k old got) ≡ length old
@@ -108,11 +108,6 @@ length-concat (row ∷ rows) are =
 pub IsUnfinished-few : (hand : List ℕ) → IsInSync hand → length hand < 188 → IsUnfinished hand
 IsUnfinished-few [] sync few = tt
 IsUnfinished-few (first ∷ rest) sync few = (sync, few)
-
--- and bytes that are enough
-pub BeginsPacket-enough : (hand : List ℕ) → IsInSync hand → 188 ≤ length hand → BeginsPacket hand
-BeginsPacket-enough [] sync enough = absurd (omega arith)
-BeginsPacket-enough (first ∷ rest) sync enough = record { whole = enough; sync = sync }
 
 pub length-hand : {S : Type 0} (stream : PacketStream S) → HasRoom stream → length (hand_of stream) ≡ stream.have
 length-hand stream room =

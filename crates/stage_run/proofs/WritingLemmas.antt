@@ -1,5 +1,5 @@
 -- Cells one after another: what they write, and where a byte of it stands.
-use Rattle.std.proofs.Common.{◌≡◌, ℕ, ◌+◌, ◌<◌, ◌≤◌, List, [], ◌∷◌, ◌++◌, length, take, drop, get_or, refl, ap, sym, ◌∙◌, arith, append_assoc, append-nil, length-append, length-drop, subst, take-add, drop-drop, take-append-drop, inr}
+use Rattle.std.proofs.Common.{◌≡◌, ℕ, ◌+◌, ◌<◌, ◌≤◌, List, [], ◌∷◌, ◌++◌, length, take, drop, get_or, ap, sym, ◌∙◌, arith, append_assoc, append-nil, length-append, length-drop, subst, take-add, drop-drop, take-append-drop, inr}
 use Rattle.std.proofs.lemmas.List.{drop_more, take_more, drop-append-le, take-append-le}
 use Rattle.std.proofs.Math.Seq.{take-append-add}
 use Rattle.std.proofs.lemmas.List.Concat.{flat_map-append}

@@ -1,5 +1,5 @@
 -- Lemmas: what is read is valid.
-use Rattle.std.proofs.Common.{◌≡◌, ℕ, ◌+◌, ◌<◌, ◌≤◌, ◌⊎◌, inl, inr, List, [], ◌∷◌, ◌++◌, length, Option, None, Some, Bool, true, false, refl, ap, sym, ◌∙◌, subst, arith}
+use Rattle.std.proofs.Common.{◌≡◌, ℕ, ◌+◌, ◌<◌, ◌≤◌, ◌⊎◌, inl, inr, List, [], ◌∷◌, ◌++◌, length, Option, None, Some, Bool, true, false, refl, ap, ◌∙◌, subst, arith}
 use Rattle.std.specs.Prelude.{option_and_then, codes, ◌&&◌, nat_lt, IfSome, IfOk, is_none, Result, Ok, Err}
 use Rattle.std.specs.Str.{bytes_eq}
 use Rattle.std.specs.List.{list_all}
@@ -9,7 +9,7 @@ use Rattle.option_words.specs.Number.{number_within, number_of, if_within}
 use Rattle.switch_args.specs.declared.settings.SwitchSettings.{SwitchSettings}
 use Rattle.switch_args.specs.declared.words.WordsFault.{WordsFault}
 use Rattle.switch_args.specs.Readings.{ReadsWords, given_of_settings}
-use Rattle.switch_args.specs.SwitchWords.{Given, Output, to_file, dropped, Expected, an_option_or_input, the_cycle, the_buffer, the_input_kind, the_input_name, an_input_or_output, the_output_kind, the_output_name, nothing, Place, place, step, place_after, start, may_end, read_of, is_name, if_so}
+use Rattle.switch_args.specs.SwitchWords.{Given, to_file, dropped, Expected, an_option_or_input, the_cycle, the_buffer, the_input_kind, the_input_name, an_input_or_output, the_output_kind, the_output_name, nothing, Place, place, step, place_after, start, may_end, read_of, is_name, if_so}
 use Rattle.switch_args.specs.LawfulSettings.{IsLawful, IsLawfulOutput}
 
 -- how many inputs there are at a place: none before the first, and room for one that is expected

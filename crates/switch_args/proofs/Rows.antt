@@ -1,5 +1,5 @@
 -- Worked rows of the words of `tsswitch`, computed on the definitions.
-use Rattle.std.proofs.Common.{◌≡◌, List, [], ◌∷◌, None, Some, refl}
+use Rattle.std.proofs.Common.{◌≡◌, [], ◌∷◌, None, Some, refl}
 use Rattle.std.specs.Prelude.{codes}
 use Rattle.option_words.specs.Number.{number_within, number_of}
 use Rattle.switch_args.specs.SwitchWords.{read_of, to_file, dropped}

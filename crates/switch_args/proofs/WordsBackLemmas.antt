@@ -8,8 +8,8 @@ use Rattle.std.specs.Str.Parse.{AllDigits, digits_value}
 use Rattle.std.proofs.lemmas.Fmt.{decimal_is_IsNumeral}
 use Rattle.std.proofs.lemmas.Bool.{lt-ltb, and_from, ne_eqb}
 use Rattle.std.proofs.lemmas.Bool.Decides.{nat_tests}
-use Rattle.option_words.specs.Number.{number_within, number_of, numeral, is_numeral, if_within}
-use Rattle.switch_args.specs.SwitchWords.{Given, Output, to_file, dropped, Expected, an_option_or_input, the_cycle, the_buffer, the_input_kind, the_input_name, an_input_or_output, the_output_kind, the_output_name, nothing, Place, place, step, place_after, start, may_end, read_of, is_name, if_so}
+use Rattle.option_words.specs.Number.{number_within, number_of, numeral, if_within}
+use Rattle.switch_args.specs.SwitchWords.{Given, Output, to_file, dropped, an_option_or_input, the_input_kind, the_input_name, an_input_or_output, nothing, Place, place, place_after, start, may_end, read_of, is_name, if_so}
 use Rattle.switch_args.specs.LawfulSettings.{IsLawful, IsLawfulOutput, words_of, number_words, input_words, output_words}
 use Rattle.switch_args.proofs.FormLemmas.{after-append}
 

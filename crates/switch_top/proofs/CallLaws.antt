@@ -1,7 +1,6 @@
 -- What follows from a call whose plays were played, in the words of the switched list.
-use Rattle.std.proofs.Common.{◌≡◌, ℕ, zero, suc, ◌+◌, List, [], ◌∷◌, ◌++◌, length, take, drop, map, Bool, true, false, Option, None, Some, refl, ap, sym, ◌∙◌, subst, arith, inl, inr, append-nil, append_assoc}
+use Rattle.std.proofs.Common.{◌≡◌, ℕ, zero, suc, ◌+◌, List, [], ◌∷◌, ◌++◌, length, take, drop, Bool, true, false, Option, Some, refl, ap, sym, ◌∙◌, subst, arith, inl, inr, append-nil, append_assoc}
 use Rattle.std.specs.Prelude.{if◌then◌else◌, ◌||◌, ◌⊎◌, ◌<◌, ◌≤◌, ◌-◌, ◌^◌, min, IfSome}
-use Rattle.std.specs.List.{flat_map}
 use Rattle.std.proofs.lemmas.List.{take_all}
 use Rattle.ts_outside.specs.Source.{SourceView}
 use Rattle.ts_outside.specs.Told.{grown}
@@ -16,7 +15,7 @@ use Rattle.ts_packet.specs.declared.cell.Cell.{Cell}
 use Rattle.ts_packet.specs.Cells.{Live, Dropped}
 use Rattle.chain_model.specs.declared.input_end.InputEnd.{InputEnd}
 use Rattle.chain_model.specs.declared.input_end.InputEnd.TheVariants as how
-use Rattle.chain_model.specs.Apply.{OwnEnd, input_over}
+use Rattle.chain_model.specs.Apply.{input_over}
 use Rattle.chain_model.specs.Written.{written, cell_bytes, IsPartOfFirst}
 use Rattle.play_run.specs.declared.played.PlayEnd.{PlayEnd}
 use Rattle.play_run.specs.declared.played.PlayEnd.TheVariants.{Input, WriteFault}
@@ -27,7 +26,7 @@ use Rattle.switch_top.specs.PlayNames.{PlayName}
 use Rattle.switch_top.specs.Lines.{play_line, switch_end_line}
 use Rattle.switch_top.specs.Switched.{PlayList, lists_of, played, switched, end_of_list, line_of, switched_report, is_plain, last_of}
 use Rattle.switch_top.specs.PlaysBehind.{names_of, cells_of, lines_of, sources_of, all_asked, asked_of, with_inputs, LastRead, AsksNext}
-use Rattle.switch_top.specs.SwitchEnds.{status_of, when_late, IsPart, CountsOutput, SwitchRan, SwitchWanted}
+use Rattle.switch_top.specs.SwitchEnds.{status_of, when_late, IsPart, SwitchRan, SwitchWanted}
 use Rattle.switch_top.specs.SwitchTheorem.{IsPureSwitch, WritesSwitched, WritesFirst, TellsWhole, NothingLate, status_of_plays, ReadFailed}
 use Rattle.switch_top.proofs.SwitchLemmas.{flat-append, length-append}
 use Rattle.switch_top.proofs.SwitchedLaws.{all-cells, last-on, bytes-told, behind-on, behind-cells, behind-lines, behind-played, report-of}

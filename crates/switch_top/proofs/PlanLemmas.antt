@@ -1,5 +1,5 @@
 -- From words to a plan.
-use Rattle.std.proofs.Common.{◌≡◌, ◌≤◌, ℕ, List, Option, None, Some, refl, ap, sym, ◌∙◌, subst, arith}
+use Rattle.std.proofs.Common.{◌≡◌, ℕ, List, Some, subst}
 use Rattle.std.specs.Prelude.{unwrap_or}
 use Rattle.ts_outside.specs.Desk.{DeskView}
 use Rattle.switch_args.specs.SwitchWords.{Given, read_of}
@@ -8,12 +8,8 @@ use Rattle.switch_top.specs.declared.plan.SwitchPlan.{SwitchPlan}
 use Rattle.switch_top.specs.declared.status.SwitchStatus.{SwitchStatus}
 use Rattle.switch_top.specs.PlayNames.{rows_of}
 use Rattle.switch_top.specs.SwitchEnds.{SwitchesPlan, output_name}
-use Rattle.switch_top.specs.SwitchPlans.{IsBuffer, IsPlanOf, plays_of}
+use Rattle.switch_top.specs.SwitchPlans.{IsPlanOf, plays_of}
 use Rattle.switch_top.specs.SwitchCall.{CallsSwitch, at_plan}
-
-pub buffer-of : (given : Option ℕ) (size : ℕ) → size ≡ unwrap_or given 4096 → IsBuffer given size
-buffer-of (Some n) size is = is
-buffer-of None size is = (omega (arith, is), omega (arith, is))
 
 pub planned : (words : List (List ℕ)) (given : Given) (plan : SwitchPlan) (old new : DeskView) (answer : SwitchStatus)
     → read_of words ≡ Some given → IsPlanOf given plan

@@ -1,5 +1,5 @@
 -- Plays that were played to their ends are those of the switched list, and their lines are its report.
-use Rattle.std.proofs.Common.{◌≡◌, ℕ, ◌+◌, List, [], ◌∷◌, ◌++◌, length, map, Option, Some, refl, ap, sym, ◌∙◌, subst, append-nil, append_assoc}
+use Rattle.std.proofs.Common.{◌≡◌, ℕ, ◌+◌, List, [], ◌∷◌, ◌++◌, length, Option, Some, refl, ap, sym, ◌∙◌, subst, append-nil, append_assoc}
 use Rattle.std.specs.Prelude.{Bool, true, ◌&&◌, IfSome, if◌then◌else◌}
 use Rattle.std.specs.List.{flat_map, list_all}
 use Rattle.ts_packet.specs.declared.cell.Cell.{Cell}
@@ -14,7 +14,7 @@ use Rattle.switch_top.specs.PlayNames.{PlayName}
 use Rattle.switch_top.specs.Lines.{play_line, switch_end_line}
 use Rattle.switch_top.specs.Switched.{PlayList, lists_of, is_plain, played, switched, end_of_list, line_of, last_of, end_of_plays, switched_report}
 use Rattle.switch_top.specs.PlaysBehind.{Behind, IsBehind, names_of, cells_of, lines_of}
-use Rattle.switch_top.proofs.SwitchLemmas.{flat-append, length-append}
+use Rattle.switch_top.proofs.SwitchLemmas.{flat-append}
 
 -- the packets of plays, whether they are played or not
 abbrev pub all-cells : List PlayList → List Cell

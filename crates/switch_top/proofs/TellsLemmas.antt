@@ -2,11 +2,11 @@
 use Rattle.std.proofs.Math.Nat.{min-eq_left}
 use Rattle.std.proofs.lemmas.Bool.Decides.{nat_tests}
 use Rattle.std.proofs.Common.{◌≡◌, ℕ, zero, suc, ◌+◌, append_assoc, List, [], ◌∷◌, ◌++◌, length, take, Bool, true, false, Option, None, Some, refl, ap, sym, ◌∙◌, subst, arith, inl, inr}
-use Rattle.std.specs.Prelude.{◌⊎◌, ◌&&◌, ◌||◌, ◌<◌, ◌≤◌, ◌-◌, ◌^◌, min, codes, nat_lt, unwrap_or, IsSome}
+use Rattle.std.specs.Prelude.{◌⊎◌, ◌&&◌, ◌||◌, ◌<◌, ◌≤◌, ◌-◌, ◌^◌, min, nat_lt, unwrap_or, IsSome}
 use Rattle.std.specs.List.{list_all}
 use Rattle.ts_outside.specs.Count.{HasCause, raised}
 use Rattle.ts_outside.proofs.Views.{HasCause-raised}
-use Rattle.ts_outside.specs.Source.{SourceView, own_bytes, read_failed, unread}
+use Rattle.ts_outside.specs.Source.{SourceView}
 use Rattle.ts_outside.specs.Told.{before, grown}
 use Rattle.ts_outside.specs.Desk.{DeskView, file_of, content, asked_well}
 use Rattle.ts_outside.specs.declared.requests.Purpose.TheVariants as purpose
@@ -31,7 +31,7 @@ use Rattle.switch_top.specs.PlaysBehind.{names_of, cells_of, lines_of, sources_o
 use Rattle.switch_top.specs.SwitchEnds.{SwitchesPlan, no_output, out_of_memory, wanted, ran, SwitchRan, IsPart, output_name, opened_as}
 use Rattle.switch_top.specs.SwitchCall.{CallsSwitch, at_words, no_room, at_plan}
 use Rattle.switch_top.specs.SwitchPlans.{plays_of}
-use Rattle.switch_top.specs.SwitchTheorem.{AllEndPlainly, packets_of, report_to, GivesRead, EndsIn, MayFailLate, StatusTells, RefusesWords}
+use Rattle.switch_top.specs.SwitchTheorem.{AllEndPlainly, packets_of, report_to, EndsIn, StatusTells, RefusesWords}
 use Rattle.switch_top.proofs.SwitchedLaws.{bytes-told, behind-plain, behind-cells, behind-lines}
 use Rattle.switch_top.proofs.CallLaws.{late_status, one-more}
 use Rattle.switch_top.proofs.TheoremLemmas.{NoFault}

@@ -1,13 +1,12 @@
 -- From the whole call to the terms of the switched list.
-use Rattle.std.proofs.Common.{◌≡◌, ℕ, List, [], ◌∷◌, ◌++◌, Bool, true, false, Option, None, Some, refl, ap, sym, ◌∙◌, subst, inl, inr}
-use Rattle.std.specs.Prelude.{◌⊎◌, ◌&&◌, if◌then◌else◌, IsSome}
+use Rattle.std.proofs.Common.{◌≡◌, ℕ, List, [], ◌∷◌, Bool, true, false, Option, None, Some, refl, ap, sym, ◌∙◌, subst, inl, inr}
+use Rattle.std.specs.Prelude.{◌⊎◌, ◌&&◌, if◌then◌else◌}
 use Rattle.std.specs.List.{list_all}
-use Rattle.ts_outside.specs.Count.{HasCause, IsQuiet, raised}
+use Rattle.ts_outside.specs.Count.{HasCause, raised}
 use Rattle.ts_outside.proofs.Views.{HasCause-raised}
 use Rattle.ts_outside.specs.Desk.{DeskView, asked_well, asked_in_vain}
 use Rattle.ts_outside.specs.declared.requests.Purpose.TheVariants as purpose
 use Rattle.ts_outside.specs.Saying.{Says}
-use Rattle.ts_outside.specs.Entries.{outputs_with}
 use Rattle.ts_outside.specs.Faultless.{NothingFails}
 use Rattle.chain_model.specs.declared.input_end.InputEnd.TheVariants as how
 use Rattle.chain_model.specs.Apply.{OwnEnd, input_over}
@@ -17,8 +16,8 @@ use Rattle.play_run.specs.declared.played.PlayEnd.TheVariants.{Input, WriteFault
 use Rattle.switch_top.specs.declared.status.SwitchStatus.{SwitchStatus}
 use Rattle.switch_top.specs.declared.status.SwitchStatus.TheVariants as status
 use Rattle.switch_top.specs.PlayNames.{PlayName}
-use Rattle.switch_top.specs.Switched.{PlayList, lists_of, is_plain, played, switched, last_of, end_of_list}
-use Rattle.switch_top.specs.SwitchEnds.{SwitchesPlan, no_output, out_of_memory, wanted, ran, SwitchRan, SwitchWanted, opened_as, output_name, status_of}
+use Rattle.switch_top.specs.Switched.{PlayList, lists_of, is_plain, played, last_of, end_of_list}
+use Rattle.switch_top.specs.SwitchEnds.{SwitchesPlan, no_output, out_of_memory, wanted, ran, opened_as, output_name, status_of}
 use Rattle.switch_top.specs.SwitchCall.{CallsSwitch, at_words, no_room, at_plan}
 use Rattle.switch_top.specs.SwitchPlans.{plays_of}
 use Rattle.switch_top.specs.SwitchTheorem.{lists_given, IsPureSwitch, WritesSwitched, WritesFirst, TellsWhole, NothingLate, AllEndPlainly, ReadFailed, status_of_plays}
@@ -43,10 +42,6 @@ module _ (old new : DeskView) (name : List ℕ) where
   refused-outputs : (failed : Bool) (text : List ℕ) → Says (asked_in_vain old purpose.Output name) new text failed → new.outputs ≡ old.outputs
   refused-outputs false text says = ap (λ (d : DeskView). d.outputs) says
   refused-outputs true text says = ap (λ (d : DeskView). d.outputs) says.2
-
-said-outputs : (old new : DeskView) (failed : Bool) (text : List ℕ) → Says old new text failed → new.outputs ≡ old.outputs
-said-outputs old new false text says = ap (λ (d : DeskView). d.outputs) says
-said-outputs old new true text says = ap (λ (d : DeskView). d.outputs) says.2
 
 -- ---- from the plan on
 

@@ -2,7 +2,6 @@
 use Rattle.std.specs.Prelude.{◌≡◌, ◌⊎◌, ℕ, ◌+◌, ◌<◌, ◌≤◌, List, [], ◌∷◌, ◌++◌, length, take, codes, Bool, true, false, Option, Some}
 use Rattle.std.specs.List.{flat_map, list_all}
 use Rattle.ts_packet.specs.declared.cell.Cell.{Cell}
-use Rattle.ts_outside.specs.Count.{HasCause}
 use Rattle.ts_outside.specs.Told.{grown}
 use Rattle.ts_outside.specs.Source.{SourceView}
 use Rattle.ts_outside.specs.Desk.{DeskView, file_of, asked_in_vain}
@@ -24,7 +23,7 @@ use Rattle.switch_top.specs.PlayNames.{PlayName}
 use Rattle.switch_top.specs.Lines.{play_line, switch_end_line}
 use Rattle.switch_top.specs.Switched.{PlayList, lists_of, is_plain, played, switched, end_of_list, line_of, last_of, switched_report}
 use Rattle.switch_top.specs.PlaysBehind.{asked_of, with_inputs}
-use Rattle.switch_top.specs.SwitchEnds.{status_of, output_name, opened_as, IsPart}
+use Rattle.switch_top.specs.SwitchEnds.{status_of, opened_as, IsPart}
 use Rattle.switch_top.specs.SwitchPlans.{plays_of}
 
 -- the plays of settings, over the bytes of files

@@ -2,7 +2,7 @@
 use Rattle.std.proofs.Common.{◌≡◌, ℕ, zero, suc, ◌+◌, ◌<◌, ◌≤◌, Bool, true, false, not, List, [], ◌∷◌, ◌++◌, length, take, drop, get_or, refl, sym, ap, ◌∙◌, subst, inl, inr, ◌⊎◌, arith, append_assoc, append-nil}
 use Rattle.std.specs.Prelude.{Result, Ok, Err, bytes_eq, nat_eq, nat_le, if◌then◌else◌}
 use Rattle.std.specs.Cmp.Lexicographic.{bytes_decides}
-use Rattle.std.proofs.lemmas.Bool.{and_from, and_parts, cases_Bool, cases_lt, cond-true, cond-false, eq-eqb, eqb-true, eqb-false, ne_eqb, false_from_ne_true, false≢true, le-leb, leb-true, not-true, not_from_false}
+use Rattle.std.proofs.lemmas.Bool.{and_from, and_parts, cases_Bool, cases_lt, cond-true, cond-false, eq-eqb, eqb-true, ne_eqb, false_from_ne_true, false≢true, le-leb, leb-true, not-true, not_from_false}
 use Rattle.std.proofs.lemmas.List.{drop_at, get_or_append_left, get_or-take, length-append, length-drop, length-take, take_at}
 use Rattle.ts_section.specs.SectionFields.{current_of, last_number_of, number_of}
 use Rattle.ts_section.specs.SectionRun.{stands_alone, IsMember, AllMembers, BeginsRun, IsTableRun, IsRunFault}
@@ -308,10 +308,6 @@ IsOpen (s ∷ r) = length (s ∷ r) < whole_size s
 pub room_pushed : (begun : List (List ℕ)) (s : List ℕ) → IsOpen begun → HasRoom (begun ++ s ∷ [])
 room_pushed [] s unfull = whole_some s
 room_pushed (x ∷ xs) s unfull = omega (arith, length-append xs (s ∷ []), unfull)
-
-pub still_open : (begun : List (List ℕ)) → HasRoom begun → is_full begun ≡ false → IsOpen begun
-still_open [] room few = tt
-still_open (s ∷ r) room few = fewer s r (whole_size s) room (eqb-false (length (s ∷ r)) (whole_size s) few)
 
 pub open_room : (begun : List (List ℕ)) → 0 < length begun → IsOpen begun → HasRoom begun
 open_room [] some unfull = absurd (omega (arith, some))

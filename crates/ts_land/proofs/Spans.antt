@@ -3,7 +3,7 @@ use Rattle.std.proofs.Common.{◌≡◌, ℕ, ◌+◌, ◌-◌, ◌*◌, ◌^◌
 use seplogic.Ra.Ura.{Ura}
 use mir.Val.{Val, vstruct, vcons, vnil, of_list}
 use base.Fraction.{full_share}
-use base.Logic.{SProp, ent, emp, sep, never, id⊢}
+use base.Logic.{ent, emp, sep}
 use types.Logic.{Logic, sem}
 use types.Kit.{‵, ◌⊛◌, given, ◌$◌, ◌∵◌, !, qed, by, move, keep, drop as forget, use1, use2, split, learn, rewrite, fsplit, fjoin, flt_l, flt_i, done}
 use denote.RattleType.{RattleType}

@@ -1,5 +1,5 @@
 -- How steps on known lists and on what is seen of sources, sinks and desks chain.
-use Rattle.std.proofs.Common.{◌≡◌, ℕ, ◌+◌, ◌-◌, ◌<◌, ◌≤◌, List, [], ◌++◌, Option, None, Some, refl, ap, subst, sym, le_refl, le_trans, ◌∙◌, append_assoc, append-nil, length, take, drop, arith, length-drop}
+use Rattle.std.proofs.Common.{◌≡◌, ℕ, ◌+◌, ◌-◌, ◌<◌, ◌≤◌, List, [], ◌++◌, Option, None, Some, refl, ap, subst, sym, ◌∙◌, append_assoc, append-nil, length, take, drop, arith, length-drop}
 use Rattle.std.proofs.Math.Seq.{take-add, take-append-add}
 use Rattle.std.proofs.lemmas.List.{take_all, take-append-le}
 use Rattle.std.proofs.lemmas.Grind.{common_steps}
@@ -7,8 +7,8 @@ use Rattle.std.proofs.lemmas.Bool.Decides.{nat_tests}
 use borrow.Rule.Slice.PartMut.{put_mid, post_of}
 use Rattle.ts_outside.specs.Count.{HasCause, raised, count_end}
 use Rattle.ts_outside.specs.Told.{before, grown}
-use Rattle.ts_outside.specs.Source.{SourceView, HasGiven, unread, read_failed}
-use Rattle.ts_outside.specs.Sink.{SinkView, HasTaken, took, write_failed}
+use Rattle.ts_outside.specs.Source.{SourceView, unread}
+use Rattle.ts_outside.specs.Sink.{SinkView, took}
 use Rattle.ts_outside.specs.Desk.{DeskView, reports}
 
 -- a list to which nothing was added
@@ -94,44 +94,6 @@ HasCause-before a b c cause behind =
     let first : a ≤ b = cause.not_fallen in
     let rose : a < count_end → a < b = cause.rose in
     record { not_fallen = omega arith; rose = λ (h : a < count_end). omega arith }
-
--- a source that gave nothing
-pub HasGiven-nil : (s : SourceView) → HasGiven s s []
-HasGiven-nil s = record { given = sym (before-nil s.left); not_fallen = le_refl s.faults }
-
--- a source that gave one more part
-pub HasGiven-read : (a b c : SourceView) (x y : List ℕ) → HasGiven a b x → b ≡ unread y c → HasGiven a c (x ++ y)
-HasGiven-read a b c x y h e = record {
-  given = h.given ∙ ap (λ (s : SourceView). before x s.left) e ∙ before-before x y c.left;
-  not_fallen = le_trans h.not_fallen (subst (λ (s : SourceView). s.faults ≤ c.faults) (sym e) (le_refl c.faults));
-}
-
--- a source whose last call failed
-pub HasGiven-failed : (a b c : SourceView) (x : List ℕ) → HasGiven a b x → c ≡ read_failed b → HasGiven a c x
-HasGiven-failed a b c x h e = record {
-  given = subst (λ (s : SourceView). a.left ≡ before x s.left) (sym e) h.given;
-  not_fallen = le_trans h.not_fallen (subst (λ (s : SourceView). b.faults ≤ s.faults) (sym e) (raised-le b.faults));
-}
-
--- a sink that took nothing
-pub HasTaken-nil : (s : SinkView) → HasTaken s s []
-HasTaken-nil s = record { taken = sym (grown-nil s.taken); name = refl; not_fallen = le_refl s.faults }
-
--- a sink that took one more part
-pub HasTaken-write : (a b c : SinkView) (x y : List ℕ) → HasTaken a b x → c ≡ took b y → HasTaken a c (x ++ y)
-HasTaken-write a b c x y h e = record {
-  taken = ap (λ (s : SinkView). s.taken) e ∙ ap (λ (o : Option (List ℕ)). grown o y) h.taken ∙ grown-grown a.taken x y;
-  name = ap (λ (s : SinkView). s.name) e ∙ h.name;
-  not_fallen = subst (λ (s : SinkView). a.faults ≤ s.faults) (sym e) h.not_fallen;
-}
-
--- a sink whose last call failed
-pub HasTaken-failed : (a b c : SinkView) (x : List ℕ) → HasTaken a b x → c ≡ write_failed b → HasTaken a c x
-HasTaken-failed a b c x h e = record {
-  taken = ap (λ (s : SinkView). s.taken) e ∙ h.taken;
-  name = ap (λ (s : SinkView). s.name) e ∙ h.name;
-  not_fallen = le_trans h.not_fallen (subst (λ (s : SinkView). b.faults ≤ s.faults) (sym e) (raised-le b.faults));
-}
 
 -- what the tactics take to chain steps
 pub ruleset views = (grown-nil, grown-grown, before-nil, before-before, took-nil, took-took, unread-nil, unread-unread, reports-nil, reports-reports, take-more, take-filled, raised-le, raised-lt, HasCause-raised)

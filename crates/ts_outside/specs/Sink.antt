@@ -1,5 +1,5 @@
 -- Sinks: where bytes go. This project's own rule.
-use Rattle.std.specs.Prelude.{ℕ, ◌≡◌, ◌≤◌, List, Option}
+use Rattle.std.specs.Prelude.{ℕ, List, Option}
 use Rattle.ts_outside.specs.Count.{raised}
 use Rattle.ts_outside.specs.Told.{grown}
 
@@ -17,10 +17,3 @@ took s bytes = record s { taken = grown s.taken bytes }
 -- the sink after a call that failed
 abbrev pub write_failed : SinkView → SinkView
 write_failed s = record s { faults = raised s.faults }
-
--- what every loop over a sink keeps: these bytes were taken since, the name is the same, what was known stays known, and
--- the count has not fallen
-pub record HasTaken (old new : SinkView) (bytes : List ℕ) : Type 0 where
-  pub taken : new.taken ≡ grown old.taken bytes
-  pub name : new.name ≡ old.name
-  pub not_fallen : old.faults ≤ new.faults

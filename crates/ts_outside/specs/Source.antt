@@ -1,5 +1,5 @@
 -- Sources: where bytes come from. This project's own rule.
-use Rattle.std.specs.Prelude.{ℕ, ◌≡◌, ◌≤◌, List, Option, None}
+use Rattle.std.specs.Prelude.{ℕ, List, Option, None}
 use Rattle.ts_outside.specs.Count.{raised}
 use Rattle.ts_outside.specs.Told.{before}
 
@@ -27,9 +27,3 @@ unread bytes s = record s { left = before bytes s.left }
 -- the source after a call that failed
 abbrev pub read_failed : SourceView → SourceView
 read_failed s = record s { faults = raised s.faults }
-
--- what every loop over a source keeps: these bytes were given since, what was known stays known, and the count has not
--- fallen
-pub record HasGiven (old new : SourceView) (bytes : List ℕ) : Type 0 where
-  pub given : old.left ≡ before bytes new.left
-  pub not_fallen : old.faults ≤ new.faults

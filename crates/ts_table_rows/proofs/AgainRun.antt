@@ -17,7 +17,7 @@ use Rattle.ts_table_rows.specs.TableValues.{ItemHolding, BodyHolding, TableHoldi
 use Rattle.ts_table_rows.specs.TableFitting.{DescriptorsFit, values_fit, zeros_from, numbers_fit, head_fits, body_fits, table_fits}
 use Rattle.ts_table_rows.specs.BodySpelling.{body_row, common_values}
 use Rattle.ts_table_rows.specs.TableSections as writing
-use Rattle.ts_table_rows.specs.TableSections.{length_with, head_with, numbered, numbers_of, sections_with, body_rows, sections_of}
+use Rattle.ts_table_rows.specs.TableSections.{head_with, numbered, numbers_of, sections_with, body_rows, sections_of}
 use Rattle.ts_table_rows.specs.BodyReading.{Seen, is_same, is_zero, first_number, read_body}
 use Rattle.ts_table_rows.specs.RunReading.{unseen, in_section, read_section, read_sections, kept_head, is_of, table_head, read_run}
 use Rattle.ts_table_rows.proofs.SizeLemmas.{parts_of_sound}

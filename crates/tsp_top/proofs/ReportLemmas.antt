@@ -1,5 +1,5 @@
 -- What plugins report, one after another.
-use Rattle.std.proofs.Common.{◌≡◌, [], refl, ℕ, suc, ◌+◌, ◌≤◌, List, ◌∷◌, ◌++◌, length, take, map, ap, sym, ◌∙◌, subst, add-one}
+use Rattle.std.proofs.Common.{◌≡◌, ℕ, suc, ◌+◌, ◌≤◌, List, ◌∷◌, ◌++◌, length, take, map, ap, sym, ◌∙◌, subst, add-one}
 use Rattle.std.specs.List.{flat_map}
 use Rattle.ts_packet.specs.declared.cell.Cell.{Cell}
 use Rattle.chain_model.specs.PluginRule.{PluginRule}
@@ -88,13 +88,6 @@ pub rest-rules : {P : Type 0} (rule : P → PluginRule) (plugins rest : List P) 
 rest-rules rule plugins rest plugin items later item tables e f same =
     later-same (rule plugin) (rule_of_item item (first_table tables)) (map rule rest) (rules_of (named_rules later (later_tables tables)))
     (rules-of-cons rule plugins rest plugin items later item tables e f same)
-
--- where there are no plugins, nothing is reported of settings
-pub no-plugins : {P : Type 0} (rule : P → PluginRule) (plugins : List P) (items : List PluginItem) (tables : List (List (List ℕ))) (rules : List PluginRule) (input : StageList) (cut j : ℕ)
-    → plugins ≡ [] → map rule plugins ≡ rules_of (named_rules items tables) → reports_from rules input cut j (named_rules items tables) ≡ []
-no-plugins {P} rule plugins [] tables rules input cut j e same = refl
-no-plugins {P} rule plugins (item ∷ items) tables rules input cut j e same =
-    absurd (let f : [] ≡ rule_of_item item (first_table tables) ∷ rules_of (named_rules items (later_tables tables)) = sym (ap (λ (l : List P). map rule l) e) ∙ same in cc)
 
 -- the reports of a run begin with those of its plugins, whose rules are those of the settings
 pub reports-same : (rules : List PluginRule) (named : List NamedRule) (input : StageList) (cut : ℕ) (cause : Cause) → rules ≡ rules_of named

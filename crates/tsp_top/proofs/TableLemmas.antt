@@ -192,13 +192,6 @@ rest-read {X} r before item rest items tables old new is said =
     let B : List PluginItem → Type 0 = λ l. M (before ++ l) in
     subst B (sym is) (subst M (append_assoc before (item ∷ []) rest) said)
 
--- no plugin is left
-pub none-left : (before items : List PluginItem) (tables : List (List (List ℕ))) (old new : DeskView) → items ≡ [] → ReadsTables before tables old new → ReadsTables (before ++ items) tables old new
-none-left before items tables old new is read =
-    let R : List PluginItem → Type 0 = λ l. ReadsTables l tables old new in
-    let B : List PluginItem → Type 0 = λ l. R (before ++ l) in
-    subst B (sym is) (subst R (sym (append-nil before)) read)
-
 -- the next plugin ended the call, or memory ran out after it
 pub ends-at-next : (before : List PluginItem) (tables : List (List (List ℕ))) (old desk new : DeskView) (item : PluginItem) (rest items : List PluginItem) (plugin : ℕ) (status : Status)
     → ReadsTables before tables old desk → plugin ≡ length before + 1 → items ≡ item ∷ rest → IsOverAtPlugin plugin item desk new status → IsOverAtTables (before ++ items) old new status

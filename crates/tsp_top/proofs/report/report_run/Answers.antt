@@ -1,4 +1,4 @@
-use Rattle.std.proofs.Common.{◌||◌, ℕ, List, Bool, if◌then◌else◌, ap, subst, inl, ◌∙◌}
+use Rattle.std.proofs.Common.{ℕ, List, Bool, if◌then◌else◌, ap, subst, inl, ◌∙◌}
 use Rattle.tsp_top.specs.CallEnd.{status_of, status_when_late}
 use Rattle.tsp_top.specs.declared.status.Status.{Status}
 use Rattle.tsp_top.proofs.report.report_run.Goals as goal

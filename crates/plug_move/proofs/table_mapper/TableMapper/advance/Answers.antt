@@ -1,4 +1,3 @@
-use Rattle.std.proofs.Common.{sym, ◌∙◌}
 use Rattle.plug_move.specs.RemapRule.{is_edited}
 use Rattle.plug_move.proofs.MapperLemmas.{made-edited, made-unedited, none-told, some-told}
 use Rattle.plug_move.proofs.table_mapper.TableMapper.advance.Goals as goal

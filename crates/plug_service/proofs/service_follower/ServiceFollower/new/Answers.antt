@@ -1,4 +1,4 @@
-use Rattle.std.proofs.Common.{◌≡◌, ℕ, [], List, sym, subst, ◌∙◌}
+use Rattle.std.proofs.Common.{ℕ, [], List, sym, subst, ◌∙◌}
 use Rattle.std.specs.Prelude.{OnOk}
 use Rattle.plug_psi.specs.ForceStands.{StandsFor}
 use Rattle.plug_psi.specs.InForce.{pat_of, pmt_of}
