@@ -1,5 +1,6 @@
 -- An output's work, put together from what it wrote.
-use Rattle.std.proofs.Common.{◌≡◌, ◌≢◌, ℕ, suc, ◌+◌, ◌-◌, ◌<◌, ◌≤◌, if◌then◌else◌, Bool, true, false, List, [], ◌∷◌, ◌++◌, length, take, drop, refl, ap, sym, ◌∙◌, arith, append_assoc, append-nil, length-take, subst, Option, None, Some, inl, inr, take-append-drop}
+use Rattle.std.proofs.Common.{◌≡◌, ◌≢◌, ℕ, suc, ◌+◌, ◌-◌, ◌<◌, ◌||◌, min, ◌≤◌, if◌then◌else◌, Bool, true, false, List, [], ◌∷◌, ◌++◌, length, take, drop, refl, ap, sym, ◌∙◌, arith, append_assoc, append-nil, length-take, subst, Option, None, Some, inl, inr, take-append-drop}
+use Rattle.std.proofs.lemmas.Bool.{leb-false}
 use Rattle.ts_packet.specs.declared.cell.Cell.{Cell}
 use Rattle.ts_outside.specs.Count.{raised}
 use Rattle.ts_outside.specs.Sink.{SinkView, took, write_failed}
@@ -20,7 +21,7 @@ use Rattle.stage_run.specs.PartLists.{PartLists}
 use Rattle.stage_run.specs.PartStands.{MayWork}
 use Rattle.stage_run.specs.OutputStands.{SamePart, SinkTook, PartTook, OutputStands}
 use Rattle.stage_run.specs.Writing.{PartWrites}
-use Rattle.stage_run.specs.Telling.{may_follow, followed, below_limit}
+use Rattle.stage_run.specs.Telling.{is_reached, may_follow, followed, below_limit}
 use Rattle.stage_run.specs.Works.{Works, OutputWorks, OutputTells, FaultsTold, sink_faults, KeepsRule}
 use Rattle.stage_run.proofs.InputWorking.{plain_work}
 use Rattle.std.proofs.lemmas.List.{take-take}
@@ -83,6 +84,25 @@ keeps_passing lists cells done plugins told same is rules input rest e =
 below_least : (known : Option ℕ) (at len limit done : ℕ) → known ≡ Some limit → done ≤ below_limit known at len → 0 < done → at + done ≤ limit
 below_least None at len limit done is few some = cc
 below_least (Some l) at len limit done is few some = let same : l ≡ limit = cc in omega arith
+
+-- an output that goes on has given all its cells, for none of them is past the limit
+pub goes-past-limit : (news : News) (at done len : ℕ) (cells : List Cell) → len ≡ below_limit news.limit at (length cells) → done ≡ len
+    → followed news (at + done) ≡ None → done ≡ length cells
+goes-past-limit news at done len cells is same none =
+    below news.limit (not-reached news.before_over news.after_over (is_reached news.limit (at + done)) (open_ (may_follow news (at + done)) none)) (same ∙ is)
+  where
+    open_ : (b : Bool) → (if b then Some Followed else None) ≡ None → b ≡ false
+    open_ true e = cc
+    open_ false e = refl
+
+    not-reached : (a b c : Bool) → (a || (b || c)) ≡ false → c ≡ false
+    not-reached true b c e = absurd cc
+    not-reached false true c e = absurd cc
+    not-reached false false c e = e
+
+    below : (limit : Option ℕ) → is_reached limit (at + done) ≡ false → done ≡ below_limit limit at (length cells) → done ≡ length cells
+    below None far few = few
+    below (Some l) far few = let past : at + done < l = leb-false l (at + done) far in let least : done ≡ min (length cells) (l - at) = few in omega arith
 
 tells_whole : (b : Bool) (news : News) (at done : ℕ) (cells : List Cell) (cut : List ℕ) → done ≡ below_limit news.limit at (length cells)
     → OutputTells news at cells done cut (if b then Some Followed else None)
