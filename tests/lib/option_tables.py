@@ -8,7 +8,7 @@ import functools
 import pathlib
 import re
 
-TOP = pathlib.Path(__file__).resolve().parent.parent
+TOP = pathlib.Path(__file__).resolve().parents[2]
 TOKEN = re.compile(r'\s*("[^"]*"|[∷{}();=,]|\+\+|\[\]|[^\s"∷{}();=,]+)')
 KINDS = {"flag": 0, "value": 1, "operand": 1, "operands": 1}
 FORMS = {"number": 2, "ranges": 1, "ranges_from": 2, "pair": 3, "pairs": 3, "bytes": 2, "known": 1, "text": 0}
@@ -136,7 +136,7 @@ def definition(crate, name, word):
     """The names that a definition of a file takes, and its body."""
     found = re.search(rf"(?ms)^{word}((?: \w+)*) =\s+(.*?)(?=^\w|\Z)", spec(crate, name))
     if not found:
-        raise SystemExit(f"tests/option_tables.py: no definition of {word} in crates/{crate}/specs/{name}.antt")
+        raise SystemExit(f"tests/lib/option_tables.py: no definition of {word} in crates/{crate}/specs/{name}.antt")
     return found[1].split(), found[2]
 
 

@@ -2,7 +2,7 @@
 import random
 import subprocess
 
-import programs
+from lib import programs
 
 GENERAL = ["", "", "--ignore-joint-termination", "--add-start-stuffing 3 --add-stop-stuffing 2", "--add-input-stuffing 2/7"]
 

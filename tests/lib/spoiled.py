@@ -1,7 +1,7 @@
 """Streams, sections and texts of tables that are spoilt in a drawn way, for the scripts that try hostile input."""
 import re
 
-import reader
+from lib import reader
 
 # Values that lie at the edge of fields and lengths.
 BYTES = [0, 1, 2, 3, 5, 127, 128, 182, 183, 184, 254, 255]

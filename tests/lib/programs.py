@@ -12,7 +12,7 @@ import pathlib
 import subprocess
 import sys
 
-TOP = pathlib.Path(__file__).resolve().parent.parent
+TOP = pathlib.Path(__file__).resolve().parents[2]
 
 # Streams that other tools made, with what other tools say of them.
 DATA = TOP / "tests" / "data"
@@ -43,8 +43,8 @@ def skip(why):
 
 
 def sums(*words):
-    """What tools/sums answers, or None where it fails."""
-    done = subprocess.run(["sh", TOP / "tools" / "sums", *words], stdout=subprocess.PIPE, text=True, check=False)
+    """What tools/release/sums answers, or None where it fails."""
+    done = subprocess.run(["sh", TOP / "tools" / "release" / "sums", *words], stdout=subprocess.PIPE, text=True, check=False)
     return done.stdout.strip() if done.returncode == 0 else None
 
 

@@ -15,8 +15,8 @@ import subprocess
 import threading
 import time
 
-import programs
-import tasks
+from lib import programs
+from lib import tasks
 
 SIZE = 188
 LIMIT = 60
