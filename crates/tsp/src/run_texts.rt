@@ -3,12 +3,10 @@
 use crate::form_seen::form_seen;
 use crate::operands::operand_of;
 use chain_model::Reason;
-use explain_edge::{after_name, named_behind, trouble_text};
+use explain_tables::{compile_text, decompile_text};
 use std::alloc::{AllocError, Global};
-use tabcomp_core::CompileFault;
-use table_fault_texts::{compile_text, decompile_text, syntax_fault_text};
 use table_file::TableFileFault;
-use ts_os::Trouble;
+use ts_os::{Trouble, after_name, named_behind, trouble_text};
 use ts_outside::Purpose;
 use tsp_top::Status;
 
@@ -119,28 +117,14 @@ fn tables_text(
     alloc: Global,
     fault: &TableFileFault,
     file: Option<&[u8]>,
-) -> Result<Vec<u8>, AllocError> {
-    if let (TableFileFault::Compile(CompileFault::NotJson), Some(bytes)) = (fault, file) {
-        return Ok(syntax_fault_text(alloc, bytes)?.into_bytes());
-    }
+) -> Result<String, AllocError> {
     match fault {
-        TableFileFault::TooMany => Vec::from_slice(alloc, b"longer than 16,777,216 bytes\n"),
-        TableFileFault::Compile(fault) => compile_text(alloc, fault),
+        TableFileFault::TooMany => String::from_str(alloc, "longer than 16,777,216 bytes\n"),
+        TableFileFault::Compile(fault) => compile_text(alloc, fault, file),
         TableFileFault::Sections(fault) => {
-            let mut text = decompile_text(alloc, *fault)?;
-            if is_text(file) {
-                text.push_str("it begins as a JSON text does; the name of one ends in .json\n")?;
-            }
-            Ok(text.into_bytes())
+            let json = "it begins as a JSON text does; the name of one ends in .json\n";
+            decompile_text(alloc, *fault, file, json)
         }
-    }
-}
-
-// Whether the bytes of a file begin as a JSON object does.
-fn is_text(file: Option<&[u8]>) -> bool {
-    match file {
-        Some([first, ..]) => *first == b'{',
-        _ => false,
     }
 }
 
@@ -151,12 +135,12 @@ fn table_file_text(
     number: u32,
     fault: &TableFileFault,
     file: Option<&[u8]>,
-) -> Result<Vec<u8>, AllocError> {
+) -> Result<String, AllocError> {
     let said = tables_text(alloc, fault, file)?;
     let name = operand_of(alloc, words, number)?.unwrap_or("the file");
-    let line = after_name(alloc, name, said.as_slice())?;
-    let mut text = plugin_text(alloc, words, number)?.into_bytes();
-    text.extend_from_slice(line.as_slice())?;
+    let line = after_name(alloc, name, said.as_str())?;
+    let mut text = plugin_text(alloc, words, number)?;
+    text.push_str(line.as_str())?;
     Ok(text)
 }
 
@@ -209,16 +193,15 @@ pub(crate) fn run_text(
     words: &[String],
     status: &Status,
     kept: Kept<'_>,
-) -> Result<Option<Vec<u8>>, AllocError> {
+) -> Result<Option<String>, AllocError> {
     let text = match (status, kept.trouble) {
         (Status::Sync { packet }, _) => sync_text(alloc, words, *packet, kept.head)?,
         (Status::Refused { plugin, reason }, _) => refusal_text(alloc, words, *plugin, *reason)?,
         (Status::TableFile { plugin, fault }, _) => {
-            let text = table_file_text(alloc, words, *plugin, fault, kept.file)?;
-            return Ok(Some(text));
+            table_file_text(alloc, words, *plugin, fault, kept.file)?
         }
         (_, Some(trouble)) if is_of(status, trouble) => refused_text(alloc, words, trouble)?,
         _ => return Ok(None),
     };
-    Ok(Some(text.into_bytes()))
+    Ok(Some(text))
 }
