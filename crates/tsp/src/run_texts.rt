@@ -1,6 +1,6 @@
 //! The text about a run that failed: the file and the system's reason, the plugin by its name with its file and the fault in it,
 //! or the place at which sync was lost.
-use crate::form_seen::form_seen;
+use crate::form_seen::{Seen, form_seen};
 use crate::operands::operand_of;
 use chain_model::Reason;
 use explain_tables::{compile_text, decompile_text};
@@ -59,7 +59,7 @@ fn form_of(words: &[String]) -> (u64, u64) {
     }
 }
 
-// The place, and the form that the input has by its first bytes, where that is not the one in which it was read.
+// The place, and what the input seems to be by its first bytes, where that is not the form in which it was read.
 fn sync_text(
     alloc: Global,
     words: &[String],
@@ -68,27 +68,36 @@ fn sync_text(
 ) -> Result<String, AllocError> {
     let (size, begin) = form_of(words);
     let at = packet.saturating_mul(size).saturating_add(begin);
-    if let Some(form) = form_seen(head) {
-        if form.size != size {
-            let (size, name) = (form.size, form.name);
-            return format!(in alloc;
-                "byte {at} of the input is not 0x47; it begins with packets of {size} bytes: --format {name} reads them\n"
-            );
+    let mut text = format!(in alloc; "byte {at} of the input is not 0x47")?;
+    match form_seen(head) {
+        Some(Seen::Form(form)) if form.size != size => {
+            write!(
+                text,
+                "; it begins with packets of {} bytes: --format {} reads them\n",
+                form.size, form.name
+            )?;
         }
+        _ if packet > 0 => {
+            text.push_str(": other bytes stand between its packets, or it is damaged")?;
+            text.push_str("; docs/recipes.md has a way to mend it\n")?;
+        }
+        Some(Seen::Rtp) => {
+            text.push_str("; it begins as RTP does, with a header before every few packets")?;
+            text.push_str(": docs/recipes.md has a way to take out what stands between packets\n")?;
+        }
+        Some(Seen::Behind(before)) => {
+            let next = before.saturating_add(1);
+            write!(
+                text,
+                "; packets begin at byte {before}: tail -c +{next} leaves out what stands before\n"
+            )?;
+        }
+        _ if head.get(4) == Some(&0x47) => {
+            text.push_str("; --format m2ts reads 192 bytes a packet, --format rs204 204 bytes\n")?;
+        }
+        _ => text.push_str(", and no packets are seen in its first bytes\n")?,
     }
-    lost_text(alloc, at, packet)
-}
-
-// The place alone.
-fn lost_text(alloc: Global, at: u64, packet: u64) -> Result<String, AllocError> {
-    if packet == 0 {
-        return format!(in alloc;
-            "byte {at} of the input is not 0x47; --format m2ts reads 192 bytes a packet, --format rs204 204 bytes\n"
-        );
-    }
-    format!(in alloc;
-        "byte {at} of the input is not 0x47: other bytes stand between its packets, or it is damaged; docs/recipes.md has a way to mend it\n"
-    )
+    Ok(text)
 }
 
 fn plugin_text(alloc: Global, words: &[String], number: u32) -> Result<String, AllocError> {
