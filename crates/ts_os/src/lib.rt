@@ -4,14 +4,20 @@
 
 mod calls;
 mod file_id;
+mod names;
 mod os_desk;
 mod os_sink;
 mod os_source;
 mod reason;
+mod saying;
 mod trouble;
 
+pub use names::named_behind;
 pub use os_desk::OsDesk;
 pub use os_sink::OsSink;
 pub use os_source::OsSource;
 pub use reason::Reason;
+pub use saying::{
+    after_name, is_wanted, put_shown, refuses_terminal, trouble_text, write_explained,
+};
 pub use trouble::Trouble;

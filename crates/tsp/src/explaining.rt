@@ -2,10 +2,9 @@
 use crate::idle_texts::idle_text;
 use crate::run_texts::{Kept, run_text};
 use chain_args::{WordsFault, WordsRule};
-use explain_edge::write_explained;
-use fault_texts::{HelpTable, fault_text, general_options, tsp_segments};
+use explain_words::{HelpTable, fault_text, general_options, tsp_segments};
 use std::alloc::AllocError;
-use ts_os::OsDesk;
+use ts_os::{OsDesk, write_explained};
 use tsp_top::{IdlePlugins, Status};
 
 /// The text about a refused command line: its segment, the wrong word, and what may stand there.
@@ -14,7 +13,7 @@ fn words_text(
     words: &[String],
     word: usize,
     rule: WordsRule,
-) -> Result<Vec<u8>, AllocError> {
+) -> Result<String, AllocError> {
     let segments = tsp_segments(rt.alloc())?;
     let table = HelpTable {
         general: general_options(),
@@ -26,7 +25,7 @@ fn words_text(
 /// Explains a refused command line.
 fn explain_words(rt: &HostRuntime, words: &[String], word: usize, rule: WordsRule) {
     if let Ok(text) = words_text(rt, words, word, rule) {
-        write_explained(rt, text.as_slice());
+        write_explained(rt, text.as_str());
     }
 }
 
@@ -38,7 +37,7 @@ fn explain_run(rt: &HostRuntime, words: &[String], status: &Status, desk: &OsDes
         file: desk.file(),
     };
     if let Ok(Some(text)) = run_text(rt.alloc(), words, status, kept) {
-        write_explained(rt, text.as_slice());
+        write_explained(rt, text.as_str());
     }
 }
 
@@ -46,7 +45,7 @@ fn explain_run(rt: &HostRuntime, words: &[String], status: &Status, desk: &OsDes
 fn explain_idle(rt: &HostRuntime, words: &[String], idle: &IdlePlugins) {
     if let Ok(text) = idle_text(rt.alloc(), words, idle.rows()) {
         if !text.is_empty() {
-            write_explained(rt, text.as_bytes());
+            write_explained(rt, text.as_str());
         }
     }
 }

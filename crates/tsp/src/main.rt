@@ -8,13 +8,14 @@ mod form_seen;
 mod idle_texts;
 mod operands;
 mod run_texts;
+mod terminal;
 
-use explain_edge::is_wanted;
 use explaining::explain;
 use std::io::ErrorKind;
 use std::process::ExitCode;
 use std::{env, io};
-use ts_os::OsDesk;
+use terminal::writes_stdout;
+use ts_os::{OsDesk, is_wanted, refuses_terminal};
 use ts_outside::{OpenGate, report_whole};
 use tsp_top::{IdlePlugins, explained_call};
 
@@ -23,6 +24,9 @@ const NO_MEMORY: u8 = 1;
 
 /// The exit number if a word is not UTF-8.
 const FAULTY_WORDS: u8 = 2;
+
+/// The exit number if packets would go to a terminal.
+const TERMINAL: u8 = 2;
 
 /// The words after the program's name.
 fn words(rt: &(impl env::Env + AllocGlobal)) -> io::Result<Vec<String>> {
@@ -41,6 +45,9 @@ fn main(rt: HostRuntime) -> ExitCode {
         }
         Err(_) => return ExitCode::from(NO_MEMORY),
     };
+    if writes_stdout(rt.alloc(), words.as_slice()) && refuses_terminal(&rt) {
+        return ExitCode::from(TERMINAL);
+    }
     let explained = is_wanted(&rt);
     if explained {
         desk.keep_file();

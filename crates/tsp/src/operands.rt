@@ -1,5 +1,5 @@
 //! Finds the operand of a plugin on the command line, by the table of options.
-use fault_texts::{OptionRow, SegmentRow, Takes, tsp_segments};
+use explain_words::{OptionRow, SegmentRow, Takes, tsp_segments};
 use std::alloc::{AllocError, Global};
 
 fn words_from(words: &[String], place: usize) -> &[String] {

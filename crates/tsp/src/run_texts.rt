@@ -1,14 +1,12 @@
 //! The text about a run that failed: the file and the system's reason, the plugin by its name with its file and the fault in it,
 //! or the place at which sync was lost.
-use crate::form_seen::form_seen;
+use crate::form_seen::{Seen, form_seen};
 use crate::operands::operand_of;
 use chain_model::Reason;
-use explain_edge::{after_name, named_behind, trouble_text};
+use explain_tables::{compile_text, decompile_text};
 use std::alloc::{AllocError, Global};
-use tabcomp_core::CompileFault;
-use table_fault_texts::{compile_text, decompile_text, syntax_fault_text};
 use table_file::TableFileFault;
-use ts_os::Trouble;
+use ts_os::{Trouble, after_name, named_behind, trouble_text};
 use ts_outside::Purpose;
 use tsp_top::Status;
 
@@ -61,7 +59,7 @@ fn form_of(words: &[String]) -> (u64, u64) {
     }
 }
 
-// The place, and the form that the input has by its first bytes, where that is not the one in which it was read.
+// The place, and what the input seems to be by its first bytes, where that is not the form in which it was read.
 fn sync_text(
     alloc: Global,
     words: &[String],
@@ -70,27 +68,36 @@ fn sync_text(
 ) -> Result<String, AllocError> {
     let (size, begin) = form_of(words);
     let at = packet.saturating_mul(size).saturating_add(begin);
-    if let Some(form) = form_seen(head) {
-        if form.size != size {
-            let (size, name) = (form.size, form.name);
-            return format!(in alloc;
-                "byte {at} of the input is not 0x47; it begins with packets of {size} bytes: --format {name} reads them\n"
-            );
+    let mut text = format!(in alloc; "byte {at} of the input is not 0x47")?;
+    match form_seen(head) {
+        Some(Seen::Form(form)) if form.size != size => {
+            write!(
+                text,
+                "; it begins with packets of {} bytes: --format {} reads them\n",
+                form.size, form.name
+            )?;
         }
+        _ if packet > 0 => {
+            text.push_str(": other bytes stand between its packets, or it is damaged")?;
+            text.push_str("; docs/recipes.md has a way to mend it\n")?;
+        }
+        Some(Seen::Rtp) => {
+            text.push_str("; it begins as RTP does, with a header before every few packets")?;
+            text.push_str(": docs/recipes.md has a way to take out what stands between packets\n")?;
+        }
+        Some(Seen::Behind(before)) => {
+            let next = before.saturating_add(1);
+            write!(
+                text,
+                "; packets begin at byte {before}: tail -c +{next} leaves out what stands before\n"
+            )?;
+        }
+        _ if head.get(4) == Some(&0x47) => {
+            text.push_str("; --format m2ts reads 192 bytes a packet, --format rs204 204 bytes\n")?;
+        }
+        _ => text.push_str(", and no packets are seen in its first bytes\n")?,
     }
-    lost_text(alloc, at, packet)
-}
-
-// The place alone.
-fn lost_text(alloc: Global, at: u64, packet: u64) -> Result<String, AllocError> {
-    if packet == 0 {
-        return format!(in alloc;
-            "byte {at} of the input is not 0x47; --format m2ts reads 192 bytes a packet, --format rs204 204 bytes\n"
-        );
-    }
-    format!(in alloc;
-        "byte {at} of the input is not 0x47: other bytes stand between its packets, or it is damaged; docs/recipes.md has a way to mend it\n"
-    )
+    Ok(text)
 }
 
 fn plugin_text(alloc: Global, words: &[String], number: u32) -> Result<String, AllocError> {
@@ -119,28 +126,14 @@ fn tables_text(
     alloc: Global,
     fault: &TableFileFault,
     file: Option<&[u8]>,
-) -> Result<Vec<u8>, AllocError> {
-    if let (TableFileFault::Compile(CompileFault::NotJson), Some(bytes)) = (fault, file) {
-        return Ok(syntax_fault_text(alloc, bytes)?.into_bytes());
-    }
+) -> Result<String, AllocError> {
     match fault {
-        TableFileFault::TooMany => Vec::from_slice(alloc, b"longer than 16,777,216 bytes\n"),
-        TableFileFault::Compile(fault) => compile_text(alloc, fault),
+        TableFileFault::TooMany => String::from_str(alloc, "longer than 16,777,216 bytes\n"),
+        TableFileFault::Compile(fault) => compile_text(alloc, fault, file),
         TableFileFault::Sections(fault) => {
-            let mut text = decompile_text(alloc, *fault)?;
-            if is_text(file) {
-                text.push_str("it begins as a JSON text does; the name of one ends in .json\n")?;
-            }
-            Ok(text.into_bytes())
+            let json = "it begins as a JSON text does; the name of one ends in .json\n";
+            decompile_text(alloc, *fault, file, json)
         }
-    }
-}
-
-// Whether the bytes of a file begin as a JSON object does.
-fn is_text(file: Option<&[u8]>) -> bool {
-    match file {
-        Some([first, ..]) => *first == b'{',
-        _ => false,
     }
 }
 
@@ -151,12 +144,12 @@ fn table_file_text(
     number: u32,
     fault: &TableFileFault,
     file: Option<&[u8]>,
-) -> Result<Vec<u8>, AllocError> {
+) -> Result<String, AllocError> {
     let said = tables_text(alloc, fault, file)?;
     let name = operand_of(alloc, words, number)?.unwrap_or("the file");
-    let line = after_name(alloc, name, said.as_slice())?;
-    let mut text = plugin_text(alloc, words, number)?.into_bytes();
-    text.extend_from_slice(line.as_slice())?;
+    let line = after_name(alloc, name, said.as_str())?;
+    let mut text = plugin_text(alloc, words, number)?;
+    text.push_str(line.as_str())?;
     Ok(text)
 }
 
@@ -209,16 +202,15 @@ pub(crate) fn run_text(
     words: &[String],
     status: &Status,
     kept: Kept<'_>,
-) -> Result<Option<Vec<u8>>, AllocError> {
+) -> Result<Option<String>, AllocError> {
     let text = match (status, kept.trouble) {
         (Status::Sync { packet }, _) => sync_text(alloc, words, *packet, kept.head)?,
         (Status::Refused { plugin, reason }, _) => refusal_text(alloc, words, *plugin, *reason)?,
         (Status::TableFile { plugin, fault }, _) => {
-            let text = table_file_text(alloc, words, *plugin, fault, kept.file)?;
-            return Ok(Some(text));
+            table_file_text(alloc, words, *plugin, fault, kept.file)?
         }
         (_, Some(trouble)) if is_of(status, trouble) => refused_text(alloc, words, trouble)?,
         _ => return Ok(None),
     };
-    Ok(Some(text.into_bytes()))
+    Ok(Some(text))
 }

@@ -1,8 +1,8 @@
 //! What is said of a call that ended by a fault: the wrong word, the file with the system's reason, or the place of lost sync.
-use explain_edge::{WordRow, named_behind, trouble_text, words_text};
+use explain_words::{WordRow, words_text};
 use std::alloc::{AllocError, Global};
 use switch_top::SwitchStatus;
-use ts_os::Trouble;
+use ts_os::{Trouble, after_name, named_behind, trouble_text};
 use ts_outside::Purpose;
 
 /// How the words may stand.
@@ -40,50 +40,26 @@ static ROWS: [WordRow; 6] = [
 /// The size of a packet in bytes.
 const PACKET_SIZE: u64 = 188;
 
-// At which byte of which input sync was lost.
-fn sync_text(
-    alloc: Global,
-    words: &[String],
-    input: u32,
-    packet: u64,
-) -> Result<String, AllocError> {
+// What is said of the input of this number.
+fn of_input(alloc: Global, words: &[String], input: u32, said: &str) -> Result<String, AllocError> {
     let name = named_behind(words, "-I", input).unwrap_or("the input");
-    let at = packet.saturating_mul(PACKET_SIZE);
-    format!(in alloc; "input {input}, {name}: byte {at} is not 0x47\n")
+    let line = after_name(alloc, name, said)?;
+    format!(in alloc; "input {input}, {line}\n")
 }
 
-// How many inputs there are.
-fn input_count(words: &[String]) -> u64 {
+// Which input was opened so late, from 1 on: after the last one comes the first again.
+fn input_of(words: &[String], number: u64) -> u32 {
     let mut count = 0u64;
     for word in words {
         if word.as_str() == "-I" {
             count = count.saturating_add(1);
         }
     }
-    count
-}
-
-// Which input was opened so late, from 1 on: after the last one comes the first again.
-fn input_of(words: &[String], number: u64) -> u32 {
-    let before = number.saturating_sub(1);
-    let count = input_count(words);
     if count == 0 {
         return 1;
     }
-    u32::try_from(before % count).unwrap_or(0).saturating_add(1)
-}
-
-// What is said of an input that was not opened or read.
-fn input_text(alloc: Global, words: &[String], trouble: Trouble) -> Result<String, AllocError> {
-    let input = input_of(words, trouble.number);
-    let name = named_behind(words, "-I", input).unwrap_or("the input");
-    let said = trouble.reason.text();
-    format!(in alloc; "input {input}, {name}: {said}\n")
-}
-
-fn output_text(alloc: Global, words: &[String], trouble: Trouble) -> Result<String, AllocError> {
-    let name = named_behind(words, "-O", 1).unwrap_or("standard output");
-    trouble_text(alloc, name, trouble)
+    let before = number.saturating_sub(1) % count;
+    u32::try_from(before).unwrap_or(0).saturating_add(1)
 }
 
 // What is said of a file that the system refused; `None` where the trouble is not of the kind that such an end has.
@@ -94,8 +70,14 @@ fn file_text(
     trouble: Trouble,
 ) -> Result<Option<String>, AllocError> {
     let text = match (status, trouble.purpose) {
-        (SwitchStatus::ReadFault, Purpose::Input) => input_text(alloc, words, trouble)?,
-        (SwitchStatus::WriteFault, Purpose::Output) => output_text(alloc, words, trouble)?,
+        (SwitchStatus::ReadFault, Purpose::Input) => {
+            let input = input_of(words, trouble.number);
+            of_input(alloc, words, input, trouble.reason.text())?
+        }
+        (SwitchStatus::WriteFault, Purpose::Output) => {
+            let name = named_behind(words, "-O", 1).unwrap_or("standard output");
+            trouble_text(alloc, name, trouble)?
+        }
         _ => return Ok(None),
     };
     Ok(Some(text))
@@ -107,16 +89,16 @@ pub(crate) fn end_text(
     words: &[String],
     status: SwitchStatus,
     trouble: Option<Trouble>,
-) -> Result<Option<Vec<u8>>, AllocError> {
+) -> Result<Option<String>, AllocError> {
     let text = match (status, trouble) {
-        (SwitchStatus::Words { word }, _) => {
-            return Ok(Some(words_text(alloc, &ROWS, words, word, USAGE)?));
-        }
+        (SwitchStatus::Words { word }, _) => words_text(alloc, &ROWS, words, word, USAGE)?,
         (SwitchStatus::Sync { input, packet }, _) => {
-            Some(sync_text(alloc, words, input, packet)?)
+            let at = packet.saturating_mul(PACKET_SIZE);
+            let said = format!(in alloc; "byte {at} is not 0x47")?;
+            of_input(alloc, words, input, said.as_str())?
         }
-        (_, Some(trouble)) => file_text(alloc, words, status, trouble)?,
-        _ => None,
+        (_, Some(trouble)) => return file_text(alloc, words, status, trouble),
+        _ => return Ok(None),
     };
-    Ok(text.map(|text| text.into_bytes()))
+    Ok(Some(text))
 }

@@ -1,8 +1,7 @@
 //! What is shown beside the report, on standard error alone.
 use crate::end_texts::end_text;
-use explain_edge::{is_wanted, write_explained};
 use switch_top::SwitchStatus;
-use ts_os::Trouble;
+use ts_os::{Trouble, is_wanted, write_explained};
 
 /// Explains how a call ended where that is wanted. Running out of memory and a fault of standard error leave it out, and change
 /// nothing else.
@@ -16,6 +15,6 @@ pub(crate) fn explain(
         return;
     }
     if let Ok(Some(text)) = end_text(rt.alloc(), words, status, trouble) {
-        write_explained(rt, text.as_slice());
+        write_explained(rt, text.as_str());
     }
 }

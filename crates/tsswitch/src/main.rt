@@ -4,13 +4,15 @@
 
 mod end_texts;
 mod explained;
+mod terminal;
 
 use explained::explain;
 use std::io::ErrorKind;
 use std::process::ExitCode;
 use std::{env, io};
 use switch_top::switch_call;
-use ts_os::OsDesk;
+use terminal::writes_stdout;
+use ts_os::{OsDesk, refuses_terminal};
 use ts_outside::{OpenGate, report_whole};
 
 /// The exit status if memory runs out before the call.
@@ -18,6 +20,9 @@ const NO_MEMORY: u8 = 1;
 
 /// The exit status if a word is not UTF-8.
 const FAULTY_WORDS: u8 = 2;
+
+/// The exit status if packets would go to a terminal.
+const TERMINAL: u8 = 2;
 
 /// The words after the program's name.
 fn words(rt: &(impl env::Env + AllocGlobal)) -> io::Result<Vec<String>> {
@@ -36,6 +41,9 @@ fn main(rt: HostRuntime) -> ExitCode {
         }
         Err(_) => return ExitCode::from(NO_MEMORY),
     };
+    if writes_stdout(rt.alloc(), words.as_slice()) && refuses_terminal(&rt) {
+        return ExitCode::from(TERMINAL);
+    }
     // The output is opened before the inputs; it would be emptied before an input that is the same file is read.
     if desk.spare(words.as_slice(), "-I").is_err() {
         return ExitCode::from(NO_MEMORY);

@@ -1,10 +1,9 @@
 //! What is said of a call that ended by a fault: the wrong word, the file with the system's reason, or the place of the fault in it.
-use explain_edge::{WordRow, after_name, trouble_text, words_text};
+use explain_tables::{compile_text, decompile_text};
+use explain_words::{WordRow, words_text};
 use std::alloc::{AllocError, Global};
-use tabcomp_core::CompileFault;
 use tabcomp_top::TabStatus;
-use table_fault_texts::{compile_text, decompile_text, syntax_fault_text};
-use ts_os::Trouble;
+use ts_os::{Trouble, after_name, trouble_text};
 use ts_outside::Purpose;
 
 /// How the words may stand.
@@ -24,32 +23,13 @@ fn name_or<'a>(words: &'a [String], place: usize, stream: &'a str) -> &'a str {
     }
 }
 
-fn input_name(words: &[String]) -> &str {
-    name_or(words, 1, "standard input")
-}
-
 // What is said of a file that the system refused.
-fn refused_text(alloc: Global, words: &[String], trouble: Trouble) -> Result<Vec<u8>, AllocError> {
+fn refused_text(alloc: Global, words: &[String], trouble: Trouble) -> Result<String, AllocError> {
     let name = match trouble.purpose {
         Purpose::Output => name_or(words, 2, "standard output"),
-        Purpose::Input | Purpose::File => input_name(words),
+        Purpose::Input | Purpose::File => name_or(words, 1, "standard input"),
     };
-    let text = trouble_text(alloc, name, trouble)?;
-    Ok(text.into_bytes())
-}
-
-// What is said of a text that was not compiled; its bytes are there where they were kept.
-fn text_fault(
-    alloc: Global,
-    fault: &CompileFault,
-    file: Option<&[u8]>,
-) -> Result<Vec<u8>, AllocError> {
-    match (fault, file) {
-        (CompileFault::NotJson, Some(bytes)) => {
-            Ok(syntax_fault_text(alloc, bytes)?.into_bytes())
-        }
-        _ => compile_text(alloc, fault),
-    }
+    trouble_text(alloc, name, trouble)
 }
 
 /// The text; `None` where there is nothing to say.
@@ -59,29 +39,22 @@ pub(crate) fn end_text(
     status: &TabStatus,
     trouble: Option<Trouble>,
     file: Option<&[u8]>,
-) -> Result<Option<Vec<u8>>, AllocError> {
-    let said = match status {
-        TabStatus::Words { word } => {
+) -> Result<Option<String>, AllocError> {
+    let said = match (status, trouble) {
+        (TabStatus::Words { word }, _) => {
             return Ok(Some(words_text(alloc, &ROWS, words, *word, USAGE)?));
         }
-        TabStatus::Compile(fault) => text_fault(alloc, fault, file)?,
-        TabStatus::Decompile(fault) => decompile_text(alloc, *fault)?.into_bytes(),
-        TabStatus::TooMany => Vec::from_slice(alloc, b"longer than 16,777,216 bytes\n")?,
-        TabStatus::ReadFault | TabStatus::WriteFault => return file_text(alloc, words, trouble),
-        TabStatus::Done | TabStatus::NoMemory => return Ok(None),
+        (TabStatus::ReadFault | TabStatus::WriteFault, Some(trouble)) => {
+            return Ok(Some(refused_text(alloc, words, trouble)?));
+        }
+        (TabStatus::Compile(fault), _) => compile_text(alloc, fault, file)?,
+        (TabStatus::Decompile(fault), _) => {
+            let json = "it begins as a JSON text does; --compile reads one\n";
+            decompile_text(alloc, *fault, file, json)?
+        }
+        (TabStatus::TooMany, _) => String::from_str(alloc, "longer than 16,777,216 bytes\n")?,
+        _ => return Ok(None),
     };
-    let text = after_name(alloc, input_name(words), said.as_slice())?;
+    let text = after_name(alloc, name_or(words, 1, "standard input"), said.as_str())?;
     Ok(Some(text))
-}
-
-// The text of a read or a write that failed.
-fn file_text(
-    alloc: Global,
-    words: &[String],
-    trouble: Option<Trouble>,
-) -> Result<Option<Vec<u8>>, AllocError> {
-    match trouble {
-        Some(trouble) => Ok(Some(refused_text(alloc, words, trouble)?)),
-        None => Ok(None),
-    }
 }

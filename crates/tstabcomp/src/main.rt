@@ -6,13 +6,12 @@
 mod end_texts;
 mod explained;
 
-use explain_edge::is_wanted;
 use explained::explain;
 use std::io::ErrorKind;
 use std::process::ExitCode;
 use std::{env, io};
 use tabcomp_top::tabcomp_call;
-use ts_os::OsDesk;
+use ts_os::{OsDesk, is_wanted};
 use ts_outside::report_whole;
 
 /// The exit numbers of a start that never came to the call.

@@ -1,0 +1,237 @@
+//! What may stand at a place of a text of tables, by the pages of tables and descriptors.
+use serde_json::Value;
+use std::alloc::AllocError;
+use ts_fields::{Field, Kind};
+use ts_pages::{layout_named, layout_of};
+use ts_table_pages::{
+    bat_layout, cat_layout, eit_layout, nit_layout, pat_layout, pmt_layout, sdt_layout,
+};
+use ts_table_rows::{LoopForm, TableLayout};
+
+/// The names of an element and of those that it stands in; empty where there is none, or it has none.
+#[derive(Clone, Copy)]
+pub(crate) struct Place<'a> {
+    pub(crate) name: &'a str,
+    pub(crate) parent: &'a str,
+    pub(crate) above: &'a str,
+}
+
+fn name_of(element: &Value) -> &str {
+    match element.get("#name") {
+        Some(name) => name.as_str().unwrap_or(""),
+        None => "",
+    }
+}
+
+fn child(element: &Value, number: usize) -> Option<&Value> {
+    element.get("#nodes")?.get(number)
+}
+
+/// The element to which a path leads.
+pub(crate) fn place_of<'a>(root: &'a Value, path: &[usize]) -> Place<'a> {
+    let mut element = Some(root);
+    let mut place = Place {
+        name: name_of(root),
+        parent: "",
+        above: "",
+    };
+    for number in path {
+        element = match element {
+            Some(element) => child(element, *number),
+            None => None,
+        };
+        place = Place {
+            name: match element {
+                Some(element) => name_of(element),
+                None => "",
+            },
+            parent: place.name,
+            above: place.parent,
+        };
+    }
+    place
+}
+
+// The tables that have an element of their own.
+fn table_named(name: &str) -> Option<&'static TableLayout> {
+    match name {
+        "PAT" => Some(pat_layout()),
+        "CAT" => Some(cat_layout()),
+        "PMT" => Some(pmt_layout()),
+        "NIT" => Some(nit_layout()),
+        "BAT" => Some(bat_layout()),
+        "SDT" => Some(sdt_layout()),
+        "EIT" => Some(eit_layout()),
+        _ => None,
+    }
+}
+
+// The rows of an element that is an item of a table or of a descriptor.
+fn item_rows(parent: &str, name: &str) -> &'static [Field] {
+    if let Some(table) = table_named(parent) {
+        if let Some(items) = table.items {
+            if items.name == name {
+                return items.rows;
+            }
+        }
+    }
+    if let Some(page) = layout_named(parent) {
+        if let Some(items) = page.items {
+            if items.name == name {
+                return items.rows;
+            }
+        }
+    }
+    &[]
+}
+
+// The rows of an element, in two parts.
+fn rows_of(place: Place<'_>) -> [&'static [Field]; 2] {
+    if let Some(table) = table_named(place.name) {
+        return [table.common, table.head];
+    }
+    match layout_named(place.name) {
+        Some(page) => [page.head, &[]],
+        None => [item_rows(place.parent, place.name), &[]],
+    }
+}
+
+// Puts the keys of a table that its rows do not name.
+fn put_table_keys(text: &mut String, table: &TableLayout) -> Result<(), AllocError> {
+    text.push_str(" version current")?;
+    match table.ids {
+        [range] if range.0 == range.1 => {}
+        [_] => text.push_str(" table_id")?,
+        _ => text.push_str(" actual")?,
+    }
+    if !table.extension.is_empty() {
+        write!(text, " {}", table.extension)?;
+    }
+    if table.keeps_numbers {
+        text.push_str(" section_number last_section_number")?;
+    }
+    if table.one_zero {
+        text.push_str(" network_PID")?;
+    }
+    Ok(())
+}
+
+/// Puts a line with the keys that an element may have; nothing where its pages do not tell them.
+pub(crate) fn put_known_keys(text: &mut String, place: Place<'_>) -> Result<(), AllocError> {
+    let before = text.len();
+    if let Some(table) = table_named(place.name) {
+        text.push_str("known here:")?;
+        put_table_keys(text, table)?;
+    }
+    for rows in rows_of(place) {
+        for row in rows {
+            if !row.name.is_empty() {
+                text.push_str(if text.len() == before {
+                    "known here: "
+                } else {
+                    " "
+                })?;
+                text.push_str(row.name)?;
+            }
+        }
+    }
+    if text.len() > before {
+        text.push('\n')?;
+    }
+    Ok(())
+}
+
+// Whether descriptors may stand in the element in which this one is.
+fn may_have_descriptors(place: Place<'_>) -> bool {
+    if let Some(table) = table_named(place.parent) {
+        return table.loop_form != LoopForm::Absent;
+    }
+    match table_named(place.above) {
+        Some(table) => {
+            match table.items {
+                Some(items) => items.described && items.name == place.parent,
+                None => false,
+            }
+        }
+        None => false,
+    }
+}
+
+// The name of the items that may stand in an element; nothing where none may.
+fn item_name(parent: &str) -> &'static str {
+    if let Some(table) = table_named(parent) {
+        if let Some(items) = table.items {
+            return items.name;
+        }
+    }
+    if let Some(page) = layout_named(parent) {
+        if let Some(items) = page.items {
+            return items.name;
+        }
+    }
+    ""
+}
+
+/// Puts a line with the elements that may stand where this one does; nothing where none may.
+pub(crate) fn put_known_elements(text: &mut String, place: Place<'_>) -> Result<(), AllocError> {
+    if place.parent == "tsduck" {
+        return text.push_str(
+            "known here: PAT CAT PMT NIT BAT SDT EIT generic_short_table generic_long_table\n",
+        );
+    }
+    let item = item_name(place.parent);
+    let described = may_have_descriptors(place);
+    if item.is_empty() && !described {
+        return Ok(());
+    }
+    text.push_str("known here:")?;
+    if !item.is_empty() {
+        write!(text, " {item}")?;
+    }
+    if described {
+        text.push_str(" generic_descriptor")?;
+        for tag in 0..=255 {
+            if let Some(page) = layout_of(tag) {
+                write!(text, " {}", page.name)?;
+            }
+        }
+    }
+    text.push('\n')
+}
+
+// Puts how a value of a field has to be written.
+fn put_kind(text: &mut String, row: &Field) -> Result<(), AllocError> {
+    match row.kind {
+        Kind::Number(bits) => {
+            let most = 1u64.checked_shl(bits).unwrap_or(0).saturating_sub(1);
+            let (least, most) = row.range.unwrap_or((0, most));
+            write!(text, "a number from {least} to {most}")?;
+            if row.name == "running_status" {
+                text.push_str(": 1 not running, 2 starts soon, 3 pausing, 4 running, 5 off-air")?;
+            }
+            Ok(())
+        }
+        Kind::Decimal(digits) => write!(text, "a number of at most {digits} decimal digits"),
+        Kind::Flag => text.push_str("true or false"),
+        Kind::Start => text.push_str("a text as \"2026-11-29 20:15:00\", or \"undefined\""),
+        Kind::Duration => text.push_str("a text as \"01:45:00\""),
+        Kind::Language => text.push_str("a text of three characters, as \"eng\""),
+        Kind::CountedText | Kind::Text => text.push_str("a text"),
+        Kind::Hex => text.push_str("a text of two hexadecimal digits a byte"),
+        Kind::Ones(_) | Kind::Free(_) => Ok(()),
+    }
+}
+
+/// Puts a line with the form of the value of a key; nothing where the pages do not tell it.
+pub(crate) fn put_form(text: &mut String, place: Place<'_>, key: &str) -> Result<(), AllocError> {
+    for rows in rows_of(place) {
+        for row in rows {
+            if row.name == key && !key.is_empty() {
+                write!(text, "{key}: ")?;
+                put_kind(text, row)?;
+                return text.push('\n');
+            }
+        }
+    }
+    Ok(())
+}

@@ -1,0 +1,118 @@
+//! What is said of the form of a value, and of one that does not fit.
+use crate::fits::{fits, wide};
+use crate::marked::put_word;
+use crate::option_row::OptionRow;
+use crate::piece::wrong_piece;
+use crate::sign::Sign;
+use crate::takes::Takes;
+use option_words::split_at_sign;
+use std::alloc::{AllocError, Global};
+
+/// How such a value is written.
+pub(crate) fn form_text(takes: Takes) -> &'static str {
+    match takes {
+        Takes::Number(_, _) => "a number is decimal, or hexadecimal after 0x\n",
+        Takes::Ranges(_, _) => "numbers and ranges are joined by commas, as 0,16-18,0x100\n",
+        Takes::Pair(Sign::Slash, _, _) => "two numbers have / between them, as 1/2\n",
+        Takes::Pair(Sign::Equals, _, _) => "two numbers have = between them, as 1=2\n",
+        Takes::Pairs(Sign::Slash, _, _) =>
+            "two numbers have / between them, and pairs are joined by commas, as 1/2,3/4\n",
+        Takes::Pairs(Sign::Equals, _, _) =>
+            "two numbers have = between them, and pairs are joined by commas, as 1=2,3=4\n",
+        Takes::Bytes(_, _) => "each byte is two hexadecimal digits\n",
+        Takes::Nothing | Takes::Choice(_) | Takes::Text => "",
+    }
+}
+
+/// How all values of an option stand in one list, where it takes one.
+pub(crate) fn list_text(takes: Takes) -> &'static str {
+    match takes {
+        Takes::Ranges(_, _) => "all of its numbers stand in one list, as 0,16-18,0x100\n",
+        Takes::Pairs(Sign::Slash, _, _) => "all of its pairs stand in one list, as 1/2,3/4\n",
+        Takes::Pairs(Sign::Equals, _, _) => "all of its pairs stand in one list, as 1=2,3=4\n",
+        _ => "",
+    }
+}
+
+// Whether the sign stands in the word.
+fn has_sign(word: &str, sign: char) -> bool {
+    word.contains(sign)
+}
+
+// What is said where another sign stands between two numbers.
+fn sign_text(takes: Takes, value: &str) -> &'static str {
+    let (Takes::Pair(sign, _, _) | Takes::Pairs(sign, _, _)) = takes else {
+        return "";
+    };
+    match sign {
+        Sign::Slash if has_sign(value, '=') => "= is written here where / is needed\n",
+        Sign::Slash if has_sign(value, ':') => ": is written here where / is needed\n",
+        Sign::Equals if has_sign(value, '/') => "/ is written here where = is needed\n",
+        Sign::Equals if has_sign(value, ':') => ": is written here where = is needed\n",
+        _ => "",
+    }
+}
+
+// Puts the first of these that is so: a blank in the value, a comma between operands, a piece of it that is no number.
+fn put_slip(text: &mut String, row: &OptionRow, value: &str) -> Result<(), AllocError> {
+    if has_sign(value, ' ') {
+        return text.push_str("no blank may stand in the value\n");
+    }
+    if row.many && has_sign(value, ',') {
+        return match row.takes {
+            Takes::Pair(Sign::Slash, _, _) => {
+                text.push_str("each pair is a word of its own, as 1/2 3/4\n")
+            }
+            Takes::Pair(Sign::Equals, _, _) => {
+                text.push_str("each pair is a word of its own, as 1=2 3=4\n")
+            }
+            _ => Ok(()),
+        };
+    }
+    if let Some(piece) = wrong_piece(row.takes, value) {
+        text.push_str("this is not read as a number:")?;
+        put_word(text, piece)?;
+        return text.push('\n');
+    }
+    match row.takes {
+        Takes::Ranges(_, _) => text.push_str(
+            "a range goes from its lesser number to its greater\n",
+        ),
+        _ => Ok(()),
+    }
+}
+
+// Puts the range of what is taken.
+fn put_range(text: &mut String, takes: Takes) -> Result<(), AllocError> {
+    match takes {
+        Takes::Number(least, most) => write!(text, "the range is {least} to {most}\n"),
+        Takes::Ranges(least, most) => {
+            write!(text, "the range of each number is {least} to {most}\n")
+        }
+        Takes::Pair(_, first, second) | Takes::Pairs(_, first, second) => {
+            let (least, most) = first;
+            let (low, high) = second;
+            write!(
+                text,
+                "the range of the first number is {least} to {most}, of the second {low} to {high}\n"
+            )
+        }
+        Takes::Bytes(least, most) => write!(text, "the range is {least} to {most} bytes\n"),
+        Takes::Nothing | Takes::Choice(_) | Takes::Text => Ok(()),
+    }
+}
+
+/// Puts what is said of a wrong value: its range where that alone is wrong, and else its form and what is wrong with it.
+pub(crate) fn put_value(
+    alloc: Global,
+    text: &mut String,
+    row: &OptionRow,
+    value: &str,
+) -> Result<(), AllocError> {
+    if fits(alloc, wide(row.takes), value)? {
+        return put_range(text, row.takes);
+    }
+    text.push_str(form_text(row.takes))?;
+    text.push_str(sign_text(row.takes, value))?;
+    put_slip(text, row, value)
+}

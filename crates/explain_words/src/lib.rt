@@ -1,0 +1,36 @@
+//! What a refused command line is shown beyond its one line: a table of options, the words and the broken rule come in, a text
+//! that marks the faulty word and says what may stand there goes out. The programs above use `fault_text`, and `words_text` where
+//! they have no such table. No clause says what the texts are: their rows stand in `explain_rows`.
+#![tactic(auto)]
+
+mod bad_value;
+mod explained;
+mod first_fault;
+mod fits;
+mod help_table;
+mod marked;
+mod names;
+mod option_row;
+mod piece;
+mod role;
+mod said;
+mod said_text;
+mod segment;
+mod segment_row;
+mod sign;
+mod takes;
+mod tsp_options;
+mod unknown;
+mod wanted;
+mod word_place;
+mod word_row;
+
+pub use explained::fault_text;
+pub use help_table::HelpTable;
+pub use option_row::OptionRow;
+pub use segment_row::SegmentRow;
+pub use sign::Sign;
+pub use takes::Takes;
+pub use tsp_options::{general_options, tsp_segments};
+pub use word_place::words_text;
+pub use word_row::WordRow;

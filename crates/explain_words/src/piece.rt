@@ -1,0 +1,54 @@
+//! The piece of a value that is not read as a number.
+use crate::takes::Takes;
+use option_words::{read_number_within, split_at_sign};
+
+// The text, where it is no number of any range.
+fn no_number(text: &str) -> Option<&str> {
+    match read_number_within(text, 0, u64::MAX) {
+        Some(_) => None,
+        None => Some(text),
+    }
+}
+
+// The first text that is no number, of the two beside a sign.
+fn no_number_of_two<'a>(one: &'a str, other: &'a str) -> Option<&'a str> {
+    match no_number(one) {
+        Some(piece) => Some(piece),
+        None => no_number(other),
+    }
+}
+
+// The piece of one part: a number, a range or a pair.
+fn wrong_in_part(takes: Takes, part: &str) -> Option<&str> {
+    match takes {
+        Takes::Number(_, _) => no_number(part),
+        Takes::Ranges(_, _) => {
+            match split_at_sign(part, '-') {
+                Some((low, high)) => no_number_of_two(low, high),
+                None => no_number(part),
+            }
+        }
+        Takes::Pair(sign, _, _) | Takes::Pairs(sign, _, _) => {
+            match split_at_sign(part, sign.character()) {
+                Some((one, other)) => no_number_of_two(one, other),
+                None => None,
+            }
+        }
+        Takes::Nothing | Takes::Bytes(_, _) | Takes::Choice(_) | Takes::Text => None,
+    }
+}
+
+/// The first piece of a value that should be a number and is none; commas join what a list takes.
+pub(crate) fn wrong_piece(takes: Takes, value: &str) -> Option<&str> {
+    match takes {
+        Takes::Ranges(_, _) | Takes::Pairs(_, _, _) => {
+            for part in value.split(',') {
+                if let Some(piece) = wrong_in_part(takes, part) {
+                    return Some(piece);
+                }
+            }
+            None
+        }
+        _ => wrong_in_part(takes, value),
+    }
+}

@@ -1,0 +1,106 @@
+//! What a word of a segment stands for.
+use crate::option_row::OptionRow;
+use crate::takes::Takes;
+use option_words::split_at_sign;
+
+/// What a word of a segment stands for, by the words before it.
+#[derive(Clone, Copy)]
+pub(crate) enum Role<'a> {
+    /// The value of the option before it.
+    Value(&'a OptionRow),
+    /// An option, by itself or with its value after `=`.
+    Named(&'a OptionRow),
+    /// It begins with a dash and is no option.
+    Unknown,
+    /// An operand.
+    Operand(&'a OptionRow),
+    /// An operand more than the segment takes.
+    Extra,
+}
+
+/// Whether the option is a flag.
+pub(crate) fn is_flag(row: &OptionRow) -> bool {
+    match row.takes {
+        Takes::Nothing => true,
+        _ => false,
+    }
+}
+
+/// The name of an option, which ends before `=`.
+pub(crate) fn name_part(word: &str) -> &str {
+    match split_at_sign(word, '=') {
+        Some((name, _)) => name,
+        None => word,
+    }
+}
+
+/// The value of a word, which in an option's own word stands after `=`.
+pub(crate) fn value_part(word: &str) -> &str {
+    if !is_dashed(word) {
+        return word;
+    }
+    match split_at_sign(word, '=') {
+        Some((_, value)) => value,
+        None => "",
+    }
+}
+
+/// Whether a word begins with a dash, and has more after it.
+pub(crate) fn is_dashed(word: &str) -> bool {
+    word.len() > 1 && word.starts_with('-')
+}
+
+/// The option of this name.
+pub(crate) fn named<'a>(options: &'a [OptionRow], name: &str) -> Option<&'a OptionRow> {
+    for row in options {
+        if row.place == 0 && row.name == name {
+            return Some(row);
+        }
+    }
+    None
+}
+
+/// The operand after so many others.
+pub(crate) fn operand(options: &[OptionRow], count: usize) -> Option<&OptionRow> {
+    for row in options {
+        if row.place != 0 && (row.place - 1 == count || (row.many && row.place - 1 <= count)) {
+            return Some(row);
+        }
+    }
+    None
+}
+
+/// What a word stands for after another one and so many operands.
+pub(crate) fn role_of<'a>(
+    options: &'a [OptionRow],
+    previous: &str,
+    count: usize,
+    word: &str,
+) -> Role<'a> {
+    if let Some(row) = named(options, previous) {
+        if !is_flag(row) {
+            return Role::Value(row);
+        }
+    }
+    if is_dashed(word) {
+        match named(options, name_part(word)) {
+            Some(row) => Role::Named(row),
+            None => Role::Unknown,
+        }
+    } else {
+        match operand(options, count) {
+            Some(row) => Role::Operand(row),
+            None => Role::Extra,
+        }
+    }
+}
+
+/// Whether the option of a name stands among words.
+pub(crate) fn stands(name: &str, words: &[String]) -> bool {
+    for word in words {
+        if name_part(word.as_str()) == name {
+            return true;
+        }
+    }
+    false
+}

@@ -1,0 +1,44 @@
+//! What can be wrong with a segment.
+use crate::option_row::OptionRow;
+
+/// What is wrong with a segment or with one word of it.
+#[derive(Clone, Copy)]
+pub(crate) enum Said<'a> {
+    /// Only one segment of its kind may stand.
+    Second,
+    /// A name is needed after the first word.
+    NoName,
+    /// There is no segment of this name.
+    UnknownName,
+    /// No plugin more may stand.
+    TooMany,
+    /// The word is an unknown option of the segment.
+    UnknownOption,
+    /// The word is an operand more than the segment takes.
+    Extra,
+    /// The option's value is wanting.
+    NoValue(&'a OptionRow),
+    /// The option stands again after it.
+    Again(&'a OptionRow),
+    /// The option is a flag, and the word gives it a value.
+    TakesNone(&'a OptionRow),
+    /// The value is none that the option or operand takes.
+    BadValue(&'a OptionRow),
+    /// Another option stands of those of which one alone may be given.
+    Apart(&'a OptionRow),
+    /// A pair that a later one has a number in common with.
+    Clash(&'a OptionRow),
+    /// The option stands without the one that it needs.
+    Alone(&'a OptionRow),
+    /// Something is wanting.
+    Missing,
+    /// No one word can be named.
+    Whole,
+}
+
+/// What is wrong, with the number of the word that is marked; none is marked where there is no such word.
+#[derive(Clone, Copy)]
+pub(crate) struct Fault<'a> {
+    pub(crate) at: usize,
+    pub(crate) said: Said<'a>,
+}

@@ -1,4 +1,0 @@
-pub mod EachLemmas
-pub mod FaultLemmas
-pub mod PieceLemmas
-pub mod TextLemmas
