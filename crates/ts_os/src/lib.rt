@@ -4,12 +4,15 @@
 
 mod calls;
 mod file_id;
+mod noted;
+mod open_files;
 mod os_desk;
 mod os_sink;
 mod os_source;
 mod reason;
 mod trouble;
 
+pub use noted::Noted;
 pub use os_desk::OsDesk;
 pub use os_sink::OsSink;
 pub use os_source::OsSource;

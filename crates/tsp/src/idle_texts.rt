@@ -1,5 +1,6 @@
 //! The text about plugins that edited, inserted or read nothing: for each a line with what never came.
 use crate::run_texts::plugin_name;
+use chain_args::Plan;
 use plug_psi::Unedited;
 use std::alloc::{AllocError, Global};
 use tsp_top::{Idle, IdlePlugin};
@@ -36,11 +37,11 @@ fn why_text(alloc: Global, why: Idle) -> Result<String, AllocError> {
 fn push_idle(
     alloc: Global,
     text: &mut String,
-    words: &[String],
+    plan: &Plan,
     plugin: &IdlePlugin,
 ) -> Result<(), AllocError> {
     let why = why_text(alloc, plugin.why)?;
-    let name = plugin_name(words, plugin.number).unwrap_or("");
+    let name = plugin_name(plan, plugin.number);
     let number = plugin.number;
     write!(text, "plugin {number}, -P {name}: {why}\n")
 }
@@ -48,12 +49,12 @@ fn push_idle(
 /// A line for each of the plugins; no text where there are none.
 pub(crate) fn idle_text(
     alloc: Global,
-    words: &[String],
+    plan: &Plan,
     plugins: &[IdlePlugin],
 ) -> Result<String, AllocError> {
     let mut text = String::new(alloc);
     for plugin in plugins {
-        push_idle(alloc, &mut text, words, plugin)?;
+        push_idle(alloc, &mut text, plan, plugin)?;
     }
     Ok(text)
 }

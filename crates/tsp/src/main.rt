@@ -6,7 +6,6 @@
 mod explaining;
 mod form_seen;
 mod idle_texts;
-mod operands;
 mod run_texts;
 
 use explain_edge::is_wanted;
@@ -16,7 +15,7 @@ use std::process::ExitCode;
 use std::{env, io};
 use ts_os::OsDesk;
 use ts_outside::{OpenGate, report_whole};
-use tsp_top::{IdlePlugins, explained_call};
+use tsp_top::explained_call;
 
 /// The exit number if memory runs out before the call.
 const NO_MEMORY: u8 = 1;
@@ -45,17 +44,16 @@ fn main(rt: HostRuntime) -> ExitCode {
     if explained {
         desk.keep_file();
     }
-    let mut idle = IdlePlugins::new(rt.alloc(), explained);
-    let status = explained_call(
+    let end = explained_call(
         &rt,
         rt.alloc(),
         words.as_slice(),
         &mut desk,
         &OpenGate,
-        &mut idle,
+        explained,
     );
     if explained {
-        explain(&rt, words.as_slice(), &status, &desk, &idle);
+        explain(&rt, words.as_slice(), &end, &desk);
     }
-    ExitCode::from(status.exit_code())
+    ExitCode::from(end.status.exit_code())
 }

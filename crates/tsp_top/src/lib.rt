@@ -4,6 +4,7 @@
 
 mod beginning;
 mod call;
+mod call_end;
 mod driver;
 mod end_line;
 mod finishing;
@@ -23,6 +24,7 @@ mod tables;
 mod words;
 
 pub use call::{explained_call, serial_call, threaded_call, tsp_call};
+pub use call_end::CallEnd;
 pub use chain_args::{WordsFault, WordsRule};
 pub use idle_plugins::{IdlePlugin, IdlePlugins};
 pub use plug_set::Idle;

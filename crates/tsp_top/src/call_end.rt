@@ -1,0 +1,16 @@
+//! What a call came to.
+
+use crate::idle_plugins::IdlePlugins;
+use crate::status::Status;
+use chain_args::Plan;
+
+/// What a call came to: its status, and what its explanation goes by.
+#[derive(Drop)]
+pub struct CallEnd {
+    /// How the call ended.
+    pub status: Status,
+    /// The plan of the words; `None` where they have none, or where memory ran out before they were read.
+    pub plan: Option<Plan>,
+    /// The plugins that were idle, where that was asked. No clause speaks of them.
+    pub idle: IdlePlugins,
+}
