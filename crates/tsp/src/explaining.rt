@@ -1,12 +1,12 @@
-//! Explains a refused command line, and a run that failed or found nothing to edit, on standard error alone.
-use crate::idle_texts::idle_text;
+//! Explains a refused command line, and a run that failed, found nothing to edit or did not see a table change, on standard error alone.
+use crate::note_texts::notes_text;
 use crate::run_texts::{Kept, run_text};
 use chain_args::{WordsFault, WordsRule};
 use explain_edge::write_explained;
 use fault_texts::{HelpTable, fault_text, general_options, tsp_segments};
 use std::alloc::AllocError;
 use ts_os::OsDesk;
-use tsp_top::{IdlePlugins, Status};
+use tsp_top::{PluginNotes, Status};
 
 /// The text about a refused command line: its segment, the wrong word, and what may stand there.
 fn words_text(
@@ -42,9 +42,9 @@ fn explain_run(rt: &HostRuntime, words: &[String], status: &Status, desk: &OsDes
     }
 }
 
-/// Explains a run that was `Done`, and in which plugins were idle.
-fn explain_idle(rt: &HostRuntime, words: &[String], idle: &IdlePlugins) {
-    if let Ok(text) = idle_text(rt.alloc(), words, idle.rows()) {
+/// Explains a run that was `Done`, and in which plugins were idle or tables changed without a new version.
+fn explain_notes(rt: &HostRuntime, words: &[String], notes: &PluginNotes) {
+    if let Ok(text) = notes_text(rt.alloc(), words, notes) {
         if !text.is_empty() {
             write_explained(rt, text.as_bytes());
         }
@@ -58,11 +58,11 @@ pub(crate) fn explain(
     words: &[String],
     status: &Status,
     desk: &OsDesk,
-    idle: &IdlePlugins,
+    notes: &PluginNotes,
 ) {
     match status {
         Status::Words(WordsFault::At { word, rule }) => explain_words(rt, words, *word, *rule),
-        Status::Done => explain_idle(rt, words, idle),
+        Status::Done => explain_notes(rt, words, notes),
         _ => explain_run(rt, words, status, desk),
     }
 }

@@ -1,11 +1,11 @@
 //! The program `tsp`. It reads the words of the command line, runs `explained_call` over real files, explains on standard error
-//! what failed or found nothing to edit where that is wanted, and ends with the exit number. What a run does is the contract of
+//! what failed, found nothing to edit or did not see a table change where that is wanted, and ends with the exit number. What a run does is the contract of
 //! that call, which is that of `tsp_call`: the stream theorem.
 #![tactic(auto)]
 
 mod explaining;
 mod form_seen;
-mod idle_texts;
+mod note_texts;
 mod operands;
 mod run_texts;
 
@@ -16,7 +16,7 @@ use std::process::ExitCode;
 use std::{env, io};
 use ts_os::OsDesk;
 use ts_outside::{OpenGate, report_whole};
-use tsp_top::{IdlePlugins, explained_call};
+use tsp_top::{PluginNotes, explained_call};
 
 /// The exit number if memory runs out before the call.
 const NO_MEMORY: u8 = 1;
@@ -45,17 +45,17 @@ fn main(rt: HostRuntime) -> ExitCode {
     if explained {
         desk.keep_file();
     }
-    let mut idle = IdlePlugins::new(rt.alloc(), explained);
+    let mut notes = PluginNotes::new(rt.alloc(), explained);
     let status = explained_call(
         &rt,
         rt.alloc(),
         words.as_slice(),
         &mut desk,
         &OpenGate,
-        &mut idle,
+        &mut notes,
     );
     if explained {
-        explain(&rt, words.as_slice(), &status, &desk, &idle);
+        explain(&rt, words.as_slice(), &status, &desk, &notes);
     }
     ExitCode::from(status.exit_code())
 }

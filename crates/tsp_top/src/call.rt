@@ -6,10 +6,10 @@ ghost use Rattle.tsp_top.specs.TspCall.{CallsTsp};
 use crate::beginning::begin;
 use crate::driver::Driver;
 use crate::finishing::finish;
-use crate::idle_plugins::IdlePlugins;
 use crate::in_threads::run_in_threads;
 use crate::one_thread::run_in_one_thread;
 use crate::opened_call::OpenedCall;
+use crate::plugin_notes::PluginNotes;
 use crate::status::Status;
 use std::alloc::Global;
 use std::sync::Wait;
@@ -44,24 +44,25 @@ pub fn tsp_call<R: Threads + Wait + Sync, D: Desk, G: Gate>(
 ) -> Status
     ensures { CallsTsp (map string_bytes words.now) (D.seen desk.old) (D.seen desk.new) result }
 {
-    let mut unasked = IdlePlugins::new(alloc, false);
+    let mut unasked = PluginNotes::new(alloc, false);
     explained_call(rt, alloc, words, desk, gate, &mut unasked)
 }
 
-/// Does what `tsp_call` does. Where it is asked, the plugins that were idle in the run are noted before they report.
+/// Does what `tsp_call` does. Where it is asked, it is noted which plugins were idle in the run,
+/// and which tables changed without a new version before the plugins that go by them.
 pub fn explained_call<R: Threads + Wait + Sync, D: Desk, G: Gate>(
     rt: &R,
     alloc: Global,
     words: &[String],
     desk: &mut D,
     gate: &G,
-    idle: &mut IdlePlugins,
+    notes: &mut PluginNotes,
 ) -> Status
     ensures { CallsTsp (map string_bytes words.now) (D.seen desk.old) (D.seen desk.new) result }
 {
     match Driver::of_machine(rt) {
-        Driver::InThreads => call_in_threads(rt, alloc, words, desk, gate, idle),
-        Driver::InOneThread => call_in_one_thread(alloc, words, desk, gate, idle),
+        Driver::InThreads => call_in_threads(rt, alloc, words, desk, gate, notes),
+        Driver::InOneThread => call_in_one_thread(alloc, words, desk, gate, notes),
     }
 }
 
@@ -75,7 +76,7 @@ pub fn threaded_call<R: Threads + Wait + Sync, D: Desk, G: Gate>(
 ) -> Status
     ensures { CallsTsp (map string_bytes words.now) (D.seen desk.old) (D.seen desk.new) result }
 {
-    let mut unasked = IdlePlugins::new(alloc, false);
+    let mut unasked = PluginNotes::new(alloc, false);
     call_in_threads(rt, alloc, words, desk, gate, &mut unasked)
 }
 
@@ -88,46 +89,46 @@ pub fn serial_call<D: Desk, G: Gate>(
 ) -> Status
     ensures { CallsTsp (map string_bytes words.now) (D.seen desk.old) (D.seen desk.new) result }
 {
-    let mut unasked = IdlePlugins::new(alloc, false);
+    let mut unasked = PluginNotes::new(alloc, false);
     call_in_one_thread(alloc, words, desk, gate, &mut unasked)
 }
 
-/// The call with a thread for each stage, and the plugins that were idle in it.
+/// The call with a thread for each stage, and what is noted of its plugins.
 fn call_in_threads<R: Threads + Wait + Sync, D: Desk, G: Gate>(
     rt: &R,
     alloc: Global,
     words: &[String],
     desk: &mut D,
     gate: &G,
-    idle: &mut IdlePlugins,
+    notes: &mut PluginNotes,
 ) -> Status
     ensures { CallsTsp (map string_bytes words.now) (D.seen desk.old) (D.seen desk.new) result }
 {
     match begin(alloc, words, desk, Driver::InThreads) {
         Ok(OpenedCall { plan, core, stages }) => {
             let end = run_in_threads(rt, alloc, stages, &core, gate);
-            idle.note(end.plugins.as_slice());
-            finish(alloc, desk, &plan, end)
+            notes.note_idle(end.plugins.as_slice());
+            finish(alloc, desk, &plan, end, notes)
         }
         Err(status) => status,
     }
 }
 
-/// The call in one thread, and the plugins that were idle in it.
+/// The call in one thread, and what is noted of its plugins.
 fn call_in_one_thread<D: Desk, G: Gate>(
     alloc: Global,
     words: &[String],
     desk: &mut D,
     gate: &G,
-    idle: &mut IdlePlugins,
+    notes: &mut PluginNotes,
 ) -> Status
     ensures { CallsTsp (map string_bytes words.now) (D.seen desk.old) (D.seen desk.new) result }
 {
     match begin(alloc, words, desk, Driver::InOneThread) {
         Ok(OpenedCall { plan, core, stages }) => {
             let end = run_in_one_thread(alloc, stages, &core, gate);
-            idle.note(end.plugins.as_slice());
-            finish(alloc, desk, &plan, end)
+            notes.note_idle(end.plugins.as_slice());
+            finish(alloc, desk, &plan, end, notes)
         }
         Err(status) => status,
     }
