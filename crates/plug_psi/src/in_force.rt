@@ -1,6 +1,6 @@
 //! The tables in force.
 
-ghost use Rattle.std.specs.Prelude.{◌≡◌, ℕ, ◌<◌, ◌==◌, ◌++◌, ◌∷◌, ◌&&◌, ◌||◌, [], List, None, true, false, not, IfOk, OnOk, OnErr, IsErr, option_map};
+ghost use Rattle.std.specs.Prelude.{◌≡◌, ℕ, ◌<◌, ◌==◌, ◌++◌, ◌∷◌, ◌&&◌, ◌||◌, [], List, None, Ok, true, false, not, IfOk, OnOk, OnErr, IsErr, IsOk, option_map};
 ghost use Rattle.std.specs.Option.{option_copied};
 ghost use Rattle.ts_psi.specs.PatTables.{pat_held};
 ghost use Rattle.ts_psi.specs.PsiTables.{pmt_held};
@@ -53,7 +53,7 @@ impl InForce {
     ghost use Rattle.ts_demux.specs.TablesOn.{Completes, packets_on};
     ghost use Rattle.ts_demux.specs.TakenWhere.{taken_on};
     ghost use Rattle.plug_psi.specs.ForceStands.{StandsFor, has_failed, pats_in, pmts_in};
-    ghost use Rattle.plug_psi.specs.InForce.{follows};
+    ghost use Rattle.plug_psi.specs.InForce.{follows, may_have_tables};
 
     /// Nothing is in force before a packet was fed.
     pub fn new(alloc: Global) -> Result<InForce, AllocError>
@@ -73,6 +73,7 @@ impl InForce {
     /// `AllocError`.
     pub fn feed(&mut self, at: u64, packet: &Packet) -> Result<(), AllocError>
         ensures stands { OnOk result ((fed : List (List ℕ)) → StandsFor self.old fed → StandsFor self.new (fed ++ packet.now ∷ [])) }
+        ensures quiet { (fed : List (List ℕ)) → StandsFor self.old fed → may_have_tables (pid_of packet.now) fed ≡ false → IsOk result }
         ensures spent { OnErr result (has_failed self.new ≡ true) }
         ensures stays_spent { has_failed self.old ≡ true → IsErr result }
     {
@@ -82,6 +83,7 @@ impl InForce {
 
     /// Processes the next packet as `feed` does. If the result is `false`, the same PAT and PMTs are in force as before;
     /// `true` says that a PAT or a PMT may have come into force with it, so what was made from them has to be made again.
+    /// A packet on a PID that is not followed wants no memory, and neither brings a table.
     ///
     /// The tables that it completes on PID 0, or on a PID whose packets are taken, are returned by `take_pats` and
     /// `take_pmts`. So a caller that needs these tables too does not read them again.
@@ -94,6 +96,7 @@ impl InForce {
         ensures pmts { OnOk result ((fed : List (List ℕ)) → StandsFor self.old fed
             → follows (pid_of packet.now) (fed ++ packet.now ∷ []) ≡ true
             → Completes (pid_of packet.now) (taken_on follows (pid_of packet.now) fed) packet.now (pmts_in self.new)) }
+        ensures quiet { (fed : List (List ℕ)) → StandsFor self.old fed → may_have_tables (pid_of packet.now) fed ≡ false → result ≡ Ok false }
         ensures spent { OnErr result (has_failed self.new ≡ true) }
         ensures stays_spent { has_failed self.old ≡ true → IsErr result }
     {

@@ -1,6 +1,6 @@
 //! The PIDs that are referred to.
 
-ghost use Rattle.std.specs.Prelude.{◌≡◌, ℕ, ◌<◌, ◌++◌, ◌∷◌, [], List, true, false, IfOk, OnOk, OnErr, IsErr, option_map};
+ghost use Rattle.std.specs.Prelude.{◌≡◌, ℕ, ◌<◌, ◌==◌, ◌++◌, ◌∷◌, [], List, Ok, true, false, IfOk, OnOk, OnErr, IsErr, IsOk, option_map};
 ghost use Rattle.std.specs.Option.{option_copied};
 ghost use Rattle.ts_psi.specs.CatTables.{cat_held};
 ghost use Rattle.plug_psi.specs.CatInForce.{cat_of};
@@ -50,6 +50,7 @@ pub struct Referred {
 }
 
 impl Referred {
+    ghost use Rattle.plug_psi.specs.Referred.{may_name_pids};
     ghost use Rattle.plug_psi.specs.ReferredStands.{StandsFor, has_failed};
 
     /// No table is in force before a packet was fed.
@@ -69,11 +70,12 @@ impl Referred {
         })
     }
 
-    /// Processes the next packet, of any PID, which has a position. After `AllocError` every later call returns
-    /// `AllocError`.
+    /// Processes the next packet, of any PID, which has a position. A packet on a PID without a table that names PIDs wants no
+    /// memory. After `AllocError` every later call returns `AllocError`.
     #[inline]
     pub fn feed(&mut self, at: u64, packet: &Packet) -> Result<(), AllocError>
         ensures stands { OnOk result ((fed : List (List ℕ)) → StandsFor self.old fed → StandsFor self.new (fed ++ packet.now ∷ [])) }
+        ensures quiet { (fed : List (List ℕ)) → StandsFor self.old fed → may_name_pids (pid_of packet.now) fed ≡ false → IsOk result }
         ensures spent { OnErr result (has_failed self.new ≡ true) }
         ensures stays_spent { has_failed self.old ≡ true → IsErr result }
     {
@@ -110,6 +112,7 @@ impl Referred {
     #[inline]
     fn take(&mut self, at: u64, packet: &Packet) -> Result<(), AllocError>
         ensures stands { OnOk result ((fed : List (List ℕ)) → StandsFor self.old fed → StandsFor self.new (fed ++ packet.now ∷ [])) }
+        ensures quiet { (fed : List (List ℕ)) → StandsFor self.old fed → may_name_pids (pid_of packet.now) fed ≡ false → IsOk result }
         ensures same_failed { has_failed self.new ≡ has_failed self.old }
     {
         let psi_came = self.force.update(at, packet)?;
@@ -131,6 +134,7 @@ fn take_cats(
     ensures stands { OnOk result ((fed : List (List ℕ)) → HasCat one.old fed → HasCat one.new (fed ++ packet.now ∷ [])) }
     ensures same { IfOk result (λ came. came ≡ false → (fed : List (List ℕ)) → HasCat one.old fed
         → cat_of (fed ++ packet.now ∷ []) ≡ cat_of fed) }
+    ensures quiet { (pid_of packet.now == 1) ≡ false → result ≡ Ok false }
 {
     if packet.pid() != CAT_PID {
         return Ok(false);
@@ -173,10 +177,11 @@ fn renew_where(
     flags: &mut PidRow<bool>,
     came: bool,
 ) -> Result<(), AllocError>
-    ensures { OnOk result ((fed : List (List ℕ)) (packet : List ℕ) → Forced force.now (fed ++ packet ∷ [])
+    ensures stands { OnOk result ((fed : List (List ℕ)) (packet : List ℕ) → Forced force.now (fed ++ packet ∷ [])
         → HasCat one.now (fed ++ packet ∷ [])
         → (came ≡ false → named_in (fed ++ packet ∷ []) ≡ named_in fed)
         → AreFlags flags.old (named_in fed) → AreFlags flags.new (named_in (fed ++ packet ∷ []))) }
+    ensures quiet { came ≡ false → IsOk result }
 {
     if !came {
         return Ok(());

@@ -50,10 +50,15 @@ pub(crate) fn finish<P: Plugin + SeesTables + Drop, D: Desk>(
     let closing = close_output(desk, output);
     match closed {
         Ok(closed) => {
-            let failed = closing.is_err();
-            let items = plan.plugins.as_slice();
-            let status = report_run(alloc, desk, &mut plugins, items, closed, failed);
-            notes.note_changes(plugins.as_slice(), closed.cut);
+            let status = report_run(
+                alloc,
+                desk,
+                &mut plugins,
+                plan.plugins.as_slice(),
+                closed,
+                closing.is_err(),
+            );
+            notes.note_changes(&plugins, closed.cut);
             status
         }
         Err(AllocError) => Status::NoMemory,
