@@ -1,12 +1,13 @@
-//! Explains a refused command line, and a run that failed or found nothing to edit, on standard error alone.
-use crate::idle_texts::idle_text;
+//! Explains a refused command line, and a run that failed, found nothing to edit or did not see a table change, on standard error
+//! alone.
+use crate::note_texts::notes_text;
 use crate::run_texts::run_text;
 use chain_args::{Plan, WordsFault, WordsRule};
 use explain_edge::write_explained;
 use fault_texts::{HelpTable, fault_text, general_options, tsp_segments};
 use std::alloc::AllocError;
 use ts_os::OsDesk;
-use tsp_top::{CallEnd, IdlePlugins, Status};
+use tsp_top::{CallEnd, PluginNotes, Status};
 
 /// The text about a refused command line: its segment, the wrong word, and what may stand there.
 fn words_text(
@@ -37,9 +38,9 @@ fn explain_run(rt: &HostRuntime, plan: &Plan, status: &Status, desk: &OsDesk) {
     }
 }
 
-/// Explains a run of a plan that was `Done`, and in which plugins were idle.
-fn explain_idle(rt: &HostRuntime, plan: &Plan, idle: &IdlePlugins) {
-    if let Ok(text) = idle_text(rt.alloc(), plan, idle.rows()) {
+/// Explains a run of a plan that was `Done`, and in which plugins were idle or tables changed without a new version.
+fn explain_notes(rt: &HostRuntime, plan: &Plan, notes: &PluginNotes) {
+    if let Ok(text) = notes_text(rt.alloc(), plan, notes) {
         if !text.is_empty() {
             write_explained(rt, text.as_bytes());
         }
@@ -51,7 +52,7 @@ fn explain_idle(rt: &HostRuntime, plan: &Plan, idle: &IdlePlugins) {
 pub(crate) fn explain(rt: &HostRuntime, words: &[String], end: &CallEnd, desk: &OsDesk) {
     match (&end.status, &end.plan) {
         (Status::Words(WordsFault::At { word, rule }), _) => explain_words(rt, words, *word, *rule),
-        (Status::Done, Some(plan)) => explain_idle(rt, plan, &end.idle),
+        (Status::Done, Some(plan)) => explain_notes(rt, plan, &end.notes),
         (status, Some(plan)) => explain_run(rt, plan, status, desk),
         (_, None) => {}
     }

@@ -1,11 +1,11 @@
 //! The program `tsp`. It reads the words of the command line, runs `explained_call` over real files, explains on standard error
-//! what failed or found nothing to edit where that is wanted, and ends with the exit number. What a run does is the contract of
-//! that call, which is that of `tsp_call`: the stream theorem.
+//! what failed, found nothing to edit or did not see a table change, where that is wanted, and ends with the exit number. What a
+//! run does is the contract of that call, which is that of `tsp_call`: the stream theorem.
 #![tactic(auto)]
 
 mod explaining;
 mod form_seen;
-mod idle_texts;
+mod note_texts;
 mod run_texts;
 
 use explain_edge::is_wanted;

@@ -9,10 +9,10 @@ use crate::beginning::begin_plan;
 use crate::call_end::CallEnd;
 use crate::driver::Driver;
 use crate::finishing::finish;
-use crate::idle_plugins::IdlePlugins;
 use crate::in_threads::run_in_threads;
 use crate::one_thread::run_in_one_thread;
 use crate::opened_call::OpenedCall;
+use crate::plugin_notes::PluginNotes;
 use crate::status::Status;
 use crate::words::refuse_words;
 use chain_args::{Plan, WordsFault, plan};
@@ -52,22 +52,22 @@ pub fn tsp_call<R: Threads + Wait + Sync, D: Desk, G: Gate>(
     explained_call(rt, alloc, words, desk, gate, false).status
 }
 
-/// Does what `tsp_call` does, and returns the plan of the words with the status. Where it is asked, the plugins that were idle in
-/// the run are noted before they report.
+/// Does what `tsp_call` does, and returns the plan of the words with the status. Where it is asked, it is noted which plugins were
+/// idle in the run, and which tables changed without a new version before the plugins that go by them.
 pub fn explained_call<R: Threads + Wait + Sync, D: Desk, G: Gate>(
     rt: &R,
     alloc: Global,
     words: &[String],
     desk: &mut D,
     gate: &G,
-    asks_idle: bool,
+    asks_notes: bool,
 ) -> CallEnd
     ensures call { CallsTsp (map string_bytes words.now) (D.seen desk.old) (D.seen desk.new) result.status }
     ensures plan { IfSome result.plan (λ plan. plan_of (map string_bytes words.now) ≡ Some plan) }
 {
     match Driver::of_machine(rt) {
-        Driver::InThreads => call_in_threads(rt, alloc, words, desk, gate, asks_idle),
-        Driver::InOneThread => call_in_one_thread(alloc, words, desk, gate, asks_idle),
+        Driver::InThreads => call_in_threads(rt, alloc, words, desk, gate, asks_notes),
+        Driver::InOneThread => call_in_one_thread(alloc, words, desk, gate, asks_notes),
     }
 }
 
@@ -103,30 +103,30 @@ fn call_in_threads<R: Threads + Wait + Sync, D: Desk, G: Gate>(
     words: &[String],
     desk: &mut D,
     gate: &G,
-    asks_idle: bool,
+    asks_notes: bool,
 ) -> CallEnd
     ensures call { CallsTsp (map string_bytes words.now) (D.seen desk.old) (D.seen desk.new) result.status }
     ensures plan { IfSome result.plan (λ plan. plan_of (map string_bytes words.now) ≡ Some plan) }
 {
-    let mut idle = IdlePlugins::new(alloc, asks_idle);
+    let mut notes = PluginNotes::new(alloc, asks_notes);
     match plan(alloc, words) {
         Ok(plan) => {
-            let status = run_plan_in_threads(rt, alloc, &plan, desk, gate, &mut idle);
+            let status = run_plan_in_threads(rt, alloc, &plan, desk, gate, &mut notes);
             CallEnd {
                 status,
                 plan: Some(plan),
-                idle,
+                notes,
             }
         }
         Err(WordsFault::At { word, rule }) => CallEnd {
             status: refuse_words(alloc, desk, word, rule),
             plan: None,
-            idle,
+            notes,
         },
         Err(WordsFault::NoMemory) => CallEnd {
             status: Status::NoMemory,
             plan: None,
-            idle,
+            notes,
         },
     }
 }
@@ -137,42 +137,42 @@ fn call_in_one_thread<D: Desk, G: Gate>(
     words: &[String],
     desk: &mut D,
     gate: &G,
-    asks_idle: bool,
+    asks_notes: bool,
 ) -> CallEnd
     ensures call { CallsTsp (map string_bytes words.now) (D.seen desk.old) (D.seen desk.new) result.status }
     ensures plan { IfSome result.plan (λ plan. plan_of (map string_bytes words.now) ≡ Some plan) }
 {
-    let mut idle = IdlePlugins::new(alloc, asks_idle);
+    let mut notes = PluginNotes::new(alloc, asks_notes);
     match plan(alloc, words) {
         Ok(plan) => {
-            let status = run_plan_in_one_thread(alloc, &plan, desk, gate, &mut idle);
+            let status = run_plan_in_one_thread(alloc, &plan, desk, gate, &mut notes);
             CallEnd {
                 status,
                 plan: Some(plan),
-                idle,
+                notes,
             }
         }
         Err(WordsFault::At { word, rule }) => CallEnd {
             status: refuse_words(alloc, desk, word, rule),
             plan: None,
-            idle,
+            notes,
         },
         Err(WordsFault::NoMemory) => CallEnd {
             status: Status::NoMemory,
             plan: None,
-            idle,
+            notes,
         },
     }
 }
 
-/// The call of a plan with a thread for each stage, and the plugins that were idle in it.
+/// The call of a plan with a thread for each stage, and what is noted of its plugins.
 fn run_plan_in_threads<R: Threads + Wait + Sync, D: Desk, G: Gate>(
     rt: &R,
     alloc: Global,
     plan: &Plan,
     desk: &mut D,
     gate: &G,
-    idle: &mut IdlePlugins,
+    notes: &mut PluginNotes,
 ) -> Status
     requires { IsLawfulPlan plan.now }
     ensures { CallsPlan plan.now (D.seen desk.old) (D.seen desk.new) result }
@@ -180,20 +180,20 @@ fn run_plan_in_threads<R: Threads + Wait + Sync, D: Desk, G: Gate>(
     match begin_plan(alloc, desk, plan, Driver::InThreads) {
         Ok(OpenedCall { core, stages }) => {
             let end = run_in_threads(rt, alloc, stages, &core, gate);
-            idle.note(end.plugins.as_slice());
-            finish(alloc, desk, plan, end)
+            notes.note_idle(end.plugins.as_slice());
+            finish(alloc, desk, plan, end, notes)
         }
         Err(status) => status,
     }
 }
 
-/// The call of a plan in one thread, and the plugins that were idle in it.
+/// The call of a plan in one thread, and what is noted of its plugins.
 fn run_plan_in_one_thread<D: Desk, G: Gate>(
     alloc: Global,
     plan: &Plan,
     desk: &mut D,
     gate: &G,
-    idle: &mut IdlePlugins,
+    notes: &mut PluginNotes,
 ) -> Status
     requires { IsLawfulPlan plan.now }
     ensures { CallsPlan plan.now (D.seen desk.old) (D.seen desk.new) result }
@@ -201,8 +201,8 @@ fn run_plan_in_one_thread<D: Desk, G: Gate>(
     match begin_plan(alloc, desk, plan, Driver::InOneThread) {
         Ok(OpenedCall { core, stages }) => {
             let end = run_in_one_thread(alloc, stages, &core, gate);
-            idle.note(end.plugins.as_slice());
-            finish(alloc, desk, plan, end)
+            notes.note_idle(end.plugins.as_slice());
+            finish(alloc, desk, plan, end, notes)
         }
         Err(status) => status,
     }

@@ -1,6 +1,6 @@
 //! What a call came to.
 
-use crate::idle_plugins::IdlePlugins;
+use crate::plugin_notes::PluginNotes;
 use crate::status::Status;
 use chain_args::Plan;
 
@@ -11,6 +11,6 @@ pub struct CallEnd {
     pub status: Status,
     /// The plan of the words; `None` where they have none, or where memory ran out before they were read.
     pub plan: Option<Plan>,
-    /// The plugins that were idle, where that was asked. No clause speaks of them.
-    pub idle: IdlePlugins,
+    /// What was noted of the plugins, where that was asked. No clause speaks of it.
+    pub notes: PluginNotes,
 }
