@@ -800,7 +800,7 @@ fn remap_plugin() -> SegmentRow {
         first: "-P",
         name: "remap",
         usage: "-P remap [--no-psi] [--unchecked] A=B ..",
-        rule: "Packets on a source move to its target, and network PID, PIDs of PMTs, PCR_PID, PIDs of components and CA_PIDs in the PAT, the CAT and the PMTs move with them. Without --unchecked a packet that comes in on a target which is no source ends the run, with exit number 7.",
+        rule: "Packets on a source move to its target, and network PID, PIDs of PMTs, PCR_PID, PIDs of components and CA_PIDs in the PAT, the CAT and the PMTs move with them. Without --unchecked a packet that comes in on a target which is no source ends the run, with exit number 7. A table that changes without a new version is written on as it was first.",
         options: &OPTIONS,
     }
 }
@@ -968,7 +968,7 @@ fn pat_plugin() -> SegmentRow {
         first: "-P",
         name: "pat",
         usage: "-P pat [--add-service ID/PID,..] [--remove-service LIST] [--ts-id N] [--nit PID] [--new-version N | --increment-version]",
-        rule: "Each packet on PID 0 becomes the next packet of the edited PAT, or a null packet until a table is known. What is left out comes first, then the other options in this order, and then the version.",
+        rule: "Each packet on PID 0 becomes the next packet of the edited PAT, or a null packet until a table is known. What is left out comes first, then the other options in this order, and then the version. A table that changes without a new version is written on as it was first.",
         options: &OPTIONS,
     }
 }
@@ -1052,7 +1052,7 @@ fn cat_plugin() -> SegmentRow {
         first: "-P",
         name: "cat",
         usage: "-P cat [--add-ca SYS/PID,..] [--remove-casid LIST] [--remove-pid LIST] [--new-version N | --increment-version]",
-        rule: "Each packet on PID 1 becomes the next packet of the edited CAT, or a null packet until a table is known. What is left out comes first, then what is put in, and then the version. A stream without a CAT gets none.",
+        rule: "Each packet on PID 1 becomes the next packet of the edited CAT, or a null packet until a table is known. What is left out comes first, then what is put in, and then the version. A stream without a CAT gets none. A table that changes without a new version is written on as it was first.",
         options: &OPTIONS,
     }
 }
@@ -1160,7 +1160,7 @@ fn pmt_plugin() -> SegmentRow {
         first: "-P",
         name: "pmt",
         usage: "-P pmt --pmt-pid PID [--add-pid PID/TYPE,..] [--remove-pid LIST] [--move-pid OLD/NEW,..] [--pcr-pid PID] [--new-version N | --increment-version]",
-        rule: "Each packet on the PID becomes the next packet of the edited PMTs, or a null packet until a table is known; the packets of the components stay as they are. What is left out comes first, then the other options in this order, and then the version.",
+        rule: "Each packet on the PID becomes the next packet of the edited PMTs, or a null packet until a table is known; the packets of the components stay as they are. What is left out comes first, then the other options in this order, and then the version. A table that changes without a new version is written on as it was first.",
         options: &OPTIONS,
     }
 }
@@ -1292,7 +1292,7 @@ fn sdt_plugin() -> SegmentRow {
         first: "-P",
         name: "sdt",
         usage: "-P sdt [--remove-service LIST] [--service N] [--name TEXT] [--provider TEXT] [--type N] [--running-status N] [--free-ca-mode N] [--new-version N | --increment-version]",
-        rule: "Each packet on PID 17 becomes the next packet of the edited SDT, or a null packet until a table is known. Name, provider and type are those of the service's descriptor, and no option on a service goes without --service. Each further service takes an sdt of its own in the chain. A stream without an SDT gets none. What does not fit its descriptor or its sections leaves the table as it was.",
+        rule: "Each packet on PID 17 becomes the next packet of the edited SDT, or a null packet until a table is known. Name, provider and type are those of the service's descriptor, and no option on a service goes without --service. Each further service takes an sdt of its own in the chain. A stream without an SDT gets none. What does not fit its descriptor or its sections leaves the table as it was. A table that changes without a new version is written on as it was first.",
         options: &OPTIONS,
     }
 }
@@ -1376,7 +1376,7 @@ fn nit_plugin() -> SegmentRow {
         first: "-P",
         name: "nit",
         usage: "-P nit [--remove-ts LIST] [--network-id N] [--network-name TEXT] [--new-version N | --increment-version]",
-        rule: "Each packet on PID 16 becomes the next packet of the edited NIT, or a null packet until a table is known. What is left out comes first, then the other options in this order, and then the version. A stream without a NIT gets none.",
+        rule: "Each packet on PID 16 becomes the next packet of the edited NIT, or a null packet until a table is known. What is left out comes first, then the other options in this order, and then the version. A stream without a NIT gets none. A table that changes without a new version is written on as it was first.",
         options: &OPTIONS,
     }
 }
@@ -1424,7 +1424,7 @@ fn zap_plugin() -> SegmentRow {
         first: "-P",
         name: "zap",
         usage: "-P zap N [--stuffing]",
-        rule: "The PAT and the SDT have the service alone, its PMT stays, and so do the PIDs of its components, of its PCR and of its ECMs; all else is dropped, NIT, EIT and TDT too, also before the first PAT and PMT are complete. It goes by the tables in force, so it follows a service whose PIDs change. Of a number that the PAT does not have, an empty PAT and SDT are left.",
+        rule: "The PAT and the SDT have the service alone, its PMT stays, and so do the PIDs of its components, of its PCR and of its ECMs; all else is dropped, NIT, EIT and TDT too, also before the first PAT and PMT are complete. It goes by the tables in force, so it follows a service whose PIDs change under a new version. Of a number that the PAT does not have, an empty PAT and SDT are left.",
         options: &OPTIONS,
     }
 }
@@ -1472,7 +1472,7 @@ fn svremove_plugin() -> SegmentRow {
         first: "-P",
         name: "svremove",
         usage: "-P svremove N [--stuffing]",
-        rule: "The PAT and the SDT lose the service, and its PMT is dropped with those of its PIDs above 31 that no other service has; all else passes. It goes by the tables in force, so it follows a service whose PIDs change.",
+        rule: "The PAT and the SDT lose the service, and its PMT is dropped with those of its PIDs above 31 that no other service has; all else passes. It goes by the tables in force, so it follows a service whose PIDs change under a new version.",
         options: &OPTIONS,
     }
 }
@@ -1578,7 +1578,7 @@ fn tables_plugin() -> SegmentRow {
         first: "-P",
         name: "tables",
         usage: "-P tables [--pid LIST] [--tid LIST]",
-        rule: "A table has its line at the packet that completes it, with that packet's position and PID, and another one only after a change of its version or of its last section number; a section of an EIT, or one of the short form as a TDT, has a line each time it comes. Every packet passes. The table_id of a PAT is 0, of a CAT 1, a PMT 2, a NIT 64, an SDT 66, a BAT 74, and of EITs 78 and 80 to 95, where they are of this network and stream. A text for inject and tstabcomp is such tables, joined by commas, between {\"#name\":\"tsduck\",\"#nodes\":[ and ]}.",
+        rule: "A table has its line at the packet that completes it, with that packet's position and PID, and another one only after a change of its version or of its last section number, and none after a change of its contents alone; a section of an EIT, or one of the short form as a TDT, has a line each time it comes. Every packet passes. The table_id of a PAT is 0, of a CAT 1, a PMT 2, a NIT 64, an SDT 66, a BAT 74, and of EITs 78 and 80 to 95, where they are of this network and stream. A text for inject and tstabcomp is such tables, joined by commas, between {\"#name\":\"tsduck\",\"#nodes\":[ and ]}.",
         options: &OPTIONS,
     }
 }

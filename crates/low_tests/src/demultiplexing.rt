@@ -76,7 +76,7 @@ fn section_over_two_packets(rt: HostRuntime) {
 
 /// Checks how many sections the table has that a section completes; `None` if it completes none.
 fn gives(rt: &impl Abort, assembly: &mut Assembly, section: Section, wanted: Option<usize>) {
-    let table = got(rt, assembly.add(section));
+    let table = got(rt, assembly.add(0, section));
     same(rt, table.map(|table| table.sections().len()), wanted);
 }
 

@@ -57,7 +57,7 @@ impl Services {
             → Serves self.new (history ++ Live packet.now labels ∷ []) mark) }
         ensures reserved { self.new.changes.capacity ≡ self.old.changes.capacity }
     {
-        if !self.force.update(packet)? {
+        if !self.force.update(at, packet)? {
             return Ok(());
         }
         let services = services_of(self.alloc, &self.force)?;

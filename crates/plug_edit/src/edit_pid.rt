@@ -3,7 +3,7 @@
 ghost use Rattle.std.specs.Prelude.{◌≡◌, ◌≤◌, [], None, IfOk};
 ghost use Rattle.plug_edit.specs.EditRule.{edit_rule};
 
-use plug_psi::{Editor, TableEdit, Unedited};
+use plug_psi::{Changes, Editor, TableEdit, Unedited};
 use plugin_trait::{Line, Outcome, Plugin, silent_report};
 use std::alloc::{AllocError, Global};
 use ts_packet::{Cell, NULL_PID};
@@ -40,6 +40,11 @@ impl<E: TableEdit + Drop> EditPid<E> {
     pub fn unedited(&self) -> Result<Option<Unedited>, AllocError> {
         self.editor.unedited(self.pid)
     }
+
+    /// Adds the PID, if a table changed there without a new version.
+    pub fn add_changes(&self, changes: &mut Changes) -> Result<(), AllocError> {
+        self.editor.add_changes(self.pid, changes)
+    }
 }
 
 impl<E: TableEdit + Drop> Plugin for EditPid<E> {
@@ -57,7 +62,7 @@ impl<E: TableEdit + Drop> Plugin for EditPid<E> {
 
     ghost silent = { λ _. true };
 
-    fn step(&mut self, _at: u64, cell: &mut Cell) -> Outcome {
+    fn step(&mut self, at: u64, cell: &mut Cell) -> Outcome {
         let Some(live) = cell.live_mut() else {
             return Outcome::Pass;
         };
@@ -67,7 +72,7 @@ impl<E: TableEdit + Drop> Plugin for EditPid<E> {
         if self.pid >= NULL_PID {
             return Outcome::Pass;
         }
-        match self.editor.step(&mut live.packet) {
+        match self.editor.step(at, &mut live.packet) {
             Ok(()) => Outcome::Pass,
             Err(_) => Outcome::NoMemory,
         }

@@ -5,7 +5,7 @@ ghost use Rattle.plug_info.specs.InfoRule.{info_rule};
 use crate::info_conf::InfoConf;
 use crate::met_cells::MetCells;
 use crate::report::push_report;
-use plug_psi::FailureLatch;
+use plug_psi::{Changes, FailureLatch};
 use plugin_trait::{Line, Outcome, Plugin};
 use std::alloc::{AllocError, Global};
 use ts_packet::Cell;
@@ -45,6 +45,11 @@ impl Info {
             failed: FailureLatch::unset(),
             alloc,
         })
+    }
+
+    /// Adds the PIDs on which tables changed without a new version. After `finish` it knows all cells before the cut.
+    pub fn add_changes(&self, changes: &mut Changes) -> Result<(), AllocError> {
+        self.met.tracker.add_changes(changes)
     }
 
     // Processes the next cell, unless memory ran out before.

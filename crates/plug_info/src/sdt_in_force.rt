@@ -5,6 +5,7 @@ ghost use Rattle.plug_psi.specs.LastFound.{newer};
 ghost use Rattle.plug_info.specs.SdtInForce.{current_sdt};
 ghost use Rattle.plug_info.specs.SdtStands.{actual_one};
 
+use plug_psi::Changes;
 use std::alloc::{AllocError, Global};
 use ts_demux::{PidTables, other_packets_complete_nothing, uncounted_packets_change_nothing};
 use ts_packet::Packet;
@@ -39,9 +40,9 @@ impl SdtInForce {
         })
     }
 
-    /// Takes the next packet, of any PID. After `AllocError` it is not to be used any more.
+    /// Takes the next packet, of any PID, which has a position. After `AllocError` it is not to be used any more.
     #[inline]
-    pub fn feed(&mut self, packet: &Packet) -> Result<(), AllocError>
+    pub fn feed(&mut self, at: u64, packet: &Packet) -> Result<(), AllocError>
         ensures { OnOk result ((fed : List (List ℕ)) → HasFedSdt self.old fed → HasFedSdt self.new (fed ++ packet.now ∷ [])) }
     {
         uncounted_packets_change_nothing();
@@ -50,9 +51,14 @@ impl SdtInForce {
         if packet.pid() != SDT_PID {
             return Ok(());
         }
-        let tables = self.tables.take(packet)?;
+        let tables = self.tables.take(at, packet)?;
         keep_sdts(self.alloc, &mut self.sdt, &tables)?;
         Ok(())
+    }
+
+    /// Adds the PID of the SDT, if a table changed there without a new version.
+    pub fn add_changes(&self, changes: &mut Changes) -> Result<(), AllocError> {
+        changes.add(SDT_PID, self.tables.changed())
     }
 }
 

@@ -4,7 +4,7 @@ use crate::extent::Extent;
 use crate::sdt_in_force::SdtInForce;
 use crate::spans::Spans;
 use crate::totals::Totals;
-use plug_psi::{InForce, both};
+use plug_psi::{Changes, InForce, both};
 use plugin_notes::LastPackets;
 use std::alloc::{AllocError, Global};
 use ts_packet::{Cell, Packet};
@@ -66,6 +66,12 @@ impl Tracker {
         }
     }
 
+    /// Adds the PIDs on which tables changed without a new version.
+    pub fn add_changes(&self, changes: &mut Changes) -> Result<(), AllocError> {
+        self.force.add_changes(changes)?;
+        self.sdt.add_changes(changes)
+    }
+
     // Counts the packet at a position.
     #[inline]
     fn take_packet(&mut self, at: u64, packet: &Packet) -> Result<(), AllocError>
@@ -83,8 +89,8 @@ impl Tracker {
         );
         self.extent = self.extent.with(at);
         self.spans.meet(at, packet)?;
-        self.force.feed(packet)?;
-        self.sdt.feed(packet)?;
+        self.force.feed(at, packet)?;
+        self.sdt.feed(at, packet)?;
         Ok(())
     }
 }

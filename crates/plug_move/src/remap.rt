@@ -10,6 +10,7 @@ ghost use Rattle.plug_move.specs.RemapState.{GoesOn, MapperStands};
 use crate::move_table::{Move, MoveTable};
 use crate::remap_conf::RemapConf;
 use crate::table_mapper::{TableMapper, move_to};
+use plug_psi::Changes;
 use plugin_trait::{Line, Outcome, Plugin, Reason, silent_report};
 use std::alloc::{AllocError, Global};
 use ts_packet::{Cell, PID_COUNT, Packet};
@@ -52,6 +53,14 @@ impl Remap {
     pub fn has_moved(&self) -> bool {
         self.moved
     }
+
+    /// Adds the PIDs whose tables are edited, if tables changed there without a new version.
+    pub fn add_changes(&self, changes: &mut Changes) -> Result<(), AllocError> {
+        match &self.tables {
+            Some(mapper) => mapper.add_changes(changes),
+            None => Ok(()),
+        }
+    }
 }
 
 impl Plugin for Remap {
@@ -68,17 +77,17 @@ impl Plugin for Remap {
     ghost silent = { λ _. true };
 
     #[inline]
-    fn step(&mut self, _at: u64, cell: &mut Cell) -> Outcome {
+    fn step(&mut self, at: u64, cell: &mut Cell) -> Outcome {
         let Some(live) = cell.live_mut() else {
             return Outcome::Pass;
         };
         let packet = &mut live.packet;
         let pid = packet.pid();
         match self.table.look_up(pid) {
-            Move::Keep => go_on(&mut self.tables, packet, None),
+            Move::Keep => go_on(&mut self.tables, at, packet, None),
             Move::To(target) => {
                 self.moved = true;
-                go_on(&mut self.tables, packet, Some(target))
+                go_on(&mut self.tables, at, packet, Some(target))
             }
             Move::Refuse => Outcome::Refuse(Reason::Pid(pid)),
         }
@@ -112,9 +121,14 @@ fn tables_of(alloc: Global, conf: &RemapConf) -> Result<Option<TableMapper>, All
     Ok(Some(mapper))
 }
 
-/// Edits and moves a packet that is not refused.
+/// Edits and moves the packet at a position, which is not refused.
 #[inline]
-fn go_on(tables: &mut Option<TableMapper>, packet: &mut Packet, target: Option<u16>) -> Outcome
+fn go_on(
+    tables: &mut Option<TableMapper>,
+    at: u64,
+    packet: &mut Packet,
+    target: Option<u16>,
+) -> Outcome
     requires { ForSome target (λ pid. pid < PID_COUNT) }
     ensures made { GoesOn tables.old tables.new target packet.old packet.new result }
     ensures same { is_none tables.new ≡ is_none tables.old }
@@ -123,7 +137,7 @@ fn go_on(tables: &mut Option<TableMapper>, packet: &mut Packet, target: Option<u
         move_to(packet, target);
         return Outcome::Pass;
     };
-    match mapper.step(packet, target) {
+    match mapper.step(at, packet, target) {
         Ok(()) => Outcome::Pass,
         Err(_) => Outcome::NoMemory,
     }

@@ -17,7 +17,7 @@ use crate::move_table::MoveTable;
 use crate::pid_edit::PidsOnTables;
 use plug_conf::PairList;
 use plug_psi::{
-    ByPid, CycleEditor, FailureLatch, Given, InForce, unfollowed_packets_change_nothing,
+    ByPid, Changes, CycleEditor, FailureLatch, Given, InForce, unfollowed_packets_change_nothing,
 };
 use std::alloc::{AllocError, Global};
 use std::sync::Arc;
@@ -69,10 +69,11 @@ impl TableMapper {
         })
     }
 
-    /// Processes the next packet, whose PID has this target or none: edits and moves it. After `AllocError` the packet is as
+    /// Processes the packet at a position, whose PID has this target or none: edits and moves it. After `AllocError` the packet is as
     /// it was, and every later call returns `AllocError`.
     pub(crate) fn step(
         &mut self,
+        at: u64,
         packet: &mut Packet,
         target: Option<u16>,
     ) -> Result<(), AllocError>
@@ -86,13 +87,24 @@ impl TableMapper {
         ensures stays_spent { has_failed self.old ≡ true → IsErr result }
     {
         self.failed.check()?;
-        let answer = self.advance(packet, target);
+        let answer = self.advance(at, packet, target);
         self.failed.note(answer)?;
         Ok(())
     }
 
+    /// Adds the PIDs of PAT, CAT and PMTs, if tables changed there without a new version.
+    pub(crate) fn add_changes(&self, changes: &mut Changes) -> Result<(), AllocError> {
+        self.force.add_changes(changes)?;
+        changes.add(CAT_PID, self.cats.changed())
+    }
+
     /// Processes the next packet, unless memory ran out before.
-    fn advance(&mut self, packet: &mut Packet, target: Option<u16>) -> Result<(), AllocError>
+    fn advance(
+        &mut self,
+        at: u64,
+        packet: &mut Packet,
+        target: Option<u16>,
+    ) -> Result<(), AllocError>
         requires { ForSome target (λ pid. pid < PID_COUNT) }
         ensures mapped { OnOk result ((pairs : List (ℕ × ℕ)) (met : List (List ℕ)) → StandsFor pairs self.old met
             → target ≡ target_of pairs (pid_of packet.old) → packet.new ≡ with_tables pairs met packet.old) }
@@ -103,12 +115,14 @@ impl TableMapper {
     {
         // A law, which runs nothing.
         unfollowed_packets_change_nothing::<PidEditor>();
-        let tables = tables_with(&mut self.force, &mut self.cats, packet)?;
+        let tables = tables_with(at, &mut self.force, &mut self.cats, packet)?;
         let Some(tables) = tables else {
             move_to(packet, target);
             return Ok(());
         };
-        let new = self.editors.take(self.alloc, &self.table, tables, packet)?;
+        let new = self
+            .editors
+            .take(self.alloc, at, &self.table, tables, packet)?;
         *packet = new;
         move_edited(packet, target);
         Ok(())
@@ -139,6 +153,7 @@ fn move_edited(packet: &mut Packet, target: Option<u16>)
 /// The tables that a packet completes on its PID, if the tables there are edited. Each is read once: the PATs and PMTs are
 /// those that the tables in force have read.
 fn tables_with(
+    at: u64,
     force: &mut InForce,
     cats: &mut PidTables,
     packet: &Packet,
@@ -150,13 +165,13 @@ fn tables_with(
         → MatchOption tables (is_edited (pid_of packet.now) (met ++ packet.now ∷ []) ≡ false) (λ tables. IsCompleted met packet.now tables.items)) }
     ensures in_range { IfOk result (λ tables. IfSome tables (λ _. pid_of packet.now < LAST_PID)) }
 {
-    force.update(packet)?;
+    force.update(at, packet)?;
     let pid = packet.pid();
     if pid == PAT_PID {
         return Ok(Some(force.take_pats()));
     }
     if pid == CAT_PID {
-        let tables = cats.take(packet)?;
+        let tables = cats.take(at, packet)?;
         return Ok(Some(tables));
     }
     if pid == NULL_PID {

@@ -1,5 +1,5 @@
 -- Tables in force, one packet more.
-use Rattle.std.proofs.Common.{◌≡◌, ℕ, ◌==◌, ◌||◌, Bool, true, false, List, [], ◌∷◌, ◌++◌, Option, Some, None, refl, sym, ◌∙◌, ap, subst}
+use Rattle.std.proofs.Common.{◌≡◌, ℕ, ◌==◌, ◌||◌, Bool, true, false, List, [], ◌∷◌, ◌++◌, Option, Some, None, refl, sym, ◌∙◌, ap, subst, true≢false}
 use Rattle.std.specs.Prelude.{nat_eq, option_map}
 use Rattle.std.proofs.lemmas.Bool.{eqb-true}
 use Rattle.ts_packet.specs.Header.{pid_of}
@@ -10,7 +10,7 @@ use Rattle.ts_psi.specs.PatTables.{pat_held}
 use Rattle.ts_psi.specs.declared.pat.Pat.{Pat}
 use Rattle.ts_table_rows.specs.TableValues.{TableHolding}
 use Rattle.plug_psi.specs.LastFound.{last_found}
-use Rattle.plug_psi.specs.InForce.{current_pat, current_pmt, follows, is_named, pat_of, pmt_on, pmt_of, pmt_at, pid_for}
+use Rattle.plug_psi.specs.InForce.{current_pat, current_pmt, follows, is_named, may_have_tables, pat_of, pmt_on, pmt_of, pmt_at, pid_for}
 use Rattle.plug_psi.specs.ForceState.{HasPat}
 use Rattle.plug_psi.specs.KeptTables.{KeepsPat, TellsFound}
 use Rattle.plug_psi.specs.SameForce.{SameInForce}
@@ -39,6 +39,18 @@ pub flag-is : (zero : Reading (Option Pat)) (fed : List (List ℕ)) (p : List �
     HasPat zero (fed ++ p ∷ []) → pid ≡ pid_of p → is_named (option_map pat_held zero.follower) pid ≡ b → follows (pid_of p) (fed ++ p ∷ []) ≡ b
 flag-is zero fed p pid b h at flag =
     ap (is_named (pat_of (fed ++ p ∷ []))) (sym at) ∙ ap (λ pat. is_named pat pid) (sym (pat-kept zero (fed ++ p ∷ []) h)) ∙ flag
+
+-- whether tables may come with a packet on a PID, by the PAT that is kept
+may-come : (zero : Reading (Option Pat)) (fed : List (List ℕ)) (p : List ℕ) (pid : ℕ) → HasPat zero fed → pid ≡ pid_of p →
+    ((pid == 0) || is_named (option_map pat_held zero.follower) pid) ≡ may_have_tables (pid_of p) fed
+may-come zero fed p pid h at =
+    ap (λ n. (n == 0) || is_named (option_map pat_held zero.follower) n) at
+    ∙ ap (λ pat. (pid_of p == 0) || is_named pat (pid_of p)) (pat-kept zero fed h)
+
+-- where they may, the PID is not one without tables
+pub none-comes : (zero : Reading (Option Pat)) (fed : List (List ℕ)) (p : List ℕ) (pid : ℕ) → HasPat zero fed → pid ≡ pid_of p →
+    ((pid == 0) || is_named (option_map pat_held zero.follower) pid) ≡ true → may_have_tables (pid_of p) fed ≡ false → ⊥
+none-comes zero fed p pid h at some none = true≢false (sym some ∙ may-come zero fed p pid h at ∙ none)
 
 -- a packet on a PID on which no table counts: it is not 0, and it is not followed
 pub record Unread (zero : Reading (Option Pat)) (fed : List (List ℕ)) (p : List ℕ) : Type 0 where

@@ -1,7 +1,7 @@
 -- The PAT in force, and the PMT in force of a service.
 -- ISO/IEC 13818-1, 2.4.4.3 and 2.4.4.8: the PAT on PID 0 names the PID of the PMT of each service. Which packets are
 -- taken, and which table counts, is this project's own rule.
-use Rattle.std.specs.Prelude.{ℕ, ◌==◌, Bool, not, ◌&&◌, List, [], drop, Option, Some, None, if◌then◌else◌}
+use Rattle.std.specs.Prelude.{ℕ, ◌==◌, Bool, not, ◌&&◌, ◌||◌, List, [], drop, Option, Some, None, if◌then◌else◌}
 use Rattle.std.specs.List.{filter_map, list_any}
 use Rattle.std.specs.Map.{lookup}
 use Rattle.ts_packet.specs.declared.numbers.TheConstants.{NULL_PID}
@@ -53,6 +53,11 @@ is_named pat pid = names pat pid && not (pid == NULL_PID)
 -- which this holds are those that are taken on it.
 abbrev pub follows : ℕ → List (List ℕ) → Bool
 follows pid packets = is_named (pat_of packets) pid
+
+-- Whether tables in force may come with a packet on a PID, after some packets of any PID: the PATs come on PID 0, and PMTs on
+-- the PIDs that are followed.
+abbrev pub may_have_tables : ℕ → List (List ℕ) → Bool
+may_have_tables pid packets = (pid == 0) || follows pid packets
 
 -- a PMT, if it is of the service
 abbrev pub of_service : ℕ → Option TableHolding → Option TableHolding

@@ -9,7 +9,7 @@ use Rattle.ts_packet.specs.declared.numbers.TheConstants.{NULL_PID}
 use Rattle.ts_table_rows.specs.TableValues.{ItemHolding, TableHolding}
 use Rattle.plug_psi.specs.NumbersHeld.{number_at}
 use Rattle.plug_psi.specs.ServicePids.{ca_pids, has_pid, pids_of}
-use Rattle.plug_psi.specs.InForce.{pat_of, pmt_of, services_in}
+use Rattle.plug_psi.specs.InForce.{may_have_tables, pat_of, pmt_of, services_in}
 use Rattle.plug_psi.specs.CatInForce.{cat_of}
 
 -- the PID of an entry of a PAT, which comes after its program_number; for program_number 0 it is the network PID
@@ -42,6 +42,11 @@ named_pids pat pmts cat = entry_pids pat ++ (service_pids pat pmts ++ cat_pids c
 unfoldable pub named_in : List (List ℕ) → ℕ → Bool
 named_in packets pid =
     has_pid (named_pids (pat_of packets) (λ service. pmt_of service packets) (cat_of packets)) pid
+
+-- Whether a table that names PIDs may come with a packet on a PID, after some packets of any PID: a CAT on PID 1, or a PAT or a
+-- PMT.
+abbrev pub may_name_pids : ℕ → List (List ℕ) → Bool
+may_name_pids pid packets = (pid == 1) || may_have_tables pid packets
 
 -- whether a PID is referred to, whatever tables are in force
 abbrev pub is_fixed : ℕ → Bool

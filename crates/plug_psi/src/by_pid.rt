@@ -5,6 +5,7 @@ ghost use Rattle.indexmap.specs.IndexMap.{get};
 ghost use Rattle.ts_packet.specs.Header.{pid_of};
 ghost use Rattle.plug_psi.specs.Entries.{EntryStands};
 
+use crate::changes::{Changes, SeesChanges};
 use crate::follows::Follows;
 use indexmap::IndexMap;
 use std::alloc::{AllocError, Global};
@@ -41,6 +42,7 @@ impl<T: Follows> ByPid<T> {
     pub fn take(
         &mut self,
         alloc: Global,
+        at: u64,
         seed: &T::Seed,
         input: T::Input,
         packet: &Packet,
@@ -55,7 +57,7 @@ impl<T: Follows> ByPid<T> {
             → T.tells seed.now (pid_of packet.now) (taken_on follows (pid_of packet.now) met) packet.now told) }
     {
         let pid = packet.pid();
-        let told = take_on(alloc, &mut self.entries, seed, pid, input, packet)?;
+        let told = take_on(alloc, at, &mut self.entries, seed, pid, input, packet)?;
         Ok(told)
     }
 
@@ -68,9 +70,22 @@ impl<T: Follows> ByPid<T> {
     }
 }
 
+impl<T: Follows + SeesChanges> ByPid<T> {
+    /// Adds the PIDs on which tables changed without a new version.
+    pub fn add_changes(&self, changes: &mut Changes) -> Result<(), AllocError> {
+        for i in 0..self.entries.len() {
+            if let Some((pid, entry)) = self.entries.get_index(i) {
+                changes.add(*pid, entry.changed())?;
+            }
+        }
+        Ok(())
+    }
+}
+
 /// Passes a packet to what follows its PID. This is created if nothing follows the PID yet.
 fn take_on<T: Follows>(
     alloc: Global,
+    at: u64,
     entries: &mut IndexMap<u16, T>,
     seed: &T::Seed,
     pid: u16,
@@ -85,14 +100,15 @@ fn take_on<T: Follows>(
     ensures others { OnOk result ((other : ℕ) → nat_eq pid other ≡ false → get nat_eq entries.new other ≡ get nat_eq entries.old other) }
 {
     match entries.get_mut(&pid) {
-        Some(entry) => entry.take(alloc, input, packet),
-        None => take_first(alloc, entries, seed, pid, input, packet),
+        Some(entry) => entry.take(alloc, at, input, packet),
+        None => take_first(alloc, at, entries, seed, pid, input, packet),
     }
 }
 
 /// Creates what follows a PID, and passes the first packet to it.
 fn take_first<T: Follows>(
     alloc: Global,
+    at: u64,
     entries: &mut IndexMap<u16, T>,
     seed: &T::Seed,
     pid: u16,
@@ -106,7 +122,7 @@ fn take_first<T: Follows>(
     ensures others { OnOk result ((other : ℕ) → nat_eq pid other ≡ false → get nat_eq entries.new other ≡ get nat_eq entries.old other) }
 {
     let mut entry = T::fresh(alloc, seed, pid)?;
-    let told = entry.take(alloc, input, packet)?;
+    let told = entry.take(alloc, at, input, packet)?;
     entries.insert(pid, entry)?;
     Ok(told)
 }

@@ -3,6 +3,7 @@
 ghost use Rattle.std.specs.Prelude.{◌≡◌, ℕ, ◌<◌, ◌++◌, ◌∷◌, [], List, true, IfOk, OnOk, OnErr, IsErr};
 ghost use Rattle.plug_psi.specs.EditedCycles.{replaced};
 
+use crate::changes::Changes;
 use crate::cycle_editor::CycleEditor;
 use crate::edit::TableEdit;
 use crate::unedited::Unedited;
@@ -42,10 +43,10 @@ impl<E: TableEdit + Drop> Editor<E> {
         })
     }
 
-    /// Processes the next packet, and puts in its place the next packet of the cycle that runs, with its counter, or a
+    /// Processes the next packet, which has a position, and puts in its place the next packet of the cycle that runs, with its counter, or a
     /// null packet if a cycle would begin and there is nothing to carry. The caller passes the packets that are taken
     /// and no others. After `AllocError` the packet is as it was, and every later call returns `AllocError`.
-    pub fn step(&mut self, packet: &mut Packet) -> Result<(), AllocError>
+    pub fn step(&mut self, at: u64, packet: &mut Packet) -> Result<(), AllocError>
         ensures replaced { OnOk result ((pid : ℕ) (taken : List (List ℕ)) → StandsFor (E.change (edit_of self.old)) self.old pid taken
             → packet.new ≡ replaced pid (E.change (edit_of self.old)) taken packet.old) }
         ensures stands { OnOk result ((pid : ℕ) (taken : List (List ℕ)) → StandsFor (E.change (edit_of self.old)) self.old pid taken
@@ -56,7 +57,7 @@ impl<E: TableEdit + Drop> Editor<E> {
         ensures stays_spent { has_failed self.old ≡ true → IsErr result }
     {
         self.failed.check()?;
-        let answer = self.advance(packet);
+        let answer = self.advance(at, packet);
         let new = self.failed.note(answer)?;
         *packet = new;
         Ok(())
@@ -67,8 +68,13 @@ impl<E: TableEdit + Drop> Editor<E> {
         self.inner.unedited(self.alloc, pid)
     }
 
+    /// Adds this PID, if a table changed there without a new version.
+    pub fn add_changes(&self, pid: u16, changes: &mut Changes) -> Result<(), AllocError> {
+        changes.add(pid, self.tables.changed())
+    }
+
     /// Processes the next packet, and returns the one for its place.
-    fn advance(&mut self, packet: &Packet) -> Result<Packet, AllocError>
+    fn advance(&mut self, at: u64, packet: &Packet) -> Result<Packet, AllocError>
         ensures replaced { IfOk result (λ new. (pid : ℕ) (taken : List (List ℕ))
             → StandsFor (E.change (edit_of self.old)) self.old pid taken
             → new ≡ replaced pid (E.change (edit_of self.old)) taken packet.now) }
@@ -77,7 +83,7 @@ impl<E: TableEdit + Drop> Editor<E> {
         ensures same_edit { edit_of self.new ≡ edit_of self.old }
         ensures same_failed { has_failed self.new ≡ has_failed self.old }
     {
-        let tables = self.tables.take(packet)?;
+        let tables = self.tables.take(at, packet)?;
         let new = self.inner.advance(self.alloc, tables, packet)?;
         Ok(new)
     }

@@ -28,10 +28,11 @@ pub trait Follows: Drop {
         requires { pid < NULL_PID }
         ensures { IfOk result (λ it. stands seed.now it pid []) };
 
-    /// Processes the next packet of its PID. After `AllocError` it is not to be used any more.
+    /// Processes the next packet of its PID, which has a position. After `AllocError` it is not to be used any more.
     fn take(
         &mut self,
         alloc: Global,
+        at: u64,
         input: Self::Input,
         packet: &Packet,
     ) -> Result<Self::Told, AllocError>

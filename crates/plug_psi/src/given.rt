@@ -38,6 +38,7 @@ impl<T: FollowsTables> Follows for Given<T> {
     fn take(
         &mut self,
         alloc: Global,
+        _at: u64,
         input: Vec<TableRun>,
         packet: &Packet,
     ) -> Result<T::Told, AllocError> {

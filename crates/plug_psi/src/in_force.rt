@@ -1,6 +1,6 @@
 //! The tables in force.
 
-ghost use Rattle.std.specs.Prelude.{◌≡◌, ℕ, ◌<◌, ◌==◌, ◌++◌, ◌∷◌, ◌&&◌, ◌||◌, [], List, None, true, false, not, IfOk, OnOk, OnErr, IsErr, option_map};
+ghost use Rattle.std.specs.Prelude.{◌≡◌, ℕ, ◌<◌, ◌==◌, ◌++◌, ◌∷◌, ◌&&◌, ◌||◌, [], List, None, Ok, true, false, not, IfOk, OnOk, OnErr, IsErr, IsOk, option_map};
 ghost use Rattle.std.specs.Option.{option_copied};
 ghost use Rattle.ts_psi.specs.PatTables.{pat_held};
 ghost use Rattle.ts_psi.specs.PsiTables.{pmt_held};
@@ -11,6 +11,7 @@ ghost use Rattle.plug_psi.specs.ForceState.{HasPat, HavePmts};
 ghost use Rattle.plug_psi.specs.SameForce.{SameInForce};
 
 use crate::by_pid::ByPid;
+use crate::changes::Changes;
 use crate::current_pat::CurrentPat;
 use crate::cycle_editor::one_holds;
 use crate::follow_laws::unfollowed_packets_change_nothing;
@@ -52,7 +53,7 @@ impl InForce {
     ghost use Rattle.ts_demux.specs.TablesOn.{Completes, packets_on};
     ghost use Rattle.ts_demux.specs.TakenWhere.{taken_on};
     ghost use Rattle.plug_psi.specs.ForceStands.{StandsFor, has_failed, pats_in, pmts_in};
-    ghost use Rattle.plug_psi.specs.InForce.{follows};
+    ghost use Rattle.plug_psi.specs.InForce.{follows, may_have_tables};
 
     /// Nothing is in force before a packet was fed.
     pub fn new(alloc: Global) -> Result<InForce, AllocError>
@@ -68,23 +69,26 @@ impl InForce {
         })
     }
 
-    /// Processes the next packet, of any PID. After `AllocError` every later call returns `AllocError`.
-    pub fn feed(&mut self, packet: &Packet) -> Result<(), AllocError>
+    /// Processes the next packet, of any PID, which has a position. After `AllocError` every later call returns
+    /// `AllocError`.
+    pub fn feed(&mut self, at: u64, packet: &Packet) -> Result<(), AllocError>
         ensures stands { OnOk result ((fed : List (List ℕ)) → StandsFor self.old fed → StandsFor self.new (fed ++ packet.now ∷ [])) }
+        ensures quiet { (fed : List (List ℕ)) → StandsFor self.old fed → may_have_tables (pid_of packet.now) fed ≡ false → IsOk result }
         ensures spent { OnErr result (has_failed self.new ≡ true) }
         ensures stays_spent { has_failed self.old ≡ true → IsErr result }
     {
-        self.update(packet)?;
+        self.update(at, packet)?;
         Ok(())
     }
 
     /// Processes the next packet as `feed` does. If the result is `false`, the same PAT and PMTs are in force as before;
     /// `true` says that a PAT or a PMT may have come into force with it, so what was made from them has to be made again.
+    /// A packet on a PID that is not followed wants no memory, and neither brings a table.
     ///
     /// The tables that it completes on PID 0, or on a PID whose packets are taken, are returned by `take_pats` and
     /// `take_pmts`. So a caller that needs these tables too does not read them again.
     #[inline]
-    pub fn update(&mut self, packet: &Packet) -> Result<bool, AllocError>
+    pub fn update(&mut self, at: u64, packet: &Packet) -> Result<bool, AllocError>
         ensures stands { OnOk result ((fed : List (List ℕ)) → StandsFor self.old fed → StandsFor self.new (fed ++ packet.now ∷ [])) }
         ensures same { IfOk result (λ came. came ≡ false → (fed : List (List ℕ)) → StandsFor self.old fed → SameInForce fed packet.now) }
         ensures pats { OnOk result ((fed : List (List ℕ)) → StandsFor self.old fed → pid_of packet.now ≡ 0
@@ -92,6 +96,7 @@ impl InForce {
         ensures pmts { OnOk result ((fed : List (List ℕ)) → StandsFor self.old fed
             → follows (pid_of packet.now) (fed ++ packet.now ∷ []) ≡ true
             → Completes (pid_of packet.now) (taken_on follows (pid_of packet.now) fed) packet.now (pmts_in self.new)) }
+        ensures quiet { (fed : List (List ℕ)) → StandsFor self.old fed → may_have_tables (pid_of packet.now) fed ≡ false → result ≡ Ok false }
         ensures spent { OnErr result (has_failed self.new ≡ true) }
         ensures stays_spent { has_failed self.old ≡ true → IsErr result }
     {
@@ -103,7 +108,7 @@ impl InForce {
         if !may_have_tables(&self.zero, pid) {
             return Ok(false);
         }
-        let answer = self.read(packet);
+        let answer = self.read(at, packet);
         let came = self.failed.note(answer)?;
         Ok(came)
     }
@@ -156,9 +161,15 @@ impl InForce {
         }
     }
 
+    /// Adds the PIDs on which tables changed without a new version, of PID 0 and those whose packets were taken.
+    pub fn add_changes(&self, changes: &mut Changes) -> Result<(), AllocError> {
+        changes.add(PAT_PID, self.zero.tables.changed())?;
+        self.pids.add_changes(changes)
+    }
+
     /// Processes the next packet, whose PID may have tables, unless memory ran out before.
     #[inline(never)]
-    fn read(&mut self, packet: &Packet) -> Result<bool, AllocError>
+    fn read(&mut self, at: u64, packet: &Packet) -> Result<bool, AllocError>
         ensures stands { OnOk result ((fed : List (List ℕ)) → StandsFor self.old fed → StandsFor self.new (fed ++ packet.now ∷ [])) }
         ensures same { IfOk result (λ came. came ≡ false → (fed : List (List ℕ)) → StandsFor self.old fed → SameInForce fed packet.now) }
         ensures pats { OnOk result ((fed : List (List ℕ)) → StandsFor self.old fed → pid_of packet.now ≡ 0
@@ -170,12 +181,12 @@ impl InForce {
     {
         // A law, which runs nothing.
         unfollowed_packets_change_nothing::<Reading<KeptPmts>>();
-        let pat_came = take_first(self.alloc, &mut self.zero, &mut self.pats, packet)?;
+        let pat_came = take_first(self.alloc, at, &mut self.zero, &mut self.pats, packet)?;
         let pid = packet.pid();
         if !is_followed(&self.zero, pid) {
             return Ok(pat_came);
         }
-        let kept = self.pids.take(self.alloc, &(), (), packet)?;
+        let kept = self.pids.take(self.alloc, at, &(), (), packet)?;
         self.pmts = kept.tables;
         Ok(one_holds(pat_came, kept.came))
     }
@@ -193,6 +204,7 @@ fn may_have_tables(zero: &Reading<CurrentPat>, pid: u16) -> bool
 /// completes replace those of the packet before. A packet on another PID changes nothing.
 fn take_first(
     alloc: Global,
+    at: u64,
     zero: &mut Reading<CurrentPat>,
     pats: &mut Vec<TableRun>,
     packet: &Packet,
@@ -206,7 +218,7 @@ fn take_first(
     if packet.pid() != PAT_PID {
         return Ok(false);
     }
-    let kept = zero.take(alloc, (), packet)?;
+    let kept = zero.take(alloc, at, (), packet)?;
     *pats = kept.tables;
     Ok(kept.came)
 }

@@ -7,6 +7,7 @@
 
 mod by_pid;
 mod cat_as_table;
+mod changes;
 mod contents;
 mod current_pat;
 mod current_table;
@@ -44,6 +45,7 @@ mod written;
 mod written_table;
 
 pub use by_pid::ByPid;
+pub use changes::{ChangedOn, Changes, SeesChanges};
 pub use current_table::read_current;
 pub use cycle_editor::CycleEditor;
 pub use edit::{Edited, TableEdit};

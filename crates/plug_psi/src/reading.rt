@@ -37,8 +37,14 @@ impl<T: FollowsTables> Follows for Reading<T> {
         Ok(Reading { tables, follower })
     }
 
-    fn take(&mut self, alloc: Global, _input: (), packet: &Packet) -> Result<T::Told, AllocError> {
-        let tables = self.tables.take(packet)?;
+    fn take(
+        &mut self,
+        alloc: Global,
+        at: u64,
+        _input: (),
+        packet: &Packet,
+    ) -> Result<T::Told, AllocError> {
+        let tables = self.tables.take(at, packet)?;
         let told = self.follower.take(alloc, tables, packet)?;
         Ok(told)
     }

@@ -1,6 +1,6 @@
 //! The PIDs that are referred to.
 
-ghost use Rattle.std.specs.Prelude.{◌≡◌, ℕ, ◌<◌, ◌++◌, ◌∷◌, [], List, true, false, IfOk, OnOk, OnErr, IsErr, option_map};
+ghost use Rattle.std.specs.Prelude.{◌≡◌, ℕ, ◌<◌, ◌==◌, ◌++◌, ◌∷◌, [], List, Ok, true, false, IfOk, OnOk, OnErr, IsErr, IsOk, option_map};
 ghost use Rattle.std.specs.Option.{option_copied};
 ghost use Rattle.ts_psi.specs.CatTables.{cat_held};
 ghost use Rattle.plug_psi.specs.CatInForce.{cat_of};
@@ -50,6 +50,7 @@ pub struct Referred {
 }
 
 impl Referred {
+    ghost use Rattle.plug_psi.specs.Referred.{may_name_pids};
     ghost use Rattle.plug_psi.specs.ReferredStands.{StandsFor, has_failed};
 
     /// No table is in force before a packet was fed.
@@ -69,15 +70,17 @@ impl Referred {
         })
     }
 
-    /// Processes the next packet, of any PID. After `AllocError` every later call returns `AllocError`.
+    /// Processes the next packet, of any PID, which has a position. A packet on a PID without a table that names PIDs wants no
+    /// memory. After `AllocError` every later call returns `AllocError`.
     #[inline]
-    pub fn feed(&mut self, packet: &Packet) -> Result<(), AllocError>
+    pub fn feed(&mut self, at: u64, packet: &Packet) -> Result<(), AllocError>
         ensures stands { OnOk result ((fed : List (List ℕ)) → StandsFor self.old fed → StandsFor self.new (fed ++ packet.now ∷ [])) }
+        ensures quiet { (fed : List (List ℕ)) → StandsFor self.old fed → may_name_pids (pid_of packet.now) fed ≡ false → IsOk result }
         ensures spent { OnErr result (has_failed self.new ≡ true) }
         ensures stays_spent { has_failed self.old ≡ true → IsErr result }
     {
         self.failed.check()?;
-        let answer = self.take(packet);
+        let answer = self.take(at, packet);
         self.failed.note(answer)?;
         Ok(())
     }
@@ -107,12 +110,13 @@ impl Referred {
 
     /// Processes the next packet, unless memory ran out before.
     #[inline]
-    fn take(&mut self, packet: &Packet) -> Result<(), AllocError>
+    fn take(&mut self, at: u64, packet: &Packet) -> Result<(), AllocError>
         ensures stands { OnOk result ((fed : List (List ℕ)) → StandsFor self.old fed → StandsFor self.new (fed ++ packet.now ∷ [])) }
+        ensures quiet { (fed : List (List ℕ)) → StandsFor self.old fed → may_name_pids (pid_of packet.now) fed ≡ false → IsOk result }
         ensures same_failed { has_failed self.new ≡ has_failed self.old }
     {
-        let psi_came = self.force.update(packet)?;
-        let cat_came = take_cats(self.alloc, &mut self.one, packet)?;
+        let psi_came = self.force.update(at, packet)?;
+        let cat_came = take_cats(self.alloc, at, &mut self.one, packet)?;
         let came = one_holds(psi_came, cat_came);
         renew_where(self.alloc, &self.force, &self.one, &mut self.flags, came)?;
         Ok(())
@@ -121,27 +125,38 @@ impl Referred {
 
 /// Passes a packet on PID 1 to the reader of that PID, and returns whether a CAT was kept.
 #[inline]
-fn take_cats(alloc: Global, one: &mut Reading<KeptCat>, packet: &Packet) -> Result<bool, AllocError>
+fn take_cats(
+    alloc: Global,
+    at: u64,
+    one: &mut Reading<KeptCat>,
+    packet: &Packet,
+) -> Result<bool, AllocError>
     ensures stands { OnOk result ((fed : List (List ℕ)) → HasCat one.old fed → HasCat one.new (fed ++ packet.now ∷ [])) }
     ensures same { IfOk result (λ came. came ≡ false → (fed : List (List ℕ)) → HasCat one.old fed
         → cat_of (fed ++ packet.now ∷ []) ≡ cat_of fed) }
+    ensures quiet { (pid_of packet.now == 1) ≡ false → result ≡ Ok false }
 {
     if packet.pid() != CAT_PID {
         return Ok(false);
     }
-    let came = read_cats(alloc, one, packet)?;
+    let came = read_cats(alloc, at, one, packet)?;
     Ok(came)
 }
 
 /// The same for a packet that is on PID 1.
 #[inline(never)]
-fn read_cats(alloc: Global, one: &mut Reading<KeptCat>, packet: &Packet) -> Result<bool, AllocError>
+fn read_cats(
+    alloc: Global,
+    at: u64,
+    one: &mut Reading<KeptCat>,
+    packet: &Packet,
+) -> Result<bool, AllocError>
     requires { pid_of packet.now ≡ 1 }
     ensures stands { OnOk result ((fed : List (List ℕ)) → HasCat one.old fed → HasCat one.new (fed ++ packet.now ∷ [])) }
     ensures same { IfOk result (λ came. came ≡ false → (fed : List (List ℕ)) → HasCat one.old fed
         → cat_of (fed ++ packet.now ∷ []) ≡ cat_of fed) }
 {
-    let kept = one.take(alloc, (), packet)?;
+    let kept = one.take(alloc, at, (), packet)?;
     Ok(kept.came)
 }
 
@@ -162,10 +177,11 @@ fn renew_where(
     flags: &mut PidRow<bool>,
     came: bool,
 ) -> Result<(), AllocError>
-    ensures { OnOk result ((fed : List (List ℕ)) (packet : List ℕ) → Forced force.now (fed ++ packet ∷ [])
+    ensures stands { OnOk result ((fed : List (List ℕ)) (packet : List ℕ) → Forced force.now (fed ++ packet ∷ [])
         → HasCat one.now (fed ++ packet ∷ [])
         → (came ≡ false → named_in (fed ++ packet ∷ []) ≡ named_in fed)
         → AreFlags flags.old (named_in fed) → AreFlags flags.new (named_in (fed ++ packet ∷ []))) }
+    ensures quiet { came ≡ false → IsOk result }
 {
     if !came {
         return Ok(());

@@ -16,7 +16,8 @@ use crate::pmt_alone::PmtAlone;
 use crate::sdt_part::SdtPart;
 use crate::way::Way;
 use plug_psi::{
-    ByPid, CycleEditor, Follows, FollowsTables, InForce, Reading, unfollowed_packets_change_nothing,
+    ByPid, Changes, CycleEditor, Follows, FollowsTables, InForce, Reading, SeesChanges,
+    unfollowed_packets_change_nothing,
 };
 use std::alloc::{AllocError, Global};
 use ts_packet::Packet;
@@ -54,12 +55,19 @@ impl Editors {
         })
     }
 
-    /// Edits a packet in place by its fate, and returns whether a packet passes. A packet that passes as it came in is not
+    /// Adds the PIDs whose tables are read here, if tables changed there without a new version.
+    pub(crate) fn add_changes(&self, changes: &mut Changes) -> Result<(), AllocError> {
+        changes.add(SDT_PID, self.sdt.changed())?;
+        self.pmts.add_changes(changes)
+    }
+
+    /// Edits the packet at a position in place by its fate, and returns whether a packet passes. A packet that passes as it came in is not
     /// touched. The tables on PID 0 are those that the tables in force have read. After `AllocError` the packet is as it was.
     #[inline]
     pub(crate) fn edit(
         &mut self,
         alloc: Global,
+        at: u64,
         fate: Fate,
         force: &mut InForce,
         packet: &mut Packet,
@@ -86,12 +94,12 @@ impl Editors {
                 Ok(true)
             }
             Fate::EditSdt => {
-                let sdt = self.sdt.take(alloc, (), packet)?;
+                let sdt = self.sdt.take(alloc, at, (), packet)?;
                 *packet = sdt;
                 Ok(true)
             }
             Fate::EditPmt => {
-                let pmt = self.pmts.take(alloc, &self.alone, (), packet)?;
+                let pmt = self.pmts.take(alloc, at, &self.alone, (), packet)?;
                 *packet = pmt;
                 Ok(true)
             }

@@ -10,7 +10,7 @@ ghost use Rattle.plug_service.specs.EditorsState.{left_by};
 use crate::editors::Editors;
 use crate::service_follower::ServiceFollower;
 use crate::way::Way;
-use plug_psi::{FailureLatch, Unedited, both, pid_of_service};
+use plug_psi::{Changes, FailureLatch, Unedited, both, pid_of_service};
 use plugin_trait::Outcome;
 use std::alloc::{AllocError, Global};
 use ts_packet::{Cell, Packet};
@@ -58,9 +58,9 @@ impl OneService {
         })
     }
 
-    /// Processes the next cell, and leaves the result in it.
+    /// Processes the next cell, which has a position, and leaves the result in it.
     #[inline]
-    pub(crate) fn step(&mut self, cell: &mut Cell) -> Outcome
+    pub(crate) fn step(&mut self, at: u64, cell: &mut Cell) -> Outcome
         ensures tells { (history : List PlacedCell) → StandsFor self.old (live_packets history)
             → StepTells (rule_of self.old) history cell.old result cell.new }
         ensures meets { (history : List PlacedCell) → StandsFor self.old (live_packets history)
@@ -73,7 +73,7 @@ impl OneService {
         let Some(live) = cell.live_mut() else {
             return Outcome::Pass;
         };
-        match self.take(&mut live.packet) {
+        match self.take(at, &mut live.packet) {
             Ok(true) => Outcome::Pass,
             Ok(false) => {
                 if self.stuffing {
@@ -102,10 +102,16 @@ impl OneService {
         }
     }
 
+    /// Adds the PIDs on which tables changed without a new version.
+    pub(crate) fn add_changes(&self, changes: &mut Changes) -> Result<(), AllocError> {
+        self.follower.force.add_changes(changes)?;
+        self.editors.add_changes(changes)
+    }
+
     /// Processes the next packet, edits it in place, and returns whether a packet passes. After `AllocError` the packet is
     /// as it was, and every later call returns `AllocError`.
     #[inline]
-    fn take(&mut self, packet: &mut Packet) -> Result<bool, AllocError>
+    fn take(&mut self, at: u64, packet: &mut Packet) -> Result<bool, AllocError>
         ensures made { IfOk result (λ passes. (met : List (List ℕ)) → StandsFor self.old met
             → left_by passes packet.new ≡ made_of self.old.way self.old.service met packet.old) }
         ensures stands { OnOk result ((met : List (List ℕ)) → StandsFor self.old met → StandsFor self.new (met ++ packet.old ∷ [])) }
@@ -116,14 +122,14 @@ impl OneService {
         ensures stuffing { self.new.stuffing ≡ self.old.stuffing }
     {
         self.failed.check()?;
-        let answer = self.advance(packet);
+        let answer = self.advance(at, packet);
         let passes = self.failed.note(answer)?;
         Ok(passes)
     }
 
     /// Processes the next packet, unless memory ran out before. After `AllocError` the packet is as it was.
     #[inline]
-    fn advance(&mut self, packet: &mut Packet) -> Result<bool, AllocError>
+    fn advance(&mut self, at: u64, packet: &mut Packet) -> Result<bool, AllocError>
         ensures made { IfOk result (λ passes. (way : Way) (service : ℕ) (met : List (List ℕ)) → Served way service self.old met
             → left_by passes packet.new ≡ made_of way service met packet.old) }
         ensures stands { OnOk result ((way : Way) (service : ℕ) (met : List (List ℕ)) → Served way service self.old met
@@ -134,9 +140,9 @@ impl OneService {
         ensures stuffing { self.new.stuffing ≡ self.old.stuffing }
         ensures failed { self.new.failed ≡ self.old.failed }
     {
-        let fate = self.follower.meet(self.alloc, packet)?;
+        let fate = self.follower.meet(self.alloc, at, packet)?;
         let force = &mut self.follower.force;
-        let passes = self.editors.edit(self.alloc, fate, force, packet)?;
+        let passes = self.editors.edit(self.alloc, at, fate, force, packet)?;
         Ok(passes)
     }
 }

@@ -37,9 +37,14 @@ impl ServiceFollower {
         Ok(ServiceFollower { force, fates })
     }
 
-    /// Processes the next packet, of any PID, and returns its fate.
+    /// Processes the next packet, of any PID, which has a position, and returns its fate.
     #[inline]
-    pub(crate) fn meet(&mut self, alloc: Global, packet: &Packet) -> Result<Fate, AllocError>
+    pub(crate) fn meet(
+        &mut self,
+        alloc: Global,
+        at: u64,
+        packet: &Packet,
+    ) -> Result<Fate, AllocError>
         ensures stands { OnOk result ((way : Way) (service : ℕ) (met : List (List ℕ)) → FollowsService way service self.old met
             → FollowsService way service self.new (met ++ packet.now ∷ [])) }
         ensures tells { IfOk result (λ fate. (way : Way) (service : ℕ) (met : List (List ℕ)) → FollowsService way service self.old met
@@ -48,7 +53,7 @@ impl ServiceFollower {
             → pid_of packet.now ≡ 0 → Completes 0 (packets_on 0 met) packet.now (pats_in self.new.force)) }
         ensures editable { IfOk result (λ fate. IsEditable fate (pid_of packet.now)) }
     {
-        let came = self.force.update(packet)?;
+        let came = self.force.update(at, packet)?;
         renew_where(alloc, &self.force, &mut self.fates, came)?;
         Ok(self.fates.fate(packet.pid()))
     }

@@ -6,7 +6,7 @@ ghost use Rattle.plug_service.specs.ServiceRule.{svremove_rule};
 use crate::one_service::OneService;
 use crate::service_conf::ServiceConf;
 use crate::way::Way;
-use plug_psi::Unedited;
+use plug_psi::{Changes, Unedited};
 use plugin_trait::{Line, Outcome, Plugin, silent_report};
 use std::alloc::{AllocError, Global};
 use ts_packet::Cell;
@@ -42,6 +42,11 @@ impl Svremove {
     pub fn unedited(&self) -> Option<Unedited> {
         self.inner.unedited()
     }
+
+    /// Adds the PIDs on which tables changed without a new version.
+    pub fn add_changes(&self, changes: &mut Changes) -> Result<(), AllocError> {
+        self.inner.add_changes(changes)
+    }
 }
 
 impl Plugin for Svremove {
@@ -57,8 +62,8 @@ impl Plugin for Svremove {
 
     ghost silent = { λ _. true };
 
-    fn step(&mut self, _at: u64, cell: &mut Cell) -> Outcome {
-        self.inner.step(cell)
+    fn step(&mut self, at: u64, cell: &mut Cell) -> Outcome {
+        self.inner.step(at, cell)
     }
 
     fn note(&mut self, _written: u64) -> Result<(), AllocError> {

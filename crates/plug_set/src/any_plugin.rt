@@ -7,7 +7,9 @@ ghost use Rattle.plug_set.specs.Plugins.{is_silent, steady_of};
 use crate::idle::{Idle, why_idle};
 use crate::masked_plugin::MaskedPlugin;
 use crate::plugin_item::PluginItem;
+use crate::sees_tables::{SeesTables, add_changes};
 use crate::some_plugin::SomePlugin;
+use plug_psi::Changes;
 use plugin_trait::{Applied, Line, Outcome, Plugin};
 use std::alloc::{AllocError, Global};
 use ts_packet::Cell;
@@ -50,6 +52,12 @@ impl AnyPlugin {
     /// inserts and reads nothing. It is asked before `finish`.
     pub fn idle(&self) -> Result<Option<Idle>, AllocError> {
         why_idle(&self.masked.plugin)
+    }
+}
+
+impl SeesTables for AnyPlugin {
+    fn add_changes(&self, changes: &mut Changes) -> Result<(), AllocError> {
+        add_changes(&self.masked.plugin, changes)
     }
 }
 

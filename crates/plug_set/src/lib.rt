@@ -8,10 +8,13 @@ mod laws;
 mod masked_plugin;
 mod plugin_conf;
 mod plugin_item;
+mod sees_tables;
 mod some_plugin;
 
 pub use any_plugin::AnyPlugin;
 pub use idle::Idle;
 pub use laws::{only_joint_agrees, only_named_sections_count, silent_plugins_report_nothing};
+pub use plug_psi::{ChangedOn, Changes};
 pub use plugin_conf::{PluginConf, PluginKind};
 pub use plugin_item::PluginItem;
+pub use sees_tables::SeesTables;

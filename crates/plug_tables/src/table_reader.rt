@@ -3,7 +3,7 @@ ghost use Rattle.std.specs.Prelude.{◌≡◌, ◌<◌, ◌==◌, ◌∷◌, ◌
 ghost use Rattle.plug_tables.specs.TablesRule.{choice_of};
 
 use plug_conf::{NumberSet, PidSet};
-use plug_psi::{ByPid, InForce, unfollowed_packets_change_nothing};
+use plug_psi::{ByPid, Changes, InForce, unfollowed_packets_change_nothing};
 use std::alloc::{AllocError, Global};
 use ts_demux::PidTables;
 use ts_packet::{NULL_PID, PID_COUNT, Packet};
@@ -46,9 +46,9 @@ impl TableReader {
         })
     }
 
-    /// Processes the next packet, of any PID, and returns the tables that it completes on its PID, if that is watched.
+    /// Processes the next packet, of any PID, which has a position, and returns the tables that it completes on its PID, if that is watched.
     /// After `AllocError` it is not to be used any more.
-    pub fn meet(&mut self, packet: &Packet) -> Result<Vec<TableRun>, AllocError>
+    pub fn meet(&mut self, at: u64, packet: &Packet) -> Result<Vec<TableRun>, AllocError>
         ensures stands { OnOk result ((met : List (List ℕ)) → HasMet self.old met → HasMet self.new (met ++ packet.now ∷ [])) }
         ensures tables { IfOk result (λ tables. (met : List (List ℕ)) → HasMet self.old met
             → tables.items ≡ tables_with (choice_in self.old) met packet.now) }
@@ -56,13 +56,18 @@ impl TableReader {
     {
         // A law, which runs nothing.
         unfollowed_packets_change_nothing::<PidTables>();
-        self.force.feed(packet)?;
+        self.force.feed(at, packet)?;
         let pid = packet.pid();
         if !self.is_watched(pid) {
             return Ok(Vec::new(self.alloc));
         }
-        let tables = self.readers.take(self.alloc, &(), (), packet)?;
+        let tables = self.readers.take(self.alloc, at, &(), (), packet)?;
         Ok(tables)
+    }
+
+    /// Adds the watched PIDs on which tables changed without a new version.
+    pub fn add_changes(&self, changes: &mut Changes) -> Result<(), AllocError> {
+        self.readers.add_changes(changes)
     }
 
     // Whether the packets of a PID are watched now.

@@ -9,7 +9,7 @@ use crate::table_reader::TableReader;
 use crate::tables_conf::TablesConf;
 use crate::telling::tell_tables;
 use plug_conf::NumberSet;
-use plug_psi::FailureLatch;
+use plug_psi::{Changes, FailureLatch};
 use plugin_trait::{Line, Outcome, Plugin};
 use std::alloc::{AllocError, Global};
 use std::collections::VecDeque;
@@ -61,6 +61,11 @@ impl Tables {
         self.told.front().is_some()
     }
 
+    /// Adds the watched PIDs on which tables changed without a new version.
+    pub fn add_changes(&self, changes: &mut Changes) -> Result<(), AllocError> {
+        self.reader.add_changes(changes)
+    }
+
     // Processes the packet at a position, unless memory ran out before.
     fn meet(&mut self, at: u64, packet: &Packet) -> Result<(), AllocError>
         ensures met { OnOk result ((history : List GivenCell) (mark : ℕ) → StandsFor self.old history mark → length history ≡ at → (labels : ℕ)
@@ -81,7 +86,7 @@ impl Tables {
             → StandsFor self.new (history ++ Live packet.now labels ∷ []) mark) }
         ensures same_rule { rule_in self.new ≡ rule_in self.old }
     {
-        let tables = self.reader.meet(packet)?;
+        let tables = self.reader.meet(at, packet)?;
         let pid = packet.pid();
         tell_tables(self.alloc, &mut self.told, &self.tids, at, pid, &tables)?;
         Ok(())

@@ -35,10 +35,10 @@ impl LateLine {
         Ok(LateLine { late, referred })
     }
 
-    /// Takes a packet in, and returns the one that came in a window before it, if the packets up to the current one
+    /// Takes the packet at a position in, and returns the one that came in a window before it, if the packets up to the current one
     /// refer to its PID. After `AllocError` every later call returns `AllocError`.
     #[inline]
-    pub fn turn(&mut self, came: Labelled) -> Result<Option<Labelled>, AllocError>
+    pub fn turn(&mut self, at: u64, came: Labelled) -> Result<Option<Labelled>, AllocError>
         ensures given { IfOk result (λ given. (rows : List Row) → StandsFor self.old rows
             → given ≡ delayed is_referred self.old.late.capacity rows came) }
         ensures stands { OnOk result ((rows : List Row) → StandsFor self.old rows → StandsFor self.new (rows ++ came ∷ [])) }
@@ -46,7 +46,7 @@ impl LateLine {
         ensures spent { OnErr result (has_failed self.new.referred ≡ true) }
         ensures stays_spent { has_failed self.old.referred ≡ true → IsErr result }
     {
-        self.referred.feed(&came.packet)?;
+        self.referred.feed(at, &came.packet)?;
         let given = self.shift(came);
         Ok(given)
     }

@@ -52,7 +52,7 @@ impl Plugin for Rmorphan {
     ghost silent = { λ _. true };
 
     #[inline]
-    fn step(&mut self, _at: u64, cell: &mut Cell) -> Outcome {
+    fn step(&mut self, at: u64, cell: &mut Cell) -> Outcome {
         let Some(live) = cell.live() else {
             return Outcome::Pass;
         };
@@ -60,7 +60,7 @@ impl Plugin for Rmorphan {
             packet: live.packet,
             labels: live.labels,
         };
-        match self.line.turn(came) {
+        match self.line.turn(at, came) {
             Ok(given) => fill_slot(cell, given, self.stuffing),
             Err(_) => Outcome::NoMemory,
         }

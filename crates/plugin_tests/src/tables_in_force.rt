@@ -52,7 +52,7 @@ fn pmt_packet(alloc: Global) -> Result<Packet, Fail> {
 /// A packet after the editor.
 fn stepped(editor: &mut Editor<Unchanged>, packet: Packet) -> Result<Packet, AllocError> {
     let mut packet = packet;
-    editor.step(&mut packet)?;
+    editor.step(0, &mut packet)?;
     Ok(packet)
 }
 
@@ -96,11 +96,11 @@ fn comes_into_force(
     pmt: &Packet,
 ) -> Result<(), AllocError> {
     holds(rt, force.pat().is_none());
-    force.feed(pmt)?;
-    force.feed(pat)?;
+    force.feed(0, pmt)?;
+    force.feed(0, pat)?;
     holds(rt, force.names(4096));
     holds(rt, force.pmt(1).is_none());
-    force.feed(pmt)?;
+    force.feed(0, pmt)?;
     same(rt, force.pmt(1).map(|pmt| pmt.version), Some(3));
     holds(rt, !force.names(257));
     Ok(())

@@ -160,7 +160,7 @@ fn a_window_keeps_what_its_tables_name(rt: HostRuntime) -> Result<(), Fail> {
 fn referred(alloc: Global) -> Result<Referred, Fail> {
     let pat = pat_packet(alloc)?;
     let mut referred = Referred::new(alloc)?;
-    referred.feed(&pat)?;
+    referred.feed(0, &pat)?;
     Ok(referred)
 }
 

@@ -52,7 +52,7 @@ fn write_packet(
         if let Some(section) = demux.next_section() {
             write_section(page, &section);
             write_alone(page, table_alone(page.alloc(), &section)?);
-            write_joined(page, assembly.add(section)?);
+            write_joined(page, assembly.add(0, section)?);
         }
     }
     Ok(())

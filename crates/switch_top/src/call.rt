@@ -1,11 +1,14 @@
 //! The top call: the words are read, and the plan that they give is played.
-ghost use Rattle.std.specs.Prelude.{map};
+ghost use Rattle.std.specs.Prelude.{◌≡◌, map, IfSome, Some};
 ghost use Rattle.std.specs.String.{string_bytes};
+ghost use Rattle.switch_args.specs.SwitchWords.{Given, read_of};
 ghost use Rattle.switch_top.specs.SwitchCall.{CallsSwitch};
+ghost use Rattle.switch_top.specs.SwitchPlans.{IsPlanOf};
 
 use crate::plan::SwitchPlan;
 use crate::playing::switch_plan;
 use crate::status::SwitchStatus;
+use crate::switch_end::SwitchEnd;
 use std::alloc::Global;
 use std::marker::Sync;
 use std::sync::Wait;
@@ -39,12 +42,40 @@ pub fn switch_call<R: Threads + Wait + Sync, D: Desk, G: Gate>(
 ) -> SwitchStatus
     ensures { CallsSwitch (map string_bytes words.now) (D.seen desk.old) (D.seen desk.new) result }
 {
+    explained_switch_call(rt, alloc, words, desk, gate).status
+}
+
+/// Does what `switch_call` does, and returns the plan of the words with the status.
+pub fn explained_switch_call<R: Threads + Wait + Sync, D: Desk, G: Gate>(
+    rt: &R,
+    alloc: Global,
+    words: &[String],
+    desk: &mut D,
+    gate: &G,
+) -> SwitchEnd
+    ensures call { CallsSwitch (map string_bytes words.now) (D.seen desk.old) (D.seen desk.new) result.status }
+    ensures plan { IfSome result.plan (λ plan. (given : Given) × (read_of (map string_bytes words.now) ≡ Some given)
+        × IsPlanOf given plan) }
+{
     match read_words(alloc, words) {
-        Ok(settings) => switch_plan(rt, alloc, &SwitchPlan::of(settings), desk, gate),
+        Ok(settings) => {
+            let plan = SwitchPlan::of(settings);
+            let status = switch_plan(rt, alloc, &plan, desk, gate);
+            SwitchEnd {
+                status,
+                plan: Some(plan),
+            }
+        }
         Err(WordsFault::At { word }) => {
             say(desk, "tsswitch: words\n");
-            SwitchStatus::Words { word }
+            SwitchEnd {
+                status: SwitchStatus::Words { word },
+                plan: None,
+            }
         }
-        Err(WordsFault::NoMemory) => SwitchStatus::NoMemory,
+        Err(WordsFault::NoMemory) => SwitchEnd {
+            status: SwitchStatus::NoMemory,
+            plan: None,
+        },
     }
 }

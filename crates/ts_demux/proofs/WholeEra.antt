@@ -120,10 +120,13 @@ slots_are :
 slots_are e era s place slots is waits p k =
     k ∙ ap (λ n. with_first n s e.firsts.items) p ∙ ap (with_first (number_of s) s) (is.kept waits) ∙ sym (firsts-push e.last era s)
 
-pub era-given : (e : Era) (era : List (List ℕ)) (s : List ℕ) → IsEra e era → e.given ≡ true → IsEra e (era ++ s ∷ [])
-era-given e era s is given =
+pub era-given :
+    (e new : Era) (era : List (List ℕ)) (s : List ℕ) → IsEra e era → e.given ≡ true → new.last ≡ e.last → new.given ≡ e.given →
+    IsEra new (era ++ s ∷ [])
+era-given e new era s is had last same =
+    let given : new.given ≡ true = same ∙ had in
     record {
-      given = given ∙ sym (is_complete-push e.last era s (sym is.given ∙ given));
+      given = given ∙ sym (is_complete-push new.last era s (ap (λ n. is_complete n era) last ∙ sym is.given ∙ had));
       kept = λ waits. (let f : true ≡ false = sym given ∙ waits in cc);
     }
 

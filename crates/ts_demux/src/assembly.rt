@@ -10,6 +10,7 @@ ghost use Rattle.ts_demux.specs.Era.{HasEra, EntryStands, EraStands, AllBelong, 
 ghost use Rattle.std.specs.Option.{option_copied, option_to_list};
 ghost use Rattle.ts_demux.specs.Tables.{completed};
 
+use crate::changed_table::ChangedTable;
 use crate::era::Era;
 use crate::failure_latch::FailureLatch;
 use crate::table_key::{TableKey, head_of_many};
@@ -30,6 +31,8 @@ type Eras = IndexMap<TableKey, Era>;
 #[derive(Drop)]
 pub struct Assembly {
     eras: Eras,
+    /// The first table that changed without a new version.
+    changed: Option<ChangedTable>,
     failed: FailureLatch,
 }
 
@@ -51,13 +54,14 @@ impl Assembly {
     {
         Ok(Assembly {
             eras: IndexMap::new(alloc),
+            changed: None,
             failed: FailureLatch::unset(),
         })
     }
 
-    /// Processes the next section, and returns the table that it completes, if it completes one. After `AllocError`
-    /// every later call returns `AllocError`.
-    pub fn add(&mut self, section: Section) -> Result<Option<TableRun>, AllocError>
+    /// Processes the next section, which came with the packet at a position, and returns the table that it completes, if it
+    /// completes one. After `AllocError` every later call returns `AllocError`.
+    pub fn add(&mut self, at: u64, section: Section) -> Result<Option<TableRun>, AllocError>
         ensures completes { IfOk result (λ table. (before : List (List ℕ)) → StandsFor self.old before → table ≡ table_at before section) }
         ensures tables { IfOk result (λ table. (before : List (List ℕ)) → StandsFor self.old before →
             tables_of (before ++ section ∷ []) ≡ tables_of before ++ option_to_list table) }
@@ -66,13 +70,18 @@ impl Assembly {
         ensures stays_spent { self.old.failed ≡ true → IsErr result }
     {
         self.failed.check()?;
-        let answer = self.take(section);
+        let answer = self.take(at, section);
         let table = self.failed.note(answer)?;
         Ok(table)
     }
 
+    /// The first table that changed without a new version, by the CRCs of its sections.
+    pub fn changed(&self) -> Option<ChangedTable> {
+        self.changed
+    }
+
     /// Processes the next section, unless an earlier call ran out of memory.
-    fn take(&mut self, section: Section) -> Result<Option<TableRun>, AllocError>
+    fn take(&mut self, at: u64, section: Section) -> Result<Option<TableRun>, AllocError>
         ensures completes { IfOk result (λ table. (before : List (List ℕ)) → StandsFor self.old before → table ≡ table_at before section) }
         ensures stands { OnOk result ((before : List (List ℕ)) → StandsFor self.old before → StandsFor self.new (before ++ section ∷ [])) }
         ensures same { self.new.failed ≡ self.old.failed }
@@ -84,7 +93,8 @@ impl Assembly {
         };
         let key = TableKey::of(&head);
         begin_era(&mut self.eras, key, &head)?;
-        let table = add_to_era(&mut self.eras, key, head.number, section)?;
+        let changed = &mut self.changed;
+        let table = add_to_era(&mut self.eras, key, at, head.number, section, changed)?;
         Ok(table)
     }
 }
@@ -107,8 +117,10 @@ fn begin_era(eras: &mut Eras, key: TableKey, head: &LongHead) -> Result<(), Allo
 fn add_to_era(
     eras: &mut Eras,
     key: TableKey,
+    at: u64,
     number: u8,
     section: Section,
+    changed: &mut Option<ChangedTable>,
 ) -> Result<Option<TableRun>, AllocError>
     requires number { number ≡ number_of section }
     requires has_era { HasEra (get key_eq eras.old key) (version_of section) (last_number_of section) }
@@ -121,7 +133,7 @@ fn add_to_era(
 {
     let alloc = *eras.allocator();
     match eras.get_mut(&key) {
-        Some(era) => era.add(alloc, number, section),
+        Some(era) => era.add(alloc, at, number, section, changed),
         None => Ok(None),
     }
 }

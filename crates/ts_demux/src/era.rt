@@ -5,6 +5,8 @@ ghost use Rattle.std.specs.List.{list_all, filter_map};
 ghost use Rattle.ts_section.specs.SectionFields.{number_of, last_number_of};
 ghost use Rattle.ts_demux.specs.Firsts.{with_first};
 
+use crate::changed_table::ChangedTable;
+use crate::section_crcs::SectionCrcs;
 use std::alloc::{AllocError, Global};
 use std::mem;
 use ts_section::{LongHead, Section, TableRun};
@@ -16,6 +18,8 @@ pub(crate) struct Era {
     last: u8,
     given: bool,
     firsts: Vec<Option<Section>>,
+    /// Their CRCs, which stay where the table was given.
+    crcs: SectionCrcs,
 }
 
 impl Era {
@@ -28,12 +32,14 @@ impl Era {
         ensures last { IfOk result (λ era. era.last ≡ last) }
         ensures fresh { IfOk result (λ era. IsEra era []) }
     {
-        let firsts = none_of(alloc, usize::from(last) + 1)?;
+        let numbers = usize::from(last) + 1;
+        let firsts = none_of(alloc, numbers)?;
         Ok(Era {
             version,
             last,
             given: false,
             firsts,
+            crcs: SectionCrcs::new(alloc, numbers),
         })
     }
 
@@ -44,12 +50,16 @@ impl Era {
         self.version == head.version && self.last == head.last
     }
 
-    /// Processes the next section of the era, and returns the era's table if this section completes it.
+    /// Processes the next section of the era, which came with the packet at a position, and returns the era's table if
+    /// this section completes it. Where it is another one than the first of its number, and no change was noted before, that
+    /// is noted.
     pub(crate) fn add(
         &mut self,
         alloc: Global,
+        at: u64,
         number: u8,
         section: Section,
+        changed: &mut Option<ChangedTable>,
     ) -> Result<Option<TableRun>, AllocError>
         requires number { number ≡ number_of section }
         requires last { self.old.last ≡ last_number_of section }
@@ -60,10 +70,12 @@ impl Era {
         ensures table { IfOk result (λ table. (sections : List (List ℕ)) →
             IsEra self.old sections → AllBelong section sections → table ≡ completed sections section) }
     {
+        let place = usize::from(number);
+        self.crcs.compare(at, place, &section, changed);
         if self.given {
             return Ok(None);
         }
-        keep_first(&mut self.firsts, usize::from(number), section);
+        keep_first(&mut self.firsts, place, section);
         if !are_all_there(&self.firsts) {
             return Ok(None);
         }

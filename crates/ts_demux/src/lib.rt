@@ -4,6 +4,7 @@
 #![tactic(auto)]
 
 mod assembly;
+mod changed_table;
 mod demux;
 mod era;
 mod failure_latch;
@@ -11,10 +12,12 @@ mod laws;
 mod pid_tables;
 mod pieces;
 mod reader;
+mod section_crcs;
 mod table_key;
 mod table_laws;
 
 pub use assembly::Assembly;
+pub use changed_table::ChangedTable;
 pub use demux::Demux;
 pub use failure_latch::FailureLatch;
 pub use laws::other_packets_change_nothing;

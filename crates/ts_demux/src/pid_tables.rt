@@ -7,6 +7,7 @@ ghost use Rattle.ts_demux.specs.Tables.{tables_of};
 ghost use Rattle.ts_demux.specs.PidTables.{Holds};
 
 use crate::assembly::Assembly;
+use crate::changed_table::ChangedTable;
 use crate::demux::Demux;
 use crate::failure_latch::FailureLatch;
 use std::alloc::{AllocError, Global};
@@ -45,9 +46,9 @@ impl PidTables {
         })
     }
 
-    /// Processes the next packet, of any PID, and returns the tables that it completes, in their order. After
-    /// `AllocError` every later call returns `AllocError`.
-    pub fn take(&mut self, packet: &Packet) -> Result<Vec<TableRun>, AllocError>
+    /// Processes the next packet, of any PID, which has a position, and returns the tables that it completes, in their
+    /// order. After `AllocError` every later call returns `AllocError`.
+    pub fn take(&mut self, at: u64, packet: &Packet) -> Result<Vec<TableRun>, AllocError>
         ensures stands { OnOk result ((pid : ℕ) (taken : List (List ℕ)) → StandsFor self.old pid taken
             → StandsFor self.new pid (taken ++ packet.now ∷ [])) }
         ensures completes { IfOk result (λ tables. (pid : ℕ) (taken : List (List ℕ)) → StandsFor self.old pid taken
@@ -56,13 +57,19 @@ impl PidTables {
         ensures stays_spent { has_failed self.old ≡ true → IsErr result }
     {
         self.failed.check()?;
-        let answer = self.advance(packet);
+        let answer = self.advance(at, packet);
         let tables = self.failed.note(answer)?;
         Ok(tables)
     }
 
+    /// The first table that changed without a new version: a section of it came with other contents than the section of
+    /// its number before it.
+    pub fn changed(&self) -> Option<ChangedTable> {
+        self.assembly.changed()
+    }
+
     /// Processes the next packet, unless an earlier call ran out of memory.
-    fn advance(&mut self, packet: &Packet) -> Result<Vec<TableRun>, AllocError>
+    fn advance(&mut self, at: u64, packet: &Packet) -> Result<Vec<TableRun>, AllocError>
         ensures stands { OnOk result ((pid : ℕ) (taken : List (List ℕ)) → StandsFor self.old pid taken
             → StandsFor self.new pid (taken ++ packet.now ∷ [])) }
         ensures completes { IfOk result (λ tables. (pid : ℕ) (taken : List (List ℕ)) → StandsFor self.old pid taken
@@ -70,7 +77,7 @@ impl PidTables {
         ensures same_failed { has_failed self.new ≡ has_failed self.old }
     {
         self.demux.feed(packet)?;
-        let tables = take_waiting(self.alloc, &mut self.demux, &mut self.assembly)?;
+        let tables = take_waiting(self.alloc, at, &mut self.demux, &mut self.assembly)?;
         Ok(tables)
     }
 }
@@ -78,6 +85,7 @@ impl PidTables {
 /// Processes the sections that wait, and returns the tables that they complete.
 fn take_waiting(
     alloc: Global,
+    at: u64,
     demux: &mut Demux,
     assembly: &mut Assembly,
 ) -> Result<Vec<TableRun>, AllocError>
@@ -88,7 +96,7 @@ fn take_waiting(
 {
     let mut tables = Vec::new(alloc);
     while let Some(section) = demux.next_section() {
-        let table = assembly.add(section)?;
+        let table = assembly.add(at, section)?;
         push_table(&mut tables, table)?;
     }
     Ok(tables)

@@ -4,7 +4,8 @@
 
 mod calls;
 mod file_id;
-mod names;
+mod noted;
+mod open_files;
 mod os_desk;
 mod os_sink;
 mod os_source;
@@ -12,12 +13,12 @@ mod reason;
 mod saying;
 mod trouble;
 
-pub use names::named_behind;
+pub use noted::Noted;
 pub use os_desk::OsDesk;
 pub use os_sink::OsSink;
 pub use os_source::OsSource;
 pub use reason::Reason;
 pub use saying::{
-    after_name, is_wanted, put_shown, refuses_terminal, trouble_text, write_explained,
+    after_name, is_terminal, is_wanted, put_shown, refuse_terminal, trouble_text, write_explained,
 };
 pub use trouble::Trouble;

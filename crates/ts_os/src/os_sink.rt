@@ -5,8 +5,9 @@ ghost use Rattle.ts_os.specs.Untold.{untold_sink};
 
 use crate::calls::write_some;
 use crate::file_id::FileId;
+use crate::open_files::OpenFiles;
 use crate::reason::Reason;
-use std::fs::File;
+use std::fs::{File, OpenOptions};
 use std::io::Stdout;
 use std::marker::Model;
 use ts_outside::{Failed, Sink, one_more};
@@ -55,6 +56,32 @@ impl Model for OsSink {
 }
 
 impl OsSink {
+    ghost use Rattle.std.specs.Prelude.{◌≡◌, ◌<◌, ◌≤◌, length, IfOk};
+
+    /// The sink of a name, the standard output where it is empty; a file is made if it is absent. A regular file that may not
+    /// be written beside those that are open is left as it is.
+    pub(crate) fn open(rt: &HostRuntime, named: &str, files: &OpenFiles) -> Result<OsSink, Reason>
+        ensures { IfOk result (λ s. s ≡ 0) }
+    {
+        if named.is_empty() {
+            return Ok(OsSink {
+                to: Made::Stream(rt.stdout()),
+                file: None,
+                full: false,
+                faults: 0,
+                reason: None,
+            });
+        }
+        let (made, file) = open_file(rt, named, files)?;
+        Ok(OsSink {
+            to: Made::File(made),
+            file,
+            full: file.is_some(),
+            faults: 0,
+            reason: None,
+        })
+    }
+
     /// Empties the file, unless that was done. Returns whether that went well.
     fn empty(&mut self) -> bool
         ensures { self.new ≡ self.old }
@@ -79,6 +106,27 @@ impl OsSink {
             Made::Stream(stream) => write_some(stream, piece),
         }
     }
+}
+
+// The file of a name, made if it is absent, and which regular file it is.
+fn open_file(
+    rt: &HostRuntime,
+    named: &str,
+    files: &OpenFiles,
+) -> Result<(File, Option<FileId>), Reason> {
+    let file = OpenOptions::new()
+        .write(true)
+        .create(true)
+        .open(rt, named)
+        .map_err(|e| Reason::of(e.kind()))?;
+    let told = file.metadata().map_err(|e| Reason::of(e.kind()))?;
+    let id = FileId::of(&told);
+    if let Some(id) = id {
+        if !files.may_write(id) {
+            return Err(Reason::InUse);
+        }
+    }
+    Ok((file, id))
 }
 
 impl Sink for OsSink {

@@ -6,7 +6,7 @@ ghost use Rattle.ts_os.specs.Untold.{untold_source};
 use crate::calls::read_some;
 use crate::file_id::FileId;
 use crate::reason::Reason;
-use std::fs::File;
+use std::fs::{File, metadata};
 use std::io::Stdin;
 use std::marker::Model;
 use ts_outside::{Failed, Source, one_more};
@@ -48,6 +48,47 @@ impl Model for OsSource {
 }
 
 impl OsSource {
+    ghost use Rattle.std.specs.Prelude.{◌≡◌, IfOk};
+
+    /// The source of a name, the standard input where it is empty, with this number.
+    pub(crate) fn open(rt: &HostRuntime, named: &str, number: u64) -> Result<OsSource, Reason>
+        ensures { IfOk result (λ s. s ≡ 0) }
+    {
+        let (from, told) = if named.is_empty() {
+            let told = metadata(rt, "/dev/stdin");
+            (Opened::Stream(rt.stdin()), told)
+        } else {
+            let file = match File::open(rt, named) {
+                Ok(file) => file,
+                Err(e) => return Err(Reason::of(e.kind())),
+            };
+            let told = file.metadata();
+            (Opened::File(file), told)
+        };
+        let file = told.ok().and_then(|it| FileId::of(&it));
+        Ok(OsSource {
+            from,
+            file,
+            faults: 0,
+            reason: None,
+            number,
+            head: Vec::new(rt.alloc()),
+        })
+    }
+
+    /// Ends the source, and returns why its last read failed, if one did.
+    pub(crate) fn into_reason(self) -> Option<Reason> {
+        let OsSource {
+            from: _,
+            file: _,
+            faults: _,
+            reason,
+            number: _,
+            head: _,
+        } = self;
+        reason
+    }
+
     /// Keeps the bytes that came first. If memory runs out, they are fewer.
     fn keep_head(&mut self, came: &[u8])
         ensures { self.new ≡ self.old }

@@ -48,15 +48,15 @@ pub fn trouble_text(alloc: Global, name: &str, trouble: Trouble) -> Result<Strin
     Ok(line)
 }
 
-/// Whether packets would go to a terminal, which is so of a program whose output is standard output where that is one. Then a line
-/// on standard error says what may be given in its place.
-pub fn refuses_terminal(rt: &HostRuntime) -> bool {
-    if !rt.stdout().is_terminal() {
-        return false;
-    }
+/// Whether standard output is a terminal.
+pub fn is_terminal(rt: &HostRuntime) -> bool {
+    rt.stdout().is_terminal()
+}
+
+/// Says on standard error that packets are not written to a terminal, and what may be given instead.
+pub fn refuse_terminal(rt: &HostRuntime) {
     write_explained(
         rt,
         "packets are not written to a terminal: -O drop writes none, -O file NAME writes a file\n",
     );
-    true
 }

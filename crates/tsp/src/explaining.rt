@@ -1,11 +1,12 @@
-//! Explains a refused command line, and a run that failed or found nothing to edit, on standard error alone.
-use crate::idle_texts::idle_text;
-use crate::run_texts::{Kept, run_text};
-use chain_args::{WordsFault, WordsRule};
+//! Explains a refused command line, and a run that failed, found nothing to edit or did not see a table change, on standard error
+//! alone.
+use crate::note_texts::notes_text;
+use crate::run_texts::run_text;
+use chain_args::{Plan, WordsFault, WordsRule};
 use explain_words::{HelpTable, fault_text, general_options, tsp_segments};
 use std::alloc::AllocError;
 use ts_os::{OsDesk, write_explained};
-use tsp_top::{IdlePlugins, Status};
+use tsp_top::{CallEnd, PluginNotes, Status};
 
 /// The text about a refused command line: its segment, the wrong word, and what may stand there.
 fn words_text(
@@ -29,39 +30,29 @@ fn explain_words(rt: &HostRuntime, words: &[String], word: usize, rule: WordsRul
     }
 }
 
-/// Explains a run that failed.
-fn explain_run(rt: &HostRuntime, words: &[String], status: &Status, desk: &OsDesk) {
-    let kept = Kept {
-        trouble: desk.trouble(),
-        head: desk.head(),
-        file: desk.file(),
-    };
-    if let Ok(Some(text)) = run_text(rt.alloc(), words, status, kept) {
+/// Explains a run of a plan that failed.
+fn explain_run(rt: &HostRuntime, plan: &Plan, status: &Status, desk: &OsDesk) {
+    if let Ok(Some(text)) = run_text(rt.alloc(), plan, status, desk.noted()) {
         write_explained(rt, text.as_str());
     }
 }
 
-/// Explains a run that was `Done`, and in which plugins were idle.
-fn explain_idle(rt: &HostRuntime, words: &[String], idle: &IdlePlugins) {
-    if let Ok(text) = idle_text(rt.alloc(), words, idle.rows()) {
+/// Explains a run of a plan that was `Done`, and in which plugins were idle or tables changed without a new version.
+fn explain_notes(rt: &HostRuntime, plan: &Plan, notes: &PluginNotes) {
+    if let Ok(text) = notes_text(rt.alloc(), plan, notes) {
         if !text.is_empty() {
             write_explained(rt, text.as_str());
         }
     }
 }
 
-/// Explains how a call at this desk ended. Running out of memory and a fault of standard error leave it out, and change nothing
-/// else.
-pub(crate) fn explain(
-    rt: &HostRuntime,
-    words: &[String],
-    status: &Status,
-    desk: &OsDesk,
-    idle: &IdlePlugins,
-) {
-    match status {
-        Status::Words(WordsFault::At { word, rule }) => explain_words(rt, words, *word, *rule),
-        Status::Done => explain_idle(rt, words, idle),
-        _ => explain_run(rt, words, status, desk),
+/// Explains how a call with these words at this desk ended. Running out of memory and a fault of standard error leave it out, and
+/// change nothing else.
+pub(crate) fn explain(rt: &HostRuntime, words: &[String], end: &CallEnd, desk: &OsDesk) {
+    match (&end.status, &end.plan) {
+        (Status::Words(WordsFault::At { word, rule }), _) => explain_words(rt, words, *word, *rule),
+        (Status::Done, Some(plan)) => explain_notes(rt, plan, &end.notes),
+        (status, Some(plan)) => explain_run(rt, plan, status, desk),
+        (_, None) => {}
     }
 }

@@ -1,12 +1,11 @@
 //! The program `tsp`. It reads the words of the command line, runs `explained_call` over real files, explains on standard error
-//! what failed or found nothing to edit where that is wanted, and ends with the exit number. What a run does is the contract of
-//! that call, which is that of `tsp_call`: the stream theorem.
+//! what failed, found nothing to edit or did not see a table change, where that is wanted, and ends with the exit number. What a
+//! run does is the contract of that call, which is that of `tsp_call`: the stream theorem.
 #![tactic(auto)]
 
 mod explaining;
 mod form_seen;
-mod idle_texts;
-mod operands;
+mod note_texts;
 mod run_texts;
 mod terminal;
 
@@ -15,9 +14,9 @@ use std::io::ErrorKind;
 use std::process::ExitCode;
 use std::{env, io};
 use terminal::writes_stdout;
-use ts_os::{OsDesk, is_wanted, refuses_terminal};
+use ts_os::{OsDesk, is_terminal, is_wanted, refuse_terminal};
 use ts_outside::{OpenGate, report_whole};
-use tsp_top::{IdlePlugins, explained_call};
+use tsp_top::explained_call;
 
 /// The exit number if memory runs out before the call.
 const NO_MEMORY: u8 = 1;
@@ -45,24 +44,24 @@ fn main(rt: HostRuntime) -> ExitCode {
         }
         Err(_) => return ExitCode::from(NO_MEMORY),
     };
-    if writes_stdout(rt.alloc(), words.as_slice()) && refuses_terminal(&rt) {
+    if is_terminal(&rt) && writes_stdout(rt.alloc(), words.as_slice()) {
+        refuse_terminal(&rt);
         return ExitCode::from(TERMINAL);
     }
     let explained = is_wanted(&rt);
     if explained {
         desk.keep_file();
     }
-    let mut idle = IdlePlugins::new(rt.alloc(), explained);
-    let status = explained_call(
+    let end = explained_call(
         &rt,
         rt.alloc(),
         words.as_slice(),
         &mut desk,
         &OpenGate,
-        &mut idle,
+        explained,
     );
     if explained {
-        explain(&rt, words.as_slice(), &status, &desk, &idle);
+        explain(&rt, words.as_slice(), &end, &desk);
     }
-    ExitCode::from(status.exit_code())
+    ExitCode::from(end.status.exit_code())
 }

@@ -1,73 +1,60 @@
 //! The text about a run that failed: the file and the system's reason, the plugin by its name with its file and the fault in it,
 //! or the place at which sync was lost.
 use crate::form_seen::{Seen, form_seen};
-use crate::operands::operand_of;
+use chain_args::{Form, InputConf, OutputConf, Plan};
 use chain_model::Reason;
 use explain_tables::{compile_text, decompile_text};
+use plug_set::PluginConf;
 use std::alloc::{AllocError, Global};
 use table_file::TableFileFault;
-use ts_os::{Trouble, after_name, named_behind, trouble_text};
+use ts_os::{Noted, Trouble, after_name, trouble_text};
 use ts_outside::Purpose;
 use tsp_top::Status;
 
-/// What the desk kept of a run, so that it can be explained.
-#[derive(Clone, Copy)]
-pub(crate) struct Kept<'a> {
-    /// The call that the system refused.
-    pub(crate) trouble: Option<Trouble>,
-    /// The first bytes of the input.
-    pub(crate) head: &'a [u8],
-    /// The file of tables that was read last.
-    pub(crate) file: Option<&'a [u8]>,
+/// The settings of the plugin of a number, counted from 1.
+fn plugin_of(plan: &Plan, number: u32) -> Option<&PluginConf> {
+    let place = usize::try_from(number).ok()?.checked_sub(1)?;
+    Some(&plan.plugins.as_slice().get(place)?.conf)
 }
 
 /// The name of the plugin of a number, counted from 1.
-pub(crate) fn plugin_name(words: &[String], number: u32) -> Option<&str> {
-    let mut left = number;
-    for (word, name) in words.iter().zip(words.iter().skip(1)) {
-        if word.as_str() == "-P" {
-            if left <= 1 {
-                return Some(name.as_str());
-            }
-            left -= 1;
-        }
+pub(crate) fn plugin_name(plan: &Plan, number: u32) -> &'static str {
+    match plugin_of(plan, number) {
+        Some(conf) => conf.name(),
+        None => "",
     }
-    None
 }
 
-/// The name of the input's form, where it is given.
-fn format_name(words: &[String]) -> Option<&str> {
-    for (word, name) in words.iter().zip(words.iter().skip(1)) {
-        if word.as_str() == "--format" {
-            return Some(name.as_str());
-        }
-        if let Some(name) = word.as_str().strip_prefix("--format=") {
-            return Some(name);
-        }
-    }
-    words
-        .last()
-        .and_then(|word| word.as_str().strip_prefix("--format="))
+/// What the empty name of a file that is read is called.
+const STANDARD_INPUT: &str = "standard input";
+
+/// What that of one that is written is called.
+const STANDARD_OUTPUT: &str = "standard output";
+
+// A name, or other words where it is that of a standard stream.
+fn named_or<'a>(name: &'a str, other: &'a str) -> &'a str {
+    if name.is_empty() { other } else { name }
 }
 
-/// How many bytes a packet has in the input's form, and where in them it begins.
-fn form_of(words: &[String]) -> (u64, u64) {
-    match format_name(words) {
-        Some("rs204") => (204, 0),
-        Some("m2ts") => (192, 4),
-        _ => (188, 0),
+// The form of the input's packets.
+fn form_of(plan: &Plan) -> Form {
+    match &plan.input {
+        InputConf::File { name: _, form } => *form,
+        InputConf::Null(_) => Form::Ts,
+        InputConf::TestGen {
+            seed: _,
+            packets: _,
+        } => Form::Ts,
     }
 }
 
 // The place, and what the input seems to be by its first bytes, where that is not the form in which it was read.
-fn sync_text(
-    alloc: Global,
-    words: &[String],
-    packet: u64,
-    head: &[u8],
-) -> Result<String, AllocError> {
-    let (size, begin) = form_of(words);
-    let at = packet.saturating_mul(size).saturating_add(begin);
+fn sync_text(alloc: Global, plan: &Plan, packet: u64, head: &[u8]) -> Result<String, AllocError> {
+    let read = form_of(plan);
+    let size = read.unit() as u64;
+    let at = packet
+        .saturating_mul(size)
+        .saturating_add(read.lead() as u64);
     let mut text = format!(in alloc; "byte {at} of the input is not 0x47")?;
     match form_seen(head) {
         Some(Seen::Form(form)) if form.size != size => {
@@ -100,19 +87,19 @@ fn sync_text(
     Ok(text)
 }
 
-fn plugin_text(alloc: Global, words: &[String], number: u32) -> Result<String, AllocError> {
-    let name = plugin_name(words, number).unwrap_or("");
+fn plugin_text(alloc: Global, plan: &Plan, number: u32) -> Result<String, AllocError> {
+    let name = plugin_name(plan, number);
     format!(in alloc; "plugin {number} is -P {name}\n")
 }
 
 // The plugin that refused a packet, and what can be done about it.
 fn refusal_text(
     alloc: Global,
-    words: &[String],
+    plan: &Plan,
     number: u32,
     reason: Reason,
 ) -> Result<String, AllocError> {
-    let mut text = plugin_text(alloc, words, number)?;
+    let mut text = plugin_text(alloc, plan, number)?;
     let pid = reason.pid();
     write!(
         text,
@@ -140,49 +127,67 @@ fn tables_text(
 // The plugin, and below it its file and what is wrong there.
 fn table_file_text(
     alloc: Global,
-    words: &[String],
+    plan: &Plan,
     number: u32,
     fault: &TableFileFault,
     file: Option<&[u8]>,
 ) -> Result<String, AllocError> {
     let said = tables_text(alloc, fault, file)?;
-    let name = operand_of(alloc, words, number)?.unwrap_or("the file");
+    let name = table_file(plan, number);
     let line = after_name(alloc, name, said.as_str())?;
-    let mut text = plugin_text(alloc, words, number)?;
+    let mut text = plugin_text(alloc, plan, number)?;
     text.push_str(line.as_str())?;
     Ok(text)
 }
 
-// The number of the plugin of which the file of this number is, both counted from 1.
-fn plugin_of_file(words: &[String], number: u64) -> u32 {
+// The name of the file of tables that the plugin of this number takes, counted from 1.
+fn table_file(plan: &Plan, number: u32) -> &str {
+    match plugin_of(plan, number).and_then(|conf| conf.table_file()) {
+        Some(name) => named_or(name, STANDARD_INPUT),
+        None => "",
+    }
+}
+
+// The name of the file of tables of this number, counted from 1 in the order of the plugins, which is that of their reading.
+fn table_file_numbered(plan: &Plan, number: u64) -> &str {
     let mut left = number;
-    let mut plugin = 0u32;
-    for (word, name) in words.iter().zip(words.iter().skip(1)) {
-        if word.as_str() == "-P" {
-            plugin = plugin.saturating_add(1);
-            if name.as_str() == "inject" {
-                if left <= 1 {
-                    return plugin;
-                }
-                left -= 1;
+    for item in plan.plugins.as_slice() {
+        if let Some(name) = item.conf.table_file() {
+            if left <= 1 {
+                return named_or(name, STANDARD_INPUT);
             }
+            left -= 1;
         }
     }
-    plugin
+    ""
 }
 
-// What is said of a file of tables that was not read: its plugin, its name and the reason.
-fn unread_text(alloc: Global, words: &[String], trouble: Trouble) -> Result<String, AllocError> {
-    let plugin = plugin_of_file(words, trouble.number);
-    let name = operand_of(alloc, words, plugin)?.unwrap_or("a file of tables");
-    trouble_text(alloc, name, trouble)
+// The name of the input's file.
+fn input_name(plan: &Plan) -> &str {
+    match &plan.input {
+        InputConf::File { name, form: _ } => named_or(name.as_str(), STANDARD_INPUT),
+        InputConf::Null(_) => "the input",
+        InputConf::TestGen {
+            seed: _,
+            packets: _,
+        } => "the input",
+    }
 }
 
-fn refused_text(alloc: Global, words: &[String], trouble: Trouble) -> Result<String, AllocError> {
+// The name of the output's file.
+fn output_name(plan: &Plan) -> &str {
+    match &plan.output {
+        OutputConf::File(name) => named_or(name.as_str(), STANDARD_OUTPUT),
+        OutputConf::Drop => "the output",
+    }
+}
+
+// What is said of a file that the system refused: its name and the reason.
+fn refused_text(alloc: Global, plan: &Plan, trouble: Trouble) -> Result<String, AllocError> {
     let name = match trouble.purpose {
-        Purpose::Input => named_behind(words, "-I", 1).unwrap_or("the input"),
-        Purpose::Output => named_behind(words, "-O", 1).unwrap_or("the output"),
-        Purpose::File => return unread_text(alloc, words, trouble),
+        Purpose::Input => input_name(plan),
+        Purpose::Output => output_name(plan),
+        Purpose::File => table_file_numbered(plan, trouble.number),
     };
     trouble_text(alloc, name, trouble)
 }
@@ -199,17 +204,17 @@ fn is_of(status: &Status, trouble: Trouble) -> bool {
 /// The text; `None` where there is nothing to say.
 pub(crate) fn run_text(
     alloc: Global,
-    words: &[String],
+    plan: &Plan,
     status: &Status,
-    kept: Kept<'_>,
+    noted: &Noted,
 ) -> Result<Option<String>, AllocError> {
-    let text = match (status, kept.trouble) {
-        (Status::Sync { packet }, _) => sync_text(alloc, words, *packet, kept.head)?,
-        (Status::Refused { plugin, reason }, _) => refusal_text(alloc, words, *plugin, *reason)?,
+    let text = match (status, noted.trouble()) {
+        (Status::Sync { packet }, _) => sync_text(alloc, plan, *packet, noted.head())?,
+        (Status::Refused { plugin, reason }, _) => refusal_text(alloc, plan, *plugin, *reason)?,
         (Status::TableFile { plugin, fault }, _) => {
-            table_file_text(alloc, words, *plugin, fault, kept.file)?
+            table_file_text(alloc, plan, *plugin, fault, noted.file())?
         }
-        (_, Some(trouble)) if is_of(status, trouble) => refused_text(alloc, words, trouble)?,
+        (_, Some(trouble)) if is_of(status, trouble) => refused_text(alloc, plan, trouble)?,
         _ => return Ok(None),
     };
     Ok(Some(text))

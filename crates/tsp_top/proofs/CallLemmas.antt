@@ -24,7 +24,7 @@ use Rattle.ts_outside.specs.Entries.{asked_for}
 use Rattle.chain_run.specs.Fresh.{AreFresh}
 use Rattle.tsp_top.specs.PlannedChain.{input_name, output_name}
 use Rattle.tsp_top.specs.Openings.{asked_input, asked_input_in_vain, asked_output_in_vain, NamesInput, NamesOutput, OpensInput, input_closed_as}
-use Rattle.tsp_top.specs.CallEnd.{no_input, no_output, out_of_memory}
+use Rattle.tsp_top.specs.CallOutcome.{no_input, no_output, out_of_memory}
 use Rattle.tsp_top.specs.StreamTheorem.{StreamTheorem}
 use Rattle.tsp_top.specs.TspCall.{IsOverBefore}
 use Rattle.tsp_top.specs.declared.status.Status.{Status}

@@ -1,9 +1,8 @@
 -- A call whose chain ran, whoever served the stages.
-use Rattle.std.proofs.Common.{◌≡◌, ℕ, ◌≤◌, List, length, map, Option, Result, IfOk, Some, inl, ap, sym, ◌∙◌}
+use Rattle.std.proofs.Common.{◌≡◌, ℕ, ◌≤◌, List, length, map, Option, Result, IfOk, inl, ap, sym, ◌∙◌}
 use Rattle.std.proofs.lemmas.List.{length-map}
 use Rattle.std.specs.declared.alloc.AllocError.{AllocError}
 use Rattle.ts_packet.specs.declared.cell.Cell.{Cell}
-use Rattle.chain_args.specs.PlanOf.{plan_of}
 use Rattle.chain_args.specs.declared.plan_type.Plan.{Plan}
 use Rattle.chain_core.specs.declared.closed.Closed.{Closed}
 use Rattle.chain_core.specs.declared.core_plan.CorePlan.{CorePlan}
@@ -20,7 +19,7 @@ use Rattle.tsp_top.specs.PlannedChain.{named_rules}
 use Rattle.tsp_top.specs.PlannedTables.{tables_asked}
 use Rattle.tsp_top.specs.Ran.{EndsRun, IsReady, OpensPlan, RanOpened}
 use Rattle.tsp_top.specs.Reported.{ReachesCut}
-use Rattle.tsp_top.specs.TspCall.{CallsTsp}
+use Rattle.tsp_top.specs.TspCall.{CallsPlan}
 use Rattle.tsp_top.specs.declared.status.Status.{Status}
 use Rattle.tsp_top.proofs.RanTheorem.{ran-theorem}
 use Rattle.tsp_top.proofs.RunLemmas.{ends-few, ends-reach, ends-rules}
@@ -48,21 +47,17 @@ module _ {S K P : Type 0} (see : Seeing S K P) (inner : S → SourceView) (plan 
   called-few = ends-few see stuffing core from made_from plugins back to made_to closed plan opens.0 ends opens.2.ready
 
   -- and what is reported of the run is what the call has to report
-  pub called : (words : List (List ℕ)) (new : DeskView) (status : Status) → plan_of words ≡ Some plan
+  pub called : (new : DeskView) (status : Status)
       → ((tables : List (List (List ℕ))) (s : Stuffing) (numbers : CorePlan) (f : InputPart S) (ps : List P) (t : OutputPart K)
       → map see.rule back ≡ rules_of (named_rules plan.plugins tables)
       → EndsRun see s numbers f made_from ps back t made_to closed
       → RanOpened see inner plan tables s numbers made new f ps t status)
-      → CallsTsp words old new status
-  called words new status is reported = inl (
-    plan,
-    is,
-    inl (record {
-      tables = opens.0;
-      tables_are = opens.1;
-      theorem = ran-theorem see inner plan opens.0 stuffing core (tables_asked old plan) made new from plugins to status
-          opens.2.asked opens.2.input opens.2.output opens.2.ready
-          (reported opens.0 stuffing core from plugins to
-          (ends-rules see stuffing core from made_from plugins back to made_to closed (rules_of (named_rules plan.plugins opens.0)) ends opens.2.ready.rules) ends);
-    }),
-  )
+      → CallsPlan plan old new status
+  called new status reported = inl (record {
+    tables = opens.0;
+    tables_are = opens.1;
+    theorem = ran-theorem see inner plan opens.0 stuffing core (tables_asked old plan) made new from plugins to status
+        opens.2.asked opens.2.input opens.2.output opens.2.ready
+        (reported opens.0 stuffing core from plugins to
+        (ends-rules see stuffing core from made_from plugins back to made_to closed (rules_of (named_rules plan.plugins opens.0)) ends opens.2.ready.rules) ends);
+  })

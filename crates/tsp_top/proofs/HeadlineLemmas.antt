@@ -25,7 +25,7 @@ use Rattle.ts_outside.specs.Told.{grown}
 use Rattle.ts_outside.specs.Desk.{DeskView, file_of}
 use Rattle.ts_outside.specs.Entries.{outputs_with}
 use Rattle.ts_outside.specs.Faultless.{NothingFails}
-use Rattle.tsp_top.specs.CallEnd.{CallEnd, no_input, no_output, ran, unreported, out_of_memory, status_of, status_when_late, FaultRose, StatusTellsCause}
+use Rattle.tsp_top.specs.CallOutcome.{CallOutcome, no_input, no_output, ran, unreported, out_of_memory, status_of, status_when_late, FaultRose, StatusTellsCause}
 use Rattle.tsp_top.specs.CanEnd.{CanEnd, CanEndBy}
 use Rattle.tsp_top.specs.MemoryFirst.{IsSteady, AreSteady, NoStageWants, TakesLater}
 use Rattle.tsp_top.specs.PlannedChain.{chain_of, input_of, named_rules, output_name, stuffing_of, users_from, users_of}
@@ -75,7 +75,7 @@ module _ (plan : Plan) (tables : List (List (List ℕ))) (files : List (List ℕ
   abbrev chain : Chain
   chain = chain_of plan tables files
 
-  by-end : (end : CallEnd) → StatusTellsCause (output_name plan.output) old new answer end → EndsRight chain end → Writes plan chain old new end → Reports chain old new end → IsPureOrWants plan tables files old new answer
+  by-end : (end : CallOutcome) → StatusTellsCause (output_name plan.output) old new answer end → EndsRight chain end → Writes plan chain old new end → Reports chain old new end → IsPureOrWants plan tables files old new answer
   by-end no_input tells right writes reports = absurd (quiet-no_cause old.read_faults new.read_faults fine.reads tells.1)
   by-end no_output tells right writes reports = absurd (quiet-no_cause old.write_faults new.write_faults fine.writes tells.1)
   by-end (ran cut why true) tells right writes reports =
@@ -251,7 +251,7 @@ module _ (plan : Plan) (tables : List (List (List ℕ))) (files : List (List ℕ
   not-done WriteFault false none is = cc
   not-done (NoMemory k) late none is = none k refl
 
-  wants-first : (end : CallEnd) → StatusTellsCause (output_name plan.output) behind new status.NoMemory end → CanEnd plan end → EndsRight (chain_of plan tables files) end
+  wants-first : (end : CallOutcome) → StatusTellsCause (output_name plan.output) behind new status.NoMemory end → CanEnd plan end → EndsRight (chain_of plan tables files) end
       → Writes plan (chain_of plan tables files) behind new end → Reports (chain_of plan tables files) behind new end → WantsMemoryFirst plan old new
   wants-first no_input tells first right writes reports = absurd (let e = tells.0 in cc)
   wants-first no_output tells first right writes reports = absurd (let e = tells.0 in cc)

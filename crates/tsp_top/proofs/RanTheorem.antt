@@ -39,7 +39,7 @@ use Rattle.ts_outside.specs.Saying.{Says}
 use Rattle.ts_outside.specs.Entries.{asked_for, outputs_with}
 use Rattle.chain_run.specs.RunOf.{LeftInput, LeftOutput, RunOf}
 use Rattle.plug_set.specs.Plugins.{steady_of}
-use Rattle.tsp_top.specs.CallEnd.{ran, unreported, out_of_memory, status_of, status_when_late, FaultRose, LateRose}
+use Rattle.tsp_top.specs.CallOutcome.{ran, unreported, out_of_memory, status_of, status_when_late, FaultRose, LateRose}
 use Rattle.tsp_top.specs.CanEnd.{CanEndBy}
 use Rattle.tsp_top.specs.MemoryFirst.{TakesLater}
 use Rattle.tsp_top.specs.Openings.{asked_input, asked_output, input_closed_as, output_closed_as, OpensInput, OpensOutput, IsThrough, WasOpened}

@@ -10,7 +10,7 @@ use Rattle.ts_outside.specs.Saying.{Says, ReportsText}
 use Rattle.chain_model.specs.declared.input_end.InputEnd.TheVariants as ending
 use Rattle.chain_model.specs.declared.cause.Cause.{Cause}
 use Rattle.chain_model.specs.declared.cause.Cause.TheVariants.{Input, Joint, Until, Stop, Refuse, WriteFault, NoMemory}
-use Rattle.tsp_top.specs.CallEnd.{status_of, FaultRose, LateRose}
+use Rattle.tsp_top.specs.CallOutcome.{status_of, FaultRose, LateRose}
 use Rattle.tsp_top.specs.CanEnd.{CanEndBy}
 use Rattle.tsp_top.specs.PlannedChain.{input_name, output_name}
 use Rattle.tsp_top.specs.declared.status.Status.TheVariants.{Done}

@@ -4,7 +4,7 @@ use Rattle.chain_model.specs.declared.input_end.InputEnd.TheVariants.{ReadFault}
 use Rattle.chain_model.specs.declared.cause.Cause.{Cause}
 use Rattle.chain_model.specs.declared.cause.Cause.TheVariants.{Input, WriteFault, NoMemory}
 use Rattle.chain_args.specs.declared.plan_type.Plan.{Plan}
-use Rattle.tsp_top.specs.CallEnd.{CallEnd, no_input, no_output, ran, unreported, out_of_memory}
+use Rattle.tsp_top.specs.CallOutcome.{CallOutcome, no_input, no_output, ran, unreported, out_of_memory}
 use Rattle.tsp_top.specs.MemoryFirst.{TakesLater}
 use Rattle.tsp_top.specs.PlannedChain.{input_name, output_name}
 
@@ -18,7 +18,7 @@ CanEndBy plan (NoMemory (suc j)) = TakesLater plan.plugins j
 CanEndBy plan _ = Unit {0}
 
 -- what has no name is not opened, so that does not fail
-abbrev pub CanEnd : Plan → CallEnd → Type 0
+abbrev pub CanEnd : Plan → CallOutcome → Type 0
 CanEnd plan no_input = IsSome (input_name plan.input)
 CanEnd plan no_output = IsSome (output_name plan.output)
 CanEnd plan (ran cut why late) = CanEndBy plan why

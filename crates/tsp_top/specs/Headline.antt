@@ -12,7 +12,7 @@ use Rattle.chain_args.specs.declared.plan_type.Plan.{Plan}
 use Rattle.ts_outside.specs.Told.{grown}
 use Rattle.ts_outside.specs.Desk.{DeskView}
 use Rattle.ts_outside.specs.Entries.{outputs_with}
-use Rattle.tsp_top.specs.CallEnd.{status_of}
+use Rattle.tsp_top.specs.CallOutcome.{status_of}
 use Rattle.tsp_top.specs.PlannedChain.{chain_of, output_name}
 use Rattle.tsp_top.specs.PlannedTables.{AreTables}
 use Rattle.tsp_top.specs.TableEnds.{EndsAtTables}

@@ -1,5 +1,5 @@
 -- The definitions of a call of `tsp`.
-pub mod CallEnd
+pub mod CallOutcome
 pub mod CanEnd
 pub mod ExitNumber
 pub mod MemoryFirst

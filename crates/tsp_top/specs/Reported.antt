@@ -3,7 +3,7 @@ use Rattle.std.specs.Prelude.{◌≡◌, ◌⊎◌, ◌||◌, Bool, ℕ, List, i
 use Rattle.chain_model.specs.declared.cause.Cause.{Cause}
 use Rattle.ts_outside.specs.Desk.{DeskView}
 use Rattle.ts_outside.specs.Saying.{Says}
-use Rattle.tsp_top.specs.CallEnd.{status_of, status_when_late}
+use Rattle.tsp_top.specs.CallOutcome.{status_of, status_when_late}
 use Rattle.tsp_top.specs.declared.status.Status.{Status}
 use Rattle.tsp_top.specs.declared.status.Status.TheVariants.{NoMemory}
 use Rattle.ts_packet.specs.declared.cell.Cell.{Cell}

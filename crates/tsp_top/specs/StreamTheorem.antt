@@ -14,7 +14,7 @@ use Rattle.ts_outside.specs.Desk.{DeskView}
 use Rattle.ts_outside.specs.Saying.{ReportsText, ReportsNothing}
 use Rattle.ts_outside.specs.Entries.{asked_for, outputs_with}
 use Rattle.chain_model.specs.Written.{IsPartOfFirst}
-use Rattle.tsp_top.specs.CallEnd.{CallEnd, no_input, no_output, ran, unreported, out_of_memory, StatusTellsCause}
+use Rattle.tsp_top.specs.CallOutcome.{CallOutcome, no_input, no_output, ran, unreported, out_of_memory, StatusTellsCause}
 use Rattle.tsp_top.specs.CanEnd.{CanEnd}
 use Rattle.tsp_top.specs.PlannedChain.{chain_of, input_name, output_name}
 use Rattle.tsp_top.specs.Readings.{ReadsNothing, ReadsTo}
@@ -26,7 +26,7 @@ IsPureOrFault chain cut why =
     IsPureClose (chain_rules chain) chain.input chain.users cut why
     ⊎ IsLawfulFault (chain_rules chain) chain.input chain.users cut why
 
-abbrev pub EndsRight : Chain → CallEnd → Type 0
+abbrev pub EndsRight : Chain → CallOutcome → Type 0
 EndsRight chain (ran cut why late) = IsPureOrFault chain cut why
 EndsRight chain (unreported cut why) = IsPureOrFault chain cut why
 EndsRight chain _ = Unit {0}
@@ -50,7 +50,7 @@ WritesTo plan chain old new cut why =
     × IsPrefix bytes (written_to chain (chain_cut chain))
 
 -- what is written; nothing before the chain ran
-abbrev pub Writes : Plan → Chain → DeskView → DeskView → CallEnd → Type 0
+abbrev pub Writes : Plan → Chain → DeskView → DeskView → CallOutcome → Type 0
 Writes plan chain old new no_input = new.outputs ≡ old.outputs
 Writes plan chain old new no_output = new.outputs ≡ old.outputs
 Writes plan chain old new (ran cut why late) = WritesTo plan chain old new cut why
@@ -59,7 +59,7 @@ Writes plan chain old new out_of_memory =
     (new.outputs ≡ old.outputs) ⊎ (new.outputs ≡ outputs_with (output_name plan.output) old.outputs [])
 
 -- what is read of the input; nothing before the chain ran
-abbrev pub Reads : Plan → List (List ℕ × List ℕ) → DeskView → DeskView → CallEnd → Type 0
+abbrev pub Reads : Plan → List (List ℕ × List ℕ) → DeskView → DeskView → CallOutcome → Type 0
 Reads plan files old new no_input = new.closed_in ≡ old.closed_in
 Reads plan files old new no_output = ReadsNothing plan.input files old new
 Reads plan files old new (ran cut why late) = ReadsTo plan.general plan.input files old new cut why
@@ -67,7 +67,7 @@ Reads plan files old new (unreported cut why) = ReadsTo plan.general plan.input 
 Reads plan files old new out_of_memory = ReadsNothing plan.input files old new
 
 -- what is reported
-abbrev pub Reports : Chain → DeskView → DeskView → CallEnd → Type 0
+abbrev pub Reports : Chain → DeskView → DeskView → CallOutcome → Type 0
 Reports chain old new no_input = ReportsText old new (codes "tsp: cannot open input" ++ 10 ∷ [])
 Reports chain old new no_output = ReportsText old new (codes "tsp: cannot open output" ++ 10 ∷ [])
 Reports chain old new (ran cut why late) = ReportsText old new (reported_at chain cut why)
@@ -75,7 +75,7 @@ Reports chain old new (unreported cut why) = ReportsNothing old new
 Reports chain old new out_of_memory = ReportsNothing old new
 
 -- what is opened: first the input, then the output, and each went well but the last where the call says so
-abbrev pub Opens : Plan → DeskView → DeskView → CallEnd → Type 0
+abbrev pub Opens : Plan → DeskView → DeskView → CallOutcome → Type 0
 Opens plan old new no_input = new.asked ≡ grown old.asked (asked_for Input (input_name plan.input) false)
 Opens plan old new no_output =
     new.asked ≡ grown old.asked
@@ -93,7 +93,7 @@ Opens plan old new out_of_memory =
 
 -- a call of `tsp` whose words have this plan and whose plugins have these tables, from when their files were read
 pub record StreamTheorem (plan : Plan) (tables : List (List (List ℕ))) (old new : DeskView) (status : Status) : Type 0 where
-  pub end : CallEnd
+  pub end : CallOutcome
   -- the files by name: those of the desk where they are known, else some
   pub files : List (List ℕ × List ℕ)
   pub files_are : IfSome old.files (λ told. files ≡ told)

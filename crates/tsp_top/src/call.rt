@@ -1,16 +1,21 @@
 //! The top call: the words are read and the ends opened, the chain runs, and the run is reported.
-ghost use Rattle.std.specs.Prelude.{map};
+ghost use Rattle.std.specs.Prelude.{◌≡◌, map, IfSome, Some};
 ghost use Rattle.std.specs.String.{string_bytes};
-ghost use Rattle.tsp_top.specs.TspCall.{CallsTsp};
+ghost use Rattle.chain_args.specs.LawfulPlan.{IsLawfulPlan};
+ghost use Rattle.chain_args.specs.PlanOf.{plan_of};
+ghost use Rattle.tsp_top.specs.TspCall.{CallsPlan, CallsTsp};
 
-use crate::beginning::begin;
+use crate::beginning::begin_plan;
+use crate::call_end::CallEnd;
 use crate::driver::Driver;
 use crate::finishing::finish;
-use crate::idle_plugins::IdlePlugins;
 use crate::in_threads::run_in_threads;
 use crate::one_thread::run_in_one_thread;
 use crate::opened_call::OpenedCall;
+use crate::plugin_notes::PluginNotes;
 use crate::status::Status;
+use crate::words::refuse_words;
+use chain_args::{Plan, WordsFault, plan};
 use std::alloc::Global;
 use std::sync::Wait;
 use std::thread::Threads;
@@ -44,24 +49,25 @@ pub fn tsp_call<R: Threads + Wait + Sync, D: Desk, G: Gate>(
 ) -> Status
     ensures { CallsTsp (map string_bytes words.now) (D.seen desk.old) (D.seen desk.new) result }
 {
-    let mut unasked = IdlePlugins::new(alloc, false);
-    explained_call(rt, alloc, words, desk, gate, &mut unasked)
+    explained_call(rt, alloc, words, desk, gate, false).status
 }
 
-/// Does what `tsp_call` does. Where it is asked, the plugins that were idle in the run are noted before they report.
+/// Does what `tsp_call` does, and returns the plan of the words with the status. Where it is asked, it is noted which plugins were
+/// idle in the run, and which tables changed without a new version before the plugins that go by them.
 pub fn explained_call<R: Threads + Wait + Sync, D: Desk, G: Gate>(
     rt: &R,
     alloc: Global,
     words: &[String],
     desk: &mut D,
     gate: &G,
-    idle: &mut IdlePlugins,
-) -> Status
-    ensures { CallsTsp (map string_bytes words.now) (D.seen desk.old) (D.seen desk.new) result }
+    asks_notes: bool,
+) -> CallEnd
+    ensures call { CallsTsp (map string_bytes words.now) (D.seen desk.old) (D.seen desk.new) result.status }
+    ensures plan { IfSome result.plan (λ plan. plan_of (map string_bytes words.now) ≡ Some plan) }
 {
     match Driver::of_machine(rt) {
-        Driver::InThreads => call_in_threads(rt, alloc, words, desk, gate, idle),
-        Driver::InOneThread => call_in_one_thread(alloc, words, desk, gate, idle),
+        Driver::InThreads => call_in_threads(rt, alloc, words, desk, gate, asks_notes),
+        Driver::InOneThread => call_in_one_thread(alloc, words, desk, gate, asks_notes),
     }
 }
 
@@ -75,8 +81,7 @@ pub fn threaded_call<R: Threads + Wait + Sync, D: Desk, G: Gate>(
 ) -> Status
     ensures { CallsTsp (map string_bytes words.now) (D.seen desk.old) (D.seen desk.new) result }
 {
-    let mut unasked = IdlePlugins::new(alloc, false);
-    call_in_threads(rt, alloc, words, desk, gate, &mut unasked)
+    call_in_threads(rt, alloc, words, desk, gate, false).status
 }
 
 /// Does what `tsp_call` does, in one thread. It needs no handle, so it returns where the calls of the desk and the gate do.
@@ -88,46 +93,116 @@ pub fn serial_call<D: Desk, G: Gate>(
 ) -> Status
     ensures { CallsTsp (map string_bytes words.now) (D.seen desk.old) (D.seen desk.new) result }
 {
-    let mut unasked = IdlePlugins::new(alloc, false);
-    call_in_one_thread(alloc, words, desk, gate, &mut unasked)
+    call_in_one_thread(alloc, words, desk, gate, false).status
 }
 
-/// The call with a thread for each stage, and the plugins that were idle in it.
+/// The call with a thread for each stage.
 fn call_in_threads<R: Threads + Wait + Sync, D: Desk, G: Gate>(
     rt: &R,
     alloc: Global,
     words: &[String],
     desk: &mut D,
     gate: &G,
-    idle: &mut IdlePlugins,
-) -> Status
-    ensures { CallsTsp (map string_bytes words.now) (D.seen desk.old) (D.seen desk.new) result }
+    asks_notes: bool,
+) -> CallEnd
+    ensures call { CallsTsp (map string_bytes words.now) (D.seen desk.old) (D.seen desk.new) result.status }
+    ensures plan { IfSome result.plan (λ plan. plan_of (map string_bytes words.now) ≡ Some plan) }
 {
-    match begin(alloc, words, desk, Driver::InThreads) {
-        Ok(OpenedCall { plan, core, stages }) => {
-            let end = run_in_threads(rt, alloc, stages, &core, gate);
-            idle.note(end.plugins.as_slice());
-            finish(alloc, desk, &plan, end)
+    let mut notes = PluginNotes::new(alloc, asks_notes);
+    match plan(alloc, words) {
+        Ok(plan) => {
+            let status = run_plan_in_threads(rt, alloc, &plan, desk, gate, &mut notes);
+            CallEnd {
+                status,
+                plan: Some(plan),
+                notes,
+            }
         }
-        Err(status) => status,
+        Err(WordsFault::At { word, rule }) => CallEnd {
+            status: refuse_words(alloc, desk, word, rule),
+            plan: None,
+            notes,
+        },
+        Err(WordsFault::NoMemory) => CallEnd {
+            status: Status::NoMemory,
+            plan: None,
+            notes,
+        },
     }
 }
 
-/// The call in one thread, and the plugins that were idle in it.
+/// The call in one thread.
 fn call_in_one_thread<D: Desk, G: Gate>(
     alloc: Global,
     words: &[String],
     desk: &mut D,
     gate: &G,
-    idle: &mut IdlePlugins,
-) -> Status
-    ensures { CallsTsp (map string_bytes words.now) (D.seen desk.old) (D.seen desk.new) result }
+    asks_notes: bool,
+) -> CallEnd
+    ensures call { CallsTsp (map string_bytes words.now) (D.seen desk.old) (D.seen desk.new) result.status }
+    ensures plan { IfSome result.plan (λ plan. plan_of (map string_bytes words.now) ≡ Some plan) }
 {
-    match begin(alloc, words, desk, Driver::InOneThread) {
-        Ok(OpenedCall { plan, core, stages }) => {
+    let mut notes = PluginNotes::new(alloc, asks_notes);
+    match plan(alloc, words) {
+        Ok(plan) => {
+            let status = run_plan_in_one_thread(alloc, &plan, desk, gate, &mut notes);
+            CallEnd {
+                status,
+                plan: Some(plan),
+                notes,
+            }
+        }
+        Err(WordsFault::At { word, rule }) => CallEnd {
+            status: refuse_words(alloc, desk, word, rule),
+            plan: None,
+            notes,
+        },
+        Err(WordsFault::NoMemory) => CallEnd {
+            status: Status::NoMemory,
+            plan: None,
+            notes,
+        },
+    }
+}
+
+/// The call of a plan with a thread for each stage, and what is noted of its plugins.
+fn run_plan_in_threads<R: Threads + Wait + Sync, D: Desk, G: Gate>(
+    rt: &R,
+    alloc: Global,
+    plan: &Plan,
+    desk: &mut D,
+    gate: &G,
+    notes: &mut PluginNotes,
+) -> Status
+    requires { IsLawfulPlan plan.now }
+    ensures { CallsPlan plan.now (D.seen desk.old) (D.seen desk.new) result }
+{
+    match begin_plan(alloc, desk, plan, Driver::InThreads) {
+        Ok(OpenedCall { core, stages }) => {
+            let end = run_in_threads(rt, alloc, stages, &core, gate);
+            notes.note_idle(end.plugins.as_slice());
+            finish(alloc, desk, plan, end, notes)
+        }
+        Err(status) => status,
+    }
+}
+
+/// The call of a plan in one thread, and what is noted of its plugins.
+fn run_plan_in_one_thread<D: Desk, G: Gate>(
+    alloc: Global,
+    plan: &Plan,
+    desk: &mut D,
+    gate: &G,
+    notes: &mut PluginNotes,
+) -> Status
+    requires { IsLawfulPlan plan.now }
+    ensures { CallsPlan plan.now (D.seen desk.old) (D.seen desk.new) result }
+{
+    match begin_plan(alloc, desk, plan, Driver::InOneThread) {
+        Ok(OpenedCall { core, stages }) => {
             let end = run_in_one_thread(alloc, stages, &core, gate);
-            idle.note(end.plugins.as_slice());
-            finish(alloc, desk, &plan, end)
+            notes.note_idle(end.plugins.as_slice());
+            finish(alloc, desk, plan, end, notes)
         }
         Err(status) => status,
     }

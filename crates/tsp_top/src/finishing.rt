@@ -9,22 +9,25 @@ ghost use Rattle.tsp_top.specs.Ran.{EndsRun, RanOpened};
 ghost use Rattle.tsp_top.specs.Reported.{ReachesCut};
 
 use crate::opening::{close_input, close_output};
+use crate::plugin_notes::PluginNotes;
 use crate::report::report_run;
 use crate::status::Status;
 use chain_args::Plan;
 use chain_run::RunEnd;
 use form_source::FormSource;
+use plug_set::SeesTables;
 use plugin_trait::Plugin;
 use stage_run::{InputPart, OutputPart};
 use std::alloc::{AllocError, Global};
 use ts_outside::{Desk, Source};
 
-/// Closes both ends of a run, and reports it.
-pub(crate) fn finish<P: Plugin + Drop, D: Desk>(
+/// Closes both ends of a run, and reports it. Where that is asked, it is noted which tables changed without a new version.
+pub(crate) fn finish<P: Plugin + SeesTables + Drop, D: Desk>(
     alloc: Global,
     desk: &mut D,
     plan: &Plan,
     end: RunEnd<FormSource<D::In>, D::Out, P>,
+    notes: &mut PluginNotes,
 ) -> Status
     requires few { length end.plugins.items ≤ 62 }
     requires reach { IfOk end.closed (λ closed. ReachesCut P.stands_for end.plugins.items closed.cut 0) }
@@ -46,14 +49,18 @@ pub(crate) fn finish<P: Plugin + Drop, D: Desk>(
     close_input(desk, input);
     let closing = close_output(desk, output);
     match closed {
-        Ok(closed) => report_run(
-            alloc,
-            desk,
-            &mut plugins,
-            plan.plugins.as_slice(),
-            closed,
-            closing.is_err(),
-        ),
+        Ok(closed) => {
+            let status = report_run(
+                alloc,
+                desk,
+                &mut plugins,
+                plan.plugins.as_slice(),
+                closed,
+                closing.is_err(),
+            );
+            notes.note_changes(&plugins, closed.cut);
+            status
+        }
         Err(AllocError) => Status::NoMemory,
     }
 }

@@ -4,15 +4,16 @@
 
 mod beginning;
 mod call;
+mod call_end;
 mod driver;
 mod end_line;
 mod finishing;
-mod idle_plugins;
 mod in_threads;
 mod one_thread;
 mod opened_call;
 mod opening;
 mod planning;
+mod plugin_notes;
 mod ready;
 mod report;
 mod reporting;
@@ -23,9 +24,10 @@ mod tables;
 mod words;
 
 pub use call::{explained_call, serial_call, threaded_call, tsp_call};
+pub use call_end::CallEnd;
 pub use chain_args::{WordsFault, WordsRule};
-pub use idle_plugins::{IdlePlugin, IdlePlugins};
-pub use plug_set::Idle;
+pub use plug_set::{ChangedOn, Idle};
+pub use plugin_notes::{IdlePlugin, NotedChange, PluginNotes};
 pub use status::Status;
 pub use steady::steady_call;
 pub use stream_law::{completeness, headline, memory_first, sizes_change_nothing};

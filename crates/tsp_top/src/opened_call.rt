@@ -1,12 +1,10 @@
 //! A call whose two ends are open.
 
-use chain_args::Plan;
 use chain_core::CorePlan;
 use chain_run::Stages;
 
-/// A call whose words have a plan, whose chain is ready, and whose two ends are open.
+/// A call whose chain is ready, and whose two ends are open.
 pub(crate) struct OpenedCall<S, K, P> {
-    pub(crate) plan: Plan,
     /// The numbers of the run.
     pub(crate) core: CorePlan,
     /// No plugin met a cell, and nothing was read or written.

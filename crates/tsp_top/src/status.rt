@@ -1,7 +1,7 @@
 //! The statuses of a call, and their exit numbers.
 
 ghost use Rattle.std.specs.Prelude.{◌≡◌, ◌-◌, ◌^◌, min, if◌then◌else◌};
-ghost use Rattle.tsp_top.specs.CallEnd.{status_of, status_of_input, status_when_late};
+ghost use Rattle.tsp_top.specs.CallOutcome.{status_of, status_of_input, status_when_late};
 ghost use Rattle.tsp_top.specs.ExitNumber.{exit_number};
 
 use chain_args::WordsFault;

@@ -5,7 +5,7 @@ ghost use Rattle.std.specs.String.{string_bytes};
 ghost use Rattle.chain_model.specs.PureRun.{pure_run};
 ghost use Rattle.chain_args.specs.PlanOf.{plan_of};
 ghost use Rattle.chain_args.specs.declared.plan_type.Plan.{Plan};
-ghost use Rattle.tsp_top.specs.CallEnd.{status_of};
+ghost use Rattle.tsp_top.specs.CallOutcome.{status_of};
 ghost use Rattle.tsp_top.specs.PlannedChain.{chain_of};
 ghost use Rattle.tsp_top.specs.PlannedTables.{AreTables};
 ghost use Rattle.ts_outside.specs.Steady.{steady_desk};

@@ -1,8 +1,8 @@
 //! What is said of a call that ended by a fault: the wrong word, the file with the system's reason, or the place of lost sync.
 use explain_words::{WordRow, words_text};
 use std::alloc::{AllocError, Global};
-use switch_top::SwitchStatus;
-use ts_os::{Trouble, after_name, named_behind, trouble_text};
+use switch_top::{SwitchEnd, SwitchOutput, SwitchPlan, SwitchStatus};
+use ts_os::{Trouble, after_name, trouble_text};
 use ts_outside::Purpose;
 
 /// How the words may stand.
@@ -40,65 +40,96 @@ static ROWS: [WordRow; 6] = [
 /// The size of a packet in bytes.
 const PACKET_SIZE: u64 = 188;
 
+// The name of the input of a number, counted from 1.
+fn input_name(plan: &SwitchPlan, input: u32) -> &str {
+    let place = usize::try_from(input).unwrap_or(0).saturating_sub(1);
+    match plan.inputs.get(place) {
+        Some(name) => name.as_str(),
+        None => "",
+    }
+}
+
 // What is said of the input of this number.
-fn of_input(alloc: Global, words: &[String], input: u32, said: &str) -> Result<String, AllocError> {
-    let name = named_behind(words, "-I", input).unwrap_or("the input");
-    let line = after_name(alloc, name, said)?;
+fn of_input(
+    alloc: Global,
+    plan: &SwitchPlan,
+    input: u32,
+    said: &str,
+) -> Result<String, AllocError> {
+    let line = after_name(alloc, input_name(plan, input), said)?;
     format!(in alloc; "input {input}, {line}\n")
 }
 
 // Which input was opened so late, from 1 on: after the last one comes the first again.
-fn input_of(words: &[String], number: u64) -> u32 {
-    let mut count = 0u64;
-    for word in words {
-        if word.as_str() == "-I" {
-            count = count.saturating_add(1);
-        }
-    }
+fn input_of(plan: &SwitchPlan, number: u64) -> u32 {
+    let before = number.saturating_sub(1);
+    let count = plan.inputs.len() as u64;
     if count == 0 {
         return 1;
     }
-    let before = number.saturating_sub(1) % count;
-    u32::try_from(before).unwrap_or(0).saturating_add(1)
+    u32::try_from(before % count).unwrap_or(0).saturating_add(1)
+}
+
+// What is said of the output that was not opened or written.
+fn output_text(alloc: Global, plan: &SwitchPlan, trouble: Trouble) -> Result<String, AllocError> {
+    let name = match &plan.output {
+        SwitchOutput::File(name) => name.as_str(),
+        SwitchOutput::Drop => "",
+    };
+    if name.is_empty() {
+        return trouble_text(alloc, "standard output", trouble);
+    }
+    trouble_text(alloc, name, trouble)
 }
 
 // What is said of a file that the system refused; `None` where the trouble is not of the kind that such an end has.
 fn file_text(
     alloc: Global,
-    words: &[String],
+    plan: &SwitchPlan,
     status: SwitchStatus,
     trouble: Trouble,
 ) -> Result<Option<String>, AllocError> {
     let text = match (status, trouble.purpose) {
         (SwitchStatus::ReadFault, Purpose::Input) => {
-            let input = input_of(words, trouble.number);
-            of_input(alloc, words, input, trouble.reason.text())?
+            let input = input_of(plan, trouble.number);
+            of_input(alloc, plan, input, trouble.reason.text())?
         }
-        (SwitchStatus::WriteFault, Purpose::Output) => {
-            let name = named_behind(words, "-O", 1).unwrap_or("standard output");
-            trouble_text(alloc, name, trouble)?
-        }
+        (SwitchStatus::WriteFault, Purpose::Output) => output_text(alloc, plan, trouble)?,
         _ => return Ok(None),
     };
     Ok(Some(text))
+}
+
+// The text about a plan that failed.
+fn plan_text(
+    alloc: Global,
+    plan: &SwitchPlan,
+    status: SwitchStatus,
+    trouble: Option<Trouble>,
+) -> Result<Option<String>, AllocError> {
+    match (status, trouble) {
+        (SwitchStatus::Sync { input, packet }, _) => {
+            let at = packet.saturating_mul(PACKET_SIZE);
+            let said = format!(in alloc; "byte {at} is not 0x47")?;
+            Ok(Some(of_input(alloc, plan, input, said.as_str())?))
+        }
+        (_, Some(trouble)) => file_text(alloc, plan, status, trouble),
+        _ => Ok(None),
+    }
 }
 
 /// The text; `None` where there is nothing to say.
 pub(crate) fn end_text(
     alloc: Global,
     words: &[String],
-    status: SwitchStatus,
+    end: &SwitchEnd,
     trouble: Option<Trouble>,
 ) -> Result<Option<String>, AllocError> {
-    let text = match (status, trouble) {
-        (SwitchStatus::Words { word }, _) => words_text(alloc, &ROWS, words, word, USAGE)?,
-        (SwitchStatus::Sync { input, packet }, _) => {
-            let at = packet.saturating_mul(PACKET_SIZE);
-            let said = format!(in alloc; "byte {at} is not 0x47")?;
-            of_input(alloc, words, input, said.as_str())?
-        }
-        (_, Some(trouble)) => return file_text(alloc, words, status, trouble),
-        _ => return Ok(None),
+    if let SwitchStatus::Words { word } = end.status {
+        return Ok(Some(words_text(alloc, &ROWS, words, word, USAGE)?));
+    }
+    let Some(plan) = &end.plan else {
+        return Ok(None);
     };
-    Ok(Some(text))
+    plan_text(alloc, plan, end.status, trouble)
 }

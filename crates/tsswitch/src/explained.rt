@@ -1,6 +1,6 @@
 //! What is shown beside the report, on standard error alone.
 use crate::end_texts::end_text;
-use switch_top::SwitchStatus;
+use switch_top::SwitchEnd;
 use ts_os::{Trouble, is_wanted, write_explained};
 
 /// Explains how a call ended where that is wanted. Running out of memory and a fault of standard error leave it out, and change
@@ -8,13 +8,13 @@ use ts_os::{Trouble, is_wanted, write_explained};
 pub(crate) fn explain(
     rt: &HostRuntime,
     words: &[String],
-    status: SwitchStatus,
+    end: &SwitchEnd,
     trouble: Option<Trouble>,
 ) {
     if !is_wanted(rt) {
         return;
     }
-    if let Ok(Some(text)) = end_text(rt.alloc(), words, status, trouble) {
+    if let Ok(Some(text)) = end_text(rt.alloc(), words, end, trouble) {
         write_explained(rt, text.as_str());
     }
 }

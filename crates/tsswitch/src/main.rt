@@ -1,5 +1,5 @@
 //! The program `tsswitch`: the words of a command line come in, and an exit status goes out. All but the words, the
-//! real desk, the status and what explains it is `switch_call`, whose contract says what is played.
+//! real desk, the status and what explains it is `explained_switch_call`, whose contract says what is played.
 #![tactic(auto)]
 
 mod end_texts;
@@ -7,12 +7,14 @@ mod explained;
 mod terminal;
 
 use explained::explain;
+use std::alloc::AllocError;
 use std::io::ErrorKind;
 use std::process::ExitCode;
 use std::{env, io};
-use switch_top::switch_call;
+use switch_args::{WordsFault, read_words};
+use switch_top::explained_switch_call;
 use terminal::writes_stdout;
-use ts_os::{OsDesk, refuses_terminal};
+use ts_os::{OsDesk, is_terminal, refuse_terminal};
 use ts_outside::{OpenGate, report_whole};
 
 /// The exit status if memory runs out before the call.
@@ -31,6 +33,16 @@ fn words(rt: &(impl env::Env + AllocGlobal)) -> io::Result<Vec<String>> {
     Ok(all.collect(rt.alloc())?)
 }
 
+/// Protects the inputs of the words. The output is opened before them, and would be emptied before an input that is the same file
+/// is read. Words that are not of the form name no inputs; the call refuses them.
+fn protect_inputs(rt: &HostRuntime, desk: &mut OsDesk, words: &[String]) -> Result<(), AllocError> {
+    match read_words(rt.alloc(), words) {
+        Ok(settings) => desk.protect(settings.inputs.as_slice()),
+        Err(WordsFault::At { word: _ }) => Ok(()),
+        Err(WordsFault::NoMemory) => Err(AllocError),
+    }
+}
+
 fn main(rt: HostRuntime) -> ExitCode {
     let mut desk = OsDesk::new(rt);
     let words = match words(&rt) {
@@ -41,14 +53,14 @@ fn main(rt: HostRuntime) -> ExitCode {
         }
         Err(_) => return ExitCode::from(NO_MEMORY),
     };
-    if writes_stdout(rt.alloc(), words.as_slice()) && refuses_terminal(&rt) {
+    if is_terminal(&rt) && writes_stdout(rt.alloc(), words.as_slice()) {
+        refuse_terminal(&rt);
         return ExitCode::from(TERMINAL);
     }
-    // The output is opened before the inputs; it would be emptied before an input that is the same file is read.
-    if desk.spare(words.as_slice(), "-I").is_err() {
+    if protect_inputs(&rt, &mut desk, words.as_slice()).is_err() {
         return ExitCode::from(NO_MEMORY);
     }
-    let status = switch_call(&rt, rt.alloc(), words.as_slice(), &mut desk, &OpenGate);
-    explain(&rt, words.as_slice(), status, desk.trouble());
-    ExitCode::from(status.exit_code())
+    let end = explained_switch_call(&rt, rt.alloc(), words.as_slice(), &mut desk, &OpenGate);
+    explain(&rt, words.as_slice(), &end, desk.noted().trouble());
+    ExitCode::from(end.status.exit_code())
 }

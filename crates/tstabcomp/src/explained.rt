@@ -6,7 +6,13 @@ use ts_os::{OsDesk, write_explained};
 /// Explains how a call at this desk ended. Running out of memory and a fault of standard error leave it out, and change
 /// nothing else.
 pub(crate) fn explain(rt: &HostRuntime, words: &[String], status: &TabStatus, desk: &OsDesk) {
-    if let Ok(Some(text)) = end_text(rt.alloc(), words, status, desk.trouble(), desk.file()) {
+    if let Ok(Some(text)) = end_text(
+        rt.alloc(),
+        words,
+        status,
+        desk.noted().trouble(),
+        desk.noted().file(),
+    ) {
         write_explained(rt, text.as_str());
     }
 }

@@ -7,8 +7,8 @@ use Rattle.tsp_top.specs.Openings.{output_closed_as}
 use Rattle.tsp_top.proofs.RunLemmas.{run-met, if-ok, on-err, on-true-is_err, reports-run-same}
 use Rattle.tsp_top.proofs.finishing.finish.Goals as goal
 
-pub report_run-requires-clause-reach : goal.report_run-requires-clause-reach
-report_run-requires-clause-reach g c κs within =
+pub report_run-status-requires-clause-reach : goal.report_run-status-requires-clause-reach
+report_run-status-requires-clause-reach g c κs within =
     rw c.deref_mut.ensures.value (if-ok c.args.end.closed c.in-Ok.closed _ c.in-Ok.is c.requires.reach)
 
 pub returns-in-Ok : goal.returns-in-Ok
@@ -30,7 +30,7 @@ returns-in-Ok g c = λ tables stuffing numbers from plugins to rules ends.
               c.is_err.ensures.value
               (c.close_output-closing.ensures.closed
               ∙ ap (λ (d : DeskView). output_closed_as g.D.Out.Sink.seen d c.args.end.output (is_err c.close_output-closing.result)) c.close_input.ensures.closed)
-              (c.report_run.ensures tables run.list
+              (c.report_run-status.ensures tables run.list
               (ap (λ (l : List _). map g.P.Plugin.rule l) c.deref_mut.ensures.value ∙ rules ∙ ap (λ (items : List PluginItem). rules_of (named_rules items tables)) (sym c.as_slice.ensures))
               (rw c.deref_mut.ensures.value (run-met _ from c.args.end.input stuffing plugins c.args.end.plugins.items to c.args.end.output numbers c.in-Ok.closed run)));
         },

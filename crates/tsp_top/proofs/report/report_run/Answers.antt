@@ -1,5 +1,5 @@
 use Rattle.std.proofs.Common.{ℕ, List, Bool, if◌then◌else◌, ap, subst, inl, ◌∙◌}
-use Rattle.tsp_top.specs.CallEnd.{status_of, status_when_late}
+use Rattle.tsp_top.specs.CallOutcome.{status_of, status_when_late}
 use Rattle.tsp_top.specs.declared.status.Status.{Status}
 use Rattle.tsp_top.proofs.report.report_run.Goals as goal
 use Rattle.ts_outside.specs.Saying.{Says}

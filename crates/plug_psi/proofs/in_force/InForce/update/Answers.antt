@@ -1,8 +1,8 @@
-use Rattle.std.proofs.Common.{sym, ◌∙◌}
+use Rattle.std.proofs.Common.{sym, ◌∙◌, true≢false}
 use Rattle.std.proofs.lemmas.Bool.{both_ways, eqb-false}
 use Rattle.ts_packet.specs.Header.{pid_of}
 use Rattle.plug_psi.specs.InForce.{follows}
-use Rattle.plug_psi.proofs.ForceLemmas.{same-unfollowed, unread}
+use Rattle.plug_psi.proofs.ForceLemmas.{none-comes, same-unfollowed, unread}
 use Rattle.plug_psi.proofs.in_force.InForce.update.Goals as goal
 
 pub returns-then-not-may_have_tables-clause-stands : goal.returns-then-not-may_have_tables-clause-stands
@@ -28,3 +28,16 @@ pub returns-then-not-may_have_tables-clause-pmts : goal.returns-then-not-may_hav
 returns-then-not-may_have_tables-clause-pmts c = λ fed h taken.
     let u = unread c.args.self.now.zero fed c.args.packet.now c.pid-pid.result h.pat_fed c.pid-pid.ensures.field (sym c.may_have_tables.ensures ∙ c.if-not-may_have_tables.true) in
     absurd (both_ways _ u.flag taken)
+
+pub returns-in_err-check-clause-quiet : goal.returns-in_err-check-clause-quiet
+returns-in_err-check-clause-quiet c = λ fed h none. absurd (true≢false (sym c.in_err-check.ensures.set ∙ h.working))
+
+pub returns-in_err-came-clause-quiet : goal.returns-in_err-came-clause-quiet
+returns-in_err-came-clause-quiet c = λ fed h none.
+    absurd (none-comes c.args.self.now.zero fed c.args.packet.now c.pid-pid.result h.pat_fed c.pid-pid.ensures.field
+    (sym c.may_have_tables.ensures ∙ c.if-not-may_have_tables.false) none)
+
+pub returns-clause-quiet : goal.returns-clause-quiet
+returns-clause-quiet c = λ fed h none.
+    absurd (none-comes c.args.self.now.zero fed c.args.packet.now c.pid-pid.result h.pat_fed c.pid-pid.ensures.field
+    (sym c.may_have_tables.ensures ∙ c.if-not-may_have_tables.false) none)

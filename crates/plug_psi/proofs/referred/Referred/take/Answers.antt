@@ -11,7 +11,7 @@ returns-clause-stands c = λ fed h.
       working = h.working;
       forced = force;
       cat_fed = cat;
-      flagged = c.in_ok-renew_where.ensures fed c.args.packet.now force cat
+      flagged = c.in_ok-renew_where.ensures.stands fed c.args.packet.now force cat
           (λ none. let came = neither _ _ (sym c.one_holds-came.ensures ∙ none) in
           named-same fed c.args.packet.now (c.in_ok-psi_came.ensures.same came.0 fed h.forced)
           (c.in_ok-cat_came.ensures.same came.1 fed h.cat_fed))

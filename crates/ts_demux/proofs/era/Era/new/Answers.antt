@@ -5,6 +5,6 @@ use Rattle.ts_demux.proofs.era.Era.new.Goals as goal
 
 pub returns-clause-fresh : goal.returns-clause-fresh
 returns-clause-fresh c =
-    let kept : c.in_ok-firsts.firsts.items ≡ replicate (c.args.last + 1) None = c.in_ok-firsts.ensures ∙ ap (λ n. replicate (n + 1) None) c.from.ensures in
-    let e : Era = record { version = c.args.version; last = c.args.last; given = false; firsts = c.in_ok-firsts.firsts } in
+    let kept : c.in_ok-firsts.firsts.items ≡ replicate (c.args.last + 1) None = c.in_ok-firsts.ensures ∙ ap (λ n. replicate (n + 1) None) c.from-numbers.ensures in
+    let e : Era = record { version = c.args.version; last = c.args.last; given = false; firsts = c.in_ok-firsts.firsts; crcs = c.new.result } in
     era-fresh e c.args.last refl refl kept

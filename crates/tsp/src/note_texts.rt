@@ -1,8 +1,10 @@
-//! The text about plugins that edited, inserted or read nothing: for each a line with what never came.
+//! The text about plugins: a line for each that edited, inserted or read nothing, with what never came, and for each table
+//! that changed without a new version before one that goes by it.
 use crate::run_texts::plugin_name;
+use chain_args::Plan;
 use plug_psi::Unedited;
 use std::alloc::{AllocError, Global};
-use tsp_top::{Idle, IdlePlugin};
+use tsp_top::{Idle, IdlePlugin, NotedChange, PluginNotes};
 
 // Why an edit of tables, or one that goes by them, found nothing to edit.
 fn unedited_text(alloc: Global, why: Unedited) -> Result<String, AllocError> {
@@ -36,24 +38,40 @@ fn why_text(alloc: Global, why: Idle) -> Result<String, AllocError> {
 fn push_idle(
     alloc: Global,
     text: &mut String,
-    words: &[String],
+    plan: &Plan,
     plugin: &IdlePlugin,
 ) -> Result<(), AllocError> {
     let why = why_text(alloc, plugin.why)?;
-    let name = plugin_name(words, plugin.number).unwrap_or("");
+    let name = plugin_name(plan, plugin.number);
     let number = plugin.number;
     write!(text, "plugin {number}, -P {name}: {why}\n")
 }
 
-/// A line for each of the plugins; no text where there are none.
-pub(crate) fn idle_text(
+// The line about a table that changed without a new version.
+fn push_change(text: &mut String, plan: &Plan, noted: &NotedChange) -> Result<(), AllocError> {
+    let name = plugin_name(plan, noted.number);
+    let number = noted.number;
+    let pid = noted.changed.pid;
+    let table_id = noted.changed.table.table_id;
+    let at = noted.changed.table.at;
+    write!(
+        text,
+        "plugin {number}, -P {name}: table_id {table_id} on PID {pid} changed without a new version at packet {at}\n"
+    )
+}
+
+/// A line for each of the notes; no text where there are none.
+pub(crate) fn notes_text(
     alloc: Global,
-    words: &[String],
-    plugins: &[IdlePlugin],
+    plan: &Plan,
+    notes: &PluginNotes,
 ) -> Result<String, AllocError> {
     let mut text = String::new(alloc);
-    for plugin in plugins {
-        push_idle(alloc, &mut text, words, plugin)?;
+    for plugin in notes.idle() {
+        push_idle(alloc, &mut text, plan, plugin)?;
+    }
+    for noted in notes.changes() {
+        push_change(&mut text, plan, noted)?;
     }
     Ok(text)
 }

@@ -10,17 +10,17 @@ use Rattle.tsp_top.specs.declared.status.Status.{Status}
 use Rattle.tsp_top.specs.declared.status.Status.TheVariants.{Done, NoMemory, ReadFault, WriteFault, Sync, Refused, TooLong}
 
 -- how a call ended whose words have a plan
-pub data CallEnd : Type 0 where
+pub data CallOutcome : Type 0 where
   -- the input was not opened
-  no_input : CallEnd
+  no_input : CallOutcome
   -- the output was not opened
-  no_output : CallEnd
+  no_output : CallOutcome
   -- the chain ran and was cut at `cut` for this cause; `late` is whether its report or the closing of its output failed
-  ran : (cut : ℕ) → (cause : Cause) → (late : Bool) → CallEnd
+  ran : (cut : ℕ) → (cause : Cause) → (late : Bool) → CallOutcome
   -- the chain ran and was cut so, but there was no memory for its report
-  unreported : (cut : ℕ) → (cause : Cause) → CallEnd
+  unreported : (cut : ℕ) → (cause : Cause) → CallOutcome
   -- memory ran out before the chain ran
-  out_of_memory : CallEnd
+  out_of_memory : CallOutcome
 
 -- the status of an input's end
 abbrev pub status_of_input : InputEnd → Status
@@ -59,7 +59,7 @@ LateRose output old new why false =
     (status_of why ≡ Done → new.write_faults ≡ old.write_faults) × (new.report_faults ≡ old.report_faults)
 
 -- the status says how the call ended, and it is that of a fault only where the count of the fault rose; the output is given by its name
-abbrev pub StatusTellsCause : Option (List ℕ) → DeskView → DeskView → Status → CallEnd → Type 0
+abbrev pub StatusTellsCause : Option (List ℕ) → DeskView → DeskView → Status → CallOutcome → Type 0
 StatusTellsCause output old new status no_input =
     (status ≡ ReadFault) × HasCause old.read_faults new.read_faults
 StatusTellsCause output old new status no_output =

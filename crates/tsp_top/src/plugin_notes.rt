@@ -1,0 +1,98 @@
+//! What is noted of the plugins of a run, where that is asked.
+
+use plug_set::{AnyPlugin, ChangedOn, Changes, Idle, SeesTables};
+use std::alloc::Global;
+
+/// A plugin that was idle.
+#[derive(Clone, Copy)]
+pub struct IdlePlugin {
+    /// Its number in the chain, counted from 1.
+    pub number: u32,
+    pub why: Idle,
+}
+
+/// A table that changed without a new version, as a plugin that goes by it met it.
+#[derive(Clone, Copy)]
+pub struct NotedChange {
+    /// The plugin's number in the chain, counted from 1.
+    pub number: u32,
+    pub changed: ChangedOn,
+}
+
+/// The plugins of a run that edited, inserted or read nothing, and the tables that changed without a new version. They
+/// explain a run; no clause speaks of them.
+#[derive(Drop)]
+pub struct PluginNotes {
+    asked: bool,
+    idle: Vec<IdlePlugin>,
+    changes: Vec<NotedChange>,
+    alloc: Global,
+}
+
+impl PluginNotes {
+    /// They are noted where they are asked. Where they are not, no plugin is asked, and no memory is taken.
+    pub fn new(alloc: Global, asked: bool) -> PluginNotes {
+        PluginNotes {
+            asked,
+            idle: Vec::new(alloc),
+            changes: Vec::new(alloc),
+            alloc,
+        }
+    }
+
+    /// The plugins that were idle, in their order.
+    pub fn idle(&self) -> &[IdlePlugin] {
+        self.idle.as_slice()
+    }
+
+    /// The changes before the cut, one for each plugin and PID, by plugins in their order.
+    pub fn changes(&self) -> &[NotedChange] {
+        self.changes.as_slice()
+    }
+
+    /// Notes which of these plugins were idle, before they report. One for which there is no memory is left out.
+    pub(crate) fn note_idle(&mut self, plugins: &[AnyPlugin]) {
+        if !self.asked {
+            return;
+        }
+        let mut number = 0u32;
+        for plugin in plugins {
+            number = number.saturating_add(1);
+            let Ok(Some(why)) = plugin.idle() else {
+                continue;
+            };
+            let Ok(()) = self.idle.push(IdlePlugin { number, why }) else {
+                return;
+            };
+        }
+    }
+
+    /// Notes which tables these plugins saw change before the cut, after they reported. Those for which there is no memory
+    /// are left out.
+    pub(crate) fn note_changes<P: SeesTables>(&mut self, plugins: &[P], cut: u64) {
+        if !self.asked {
+            return;
+        }
+        let mut number = 0u32;
+        for plugin in plugins {
+            number = number.saturating_add(1);
+            let mut changes = Changes::new(self.alloc);
+            let Ok(()) = plugin.add_changes(&mut changes) else {
+                continue;
+            };
+            self.push_changes(number, changes.rows(), cut);
+        }
+    }
+
+    // Notes the changes of one plugin that are before the cut.
+    fn push_changes(&mut self, number: u32, rows: &[ChangedOn], cut: u64) {
+        for row in rows {
+            if row.table.at < cut {
+                let changed = *row;
+                let Ok(()) = self.changes.push(NotedChange { number, changed }) else {
+                    return;
+                };
+            }
+        }
+    }
+}
