@@ -14,7 +14,7 @@ use explaining::explain;
 use std::io::ErrorKind;
 use std::process::ExitCode;
 use std::{env, io};
-use terminal::writes_stdout;
+use terminal::is_to_terminal;
 use ts_os::{OsDesk, is_wanted, refuses_terminal};
 use ts_outside::{OpenGate, report_whole};
 use tsp_top::{IdlePlugins, explained_call};
@@ -45,7 +45,7 @@ fn main(rt: HostRuntime) -> ExitCode {
         }
         Err(_) => return ExitCode::from(NO_MEMORY),
     };
-    if writes_stdout(rt.alloc(), words.as_slice()) && refuses_terminal(&rt) {
+    if is_to_terminal(&rt, words.as_slice()) && refuses_terminal(&rt) {
         return ExitCode::from(TERMINAL);
     }
     let explained = is_wanted(&rt);

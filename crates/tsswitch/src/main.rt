@@ -11,7 +11,7 @@ use std::io::ErrorKind;
 use std::process::ExitCode;
 use std::{env, io};
 use switch_top::switch_call;
-use terminal::writes_stdout;
+use terminal::is_to_terminal;
 use ts_os::{OsDesk, refuses_terminal};
 use ts_outside::{OpenGate, report_whole};
 
@@ -41,7 +41,7 @@ fn main(rt: HostRuntime) -> ExitCode {
         }
         Err(_) => return ExitCode::from(NO_MEMORY),
     };
-    if writes_stdout(rt.alloc(), words.as_slice()) && refuses_terminal(&rt) {
+    if is_to_terminal(&rt, words.as_slice()) && refuses_terminal(&rt) {
         return ExitCode::from(TERMINAL);
     }
     // The output is opened before the inputs; it would be emptied before an input that is the same file is read.
