@@ -19,6 +19,6 @@ pub use os_sink::OsSink;
 pub use os_source::OsSource;
 pub use reason::Reason;
 pub use saying::{
-    after_name, is_terminal, is_wanted, put_shown, refuse_terminal, trouble_text, write_explained,
+    after_name, is_wanted, put_shown, refuse_terminal, trouble_text, write_explained,
 };
 pub use trouble::Trouble;

@@ -48,11 +48,6 @@ pub fn trouble_text(alloc: Global, name: &str, trouble: Trouble) -> Result<Strin
     Ok(line)
 }
 
-/// Whether standard output is a terminal.
-pub fn is_terminal(rt: &HostRuntime) -> bool {
-    rt.stdout().is_terminal()
-}
-
 /// Says on standard error that packets are not written to a terminal, and what may be given instead.
 pub fn refuse_terminal(rt: &HostRuntime) {
     write_explained(

@@ -13,8 +13,8 @@ use explaining::explain;
 use std::io::ErrorKind;
 use std::process::ExitCode;
 use std::{env, io};
-use terminal::writes_stdout;
-use ts_os::{OsDesk, is_terminal, is_wanted, refuse_terminal};
+use terminal::is_to_terminal;
+use ts_os::{OsDesk, is_wanted, refuse_terminal};
 use ts_outside::{OpenGate, report_whole};
 use tsp_top::explained_call;
 
@@ -44,7 +44,7 @@ fn main(rt: HostRuntime) -> ExitCode {
         }
         Err(_) => return ExitCode::from(NO_MEMORY),
     };
-    if is_terminal(&rt) && writes_stdout(rt.alloc(), words.as_slice()) {
+    if is_to_terminal(&rt, words.as_slice()) {
         refuse_terminal(&rt);
         return ExitCode::from(TERMINAL);
     }

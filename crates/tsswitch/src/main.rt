@@ -13,8 +13,8 @@ use std::process::ExitCode;
 use std::{env, io};
 use switch_args::{WordsFault, read_words};
 use switch_top::explained_switch_call;
-use terminal::writes_stdout;
-use ts_os::{OsDesk, is_terminal, refuse_terminal};
+use terminal::is_to_terminal;
+use ts_os::{OsDesk, refuse_terminal};
 use ts_outside::{OpenGate, report_whole};
 
 /// The exit status if memory runs out before the call.
@@ -53,7 +53,7 @@ fn main(rt: HostRuntime) -> ExitCode {
         }
         Err(_) => return ExitCode::from(NO_MEMORY),
     };
-    if is_terminal(&rt) && writes_stdout(rt.alloc(), words.as_slice()) {
+    if is_to_terminal(&rt, words.as_slice()) {
         refuse_terminal(&rt);
         return ExitCode::from(TERMINAL);
     }
