@@ -22,6 +22,7 @@ use Rattle.plug_info.specs.ClockSpans.{AreSpans, fits, met_clock, no_span, span_
 use Rattle.plug_info.specs.declared.clock_span.ClockSpan.{ClockSpan}
 use Rattle.plug_info.specs.declared.clock_span.MetClock.{MetClock}
 use Rattle.plug_info.specs.declared.spans.Spans.{Spans}
+use Rattle.plug_info.proofs.ExtentLemmas.{last-more}
 
 -- the ways with one more packet
 ways-more : (first : Met) (rows : List Met) (x : Met) → ways_behind first (rows ++ x ∷ []) ≡ ways_behind first rows ++ way_between (last_behind first rows) x ∷ []

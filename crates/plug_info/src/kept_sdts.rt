@@ -45,7 +45,7 @@ impl KeptSdts {
         ensures { option_map sdt_held (option_copied result) ≡ kept_at self.now id }
     {
         match id {
-            Some(id) => self.sdts.get(id),
+            Some(id) => self.sdts.get(&id),
             None => None,
         }
     }

@@ -191,7 +191,11 @@ pub fn service_packets(tracker: &Tracker, pmt: Option<&Pmt>) -> u64
     let all = tracker.totals.packets();
     let mut packets: u64 = 0;
     for pid in 0..PID_COUNT {
-        packets = plus(packets, packets_if(tracker, has_component(pmt, pid), pid), all);
+        packets = plus(
+            packets,
+            packets_if(tracker, has_component(pmt, pid), pid),
+            all,
+        );
     }
     packets
 }

@@ -1,4 +1,4 @@
-use Rattle.std.proofs.Common.{◌≡◌, ℕ, None, ◌∙◌, ap, refl, arith}
+use Rattle.std.proofs.Common.{◌≡◌, ◌<◌, ℕ, None, ◌∙◌, ap, refl, arith}
 use Rattle.std.specs.Prelude.{option_map}
 use Rattle.std.specs.List.{fold}
 use Rattle.ts_packet.specs.declared.numbers.TheConstants.{PID_COUNT}
@@ -14,8 +14,9 @@ loop-pid-init c = λ cells w. refl
 
 pub loop-pid-preserved : goal.loop-pid-preserved
 loop-pid-preserved c = λ cells w.
+    let below : c.loop-pid.pid < PID_COUNT = omega (arith, c.loop-pid-test.true) in
     widest_more cells c.loop-pid.pid c.loop-pid.widest _ c.get.result (c.loop-pid.invariant cells w)
-    (c.get.ensures no_span ∙ w.each c.loop-pid.pid c.get.requires) c.wider-widest.ensures
+    (c.get.ensures no_span ∙ w.each c.loop-pid.pid below) c.wider-widest.ensures
 
 pub returns : goal.returns
 returns c = λ cells w.
