@@ -6,16 +6,34 @@ use Rattle.std.specs.Str.{chars, is_utf8}
 use lib.Utf8.{encode}
 use Rattle.plugin_notes.specs.PidPackets.{numbers_below}
 use Rattle.info_texts.specs.InfoJson.{array, bytes_field, component_json, stream_json, type_json, whole_json}
-use Rattle.info_texts.specs.InfoTexts.{component_text, hundredths, percent, pid_text, portion_text, sdt_texts, service_head, service_tail, shown, stream_head, type_text}
+use Rattle.info_texts.specs.InfoTexts.{component_text, hundredths, percent, pid_text, portion_text, rate_part, rate_text, sdt_texts, service_head, service_tail, shown, stream_text, type_text}
+use Rattle.info_texts.specs.Rounding.{rounded}
 use Rattle.info_texts.specs.ServiceNames.{name_in}
 
--- shares are rounded down, and any share of nothing is 0
-share-row : percent (hundredths 1 3) ≡ codes "33.33%"
-unfolding digits
+-- two thirds are nearer to 1, a third to 0, and a half is rounded up
+rounded-up : rounded 2 3 ≡ 1
+unfolding rounded
+rounded-up = refl
+
+rounded-down : rounded 1 3 ≡ 0
+unfolding rounded
+rounded-down = refl
+
+rounded-half : rounded 5 2 ≡ 3
+unfolding rounded
+rounded-half = refl
+
+-- a share of 25.616 %, one of a third, and one that is half of a hundredth; any share of nothing is 0
+share-row : percent (hundredths 3202 12500) ≡ codes "25.62%"
+unfolding digits rounded
 share-row = refl
 
-share-small : percent (hundredths 1 1000) ≡ codes "0.10%"
-unfolding digits
+share-third : percent (hundredths 1 3) ≡ codes "33.33%"
+unfolding digits rounded
+share-third = refl
+
+share-small : percent (hundredths 1 20000) ≡ codes "0.01%"
+unfolding digits rounded
 share-small = refl
 
 share-none : percent (hundredths 0 0) ≡ codes "0.00%"
@@ -50,18 +68,30 @@ cut-row : name_in (Some (0x01 ∷ 0x01 ∷ 0x41 ∷ 0x05 ∷ 0x41 ∷ [])) ≡ N
 cut-row = refl
 
 tail-row : service_tail 4096 None (portion_text (record { whole = 4; extent = 4; rate = Some 1000 }) 3) ≡ codes " pmt 4096 pcr none packets 3 share 75.00% bitrate 750"
-unfolding digits
+unfolding digits rounded
 tail-row = refl
 
 -- 1000 bits pass in a second and half of the positions were dropped: 4 packets among 8 positions have half of these
 dropped-row : portion_text (record { whole = 4; extent = 8; rate = Some 1000 }) 3 ≡ codes " packets 3 share 75.00% bitrate 375"
-unfolding digits
+unfolding digits rounded
 dropped-row = refl
 
-dropped-whole : stream_head (record { packets = 4; extent = 8; stream_id = Some 1; rate = Some 1000; nulls = 0; errored = 0; scrambled = 0; faults = 0 })
-    ≡ codes "stream packets 4 bytes 752 transport_stream_id 1 bitrate 500"
-unfolding digits
+dropped-whole : stream_text (record { packets = 4; extent = 8; stream_id = Some 1; rate = Some 1000; breaks = Some 2; nulls = 0; errored = 0; scrambled = 0; faults = 0 })
+    ≡ codes "stream packets 4 bytes 752 transport_stream_id 1 bitrate 500 breaks 2 nulls 0 share 0.00% errored 0 scrambled 0 faults 0"
+unfolding digits rounded
 dropped-whole = refl
+
+-- two of three packets have two thirds of 1000 bits in a second, which are nearer to 667 than to 666
+rate-row : rate_part (Some 1000) 2 3 ≡ Some 667
+unfolding rounded
+rate-row = refl
+
+-- without a rate, and among no positions, there is none
+rate-none : rate_text None 2 3 ≡ codes "none"
+rate-none = refl
+
+rate-nowhere : rate_text (Some 1000) 0 0 ≡ codes "none"
+rate-nowhere = refl
 
 -- service types: HEVC of ultra-high definition, one that no standard defines, and none
 type-row : type_text (Some 0x20) ≡ codes "32 (HEVC UHD digital television)"
@@ -78,12 +108,12 @@ type-none = refl
 -- a component that two services have, and a PID of a table, without a rate
 component-row : component_text (record { whole = 8; extent = 8; rate = None }) 256 1 27 (codes " codec AVC") (record { packets = 4; scrambled = 1; faults = 2 }) 2
     ≡ codes "component 256 service 1 stream_type 27 (AVC video) codec AVC packets 4 share 50.00% bitrate none scrambled 1 faults 2 shared 2"
-unfolding digits
+unfolding digits rounded
 component-row = refl
 
 pid-row : pid_text 17 (codes "SDT") (portion_text (record { whole = 8; extent = 8; rate = None }) 1) (record { packets = 1; scrambled = 0; faults = 0 })
     ≡ codes "pid 17 (SDT) packets 1 share 12.50% bitrate none scrambled 0 faults 0"
-unfolding digits
+unfolding digits rounded
 pid-row = refl
 
 -- an SDT of another transport stream than the PAT's is reported, and one of the same is not
@@ -135,7 +165,7 @@ unfolding digits numbers_below
 json-component = refl
 
 -- a stream without tables
-json-whole : whole_json (stream_json (record { packets = 2; extent = 2; stream_id = None; rate = None; nulls = 2; errored = 0; scrambled = 0; faults = 0 })) (codes "null") (array []) (array [])
-    ≡ codes "{\"stream\":{\"packets\":2,\"bytes\":376,\"transport_stream_id\":null,\"bitrate\":null,\"nulls\":2,\"errored\":0,\"scrambled\":0,\"faults\":0},\"sdt_transport_stream_id\":null,\"services\":[],\"pids\":[]}"
+json-whole : whole_json (stream_json (record { packets = 2; extent = 2; stream_id = None; rate = None; breaks = None; nulls = 2; errored = 0; scrambled = 0; faults = 0 })) (codes "null") (array []) (array [])
+    ≡ codes "{\"stream\":{\"packets\":2,\"bytes\":376,\"transport_stream_id\":null,\"bitrate\":null,\"breaks\":null,\"nulls\":2,\"errored\":0,\"scrambled\":0,\"faults\":0},\"sdt_transport_stream_id\":null,\"services\":[],\"pids\":[]}"
 unfolding digits
 json-whole = refl

@@ -68,8 +68,7 @@ text_or_hex bytes (Some text) = if list_all is_plain text then quoted text else 
 
 -- the bit rate of some packets among these positions, or `null`
 abbrev pub rate_json : Option ℕ → ℕ → ℕ → List ℕ
-rate_json None part whole = codes "null"
-rate_json (Some rate) part whole = decimal (rate_part rate part whole)
+rate_json rate part whole = number_or_null (rate_part rate part whole)
 
 -- `"packets":<n>,"bitrate":<n>`
 abbrev pub portion_json : Scene → ℕ → List ℕ
@@ -85,10 +84,11 @@ abbrev pub stream_head : StreamNumbers → List ℕ
 stream_head s = codes "{\"packets\":" ++ (decimal s.packets ++ (codes ",\"bytes\":" ++ (decimal (s.packets * PACKET_SIZE)
     ++ (codes ",\"transport_stream_id\":" ++ (number_or_null s.stream_id ++ (codes ",\"bitrate\":" ++ rate_json s.rate s.packets s.extent))))))
 
--- its second half: `,"nulls":<n>,"errored":<n>,"scrambled":<n>,"faults":<n>}`
+-- its second half: `,"breaks":<n>,"nulls":<n>,"errored":<n>,"scrambled":<n>,"faults":<n>}`
 abbrev pub stream_tail : StreamNumbers → List ℕ
-stream_tail s = codes ",\"nulls\":" ++ (decimal s.nulls ++ (codes ",\"errored\":" ++ (decimal s.errored
-    ++ (codes ",\"scrambled\":" ++ (decimal s.scrambled ++ (codes ",\"faults\":" ++ (decimal s.faults ++ codes "}")))))))
+stream_tail s = codes ",\"breaks\":" ++ (number_or_null s.breaks ++ (codes ",\"nulls\":" ++ (decimal s.nulls
+    ++ (codes ",\"errored\":" ++ (decimal s.errored ++ (codes ",\"scrambled\":" ++ (decimal s.scrambled
+    ++ (codes ",\"faults\":" ++ (decimal s.faults ++ codes "}")))))))))
 
 -- the object of the stream
 abbrev pub stream_json : StreamNumbers → List ℕ

@@ -8,6 +8,7 @@ use Rattle.ts_fields.specs.Texts.{text_of}
 use Rattle.ts_packet.specs.declared.numbers.TheConstants.{PACKET_SIZE}
 use Rattle.plugin_notes.specs.PidPackets.{numbers_below}
 use Rattle.info_texts.specs.InfoNames.{codec_names, service_type_names, stream_type_names, text_for}
+use Rattle.info_texts.specs.Rounding.{rounded}
 use Rattle.info_texts.specs.ServiceNames.{name_in, provider_in, type_in}
 use Rattle.info_texts.specs.declared.pid_numbers.PidNumbers.{PidNumbers}
 use Rattle.info_texts.specs.declared.scene.Scene.{Scene}
@@ -41,23 +42,24 @@ abbrev pub number_or_none : Option ℕ → List ℕ
 number_or_none None = codes "none"
 number_or_none (Some n) = decimal n
 
--- a share in hundredths of a percent, rounded down; 0 of nothing
+-- a share in hundredths of a percent, rounded to the nearest; 0 of nothing
 abbrev pub hundredths : ℕ → ℕ → ℕ
-hundredths part whole = if whole == 0 then 0 else part * 10000 / whole
+hundredths part whole = if whole == 0 then 0 else rounded (part * 10000) whole
 
 -- hundredths of a percent as percent with two decimals
 abbrev pub percent : ℕ → List ℕ
 percent h = decimal (h / 100) ++ (codes "." ++ (decimal (h / 10 % 10) ++ (decimal (h % 10) ++ codes "%")))
 
 -- The bit rate of some packets among these positions: their bits over the time that the positions take, of which so
--- many bits pass in a second. Rounded down, in bits per second.
-abbrev pub rate_part : ℕ → ℕ → ℕ → ℕ
-rate_part rate part whole = if whole == 0 then 0 else rate * part / whole
+-- many bits pass in a second. Rounded to the nearest, in bits per second; there is none of no positions, or where it is
+-- not known how many bits pass.
+abbrev pub rate_part : Option ℕ → ℕ → ℕ → Option ℕ
+rate_part None part whole = None
+rate_part (Some rate) part whole = if whole == 0 then None else Some (rounded (rate * part) whole)
 
 -- the bit rate of some packets among these positions, or `none`
 abbrev pub rate_text : Option ℕ → ℕ → ℕ → List ℕ
-rate_text None part whole = codes "none"
-rate_text (Some rate) part whole = decimal (rate_part rate part whole)
+rate_text rate part whole = number_or_none (rate_part rate part whole)
 
 -- ` packets <n> share <percent> bitrate <bits per second>`
 abbrev pub portion_text : Scene → ℕ → List ℕ
@@ -69,11 +71,11 @@ abbrev pub stream_head : StreamNumbers → List ℕ
 stream_head s = codes "stream packets " ++ (decimal s.packets ++ (codes " bytes " ++ (decimal (s.packets * PACKET_SIZE)
     ++ (codes " transport_stream_id " ++ (number_or_none s.stream_id ++ (codes " bitrate " ++ rate_text s.rate s.packets s.extent))))))
 
--- its second half: ` nulls <n> share <percent> errored <n> scrambled <n> faults <n>`
+-- its second half: ` breaks <n> nulls <n> share <percent> errored <n> scrambled <n> faults <n>`
 abbrev pub stream_tail : StreamNumbers → List ℕ
-stream_tail s = codes " nulls " ++ (decimal s.nulls ++ (codes " share " ++ (percent (hundredths s.nulls s.packets)
-    ++ (codes " errored " ++ (decimal s.errored ++ (codes " scrambled " ++ (decimal s.scrambled
-    ++ (codes " faults " ++ decimal s.faults))))))))
+stream_tail s = codes " breaks " ++ (number_or_none s.breaks ++ (codes " nulls " ++ (decimal s.nulls
+    ++ (codes " share " ++ (percent (hundredths s.nulls s.packets) ++ (codes " errored " ++ (decimal s.errored
+    ++ (codes " scrambled " ++ (decimal s.scrambled ++ (codes " faults " ++ decimal s.faults))))))))))
 
 -- the line of the stream
 abbrev pub stream_text : StreamNumbers → List ℕ

@@ -134,8 +134,8 @@ pub fn rate_json(
 ) -> Result<String, AllocError>
     ensures { IfOk result (λ text. string_bytes text ≡ InfoJson.rate_json rate part whole) }
 {
-    let text = match rate {
-        Some(rate) => format!(in alloc; "{}", rate_part(rate, part, whole))?,
+    let text = match rate_part(rate, part, whole) {
+        Some(rate) => format!(in alloc; "{rate}")?,
         None => String::from_str(alloc, "null")?,
     };
     Ok(text)

@@ -39,13 +39,14 @@ fn stream_head(alloc: Global, s: &StreamNumbers) -> Result<String, AllocError>
     Ok(text)
 }
 
-// Its second half: null packets, errors and faults.
+// Its second half: where the clock breaks off, null packets, errors and faults.
 fn stream_tail(alloc: Global, s: &StreamNumbers) -> Result<String, AllocError>
     ensures { IfOk result (λ text. string_bytes text ≡ InfoJson.stream_tail s.now) }
 {
+    let breaks = number_or_null(alloc, s.breaks)?;
     let text = format!(in alloc;
-        ",\"nulls\":{},\"errored\":{},\"scrambled\":{},\"faults\":{}}}",
-        s.nulls, s.errored, s.scrambled, s.faults
+        ",\"breaks\":{},\"nulls\":{},\"errored\":{},\"scrambled\":{},\"faults\":{}}}",
+        breaks, s.nulls, s.errored, s.scrambled, s.faults
     )?;
     Ok(text)
 }

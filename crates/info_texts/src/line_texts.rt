@@ -38,14 +38,15 @@ fn stream_head(alloc: Global, s: &StreamNumbers) -> Result<String, AllocError>
     Ok(text)
 }
 
-// Its second half: null packets, errors and faults.
+// Its second half: where the clock breaks off, null packets, errors and faults.
 fn stream_tail(alloc: Global, s: &StreamNumbers) -> Result<String, AllocError>
     ensures { IfOk result (λ text. string_bytes text ≡ InfoTexts.stream_tail s.now) }
 {
+    let breaks = number_or_none(alloc, s.breaks)?;
     let share = percent(alloc, s.nulls, s.packets)?;
     let text = format!(in alloc;
-        " nulls {} share {} errored {} scrambled {} faults {}",
-        s.nulls, share, s.errored, s.scrambled, s.faults
+        " breaks {} nulls {} share {} errored {} scrambled {} faults {}",
+        breaks, s.nulls, share, s.errored, s.scrambled, s.faults
     )?;
     Ok(text)
 }

@@ -5,17 +5,18 @@ ghost use Rattle.ts_packet.specs.declared.numbers.TheConstants.{PACKET_SIZE};
 ghost use Rattle.info_texts.specs.InfoTexts;
 
 use crate::pid_numbers::PidNumbers;
+use crate::rounding::rounded;
 use crate::scene::Scene;
 use std::alloc::{AllocError, Global};
 
-// A share in hundredths of a percent, rounded down.
+// A share in hundredths of a percent, rounded to the nearest; 0 of nothing.
 fn hundredths(part: u64, whole: u64) -> u128
     ensures { result ≡ InfoTexts.hundredths part whole }
 {
     if whole == 0 {
         return 0;
     }
-    u128::from(part) * 10_000 / u128::from(whole)
+    rounded(part, 10_000, whole)
 }
 
 /// A share, in percent with two decimals.
@@ -27,15 +28,16 @@ pub fn percent(alloc: Global, part: u64, whole: u64) -> Result<String, AllocErro
     Ok(text)
 }
 
-/// The bit rate of `part` packets among `whole` positions, of which `rate` bits pass in a second; rounded down, in bits
-/// per second.
-pub fn rate_part(rate: u64, part: u64, whole: u64) -> u128
+/// The bit rate of `part` packets among `whole` positions, of which `rate` bits pass in a second; rounded to the nearest,
+/// in bits per second. There is none of no positions, or without `rate`.
+pub fn rate_part(rate: Option<u64>, part: u64, whole: u64) -> Option<u128>
     ensures { result ≡ InfoTexts.rate_part rate part whole }
 {
+    let rate = rate?;
     if whole == 0 {
-        return 0;
+        return None;
     }
-    u128::from(rate) * u128::from(part) / u128::from(whole)
+    Some(rounded(rate, part, whole))
 }
 
 /// The bit rate of `part` packets among `whole` positions, or `none`.
@@ -47,8 +49,8 @@ pub fn rate_text(
 ) -> Result<String, AllocError>
     ensures { IfOk result (λ text. string_bytes text ≡ InfoTexts.rate_text rate part whole) }
 {
-    let text = match rate {
-        Some(rate) => format!(in alloc; "{}", rate_part(rate, part, whole))?,
+    let text = match rate_part(rate, part, whole) {
+        Some(rate) => format!(in alloc; "{rate}")?,
         None => String::from_str(alloc, "none")?,
     };
     Ok(text)

@@ -11,6 +11,8 @@ pub struct StreamNumbers {
     pub stream_id: Option<u16>,
     /// How many bits pass in a second, those of dropped packets too, if the PCRs say so.
     pub rate: Option<u64>,
+    /// How many ways from one PCR to the next have no part in it; `None` where no PID tells it.
+    pub breaks: Option<u64>,
     /// How many packets are null packets.
     pub nulls: u64,
     /// How many packets have the transport_error_indicator.

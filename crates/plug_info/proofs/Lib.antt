@@ -5,6 +5,7 @@ pub mod SpanLemmas
 pub mod LineLemmas
 pub mod JsonLemmas
 pub mod SdtLemmas
+pub mod ServiceLemmas
 pub mod TrackLemmas
 pub mod MetLemmas
 mod Rows

@@ -1,35 +1,44 @@
--- Lemmas on the SDT in force, packet by packet.
-use Rattle.std.proofs.Common.{◌≡◌, ℕ, ◌==◌, ◌&&◌, false, List, [], ◌∷◌, ◌++◌, Option, None, sym, ◌∙◌, ap}
-use Rattle.std.specs.Prelude.{fold, is_some, not, option_map}
-use Rattle.std.proofs.lemmas.List.Sums.{fold-append}
+-- Lemmas on the SDTs that are kept, packet by packet.
+use Rattle.std.proofs.Common.{◌≡◌, ℕ, ◌==◌, ◌&&◌, false, List, [], ◌∷◌, ◌++◌, Option, None, Some, refl, sym, ◌∙◌, ap, ap₂}
+use Rattle.std.specs.Prelude.{is_some, not, option_map}
+use Rattle.std.specs.Option.{option_copied, option_or}
 use Rattle.ts_packet.specs.Header.{error_indicator_of, pid_of, scrambling_of}
 use Rattle.ts_packet.specs.Payload.{payload_start_of}
 use Rattle.ts_demux.specs.CountedPackets.{counts}
 use Rattle.ts_demux.specs.PidTables as reading
-use Rattle.ts_demux.specs.TablesOn.{Completes, tables_on}
+use Rattle.ts_demux.specs.TablesOn.{Completes}
 use Rattle.ts_demux.specs.declared.pid_tables.PidTables.{PidTables}
 use Rattle.ts_table_rows.specs.TableValues.{TableHolding}
 use Rattle.ts_si.specs.SiTables.{sdt_held}
-use Rattle.plug_psi.specs.LastFound.{last_found, newer}
-use Rattle.plug_psi.proofs.FoundLemmas.{found-none}
-use Rattle.plug_info.specs.SdtInForce.{current_sdt, sdt_of}
-use Rattle.plug_info.specs.SdtStands.{HasFedSdt}
+use Rattle.plug_psi.specs.LastFound.{found_behind}
+use Rattle.plug_psi.proofs.FoundLemmas.{found-more, found-none}
+use Rattle.plug_info.specs.SdtInForce.{current_sdt, current_sdt_of, last_sdt, sdt_for, sdt_of, sdt_with, stream_id_in}
+use Rattle.plug_info.specs.SdtStands.{HasFedSdt, kept_at, kept_with, last_kept}
+use Rattle.plug_info.specs.declared.kept_sdts.KeptSdts.{KeptSdts}
 use Rattle.plug_info.specs.declared.sdt_in_force.SdtInForce.{SdtInForce}
+use Rattle.plug_psi.specs.InForce.{pat_of}
 
 -- no packet was fed
-sdt-none : sdt_of [] ≡ None
-unfolding sdt_of
-sdt-none = found-none current_sdt 17
+pub sdt-new : (s : SdtInForce) → reading.StandsFor s.tables 17 [] → ((id : ℕ) → kept_with s.kept id ≡ None) → last_kept s.kept ≡ None → HasFedSdt s []
+unfolding last_sdt sdt_with
+sdt-new s read none none_last = record {
+  read = read;
+  each = λ id. none id ∙ sym (found-none (current_sdt_of id) 17);
+  last = none_last ∙ sym (found-none current_sdt 17);
+}
 
-pub sdt-new : (s : SdtInForce) → reading.StandsFor s.tables 17 [] → s.sdt ≡ None → HasFedSdt s []
-sdt-new s read none = record { read = read; kept = ap (option_map sdt_held) none ∙ sym sdt-none }
-
--- the SDT with the tables that a packet completes
-sdt-more : (fed : List (List ℕ)) (packet : List ℕ) (tables : List (List (List ℕ))) → Completes 17 fed packet tables
-    → sdt_of (fed ++ packet ∷ []) ≡ fold (λ (old : Option TableHolding) (table : List (List ℕ)). newer old (current_sdt table)) (sdt_of fed) tables
-unfolding sdt_of last_found
-sdt-more fed packet tables completes =
-    ap (last_found current_sdt) completes ∙ fold-append (λ (old : Option TableHolding) (table : List (List ℕ)). newer old (current_sdt table)) None (tables_on 17 fed) tables
+-- the tables that a packet completes
+pub sdt-fed : (s s_new : SdtInForce) (fed : List (List ℕ)) (packet : List ℕ) (list tables : List (List (List ℕ))) → HasFedSdt s fed
+    → reading.StandsFor s_new.tables 17 (fed ++ packet ∷ []) → Completes 17 fed packet tables → list ≡ tables
+    → ((id : ℕ) → kept_with s_new.kept id ≡ found_behind (current_sdt_of id) (kept_with s.kept id) list)
+    → last_kept s_new.kept ≡ found_behind current_sdt (last_kept s.kept) list
+    → HasFedSdt s_new (fed ++ packet ∷ [])
+unfolding last_sdt sdt_with
+sdt-fed s s_new fed packet list tables w read completes same each last = record {
+  read = read;
+  each = λ id. found-more (current_sdt_of id) _ _ list tables 17 fed packet same (each id) (w.each id) completes;
+  last = found-more current_sdt _ _ list tables 17 fed packet same last w.last completes;
+}
 
 -- a packet on another PID does not count
 apart : (packet : List ℕ) → (pid_of packet == 17) ≡ false → counts 17 packet ≡ false
@@ -39,18 +48,15 @@ pub sdt-other : (s : SdtInForce) (fed : List (List ℕ)) (packet : List ℕ) →
     → ((tables : PidTables) (pid : ℕ) (taken : List (List ℕ)) (packet : List ℕ) → reading.StandsFor tables pid taken → counts pid packet ≡ false → reading.StandsFor tables pid (taken ++ packet ∷ []))
     → ((pid : ℕ) (taken : List (List ℕ)) (packet : List ℕ) → counts pid packet ≡ false → Completes pid taken packet [])
     → HasFedSdt s fed → HasFedSdt s (fed ++ packet ∷ [])
-sdt-other s fed packet other uncounted nothing w = record {
-  read = uncounted s.tables 17 fed packet w.read (apart packet other);
-  kept = w.kept ∙ sym (sdt-more fed packet [] (nothing 17 fed packet (apart packet other)));
-}
+sdt-other s fed packet other uncounted nothing w =
+    sdt-fed s s fed packet [] [] w (uncounted s.tables 17 fed packet w.read (apart packet other)) (nothing 17 fed packet (apart packet other)) refl (λ id. refl) refl
 
-pub sdt-fed : (s s_new : SdtInForce) (fed : List (List ℕ)) (packet : List ℕ) (tables : List (List (List ℕ))) → HasFedSdt s fed
-    → reading.StandsFor s_new.tables 17 (fed ++ packet ∷ []) → Completes 17 fed packet tables
-    → option_map sdt_held s_new.sdt ≡ fold (λ (old : Option TableHolding) (table : List (List ℕ)). newer old (current_sdt table)) (option_map sdt_held s.sdt) tables
-    → HasFedSdt s_new (fed ++ packet ∷ [])
-sdt-fed s s_new fed packet tables w read completes kept = record {
-  read = read;
-  kept = kept
-      ∙ (ap (λ (o : Option TableHolding). fold (λ (old : Option TableHolding) (table : List (List ℕ)). newer old (current_sdt table)) o tables) w.kept
-      ∙ sym (sdt-more fed packet tables completes));
-}
+-- the one that is chosen of those that are kept
+pub chosen-is : (s : SdtInForce) (fed : List (List ℕ)) (id : Option ℕ) → HasFedSdt s fed → option_or (kept_at s.kept id) (last_kept s.kept) ≡ sdt_for id fed
+chosen-is s fed None w = w.last
+chosen-is s fed (Some id) w = ap₂ option_or (w.each id) w.last
+
+-- the one in force, by the PAT in force
+pub in-force : (fed : List (List ℕ)) (id : Option ℕ) → id ≡ stream_id_in (pat_of fed) → sdt_for id fed ≡ sdt_of fed
+unfolding sdt_of
+in-force fed id is = ap (λ (n : Option ℕ). sdt_for n fed) is

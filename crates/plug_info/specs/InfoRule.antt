@@ -16,8 +16,9 @@ use Rattle.info_texts.specs.InfoJson.{array, component_json, number_or_null, pid
 use Rattle.info_texts.specs.InfoNames.{pid_names, text_for}
 use Rattle.info_texts.specs.InfoTexts.{component_text, marks_text, pid_text, portion_text, sdt_texts, service_text, stream_text}
 use Rattle.plug_info.specs.PacketExtent.{extent_of}
-use Rattle.plug_info.specs.PcrRate.{rate_of}
+use Rattle.plug_info.specs.PcrRate.{breaks_of, rate_of}
 use Rattle.plug_info.specs.SdtInForce.{is_number, items_in, sdt_of, service_body}
+pub use Rattle.plug_info.specs.SdtInForce.{stream_id_in}
 use Rattle.plug_info.specs.declared.info_conf.InfoConf.{InfoConf}
 use Rattle.info_texts.specs.declared.pid_numbers.PidNumbers.{PidNumbers}
 use Rattle.info_texts.specs.declared.scene.Scene.{Scene}
@@ -36,10 +37,6 @@ numbers_on pid cells = record {
 abbrev pub scene_of : List Cell → Scene
 scene_of cells = record { whole = length (live_packets cells); extent = extent_of cells; rate = rate_of cells }
 
--- the transport_stream_id of a table
-abbrev pub stream_id_in : Option TableHolding → Option ℕ
-stream_id_in table = option_map (λ t. t.head.extension) table
-
 -- the numbers of the whole stream
 abbrev pub stream_numbers : List Cell → StreamNumbers
 stream_numbers cells = record {
@@ -47,6 +44,7 @@ stream_numbers cells = record {
   extent = extent_of cells;
   stream_id = stream_id_in (pat_of (live_packets cells));
   rate = rate_of cells;
+  breaks = breaks_of cells;
   nulls = packets_on NULL_PID (live_packets cells);
   errored = length (filter error_indicator_of (live_packets cells));
   scrambled = length (filter is_scrambled (live_packets cells));

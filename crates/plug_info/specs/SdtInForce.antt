@@ -1,14 +1,16 @@
 -- The SDT in force, and its description of a service. ETSI EN 300 468, 5.1.3, 5.2.3 and 6.2.33: the SDT of the actual
 -- transport stream is on PID 17 with table_id 0x42, and the service_descriptor, tag 0x48, has the type, the provider
--- and the name of a service. Which table counts is this project's own rule, the same as for a PAT.
-use Rattle.std.specs.Prelude.{ℕ, ◌==◌, Bool, false, List, [], ◌∷◌, Option, None, Some, if◌then◌else◌}
+-- and the name of a service. Which table counts is this project's own rule: the same as for a PAT, and of the stream
+-- that the PAT names before any other, since a multiplex may carry the SDT of another one with this table_id.
+use Rattle.std.specs.Prelude.{ℕ, ◌==◌, Bool, false, List, [], ◌∷◌, Option, None, Some, option_map, if◌then◌else◌}
+use Rattle.std.specs.Option.{option_or}
 use Rattle.ts_bits.specs.TaggedBody.{TaggedBody}
 use Rattle.ts_demux.specs.TablesOn.{tables_on}
 use Rattle.ts_table_rows.specs.BodyReading.{first_number}
 use Rattle.ts_table_rows.specs.RunReading.{read_run}
 use Rattle.ts_table_rows.specs.TableValues.{ItemHolding, TableHolding}
 use Rattle.ts_table_pages.specs.SiPages.{sdt_page}
-use Rattle.plug_psi.specs.InForce.{current_in}
+use Rattle.plug_psi.specs.InForce.{current_in, pat_of}
 use Rattle.plug_psi.specs.LastFound.{last_found}
 
 -- an SDT, if it is of the actual transport stream
@@ -20,10 +22,36 @@ of_actual (Some sdt) = if sdt.head.table_id == 0x42 then Some sdt else None
 abbrev pub current_sdt : List (List ℕ) → Option TableHolding
 current_sdt run = of_actual (current_in (read_run sdt_page run))
 
--- The SDT in force after some packets of any PID: the last complete table on PID 17 that is a current SDT of the
--- actual transport stream.
+-- the transport_stream_id of a table
+abbrev pub stream_id_in : Option TableHolding → Option ℕ
+stream_id_in table = option_map (λ t. t.head.extension) table
+
+-- an SDT, if it has this transport_stream_id
+abbrev pub of_stream : ℕ → Option TableHolding → Option TableHolding
+of_stream id None = None
+of_stream id (Some sdt) = if sdt.head.extension == id then Some sdt else None
+
+-- the current SDT of the actual transport stream that a table is, if it has this transport_stream_id
+abbrev pub current_sdt_of : ℕ → List (List ℕ) → Option TableHolding
+current_sdt_of id run = of_stream id (current_sdt run)
+
+-- the last complete table on PID 17 that is a current SDT of the actual transport stream
+unfoldable pub last_sdt : List (List ℕ) → Option TableHolding
+last_sdt packets = last_found current_sdt (tables_on 17 packets)
+
+-- the last one with this transport_stream_id
+unfoldable pub sdt_with : ℕ → List (List ℕ) → Option TableHolding
+sdt_with id packets = last_found (current_sdt_of id) (tables_on 17 packets)
+
+-- the last one with this transport_stream_id, and where there is none, or no such number, the last one of any
+abbrev pub sdt_for : Option ℕ → List (List ℕ) → Option TableHolding
+sdt_for None packets = last_sdt packets
+sdt_for (Some id) packets = option_or (sdt_with id packets) (last_sdt packets)
+
+-- The SDT in force after some packets of any PID: that of the transport stream of the PAT in force, and where there is
+-- none the last one.
 unfoldable pub sdt_of : List (List ℕ) → Option TableHolding
-sdt_of packets = last_found current_sdt (tables_on 17 packets)
+sdt_of packets = sdt_for (stream_id_in (pat_of packets)) packets
 
 -- a field has this number
 abbrev pub is_number : ℕ → Option ℕ → Bool

@@ -1,10 +1,15 @@
 //! The clock of a PID, from its first PCR to its last.
-ghost use Rattle.std.specs.Prelude.{◌≡◌, IfSome};
+ghost use Rattle.std.specs.Prelude.{◌≡◌, Some, None, if◌then◌else◌};
 ghost use Rattle.plug_pcr.specs.ClockJitter.{units_behind};
-ghost use Rattle.plug_info.specs.PcrRate.{rate_over};
-ghost use Rattle.plug_info.specs.ClockSpans.{span_with, way_parts};
+ghost use Rattle.plug_info.specs.PcrRate.{has_part, rate_over};
+ghost use Rattle.plug_info.specs.ClockSpans.{fits, span_with, way_parts};
 
+use info_texts::rounded;
 use plug_pcr::{CLOCK_PERIOD, MOST_BITRATE, PACKET_UNITS};
+
+/// By how much a PCR may be ahead of the one before it and still have a part in the bit rate, in units of the 27 MHz
+/// clock: a second. Streams that keep to ISO/IEC 13818-1, 2.7.2, have ten PCRs in it.
+pub const LONGEST_SPAN: u64 = 27_000_000;
 
 /// A PCR and its position.
 #[derive(Clone, Copy, PartialEq, Eq)]
@@ -15,31 +20,35 @@ pub struct MetClock {
     pub clock: u64,
 }
 
-/// What is kept of the PCRs on a PID.
+/// What is kept of the PCRs on a PID. A way from one to the next is a span where the clock goes on in it by at most a
+/// second, and without a discontinuity.
 #[derive(Clone, Copy, PartialEq, Eq)]
 pub struct ClockSpan {
     /// The last PCR, if there was one.
     pub last: Option<MetClock>,
-    /// The sum of the positions between them, without those where a new time base begins.
+    /// How many positions the spans cover.
     pub positions: u64,
-    /// The sum of the units of the 27 MHz clock between them, without those where a new time base begins.
+    /// How many units of the 27 MHz clock they take.
     pub units: u64,
+    /// How many ways from one PCR to the next are no spans.
+    pub breaks: u64,
 }
 
 impl ClockSpan {
     /// What is kept after one more PCR; `None` if a sum exceeds 64 bits, which takes 20,000 years.
     pub fn with(&self, met: MetClock, breaks: bool) -> Option<ClockSpan>
-        ensures { IfSome result (λ span. span ≡ span_with self.now met breaks) }
+        ensures { result ≡ (if fits (span_with self.now met breaks) then Some (span_with self.now met breaks) else None) }
     {
-        let (positions, units) = way_to(self.last, met, breaks);
+        let (positions, units, broken) = way_to(self.last, met, breaks);
         Some(ClockSpan {
             last: Some(met),
             positions: self.positions.checked_add(positions)?,
             units: self.units.checked_add(units)?,
+            breaks: self.breaks.checked_add(broken)?,
         })
     }
 
-    /// The bit rate, in bits per second, rounded down; `None` if there are no units, or if it is above
+    /// The bit rate, in bits per second, rounded to the nearest; `None` if there are no units, or if it is above
     /// 10,000,000,000.
     pub fn rate(&self) -> Option<u64>
         ensures { result ≡ rate_over self.now.positions self.now.units }
@@ -47,7 +56,7 @@ impl ClockSpan {
         if self.units == 0 {
             return None;
         }
-        let rate = u128::from(self.positions) * u128::from(PACKET_UNITS) / u128::from(self.units);
+        let rate = rounded(self.positions, PACKET_UNITS, self.units);
         if rate <= u128::from(MOST_BITRATE) {
             Some(rate as u64)
         } else {
@@ -56,18 +65,26 @@ impl ClockSpan {
     }
 }
 
-// The positions and units from the last PCR to the next one.
-fn way_to(last: Option<MetClock>, met: MetClock, breaks: bool) -> (u64, u64)
+// The positions and units of the way from the last PCR to the next one if it is a span, else one break.
+fn way_to(last: Option<MetClock>, met: MetClock, breaks: bool) -> (u64, u64, u64)
     ensures { result ≡ way_parts last met breaks }
 {
     let Some(last) = last else {
-        return (0, 0);
+        return (0, 0, 0);
     };
     let units = units_between(last.clock, met.clock);
-    if breaks || units > CLOCK_PERIOD / 2 {
-        return (0, 0);
+    if has_part(breaks, units) {
+        (met.at.saturating_sub(last.at), units, 0)
+    } else {
+        (0, 0, 1)
     }
-    (met.at.saturating_sub(last.at), units)
+}
+
+// Whether a way of so many units has a part in the rate.
+fn has_part(breaks: bool, units: u64) -> bool
+    ensures { result ≡ has_part breaks units }
+{
+    !breaks && 0 < units && units <= LONGEST_SPAN
 }
 
 // The units of the clock from one PCR to another, modulo its period.

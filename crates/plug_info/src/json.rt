@@ -110,8 +110,8 @@ fn service_json(
         → string_bytes text ≡ service_object cells (id, pid)) }
 {
     let pmt = tracker.force.pmt(id);
-    let head = service_head(alloc, id, service_body(tracker.sdt.sdt.as_ref(), id))?;
-    let packets = service_packets(tracker, pmt)?;
+    let head = service_head(alloc, id, service_body(tracker.sdt_in_force(), id))?;
+    let packets = service_packets(tracker, pmt);
     let components = components_json(alloc, tracker, scene, pmt)?;
     let tail = service_tail(alloc, scene, pid, pcr_pid_in(pmt), packets, &components)?;
     let text = format!(in alloc; "{head}{tail}")?;

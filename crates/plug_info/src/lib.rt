@@ -11,6 +11,7 @@ mod info;
 mod info_conf;
 mod info_words;
 mod json;
+mod kept_sdts;
 mod met_cells;
 mod report;
 mod sdt_in_force;

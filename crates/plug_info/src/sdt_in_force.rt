@@ -1,10 +1,11 @@
 //! The SDT in force.
-ghost use Rattle.std.specs.Prelude.{◌≡◌, ◌++◌, ◌∷◌, [], ℕ, List, IfOk, OnOk, fold, option_map};
+ghost use Rattle.std.specs.Prelude.{◌≡◌, ℕ, IfOk, OnOk, option_map};
 ghost use Rattle.ts_si.specs.SiTables.{sdt_held};
-ghost use Rattle.plug_psi.specs.LastFound.{newer};
-ghost use Rattle.plug_info.specs.SdtInForce.{current_sdt};
-ghost use Rattle.plug_info.specs.SdtStands.{actual_one};
+ghost use Rattle.plug_psi.specs.LastFound.{found_behind, newer};
+ghost use Rattle.plug_info.specs.SdtInForce.{current_sdt, current_sdt_of};
+ghost use Rattle.plug_info.specs.SdtStands.{actual_one, kept_with, last_kept};
 
+use crate::kept_sdts::KeptSdts;
 use plug_psi::Changes;
 use std::alloc::{AllocError, Global};
 use ts_demux::{PidTables, other_packets_complete_nothing, uncounted_packets_change_nothing};
@@ -16,16 +17,20 @@ use ts_table_rows::TableFault;
 /// The PID of the SDT (ETSI EN 300 468, 5.1.3).
 const SDT_PID: u16 = 17;
 
-/// The SDT in force after all packets that were fed.
+/// The SDTs of which one is in force, after all packets that were fed. Their room grows by the transport_stream_ids that
+/// come on PID 17 with table_id 0x42.
 #[derive(Drop)]
 pub struct SdtInForce {
-    pub(crate) sdt: Option<Sdt>,
+    kept: KeptSdts,
     tables: PidTables,
     alloc: Global,
 }
 
 impl SdtInForce {
-    ghost use Rattle.std.specs.Prelude.{◌≡◌, ◌++◌, ◌∷◌, [], ℕ, List, IfOk, OnOk};
+    ghost use Rattle.std.specs.Prelude.{◌≡◌, ◌++◌, ◌∷◌, [], ℕ, List, IfOk, OnOk, option_map};
+    ghost use Rattle.std.specs.Option.{option_copied};
+    ghost use Rattle.ts_si.specs.SiTables.{sdt_held};
+    ghost use Rattle.plug_info.specs.SdtInForce.{sdt_for};
     ghost use Rattle.plug_info.specs.SdtStands.{HasFedSdt};
 
     /// No packet was fed.
@@ -34,7 +39,7 @@ impl SdtInForce {
     {
         let tables = PidTables::new(alloc, SDT_PID)?;
         Ok(SdtInForce {
-            sdt: None,
+            kept: KeptSdts::new(alloc),
             tables,
             alloc,
         })
@@ -52,7 +57,7 @@ impl SdtInForce {
             return Ok(());
         }
         let tables = self.tables.take(at, packet)?;
-        keep_sdts(self.alloc, &mut self.sdt, &tables)?;
+        keep_sdts(self.alloc, &mut self.kept, &tables)?;
         Ok(())
     }
 
@@ -60,25 +65,34 @@ impl SdtInForce {
     pub fn add_changes(&self, changes: &mut Changes) -> Result<(), AllocError> {
         changes.add(SDT_PID, self.tables.changed())
     }
+
+    /// The SDT in force, given the transport_stream_id of the PAT in force: the last one with this number, and where
+    /// there is none the last one.
+    pub fn in_force(&self, stream_id: Option<u16>) -> Option<&Sdt>
+        ensures { (fed : List (List ℕ)) → HasFedSdt self.now fed → option_map sdt_held (option_copied result) ≡ sdt_for stream_id fed }
+    {
+        self.kept.chosen(stream_id)
+    }
 }
 
-// Keeps the last of the tables that is a current SDT of the actual transport stream, if there is one.
-fn keep_sdts(alloc: Global, sdt: &mut Option<Sdt>, tables: &[TableRun]) -> Result<(), AllocError>
-    ensures { OnOk result (option_map sdt_held sdt.new
-        ≡ fold (λ old table. newer old (current_sdt table)) (option_map sdt_held sdt.old) tables.now) }
+// Keeps the tables that are current SDTs of the actual transport stream.
+fn keep_sdts(alloc: Global, kept: &mut KeptSdts, tables: &[TableRun]) -> Result<(), AllocError>
+    ensures each { OnOk result ((id : ℕ) → kept_with kept.new id ≡ found_behind (current_sdt_of id) (kept_with kept.old id) tables.now) }
+    ensures last { OnOk result (last_kept kept.new ≡ found_behind current_sdt (last_kept kept.old) tables.now) }
 {
     for table in tables {
-        keep_sdt(alloc, sdt, table)?;
+        keep_sdt(alloc, kept, table)?;
     }
     Ok(())
 }
 
 // Keeps the SDT that a table is, if it is a current one of the actual transport stream.
-fn keep_sdt(alloc: Global, sdt: &mut Option<Sdt>, table: &TableRun) -> Result<(), AllocError>
-    ensures { OnOk result (option_map sdt_held sdt.new ≡ newer (option_map sdt_held sdt.old) (current_sdt table.now)) }
+fn keep_sdt(alloc: Global, kept: &mut KeptSdts, table: &TableRun) -> Result<(), AllocError>
+    ensures each { OnOk result ((id : ℕ) → kept_with kept.new id ≡ newer (kept_with kept.old id) (current_sdt_of id table.now)) }
+    ensures last { OnOk result (last_kept kept.new ≡ newer (last_kept kept.old) (current_sdt table.now)) }
 {
     if let Some(read) = read_current(alloc, table)? {
-        *sdt = Some(read);
+        kept.keep(read)?;
     }
     Ok(())
 }

@@ -1,5 +1,5 @@
 //! The summary of `info` as lines.
-ghost use Rattle.std.specs.Prelude.{◌≡◌, ◌<◌, ◌+◌, ◌*◌, ◌==◌, ◌&&◌, not, Some, None, ◌++◌, ◌∷◌, [], ℕ, List, IfOk, OnOk, length, map, option_map, fold, if◌then◌else◌};
+ghost use Rattle.std.specs.Prelude.{◌≡◌, ◌<◌, ◌+◌, ◌*◌, ◌==◌, ◌&&◌, min, not, Some, None, ◌++◌, ◌∷◌, [], ℕ, List, IfOk, OnOk, length, map, option_map, fold, if◌then◌else◌};
 ghost use Rattle.std.specs.List.{flat_map};
 ghost use Rattle.std.specs.Option.{option_copied};
 ghost use Rattle.std.specs.String.{string_bytes};
@@ -61,8 +61,9 @@ pub fn stream_numbers(tracker: &Tracker) -> StreamNumbers
     StreamNumbers {
         packets: tracker.totals.packets(),
         extent: tracker.extent.positions,
-        stream_id: pat_stream_id(tracker),
+        stream_id: tracker.stream_id(),
         rate: tracker.spans.rate(),
+        breaks: tracker.spans.breaks(),
         nulls: tracker.totals.packets_on(NULL_PID),
         errored: tracker.totals.errored(),
         scrambled: tracker.totals.scrambled(),
@@ -70,21 +71,11 @@ pub fn stream_numbers(tracker: &Tracker) -> StreamNumbers
     }
 }
 
-// The transport_stream_id of the PAT in force.
-fn pat_stream_id(tracker: &Tracker) -> Option<u16>
-    ensures { (cells : List GivenCell) → Tracks tracker.now cells → result ≡ stream_id_in (pat_of (live_packets cells)) }
-{
-    match tracker.force.pat() {
-        Some(pat) => Some(pat.stream_id),
-        None => None,
-    }
-}
-
 /// The transport_stream_id of the SDT in force.
 pub fn sdt_stream_id(tracker: &Tracker) -> Option<u16>
     ensures { (cells : List GivenCell) → Tracks tracker.now cells → result ≡ stream_id_in (sdt_of (live_packets cells)) }
 {
-    match &tracker.sdt.sdt {
+    match tracker.sdt_in_force() {
         Some(sdt) => Some(sdt.stream_id),
         None => None,
     }
@@ -174,8 +165,8 @@ fn service_text(
         → option_map pmt_held (option_copied pmt.entry) ≡ pmt_of id (live_packets cells)
         → text ≡ service_line cells (id, pid)) }
 {
-    let body = service_body(tracker.sdt.sdt.as_ref(), id);
-    let packets = service_packets(tracker, pmt)?;
+    let body = service_body(tracker.sdt_in_force(), id);
+    let packets = service_packets(tracker, pmt);
     let head = service_head(alloc, id, body)?;
     let tail = service_tail(alloc, scene, pid, pcr_pid_in(pmt), packets)?;
     let text = format!(in alloc; "{head}{tail}")?;
@@ -193,15 +184,20 @@ pub fn pcr_pid_in(pmt: Option<&Pmt>) -> Option<u64>
 }
 
 /// How many packets are on the PIDs of the components of a PMT, each PID counted once.
-pub fn service_packets(tracker: &Tracker, pmt: Option<&Pmt>) -> Result<u64, AllocError>
-    ensures { IfOk result (λ n. (cells : List GivenCell) → Tracks tracker.now cells
-        → n ≡ service_packets (option_map pmt_held (option_copied pmt.entry)) (live_packets cells)) }
+pub fn service_packets(tracker: &Tracker, pmt: Option<&Pmt>) -> u64
+    ensures { (cells : List GivenCell) → Tracks tracker.now cells
+        → result ≡ service_packets (option_map pmt_held (option_copied pmt.entry)) (live_packets cells) }
 {
+    let all = tracker.totals.packets();
     let mut packets: u64 = 0;
     for pid in 0..PID_COUNT {
-        packets = plus(packets, packets_if(tracker, has_component(pmt, pid), pid))?;
+        packets = plus(
+            packets,
+            packets_if(tracker, has_component(pmt, pid), pid),
+            all,
+        );
     }
-    Ok(packets)
+    packets
 }
 
 // How many packets are on a PID, if they are counted; else 0.
@@ -216,14 +212,11 @@ fn packets_if(tracker: &Tracker, is_one: bool, pid: u16) -> u64
     }
 }
 
-// A sum of numbers of packets, which never exceeds 64 bits.
-fn plus(a: u64, b: u64) -> Result<u64, AllocError>
-    ensures { IfOk result (λ n. n ≡ a + b) }
+// A sum of numbers of packets, which are no more than all packets.
+fn plus(a: u64, b: u64, all: u64) -> u64
+    ensures { result ≡ min (a + b) all }
 {
-    match a.checked_add(b) {
-        Some(sum) => Ok(sum),
-        None => Err(AllocError),
-    }
+    a.saturating_add(b).min(all)
 }
 
 // Appends the lines of components.

@@ -8,6 +8,7 @@ use plug_psi::{Changes, InForce, both};
 use plugin_notes::LastPackets;
 use std::alloc::{AllocError, Global};
 use ts_packet::{Cell, Packet};
+use ts_si::Sdt;
 
 /// What is kept of all cells that were counted.
 #[derive(Drop)]
@@ -19,8 +20,8 @@ pub struct Tracker {
     pub(crate) spans: Spans,
     /// How far the packets reach.
     pub(crate) extent: Extent,
-    /// The SDT in force.
-    pub(crate) sdt: SdtInForce,
+    /// The SDTs of which one is in force.
+    sdt: SdtInForce,
     /// The PAT and the PMTs in force.
     pub(crate) force: InForce,
 }
@@ -29,9 +30,15 @@ impl Tracker {
     ghost use Rattle.std.specs.Prelude.{◌≡◌, ◌∷◌, ◌++◌, [], ℕ, List, IfOk, OnOk, length};
     ghost use Rattle.ts_packet.specs.declared.cell.Cell.{Cell as GivenCell};
     ghost use Rattle.ts_packet.specs.Cells.{Live};
+    ghost use Rattle.std.specs.Prelude.{option_map};
+    ghost use Rattle.std.specs.Option.{option_copied};
+    ghost use Rattle.ts_packet.specs.Cells.{live_packets};
+    ghost use Rattle.ts_si.specs.SiTables.{sdt_held};
+    ghost use Rattle.plug_psi.specs.InForce.{pat_of};
+    ghost use Rattle.plug_info.specs.SdtInForce.{sdt_of, stream_id_in};
     ghost use Rattle.plug_info.specs.Tracked.{Tracks, TracksSome};
 
-    /// No cell yet. Allocates 616 KiB; the tables in force grow with the stream.
+    /// No cell yet. Allocates 680 KiB; the tables in force grow with the stream.
     pub fn new(alloc: Global) -> Result<Tracker, AllocError>
         ensures { IfOk result (λ tracker. Tracks tracker []) }
     {
@@ -92,5 +99,23 @@ impl Tracker {
         self.force.feed(at, packet)?;
         self.sdt.feed(at, packet)?;
         Ok(())
+    }
+
+    /// The transport_stream_id of the PAT in force, if there is one.
+    pub fn stream_id(&self) -> Option<u16>
+        ensures { (cells : List GivenCell) → Tracks self.now cells → result ≡ stream_id_in (pat_of (live_packets cells)) }
+    {
+        match self.force.pat() {
+            Some(pat) => Some(pat.stream_id),
+            None => None,
+        }
+    }
+
+    /// The SDT in force, if there is one.
+    pub fn sdt_in_force(&self) -> Option<&Sdt>
+        ensures { (cells : List GivenCell) → Tracks self.now cells
+            → option_map sdt_held (option_copied result) ≡ sdt_of (live_packets cells) }
+    {
+        self.sdt.in_force(self.stream_id())
     }
 }

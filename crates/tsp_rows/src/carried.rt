@@ -32,6 +32,11 @@ static SDT: [u8; 15] = [
     0x42, 0xF0, 0x0C, 0x00, 0x01, 0xFF, 0x00, 0x00, 0x00, 0x01, 0xFF, 0x59, 0xC2, 0xAC, 0xFD,
 ];
 
+/// The same of another transport stream.
+static OTHER_SDT: [u8; 15] = [
+    0x42, 0xF0, 0x0C, 0x00, 0x02, 0xFF, 0x00, 0x00, 0x00, 0x01, 0xFF, 0x88, 0x3B, 0x14, 0xCE,
+];
+
 /// A NIT without descriptors and without transport streams.
 static NIT: [u8; 16] = [
     0x40, 0xF0, 0x0D, 0x00, 0x01, 0xC1, 0x00, 0x00, 0xF0, 0x00, 0xF0, 0x00, 0x3B, 0x85, 0x84, 0x02,
@@ -46,6 +51,7 @@ pub(crate) enum Carried {
     Pmt,
     PmtOf300,
     Sdt,
+    OtherSdt,
     Nit,
 }
 
@@ -56,7 +62,7 @@ impl Carried {
             Carried::Pat | Carried::NextPat => 0,
             Carried::Cat => 1,
             Carried::Pmt | Carried::PmtOf300 => 4096,
-            Carried::Sdt => 17,
+            Carried::Sdt | Carried::OtherSdt => 17,
             Carried::Nit => 16,
         }
     }
@@ -70,6 +76,7 @@ impl Carried {
             Carried::Pmt => &PMT,
             Carried::PmtOf300 => &PMT_OF_300,
             Carried::Sdt => &SDT,
+            Carried::OtherSdt => &OTHER_SDT,
             Carried::Nit => &NIT,
         }
     }

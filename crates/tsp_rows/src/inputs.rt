@@ -24,6 +24,17 @@ pub(crate) struct Units {
     pub(crate) len: usize,
 }
 
+/// A packet with a PCR and without payload.
+#[derive(Clone, Copy)]
+pub(crate) struct Clocked {
+    /// Its PID; above the 13 bits of it, 0x8000 is the transport_error_indicator.
+    pub(crate) pid: u16,
+    /// The flags of its adaptation field: 0x10 for the PCR, and 0x80 for a discontinuity.
+    pub(crate) flags: u8,
+    /// Its PCR, in units of 27 MHz.
+    pub(crate) clock: u64,
+}
+
 /// What is in the file that a row reads.
 #[derive(Clone, Copy)]
 pub(crate) enum Input {
@@ -46,6 +57,8 @@ pub(crate) enum Input {
     /// Packets with these first five bytes. Their other bytes are 0x90: as the flags of an adaptation field, a
     /// discontinuity and a PCR.
     Headed(&'static [[u8; 5]]),
+    /// Packets with these PCRs.
+    Clocks(&'static [Clocked]),
     /// These packets of PATs, with counters from 0 on.
     LongPats(&'static [PatPart]),
     /// Packets with bytes before or after each.
@@ -84,6 +97,7 @@ fn push_input(bytes: &mut Bytes, input: Input) {
             push_scrambled(bytes, pids);
         }
         Input::Headed(heads) => push_headed(bytes, heads),
+        Input::Clocks(clocks) => push_clocks(bytes, clocks),
         Input::LongPats(parts) => push_parts(bytes, parts),
         Input::Units(units) => push_units(bytes, units),
     }
@@ -161,6 +175,23 @@ fn push_headed(bytes: &mut Bytes, heads: &[[u8; 5]]) {
         bytes.extend(head);
         bytes.fill(FLAGS_BYTE, 183);
     }
+}
+
+/// A packet for each of these PCRs.
+fn push_clocks(bytes: &mut Bytes, clocks: &[Clocked]) {
+    for clocked in clocks {
+        push_clock(bytes, *clocked);
+    }
+}
+
+/// A packet that is an adaptation field with a PCR.
+fn push_clock(bytes: &mut Bytes, clocked: Clocked) {
+    let [high, low] = clocked.pid.to_be_bytes();
+    bytes.extend(&[0x47, high, low, 0x20, 183, clocked.flags]);
+    let (base, rest) = (clocked.clock / 300, clocked.clock % 300);
+    let [_, _, a, b, c, d, e, f] = (base << 15 | 0x7E00 | rest).to_be_bytes();
+    bytes.extend(&[a, b, c, d, e, f]);
+    bytes.fill(0xFF, 176);
 }
 
 /// The packets of these parts of PATs.

@@ -33,6 +33,7 @@ mod mixed_stream;
 mod note_rows;
 mod outcome;
 mod plugin_rows;
+mod rate_rows;
 mod row;
 mod service_rows;
 mod small_pieces;
@@ -91,7 +92,7 @@ fn write_tables<R: Threads + Wait + Sync + AllocGlobal>(
 }
 
 /// All tables, in the order in which they are printed.
-fn tables() -> [&'static [Row]; 32] {
+fn tables() -> [&'static [Row]; 33] {
     [
         end_rows::rows(),
         plugin_rows::rows(),
@@ -104,6 +105,7 @@ fn tables() -> [&'static [Row]; 32] {
         stream_rows::rows(),
         clock_rows::rows(),
         info_rows::rows(),
+        rate_rows::rows(),
         generated_rows::rows(),
         cycle_rows::rows(),
         note_rows::rows(),

@@ -1,7 +1,5 @@
 use Rattle.std.proofs.Common.{ℕ, List, ◌++◌, map, ap, ap₂, ◌∙◌}
-use Rattle.std.specs.Prelude.{option_map}
 use Rattle.ts_packet.specs.Cells.{live_packets}
-use Rattle.ts_si.specs.SiTables.{sdt_held}
 use Rattle.info_texts.specs.InfoJson.{array, portion_json, service_head}
 use Rattle.plug_info.specs.InfoRule.{component_object, pcr_pid_in, service_packets}
 use Rattle.plug_info.specs.SdtInForce.{items_in, service_body}
@@ -15,8 +13,8 @@ returns c = λ cells w s.
     ∙ ap₂ (λ (x y : List ℕ). x ++ y)
     (c.in_ok-head.ensures
     ∙ ap (service_head c.args.id)
-    (c.service_body.ensures ∙ ap (λ t. service_body t c.args.id) (ap (option_map sdt_held) c.as_ref.ensures.value ∙ w.has_sdt.kept)))
+    (c.service_body.ensures ∙ ap (λ t. service_body t c.args.id) (c.sdt_in_force.ensures cells w)))
     (c.in_ok-tail.ensures
     ∙ service_tail_is c.args.pid _ _ _ _ _ _ (c.pcr_pid_in.ensures ∙ ap pcr_pid_in p)
-    (ap₂ portion_json s (c.in_ok-packets.ensures cells w ∙ ap (λ t. service_packets t (live_packets cells)) p))
+    (ap₂ portion_json s (c.service_packets-packets.ensures cells w ∙ ap (λ t. service_packets t (live_packets cells)) p))
     (c.deref.ensures ∙ (c.in_ok-components.ensures cells w s ∙ ap (λ t. array (map (component_object cells) (items_in t))) p)))

@@ -1,12 +1,14 @@
-use Rattle.std.proofs.Common.{◌≡◌, drop}
-use Rattle.std.specs.Prelude.{fold, option_map}
-use Rattle.ts_si.specs.SiTables.{sdt_held}
-use Rattle.plug_psi.specs.LastFound.{newer}
-use Rattle.plug_info.specs.SdtInForce.{current_sdt}
+use Rattle.std.proofs.Common.{◌≡◌, ℕ, drop}
+use Rattle.plug_psi.specs.LastFound.{found_behind}
+use Rattle.plug_info.specs.SdtInForce.{current_sdt, current_sdt_of}
+use Rattle.plug_info.specs.SdtStands.{kept_with, last_kept}
 use Rattle.plug_info.proofs.sdt_in_force.keep_sdts.Given as goal
 
--- the remaining tables make the same of the current SDT as all tables make of the first one
+-- with the tables that are left they become what all of them make of them
 abbrev pub invariant-loop-table : goal.invariant-loop-table
-invariant-loop-table l =
-    fold (λ old table. newer old (current_sdt table)) (option_map sdt_held l.sdt) (drop l.table-index l.tables)
-    ≡ fold (λ old table. newer old (current_sdt table)) (option_map sdt_held l.fn.sdt) l.tables
+invariant-loop-table l = record {
+  each : (id : ℕ) → found_behind (current_sdt_of id) (kept_with l.kept id) (drop l.table-index l.tables)
+      ≡ found_behind (current_sdt_of id) (kept_with l.fn.kept id) l.tables;
+  last : found_behind current_sdt (last_kept l.kept) (drop l.table-index l.tables)
+      ≡ found_behind current_sdt (last_kept l.fn.kept) l.tables;
+}

@@ -1,4 +1,4 @@
-use Rattle.std.proofs.Common.{◌≡◌, ◌+◌, ℕ, Bool, ap, ap₂, ◌∙◌, refl, if◌then◌else◌, arith}
+use Rattle.std.proofs.Common.{◌≡◌, ◌+◌, ℕ, Bool, ap, ◌∙◌, refl, if◌then◌else◌, arith}
 use Rattle.std.specs.Prelude.{option_map}
 use Rattle.std.specs.List.{fold}
 use Rattle.std.specs.Option.{option_copied}
@@ -7,7 +7,7 @@ use Rattle.ts_packet.specs.declared.numbers.TheConstants.{PID_COUNT}
 use Rattle.ts_psi.specs.PsiTables.{pmt_held}
 use Rattle.plugin_notes.specs.PidPackets.{numbers_below, packets_on}
 use Rattle.plug_info.specs.InfoRule.{has_component}
-use Rattle.plug_info.proofs.LineLemmas.{fold_below_more}
+use Rattle.plug_info.proofs.ServiceLemmas.{sum_more}
 use Rattle.plug_info.proofs.summary.service_packets.Goals as goal
 
 pub loop-pid-init : goal.loop-pid-init
@@ -16,11 +16,10 @@ loop-pid-init c = λ cells w. refl
 
 pub loop-pid-preserved : goal.loop-pid-preserved
 loop-pid-preserved c = λ cells w.
-    let pid = c.loop-pid.pid in
-    c.in_ok-packets.ensures
-    ∙ (ap₂ (λ (a b : ℕ). a + b) (c.loop-pid.invariant cells w)
-    (c.packets_if.ensures cells w ∙ ap (λ (b : Bool). if b then packets_on pid (live_packets cells) else 0) c.has_component.ensures)
-    ∙ fold_below_more (λ n q. n + (if has_component (option_map pmt_held (option_copied c.args.pmt)) q then packets_on q (live_packets cells) else 0)) 0 pid)
+    sum_more (has_component (option_map pmt_held (option_copied c.args.pmt))) (live_packets cells) c.loop-pid.pid _ _ _ _
+    (c.packets-all.ensures cells w.counted) (c.loop-pid.invariant cells w)
+    (c.packets_if.ensures cells w ∙ ap (λ (b : Bool). if b then packets_on c.loop-pid.pid (live_packets cells) else 0) c.has_component.ensures)
+    c.plus-packets.ensures
 
 pub returns : goal.returns
 returns c = λ cells w.

@@ -1,6 +1,4 @@
 use Rattle.std.proofs.Common.{ℕ, List, ◌++◌, ap, ap₂, ◌∙◌}
-use Rattle.std.specs.Prelude.{option_map}
-use Rattle.ts_si.specs.SiTables.{sdt_held}
 use Rattle.plug_info.specs.InfoRule.{pcr_pid_in, service_packets}
 use Rattle.info_texts.specs.InfoTexts.{portion_text, service_head, service_tail}
 use Rattle.plug_info.specs.SdtInForce.{service_body}
@@ -14,7 +12,7 @@ returns c = λ cells w s p.
     ∙ ap₂ (λ (x y : List ℕ). x ++ y)
     (c.in_ok-head.ensures
     ∙ ap (service_head c.args.id)
-    (c.service_body-body.ensures ∙ ap (λ t. service_body t c.args.id) (ap (option_map sdt_held) c.as_ref.ensures.value ∙ w.has_sdt.kept)))
+    (c.service_body-body.ensures ∙ ap (λ t. service_body t c.args.id) (c.sdt_in_force.ensures cells w)))
     (c.in_ok-tail.ensures
     ∙ ap₂ (service_tail c.args.pid) (c.pcr_pid_in.ensures ∙ ap pcr_pid_in p)
-    (ap₂ portion_text s (c.in_ok-packets.ensures cells w ∙ ap (λ t. service_packets t (live_packets cells)) p))))
+    (ap₂ portion_text s (c.service_packets-packets.ensures cells w ∙ ap (λ t. service_packets t (live_packets cells)) p))))

@@ -1,9 +1,4 @@
-use Rattle.std.proofs.Common.{◌≡◌, ◌==◌, false, sym, ◌∙◌, ap, List, ℕ, Option}
-use Rattle.std.specs.Prelude.{fold, option_map}
-use Rattle.ts_table_rows.specs.TableValues.{TableHolding}
-use Rattle.ts_si.specs.SiTables.{sdt_held}
-use Rattle.plug_psi.specs.LastFound.{newer}
-use Rattle.plug_info.specs.SdtInForce.{current_sdt}
+use Rattle.std.proofs.Common.{◌≡◌, ◌==◌, false, sym, ◌∙◌, ap}
 use Rattle.std.proofs.lemmas.Bool.{ne_eqb}
 use Rattle.plug_info.proofs.SdtLemmas.{sdt-fed, sdt-other}
 use Rattle.plug_info.proofs.sdt_in_force.SdtInForce.feed.Goals as goal
@@ -16,6 +11,6 @@ returns-then-pid-ne-SDT_PID c =
 
 pub returns : goal.returns
 returns c = λ fed w.
-    sdt-fed c.args.self.now _ fed c.args.packet.now c.in_ok-tables.tables.items w
-    (c.in_ok-tables.ensures.stands 17 fed w.read) (c.in_ok-tables.ensures.completes 17 fed w.read) (c.in_ok-keep_sdts.ensures
-    ∙ ap (fold (λ (old : Option TableHolding) (table : List (List ℕ)). newer old (current_sdt table)) (option_map sdt_held c.args.self.now.sdt)) c.deref.ensures.value)
+    sdt-fed c.args.self.now _ fed c.args.packet.now _ c.in_ok-tables.tables.items w
+    (c.in_ok-tables.ensures.stands 17 fed w.read) (c.in_ok-tables.ensures.completes 17 fed w.read) c.deref.ensures.value
+    c.in_ok-keep_sdts.ensures.each c.in_ok-keep_sdts.ensures.last
