@@ -1,4 +1,5 @@
 -- The lemmas of `info_texts`.
 pub mod LineLemmas
 pub mod JsonLemmas
+pub mod PlainLemmas
 mod Rows

@@ -1,7 +1,7 @@
 -- The texts of `info --json`. RFC 8259 defines the form of objects, arrays, numbers and strings; the keys and their
 -- order are this project's own.
 use Rattle.std.specs.Prelude.{ℕ, ◌*◌, List, [], ◌∷◌, ◌++◌, length, take, drop, Option, None, Some, codes, if◌then◌else◌}
-use Rattle.std.specs.List.{flat_map, list_all}
+use Rattle.std.specs.List.{flat_map}
 use Rattle.std.specs.Fmt.{decimal}
 use Rattle.hex.specs.Hex.{encode_lower}
 use Rattle.ts_bits.specs.TaggedBody.{TaggedBody}
@@ -9,7 +9,8 @@ use Rattle.ts_fields.specs.Texts.{text_of}
 use Rattle.ts_packet.specs.declared.numbers.TheConstants.{PACKET_SIZE}
 use Rattle.plugin_notes.specs.PidPackets.{numbers_below}
 use Rattle.info_texts.specs.InfoNames.{codec_names, service_type_names, stream_type_names, text_for}
-use Rattle.info_texts.specs.InfoTexts.{hex_text, is_entry, is_plain, language_step, rate_part}
+use Rattle.info_texts.specs.InfoTexts.{hex_text, is_entry, language_step, rate_part}
+use Rattle.info_texts.specs.PlainTexts.{escaped, is_harmless}
 use Rattle.info_texts.specs.ServiceNames.{name_in, provider_in, type_in}
 use Rattle.info_texts.specs.declared.pid_numbers.PidNumbers.{PidNumbers}
 use Rattle.info_texts.specs.declared.scene.Scene.{Scene}
@@ -46,11 +47,11 @@ name_or_null (Some name) = quoted name
 abbrev pub hex_field : List ℕ → List ℕ → List ℕ
 hex_field key bytes = codes "\"" ++ (key ++ (codes "_hex\":\"" ++ (encode_lower bytes ++ codes "\"")))
 
--- `"<key>":"<text>"`, if the bytes are a text and all its bytes are plain, else their digits
+-- `"<key>":"<text>"`, if the bytes are a text without control characters, else their digits
 abbrev pub text_field : List ℕ → List ℕ → Option (List ℕ) → List ℕ
 text_field key bytes None = hex_field key bytes
 text_field key bytes (Some text) =
-    if list_all is_plain text then codes "\"" ++ (key ++ (codes "\":\"" ++ (text ++ codes "\""))) else hex_field key bytes
+    if is_harmless text then codes "\"" ++ (key ++ (codes "\":\"" ++ (escaped text ++ codes "\""))) else hex_field key bytes
 
 -- the same, or `"<key>":null` if there are no bytes
 abbrev pub bytes_field : List ℕ → Option (List ℕ) → List ℕ
@@ -61,10 +62,10 @@ bytes_field key (Some bytes) = text_field key bytes (text_of bytes)
 abbrev pub quoted_hex : List ℕ → List ℕ
 quoted_hex bytes = quoted (hex_text bytes)
 
--- bytes in quotation marks: as a text, if they are one and all its bytes are plain, else as digits after `0x`
+-- bytes in quotation marks: as a text, if they are one without control characters, else as digits after `0x`
 abbrev pub text_or_hex : List ℕ → Option (List ℕ) → List ℕ
 text_or_hex bytes None = quoted_hex bytes
-text_or_hex bytes (Some text) = if list_all is_plain text then quoted text else quoted_hex bytes
+text_or_hex bytes (Some text) = if is_harmless text then quoted (escaped text) else quoted_hex bytes
 
 -- the bit rate of some packets among these positions, or `null`
 abbrev pub rate_json : Option ℕ → ℕ → ℕ → List ℕ

@@ -1,6 +1,6 @@
 -- The texts of `info`. This project's own rule.
-use Rattle.std.specs.Prelude.{ℕ, ◌+◌, ◌*◌, ◌/◌, ◌%◌, ◌==◌, Bool, not, ◌&&◌, List, [], ◌∷◌, ◌++◌, length, take, drop, nat_le, nat_lt, Option, None, Some, codes, if◌then◌else◌}
-use Rattle.std.specs.List.{flat_map, list_all}
+use Rattle.std.specs.Prelude.{ℕ, ◌+◌, ◌*◌, ◌/◌, ◌%◌, ◌==◌, Bool, ◌&&◌, List, [], ◌∷◌, ◌++◌, length, take, drop, nat_le, nat_lt, Option, None, Some, codes, if◌then◌else◌}
+use Rattle.std.specs.List.{flat_map}
 use Rattle.std.specs.Fmt.{decimal}
 use Rattle.hex.specs.Hex.{encode_lower}
 use Rattle.ts_bits.specs.TaggedBody.{TaggedBody}
@@ -8,24 +8,20 @@ use Rattle.ts_fields.specs.Texts.{text_of}
 use Rattle.ts_packet.specs.declared.numbers.TheConstants.{PACKET_SIZE}
 use Rattle.plugin_notes.specs.PidPackets.{numbers_below}
 use Rattle.info_texts.specs.InfoNames.{codec_names, service_type_names, stream_type_names, text_for}
+use Rattle.info_texts.specs.PlainTexts.{is_plain}
 use Rattle.info_texts.specs.ServiceNames.{name_in, provider_in, type_in}
 use Rattle.info_texts.specs.declared.pid_numbers.PidNumbers.{PidNumbers}
 use Rattle.info_texts.specs.declared.scene.Scene.{Scene}
 use Rattle.info_texts.specs.declared.stream_numbers.StreamNumbers.{StreamNumbers}
 
--- A byte that may stand in a text in quotation marks: not a control character of ASCII, a quotation mark or a
--- backslash.
-abbrev pub is_plain : ℕ → Bool
-is_plain byte = nat_le 0x20 byte && (not (byte == 0x22) && (not (byte == 0x5C) && not (byte == 0x7F)))
-
 -- bytes as hexadecimal digits after `0x`
 abbrev pub hex_text : List ℕ → List ℕ
 hex_text bytes = codes "0x" ++ encode_lower bytes
 
--- a text in quotation marks, if all its bytes are plain, else the bytes that it was read from, as digits
+-- a text in quotation marks, if it stands there as it is, else the bytes that it was read from, as digits
 abbrev pub quoted_or_hex : List ℕ → Option (List ℕ) → List ℕ
 quoted_or_hex bytes None = hex_text bytes
-quoted_or_hex bytes (Some text) = if list_all is_plain text then codes "\"" ++ (text ++ codes "\"") else hex_text bytes
+quoted_or_hex bytes (Some text) = if is_plain text then codes "\"" ++ (text ++ codes "\"") else hex_text bytes
 
 -- bytes as they are shown
 abbrev pub shown : List ℕ → List ℕ

@@ -4,4 +4,5 @@ pub mod InfoNames
 pub mod InfoTexts
 pub mod JsonItems
 pub mod NameRows
+pub mod PlainTexts
 pub mod ServiceNames

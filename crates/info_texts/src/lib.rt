@@ -10,6 +10,7 @@ mod languages;
 pub mod line_texts;
 mod name_row;
 mod pid_numbers;
+mod plain_texts;
 mod portions;
 mod scene;
 mod service_names;

@@ -1,4 +1,5 @@
 //! The tables that packets of the rows on editors carry.
+use crate::named_tables::NamedTable;
 
 /// A PAT with the service 1 on PID 4096.
 static PAT: [u8; 16] = [
@@ -47,6 +48,8 @@ pub(crate) enum Carried {
     PmtOf300,
     Sdt,
     Nit,
+    /// One with names and descriptors.
+    Named(NamedTable),
 }
 
 impl Carried {
@@ -58,6 +61,7 @@ impl Carried {
             Carried::Pmt | Carried::PmtOf300 => 4096,
             Carried::Sdt => 17,
             Carried::Nit => 16,
+            Carried::Named(table) => table.pid(),
         }
     }
 
@@ -71,6 +75,7 @@ impl Carried {
             Carried::PmtOf300 => &PMT_OF_300,
             Carried::Sdt => &SDT,
             Carried::Nit => &NIT,
+            Carried::Named(table) => table.section(),
         }
     }
 }
