@@ -5,10 +5,28 @@ use Rattle.hex.specs.Hex.{encode_with}
 use Rattle.std.specs.Str.{chars, is_utf8}
 use lib.Utf8.{encode}
 use Rattle.plugin_notes.specs.PidPackets.{numbers_below}
+use Rattle.ts_bits.specs.TaggedBody.{TaggedBody}
 use Rattle.ts_fields.specs.Texts.{text_of}
-use Rattle.info_texts.specs.InfoJson.{array, bytes_field, component_json, stream_json, text_or_hex, type_json, whole_json}
-use Rattle.info_texts.specs.InfoTexts.{component_text, hundredths, percent, pid_text, portion_text, sdt_texts, service_head, service_tail, shown, stream_head, type_text}
+use Rattle.info_texts.specs.InfoJson.{array, bytes_field, component_json, component_marks, stream_json, text_or_hex, type_json, whole_json}
+use Rattle.info_texts.specs.InfoTexts.{component_text, hundredths, marks_text, percent, pid_text, portion_text, sdt_texts, service_head, service_tail, shown, stream_head, type_text}
 use Rattle.info_texts.specs.ServiceNames.{name_in}
+
+-- a language and a codec stand once, and four letters of a registration_descriptor count where a line can have them
+abbrev marked : List TaggedBody
+marked = record { tag = 0x05; body = codes "Opus" } ∷ record { tag = 0x7F; body = 0x15 ∷ [] } ∷ record { tag = 0x7F; body = 0x15 ∷ 0 ∷ [] }
+    ∷ record { tag = 0x0A; body = codes "eng" ++ (3 ∷ (codes "eng" ++ (0 ∷ (codes "fra" ++ (0 ∷ []))))) } ∷ []
+
+marks-row : marks_text marked ≡ codes " codec Opus codec AC-4 language \"eng\" language \"fra\""
+unfolding numbers_below
+marks-row = refl
+
+marks-json : component_marks marked ≡ codes ",\"languages\":[\"eng\",\"fra\"],\"codecs\":[\"Opus\",\"AC-4\"],"
+unfolding numbers_below chars encode
+marks-json = refl
+
+marks-none : marks_text (record { tag = 0x05; body = codes "a\"bc" } ∷ record { tag = 0x05; body = codes "AC" } ∷ record { tag = 0x7F; body = [] } ∷ []) ≡ []
+unfolding numbers_below
+marks-none = refl
 
 -- shares are rounded down, and any share of nothing is 0
 share-row : percent (hundredths 1 3) ≡ codes "33.33%"
@@ -91,8 +109,8 @@ component-row : component_text (record { whole = 8; extent = 8; rate = None }) 2
 unfolding digits
 component-row = refl
 
-pid-row : pid_text 17 (codes "SDT") (portion_text (record { whole = 8; extent = 8; rate = None }) 1) (record { packets = 1; scrambled = 0; faults = 0 })
-    ≡ codes "pid 17 (SDT) packets 1 share 12.50% bitrate none scrambled 0 faults 0"
+pid-row : pid_text 17 (codes "SDT, BAT") (portion_text (record { whole = 8; extent = 8; rate = None }) 1) (record { packets = 1; scrambled = 0; faults = 0 })
+    ≡ codes "pid 17 (SDT, BAT) packets 1 share 12.50% bitrate none scrambled 0 faults 0"
 unfolding digits
 pid-row = refl
 

@@ -2,7 +2,7 @@
 pub mod InfoJson
 pub mod InfoNames
 pub mod InfoTexts
-pub mod JsonItems
+pub mod Marks
 pub mod NameRows
 pub mod PlainTexts
 pub mod ServiceNames

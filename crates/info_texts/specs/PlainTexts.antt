@@ -28,9 +28,13 @@ is_harmless text = shows_behind 0 text
 abbrev pub is_mark : ℕ → Bool
 is_mark character = (character == 0x22) || (character == 0x5C)
 
+-- no byte is a quotation mark or a backslash
+abbrev pub has_no_mark : List ℕ → Bool
+has_no_mark text = list_all (λ byte. not (is_mark byte)) text
+
 -- a text that stands in quotation marks as it is: without a control character, a quotation mark and a backslash
 abbrev pub is_plain : List ℕ → Bool
-is_plain text = is_harmless text && list_all (λ byte. not (is_mark byte)) text
+is_plain text = is_harmless text && has_no_mark text
 
 -- a character in a string of JSON
 abbrev pub escaped_character : ℕ → List ℕ

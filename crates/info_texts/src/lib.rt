@@ -8,6 +8,7 @@ mod json_parts;
 pub mod json_texts;
 mod languages;
 pub mod line_texts;
+mod marks;
 mod name_row;
 mod pid_numbers;
 mod plain_texts;

@@ -1,8 +1,7 @@
 //! Which texts are shown as they are, and texts as strings of JSON.
 ghost use Rattle.std.specs.Prelude.{◌≡◌, ◌++◌, ◌&&◌, not, IfOk, OnOk};
-ghost use Rattle.std.specs.List.{list_all};
 ghost use Rattle.std.specs.String.{string_bytes};
-ghost use Rattle.info_texts.specs.PlainTexts.{escaped, escaped_character, is_control, is_harmless, is_mark, is_plain, is_printed};
+ghost use Rattle.info_texts.specs.PlainTexts.{escaped, escaped_character, has_no_mark, is_control, is_harmless, is_plain, is_printed};
 
 use std::alloc::{AllocError, Global};
 
@@ -49,9 +48,9 @@ pub fn is_plain(text: &[u8]) -> bool
     has_no_mark(text)
 }
 
-// Whether a text has no quotation mark and no backslash.
-fn has_no_mark(text: &[u8]) -> bool
-    ensures { result ≡ list_all (λ byte. not (is_mark byte)) text.now }
+/// Whether a text has no quotation mark and no backslash.
+pub fn has_no_mark(text: &[u8]) -> bool
+    ensures { result ≡ has_no_mark text.now }
 {
     text.iter().all(|byte| !(*byte == 0x22 || *byte == 0x5C))
 }

@@ -1,6 +1,7 @@
 //! What `info` keeps of the cells that count.
 use crate::counters::meet_counter;
 use crate::extent::Extent;
+use crate::other_tables::OtherTables;
 use crate::sdt_in_force::SdtInForce;
 use crate::spans::Spans;
 use crate::totals::Totals;
@@ -21,6 +22,8 @@ pub struct Tracker {
     pub(crate) extent: Extent,
     /// The SDT in force.
     pub(crate) sdt: SdtInForce,
+    /// The other tables that are read.
+    pub(crate) others: OtherTables,
     /// The PAT and the PMTs in force.
     pub(crate) force: InForce,
 }
@@ -38,6 +41,7 @@ impl Tracker {
         let last = LastPackets::new(alloc)?;
         let totals = Totals::new(alloc)?;
         let spans = Spans::new(alloc)?;
+        let others = OtherTables::new(alloc)?;
         let sdt = SdtInForce::new(alloc)?;
         let force = InForce::new(alloc);
         let (sdt, force) = both(sdt, force)?;
@@ -50,6 +54,7 @@ impl Tracker {
                 positions: 0,
             },
             sdt,
+            others,
             force,
         })
     }
@@ -85,6 +90,7 @@ impl Tracker {
         self.spans.meet(at, packet)?;
         self.force.feed(packet)?;
         self.sdt.feed(packet)?;
+        self.others.feed(packet)?;
         Ok(())
     }
 }
